@@ -1,0 +1,6 @@
+pub mod Outside
+pub mod Counts
+pub mod Fakes
+pub mod Streams
+pub mod NamedFiles
+pub mod Codes

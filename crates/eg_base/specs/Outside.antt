@@ -1,0 +1,57 @@
+-- What lies outside the program: the files that a store holds and the bytes that an output takes.
+-- A contract sees a store or an output by what it shows at a moment, and says how a call changes that.
+use Rattle.std.specs.Prelude.{◌≡◌, ℕ, ◌+◌, ◌-◌, ◌^◌, ◌≤◌, min, List, ◌++◌, length, take, Bool, Option, option_map, IfSome, IsSomeAnd, IsNone}
+use Rattle.std.specs.Ordering.{nat_cmp}
+use Rattle.std.specs.Cmp.Lexicographic.{slice_cmp}
+use Rattle.std.specs.FinMap.{FinMap, get}
+
+-- files by the bytes of their names
+abbrev pub Files : Type 0
+Files = FinMap (slice_cmp nat_cmp) (List ℕ)
+
+-- what a store shows: its files, where they are told; how many faults of reading it has met; and whether
+-- it is sure, so that reading fails only where there is no such file
+pub record ShownStore : Type 0 where
+  pub files : Option Files
+  pub faults : ℕ
+  pub sure : Bool
+
+-- what an output shows: what was written, where it is told; how many faults of writing it has met; and
+-- whether it is sure, so that writing takes no memory
+pub record ShownSink : Type 0 where
+  pub written : Option (List ℕ)
+  pub faults : ℕ
+  pub sure : Bool
+
+-- a count of faults rose in a call: it is greater than before, or stands at the last value of a u64
+abbrev pub Rose : ℕ → ℕ → Type 0
+Rose before now = min (before + 1) (2 ^ 64 - 1) ≤ now
+
+-- ---- files ----
+
+-- the bytes are the first `most` of the file of that name, where the files are told, and else at most so many
+abbrev pub AreFirstBytes : Option Files → List ℕ → ℕ → List ℕ → Type 0
+AreFirstBytes files name most bytes =
+    (length bytes ≤ most) × IfSome files (λ m. IsSomeAnd (get m name) (λ file. bytes ≡ take most file))
+
+-- a read keeps what the buffer held, and appends the first bytes of the file
+abbrev pub Reads : Option Files → List ℕ → ℕ → List ℕ → List ℕ → Type 0
+Reads files name most old new = (bytes : List ℕ) × (new ≡ old ++ bytes) × AreFirstBytes files name most bytes
+
+-- the new bytes begin with the old ones
+abbrev pub BeginsWith : List ℕ → List ℕ → Type 0
+BeginsWith old new = (more : List ℕ) × (new ≡ old ++ more)
+
+-- the files are told, and the name is not among them
+abbrev pub IsMissing : Option Files → List ℕ → Type 0
+IsMissing files name = IsSomeAnd files (λ m. IsNone (get m name))
+
+-- ---- bytes that are written ----
+
+-- these bytes were appended to what was written
+abbrev pub Appends : ShownSink → ShownSink → List ℕ → Type 0
+Appends before now bytes = now.written ≡ option_map (λ old. old ++ bytes) before.written
+
+-- the front of these bytes was appended, up to some place
+abbrev pub AppendsFront : ShownSink → ShownSink → List ℕ → Type 0
+AppendsFront before now bytes = (front rest : List ℕ) × (bytes ≡ front ++ rest) × Appends before now front

@@ -1,0 +1,37 @@
+//! What lies outside the simulator: files that are read, and bytes that are written.
+//!
+//! A `Store` and a `Sink` are seen through what they show: what they hold, where it is told, how many faults
+//! they have met, and whether they are sure. A program runs over `FileStore` and `StdSink`, whose files and
+//! streams no contract can tell; tests and theorems run over the four that stand in memory.
+//!
+//! `Text` and `Items` are what fields of other crates' types hold, so that contracts see a list.
+#![tactic(auto)]
+
+mod fault_plan;
+mod file_store;
+mod items;
+mod memory_sink;
+mod memory_store;
+mod named_files;
+mod no_memory;
+mod sink;
+mod std_sink;
+mod store;
+mod sure_sink;
+mod sure_store;
+mod text;
+
+pub use file_store::FileStore;
+pub use items::Items;
+pub use memory_sink::MemorySink;
+pub use memory_store::MemoryStore;
+pub use no_memory::NoMemory;
+pub use sink::{PutRefusal, Sink};
+pub use std_sink::StdSink;
+pub use store::{ReadRefusal, Store};
+pub use sure_sink::SureSink;
+pub use sure_store::SureStore;
+pub use text::Text;
+
+#[cfg(test)]
+mod tests;

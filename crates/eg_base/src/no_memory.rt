@@ -1,0 +1,18 @@
+// The refusal of a call that only want of memory can stop.
+use std::alloc::{AllocError, AllocFailed};
+
+/// Memory ran out. This is the only refusal of a call that answers it.
+#[derive(Clone, Copy, Debug, PartialEq, Eq)]
+pub struct NoMemory;
+
+impl From<AllocError> for NoMemory {
+    fn from(_: AllocError) -> NoMemory {
+        NoMemory
+    }
+}
+
+impl<T: Drop> From<AllocFailed<T>> for NoMemory {
+    fn from(_value: AllocFailed<T>) -> NoMemory {
+        NoMemory
+    }
+}

@@ -1,0 +1,43 @@
+// Where bytes are written to.
+ghost use Rattle.std.specs.Prelude.{◌≡◌, ◌≤◌, IsTrue, OnOk, OnErr, IsErrOf};
+ghost use Rattle.eg_base.specs.declared.sink.PutRefusal.TheVariants.{Failed, Memory};
+ghost use Rattle.eg_base.specs.Outside.{ShownSink, Rose, Appends, AppendsFront};
+
+use std::alloc::AllocError;
+
+/// Why a put was refused.
+#[derive(Clone, Copy, Debug, PartialEq, Eq)]
+pub enum PutRefusal {
+    /// Writing failed: the output counts one fault more.
+    Failed,
+    /// Memory ran out.
+    Memory,
+}
+
+impl From<AllocError> for PutRefusal {
+    ghost from_gives = { λ _ refusal. refusal ≡ Memory };
+
+    fn from(_: AllocError) -> PutRefusal {
+        PutRefusal::Memory
+    }
+}
+
+/// An output that bytes are written to.
+///
+/// Contracts see what an output shows (`ShownSink`): what was written, where it is told, the count of its
+/// faults, which never falls, and whether it is sure.
+pub trait Sink {
+    /// What was written, faults, and whether it is sure.
+    ghost shows: { Self → ShownSink };
+
+    /// Appends these bytes. Where it is refused, some front of them may have been appended.
+    fn put(&mut self, bytes: &[u8]) -> Result<(), PutRefusal>
+        ensures ok { OnOk result (Appends (shows self.old) (shows self.new) bytes.now) }
+        ensures front { OnErr result (AppendsFront (shows self.old) (shows self.new) bytes.now) }
+        ensures stays_sure { (shows self.new).sure ≡ (shows self.old).sure }
+
+        // A fault is counted, and a sure output takes no memory.
+        ensures count { (shows self.old).faults ≤ (shows self.new).faults }
+        ensures cause { IsErrOf result Failed → Rose (shows self.old).faults (shows self.new).faults }
+        ensures sure { IsTrue (shows self.old).sure → ¬ IsErrOf result Memory };
+}

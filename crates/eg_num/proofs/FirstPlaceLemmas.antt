@@ -1,0 +1,111 @@
+-- The first place at which a list is reached: there is one exactly where the list is confirmed, and it stays as the list goes on.
+use Rattle.std.proofs.Common.{◌≡◌, ℕ, suc, ◌<◌, inl, inr, Bool, true, false, not, ◌||◌, ◌&&◌, List, [], ◌∷◌, ◌++◌, length, refl, sym, ap, ◌∙◌, arith}
+use Rattle.std.proofs.lemmas.Bool.{cases_Bool, or_left, or_right, false≢true, true≢false}
+use Rattle.std.proofs.lemmas.Option.{none-some, same_Some}
+use Rattle.std.specs.Prelude.{if◌then◌else◌, Option, Some, is_some}
+use Rattle.eg_num.specs.Windows.{WeightParts, is_reached, is_confirmed, is_first, first_place}
+
+-- a list that is reached is confirmed
+pub is_reached_confirmed : (w : WeightParts) (b : Bool) (bits : List Bool) → is_reached w (b ∷ bits) ≡ true → is_confirmed w (b ∷ bits) ≡ true
+unfolding is_confirmed
+is_reached_confirmed w b bits reached = or_left _ _ reached
+
+-- a list stays confirmed as it goes on by one feed
+pub is_confirmed-cons : (w : WeightParts) (b : Bool) (bits : List Bool) → is_confirmed w bits ≡ true → is_confirmed w (b ∷ bits) ≡ true
+unfolding is_confirmed
+is_confirmed-cons w b bits confirmed = or_right _ _ confirmed
+
+-- a list stays confirmed as it goes on
+pub is_confirmed-append : (w : WeightParts) (more bits : List Bool) → is_confirmed w bits ≡ true → is_confirmed w (more ++ bits) ≡ true
+is_confirmed-append w [] bits confirmed = confirmed
+is_confirmed-append w (b ∷ more) bits confirmed = is_confirmed-cons w b (more ++ bits) (is_confirmed-append w more bits confirmed)
+
+-- the last feed is the first where the list is confirmed now and wasn't before
+pub is_first-cons : (w : WeightParts) (b : Bool) (bits : List Bool) → is_first w (b ∷ bits) ≡ (is_confirmed w (b ∷ bits) && not (is_confirmed w bits))
+unfolding is_first is_confirmed
+is_first-cons w b bits = now (is_reached w (b ∷ bits)) (is_confirmed w bits)
+  where
+    now : (reached before : Bool) → (reached && not before) ≡ ((reached || before) && not before)
+    now true before = refl
+    now false true = refl
+    now false false = refl
+
+-- the last feed is the first: it is reached there, and wasn't confirmed before
+pub is_first-parts : (w : WeightParts) (b : Bool) (bits : List Bool) → is_first w (b ∷ bits) ≡ true → (is_reached w (b ∷ bits) ≡ true) × (is_confirmed w bits ≡ false)
+unfolding is_first
+is_first-parts w b bits first = parts (is_reached w (b ∷ bits)) (is_confirmed w bits) first
+  where
+    parts : (reached before : Bool) → (reached && not before) ≡ true → (reached ≡ true) × (before ≡ false)
+    parts true true e = absurd (false≢true e)
+    parts true false e = (refl, refl)
+    parts false before e = absurd (false≢true e)
+
+-- the same the other way
+pub is_first_from : (w : WeightParts) (b : Bool) (bits : List Bool) → is_confirmed w (b ∷ bits) ≡ true → is_confirmed w bits ≡ false → is_first w (b ∷ bits) ≡ true
+is_first_from w b bits now before = is_first-cons w b bits ∙ both _ _ now before
+  where
+    both : (x y : Bool) → x ≡ true → y ≡ false → (x && not y) ≡ true
+    both x true e f = absurd (true≢false f)
+    both true false e f = refl
+    both false false e f = e
+
+-- there is a first place exactly where the list is confirmed
+pub is_some-first_place : (w : WeightParts) (bits : List Bool) → is_some (first_place w bits) ≡ is_confirmed w bits
+unfolding first_place is_first is_confirmed
+is_some-first_place w [] = refl
+is_some-first_place w (b ∷ bits) = now (is_reached w (b ∷ bits)) (is_confirmed w bits) (length bits) (first_place w bits) (is_some-first_place w bits)
+  where
+    now : (reached before : Bool) (n : ℕ) (place : Option ℕ) → is_some place ≡ before → is_some (if reached && not before then Some n else place) ≡ (reached || before)
+    now true true n place e = e
+    now true false n place e = refl
+    now false before n place e = e
+
+-- where there is a first place, the list is confirmed
+pub first_place-confirmed : (w : WeightParts) (bits : List Bool) (t : ℕ) → first_place w bits ≡ Some t → is_confirmed w bits ≡ true
+first_place-confirmed w bits t place = sym (is_some-first_place w bits) ∙ ap is_some place
+
+-- a confirmed list keeps its first place
+pub first_place-cons : (w : WeightParts) (b : Bool) (bits : List Bool) → is_confirmed w bits ≡ true → first_place w (b ∷ bits) ≡ first_place w bits
+unfolding first_place is_first
+first_place-cons w b bits confirmed = keeps (is_reached w (b ∷ bits)) (is_confirmed w bits) (length bits) (first_place w bits) confirmed
+  where
+    keeps : (reached before : Bool) (n : ℕ) (place : Option ℕ) → before ≡ true → (if reached && not before then Some n else place) ≡ place
+    keeps true true n place e = refl
+    keeps true false n place e = absurd (false≢true e)
+    keeps false before n place e = refl
+
+-- a first place stays as the list goes on by one feed
+pub first_place_stays : (w : WeightParts) (b : Bool) (bits : List Bool) (t : ℕ) → first_place w bits ≡ Some t → first_place w (b ∷ bits) ≡ Some t
+first_place_stays w b bits t place = first_place-cons w b bits (first_place-confirmed w bits t place) ∙ place
+
+-- a first place stays as the list goes on
+pub first_place-append : (w : WeightParts) (more bits : List Bool) (t : ℕ) → first_place w bits ≡ Some t → first_place w (more ++ bits) ≡ Some t
+first_place-append w [] bits t place = place
+first_place-append w (b ∷ more) bits t place = first_place_stays w b (more ++ bits) t (first_place-append w more bits t place)
+
+-- where the last feed is the first at which it is reached, its place is the first place
+pub first_place-first : (w : WeightParts) (b : Bool) (bits : List Bool) → is_first w (b ∷ bits) ≡ true → first_place w (b ∷ bits) ≡ Some (length bits)
+unfolding first_place
+first_place-first w b bits first = ap (λ here. if here then Some (length bits) else first_place w bits) first
+
+-- where it isn't, the first place is what it was
+pub first_place-other : (w : WeightParts) (b : Bool) (bits : List Bool) → is_first w (b ∷ bits) ≡ false → first_place w (b ∷ bits) ≡ first_place w bits
+unfolding first_place
+first_place-other w b bits other = ap (λ here. if here then Some (length bits) else first_place w bits) other
+
+-- a first place is a place of the list
+pub first_place_within : (w : WeightParts) (bits : List Bool) (t : ℕ) → first_place w bits ≡ Some t → t < length bits
+unfolding first_place
+first_place_within w [] t place = absurd (none-some t place)
+first_place_within w (b ∷ bits) t place = within (is_first w (b ∷ bits)) (length bits) (first_place w bits) (first_place_within w bits t) place
+  where
+    within : (here : Bool) (n : ℕ) (before : Option ℕ) → (before ≡ Some t → t < n) → (if here then Some n else before) ≡ Some t → t < suc n
+    within true n before low e = let same = same_Some n t e in omega arith
+    within false n before low e = let earlier = low e in omega arith
+
+-- where the first place is that of the last feed, the last feed is the first at which it is reached
+pub is_first_at : (w : WeightParts) (b : Bool) (bits : List Bool) → first_place w (b ∷ bits) ≡ Some (length bits) → is_first w (b ∷ bits) ≡ true
+is_first_at w b bits place = elim (cases_Bool (is_first w (b ∷ bits))) [
+  | inl first ↦ first
+  | inr other ↦ absurd (let before = first_place_within w bits (length bits) (sym (first_place-other w b bits other) ∙ place) in omega arith)
+]

@@ -1,0 +1,6 @@
+pub mod Arithmetic
+pub mod Interpolation
+pub mod Drive
+pub mod Windows
+pub mod Counting
+pub mod Places

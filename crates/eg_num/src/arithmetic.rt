@@ -1,0 +1,35 @@
+// Rules on single numbers.
+ghost use Rattle.std.specs.Prelude.{◌≡◌, ◌<◌, ◌≤◌};
+ghost use Rattle.eg_num.specs.Arithmetic.{moved_toward};
+ghost use Rattle.eg_num.specs.Interpolation.{lerp};
+
+/// The value at `x` on the line through `(x0, y0)` and `(x1, y1)`, rounded down (docs/CONCEPT.md,
+/// "Interpolation").
+pub fn lerp_floor(x0: u16, y0: u16, x1: u16, y1: u16, x: u16) -> u16
+    requires apart { x0 < x1 }
+    requires from { x0 ≤ x }
+    requires to { x ≤ x1 }
+    ensures { result ≡ lerp x0 y0 x1 y1 x }
+{
+    let low = u64::from(y0) * u64::from(x1 - x);
+    let high = u64::from(y1) * u64::from(x - x0);
+    ((low + high) / u64::from(x1 - x0)) as u16
+}
+
+/// The value `now` moved toward `target` by at most `most`: the target itself where it lies within reach
+/// (docs/CONCEPT.md, "Units").
+pub fn toward(now: u16, target: u16, most: u16) -> u16
+    ensures { result ≡ moved_toward now target most }
+{
+    if now <= target {
+        if target - now <= most {
+            target
+        } else {
+            now + most
+        }
+    } else if now - target <= most {
+        target
+    } else {
+        now - most
+    }
+}

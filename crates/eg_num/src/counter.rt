@@ -1,0 +1,57 @@
+// The debounce counter.
+ghost use Rattle.std.specs.Prelude.{◌≡◌, ◌↔◌, ◌≤◌, List, Bool, ◌∷◌, IsTrue};
+ghost use Rattle.eg_num.specs.Windows.{is_confirmed};
+ghost use Rattle.eg_num.specs.Counting.{fed, StandsFor, CounterLaw};
+ghost use Rattle.eg_num.specs.Places.{PlaceLaw};
+
+use crate::Weights;
+
+/// A debounce counter (docs/CONCEPT.md, "Debouncing"). Until it is confirmed its value is the greatest weight
+/// of a window that ends at the last feed; from then on it is the limit.
+#[derive(Clone, Copy, Debug, PartialEq, Eq)]
+pub struct Counter {
+    pub value: u16,
+}
+
+impl Counter {
+    /// A counter that was fed nothing.
+    pub fn new() -> Counter
+        ensures { result.value ≡ 0 }
+    {
+        Counter { value: 0 }
+    }
+
+    /// Feeds one bit, and answers whether the counter is confirmed, by this feed or an earlier one.
+    pub fn feed(&mut self, weights: &Weights, bad: bool) -> bool
+        requires { self.old.value ≤ weights.now.limit }
+        ensures value { self.new.value ≡ fed weights.now self.old.value bad }
+        ensures within { self.new.value ≤ weights.now.limit }
+        ensures at_limit { IsTrue result ↔ (self.new.value ≡ weights.now.limit) }
+        // What it stands for, whichever feeds it has had.
+        ensures windows { (bits : List Bool) → StandsFor weights.now self.old.value bits
+            → StandsFor weights.now self.new.value (bad ∷ bits) }
+        ensures confirmed { (bits : List Bool) → StandsFor weights.now self.old.value bits
+            → result ≡ is_confirmed weights.now (bad ∷ bits) }
+    {
+        let limit = weights.limit();
+        if self.value < limit {
+            self.value = if bad {
+                limit.min(self.value + weights.up())
+            } else {
+                self.value.saturating_sub(weights.down())
+            };
+        }
+        self.value == limit
+    }
+}
+
+/// The law of counters: fed any feeds from 0, a counter stands for them. It does nothing when it runs.
+pub fn counters_count_windows()
+    ensures { CounterLaw }
+{}
+
+/// The law of windows: lists that stand newest first say what the rule says by places in the order of time,
+/// and so does a counter. It does nothing when it runs.
+pub fn windows_are_places()
+    ensures { PlaceLaw }
+{}

@@ -1,0 +1,2 @@
+pub mod PermitLemmas
+mod Worked

@@ -1,0 +1,2 @@
+pub mod Permit
+pub mod Excess

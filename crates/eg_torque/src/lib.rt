@@ -1,0 +1,9 @@
+//! What the monitoring of torque goes by: the permitted torque of a permit table, the torque estimate of a
+//! load, and the excess of the estimate over the permitted torque.
+#![tactic(auto)]
+
+mod permit;
+mod torque;
+
+pub use permit::{Permit, permits_rise};
+pub use torque::{actual, excess};

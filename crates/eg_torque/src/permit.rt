@@ -1,0 +1,117 @@
+// The permit table.
+ghost use Rattle.std.specs.Prelude.{◌≡◌, ◌↔◌, ℕ, ◌≤◌, ◌<◌, length, IsTrue, IsOk, IfOk, IfErr};
+ghost use Rattle.eg_num.specs.Interpolation.{IsGrid};
+ghost use Rattle.eg_torque.specs.Permit.{DoesNotFall, FallsAt, IsFirstFall, PermitRises, permitted};
+
+use eg_num::Table2;
+use std::marker::Model;
+
+/// The permit table (docs/CONCEPT.md, "Torque"): the torque that is permitted, in tenths of Nm, at a pedal
+/// (its rows, per mille) and a speed (its columns, turns per minute). It doesn't fall along the pedal, at any
+/// point of the speed. Contracts see its `Grid`.
+#[derive(Drop)]
+pub struct Permit {
+    table: Table2,
+}
+
+impl Model for Permit {
+    ghost use Rattle.eg_num.specs.Interpolation.{Grid, IsGrid};
+    ghost use Rattle.eg_torque.specs.Permit.{DoesNotFall};
+
+    ghost Value = { Grid };
+
+    ghost view = { λ p. p.table };
+
+    ghost invariant = { λ p. IsGrid p.table × DoesNotFall p.table };
+}
+
+impl Permit {
+    /// The permit table of these values. It is refused where a row has a value below that of the row before
+    /// it: Err holds the first such row, counted from 0 (docs/CONCEPT.md, "Torque").
+    pub fn new(table: Table2) -> Result<Permit, u16>
+        ensures accepted { IsOk result ↔ DoesNotFall table }
+        ensures kept { IfOk result (λ permit. permit ≡ table) }
+        ensures refused { IfErr result (IsFirstFall table) }
+    {
+        for i in 1..table.height() {
+            if row_falls(&table, i) {
+                return Err(i as u16);
+            }
+        }
+        Ok(Permit { table })
+    }
+
+    /// The permitted torque, in tenths of Nm (docs/CONCEPT.md, "Torque"): the lower of the table's values at
+    /// the pedal (per mille) and each of the two speeds (turns per minute), or the raise (tenths of Nm) where
+    /// that is more. It doesn't fall with the pedal or with the raise.
+    pub fn at(&self, pedal: u16, speed_a: u16, speed_b: u16, raise: u16) -> u16
+        ensures value { result ≡ permitted self.now pedal speed_a speed_b raise }
+        ensures rises { (p q r s : ℕ) → p ≤ q → r ≤ s →
+            permitted self.now p speed_a speed_b r ≤ permitted self.now q speed_a speed_b s }
+        ensures permit { DoesNotFall self.now }
+        ensures grid { IsGrid self.now }
+    {
+        let first = self.table.at(pedal, speed_a);
+        let second = self.table.at(pedal, speed_b);
+        first.min(second).max(raise)
+    }
+
+    /// An equal permit table. It takes no memory.
+    pub fn copy(&self) -> Permit
+        ensures { result ≡ self.now }
+    {
+        Permit {
+            table: self.table.copy(),
+        }
+    }
+}
+
+/// Does nothing when it runs. Its contract is a law: a greater pedal or a greater raise never permits less
+/// torque, whatever the two speeds (docs/CONCEPT.md, "Torque").
+pub fn permits_rise()
+    ensures { PermitRises }
+{}
+
+/// Whether row `i` has a value below the row before it.
+fn row_falls(table: &Table2, i: usize) -> bool
+    requires later { 1 ≤ i }
+    requires row { i < length table.now.rows }
+    ensures { IsTrue result ↔ FallsAt table.now i }
+{
+    for j in 0..table.width() {
+        if table.value(i, j) < table.value(i - 1, j) {
+            return true;
+        }
+    }
+    false
+}
+
+#[cfg(test)]
+mod tests {
+    use super::*;
+    use eg_num::Axis;
+    use std::test::Fail;
+
+    fn table(values: &[u16]) -> Option<Table2> {
+        let pedals = Axis::new(&[0, 500, 1000])?;
+        let speeds = Axis::new(&[800, 3000, 6000])?;
+        Table2::new(pedals, speeds, values)
+    }
+
+    #[test]
+    fn a_table_that_does_not_fall_is_accepted(rt: HostRuntime) -> Result<(), Fail> {
+        let table = table(&[200, 100, 0, 1000, 1200, 900, 2000, 2400, 1800]).ok_or("no table")?;
+        let permit = Permit::new(table)?;
+        let copy = permit.copy();
+        assert_eq!(rt; permit.at(750, 1900, 1900, 0), 1650);
+        assert_eq!(rt; copy.at(750, 1900, 800, 1600), 1600);
+        Ok(())
+    }
+
+    #[test]
+    fn the_first_row_that_falls_is_named(rt: HostRuntime) -> Result<(), Fail> {
+        let table = table(&[200, 100, 0, 1000, 1200, 900, 2000, 1199, 899]).ok_or("no table")?;
+        assert_eq!(rt; Permit::new(table).err(), Some(2));
+        Ok(())
+    }
+}
