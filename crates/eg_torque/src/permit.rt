@@ -41,6 +41,15 @@ impl Permit {
         Ok(Permit { table })
     }
 
+    /// Its table.
+    pub fn table(&self) -> &Table2
+        ensures table { result.now ≡ self.now }
+        ensures permit { DoesNotFall self.now }
+        ensures grid { IsGrid self.now }
+    {
+        &self.table
+    }
+
     /// The permitted torque, in tenths of Nm (docs/CONCEPT.md, "Torque"): the lower of the table's values at
     /// the pedal (per mille) and each of the two speeds (turns per minute), or the raise (tenths of Nm) where
     /// that is more. It doesn't fall with the pedal or with the raise.

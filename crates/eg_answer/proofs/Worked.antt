@@ -1,0 +1,131 @@
+-- Four questions with their results, the folds on the way and the numbers that are expected, the token of a tick, and
+-- a reaction time, computed from the definitions.
+use Rattle.std.proofs.Common.{◌≡◌, ℕ, ◌∷◌, List, [], map, take, refl}
+use Rattle.eg_num.specs.Interpolation.{value_at}
+use Rattle.eg_torque.specs.Permit.{permitted}
+use Rattle.eg_torque.specs.Excess.{is_excess}
+use Rattle.eg_answer.specs.Folds.{mixed, fold_of}
+use Rattle.eg_answer.specs.Answers.{pedal_result, permitted_result, estimate_result, excess_result, pairs_result, results_of, expected_of, answer_number}
+use Rattle.eg_answer.specs.Token.{next_token_of, token_after, all_modules}
+use Rattle.eg_answer.specs.Times.{TimeParts, verdicts_to_confirm, reaction_of}
+use Rattle.eg_answer.specs.declared.rules.Rules.{Rules}
+use Rattle.eg_answer.specs.declared.rules.TestRow.{TestRow}
+
+-- every definition that these rows need
+unfoldable answering : ℕ
+unfolding value_at permitted is_excess mixed fold_of pedal_result permitted_result estimate_result excess_result pairs_result
+    results_of expected_of answer_number next_token_of token_after verdicts_to_confirm reaction_of
+answering = 0
+
+-- pedals 0, 500, 1000; speeds 800, 3000, 6000
+abbrev small : Rules
+small = record {
+  permit = record {
+    rows = 0 ∷ 500 ∷ 1000 ∷ [];
+    columns = 800 ∷ 3000 ∷ 6000 ∷ [];
+    values = 200 ∷ 100 ∷ 0 ∷ 1000 ∷ 1200 ∷ 900 ∷ 2000 ∷ 2400 ∷ 1800 ∷ [];
+  };
+  kt = 2500;
+  threshold = 200;
+  tolerances = 50 ∷ 50 ∷ 50 ∷ 50 ∷ [];
+  pair = record { up = 2; down = 1; limit = 10 };
+  torque = record { up = 1; down = 1; limit = 5 };
+}
+
+abbrev row : ℕ → List ℕ → List ℕ → List ℕ → List ℕ → ℕ → ℕ → ℕ → ℕ → ℕ → TestRow
+row seed pedal plate load speed raise check used estimate allowed = record {
+  seed = seed;
+  readings = record { pedal = pedal; plate = plate; load = load; speed = speed; raise = raise; raise_check = check };
+  used = used;
+  estimate = estimate;
+  allowed = allowed;
+}
+
+-- all tracks agree, and the row's estimate is an excess
+abbrev row0 : TestRow
+row0 = row 4660 (500 ∷ 500 ∷ []) (200 ∷ 800 ∷ []) (300 ∷ 300 ∷ []) (800 ∷ 800 ∷ []) 0 65535 500 1400 1000
+
+-- the loads disagree, and the higher one is on track 2
+abbrev row1 : TestRow
+row1 = row 42435 (1000 ∷ 0 ∷ []) (0 ∷ 1000 ∷ []) (40 ∷ 120 ∷ []) (3000 ∷ 3000 ∷ []) 0 65535 1000 400 200
+
+-- the plates disagree, the raise counts, and the numbers are near the end of a word
+abbrev row2 : TestRow
+row2 = row 3855 (250 ∷ 700 ∷ []) (100 ∷ 960 ∷ []) (500 ∷ 490 ∷ []) (1900 ∷ 1900 ∷ []) 600 64935 0 65535 65334
+
+-- pedals and speeds disagree, the lower one is on track 2, and the raise's check word is wrong
+abbrev row3 : TestRow
+row3 = row 32769 (1000 ∷ 200 ∷ []) (1000 ∷ 0 ∷ []) (0 ∷ 0 ∷ []) (800 ∷ 6000 ∷ []) 300 300 750 0 0
+
+-- the folds after one result, after two, and so on
+abbrev folds : TestRow → List ℕ
+unfolding answering
+folds r = map (λ n. fold_of r.seed (take n (results_of small r))) (1 ∷ 2 ∷ 3 ∷ 4 ∷ 5 ∷ [])
+
+results-row0 : results_of small row0 ≡ 500 ∷ 1000 ∷ 750 ∷ 1 ∷ 0 ∷ []
+unfolding answering
+results-row0 = refl
+
+folds-row0 : folds row0 ≡ 36948 ∷ 33100 ∷ 2186 ∷ 17489 ∷ 8842 ∷ []
+unfolding answering
+folds-row0 = refl
+
+results-row1 : results_of small row1 ≡ 1000 ∷ 2400 ∷ 300 ∷ 0 ∷ 4 ∷ []
+unfolding answering
+results-row1 = refl
+
+folds-row1 : folds row1 ≡ 11765 ∷ 26313 ∷ 14183 ∷ 47929 ∷ 55753 ∷ []
+unfolding answering
+folds-row1 = refl
+
+results-row2 : results_of small row2 ≡ 250 ∷ 600 ∷ 1250 ∷ 1 ∷ 2 ∷ []
+unfolding answering
+results-row2 = refl
+
+folds-row2 : folds row2 ≡ 30850 ∷ 50763 ∷ 14012 ∷ 46560 ∷ 44807 ∷ []
+unfolding answering
+folds-row2 = refl
+
+results-row3 : results_of small row3 ≡ 800 ∷ 1350 ∷ 0 ∷ 0 ∷ 9 ∷ []
+unfolding answering
+results-row3 = refl
+
+folds-row3 : folds row3 ≡ 812 ∷ 7206 ∷ 57648 ∷ 2439 ∷ 19505 ∷ []
+unfolding answering
+folds-row3 = refl
+
+-- the answers, and the number that is expected for the first
+answers : map (expected_of small) (row0 ∷ row1 ∷ row2 ∷ row3 ∷ []) ≡ 8842 ∷ 55753 ∷ 44807 ∷ 19505 ∷ []
+unfolding answering
+answers = refl
+
+number : answer_number (expected_of small row0) ≡ 16720522
+unfolding answering
+number = refl
+
+-- an estimate that ties with what is allowed is no excess
+tie : excess_result small (row 0 (0 ∷ 0 ∷ []) (0 ∷ 0 ∷ []) (0 ∷ 0 ∷ []) (0 ∷ 0 ∷ []) 0 0 0 1200 1000) ≡ 0
+unfolding answering
+tie = refl
+
+-- the token of a tick, after each number of modules
+tokens : map token_after ([] ∷ (0 ∷ []) ∷ (1 ∷ 0 ∷ []) ∷ all_modules ∷ []) ≡ 0 ∷ 1 ∷ 3 ∷ 255 ∷ []
+unfolding answering
+tokens = refl
+
+-- one module left out, two in the other order, one twice
+lost : map token_after ((1 ∷ []) ∷ (0 ∷ 1 ∷ []) ∷ (0 ∷ 0 ∷ []) ∷ []) ≡ 32768 ∷ 32768 ∷ 32768 ∷ []
+unfolding answering
+lost = refl
+
+abbrev times : ℕ → TimeParts
+times up = record { period = 10; first = 4; last = 7; send = 5; weights = record { up = up; down = 1; limit = 9 } }
+
+-- three wrong verdicts confirm, and so do five where the limit is no multiple
+reaction-3 : reaction_of (times 3) ≡ 34
+unfolding answering
+reaction-3 = refl
+
+reaction-2 : reaction_of (times 2) ≡ 54
+unfolding answering
+reaction-2 = refl

@@ -1,0 +1,19 @@
+-- The fold: one number of 16 bits for a seed and its results. It is one-to-one in each single result.
+use Rattle.std.specs.Prelude.{◌≡◌, ℕ, ◌<◌, ◌^◌, List, length, All, fold, slice_set, bit_xor}
+use Rattle.std.specs.Int.{w16, rotate_left}
+
+-- one result more: the bits so far rotated by three places, and the result mixed in by exclusive or
+unfoldable pub mixed : ℕ → ℕ → ℕ
+mixed bits result = bit_xor (rotate_left w16 bits 3) result
+
+-- the fold of a seed and results, the first result first
+unfoldable pub fold_of : ℕ → List ℕ → ℕ
+fold_of seed results = fold mixed seed results
+
+-- The law, for a seed and results of 16 bits, however many: where the result at one place is a or b, equal
+-- folds tell that a is b. So results that differ in exactly one place have different folds.
+abbrev pub FoldLaw : Type 0
+FoldLaw = (seed : ℕ) (results : List ℕ) (place a b : ℕ) →
+    seed < 2 ^ 16 → All (λ result. result < 2 ^ 16) results → a < 2 ^ 16 → b < 2 ^ 16 →
+    place < length results →
+    fold_of seed (slice_set results place a) ≡ fold_of seed (slice_set results place b) → a ≡ b

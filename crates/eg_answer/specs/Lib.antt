@@ -1,0 +1,5 @@
+pub mod Folds
+pub mod Answers
+pub mod Token
+pub mod Questions
+pub mod Times

@@ -1,0 +1,22 @@
+// How an answer and a period of answers are judged.
+
+/// The verdict over the answers of a period (docs/CONCEPT.md, "Questions and answers").
+#[derive(Clone, Copy, Debug, PartialEq, Eq)]
+pub enum Verdict {
+    /// One answer came, inside the window, and it was the expected number.
+    Right,
+    /// Anything else.
+    Wrong,
+}
+
+/// The mark of a tick (docs/CONCEPT.md, "Questions and answers"): whether level 2 sent an answer, and whether
+/// it was good.
+#[derive(Clone, Copy, Debug, PartialEq, Eq)]
+pub enum AnswerMark {
+    /// No answer was sent.
+    Absent,
+    /// An answer was sent, and nothing of level 2 was left out or disturbed since the one before.
+    Good,
+    /// An answer was sent, and something was left out or disturbed.
+    Bad,
+}

@@ -1,0 +1,65 @@
+// The rules that level 2 goes by, and the test rows that try them.
+ghost use Rattle.std.specs.Prelude.{◌≡◌};
+
+use eg_num::Weights;
+use eg_sensor::Readings;
+use eg_torque::Permit;
+
+/// The rules that level 2 goes by (docs/CONCEPT.md, "Questions and answers").
+#[derive(Drop)]
+pub struct Rules {
+    /// The permit table.
+    pub permit: Permit,
+    /// The torque of a load of 1000, in tenths of Nm.
+    pub kt: u16,
+    /// How much an estimate may exceed the permitted torque, in tenths of Nm.
+    pub threshold: u16,
+    /// By how much the two values of a pair may differ: of pedal, plate and load in per mille, and of the
+    /// speed in turns per minute.
+    pub tolerances: [u16; 4],
+    /// The weights of the debouncers of the pairs.
+    pub pair: Weights,
+    /// The weights of the debouncer of the torque.
+    pub torque: Weights,
+}
+
+impl Rules {
+    /// Equal rules. It takes no memory.
+    pub fn copy(&self) -> Rules
+        ensures { result ≡ self.now }
+    {
+        Rules {
+            permit: self.permit.copy(),
+            kt: self.kt,
+            threshold: self.threshold,
+            tolerances: self.tolerances,
+            pair: self.pair.copy(),
+            torque: self.torque.copy(),
+        }
+    }
+}
+
+/// A test row: numbers on which level 2 computes once more what it computes on the sensors' readings, and for
+/// which the results are known (docs/CONCEPT.md, "Questions and answers").
+#[derive(Clone, Copy, Debug, PartialEq, Eq)]
+pub struct TestRow {
+    /// What the fold begins with.
+    pub seed: u16,
+    /// What stands in place of the sensors' readings.
+    pub readings: Readings,
+    /// The pedal for the permitted torque, in per mille.
+    pub used: u16,
+    /// The estimate for the excess, in tenths of Nm.
+    pub estimate: u16,
+    /// The permitted torque for the excess, in tenths of Nm.
+    pub allowed: u16,
+}
+
+impl TestRow {
+    /// An equal row.
+    pub fn copy(&self) -> TestRow
+        ensures { result ≡ self.now }
+    {
+        *self
+    }
+}

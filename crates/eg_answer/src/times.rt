@@ -1,0 +1,149 @@
+// The times of the answers, and the reaction time.
+ghost use Rattle.std.specs.Prelude.{◌≡◌, SomeIff};
+ghost use Rattle.eg_num.specs.Windows.{AreWeights};
+ghost use Rattle.eg_answer.specs.Times.{TimeParts, AreTimes, reaction_of};
+
+use eg_num::Weights;
+use std::marker::Model;
+
+/// The times of the answers (docs/CONCEPT.md, "Questions and answers"), in ticks. A period has 2 to 100
+/// ticks. An answer may come from its tick `first` to its tick `last`, and level 2 sends it at its tick
+/// `send`, between those two; each is counted from the period's begin. The verdicts are debounced by the
+/// weights. Contracts see its `TimeParts`.
+#[derive(Drop)]
+pub struct Times {
+    period: u16,
+    first: u16,
+    last: u16,
+    send: u16,
+    weights: Weights,
+}
+
+impl Model for Times {
+    ghost use Rattle.eg_answer.specs.Times.{TimeParts, AreTimes};
+
+    ghost Value = { TimeParts };
+
+    ghost view = { λ t. record {
+      period = t.period;
+      first = t.first;
+      last = t.last;
+      send = t.send;
+      weights = t.weights;
+    } };
+
+    ghost invariant = { λ t. AreTimes (record {
+      period = t.period;
+      first = t.first;
+      last = t.last;
+      send = t.send;
+      weights = t.weights;
+    }) };
+}
+
+impl Times {
+    /// These times, or None where the period isn't 2 to 100 ticks, or `first <= send <= last < period` fails.
+    pub fn new(period: u16, first: u16, last: u16, send: u16, weights: Weights) -> Option<Times>
+        ensures { let times : TimeParts =
+            record { period = period; first = first; last = last; send = send; weights = weights } in
+            SomeIff result (AreTimes times) times }
+    {
+        let is_period = 2 <= period && period <= 100;
+        if is_period && first <= send && send <= last && last < period {
+            Some(Times {
+                period,
+                first,
+                last,
+                send,
+                weights,
+            })
+        } else {
+            None
+        }
+    }
+
+    /// How many ticks a period has.
+    pub fn period(&self) -> u16
+        ensures period { result ≡ self.now.period }
+        ensures times { AreTimes self.now }
+    {
+        self.period
+    }
+
+    /// The first tick of a period at which an answer may come.
+    pub fn first(&self) -> u16
+        ensures first { result ≡ self.now.first }
+        ensures times { AreTimes self.now }
+    {
+        self.first
+    }
+
+    /// The last tick of a period at which an answer may come.
+    pub fn last(&self) -> u16
+        ensures last { result ≡ self.now.last }
+        ensures times { AreTimes self.now }
+    {
+        self.last
+    }
+
+    /// The tick of a period at which level 2 sends its answer.
+    pub fn send(&self) -> u16
+        ensures send { result ≡ self.now.send }
+        ensures times { AreTimes self.now }
+    {
+        self.send
+    }
+
+    /// The weights of the debouncer of the verdicts.
+    pub fn weights(&self) -> &Weights
+        ensures weights { result.now ≡ self.now.weights }
+        ensures times { AreTimes self.now }
+        ensures limits { AreWeights self.now.weights }
+    {
+        // Whoever reads one of the weights learns that they keep their limits.
+        let _limit = self.weights.limit();
+        &self.weights
+    }
+
+    /// Equal times.
+    pub fn copy(&self) -> Times
+        ensures { result ≡ self.now }
+    {
+        Times {
+            period: self.period,
+            first: self.first,
+            last: self.last,
+            send: self.send,
+            weights: self.weights.copy(),
+        }
+    }
+}
+
+/// The reaction time in ticks (docs/CONCEPT.md, "Reaction time"): where no answer is right any more from the
+/// tick after a send tick, the monitoring module's path is open so many ticks later.
+pub fn reaction(times: &Times) -> u32
+    ensures { result ≡ reaction_of times.now }
+{
+    let weights = times.weights();
+    let verdicts = u32::from(weights.limit()).div_ceil(u32::from(weights.up()));
+    (verdicts + 1) * u32::from(times.period()) - u32::from(times.send()) - 1
+}
+
+#[cfg(test)]
+mod tests {
+    use super::*;
+    use std::test::Fail;
+
+    #[test]
+    fn three_wrong_verdicts_take_34_ticks(rt: HostRuntime) -> Result<(), Fail> {
+        let weights = Weights::new(3, 1, 9).ok_or("no weights")?;
+        let times = Times::new(10, 4, 7, 5, weights).ok_or("no times")?.copy();
+        assert_eq!(rt;
+            [times.period(), times.first(), times.last(), times.send()],
+            [10, 4, 7, 5]
+        );
+        assert_eq!(rt; times.weights().limit(), 9);
+        assert_eq!(rt; reaction(&times), 34);
+        Ok(())
+    }
+}

@@ -1,0 +1,58 @@
+-- Redundant sensors. Pedal, plate, load and speed are each sensed by a pair of tracks. The second track of
+-- pedal and plate falls: a sound one reads 1000 less the value. A raise of the permitted torque comes with a
+-- check word.
+use Rattle.std.specs.Prelude.{ℕ, ◌+◌, ◌-◌, ◌==◌, Bool, List, [], ◌∷◌, min, if◌then◌else◌, nat_lt, slice_index}
+use Rattle.eg_sensor.specs.declared.readings.Readings.{Readings}
+
+-- what a falling track's reading stands for, not below 0
+abbrev pub falling_value : ℕ → ℕ
+falling_value reading = 1000 - reading
+
+-- the two values that a pair of tracks senses
+pub record PairValues : Type 0 where
+  pub first : ℕ
+  pub second : ℕ
+
+-- of two tracks that rise
+abbrev pub rising_pair : List ℕ → PairValues
+rising_pair tracks = record { first = slice_index tracks 0; second = slice_index tracks 1 }
+
+-- of two tracks of which the second falls
+abbrev pub falling_pair : List ℕ → PairValues
+falling_pair tracks = record { first = slice_index tracks 0; second = falling_value (slice_index tracks 1) }
+
+-- two values differ by more than a tolerance
+abbrev pub disagrees : PairValues → ℕ → Bool
+disagrees pair tolerance = nat_lt tolerance ((pair.first - pair.second) + (pair.second - pair.first))
+
+-- the pedal that level 2 uses: the lower of the two values, and 0 in limited operation
+abbrev pub used_pedal : List ℕ → Bool → ℕ
+used_pedal tracks limp = if limp then 0 else min (falling_pair tracks).first (falling_pair tracks).second
+
+-- the raise that counts: it and its check word are to add up to 65535, and otherwise it is 0
+abbrev pub checked_raise : ℕ → ℕ → ℕ
+checked_raise value check = if value + check == 65535 then value else 0
+
+-- so much where a test is true, and else 0
+abbrev pub bit : ℕ → Bool → ℕ
+bit size is_set = if is_set then size else 0
+
+-- 1, 2, 4 and 8 for the pairs of pedal, plate, load and speed whose values differ by more than their
+-- tolerances
+abbrev pub pair_bits : Readings → List ℕ → ℕ
+pair_bits r tolerances =
+    bit 1 (disagrees (falling_pair r.pedal) (slice_index tolerances 0))
+    + bit 2 (disagrees (falling_pair r.plate) (slice_index tolerances 1))
+    + bit 4 (disagrees (rising_pair r.load) (slice_index tolerances 2))
+    + bit 8 (disagrees (rising_pair r.speed) (slice_index tolerances 3))
+
+-- what sound tracks read, of two loads that the engine shows
+abbrev pub sound_readings : ℕ → ℕ → List ℕ → ℕ → ℕ → Readings
+sound_readings pedal plate loads speed raise = record {
+  pedal = pedal ∷ (1000 - pedal) ∷ [];
+  plate = plate ∷ (1000 - plate) ∷ [];
+  load = loads;
+  speed = speed ∷ speed ∷ [];
+  raise = raise;
+  raise_check = 65535 - raise;
+}

@@ -1,0 +1,2 @@
+pub mod Calibration
+pub mod Reference

@@ -1,0 +1,124 @@
+// The values of a calibration.
+ghost use Rattle.std.specs.Prelude.{◌≡◌, ◌↔◌, All, IsTrue, IsSome, IfSome};
+ghost use Rattle.eg_answer.specs.Answers.{expected_of};
+ghost use Rattle.eg_values.specs.Calibration.{CalibrationParts, GoTogether, IsAccepted};
+
+use eg_answer::{Questions, Rules, Times, expected};
+use eg_plant::PlantData;
+use std::marker::Model;
+
+/// A calibration (docs/CONCEPT.md, "Calibration"): the rules of level 2, the plant, the times of the answers,
+/// and the questions with their answers. Its type keeps that it is an accepted one (`IsAccepted`). Contracts
+/// see its `CalibrationParts`.
+#[derive(Drop)]
+pub struct Calibration {
+    rules: Rules,
+    plant: PlantData,
+    times: Times,
+    questions: Questions,
+}
+
+impl Model for Calibration {
+    ghost use Rattle.eg_values.specs.Calibration.{CalibrationParts, IsAccepted};
+
+    ghost Value = { CalibrationParts };
+
+    ghost view = { λ c. record { rules = c.rules; plant = c.plant; times = c.times; questions = c.questions } };
+
+    ghost invariant = { λ c. IsAccepted (record {
+      rules = c.rules;
+      plant = c.plant;
+      times = c.times;
+      questions = c.questions;
+    }) };
+}
+
+impl Calibration {
+    /// The calibration of these parts, or None where they don't go together: plant and rules have one torque
+    /// of a load of 1000, there are two questions at least, and each question's answer is the fold of its
+    /// row.
+    pub fn new(
+        rules: Rules,
+        plant: PlantData,
+        times: Times,
+        questions: Questions,
+    ) -> Option<Calibration>
+        ensures accepted { let parts : CalibrationParts =
+            record { rules = rules; plant = plant; times = times; questions = questions } in
+            IsSome result ↔ GoTogether parts }
+        ensures kept { let parts : CalibrationParts =
+            record { rules = rules; plant = plant; times = times; questions = questions } in
+            IfSome result (λ calibration. (calibration ≡ parts) × IsAccepted parts) }
+    {
+        if rules.kt != plant.kt() || questions.len() < 2 || !are_answered(&rules, &questions) {
+            return None;
+        }
+        // Whoever reads these values learns what their types keep.
+        let _table = rules.permit.table();
+        let _limits = (rules.pair.limit(), rules.torque.limit());
+        let _charges = plant.charge().values();
+        let _weights = times.weights();
+        Some(Calibration {
+            rules,
+            plant,
+            times,
+            questions,
+        })
+    }
+
+    /// The rules of level 2.
+    pub fn rules(&self) -> &Rules
+        ensures rules { result.now ≡ self.now.rules }
+        ensures accepted { IsAccepted self.now }
+    {
+        &self.rules
+    }
+
+    /// What the plant goes by.
+    pub fn plant(&self) -> &PlantData
+        ensures plant { result.now ≡ self.now.plant }
+        ensures accepted { IsAccepted self.now }
+    {
+        &self.plant
+    }
+
+    /// The times of the answers.
+    pub fn times(&self) -> &Times
+        ensures times { result.now ≡ self.now.times }
+        ensures accepted { IsAccepted self.now }
+    {
+        &self.times
+    }
+
+    /// The questions and their answers.
+    pub fn questions(&self) -> &Questions
+        ensures questions { result.now ≡ self.now.questions }
+        ensures accepted { IsAccepted self.now }
+    {
+        &self.questions
+    }
+
+    /// An equal calibration. It takes no memory.
+    pub fn copy(&self) -> Calibration
+        ensures { result ≡ self.now }
+    {
+        Calibration {
+            rules: self.rules.copy(),
+            plant: self.plant.copy(),
+            times: self.times.copy(),
+            questions: self.questions.copy(),
+        }
+    }
+}
+
+/// Whether each question's answer is the fold of its row.
+fn are_answered(rules: &Rules, questions: &Questions) -> bool
+    ensures { IsTrue result ↔ All (λ question. question.answer ≡ expected_of rules.now question.row) questions.now }
+{
+    for i in 0..questions.len() {
+        if questions.answer(i) != expected(rules, questions.row(i)) {
+            return false;
+        }
+    }
+    true
+}
