@@ -15,7 +15,7 @@ pub struct Rules {
     /// How much an estimate may exceed the permitted torque, in tenths of Nm.
     pub threshold: u16,
     /// By how much the two values of a pair may differ: of pedal, plate and load in per mille, and of the
-    /// speed in turns per minute.
+    /// speed in rpm.
     pub tolerances: [u16; 4],
     /// The weights of the debouncers of the pairs.
     pub pair: Weights,

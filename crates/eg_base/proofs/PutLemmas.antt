@@ -5,7 +5,7 @@ use Rattle.eg_base.specs.declared.sink.PutRefusal.{PutRefusal}
 use Rattle.eg_base.specs.declared.sink.PutRefusal.TheVariants.{Failed, Memory}
 use Rattle.eg_base.specs.Counts.{next_count}
 use Rattle.eg_base.specs.Fakes.{SinkState, after_failed_put}
-use Rattle.eg_base.specs.Outside.{ShownSink, AppendsFront}
+use Rattle.eg_base.specs.Outside.{ShownSink, AppendsPrefix}
 
 -- what the output in memory shows
 abbrev pub shown : SinkState → ShownSink
@@ -15,7 +15,7 @@ shown sink = record { written = Some sink.bytes; faults = sink.faults; sure = fa
 pub front-of_refused : (result : Result (Unit {0}) PutRefusal) (old new : SinkState) (bytes : List ℕ)
     → (IsErrOf result Failed → new ≡ after_failed_put old bytes)
     → (IsErrOf result Memory → new ≡ record old { puts = next_count old.puts })
-    → OnErr result (AppendsFront (shown old) (shown new) bytes)
+    → OnErr result (AppendsPrefix (shown old) (shown new) bytes)
 front-of_refused (Ok x) old new bytes half nothing = tt
 front-of_refused (Err Failed) old new bytes half nothing =
     let count : ℕ = length bytes / 2 in

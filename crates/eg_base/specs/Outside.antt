@@ -52,6 +52,7 @@ IsMissing files name = IsSomeAnd files (λ m. IsNone (get m name))
 abbrev pub Appends : ShownSink → ShownSink → List ℕ → Type 0
 Appends before now bytes = now.written ≡ option_map (λ old. old ++ bytes) before.written
 
--- the front of these bytes was appended, up to some place
-abbrev pub AppendsFront : ShownSink → ShownSink → List ℕ → Type 0
-AppendsFront before now bytes = (front rest : List ℕ) × (bytes ≡ front ++ rest) × Appends before now front
+-- a prefix of these bytes was appended
+abbrev pub AppendsPrefix : ShownSink → ShownSink → List ℕ → Type 0
+AppendsPrefix before now bytes =
+    (prefix rest : List ℕ) × (bytes ≡ prefix ++ rest) × Appends before now prefix

@@ -1,7 +1,7 @@
 // Where bytes are written to.
 ghost use Rattle.std.specs.Prelude.{◌≡◌, ◌≤◌, IsTrue, OnOk, OnErr, IsErrOf};
 ghost use Rattle.eg_base.specs.declared.sink.PutRefusal.TheVariants.{Failed, Memory};
-ghost use Rattle.eg_base.specs.Outside.{ShownSink, Rose, Appends, AppendsFront};
+ghost use Rattle.eg_base.specs.Outside.{ShownSink, Rose, Appends, AppendsPrefix};
 
 use std::alloc::AllocError;
 
@@ -30,14 +30,15 @@ pub trait Sink {
     /// What was written, faults, and whether it is sure.
     ghost shows: { Self → ShownSink };
 
-    /// Appends these bytes. Where it is refused, some front of them may have been appended.
+    /// Appends these bytes. Where it is refused, some prefix of them may have been appended.
     fn put(&mut self, bytes: &[u8]) -> Result<(), PutRefusal>
         ensures ok { OnOk result (Appends (shows self.old) (shows self.new) bytes.now) }
-        ensures front { OnErr result (AppendsFront (shows self.old) (shows self.new) bytes.now) }
+        ensures prefix { OnErr result (AppendsPrefix (shows self.old) (shows self.new) bytes.now) }
         ensures stays_sure { (shows self.new).sure ≡ (shows self.old).sure }
 
-        // A fault is counted, and a sure output takes no memory.
+        // Each Failed is counted, and Ok isn't. A sure output takes no memory.
         ensures count { (shows self.old).faults ≤ (shows self.new).faults }
+        ensures no_fault { OnOk result ((shows self.new).faults ≡ (shows self.old).faults) }
         ensures cause { IsErrOf result Failed → Rose (shows self.old).faults (shows self.new).faults }
         ensures sure { IsTrue (shows self.old).sure → ¬ IsErrOf result Memory };
 }

@@ -41,9 +41,11 @@ pub record Curve : Type 0 where
   pub axis : List ℕ
   pub values : List ℕ
 
+-- its axis is one, and each point has a value
 abbrev pub IsCurve : Curve → Type 0
 IsCurve c = IsAxis c.axis × (length c.values ≡ length c.axis)
 
+-- its value at a place
 abbrev pub curve_at : Curve → ℕ → ℕ
 curve_at c x = value_at c.axis (slice_index c.values) x
 
@@ -53,6 +55,7 @@ pub record Grid : Type 0 where
   pub columns : List ℕ
   pub values : List ℕ
 
+-- its axes are two, and each crossing has a value
 abbrev pub IsGrid : Grid → Type 0
 IsGrid g = IsAxis g.rows × IsAxis g.columns × (length g.values ≡ length g.rows * length g.columns)
 

@@ -50,5 +50,6 @@ pub record Agree (w : WeightParts) (bits : List Bool) : Type 0 where
   pub least : IsFirst w bits (first_place w (reverse bits))
   pub one : (first : Option ℕ) → IsFirst w bits first → first ≡ first_place w (reverse bits)
 
+-- so for all weights and all lists
 abbrev pub PlaceLaw : Type 0
 PlaceLaw = (w : WeightParts) → AreWeights w → (bits : List Bool) → Agree w bits

@@ -1,5 +1,5 @@
 -- Debouncing by windows. A list of bits has one bit a feed, true for a bad one, and stands newest first: its
--- head is the last feed, and what came before it is its tail. A window that ends at the last feed is a front
+-- head is the last feed, and what came before it is its tail. A window that ends at the last feed is a prefix
 -- of the list. There is no counter here: `Counting` says what a counter keeps of this, and `Places` says the
 -- same in the order of time.
 use Rattle.std.specs.Prelude.{ℕ, ◌*◌, ◌-◌, ◌≤◌, Bool, false, not, ◌&&◌, ◌||◌, nat_le, List, [], ◌∷◌, length, map, max, count_by, Option, Some, None, if◌then◌else◌}

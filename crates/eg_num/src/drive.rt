@@ -5,7 +5,7 @@ ghost use Rattle.eg_num.specs.Drive.{DriveRow, IsDrive};
 use std::marker::Model;
 
 /// What a drive trace gives to one tick (docs/CONCEPT.md, "Units"): the pedal (0 to 1000 per mille), the
-/// speed (0 to 8000 turns per minute), and what raises the permitted torque (0 to 10,000 tenths of Nm).
+/// speed (0 to 8000 rpm), and what raises the permitted torque (0 to 10,000 tenths of Nm).
 /// Contracts see its `DriveRow`.
 #[derive(Clone, Copy, Debug, PartialEq, Eq)]
 pub struct Drive {
@@ -51,7 +51,7 @@ impl Drive {
         self.pedal
     }
 
-    /// The speed, in turns per minute.
+    /// The speed, in rpm.
     pub fn speed(&self) -> u16
         ensures speed { result ≡ self.now.speed }
         ensures drive { IsDrive self.now }

@@ -22,7 +22,11 @@ impl Model for Table2 {
 
     ghost view = { λ t. record { rows = t.rows; columns = t.columns; values = t.values.items } };
 
-    ghost invariant = { λ t. IsGrid (record { rows = t.rows; columns = t.columns; values = t.values.items }) };
+    ghost invariant = { λ t. IsGrid (record {
+      rows = t.rows;
+      columns = t.columns;
+      values = t.values.items;
+    }) };
 }
 
 impl Table2 {

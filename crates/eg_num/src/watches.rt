@@ -1,6 +1,6 @@
 // The watches of the unit.
 
-/// Which watches are found at a tick (docs/CONCEPT.md, "Level 2"): that of the mirrored words, those of the
+/// Which watches are found at a tick: that of the mirrored words, those of the
 /// four pairs of sensors, that of the torque, and that of the answers.
 #[derive(Clone, Copy, Debug, PartialEq, Eq)]
 pub struct Watches {

@@ -13,7 +13,7 @@ pub struct Readings {
     pub plate: [u16; 2],
     /// The tracks of the load, in per mille.
     pub load: [u16; 2],
-    /// The tracks of the speed, in turns per minute.
+    /// The tracks of the speed, in rpm.
     pub speed: [u16; 2],
     /// What raises the permitted torque, in tenths of Nm.
     pub raise: u16,

@@ -7,7 +7,7 @@ use eg_num::Table2;
 use std::marker::Model;
 
 /// The permit table (docs/CONCEPT.md, "Torque"): the torque that is permitted, in tenths of Nm, at a pedal
-/// (its rows, per mille) and a speed (its columns, turns per minute). It doesn't fall along the pedal, at any
+/// (its rows, per mille) and a speed (its columns, rpm). It doesn't fall along the pedal, at any
 /// point of the speed. Contracts see its `Grid`.
 #[derive(Drop)]
 pub struct Permit {
@@ -51,7 +51,7 @@ impl Permit {
     }
 
     /// The permitted torque, in tenths of Nm (docs/CONCEPT.md, "Torque"): the lower of the table's values at
-    /// the pedal (per mille) and each of the two speeds (turns per minute), or the raise (tenths of Nm) where
+    /// the pedal (per mille) and each of the two speeds (rpm), or the raise (tenths of Nm) where
     /// that is more. It doesn't fall with the pedal or with the raise.
     pub fn at(&self, pedal: u16, speed_a: u16, speed_b: u16, raise: u16) -> u16
         ensures value { result ≡ permitted self.now pedal speed_a speed_b raise }

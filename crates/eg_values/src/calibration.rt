@@ -23,7 +23,12 @@ impl Model for Calibration {
 
     ghost Value = { CalibrationParts };
 
-    ghost view = { λ c. record { rules = c.rules; plant = c.plant; times = c.times; questions = c.questions } };
+    ghost view = { λ c. record {
+      rules = c.rules;
+      plant = c.plant;
+      times = c.times;
+      questions = c.questions;
+    } };
 
     ghost invariant = { λ c. IsAccepted (record {
       rules = c.rules;
@@ -113,7 +118,8 @@ impl Calibration {
 
 /// Whether each question's answer is the fold of its row.
 fn are_answered(rules: &Rules, questions: &Questions) -> bool
-    ensures { IsTrue result ↔ All (λ question. question.answer ≡ expected_of rules.now question.row) questions.now }
+    ensures { IsTrue result
+        ↔ All (λ question. question.answer ≡ expected_of rules.now question.row) questions.now }
 {
     for i in 0..questions.len() {
         if questions.answer(i) != expected(rules, questions.row(i)) {

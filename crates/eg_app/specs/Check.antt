@@ -1,0 +1,38 @@
+-- What `check` says of a file: the first tick by which the torque excess of its rows is confirmed.
+use Rattle.std.specs.Prelude.{ℕ, List, ◌++◌, Bool, map, length, codes, decimal, Option, Some, None, Result, Ok, Err, nat_le, if◌then◌else◌}
+use Rattle.eg_torque.specs.Permit.{drive_permits}
+use Rattle.eg_torque.specs.Excess.{is_excess}
+use Rattle.eg_input.specs.CheckFile.{CheckRow, check_rows}
+use Rattle.eg_input.specs.Records.{records_of}
+use Rattle.eg_input.specs.declared.fault.TraceFault.{TraceFault}
+use Rattle.eg_answer.specs.declared.rules.Rules.{Rules}
+use Rattle.eg_app.specs.declared.outcome.Refusal.{Refusal}
+use Rattle.eg_app.specs.declared.outcome.Refusal.TheVariants as refusal
+use Rattle.eg_app.specs.declared.outcome.Role.TheVariants as role
+
+-- the torque of a row exceeds what the drive permits, by more than the threshold
+abbrev pub is_row_excess : Rules → CheckRow → Bool
+is_row_excess rules row = is_excess row.1 (drive_permits rules.permit row.0) rules.threshold
+
+-- so for each row, in the file's order
+abbrev pub excesses : Rules → List CheckRow → List Bool
+excesses rules rows = map (is_row_excess rules) rows
+
+-- the line that `check` writes, for the first tick by which the excess is confirmed, or none
+abbrev pub check_line : Option ℕ → List ℕ
+check_line None = codes "none\n"
+check_line (Some tick) = codes "torque " ++ decimal tick ++ codes "\n"
+
+-- a file has more than 4,194,304 bytes where a read of one more gives as many
+abbrev pub is_too_long : List ℕ → Bool
+is_too_long bytes = nat_le 4194305 (length bytes)
+
+-- why the rows of a check file are refused
+abbrev pub refused_rows : Result (List CheckRow) TraceFault → Result (List CheckRow) Refusal
+refused_rows (Ok rows) = Ok rows
+refused_rows (Err fault) = Err (refusal.Check fault)
+
+-- the rows of a check file, or its first refusal: of its size, or else of its records
+abbrev pub check_file : List ℕ → Result (List CheckRow) Refusal
+check_file bytes =
+    if is_too_long bytes then Err (refusal.Size role.Check) else refused_rows (check_rows (records_of bytes))

@@ -1,0 +1,17 @@
+//! The program's top call: words in, bytes out.
+#![tactic(auto)]
+
+mod bound;
+mod call;
+mod check;
+mod command;
+mod line;
+mod monitoring;
+mod note;
+mod outcome;
+
+pub use call::egasim;
+pub use outcome::{Outcome, Refusal, Role};
+
+#[cfg(test)]
+mod tests;

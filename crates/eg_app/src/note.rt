@@ -1,0 +1,64 @@
+// The line that notes how a call ended.
+ghost use Rattle.std.specs.Prelude.{◌≡◌, ◌++◌, List, map};
+ghost use Rattle.std.specs.List.{concat};
+ghost use Rattle.eg_app.specs.Notes.{PutsNote, note_of, refusal_note, fault_note};
+ghost use Rattle.eg_app.specs.declared.outcome.Outcome.TheVariants.{Done};
+
+use crate::{Outcome, Refusal};
+use eg_base::Sink;
+use eg_input::TraceFault;
+use itoa::Buffer;
+
+/// Puts the line that notes this outcome, for a file of this name (docs/FORMATS.md, "Notes"). It is put in
+/// pieces, up to the first that is refused, and takes no memory.
+pub(crate) fn note<N: Sink>(outcome: &Outcome, file: &str, notes: &mut N)
+    ensures note { PutsNote (N.shows notes.old) (N.shows notes.new) (note_of outcome.now file.now) }
+    ensures done { outcome.now ≡ Done → notes.new ≡ notes.old }
+{
+    let file = file.as_bytes();
+    match outcome {
+        Outcome::Done => {}
+        Outcome::Usage => put_pieces(notes, &[b"not a command of egasim\n"]),
+        Outcome::ReadFault { .. } => put_pieces(notes, &[b"cannot read ", file, b"\n"]),
+        Outcome::Refused(refusal) => note_refusal(refusal, file, notes),
+        Outcome::WriteFault => put_pieces(notes, &[b"cannot write\n"]),
+        Outcome::Memory => put_pieces(notes, &[b"no memory\n"]),
+    }
+}
+
+fn note_refusal<N: Sink>(refusal: &Refusal, file: &[u8], notes: &mut N)
+    ensures { PutsNote (N.shows notes.old) (N.shows notes.new) (file.now ++ refusal_note refusal.now) }
+{
+    match refusal {
+        Refusal::Size { .. } => put_pieces(notes, &[file, b": longer than 4194304 bytes\n"]),
+        Refusal::Check(fault) => note_fault(fault, file, notes),
+    }
+}
+
+fn note_fault<N: Sink>(fault: &TraceFault, file: &[u8], notes: &mut N)
+    ensures { PutsNote (N.shows notes.old) (N.shows notes.new) (file.now ++ fault_note fault.now) }
+{
+    match fault {
+        TraceFault::Memory => put_pieces(notes, &[file, b": no memory\n"]),
+        TraceFault::Header => put_pieces(notes, &[file, b": header\n"]),
+        TraceFault::Row { line } => {
+            let mut buffer = Buffer::new();
+            let line = buffer.format(*line).as_bytes();
+            put_pieces(notes, &[file, b": record ", line, b"\n"]);
+        }
+        TraceFault::Empty => put_pieces(notes, &[file, b": no records\n"]),
+        TraceFault::Long => put_pieces(notes, &[file, b": more than 20000 records\n"]),
+    }
+}
+
+/// Puts these pieces, up to the first that is refused.
+fn put_pieces<N: Sink>(notes: &mut N, pieces: &[&[u8]])
+    ensures { PutsNote (N.shows notes.old) (N.shows notes.new)
+        (concat (map (λ piece. piece.now) pieces.now)) }
+{
+    for piece in pieces {
+        let Ok(()) = notes.put(piece) else {
+            return;
+        };
+    }
+}

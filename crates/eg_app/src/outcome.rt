@@ -1,0 +1,54 @@
+// How a call of the program ends.
+ghost use Rattle.std.specs.Prelude.{◌≡◌};
+ghost use Rattle.eg_app.specs.Status.{status_of};
+
+use eg_input::TraceFault;
+
+/// A file of a command, by what it is for.
+#[derive(Clone, Copy, Debug, PartialEq, Eq)]
+pub enum Role {
+    /// The file of `check`.
+    Check,
+}
+
+/// Why a file was refused: the first rule that it breaks, in the order of docs/FORMATS.md.
+#[derive(Clone, Copy, Debug, PartialEq, Eq)]
+pub enum Refusal {
+    /// The file has more than 4,194,304 bytes.
+    Size { file: Role },
+    /// The records of a check file. Want of memory is `Outcome::Memory`, and never stands here.
+    Check(TraceFault),
+}
+
+/// How a call of the program ends (docs/FORMATS.md, "Outcomes").
+#[derive(Clone, Copy, Debug, PartialEq, Eq)]
+pub enum Outcome {
+    /// The whole text was written.
+    Done,
+    /// The words are no form of a command. Nothing was read.
+    Usage,
+    /// Reading a file failed, or there is no such file.
+    ReadFault { file: Role },
+    /// A file was read, and refused.
+    Refused(Refusal),
+    /// Writing failed. A prefix of the text may have been written.
+    WriteFault,
+    /// Memory ran out. A prefix of the text may have been written.
+    Memory,
+}
+
+impl Outcome {
+    /// The exit status: 0 where the work was done, and 2 to 6 for the other outcomes in their order.
+    pub fn status(&self) -> u8
+        ensures { result ≡ status_of self.now }
+    {
+        match self {
+            Outcome::Done => 0,
+            Outcome::Usage => 2,
+            Outcome::ReadFault { .. } => 3,
+            Outcome::Refused(_) => 4,
+            Outcome::WriteFault => 5,
+            Outcome::Memory => 6,
+        }
+    }
+}

@@ -1,0 +1,5 @@
+pub mod UnreadLemmas
+pub mod FieldLemmas
+pub mod RowsLemmas
+pub mod FileLaws
+pub mod Seen

@@ -1,0 +1,6 @@
+pub mod Records
+pub mod Fields
+pub mod Rows
+pub mod CheckFile
+pub mod DriveTrace
+pub mod Unread

@@ -1,0 +1,22 @@
+// Why a file of rows is refused.
+use thiserror::Error;
+
+/// Why a file of rows is refused (docs/FORMATS.md, "Check files and traces").
+#[derive(Clone, Copy, Debug, PartialEq, Eq, Error)]
+pub enum TraceFault {
+    /// There was no memory for the rows.
+    #[error("no memory")]
+    Memory,
+    /// The first record isn't the header, or there is no record.
+    #[error("header")]
+    Header,
+    /// The record at this place, the header's being 1, is the first below the header that writes no row.
+    #[error("record {line}")]
+    Row { line: u32 },
+    /// Nothing stands below the header.
+    #[error("no records")]
+    Empty,
+    /// More than 20,000 records stand below the header.
+    #[error("more than 20000 records")]
+    Long,
+}

@@ -1,0 +1,52 @@
+// The fields of a record.
+ghost use Rattle.std.specs.Prelude.{◌≡◌, map};
+ghost use Rattle.csv.specs.Records.{fields_of};
+ghost use Rattle.eg_input.specs.Records.{is_same_record};
+ghost use Rattle.eg_input.specs.Fields.{number_at, number_of};
+
+use csv::ByteRecord;
+
+/// The number that one to five decimal digits write, where it is at most `most`.
+#[tactic(auto, unfolding(crate::specs::Fields::number_of, crate::specs::Fields::decimal_value))]
+fn number(field: &[u8], most: u16) -> Option<u16>
+    ensures { result ≡ number_of most field.now }
+{
+    if field.is_empty() || field.len() > 5 {
+        return None;
+    }
+    let mut value = 0u32;
+    for byte in field {
+        if !byte.is_ascii_digit() {
+            return None;
+        }
+        value = 10 * value + u32::from(*byte - b'0');
+    }
+    if value <= u32::from(most) {
+        Some(value as u16)
+    } else {
+        None
+    }
+}
+
+/// The number in the field at a place, where it is at most `most`.
+#[tactic(auto, unfolding(crate::specs::Fields::number_at))]
+pub(crate) fn number_at(entry: &ByteRecord, i: usize, most: u16) -> Option<u16>
+    ensures { result ≡ number_at (fields_of entry.now) i most }
+{
+    number(entry.get(i)?, most)
+}
+
+/// Whether a record has exactly these fields.
+pub(crate) fn has_fields(entry: &ByteRecord, fields: &[&[u8]]) -> bool
+    ensures { result ≡ is_same_record (fields_of entry.now) (map (λ field. field.now) fields.now) }
+{
+    if entry.len() != fields.len() {
+        return false;
+    }
+    for (i, field) in fields.iter().enumerate() {
+        if entry.get(i) != Some(*field) {
+            return false;
+        }
+    }
+    true
+}

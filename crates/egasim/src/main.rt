@@ -1,0 +1,38 @@
+//! `egasim` plays drive traces against three-level engine-torque monitoring.
+#![tactic(auto)]
+
+use eg_app::egasim;
+use eg_base::{FileStore, StdSink};
+use std::alloc::{AllocError, Global};
+use std::env::Env;
+use std::process::ExitCode;
+use std::{env, io};
+
+/// The words of the command line, without the program's name.
+fn words_of(rt: &(impl Env + AllocGlobal)) -> io::Result<Vec<String>> {
+    let mut words = Vec::new(rt.alloc());
+    for word in env::args(rt)?.skip(1) {
+        words.push(word)?;
+    }
+    Ok(words)
+}
+
+/// The exit status where no memory is found for the words.
+const NO_MEMORY: u8 = 6;
+
+fn main(rt: HostRuntime) -> ExitCode {
+    let alloc = rt.alloc();
+    let words = match words_of(&rt) {
+        Ok(words) => words,
+        Err(error) if error.kind() == io::ErrorKind::OutOfMemory => return ExitCode::from(
+            NO_MEMORY,
+        ),
+        // A word that isn't UTF-8 is no form of a command, and no words are none either.
+        Err(_) => Vec::new(alloc),
+    };
+    let mut out = StdSink::new(rt.stdout());
+    let mut notes = StdSink::new(rt.stderr());
+    let mut store = FileStore::new(rt);
+    let outcome = egasim(alloc, &words, &mut store, &mut out, &mut notes);
+    ExitCode::from(outcome.status())
+}

@@ -1,0 +1,1 @@
+./egasim check examples/excess.csv
