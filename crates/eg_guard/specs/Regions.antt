@@ -1,0 +1,55 @@
+-- The memory map: which words there are, and who may load and store them.
+use Rattle.std.specs.Prelude.{ℕ, ◌&&◌, Bool, true, false, nat_le, ◌==◌, if◌then◌else◌}
+use Rattle.eg_guard.specs.declared.regions.Who.{Who}
+use Rattle.eg_guard.specs.declared.regions.Who.TheVariants.{Level1, Level2, Board}
+use Rattle.eg_guard.specs.declared.regions.Region.{Region}
+use Rattle.eg_guard.specs.declared.regions.Region.TheVariants.{Code, Data, InPorts, OutPorts, Results, Protected, Link, None}
+use Rattle.eg_guard.specs.declared.regions.Allowed.{Allowed}
+
+-- the address is one of these, both ends included
+abbrev pub is_between : ℕ → ℕ → ℕ → Bool
+is_between first last address = nat_le first address && nat_le address last
+
+-- the region in which an address lies
+unfoldable pub region_of : ℕ → Region
+region_of address =
+    if is_between 0 1023 address then Code
+    else if is_between 1024 2047 address then Data
+    else if is_between 2048 2057 address then InPorts
+    else if is_between 2064 2065 address then OutPorts
+    else if is_between 2080 2084 address then Results
+    else if is_between 2096 2122 address then Protected
+    else if address == 2128 then Link
+    else None
+
+-- ---- what each row of the map allows ----
+
+abbrev pub nothing : Allowed
+nothing = record { load = false; store = false }
+
+abbrev pub load_only : Allowed
+load_only = record { load = true; store = false }
+
+abbrev pub both : Allowed
+both = record { load = true; store = true }
+
+-- what a row allows to each of the three
+abbrev pub row : Allowed → Allowed → Allowed → Who → Allowed
+row level1 level2 board Level1 = level1
+row level1 level2 board Level2 = level2
+row level1 level2 board Board = board
+
+-- the map: what a region allows to level 1, to level 2 and to the board
+unfoldable pub allows : Region → Who → Allowed
+allows Code = row load_only nothing both
+allows Data = row both nothing both
+allows InPorts = row load_only load_only both
+allows OutPorts = row both nothing both
+allows Results = row load_only both both
+allows Protected = row nothing both both
+allows Link = row nothing load_only both
+allows None = row nothing nothing nothing
+
+-- what is allowed at an address
+unfoldable pub access : Who → ℕ → Allowed
+access who address = allows (region_of address) who

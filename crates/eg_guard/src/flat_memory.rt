@@ -1,0 +1,63 @@
+// A guarded memory that is one array.
+ghost use Rattle.std.specs.Prelude.{◌≡◌, replicate, true};
+ghost use Rattle.eg_guard.specs.Memory.{ShownMemory, AreWords};
+
+use crate::{Guarded, Refused, StoreRefusal, Who, access};
+use std::marker::Model;
+
+/// A guarded memory that is one array of words. It is sure: no store takes memory.
+///
+/// Contracts see the list of its words.
+#[derive(Drop)]
+pub struct FlatMemory {
+    words: [u16; 4096],
+}
+
+impl Model for FlatMemory {
+    ghost use Rattle.std.specs.Prelude.{ℕ, List};
+    ghost use Rattle.eg_guard.specs.Memory.{AreWords};
+
+    ghost Value = { List ℕ };
+
+    ghost view = { λ m. m.words };
+
+    ghost invariant = { λ m. AreWords m.words };
+}
+
+impl FlatMemory {
+    /// A memory of which every word is 0.
+    #[tactic(auto, using(crate::proofs::WordsLemmas::zeros_are_words))]
+    pub fn new() -> FlatMemory
+        ensures words { result ≡ replicate 4096 0 }
+        ensures shown { ⟦<FlatMemory as Guarded>⟧.shows result
+            ≡ record { words = replicate 4096 0; sure = true } }
+        ensures are_words { AreWords result }
+    {
+        FlatMemory { words: [0; 4096] }
+    }
+}
+
+impl Guarded for FlatMemory {
+    ghost shows = { λ m. record { words = m; sure = true } };
+
+    #[inline]
+    #[tactic(auto, using(crate::proofs::AccessLemmas::within))]
+    fn load(&self, who: Who, address: u16) -> Result<u16, Refused> {
+        if access(who, address).load {
+            Ok(self.words[usize::from(address)])
+        } else {
+            Err(Refused)
+        }
+    }
+
+    #[inline]
+    #[tactic(auto, using(crate::proofs::AccessLemmas::within))]
+    fn store(&mut self, who: Who, address: u16, word: u16) -> Result<(), StoreRefusal> {
+        if access(who, address).store {
+            self.words[usize::from(address)] = word;
+            Ok(())
+        } else {
+            Err(StoreRefusal::Refused)
+        }
+    }
+}

@@ -1,0 +1,3 @@
+pub mod HeardLemmas
+pub mod VerdictLemmas
+mod Worked

@@ -1,0 +1,23 @@
+-- How a monitoring module is read from what the program holds.
+use Rattle.std.specs.Prelude.{List, map, reverse}
+use Rattle.eg_module.specs.Periods.{HeardAnswer}
+use Rattle.eg_module.specs.Monitoring.{MonitorParts}
+use Rattle.eg_module.specs.declared.monitor.Heard.{Heard}
+use Rattle.eg_module.specs.declared.monitor.Monitor.TheInside.{Inside}
+
+-- an answer, and the answers, which the program keeps in the order of time
+abbrev pub heard_answer : Heard → HeardAnswer
+heard_answer heard = record { tick = heard.tick; number = heard.number }
+
+abbrev pub newest_first : List Heard → List HeardAnswer
+newest_first heard = reverse (map heard_answer heard)
+
+-- what the contracts see
+abbrev pub parts_of : Inside → MonitorParts
+parts_of m = record {
+  times = m.times;
+  questions = m.questions;
+  verdicts = m.verdicts;
+  heard = newest_first m.heard.items;
+  value = m.counter.value;
+}

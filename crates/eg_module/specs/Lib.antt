@@ -1,0 +1,3 @@
+pub mod Periods
+pub mod Monitoring
+pub mod Inside

@@ -1,0 +1,41 @@
+-- What the monitoring module keeps, and which verdicts it stands for.
+use Rattle.std.specs.Prelude.{◌≡◌, ℕ, ◌≤◌, ◌<◌, List, [], ◌∷◌, All, length, map}
+use Rattle.eg_num.specs.Windows.{AreWeights}
+use Rattle.eg_num.specs.Counting.{StandsFor}
+use Rattle.eg_answer.specs.Times.{TimeParts, AreTimes}
+use Rattle.eg_module.specs.Periods.{HeardAnswer, period_of, expected_number, is_wrong}
+use Rattle.eg_answer.specs.declared.questions.Question.{Question}
+use Rattle.eg_answer.specs.declared.marks.Verdict.{Verdict}
+
+-- the times and the questions that it goes by, how many verdicts it has given, the answers that it has heard
+-- since the last one, newest first, and the value of the counter of wrong verdicts
+pub record MonitorParts : Type 0 where
+  pub times : TimeParts
+  pub questions : List Question
+  pub verdicts : ℕ
+  pub heard : List HeardAnswer
+  pub value : ℕ
+
+-- each answer came later than all before it
+abbrev pub AreInTurn : List HeardAnswer → Type 0
+AreInTurn [] = Unit {0}
+AreInTurn (answer ∷ before) = All (λ earlier. earlier.tick < answer.tick) before × AreInTurn before
+
+-- What a module always keeps. The answers that it holds came one after another, in one period: in that which
+-- has no verdict yet.
+pub record IsMonitor (m : MonitorParts) : Type 0 where
+  pub times : AreTimes m.times
+  pub weights : AreWeights m.times.weights
+  pub two_questions : 2 ≤ length m.questions
+  pub in_turn : AreInTurn m.heard
+  pub one_period : All (λ answer. period_of m.times answer.tick ≡ m.verdicts) m.heard
+  pub within : m.value ≤ m.times.weights.limit
+
+-- it has given these verdicts, newest first, and its counter stands for them
+pub record HasGiven (m : MonitorParts) (verdicts : List Verdict) : Type 0 where
+  pub count : m.verdicts ≡ length verdicts
+  pub counter : StandsFor m.times.weights m.value (map is_wrong verdicts)
+
+-- the number that it expects in the period of a tick
+abbrev pub expected_at : MonitorParts → ℕ → ℕ
+expected_at m tick = expected_number m.times m.questions tick

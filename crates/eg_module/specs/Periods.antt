@@ -1,0 +1,82 @@
+-- Periods: which question is asked at a tick, when its answer is sent and may come, and what the verdict over
+-- a period's answers is. Ticks are counted from the begin of the first period, and lists stand newest first.
+use Rattle.std.specs.Prelude.{ℕ, ◌+◌, ◌/◌, ◌%◌, ◌==◌, ◌≡◌, ◌≤◌, nat_le, Bool, true, false, ◌&&◌, List, [], ◌∷◌, length, map, Option, Some, None, if◌then◌else◌}
+use Rattle.eg_answer.specs.Answers.{answer_number}
+use Rattle.eg_answer.specs.Questions.{question_at}
+use Rattle.eg_answer.specs.Times.{TimeParts}
+use Rattle.eg_answer.specs.declared.questions.Question.{Question}
+use Rattle.eg_answer.specs.declared.marks.Verdict.{Verdict}
+use Rattle.eg_answer.specs.declared.marks.Verdict.TheVariants.{Right, Wrong}
+
+-- the number of the period in which a tick lies, the first being 0
+unfoldable pub period_of : TimeParts → ℕ → ℕ
+period_of times tick = tick / times.period
+
+-- which tick of its period it is, the first being 0
+unfoldable pub place_of : TimeParts → ℕ → ℕ
+place_of times tick = tick % times.period
+
+-- whether it is the last tick of its period
+unfoldable pub is_last_tick : TimeParts → ℕ → Bool
+is_last_tick times tick = place_of times tick + 1 == times.period
+
+-- whether it is the tick of its period at which level 2 usually sends its answer
+unfoldable pub is_send_tick : TimeParts → ℕ → Bool
+is_send_tick times tick = place_of times tick == times.send
+
+-- whether it lies in the window, in which an answer may come
+unfoldable pub is_in_window : TimeParts → ℕ → Bool
+is_in_window times tick = nat_le times.first (place_of times tick) && nat_le (place_of times tick) times.last
+
+-- The number of the question that is asked at a tick, of so many questions: each period has one, in their
+-- order, and after the last one the first comes again.
+unfoldable pub asked : TimeParts → ℕ → ℕ → ℕ
+asked times count tick = period_of times tick % count
+
+-- the number that is expected to be heard in the period of a tick
+unfoldable pub expected_number : TimeParts → List Question → ℕ → ℕ
+expected_number times questions tick =
+    answer_number (question_at questions (asked times (length questions) tick)).answer
+
+-- an answer: the tick at which it came, and whether it was good
+pub record MarkedAnswer : Type 0 where
+  pub tick : ℕ
+  pub good : Bool
+
+-- an answer as it is heard: the tick at which it came, and its number
+pub record HeardAnswer : Type 0 where
+  pub tick : ℕ
+  pub number : ℕ
+
+-- a heard answer is good where it is the expected number
+unfoldable pub marked : ℕ → HeardAnswer → MarkedAnswer
+marked expected heard = record { tick = heard.tick; good = heard.number == expected }
+
+-- the verdict over the answers of a period: right exactly where one answer came, in the window, and it was
+-- good
+unfoldable pub verdict_of : TimeParts → List MarkedAnswer → Verdict
+verdict_of times [] = Wrong
+verdict_of times (answer ∷ []) = if is_in_window times answer.tick && answer.good then Right else Wrong
+verdict_of times (answer ∷ other ∷ others) = Wrong
+
+-- the same over the answers that were heard in a period, where this number is expected
+unfoldable pub verdict_over : TimeParts → ℕ → List HeardAnswer → Verdict
+verdict_over times expected heard = verdict_of times (map (marked expected) heard)
+
+-- the same in words: one answer came, in the window, and it was the expected number
+pub record IsAnswered (times : TimeParts) (expected : ℕ) (heard : List HeardAnswer) : Type 0 where
+  pub answer : HeardAnswer
+  pub alone : heard ≡ answer ∷ []
+  pub from_first : times.first ≤ answer.tick % times.period
+  pub to_last : answer.tick % times.period ≤ times.last
+  pub expected_one : answer.number ≡ expected
+
+-- the verdicts so far with that of this tick, where it has one
+unfoldable pub with_verdict : Option Verdict → List Verdict → List Verdict
+with_verdict None before = before
+with_verdict (Some verdict) before = verdict ∷ before
+
+-- whether a verdict is debounced as a bad feed
+unfoldable pub is_wrong : Verdict → Bool
+is_wrong Right = false
+is_wrong Wrong = true

@@ -1,0 +1,208 @@
+// The monitoring module.
+ghost use Rattle.std.specs.Prelude.{◌≡◌, ◌↔◌, ◌+◌, ◌<◌, ◌≤◌, ◌==◌, ◌&&◌, List, [], ◌∷◌, All, length, map};
+ghost use Rattle.std.specs.Prelude.{IfSome, IfNone, IsTrue};
+ghost use Rattle.std.specs.Option.{SomeIff};
+ghost use Rattle.eg_num.specs.Windows.{is_confirmed};
+ghost use Rattle.eg_num.specs.Counting.{fed};
+ghost use Rattle.eg_module.specs.Periods.{period_of, is_last_tick, is_in_window, asked};
+ghost use Rattle.eg_module.specs.Periods.{verdict_over, IsAnswered, with_verdict, is_wrong};
+ghost use Rattle.eg_answer.specs.declared.marks.Verdict.{Verdict};
+ghost use Rattle.eg_module.specs.Monitoring.{IsMonitor, HasGiven, expected_at};
+ghost use Rattle.eg_module.specs.Inside.{newest_first};
+
+use arrayvec::ArrayVec;
+use eg_answer::{Questions, Times, Verdict};
+use eg_num::Counter;
+use std::marker::Model;
+
+/// An answer as it was heard.
+#[derive(Clone, Copy, Default)]
+struct Heard {
+    tick: u32,
+    number: u32,
+}
+
+/// The high word of a number that is expected: the token that all eight modules have moved.
+const WHOLE_TOKEN: u32 = 0x00ff_0000;
+
+/// The monitoring module (docs/CONCEPT.md, "Questions and answers"). It counts the verdicts that it has
+/// given, and keeps the answers that it has heard since the last one. Ticks are counted from 0. Contracts see
+/// its `MonitorParts`. No call takes memory.
+#[derive(Drop)]
+pub struct Monitor {
+    times: Times,
+    questions: Questions,
+    verdicts: u32,
+    heard: ArrayVec<Heard, 100>,
+    counter: Counter,
+}
+
+impl Model for Monitor {
+    ghost use Rattle.eg_module.specs.Monitoring.{MonitorParts, IsMonitor};
+
+    ghost Value = { MonitorParts };
+
+    ghost use Rattle.eg_module.specs.Inside.{parts_of};
+
+    ghost view = { parts_of };
+
+    ghost invariant = { λ m. IsMonitor (parts_of m) };
+}
+
+impl Monitor {
+    /// A module that has heard nothing and given no verdict.
+    pub fn new(times: Times, questions: Questions) -> Monitor
+        requires { 2 ≤ length questions }
+        ensures begins { result ≡
+            record { times = times; questions = questions; verdicts = 0; heard = []; value = 0 } }
+        ensures given { HasGiven result [] }
+        ensures next { result.verdicts ≡ period_of result.times 0 }
+        ensures keeps { IsMonitor result }
+    {
+        // Whoever reads the weights learns that they and the times keep their limits.
+        let _weights = times.weights();
+        Monitor {
+            times,
+            questions,
+            verdicts: 0,
+            heard: ArrayVec::new(),
+            counter: Counter::new(),
+        }
+    }
+
+    /// The number of the question that is asked at a tick, the first question being 0 (docs/CONCEPT.md,
+    /// "Questions and answers").
+    #[tactic(auto, unfolding(crate::specs::Periods::asked, crate::specs::Periods::period_of))]
+    pub fn question(&self, tick: u32) -> u16
+        ensures number { result ≡ asked self.now.times (length self.now.questions) tick }
+        ensures within { result < length self.now.questions }
+        ensures keeps { IsMonitor self.now }
+    {
+        let period = tick / u32::from(self.times.period());
+        (period % self.questions.len() as u32) as u16
+    }
+
+    /// Keeps an answer that comes at a tick: one of the period that has no verdict yet, later than all
+    /// answers that are kept. So no more are kept than a period has ticks, at most 100. Nothing else changes
+    /// (docs/CONCEPT.md, "Questions and answers").
+    pub fn hear(&mut self, tick: u32, answer: u32)
+        requires this_period { self.old.verdicts ≡ period_of self.old.times tick }
+        requires later { All (λ heard. heard.tick < tick) self.old.heard }
+        ensures heard { self.new ≡
+            record self.old { heard = (record { tick = tick; number = answer }) ∷ self.old.heard } }
+        ensures room { length self.new.heard ≤ self.new.times.period }
+        ensures given { (verdicts : List Verdict) → HasGiven self.old verdicts → HasGiven self.new verdicts }
+        ensures keeps { IsMonitor self.new }
+    {
+        self.heard.push(Heard {
+            tick,
+            number: answer,
+        });
+    }
+
+    /// At the last tick of the period that has no verdict yet, gives the verdict over the answers that were
+    /// heard in it, feeds it to the counter, and forgets the answers. At any other tick of that period it
+    /// gives none and changes nothing (docs/CONCEPT.md, "Questions and answers").
+    pub fn close(&mut self, tick: u32) -> Option<Verdict>
+        requires { self.old.verdicts ≡ period_of self.old.times tick }
+        ensures verdict { SomeIff result (IsTrue (is_last_tick self.old.times tick))
+            (verdict_over self.old.times (expected_at self.old tick) self.old.heard) }
+        // In words: right exactly where one answer came, in the window, and it was the expected number.
+        ensures right { IfSome result (λ verdict. (verdict ≡ Verdict.Right)
+            ↔ IsAnswered self.old.times (expected_at self.old tick) self.old.heard) }
+        ensures closed { IfSome result (λ verdict. self.new ≡ record self.old {
+          verdicts = self.old.verdicts + 1;
+          heard = [];
+          value = fed self.old.times.weights self.old.value (is_wrong verdict);
+        }) }
+        ensures unchanged { IfNone result (self.new ≡ self.old) }
+        // What it stands for, whichever verdicts it has given. The next tick lies in the period that has no
+        // verdict yet.
+        ensures given { (verdicts : List Verdict) → HasGiven self.old verdicts
+            → HasGiven self.new (with_verdict result verdicts) }
+        ensures next { self.new.verdicts ≡ period_of self.new.times (tick + 1) }
+        ensures keeps { IsMonitor self.new }
+    {
+        if !is_last(&self.times, tick) {
+            return None;
+        }
+        let expected = self.expected(tick);
+        let verdict = judge(&self.times, expected, self.heard.as_slice());
+        self.counter.feed(self.times.weights(), is_bad(verdict));
+        self.heard.clear();
+        self.verdicts += 1;
+        Some(verdict)
+    }
+
+    /// Whether the wrong verdicts are confirmed, by the weights of the answers (docs/CONCEPT.md,
+    /// "Debouncing"). From then on it stays so.
+    pub fn confirmed(&self) -> bool
+        ensures at_limit { IsTrue result ↔ (self.now.value ≡ self.now.times.weights.limit) }
+        ensures verdicts { (verdicts : List Verdict) → HasGiven self.now verdicts
+            → result ≡ is_confirmed self.now.times.weights (map is_wrong verdicts) }
+    {
+        self.counter.value == self.times.weights().limit()
+    }
+
+    /// The number that is expected to be heard in the period of a tick.
+    fn expected(&self, tick: u32) -> u32
+        ensures { result ≡ expected_at self.now tick }
+    {
+        let number = self.question(tick);
+        WHOLE_TOKEN + u32::from(self.questions.answer(usize::from(number)))
+    }
+}
+
+/// The verdict over the answers of a period, where `expected` is the number that is expected.
+#[tactic(auto, using(crate::proofs::VerdictLemmas::judging))]
+fn judge(times: &Times, expected: u32, heard: &[Heard]) -> Verdict
+    ensures { result ≡ verdict_over times.now expected (newest_first heard.now) }
+{
+    let [answer] = heard else {
+        return Verdict::Wrong;
+    };
+    if is_right(times, expected, *answer) {
+        Verdict::Right
+    } else {
+        Verdict::Wrong
+    }
+}
+
+/// Whether an answer came in the window, and is the expected number.
+fn is_right(times: &Times, expected: u32, answer: Heard) -> bool
+    ensures { result ≡ (is_in_window times.now answer.tick && (answer.number == expected)) }
+{
+    in_window(times, answer.tick) && answer.number == expected
+}
+
+/// Whether an answer may come at this tick.
+#[tactic(auto, unfolding(crate::specs::Periods::is_in_window, crate::specs::Periods::place_of))]
+fn in_window(times: &Times, tick: u32) -> bool
+    ensures { result ≡ is_in_window times.now tick }
+{
+    let place = tick % u32::from(times.period());
+    u32::from(times.first()) <= place && place <= u32::from(times.last())
+}
+
+/// Whether a tick is the last one of its period.
+#[tactic(auto, unfolding(crate::specs::Periods::is_last_tick, crate::specs::Periods::place_of))]
+fn is_last(times: &Times, tick: u32) -> bool
+    ensures { result ≡ is_last_tick times.now tick }
+{
+    let period = u32::from(times.period());
+    tick % period + 1 == period
+}
+
+/// Whether a verdict is debounced as a bad feed.
+#[tactic(auto, unfolding(crate::specs::Periods::is_wrong))]
+fn is_bad(verdict: Verdict) -> bool
+    ensures { result ≡ is_wrong verdict }
+{
+    match verdict {
+        Verdict::Right => false,
+        Verdict::Wrong => true,
+    }
+}
+
+#[cfg(test)]
+mod tests;

@@ -1,0 +1,132 @@
+// The registers and the state of level 1's machine.
+ghost use Rattle.std.specs.Prelude.{◌≡◌, slice_set, if◌then◌else◌};
+ghost use Rattle.eg_word.specs.declared.registers.State.TheVariants.{Waiting, Trapped};
+ghost use Rattle.eg_word.specs.Machine.{reg, next, beyond};
+ghost use Rattle.eg_word.specs.World.{new_registers};
+
+use crate::Register;
+
+/// Why level 1 was stopped (docs/FORMATS.md, "Instructions").
+#[derive(Clone, Copy, Debug, PartialEq, Eq)]
+pub enum Trap {
+    /// The next instruction would stand outside the code.
+    Fetch,
+    /// A load that isn't allowed.
+    Load,
+    /// A store that isn't allowed.
+    Store,
+    /// A word that is no instruction.
+    Illegal,
+}
+
+/// Whether level 1's machine runs.
+#[derive(Clone, Copy, Debug, PartialEq, Eq)]
+pub enum State {
+    /// It does the instruction at `pc` next.
+    Running,
+    /// It waits for its next slice.
+    Waiting,
+    /// It was stopped, for the rest of the power cycle.
+    Trapped(Trap),
+}
+
+/// The machine that runs level 1 (docs/CONCEPT.md, "Level 1"). Its memory is outside of it.
+#[derive(Clone, Copy, Debug, PartialEq, Eq)]
+pub struct Registers {
+    /// The eight registers.
+    pub r: [u16; 8],
+    /// The address of the next instruction.
+    pub pc: u16,
+    /// Whether it runs.
+    pub state: State,
+}
+
+impl Registers {
+    /// A machine at its start: all registers and `pc` are 0, and it runs.
+    #[tactic(auto, unfolding(crate::specs::World::new_registers))]
+    pub fn new() -> Registers
+        ensures { result ≡ new_registers }
+    {
+        Registers {
+            r: [0; 8],
+            pc: 0,
+            state: State::Running,
+        }
+    }
+
+    /// The word in a register.
+    #[inline]
+    #[tactic(auto, unfolding(crate::specs::Machine::reg))]
+    pub(crate) fn get(&self, register: Register) -> u16
+        ensures { result ≡ reg self.now register }
+    {
+        self.r[register.index()]
+    }
+
+    /// The address of the next instruction.
+    #[inline]
+    #[tactic(auto, unfolding(crate::specs::Machine::next))]
+    pub(crate) fn next(&self) -> u16
+        ensures { result ≡ next self.now }
+    {
+        self.pc.wrapping_add(1)
+    }
+
+    /// Where an instruction stands that is so far beyond the next one.
+    #[inline]
+    #[tactic(auto, unfolding(crate::specs::Machine::beyond))]
+    pub(crate) fn beyond(&self, distance: i16) -> u16
+        ensures { result ≡ beyond self.now distance }
+    {
+        self.next().wrapping_add_signed(distance)
+    }
+
+    /// Puts a word into a register, and goes to the next instruction.
+    #[inline]
+    #[tactic(auto, unfolding(crate::specs::Machine::next))]
+    pub(crate) fn set(&mut self, register: Register, word: u16)
+        ensures { self.new ≡ record self.old { r = slice_set self.old.r register word; pc = next self.old } }
+    {
+        self.r[register.index()] = word;
+        self.pc = self.next();
+    }
+
+    /// Goes to the instruction at this address.
+    #[inline]
+    pub(crate) fn jump(&mut self, address: u16)
+        ensures { self.new ≡ record self.old { pc = address } }
+    {
+        self.pc = address;
+    }
+
+    /// Goes so far beyond the next instruction where the condition holds, else to the next one.
+    #[inline]
+    pub(crate) fn jump_if(&mut self, condition: bool, distance: i16)
+        ensures { self.new
+            ≡ record self.old { pc = if condition then beyond self.old distance else next self.old } }
+    {
+        self.pc = if condition {
+            self.beyond(distance)
+        } else {
+            self.next()
+        };
+    }
+
+    /// Waits for the next slice, at the next instruction.
+    #[inline]
+    #[tactic(auto, unfolding(crate::specs::Machine::next))]
+    pub(crate) fn wait(&mut self)
+        ensures { self.new ≡ record self.old { state = Waiting; pc = next self.old } }
+    {
+        self.state = State::Waiting;
+        self.pc = self.next();
+    }
+
+    /// Stops the machine; registers and `pc` stay.
+    #[inline]
+    pub(crate) fn trap(&mut self, trap: Trap)
+        ensures { self.new ≡ record self.old { state = Trapped trap } }
+    {
+        self.state = State::Trapped(trap);
+    }
+}
