@@ -3,3 +3,7 @@ pub mod FieldLemmas
 pub mod RowsLemmas
 pub mod FileLaws
 pub mod Seen
+pub mod LineLemmas
+pub mod WordLemmas
+pub mod WritesLemmas
+pub mod ImageLaws

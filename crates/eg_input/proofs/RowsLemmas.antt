@@ -11,7 +11,7 @@ use Rattle.eg_input.specs.Rows.{rows_unless, rows_below}
 use Rattle.eg_input.specs.declared.fault.TraceFault.TheVariants as fault
 
 -- where no item passes there is no place
-position_from-none : {X : Type 0} (passes : X → Bool) (i : ℕ) (xs : List X) → All (λ x. passes x ≡ false) xs → position_from passes i xs ≡ None
+pub position_from-none : {X : Type 0} (passes : X → Bool) (i : ℕ) (xs : List X) → All (λ x. passes x ≡ false) xs → position_from passes i xs ≡ None
 position_from-none passes i [] h = refl
 position_from-none passes i (x ∷ xs) h = rw (All-head (λ x. passes x ≡ false) x xs h) (position_from-none passes (i + 1) xs (All-tail (λ x. passes x ≡ false) x xs h))
 
@@ -65,16 +65,16 @@ pub is_missing : {X : Type 0} (o : Option X) → is_none o ≡ true → o ≡ No
 is_missing None h = refl
 is_missing (Some x) h = absurd cc
 
-pub clean-from_writes : {X : Type 0} (row_of : RowRule X) (rs : List Record) → All (λ r. IsSome (row_of r)) rs
+pub clean-from_writes : {A X : Type 0} (row_of : A → Option X) (rs : List A) → All (λ r. IsSome (row_of r)) rs
     → All (λ r. is_none (row_of r) ≡ false) rs
 clean-from_writes row_of rs h = All-weaker _ _ (λ r. not_none (row_of r)) rs h
 
-pub writes-from_clean : {X : Type 0} (row_of : RowRule X) (rs : List Record) → All (λ r. is_none (row_of r) ≡ false) rs
+pub writes-from_clean : {A X : Type 0} (row_of : A → Option X) (rs : List A) → All (λ r. is_none (row_of r) ≡ false) rs
     → All (λ r. IsSome (row_of r)) rs
 writes-from_clean row_of rs h = All-weaker _ _ (λ r. is_there (row_of r)) rs h
 
 -- records that each write the row of its place are those whose rows are these
-pub filter_map-written : {X : Type 0} (row_of : RowRule X) (rs : List Record) (rows : List X) → AllZip (λ r row. row_of r ≡ Some row) rs rows
+pub filter_map-written : {A X : Type 0} (row_of : A → Option X) (rs : List A) (rows : List X) → AllZip (λ r row. row_of r ≡ Some row) rs rows
     → (filter_map row_of rs ≡ rows) × All (λ r. is_none (row_of r) ≡ false) rs
 filter_map-written row_of [] [] h = (refl, All-nil _)
 filter_map-written row_of [] (row ∷ rows) h = absurd h
@@ -83,7 +83,7 @@ filter_map-written row_of (r ∷ rs) (row ∷ rows) h =
     let more = filter_map-written row_of rs rows h.1 in
     (rw (h.0, more.0) refl, All-cons (λ r. is_none (row_of r) ≡ false) r rs (rw h.0 refl) more.1)
 
-pub written-filter_map : {X : Type 0} (row_of : RowRule X) (rs : List Record) → All (λ r. is_none (row_of r) ≡ false) rs
+pub written-filter_map : {A X : Type 0} (row_of : A → Option X) (rs : List A) → All (λ r. is_none (row_of r) ≡ false) rs
     → AllZip (λ r row. row_of r ≡ Some row) rs (filter_map row_of rs)
 written-filter_map row_of [] h = tt
 written-filter_map row_of (r ∷ rs) h =
@@ -93,6 +93,16 @@ written-filter_map row_of (r ∷ rs) h =
         → AllZip (λ r row. row_of r ≡ Some row) (r ∷ rs) (filter_map row_of (r ∷ rs))
     at_head None is there more = absurd cc
     at_head (Some row) is there more = rw is (is, more)
+
+-- the place of the first item that gives none, counted from any number, where it is one of the first so many
+pub first_missing : {A X : Type 0} (from most : ℕ) (row_of : A → Option X) (good : List A) (bad : A) (rest : List A) → length good < most
+    → All (λ r. is_none (row_of r) ≡ false) good
+    → row_of bad ≡ None → position_from (λ r. is_none (row_of r)) from (take most (good ++ bad ∷ rest)) ≡ Some (length good + from)
+first_missing from most row_of good bad rest room clean here =
+    let split : length good + suc (most - length good - 1) ≡ most = omega arith in
+    let P : ℕ → Type 0 = λ n. take n (good ++ bad ∷ rest) ≡ good ++ bad ∷ take (most - length good - 1) rest in
+    let front : P most = subst P split (take-append-add good (bad ∷ rest) (suc (most - length good - 1))) in
+    rw front (position_from-first (λ r. is_none (row_of r)) from good bad (take (most - length good - 1) rest) clean (rw here refl))
 
 -- no record
 pub below-empty : {X : Type 0} (most : ℕ) (row_of : RowRule X) → rows_below most row_of [] ≡ Err fault.Empty
@@ -114,11 +124,7 @@ pub below-bad : {X : Type 0} (most : ℕ) (row_of : RowRule X) (good : List Reco
     → All (λ r. is_none (row_of r) ≡ false) good
     → row_of bad ≡ None → rows_below most row_of (good ++ bad ∷ rest) ≡ Err (fault.Row (length good + 2))
 unfolding rows_below rows_unless
-below-bad most row_of good bad rest room clean here =
-    let split : length good + suc (most - length good - 1) ≡ most = omega arith in
-    let P : ℕ → Type 0 = λ n. take n (good ++ bad ∷ rest) ≡ good ++ bad ∷ take (most - length good - 1) rest in
-    let front : P most = subst P split (take-append-add good (bad ∷ rest) (suc (most - length good - 1))) in
-    rw (front, position_from-first (λ r. is_none (row_of r)) 2 good bad (take (most - length good - 1) rest) clean (rw here refl)) refl
+below-bad most row_of good bad rest room clean here = rw (first_missing 2 most row_of good bad rest room clean here) refl
 
 -- too many, of which so many write a row
 pub below-long : {X : Type 0} (most : ℕ) (row_of : RowRule X) (below : List Record) → most < length below

@@ -1,5 +1,5 @@
 -- What the reader of the records below the header has seen.
-use Rattle.std.proofs.Common.{◌≡◌, ◌∙◌, sym, refl, subst, ℕ, ◌+◌, ◌<◌, ◌≤◌, List, [], ◌∷◌, ◌++◌, length, take, Bool, true, false, arith, Some, None, Ok, Err, append-nil, append_assoc, length-append, inr}
+use Rattle.std.proofs.Common.{◌≡◌, ◌∙◌, sym, refl, subst, ℕ, ◌+◌, ◌<◌, ◌≤◌, List, [], ◌∷◌, ◌++◌, length, take, Bool, true, false, arith, Option, Some, None, Ok, Err, append-nil, append_assoc, length-append, inr}
 use Rattle.std.specs.Prelude.{Result, All, is_none, if◌then◌else◌, filter_map, nat_lt}
 use Rattle.std.specs.Bool.{MatchBool}
 use Rattle.std.specs.declared.vec.Vec.{Vec}
@@ -15,19 +15,19 @@ use Rattle.eg_input.specs.declared.fault.TraceFault.TheVariants as fault
 use Rattle.eg_input.proofs.RowsLemmas.{below-empty, below-rows, below-bad, below-long, written-filter_map}
 
 -- the records before the rest each write a row, and these are the rows
-pub record Seen {X : Type 0} (row_of : RowRule X) (left rest : List Record) (rows : List X) (count : ℕ) : Type 0 where
-  pub seen : List Record
+pub record Seen {A X : Type 0} (row_of : A → Option X) (left rest : List A) (rows : List X) (count : ℕ) : Type 0 where
+  pub seen : List A
   pub parts : left ≡ seen ++ rest
   pub clean : All (λ r. is_none (row_of r) ≡ false) seen
   pub rows_are : rows ≡ filter_map row_of seen
   pub counted : length seen ≡ count
 
 -- at first nothing was seen
-pub seen-none : {X : Type 0} (row_of : RowRule X) (left : List Record) → Seen row_of left left [] 0
+pub seen-none : {A X : Type 0} (row_of : A → Option X) (left : List A) → Seen row_of left left [] 0
 seen-none row_of left = record { seen = []; parts = refl; clean = All-nil _; rows_are = refl; counted = refl }
 
 -- a record that writes a row was seen
-pub seen-more : {X : Type 0} (row_of : RowRule X) (left rest : List Record) (r : Record) (rows : List X) (count : ℕ) (row : X)
+pub seen-more : {A X : Type 0} (row_of : A → Option X) (left rest : List A) (r : A) (rows : List X) (count : ℕ) (row : X)
     → Seen row_of left (r ∷ rest) rows count → row_of r ≡ Some row
     → Seen row_of left rest (rows ++ row ∷ []) (count + 1)
 seen-more row_of left rest r rows count row s is = record {

@@ -4,3 +4,4 @@ pub mod Rows
 pub mod CheckFile
 pub mod DriveTrace
 pub mod Unread
+pub mod Images

@@ -1,13 +1,15 @@
-//! The files of rows that the simulator reads: drive traces and check files.
+//! The files that the simulator reads: drive traces and check files, which are files of rows, and images.
 #![tactic(auto)]
 
 mod fault;
 mod field;
+mod image;
 mod reader;
 mod row;
 mod trace;
 
-pub use fault::TraceFault;
+pub use fault::{ImageFault, TraceFault};
+pub use image::{images_are_their_lines, read_image};
 pub use trace::{check_files_are_their_rows, read_check, read_trace, traces_are_their_rows};
 
 #[cfg(test)]

@@ -1,0 +1,99 @@
+-- An image, the words of level 1: a line for each word, of four hexadecimal digits.
+-- `image_words` says what a file is read as. `IsImageOf`, `HasBadLineAt` and `HasTooManyLines` say by the
+-- bytes of a file alone which files are accepted, and which have which fault.
+use Rattle.std.specs.Prelude.{◌≡◌, ◌≢◌, ◌⊎◌, ℕ, ◌+◌, ◌*◌, ◌-◌, ◌≤◌, List, [], ◌∷◌, ◌++◌, length, drop, take, fold, filter_map, All, codes, Option, Some, None, is_none, option_map, option_and_then, if◌then◌else◌, nat_lt, Result, Ok, Err}
+use Rattle.std.specs.Char.{is_newline}
+use Rattle.std.specs.Int.{from_be_bytes, w16}
+use Rattle.std.specs.List.{AllZip, concat, onto_first, position_from}
+use Rattle.std.specs.Result.{result_ok}
+use Rattle.std.specs.Str.{bytes_eq}
+use Rattle.std.specs.declared.vec.Vec.{Vec}
+use Rattle.std.specs.declared.alloc.Global.{Global}
+use Rattle.hex.specs.Hex.{decode_sized, hex_digit_value}
+use Rattle.eg_input.specs.declared.fault.ImageFault.{ImageFault}
+use Rattle.eg_input.specs.declared.fault.ImageFault.TheVariants as fault
+
+-- the bytes of a line, its line feed with them
+abbrev pub Line : Type 0
+Line = List ℕ
+
+-- the lines of a file, which is cut after each line feed: what stands behind the last one is a line too
+unfoldable pub lines_of : List ℕ → List Line
+lines_of [] = []
+lines_of (byte ∷ bytes) =
+    if is_newline byte then (byte ∷ []) ∷ lines_of bytes else onto_first byte (lines_of bytes)
+
+-- what stands before the line feed at the end of a line, where one is there
+abbrev pub before_line_feed : Line → Option (List ℕ)
+before_line_feed line =
+    if bytes_eq (drop (length line - 1) line) (codes "\n") then Some (take (length line - 1) line) else None
+
+-- the word that digits write, where they decode to two bytes: the first is the high one
+unfoldable pub word_of_digits : List ℕ → Option ℕ
+word_of_digits digits = option_map (from_be_bytes w16) (result_ok (decode_sized digits 2))
+
+-- the word that a line writes: four hexadecimal digits of either case, and a line feed
+unfoldable pub word_of : Line → Option ℕ
+word_of line = option_and_then word_of_digits (before_line_feed line)
+
+-- what the lines give, where this is the place of the first of them that writes no word
+unfoldable pub words_unless : ℕ → List Line → Option ℕ → Result (List ℕ) ImageFault
+words_unless most lines (Some place) = Err (fault.Line place)
+words_unless most lines None =
+    if nat_lt most (length lines) then Err fault.Long else Ok (filter_map word_of lines)
+
+-- what the lines give, of which there may be so many: the first of them has the place 1
+unfoldable pub words_of : ℕ → List Line → Result (List ℕ) ImageFault
+words_of most lines =
+    words_unless most lines (position_from (λ line. is_none (word_of line)) 1 (take most lines))
+
+-- what a file of up to 1,024 words gives
+abbrev pub image_words : List ℕ → Result (List ℕ) ImageFault
+image_words file = words_of 1024 (lines_of file)
+
+-- what was read is what the file gives, but for want of memory
+abbrev pub IsImageRead : Result (List ℕ) ImageFault → Result (Vec ℕ Global) ImageFault → Type 0
+IsImageRead expected (Ok words) = expected ≡ Ok words.items
+IsImageRead expected (Err e) = (e ≡ fault.Memory) ⊎ (expected ≡ Err e)
+
+-- The line is four hexadecimal digits of either case and a line feed. The digits have these values, and they
+-- write this word, the first digit weighing most.
+pub record WritesWord (line : Line) (word : ℕ) : Type 0 where
+  pub digits : List ℕ
+  pub values : List ℕ
+  pub parts : line ≡ digits ++ codes "\n"
+  pub four : length digits ≡ 4
+  pub written : AllZip (λ digit value. hex_digit_value digit ≡ Some value) digits values
+  pub number : word ≡ fold (λ number value. 16 * number + value) 0 values
+
+-- the line writes some word
+abbrev pub WritesSome : Line → Type 0
+WritesSome line = (word : ℕ) × WritesWord line word
+
+-- the file is 0 to 1,024 lines, each of which writes the word of its place, and nothing else
+pub record IsImageOf (file words : List ℕ) : Type 0 where
+  pub lines : List Line
+  pub parts : file ≡ concat lines
+  pub most : length lines ≤ 1024
+  pub written : AllZip WritesWord lines words
+
+-- The file begins with lines that each write a word, and goes on with something that begins with no such
+-- line. This place, the first line's being 1, is the one of what comes there, and at most 1,024.
+pub record HasBadLineAt (file : List ℕ) (place : ℕ) : Type 0 where
+  pub good : List Line
+  pub rest : List ℕ
+  pub parts : file ≡ concat good ++ rest
+  pub before : All WritesSome good
+  pub more : rest ≢ []
+  pub bad : (line : Line) (after : List ℕ) → rest ≡ line ++ after → WritesSome line → ⊥
+  pub at : place ≡ length good + 1
+  pub within : place ≤ 1024
+
+-- the file begins with 1,024 lines that each write a word, and goes on, with whatever it may be
+pub record HasTooManyLines (file : List ℕ) : Type 0 where
+  pub good : List Line
+  pub rest : List ℕ
+  pub parts : file ≡ concat good ++ rest
+  pub before : All WritesSome good
+  pub count : length good ≡ 1024
+  pub more : rest ≢ []

@@ -1,0 +1,56 @@
+// Images: the words of level 1.
+ghost use Rattle.std.specs.Prelude.{◌≡◌, ◌≢◌, ◌↔◌, ◌≤◌, ℕ, List, length, IfOk, Ok, Err};
+ghost use Rattle.eg_input.specs.Images.{IsImageRead, image_words, word_of};
+ghost use Rattle.eg_input.specs.Images.{IsImageOf, HasBadLineAt, HasTooManyLines};
+ghost use Rattle.eg_input.specs.declared.fault.ImageFault.TheVariants as fault;
+
+use crate::ImageFault;
+use hex::FromHex;
+use std::alloc::Global;
+
+/// How many words an image may have.
+const MOST_WORDS: usize = 1024;
+
+/// The words of an image (docs/FORMATS.md, "Images"): a file of 0 to 1,024 lines, each of four hexadecimal
+/// digits. The first other line gives Line with its place; what comes after 1,024 good lines gives Long.
+pub fn read_image(alloc: Global, bytes: &[u8]) -> Result<Vec<u16>, ImageFault>
+    ensures words { IsImageRead (image_words bytes.now) result }
+    ensures limits { IfOk result (λ words. length words.items ≤ 1024) }
+{
+    let mut words = Vec::new(alloc);
+    for line in bytes.split_inclusive(|byte| *byte == b'\n') {
+        if words.len() == MOST_WORDS {
+            return Err(ImageFault::Long);
+        }
+        let Some(word) = word_of(line) else {
+            return Err(ImageFault::Line {
+                line: words.len() as u32 + 1,
+            });
+        };
+        words.push(word).map_err(|_| ImageFault::Memory)?;
+    }
+    Ok(words)
+}
+
+/// The word that a line writes, or None where it isn't four hexadecimal digits and a line feed.
+#[tactic(auto, unfolding(crate::specs::Images::word_of, crate::specs::Images::word_of_digits))]
+fn word_of(line: &[u8]) -> Option<u16>
+    ensures { result ≡ word_of line.now }
+{
+    let digits = line.strip_suffix(b"\n")?;
+    let bytes = <[u8; 2]>::from_hex(digits).ok()?;
+    Some(u16::from_be_bytes(bytes))
+}
+
+/// What `image_words` says of an image (docs/FORMATS.md, "Images"): it gives the words exactly where the file
+/// is the lines that write them, and each fault exactly where the file has it.
+pub fn images_are_their_lines()
+    ensures words { (file : List ℕ) (words : List ℕ) → (image_words file ≡ Ok words) ↔ IsImageOf file words }
+    ensures line { (file : List ℕ) (place : ℕ) →
+        (image_words file ≡ Err (fault.Line place)) ↔ HasBadLineAt file place }
+    ensures long { (file : List ℕ) → (image_words file ≡ Err fault.Long) ↔ HasTooManyLines file }
+    ensures memory { (file : List ℕ) → image_words file ≢ Err fault.Memory }
+{}
+
+#[cfg(test)]
+mod tests;
