@@ -1,0 +1,40 @@
+-- Axes that rise, and those that don't.
+use Rattle.std.proofs.Common.{◌≡◌, ℕ, zero, suc, ◌<◌, ◌≤◌, nat_lt, Bool, true, false, length, List, [], ◌∷◌, Option, Some, None, unwrap_or, refl, arith}
+use Rattle.std.proofs.lemmas.Bool.{and_parts}
+use Rattle.std.proofs.lemmas.Bool.Decides.{nat_tests}
+use Rattle.std.specs.List.Sorted.{IsStrictlyIncreasing}
+use native.Mathlib.Numerals.{unary_clauses}
+use Rattle.eg_num.specs.Interpolation.{IsAxis}
+use Rattle.eg_cal.specs.declared.key.CalKey.{CalKey}
+use Rattle.eg_cal.specs.declared.key.CalFault.TheVariants as fault
+use Rattle.eg_cal.specs.Checks.{is_rising, axis_fault}
+
+pub lt-true : (x y : ℕ) → x < y → nat_lt x y ≡ true
+lt-true x y h = grind (arith, nat_tests)
+
+pub true-lt : (x y : ℕ) → nat_lt x y ≡ true → x < y
+true-lt x y h = grind (arith, nat_tests)
+
+-- the test says that the points strictly rise
+pub rising-true : (xs : List ℕ) → IsStrictlyIncreasing xs → is_rising xs ≡ true
+rising-true [] h = refl
+rising-true (x ∷ []) h = refl
+rising-true (x ∷ y ∷ ys) h = rw (lt-true x y (h 0 (omega arith)), rising-true (y ∷ ys) (λ k below. simp unary_clauses (simp unary_clauses at (h (suc k) (omega arith)))))
+
+pub true-rising : (xs : List ℕ) → is_rising xs ≡ true → IsStrictlyIncreasing xs
+true-rising [] h k below = absurd (omega arith)
+true-rising (x ∷ []) h k below = absurd (omega arith)
+true-rising (x ∷ y ∷ ys) h zero below = true-lt x y (and_parts (nat_lt x y) (is_rising (y ∷ ys)) h).0
+true-rising (x ∷ y ∷ ys) h (suc k) below = simp unary_clauses (simp unary_clauses at (true-rising (y ∷ ys) (and_parts (nat_lt x y) (is_rising (y ∷ ys)) h).1 k (omega arith)))
+
+-- points that are an axis have no fault
+pub axis-accepted : (key : CalKey) (o : Option (List ℕ)) (points axis : List ℕ) → Some points ≡ o → IsAxis points → axis ≡ points → (axis_fault key o ≡ None) × (axis ≡ unwrap_or o [])
+axis-accepted key o points axis e is same = rw (← e) (rw (rising-true points is.2) (refl, same))
+
+pub not-true : (b : Bool) → (b ≡ true → ⊥) → b ≡ false
+not-true true h = absurd (h refl)
+not-true false h = refl
+
+-- 2 to 16 points that are no axis don't rise
+pub axis-refused : (key : CalKey) (o : Option (List ℕ)) (found points : List ℕ) → Some found ≡ o → points ≡ found → 2 ≤ length found → length found ≤ 16 → (IsAxis points → ⊥) → axis_fault key o ≡ Some (fault.Axis key)
+axis-refused key o found points e same least most fails = rw (← e) (rw (not-true (is_rising found) (λ rises. fails (rw same (least, most, true-rising found rises)))))

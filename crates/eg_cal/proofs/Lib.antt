@@ -1,0 +1,5 @@
+pub mod AxisLemmas
+pub mod TogetherLemmas
+pub mod ReferenceLemmas
+pub mod HeldLemmas
+pub mod RuleLemmas

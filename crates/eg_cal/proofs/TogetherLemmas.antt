@@ -1,0 +1,177 @@
+-- What the values of a calibration are refused for together.
+use Rattle.std.proofs.Common.{◌≡◌, ◌⊎◌, inl, inr, ℕ, zero, suc, ◌+◌, ◌-◌, ◌<◌, ◌≤◌, ◌==◌, nat_lt, nat_le, not, is_some, Bool, true, false, length, List, All, Option, Some, None, if◌then◌else◌, ◌&&◌, refl, sym, ap, ◌∙◌, add-one, arith}
+use Rattle.std.proofs.lemmas.Bool.{and_parts}
+use Rattle.std.proofs.lemmas.List.Elements.{All-from_get_or}
+use Rattle.std.proofs.lemmas.Bool.Decides.{nat_tests}
+use Rattle.eg_num.specs.Interpolation.{Grid, cell}
+use Rattle.eg_torque.specs.Permit.{FallsAt, IsFirstFall, DoesNotFall}
+use Rattle.eg_answer.specs.Times.{TimeParts, AreTimes}
+use Rattle.eg_answer.specs.Answers.{expected_of}
+use Rattle.eg_answer.specs.Questions.{question_at, no_question}
+use Rattle.eg_answer.specs.declared.rules.Rules.{Rules}
+use Rattle.eg_answer.specs.declared.questions.Question.{Question}
+use Rattle.eg_cal.specs.declared.key.CalFault.TheVariants as fault
+use Rattle.eg_cal.proofs.AxisLemmas.{lt-true, true-lt, not-true}
+use Rattle.eg_cal.specs.Calibration.{first_from, falls, falling_row, is_window, window_fault, is_wrong, wrong_answer}
+
+-- ---- a search for the first number that passes
+
+first_from-more : (passes : ℕ → Bool) (n i m : ℕ) → n ≡ suc m → first_from passes n i ≡ (if passes i then Some i else first_from passes m (suc i))
+unfolding first_from
+first_from-more passes n i m e = rw e
+
+-- it goes on past a number that fails,
+pub first_from-next : (passes : ℕ → Bool) (end i : ℕ) → i < end → passes i ≡ false → first_from passes (end - i) i ≡ first_from passes (end - (i + 1)) (i + 1)
+first_from-next passes end i h fails = first_from-more passes (end - i) i (end - (i + 1)) (omega arith) ∙ rw (fails, add-one i) refl
+
+-- stops at one that passes,
+pub first_from-found : (passes : ℕ → Bool) (end i : ℕ) → i < end → passes i ≡ true → first_from passes (end - i) i ≡ Some i
+first_from-found passes end i h found = first_from-more passes (end - i) i (end - (i + 1)) (omega arith) ∙ rw found
+
+-- and ends
+pub first_from-end : (passes : ℕ → Bool) (end i : ℕ) → end ≤ i → first_from passes (end - i) i ≡ None
+unfolding first_from
+first_from-end passes end i h = let e : end - i ≡ 0 = omega arith in rw e
+
+-- where no number passes there is no first
+pub first_from-none : (passes : ℕ → Bool) (n i : ℕ) → ((k : ℕ) → i ≤ k → k < i + n → passes k ≡ false) → first_from passes n i ≡ None
+unfolding first_from
+first_from-none passes zero i none = refl
+first_from-none passes (suc n) i none = rw (none i (omega arith) (omega arith)) (first_from-none passes n (suc i) (λ k from to. none k (omega arith) (omega arith)))
+
+le-split : (i j : ℕ) → i ≤ j → (i ≡ j) ⊎ (i < j)
+le-split zero zero h = inl refl
+le-split zero (suc j) h = inr (omega arith)
+le-split (suc i) zero h = absurd (omega arith)
+le-split (suc i) (suc j) h = up (le-split i j (omega arith))
+  where
+    up : (i ≡ j) ⊎ (i < j) → (suc i ≡ suc j) ⊎ (suc i < suc j)
+    up (inl same) = inl (ap suc same)
+    up (inr less) = inr (omega arith)
+
+stops : (o : Option ℕ) (b : Bool) (i j : ℕ) → (i ≡ j) ⊎ (i < j) → (i ≡ j → b ≡ true) → (i < j → (b ≡ false) × (o ≡ Some j)) → (if b then Some i else o) ≡ Some j
+stops o b i j (inl same) here later = rw (here same, same) refl
+stops o b i j (inr less) here later = let (fails, rest) = later less in rw (fails, rest) refl
+
+-- the first is the number that passes where none before it does
+pub first_from-some : (passes : ℕ → Bool) (n i j : ℕ) → i ≤ j → j < i + n → passes j ≡ true → ((k : ℕ) → i ≤ k → k < j → passes k ≡ false) → first_from passes n i ≡ Some j
+unfolding first_from
+first_from-some passes zero i j from to here before = absurd (omega arith)
+first_from-some passes (suc n) i j from to here before =
+    stops (first_from passes n (suc i)) (passes i) i j (le-split i j from)
+    (λ same. ap passes same ∙ here)
+    (λ later. (before i (omega arith) later, first_from-some passes n (suc i) j (omega arith) (omega arith) here (λ k after below. before k (omega arith) below)))
+
+if-none : (b : Bool) (i : ℕ) (o : Option ℕ) → (if b then Some i else o) ≡ None → (b ≡ false) × (o ≡ None)
+if-none true i o e = absurd (cc)
+if-none false i o e = (refl, e)
+
+fails-at : (passes : ℕ → Bool) (i k : ℕ) → (i ≡ k) ⊎ (i < k) → passes i ≡ false → (i < k → passes k ≡ false) → passes k ≡ false
+fails-at passes i k (inl same) here later = ap passes (sym same) ∙ here
+fails-at passes i k (inr less) here later = later less
+
+-- where there is no first, no number passes
+pub none-first_from : (passes : ℕ → Bool) (n i : ℕ) → first_from passes n i ≡ None → (k : ℕ) → i ≤ k → k < i + n → passes k ≡ false
+unfolding first_from
+none-first_from passes zero i e k from to = absurd (omega arith)
+none-first_from passes (suc n) i e k from to =
+    let (fails, rest) = if-none (passes i) i (first_from passes n (suc i)) e in
+    fails-at passes i k (le-split i k from) fails (λ later. none-first_from passes n (suc i) rest k (omega arith) (omega arith))
+
+-- ---- rows that fall
+
+is_some-true : (o : Option ℕ) → (o ≡ None → ⊥) → is_some o ≡ true
+is_some-true None h = absurd (h refl)
+is_some-true (Some i) h = refl
+
+true-not_false : (b : Bool) → b ≡ true → b ≡ false → ⊥
+true-not_false b yes_ no_ = absurd (cc)
+
+falls-true : (g : Grid) (i : ℕ) → FallsAt g i → falls g i ≡ true
+falls-true g i at =
+    let passes = λ (j : ℕ). nat_lt (cell g i j) (cell g (i - 1) j) in
+    is_some-true (first_from passes (length g.columns) 0) (λ none.
+    true-not_false (passes at.column) (lt-true _ _ at.below)
+    (none-first_from passes (length g.columns) 0 none at.column (omega arith) (let within = at.within in omega arith)))
+
+falls-false : (g : Grid) (i : ℕ) → 1 ≤ i → i < length g.rows → ¬ FallsAt g i → falls g i ≡ false
+falls-false g i later row not_here =
+    ap is_some (first_from-none (λ j. nat_lt (cell g i j) (cell g (i - 1) j)) (length g.columns) 0 (λ j from to.
+    not-true _ (λ less. not_here (record { later = later; row = row; column = j; within = omega arith; below = true-lt _ _ less }))))
+
+-- the first row that falls is the first by the relation
+pub falling_row-some : (g : Grid) (i : ℕ) → IsFirstFall g i → falling_row g ≡ Some i
+falling_row-some g i first =
+    let row = first.falls.row in
+    let later = first.falls.later in
+    first_from-some (falls g) (length g.rows - 1) 1 i later (omega arith) (falls-true g i first.falls)
+    (λ k from below. falls-false g k from (omega arith) (first.first k below))
+
+no_fall : (g : Grid) → DoesNotFall g → (i k : ℕ) → k ≡ i + 1 → k < length g.rows → (j : ℕ) → j < length g.columns → cell g k j < cell g i j → ⊥
+no_fall g rises i k e row j within below =
+    let flat : cell g i j ≤ cell g (i + 1) j = rises i j (omega arith) within in
+    let same : cell g k j ≡ cell g (i + 1) j = ap (λ n. cell g n j) e in
+    omega arith
+
+-- a table that doesn't fall has no such row
+pub falling_row-none : (g : Grid) → DoesNotFall g → falling_row g ≡ None
+falling_row-none g rises =
+    first_from-none (falls g) (length g.rows - 1) 1 (λ k from to.
+    falls-false g k from (omega arith) (λ at. no_fall g rises (k - 1) k (omega arith) at.row at.column at.within at.below))
+
+-- ---- the answer window
+
+le-true : (x y : ℕ) → x ≤ y → nat_le x y ≡ true
+le-true x y h = grind (arith, nat_tests)
+
+true-le : (x y : ℕ) → nat_le x y ≡ true → x ≤ y
+true-le x y h = grind (arith, nat_tests)
+
+-- times that go together have no fault
+pub window-none : (t : TimeParts) → AreTimes t → window_fault t ≡ None
+window-none t are = rw (le-true _ _ are.from_first, le-true _ _ are.to_last, lt-true _ _ are.inside) refl
+
+-- times with a period of 2 to 100 ticks that don't go together have one
+pub window-some : (t : TimeParts) → 2 ≤ t.period → t.period ≤ 100 → (AreTimes t → ⊥) → window_fault t ≡ Some fault.Window
+window-some t shortest longest fails =
+    rw (not-true (is_window t) (λ passed.
+    let (inner, inside) = and_parts (nat_le t.first t.send && nat_le t.send t.last) (nat_lt t.last t.period) passed in
+    let (from, to) = and_parts (nat_le t.first t.send) (nat_le t.send t.last) inner in
+    fails (record { shortest = shortest; longest = longest; from_first = true-le _ _ from; to_last = true-le _ _ to; inside = true-lt _ _ inside }))) refl
+
+-- ---- wrong answers
+
+right : (a b : ℕ) → not (a == b) ≡ false → a ≡ b
+right a b h = grind (arith, nat_tests)
+
+equal : (a b : ℕ) → a ≡ b → not (a == b) ≡ false
+equal a b h = grind (arith, nat_tests)
+
+differs : (a b : ℕ) → (a ≡ b → ⊥) → not (a == b) ≡ true
+differs a b h = grind (arith, nat_tests)
+
+-- where there is no first wrong answer, all are right
+pub wrong_answer-none : (rules : Rules) (asked : List Question) → wrong_answer rules asked ≡ None → All (λ question. question.answer ≡ expected_of rules question.row) asked
+wrong_answer-none rules asked none =
+    All-from_get_or (λ question. question.answer ≡ expected_of rules question.row) asked no_question (λ i below.
+    right _ _ (none-first_from (is_wrong rules asked) (length asked) 0 none i (omega arith) (omega arith)))
+
+-- the reader goes on past a right answer
+pub wrong_answer-next : (rules : Rules) (asked : List Question) (i answer : ℕ) → i < length asked → answer ≡ (question_at asked i).answer → answer ≡ expected_of rules (question_at asked i).row
+    → wrong_answer rules asked ≡ first_from (is_wrong rules asked) (length asked - i) i
+    → wrong_answer rules asked ≡ first_from (is_wrong rules asked) (length asked - (i + 1)) (i + 1)
+wrong_answer-next rules asked i answer below here same so_far =
+    so_far ∙ first_from-next (is_wrong rules asked) (length asked) i below (equal _ _ (sym here ∙ same))
+
+-- and stops at a wrong one
+pub wrong_answer-here : (rules : Rules) (asked : List Question) (i answer expected : ℕ) → i < length asked → answer ≡ (question_at asked i).answer → expected ≡ expected_of rules (question_at asked i).row
+    → (answer ≡ expected → ⊥)
+    → wrong_answer rules asked ≡ first_from (is_wrong rules asked) (length asked - i) i
+    → Some i ≡ wrong_answer rules asked
+wrong_answer-here rules asked i answer expected below here there differ so_far =
+    sym (so_far ∙ first_from-found (is_wrong rules asked) (length asked) i below (differs _ _ (λ same. differ (here ∙ same ∙ sym there))))
+
+-- with all answers right it comes to the end
+pub wrong_answer-end : (rules : Rules) (asked : List Question) (i : ℕ) → length asked ≤ i
+    → wrong_answer rules asked ≡ first_from (is_wrong rules asked) (length asked - i) i → None ≡ wrong_answer rules asked
+wrong_answer-end rules asked i over so_far = sym (so_far ∙ first_from-end (is_wrong rules asked) (length asked) i over)

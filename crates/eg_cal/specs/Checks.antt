@@ -1,0 +1,43 @@
+-- The first key of a calibration file that has a fault.
+use Rattle.std.specs.Prelude.{ℕ, nat_lt, ◌&&◌, Bool, true, List, [], ◌∷◌, Option, Some, None, if◌then◌else◌}
+use Rattle.toml.specs.Data.{Members}
+use Rattle.eg_cal.specs.declared.key.CalKey.{CalKey}
+use Rattle.eg_cal.specs.declared.key.CalFault.{CalFault}
+use Rattle.eg_cal.specs.declared.key.CalFault.TheVariants.{Key, Axis}
+use Rattle.eg_cal.specs.Keys.{Content, number, axis, values, grid, questions, nothing, content_of}
+use Rattle.eg_cal.specs.Faults.{or_else, unless_some}
+use Rattle.eg_cal.specs.Contents.{read_number, read_numbers, read_rows, read_questions, point_count}
+
+abbrev pub is_rising : List ℕ → Bool
+is_rising [] = true
+is_rising (x ∷ []) = true
+is_rising (x ∷ y ∷ ys) = nat_lt x y && is_rising (y ∷ ys)
+
+-- the fault of an axis: it is no array of 2 to 16 numbers in range, or else its points don't strictly rise
+abbrev pub axis_fault : CalKey → Option (List ℕ) → Option CalFault
+axis_fault key (Some points) = if is_rising points then None else Some (Axis key)
+axis_fault key None = Some (Key key)
+
+abbrev pub content_fault : Content → Members → CalKey → Option CalFault
+content_fault (number low high) ms key = unless_some (Key key) (read_number low high ms key)
+content_fault (axis high) ms key = axis_fault key (read_numbers 2 16 high ms key)
+content_fault (values along high) ms key =
+    unless_some (Key key) (read_numbers (point_count ms along) (point_count ms along) high ms key)
+content_fault (grid down across high) ms key =
+    unless_some (Key key) (read_rows (point_count ms down) (point_count ms across) high ms key)
+content_fault questions ms key = unless_some (Key key) (read_questions ms key)
+content_fault nothing ms key = None
+
+-- the fault of a key, if it has one
+abbrev pub fault_at : Members → CalKey → Option CalFault
+fault_at ms key = content_fault (content_of key) ms key
+
+-- the fault of the first key that has one
+unfoldable pub first_fault : Members → List CalKey → Option CalFault
+first_fault ms [] = None
+first_fault ms (key ∷ keys) = or_else (fault_at ms key) (first_fault ms keys)
+
+-- the same over the keys of one table after another
+abbrev pub keys_fault : Members → List (List CalKey) → Option CalFault
+keys_fault ms [] = None
+keys_fault ms (keys ∷ more) = or_else (first_fault ms keys) (keys_fault ms more)

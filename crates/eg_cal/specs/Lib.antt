@@ -1,0 +1,10 @@
+pub mod Keys
+pub mod Faults
+pub mod Questions
+pub mod Contents
+pub mod Checks
+pub mod Names
+pub mod Calibration
+pub mod Held
+pub mod Rules
+pub mod Reference

@@ -1,0 +1,20 @@
+// Laws of calibration files.
+ghost use Rattle.std.specs.Prelude.{◌≡◌, Ok};
+ghost use Rattle.eg_toml.specs.Documents.{document_of};
+ghost use Rattle.eg_values.specs.Reference.{reference_parts};
+ghost use Rattle.eg_cal.specs.Calibration.{calibration_of};
+ghost use Rattle.eg_cal.specs.Rules.{AcceptedLaw};
+ghost use Rattle.eg_cal.specs.Reference.{reference_text};
+
+/// Does nothing when it runs. Its contract is a law: a document is accepted exactly where it keeps the rules
+/// of docs/FORMATS.md, "Calibration files": each key is there and holds what it may, no other name is there,
+/// and the values go together. The calibration then has the values under the keys.
+pub fn accepted_files_keep_the_rules()
+    ensures { AcceptedLaw }
+{}
+
+/// Does nothing when it runs. Its contract is a law: the text of the reference file says the calibration that
+/// `reference` gives (docs/FORMATS.md, "Calibration files").
+pub fn reference_is_its_file()
+    ensures { calibration_of (document_of reference_text) ≡ Ok reference_parts }
+{}

@@ -1,0 +1,101 @@
+// The reader of calibration files.
+ghost use Rattle.std.specs.Prelude.{◌≡◌, ◌<◌, IfSome, length};
+ghost use Rattle.toml.specs.View.{table_view};
+ghost use Rattle.eg_toml.specs.Documents.{document_of};
+ghost use Rattle.eg_cal.specs.Faults.{IsRead, Checks};
+ghost use Rattle.eg_cal.specs.Calibration.{calibration_of, refusal_of, parts_of, parts_fault, rising_fault, window_fault, wrong_answer};
+
+use crate::document::Document;
+use crate::entries::{AnswerTimes, Entries, entries_in};
+use crate::{CalFault, CalKey};
+use eg_answer::{Questions, Rules, Times, expected};
+use eg_num::Table2;
+use eg_toml::read_document;
+use eg_torque::Permit;
+use eg_values::Calibration;
+use std::alloc::Global;
+
+/// The calibration that a file says (docs/FORMATS.md, "Calibration files"), or the first rule that the file
+/// breaks. The result is exactly that of `calibration_of`, but for want of memory, which it may answer at any
+/// bytes.
+pub fn read_calibration(alloc: Global, bytes: &[u8]) -> Result<Calibration, CalFault>
+    ensures { IsRead (calibration_of (document_of bytes.now)) result }
+{
+    let root = read_document(alloc, bytes)?;
+    calibration_in(&Document { root })
+}
+
+/// The calibration that a document says, or the first rule that it breaks.
+fn calibration_in(document: &Document) -> Result<Calibration, CalFault>
+    ensures { let ms = table_view document.now.root in Checks (refusal_of ms) (parts_of ms) result }
+{
+    let entries = entries_in(document)?;
+    if !document.is_all_known() {
+        return Err(CalFault::Key {
+            key: CalKey::Unknown,
+        });
+    }
+    put_together(entries)
+}
+
+/// The calibration of these entries, or the first rule that they break together.
+fn put_together(entries: Entries) -> Result<Calibration, CalFault>
+    ensures { Checks (parts_fault entries) entries result }
+{
+    let permit = permit_of(entries.permit)?;
+    let times = times_of(entries.times)?;
+    let rules = Rules {
+        permit,
+        kt: entries.kt,
+        threshold: entries.threshold,
+        tolerances: entries.tolerances,
+        pair: entries.pair,
+        torque: entries.torque,
+    };
+    if let Some(index) = wrong_answer(&rules, &entries.questions) {
+        return Err(CalFault::Answer { index });
+    }
+    let Some(calibration) = Calibration::new(rules, entries.plant, times, entries.questions) else {
+        unreachable!();
+    };
+    Ok(calibration)
+}
+
+/// The permit table of these values, where no row falls.
+fn permit_of(table: Table2) -> Result<Permit, CalFault>
+    ensures { Checks (rising_fault table) table result }
+{
+    match Permit::new(table) {
+        Ok(permit) => Ok(permit),
+        Err(row) => Err(CalFault::Rising { row }),
+    }
+}
+
+/// The times of the answers, where the send tick is inside the window and the window inside the period.
+fn times_of(times: AnswerTimes) -> Result<Times, CalFault>
+    ensures { Checks (window_fault times) times result }
+{
+    let AnswerTimes {
+        period,
+        first,
+        last,
+        send,
+        weights,
+    } = times;
+    match Times::new(period, first, last, send, weights) {
+        Some(times) => Ok(times),
+        None => Err(CalFault::Window),
+    }
+}
+
+/// The first question, the first being 0, whose answer isn't the fold of its row.
+fn wrong_answer(rules: &Rules, questions: &Questions) -> Option<u16>
+    ensures { result ≡ wrong_answer rules.now questions.now }
+{
+    for i in 0..questions.len() {
+        if questions.answer(i) != expected(rules, questions.row(i)) {
+            return Some(i as u16);
+        }
+    }
+    None
+}

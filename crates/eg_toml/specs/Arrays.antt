@@ -1,0 +1,49 @@
+-- What the items of an array read as, one after another.
+use Rattle.std.specs.Prelude.{◌≡◌, ℕ, suc, ◌&&◌, Bool, List, [], ◌∷◌, ◌++◌, Option, Some, None, option_map, if◌then◌else◌, nat_le, MatchBool}
+use Rattle.toml.specs.Data.{Data, Items, no_items, item, as_array}
+use Rattle.eg_toml.specs.Values.{number_in, ◌>>=◌}
+
+-- how many items
+abbrev pub count : Items → ℕ
+count no_items = 0
+count (item d ds) = suc (count ds)
+
+-- what one item reads as, and what those after it read as
+abbrev pub append_read : {X : Type 0} → Option (List X) → Option (List X) → Option (List X)
+append_read (Some xs) (Some ys) = Some (xs ++ ys)
+append_read _ _ = None
+
+-- what all items read as, one after another, where each can be read
+abbrev pub all_read : {X : Type 0} → (Data → Option (List X)) → Items → Option (List X)
+all_read read no_items = Some []
+all_read read (item d ds) = append_read (read d) (all_read read ds)
+
+-- a list of the one thing that an item reads as
+abbrev pub one : {X : Type 0} → (Data → Option X) → Data → Option (List X)
+one read d = option_map (λ x. x ∷ []) (read d)
+
+-- the items of an array of least to most items
+abbrev pub items_in : ℕ → ℕ → Data → Option Items
+items_in least most d = do
+  ds ← as_array d
+  if nat_le least (count ds) && nat_le (count ds) most then Some ds else None
+
+-- what the items of an array of least to most items read as
+abbrev pub array_in : {X : Type 0} → ℕ → ℕ → (Data → Option (List X)) → Data → Option (List X)
+array_in least most read d = items_in least most d >>= all_read read
+
+-- items that are numbers up to high
+abbrev pub all_numbers : ℕ → Items → Option (List ℕ)
+all_numbers high ds = all_read (one (number_in 0 high)) ds
+
+-- an array of least to most numbers up to high
+abbrev pub numbers_in : ℕ → ℕ → ℕ → Data → Option (List ℕ)
+numbers_in least most high d = array_in least most (one (number_in 0 high)) d
+
+-- an array of tall rows of wide numbers up to high, row by row
+abbrev pub rows_in : ℕ → ℕ → ℕ → Data → Option (List ℕ)
+rows_in tall wide high d = array_in tall tall (numbers_in wide wide high) d
+
+-- what was read stands after what was found before, or nothing could be read
+abbrev pub HasRead : {X : Type 0} → Option (List X) → List X → List X → Bool → Type 0
+HasRead read before after ok = MatchBool ok (option_map (λ xs. before ++ xs) read ≡ Some after) (read ≡ None)

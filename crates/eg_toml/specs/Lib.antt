@@ -1,0 +1,4 @@
+pub mod Documents
+pub mod Values
+pub mod Arrays
+pub mod Names

@@ -1,0 +1,13 @@
+//! What the readers of TOML files share: the document that bytes are, the values in its tables, numbers and
+//! arrays of numbers within their ranges, and the names that a table has.
+#![tactic(auto)]
+
+mod arrays;
+mod names;
+mod reading;
+mod values;
+
+pub use arrays::{Numbers, items_in, numbers_in, rows_in};
+pub use names::has_only_names;
+pub use reading::{DocumentFault, read_document};
+pub use values::{member, number_at, number_in, table_at};

@@ -1,0 +1,30 @@
+// The document that bytes are.
+ghost use Rattle.std.specs.Prelude.{◌≡◌, Err, IfOk, None, Some};
+ghost use Rattle.toml.specs.View.{table_view};
+ghost use Rattle.eg_toml.specs.Documents.{document_of};
+ghost use Rattle.eg_toml.specs.declared.reading.DocumentFault.TheVariants as fault;
+
+use std::alloc::Global;
+use toml::Table;
+
+/// Why bytes give no document.
+#[derive(Clone, Copy, Debug, PartialEq, Eq)]
+pub enum DocumentFault {
+    /// There was no memory for the document.
+    Memory,
+    /// They are no TOML document: they aren't UTF-8, or break a rule of TOML.
+    Text,
+}
+
+/// The document that a file's bytes are (docs/FORMATS.md, "Calibration files"). It answers Text exactly where
+/// they are none, but for want of memory, which it may answer at any bytes.
+pub fn read_document(alloc: Global, bytes: &[u8]) -> Result<Table, DocumentFault>
+    ensures read { IfOk result (λ t. document_of bytes.now ≡ Some (table_view t)) }
+    ensures refused { result ≡ Err fault.Text → document_of bytes.now ≡ None }
+{
+    match toml::table_from_slice(alloc, bytes) {
+        Ok(table) => Ok(table),
+        Err(error) if error.is_memory() => Err(DocumentFault::Memory),
+        Err(_) => Err(DocumentFault::Text),
+    }
+}
