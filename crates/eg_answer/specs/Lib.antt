@@ -3,3 +3,4 @@ pub mod Answers
 pub mod Token
 pub mod Questions
 pub mod Times
+pub mod Periods

@@ -5,7 +5,7 @@ use Rattle.std.proofs.Math.Nat.{mod-lt}
 use Rattle.std.proofs.lemmas.Nat.{div-add-mod'}
 use Rattle.std.proofs.lemmas.List.{reverse-append, map-append, length-reverse, length-map}
 use Rattle.std.proofs.lemmas.List.Elements.{All-cons, All-head, All-tail}
-use Rattle.eg_module.specs.Periods.{HeardAnswer, period_of}
+use Rattle.eg_answer.specs.Periods.{HeardAnswer, period_of}
 use Rattle.eg_module.specs.Monitoring.{MonitorParts, AreInTurn, IsMonitor}
 use Rattle.eg_module.specs.Inside.{heard_answer, newest_first}
 use Rattle.eg_module.specs.declared.monitor.Heard.{Heard}

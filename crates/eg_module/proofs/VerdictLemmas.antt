@@ -9,7 +9,7 @@ use Rattle.eg_num.specs.Windows.{WeightParts, greatest, greatest_of, windows, is
 use Rattle.eg_num.specs.Counting.{counted, fed}
 use Rattle.eg_num.proofs.CounterLemmas.{StandsFor-cons, StandsFor-confirmed}
 use Rattle.eg_answer.specs.Times.{TimeParts, AreTimes}
-use Rattle.eg_module.specs.Periods.{HeardAnswer, MarkedAnswer, period_of, place_of, is_last_tick, is_wrong, verdict_of, verdict_over, marked, is_in_window, IsAnswered}
+use Rattle.eg_answer.specs.Periods.{HeardAnswer, MarkedAnswer, period_of, place_of, is_last_tick, is_wrong, verdict_of, verdict_over, marked, is_in_window, IsAnswered}
 use Rattle.eg_answer.specs.declared.marks.Verdict.{Verdict}
 use Rattle.eg_answer.specs.declared.marks.Verdict.TheVariants.{Right, Wrong}
 use Rattle.eg_module.specs.Monitoring.{MonitorParts, IsMonitor, HasGiven}

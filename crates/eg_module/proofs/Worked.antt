@@ -4,7 +4,7 @@ use Rattle.eg_num.specs.Windows.{weight, windows, is_reached, is_confirmed}
 use Rattle.eg_answer.specs.Answers.{answer_number}
 use Rattle.eg_answer.specs.Questions.{no_question}
 use Rattle.eg_answer.specs.Times.{TimeParts}
-use Rattle.eg_module.specs.Periods.{HeardAnswer, period_of, place_of, is_last_tick, is_send_tick, is_in_window, asked, expected_number, marked, verdict_of, verdict_over, is_wrong}
+use Rattle.eg_answer.specs.Periods.{HeardAnswer, period_of, place_of, is_last_tick, is_send_tick, is_in_window, asked, expected_number, marked, verdict_of, verdict_over, is_wrong}
 use Rattle.eg_answer.specs.declared.questions.Question.{Question}
 use Rattle.eg_answer.specs.declared.marks.Verdict.{Verdict}
 use Rattle.eg_answer.specs.declared.marks.Verdict.TheVariants.{Right, Wrong}

@@ -1,6 +1,6 @@
 -- How a monitoring module is read from what the program holds.
 use Rattle.std.specs.Prelude.{List, map, reverse}
-use Rattle.eg_module.specs.Periods.{HeardAnswer}
+use Rattle.eg_answer.specs.Periods.{HeardAnswer}
 use Rattle.eg_module.specs.Monitoring.{MonitorParts}
 use Rattle.eg_module.specs.declared.monitor.Heard.{Heard}
 use Rattle.eg_module.specs.declared.monitor.Monitor.TheInside.{Inside}

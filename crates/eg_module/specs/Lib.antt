@@ -1,3 +1,2 @@
-pub mod Periods
 pub mod Monitoring
 pub mod Inside

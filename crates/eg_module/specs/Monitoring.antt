@@ -3,7 +3,7 @@ use Rattle.std.specs.Prelude.{◌≡◌, ℕ, ◌≤◌, ◌<◌, List, [], ◌�
 use Rattle.eg_num.specs.Windows.{AreWeights}
 use Rattle.eg_num.specs.Counting.{StandsFor}
 use Rattle.eg_answer.specs.Times.{TimeParts, AreTimes}
-use Rattle.eg_module.specs.Periods.{HeardAnswer, period_of, expected_number, is_wrong}
+use Rattle.eg_answer.specs.Periods.{HeardAnswer, period_of, expected_number, is_wrong}
 use Rattle.eg_answer.specs.declared.questions.Question.{Question}
 use Rattle.eg_answer.specs.declared.marks.Verdict.{Verdict}
 

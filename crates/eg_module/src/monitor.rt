@@ -4,8 +4,8 @@ ghost use Rattle.std.specs.Prelude.{IfSome, IfNone, IsTrue};
 ghost use Rattle.std.specs.Option.{SomeIff};
 ghost use Rattle.eg_num.specs.Windows.{is_confirmed};
 ghost use Rattle.eg_num.specs.Counting.{fed};
-ghost use Rattle.eg_module.specs.Periods.{period_of, is_last_tick, is_in_window, asked};
-ghost use Rattle.eg_module.specs.Periods.{verdict_over, IsAnswered, with_verdict, is_wrong};
+ghost use Rattle.eg_answer.specs.Periods.{period_of, is_last_tick, is_in_window, asked};
+ghost use Rattle.eg_answer.specs.Periods.{verdict_over, IsAnswered, with_verdict, is_wrong};
 ghost use Rattle.eg_answer.specs.declared.marks.Verdict.{Verdict};
 ghost use Rattle.eg_module.specs.Monitoring.{IsMonitor, HasGiven, expected_at};
 ghost use Rattle.eg_module.specs.Inside.{newest_first};
@@ -72,7 +72,7 @@ impl Monitor {
 
     /// The number of the question that is asked at a tick, the first question being 0 (docs/CONCEPT.md,
     /// "Questions and answers").
-    #[tactic(auto, unfolding(crate::specs::Periods::asked, crate::specs::Periods::period_of))]
+    #[tactic(auto, unfolding(eg_answer::specs::Periods::asked, eg_answer::specs::Periods::period_of))]
     pub fn question(&self, tick: u32) -> u16
         ensures number { result ≡ asked self.now.times (length self.now.questions) tick }
         ensures within { result < length self.now.questions }
@@ -176,7 +176,7 @@ fn is_right(times: &Times, expected: u32, answer: Heard) -> bool
 }
 
 /// Whether an answer may come at this tick.
-#[tactic(auto, unfolding(crate::specs::Periods::is_in_window, crate::specs::Periods::place_of))]
+#[tactic(auto, unfolding(eg_answer::specs::Periods::is_in_window, eg_answer::specs::Periods::place_of))]
 fn in_window(times: &Times, tick: u32) -> bool
     ensures { result ≡ is_in_window times.now tick }
 {
@@ -185,7 +185,7 @@ fn in_window(times: &Times, tick: u32) -> bool
 }
 
 /// Whether a tick is the last one of its period.
-#[tactic(auto, unfolding(crate::specs::Periods::is_last_tick, crate::specs::Periods::place_of))]
+#[tactic(auto, unfolding(eg_answer::specs::Periods::is_last_tick, eg_answer::specs::Periods::place_of))]
 fn is_last(times: &Times, tick: u32) -> bool
     ensures { result ≡ is_last_tick times.now tick }
 {
@@ -194,7 +194,7 @@ fn is_last(times: &Times, tick: u32) -> bool
 }
 
 /// Whether a verdict is debounced as a bad feed.
-#[tactic(auto, unfolding(crate::specs::Periods::is_wrong))]
+#[tactic(auto, unfolding(eg_answer::specs::Periods::is_wrong))]
 fn is_bad(verdict: Verdict) -> bool
     ensures { result ≡ is_wrong verdict }
 {

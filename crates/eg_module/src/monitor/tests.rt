@@ -1,6 +1,6 @@
 // The calls of the monitoring module, on eight periods.
 ghost use Rattle.std.specs.Prelude.{◌≡◌, ◌+◌, ◌<◌, All};
-ghost use Rattle.eg_module.specs.Periods.{period_of};
+ghost use Rattle.eg_answer.specs.Periods.{period_of};
 
 use super::*;
 use eg_answer::Question;

@@ -1,5 +1,5 @@
 use Rattle.std.proofs.Common.{rules, ◌≡◌, ◌+◌, sym, ap, ap₂, ◌∙◌, subst}
-use Rattle.eg_module.specs.Periods.{verdict_over, period_of, with_verdict}
+use Rattle.eg_answer.specs.Periods.{verdict_over, period_of, with_verdict}
 use Rattle.eg_num.specs.Counting.{fed}
 use Rattle.eg_module.specs.Monitoring.{MonitorParts, HasGiven, expected_at}
 use Rattle.eg_module.specs.Inside.{parts_of}

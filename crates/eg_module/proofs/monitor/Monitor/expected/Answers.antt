@@ -1,6 +1,6 @@
 use Rattle.std.proofs.Common.{rules}
 use Rattle.eg_answer.specs.Answers.{answer_number}
-use Rattle.eg_module.specs.Periods.{expected_number}
+use Rattle.eg_answer.specs.Periods.{expected_number}
 use Rattle.eg_module.proofs.monitor.Monitor.expected.Goals as goal
 
 pub returns : goal.returns

@@ -1,6 +1,6 @@
 use Rattle.std.proofs.Common.{lt_of_lt_of_le, ◌≡◌, ◌<◌, sym, ap, ◌∙◌, subst, arith, List, length}
 use Rattle.std.specs.Prelude.{All}
-use Rattle.eg_module.specs.Periods.{HeardAnswer, period_of}
+use Rattle.eg_answer.specs.Periods.{HeardAnswer, period_of}
 use Rattle.eg_module.specs.Monitoring.{MonitorParts, IsMonitor}
 use Rattle.eg_module.specs.Inside.{parts_of, newest_first}
 use Rattle.eg_module.proofs.HeardLemmas.{room, newest_first-push, length-newest_first, IsMonitor-hear}

@@ -1,6 +1,6 @@
 use Rattle.std.proofs.Common.{◌≡◌, ◌<◌}
 use Rattle.std.specs.Prelude.{All}
-use Rattle.eg_module.specs.Periods.{period_of}
+use Rattle.eg_answer.specs.Periods.{period_of}
 use Rattle.eg_module.proofs.monitor.tests.verdicts_of_eight_periods.Given as goal
 
 -- the tick lies in the period that has no verdict yet, after all answers that are kept
