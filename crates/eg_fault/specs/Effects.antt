@@ -1,0 +1,73 @@
+-- What is out of order outside level 1 at one tick: one record, field by field as the parts of the unit meet
+-- it. Whoever speaks of a tick is handed this record, and knows of no fault and of no onset.
+use Rattle.std.specs.Prelude.{ℕ, ◌%◌, ◌==◌, Bool, true, false, not, [], ◌∷◌, slice_index, Option, Some, None}
+use Rattle.eg_sensor.specs.declared.readings.Readings.{Readings}
+use Rattle.eg_answer.specs.Times.{TimeParts}
+use Rattle.eg_answer.specs.Periods.{asked, is_send_tick, place_of}
+
+pub record Effects : Type 0 where
+  -- what track i reads where a sound one reads x
+  pub track : ℕ → ℕ → ℕ
+  -- what is read as the raise where x is sent
+  pub raise : ℕ → ℕ
+  -- where the throttle plate is held
+  pub held : Option ℕ
+  -- whether level 1 runs
+  pub level1 : Bool
+  -- whether module i of level 2 runs
+  pub ran : ℕ → Bool
+  -- what module i mixes into its result
+  pub disturbance : ℕ → ℕ
+  -- the word of level 2 that is flipped, and the bits of it
+  pub flip : Option (ℕ × ℕ)
+  -- the tick of a period at which answers are sent, where it isn't the usual one
+  pub send : Option ℕ
+  -- the number of the question that a wild monitoring module asks; such a module gives no verdicts
+  pub wild : Option ℕ
+  -- whether a wild monitoring module orders path 2 open
+  pub opens : Bool
+  -- whether path 1 or 2 conducts where its latch is open, and where it isn't
+  pub conducts : ℕ → Bool → Bool
+
+-- nothing is out of order
+unfoldable pub no_effects : Effects
+no_effects = record {
+  track = λ i x. x;
+  raise = λ x. x;
+  held = None;
+  level1 = true;
+  ran = λ i. true;
+  disturbance = λ i. 0;
+  flip = None;
+  send = None;
+  wild = None;
+  opens = false;
+  conducts = λ path is_open. not is_open;
+}
+
+-- the readings, where sound tracks read these
+unfoldable pub readings_under : Effects → Readings → Readings
+readings_under x truth = record {
+  pedal = x.track 0 (slice_index truth.pedal 0) ∷ x.track 1 (slice_index truth.pedal 1) ∷ [];
+  plate = x.track 2 (slice_index truth.plate 0) ∷ x.track 3 (slice_index truth.plate 1) ∷ [];
+  load = x.track 4 (slice_index truth.load 0) ∷ x.track 5 (slice_index truth.load 1) ∷ [];
+  speed = x.track 6 (slice_index truth.speed 0) ∷ x.track 7 (slice_index truth.speed 1) ∷ [];
+  raise = x.raise truth.raise;
+  raise_check = truth.raise_check;
+}
+
+-- whether a tick is one at which answers are sent
+unfoldable pub sends_in : Option ℕ → TimeParts → ℕ → Bool
+sends_in None times tick = is_send_tick times tick
+sends_in (Some moved) times tick = place_of times tick == moved
+
+unfoldable pub sends_at : Effects → TimeParts → ℕ → Bool
+sends_at x times tick = sends_in x.send times tick
+
+-- the number of the question that is asked at a tick, of so many questions
+unfoldable pub asked_in : Option ℕ → TimeParts → ℕ → ℕ → ℕ
+asked_in None times count tick = asked times count tick
+asked_in (Some question) times count tick = question % count
+
+unfoldable pub asked_at : Effects → TimeParts → ℕ → ℕ → ℕ
+asked_at x times count tick = asked_in x.wild times count tick

@@ -1,0 +1,103 @@
+-- Faults outside level 1: what each class of them does, k ticks after its onset. Before the onset, and without
+-- a fault, nothing is out of order.
+use Rattle.std.specs.Prelude.{ℕ, ◌+◌, ◌-◌, ◌%◌, ◌≤◌, ◌<◌, ◌==◌, ◌≡◌, ℤ, pos, negsuc, Bool, true, false, not, ◌&&◌, ◌||◌, min, nat_le, bit_xor, List, length, All, slice_index, slice_index_or, Option, Some, None, if◌then◌else◌}
+use Rattle.std.specs.List.{list_any}
+use Rattle.std.specs.List.Sorted.{IsStrictlyIncreasing}
+use Rattle.eg_fault.specs.Effects.{Effects, no_effects}
+use Rattle.eg_fault.specs.declared.class.Class.{Class}
+use Rattle.eg_fault.specs.declared.class.Class.TheVariants.{Script, Offset, Bus, Plate, Skip, Disturb, Flip, Halt, Timing, Wild, Path1Closed, Path2Closed, PathOpen, Lapse}
+use Rattle.eg_fault.specs.declared.class.Fault.{Fault}
+
+-- ---- what a class does ----
+
+-- a reading with something added or taken away, cut at 0 and at 65535
+unfoldable pub offset_by : ℤ → ℕ → ℕ
+offset_by (pos more) x = min 65535 (x + more)
+offset_by (negsuc less) x = x - (less + 1)
+
+-- the numbers of a script in turn, from the first on, and again from the first after the last
+unfoldable pub in_turn : List ℕ → ℕ → ℕ
+in_turn values k = slice_index values (k % length values)
+
+-- the same of truth values
+unfoldable pub truth_in_turn : List Bool → ℕ → Bool
+truth_in_turn values k = slice_index_or values (k % length values) false
+
+-- level 2 is left out k ticks after the onset: once for each number of the list, or again every so many ticks
+unfoldable pub is_left_out : List ℕ → ℕ → ℕ → Bool
+is_left_out after every k = list_any (λ a. a == (if every == 0 then k else k % every)) after
+
+-- what a class does, k ticks after the onset
+unfoldable pub does : Class → ℕ → Effects
+does (Script track values) k =
+    record no_effects { track = λ i x. if i == track then in_turn values k else x }
+does (Offset track add) k =
+    record no_effects { track = λ i x. if i == track then offset_by add x else x }
+does (Bus mask) k = record no_effects { raise = λ x. bit_xor x mask }
+does (Plate at) k = record no_effects { held = Some at }
+does (Skip index) k = record no_effects { ran = λ i. not (i == index) }
+does (Disturb index mask) k = record no_effects { disturbance = λ i. if i == index then mask else 0 }
+does (Flip word mask) k = record no_effects { flip = if k == 0 then Some (word, mask) else None }
+does Halt k = record no_effects { level1 = false; ran = λ i. false }
+does (Timing offset) k = record no_effects { send = Some offset }
+does (Wild questions opens) k =
+    record no_effects { wild = Some (in_turn questions k); opens = truth_in_turn opens k }
+does Path1Closed k = record no_effects { conducts = λ path is_open. path == 1 || not is_open }
+does Path2Closed k = record no_effects { conducts = λ path is_open. path == 2 || not is_open }
+does (PathOpen path) k =
+    record no_effects { conducts = λ other is_open. not (other == path) && not is_open }
+does (Lapse after every) k = record no_effects { ran = λ i. not (is_left_out after every k) }
+
+-- what is out of order at a tick: nothing before the onset, and without a fault
+unfoldable pub effects : Option Fault → ℕ → Effects
+effects None tick = no_effects
+effects (Some fault) tick =
+    if nat_le fault.onset tick then does fault.class (tick - fault.onset) else no_effects
+
+-- ---- which faults there are ----
+
+-- 1 to 64 of them
+abbrev pub AreFew : ℕ → Type 0
+AreFew count = (1 ≤ count) × (count ≤ 64)
+
+-- some of the 16 bits of a word
+abbrev pub IsMask : ℕ → Type 0
+IsMask mask = (1 ≤ mask) × (mask ≤ 65535)
+
+-- a number that moves a reading, up or down
+abbrev pub IsOffset : ℤ → Type 0
+IsOffset (pos more) = IsMask more
+IsOffset (negsuc less) = IsMask (less + 1)
+
+-- the ranges of the numbers of a class
+unfoldable pub IsValidClass : Class → Type 0
+IsValidClass (Script track values) = (track < 8) × AreFew (length values) × All (λ value. value ≤ 65535) values
+IsValidClass (Offset track add) = (track < 8) × IsOffset add
+IsValidClass (Bus mask) = IsMask mask
+IsValidClass (Plate at) = at ≤ 1000
+IsValidClass (Skip index) = index < 8
+IsValidClass (Disturb index mask) = (1 ≤ index) × (index ≤ 5) × IsMask mask
+IsValidClass (Flip word mask) = (word < 32) × IsMask mask
+IsValidClass Halt = Unit {0}
+IsValidClass (Timing offset) = offset ≤ 99
+IsValidClass (Wild questions opens) =
+    AreFew (length questions) × All (λ question. question ≤ 65535) questions × AreFew (length opens)
+IsValidClass Path1Closed = Unit {0}
+IsValidClass Path2Closed = Unit {0}
+IsValidClass (PathOpen path) = (1 ≤ path) × (path ≤ 2)
+IsValidClass (Lapse after every) =
+    AreFew (length after) × All (λ k. k ≤ 19999) after × IsStrictlyIncreasing after × (every ≤ 20000)
+
+-- a valid fault: its onset and the numbers of its class lie in their ranges
+abbrev pub IsValid : Fault → Type 0
+IsValid fault = (fault.onset ≤ 19999) × IsValidClass fault.class
+
+-- a class of which lapses aren't
+unfoldable pub is_lapse : Class → Bool
+is_lapse (Lapse after every) = true
+is_lapse _ = false
+
+-- a listed fault: none, or a valid one of any class but lapses
+unfoldable pub IsListed : Option Fault → Type 0
+IsListed None = Unit {0}
+IsListed (Some fault) = IsValid fault × (is_lapse fault.class ≡ false)
