@@ -1,1 +1,4 @@
 pub mod PlantParts
+pub mod Engine
+pub mod Gasoline
+pub mod Keeping

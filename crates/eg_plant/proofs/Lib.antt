@@ -1,0 +1,2 @@
+pub mod PlantLemmas
+pub mod Worked

@@ -1,0 +1,12 @@
+-- What a gasoline engine keeps from step to step.
+use Rattle.std.specs.Prelude.{◌≤◌}
+use Rattle.eg_num.specs.Arithmetic.{estimate}
+use Rattle.eg_plant.specs.Gasoline.{Gasoline}
+use Rattle.eg_plant.specs.PlantParts.{PlantParts, ArePlantParts}
+
+-- plate and charge are within their ranges, and the charge covers the torque
+pub record IsKept (p : PlantParts) (g : Gasoline) : Type 0 where
+  pub parts : ArePlantParts p
+  pub plate : g.plate ≤ 1000
+  pub charge : g.charge ≤ 1000
+  pub torque : g.torque ≤ estimate p.kt g.charge

@@ -1,0 +1,126 @@
+// The gasoline engine.
+ghost use Rattle.std.specs.Prelude.{◌≡◌, ◌≤◌};
+ghost use Rattle.std.specs.Option.{ForSome};
+ghost use Rattle.eg_plant.specs.Engine.{KeepsLaws};
+ghost use Rattle.eg_plant.specs.Gasoline as gasoline;
+ghost use Rattle.eg_plant.specs.Gasoline.{StepsAsGasoline, at_rest, shown_of};
+
+use crate::{Engine, PlantData};
+use eg_num::toward;
+use std::marker::Model;
+
+/// A gasoline engine (docs/CONCEPT.md, "Plant"). Contracts see its `GasolinePlant`.
+#[derive(Drop)]
+pub struct GasolineEngine {
+    plant: PlantData,
+    plate: u16,
+    charge: u16,
+    torque: u16,
+}
+
+impl Model for GasolineEngine {
+    ghost use Rattle.eg_plant.specs.Gasoline.{GasolinePlant};
+
+    ghost Value = { GasolinePlant };
+
+    ghost use Rattle.eg_plant.specs.Keeping.{IsKept};
+
+    ghost view = { λ e. record {
+      parts = e.plant;
+      state = record { plate = e.plate; charge = e.charge; torque = e.torque };
+    } };
+
+    ghost invariant = { λ e. IsKept e.plant (record {
+      plate = e.plate;
+      charge = e.charge;
+      torque = e.torque;
+    }) };
+}
+
+impl GasolineEngine {
+    /// An engine at rest.
+    #[tactic(auto, unfolding(crate::specs::Gasoline::at_rest))]
+    pub fn new(plant: PlantData) -> GasolineEngine
+        ensures state { result ≡ record { parts = plant; state = at_rest plant } }
+        ensures shown { ⟦<GasolineEngine as Engine>⟧.shows result ≡ shown_of (at_rest plant) }
+        ensures kt { ⟦<GasolineEngine as Engine>⟧.kt result ≡ plant.kt }
+        ensures laws { KeepsLaws plant.kt (shown_of (at_rest plant)) }
+    {
+        let charge = plant.charge().at(0);
+        GasolineEngine {
+            plant,
+            plate: 0,
+            charge,
+            torque: 0,
+        }
+    }
+}
+
+impl Engine for GasolineEngine {
+    ghost shows = { λ e. shown_of e.state };
+
+    ghost kt = { λ e. e.parts.kt };
+
+    ghost steps = { StepsAsGasoline };
+
+    #[tactic(auto, using(crate::proofs::PlantLemmas::laws), unfolding(crate::specs::Gasoline::gasoline_step))]
+    fn step(&mut self, plate: u16, ignition: u16, on: bool, held: Option<u16>) {
+        let charge = next_charge(&self.plant, self.plate, self.charge);
+        self.plate = next_plate(&self.plant, self.plate, plate, on, held);
+        self.charge = charge;
+        self.torque = torque_of(self.plant.kt(), charge, ignition, on);
+    }
+
+    fn torque(&self) -> u16 {
+        self.torque
+    }
+
+    fn loads(&self) -> [u16; 2] {
+        [self.charge, self.charge]
+    }
+
+    fn position(&self) -> u16 {
+        self.plate
+    }
+
+    fn kt(&self) -> u16 {
+        self.plant.kt()
+    }
+}
+
+/// The plate after a step.
+#[tactic(auto, unfolding(crate::specs::Gasoline::next_plate))]
+fn next_plate(plant: &PlantData, plate: u16, command: u16, on: bool, held: Option<u16>) -> u16
+    requires plate { plate ≤ 1000 }
+    requires held { ForSome held (λ at. at ≤ 1000) }
+    ensures value { result ≡ gasoline.next_plate plant.now plate command on held }
+    ensures range { result ≤ 1000 }
+{
+    if let Some(at) = held {
+        return at;
+    }
+    let target = if on { command.min(1000) } else { 0 };
+    toward(plate, target, plant.slew())
+}
+
+/// The charge after a step, by the plate before it.
+#[tactic(auto, unfolding(crate::specs::Gasoline::next_charge))]
+fn next_charge(plant: &PlantData, plate: u16, charge: u16) -> u16
+    ensures { result ≡ gasoline.next_charge plant.now plate charge }
+{
+    toward(charge, plant.charge().at(plate), plant.fill())
+}
+
+/// The torque of a charge, in tenths of Nm.
+#[tactic(auto, unfolding(crate::specs::Gasoline::torque_of))]
+fn torque_of(kt: u16, charge: u16, ignition: u16, on: bool) -> u16
+    requires charge { charge ≤ 1000 }
+    requires kt { kt ≤ 10000 }
+    ensures { result ≡ gasoline.torque_of kt charge ignition on }
+{
+    if !on {
+        return 0;
+    }
+    let full = u64::from(charge) * u64::from(kt);
+    (full * u64::from(ignition.min(1000)) / 1_000_000) as u16
+}
