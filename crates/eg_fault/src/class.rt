@@ -1,4 +1,8 @@
 // A fault, and the classes of faults.
+ghost use Rattle.std.specs.Prelude.{◌≡◌, ◌≤◌, ◌↔◌, IsTrue, All, length};
+ghost use Rattle.std.specs.List.Sorted.{IsStrictlyIncreasing};
+ghost use Rattle.eg_fault.specs.Faults.{AreFew, IsValid, IsValidClass, IsOffset};
+
 use crate::{Opens, Script};
 
 /// A fault outside level 1 (docs/CONCEPT.md, "Faults"): from the tick of its onset on it does what its class
@@ -44,4 +48,140 @@ pub enum Class {
     /// Level 2 doesn't run at these ticks after the onset (0 to 19,999, rising); where `every` (0 to 20,000)
     /// isn't 0 they are counted anew every so many ticks.
     Lapse { after: Script, every: u16 },
+}
+
+impl Fault {
+    /// Whether its onset and the numbers of its class lie in their ranges (docs/CONCEPT.md, "Faults").
+    pub fn valid(&self) -> bool
+        ensures { IsTrue result ↔ IsValid self.now }
+    {
+        self.onset <= 19_999 && self.class.is_valid()
+    }
+
+    /// An equal fault. It takes no memory.
+    pub fn copy(&self) -> Fault
+        ensures { result ≡ self.now }
+    {
+        Fault {
+            onset: self.onset,
+            class: self.class.copy(),
+        }
+    }
+}
+
+impl Class {
+    /// An equal class. It takes no memory.
+    pub fn copy(&self) -> Class
+        ensures { result ≡ self.now }
+    {
+        match self {
+            Class::Script { track, values } => Class::Script {
+                track: *track,
+                values: values.copy(),
+            },
+            Class::Offset { track, add } => Class::Offset {
+                track: *track,
+                add: *add,
+            },
+            Class::Bus { mask } => Class::Bus { mask: *mask },
+            Class::Plate { at } => Class::Plate { at: *at },
+            Class::Skip { module } => Class::Skip { module: *module },
+            Class::Disturb { module, mask } => Class::Disturb {
+                module: *module,
+                mask: *mask,
+            },
+            Class::Flip { word, mask } => Class::Flip {
+                word: *word,
+                mask: *mask,
+            },
+            Class::Halt => Class::Halt,
+            Class::Timing { offset } => Class::Timing { offset: *offset },
+            Class::Wild { questions, opens } => Class::Wild {
+                questions: questions.copy(),
+                opens: opens.copy(),
+            },
+            Class::Path1Closed => Class::Path1Closed,
+            Class::Path2Closed => Class::Path2Closed,
+            Class::PathOpen { path } => Class::PathOpen { path: *path },
+            Class::Lapse { after, every } => Class::Lapse {
+                after: after.copy(),
+                every: *every,
+            },
+        }
+    }
+
+    /// Whether its numbers lie in their ranges.
+    #[tactic(auto, unfolding(crate::specs::Faults::IsValidClass))]
+    fn is_valid(&self) -> bool
+        ensures { IsTrue result ↔ IsValidClass self.now }
+    {
+        match self {
+            Class::Script { track, values } => is_script(*track, values),
+            Class::Offset { track, add } => *track < 8 && is_offset(*add),
+            Class::Bus { mask } => *mask != 0,
+            Class::Plate { at } => *at <= 1000,
+            Class::Skip { module } => *module < 8,
+            Class::Disturb { module, mask } => 1 <= *module && *module <= 5 && *mask != 0,
+            Class::Flip { word, mask } => *word < 32 && *mask != 0,
+            Class::Timing { offset } => *offset <= 99,
+            Class::PathOpen { path } => 1 <= *path && *path <= 2,
+            Class::Wild { questions, opens } => is_wild(questions, opens),
+            Class::Lapse { after, every } => is_lapse(after, *every),
+            Class::Halt | Class::Path1Closed | Class::Path2Closed => true,
+        }
+    }
+}
+
+/// Whether a class `Script` of these is valid.
+#[tactic(auto, unfolding(crate::specs::Faults::IsValidClass))]
+fn is_script(track: u8, values: &Script) -> bool
+    ensures { IsTrue result ↔ IsValidClass (Class.Script track values.now) }
+{
+    // Whoever reads the numbers learns that they are 1 to 64 words.
+    let _values = values.values();
+    track < 8
+}
+
+/// Whether a class `Wild` of these is valid: each is.
+#[tactic(auto, unfolding(crate::specs::Faults::IsValidClass))]
+fn is_wild(questions: &Script, opens: &Opens) -> bool
+    ensures { IsTrue result ↔ IsValidClass (Class.Wild questions.now opens.now) }
+{
+    // Whoever reads them learns that they are 1 to 64.
+    let _questions = questions.values();
+    let _opens = opens.values();
+    true
+}
+
+/// Whether a class `Lapse` of these is valid.
+#[tactic(auto, unfolding(crate::specs::Faults::IsValidClass))]
+fn is_lapse(after: &Script, every: u16) -> bool
+    ensures { IsTrue result ↔ IsValidClass (Class.Lapse after.now every) }
+{
+    if every > 20_000 {
+        return false;
+    }
+    are_early(after) && are_rising(after)
+}
+
+/// Whether a number moves a reading, by at most 65,535.
+fn is_offset(add: i32) -> bool
+    ensures { IsTrue result ↔ IsOffset add }
+{
+    add != 0 && add.unsigned_abs() <= 65_535
+}
+
+/// Whether each number is at most 19,999.
+fn are_early(ticks: &Script) -> bool
+    ensures few { AreFew (length ticks.now) }
+    ensures early { IsTrue result ↔ All (λ k. k ≤ 19999) ticks.now }
+{
+    ticks.values().iter().all(|k| *k <= 19_999)
+}
+
+/// Whether each number is more than the one before it.
+fn are_rising(ticks: &Script) -> bool
+    ensures { IsTrue result ↔ IsStrictlyIncreasing ticks.now }
+{
+    ticks.values().windows(2).all(|pair| pair[0] < pair[1])
 }

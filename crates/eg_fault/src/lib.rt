@@ -3,7 +3,16 @@
 #![tactic(auto)]
 
 mod class;
+mod class_effects;
+mod effects;
 mod script;
 
 pub use class::{Class, Fault};
+pub use effects::{
+    conducts, disturbance, faulty_readings, flip, held, level1_runs, module_runs,
+    modules_run_together, sends, wild,
+};
 pub use script::{Opens, Script};
+
+#[cfg(test)]
+mod tests;

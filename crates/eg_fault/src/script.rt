@@ -1,5 +1,5 @@
 // The lists of numbers and of truth values that a fault goes through.
-ghost use Rattle.std.specs.Prelude.{◌≡◌, ◌≤◌, length, SomeIff};
+ghost use Rattle.std.specs.Prelude.{◌≡◌, ◌≤◌, All, length, SomeIff};
 
 use arrayvec::ArrayVec;
 use std::marker::Model;
@@ -32,13 +32,26 @@ impl Script {
         Some(Script { values })
     }
 
+    /// An equal script. It takes no memory.
+    pub fn copy(&self) -> Script
+        ensures { result ≡ self.now }
+    {
+        let mut values = ArrayVec::new();
+        match values.try_extend_from_slice(self.values.as_slice()) {
+            Ok(()) => Script { values },
+            Err(_) => unreachable!(),
+        }
+    }
+
     /// Its numbers.
     pub fn values(&self) -> &[u16]
         ensures values { result.now ≡ self.now }
         ensures least { 1 ≤ length self.now }
         ensures most { length self.now ≤ 64 }
+        ensures words { All (λ value. value ≤ 65535) self.now }
     {
-        self.values.as_slice()
+        let values = self.values.as_slice();
+        values
     }
 }
 
@@ -68,6 +81,17 @@ impl Opens {
         }
         let values = ArrayVec::try_from(values).ok()?;
         Some(Opens { values })
+    }
+
+    /// Equal truth values. It takes no memory.
+    pub fn copy(&self) -> Opens
+        ensures { result ≡ self.now }
+    {
+        let mut values = ArrayVec::new();
+        match values.try_extend_from_slice(self.values.as_slice()) {
+            Ok(()) => Opens { values },
+            Err(_) => unreachable!(),
+        }
     }
 
     /// The truth values.

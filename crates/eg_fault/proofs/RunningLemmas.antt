@@ -1,0 +1,69 @@
+-- Which modules of level 2 run under each class of faults.
+use Rattle.std.proofs.Common.{◌≡◌, ℕ, ◌-◌, ◌≤◌, ◌<◌, ◌⊎◌, inl, inr, Bool, true, false, refl, sym, subst, arith}
+use Rattle.std.specs.Prelude.{not, Some, None}
+use Rattle.std.proofs.lemmas.Bool.{cases_lt}
+use Rattle.std.proofs.lemmas.Bool.Decides.{nat_tests}
+use Rattle.eg_fault.specs.Effects.{Effects, no_effects}
+use Rattle.eg_fault.specs.Faults.{does, effects, is_left_out}
+use Rattle.eg_fault.specs.Running.{AllRun, NoneRuns, OthersRun, LeavesOut, RunsWhole, RunningLaw}
+use Rattle.eg_fault.specs.declared.class.Class.{Class}
+use Rattle.eg_fault.specs.declared.class.Class.TheVariants.{Skip, Halt, Lapse}
+use Rattle.eg_fault.specs.declared.class.Fault.{Fault}
+
+-- before the onset, and without a fault, all modules run
+before-effects : (fault : Fault) (tick : ℕ) → tick < fault.onset → effects (Some fault) tick ≡ no_effects
+unfolding effects
+before-effects fault tick before = grind (arith, nat_tests)
+
+after-effects : (fault : Fault) (tick : ℕ) → fault.onset ≤ tick → effects (Some fault) tick ≡ does fault.class (tick - fault.onset)
+unfolding effects
+after-effects fault tick after = grind (arith, nat_tests)
+
+all-no_effects : AllRun no_effects
+unfolding no_effects
+all-no_effects i = refl
+
+-- what a class does to level 2, at each tick after the onset
+Kind : Class → Type 0
+Kind class = ((k : ℕ) → AllRun (does class k) ⊎ NoneRuns (does class k)) ⊎ ((one : ℕ) × ((k : ℕ) → OthersRun one (does class k)))
+
+lapse : (left_out : Bool) → ((i : ℕ) → not left_out ≡ true) ⊎ ((i : ℕ) → not left_out ≡ false)
+lapse true = inr (λ i. refl)
+lapse false = inl (λ i. refl)
+
+kind-of : (class : Class) → Kind class
+unfolding Kind does no_effects
+kind-of (Skip one) = inr (one, λ k i. refl)
+kind-of Halt = inl (λ k. inr (λ i. refl))
+kind-of (Lapse after every) = inl (λ k. lapse (is_left_out after every k))
+kind-of _ = inl (λ k. inl (λ i. refl))
+
+-- without a fault all run
+without : (tick : ℕ) → AllRun (effects None tick)
+unfolding effects
+without tick = all-no_effects
+
+-- whole or not at all, at each tick
+whole : (fault : Fault) → ((k : ℕ) → AllRun (does fault.class k) ⊎ NoneRuns (does fault.class k)) → RunsWhole (Some fault)
+whole fault each tick =
+    let Q : Effects → Type 0 = λ x. AllRun x ⊎ NoneRuns x in
+    elim (cases_lt tick fault.onset) [
+      | inl before ↦ subst Q (sym (before-effects fault tick before)) (inl all-no_effects)
+      | inr after ↦ subst Q (sym (after-effects fault tick after)) (each (tick - fault.onset))
+    ]
+
+-- one is left out from the onset on
+left_out : (fault : Fault) (one : ℕ) → ((k : ℕ) → OthersRun one (does fault.class k)) → LeavesOut fault one
+left_out fault one each = record {
+  before = λ tick before. subst AllRun (sym (before-effects fault tick before)) all-no_effects;
+  after = λ tick after. subst (OthersRun one) (sym (after-effects fault tick after)) (each (tick - fault.onset));
+}
+
+of-kind : (fault : Fault) → Kind fault.class → RunsWhole (Some fault) ⊎ ((one : ℕ) × LeavesOut fault one)
+unfolding Kind
+of-kind fault (inl each) = inl (whole fault each)
+of-kind fault (inr found) = inr (found.0, left_out fault found.0 found.1)
+
+-- level 2 runs whole or not at all, or one module is left out from the onset on
+pub running_law : RunningLaw
+running_law = (λ tick. inl (without tick), λ fault. of-kind fault (kind-of fault.class))

@@ -1,0 +1,30 @@
+-- Which modules of level 2 run under a fault. At each tick all of them run, or none does, or all but one; and
+-- where one is left out, it is the same one at each tick from the onset on.
+use Rattle.std.specs.Prelude.{ℕ, ◌≡◌, ◌==◌, ◌≤◌, ◌<◌, ◌⊎◌, true, false, not, Option, Some, None}
+use Rattle.eg_fault.specs.Effects.{Effects}
+use Rattle.eg_fault.specs.Faults.{effects}
+use Rattle.eg_fault.specs.declared.class.Fault.{Fault}
+
+-- which modules run at a tick
+abbrev pub AllRun : Effects → Type 0
+AllRun x = (i : ℕ) → x.ran i ≡ true
+
+abbrev pub NoneRuns : Effects → Type 0
+NoneRuns x = (i : ℕ) → x.ran i ≡ false
+
+abbrev pub OthersRun : ℕ → Effects → Type 0
+OthersRun one x = (i : ℕ) → x.ran i ≡ not (i == one)
+
+-- one module is left out from the onset on
+pub record LeavesOut (fault : Fault) (one : ℕ) : Type 0 where
+  pub before : (tick : ℕ) → tick < fault.onset → AllRun (effects (Some fault) tick)
+  pub after : (tick : ℕ) → fault.onset ≤ tick → OthersRun one (effects (Some fault) tick)
+
+-- level 2 runs whole or not at all
+abbrev pub RunsWhole : Option Fault → Type 0
+RunsWhole fault = (tick : ℕ) → AllRun (effects fault tick) ⊎ NoneRuns (effects fault tick)
+
+-- the law: without a fault and under any fault level 2 runs whole or not at all, at each tick, or one module
+-- is left out from the onset on
+abbrev pub RunningLaw : Type 0
+RunningLaw = RunsWhole None × ((fault : Fault) → RunsWhole (Some fault) ⊎ ((one : ℕ) × LeavesOut fault one))

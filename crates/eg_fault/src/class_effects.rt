@@ -1,0 +1,169 @@
+// What each class of faults does, so many ticks after the onset.
+ghost use Rattle.std.specs.Prelude.{◌≡◌, ◌<◌, false, option_map, length};
+ghost use Rattle.std.specs.Option.{option_map_or};
+ghost use Rattle.eg_fault.specs.Faults;
+ghost use Rattle.eg_fault.specs.Faults.{does};
+
+use crate::{Class, Opens, Script};
+
+impl Class {
+    /// What a track reads, where a sound one reads that.
+    #[tactic(auto, unfolding(crate::specs::Effects::no_effects, crate::specs::Faults::does))]
+    pub(crate) fn track(&self, after: u32, index: u8, sound: u16) -> u16
+        ensures { result ≡ (does self.now after).track index sound }
+    {
+        match self {
+            Class::Script { track, values } if index == *track => in_turn(values, after),
+            Class::Offset { track, add } if index == *track => offset_by(*add, sound),
+            _ => sound,
+        }
+    }
+
+    /// What is read as the raise, where that is sent.
+    #[tactic(auto, unfolding(crate::specs::Effects::no_effects, crate::specs::Faults::does))]
+    pub(crate) fn raise(&self, after: u32, sent: u16) -> u16
+        ensures { result ≡ (does self.now after).raise sent }
+    {
+        match self {
+            Class::Bus { mask } => sent ^ mask,
+            _ => sent,
+        }
+    }
+
+    /// Where the plate is held.
+    #[tactic(auto, unfolding(crate::specs::Effects::no_effects, crate::specs::Faults::does))]
+    pub(crate) fn held(&self, after: u32) -> Option<u16>
+        ensures { result ≡ (does self.now after).held }
+    {
+        match self {
+            Class::Plate { at } => Some(*at),
+            _ => None,
+        }
+    }
+
+    /// Whether level 1 runs.
+    #[tactic(auto, unfolding(crate::specs::Effects::no_effects, crate::specs::Faults::does))]
+    pub(crate) fn level1_runs(&self, after: u32) -> bool
+        ensures { result ≡ (does self.now after).level1 }
+    {
+        !matches!(self, Class::Halt)
+    }
+
+    /// Whether a module of level 2 runs.
+    #[tactic(auto, unfolding(crate::specs::Effects::no_effects, crate::specs::Faults::does))]
+    pub(crate) fn module_runs(&self, after: u32, index: u8) -> bool
+        ensures { result ≡ (does self.now after).ran index }
+    {
+        match self {
+            Class::Skip { module } => index != *module,
+            Class::Halt => false,
+            Class::Lapse {
+                after: ticks,
+                every,
+            } => !is_left_out(ticks, *every, after),
+            _ => true,
+        }
+    }
+
+    /// What is mixed into the result of a module of level 2.
+    #[tactic(auto, unfolding(crate::specs::Effects::no_effects, crate::specs::Faults::does))]
+    pub(crate) fn disturbance(&self, after: u32, index: u8) -> u16
+        ensures { result ≡ (does self.now after).disturbance index }
+    {
+        match self {
+            Class::Disturb { module, mask } if index == *module => *mask,
+            _ => 0,
+        }
+    }
+
+    /// The word of level 2 that is flipped, and its bits.
+    #[tactic(auto, unfolding(crate::specs::Effects::no_effects, crate::specs::Faults::does))]
+    pub(crate) fn flip(&self, after: u32) -> Option<(u8, u16)>
+        ensures { result ≡ (does self.now after).flip }
+    {
+        match self {
+            Class::Flip { word, mask } if after == 0 => Some((*word, *mask)),
+            _ => None,
+        }
+    }
+
+    /// The tick of a period at which answers are sent, where it isn't the usual one.
+    #[tactic(auto, unfolding(crate::specs::Effects::no_effects, crate::specs::Faults::does))]
+    pub(crate) fn moved_send(&self, after: u32) -> Option<u16>
+        ensures { result ≡ (does self.now after).send }
+    {
+        match self {
+            Class::Timing { offset } => Some(*offset),
+            _ => None,
+        }
+    }
+
+    /// The number of the question that a wild monitoring module asks, and whether it orders path 2 open.
+    #[tactic(auto, unfolding(crate::specs::Effects::no_effects, crate::specs::Faults::does))]
+    pub(crate) fn wild(&self, after: u32) -> Option<(u16, bool)>
+        ensures question { option_map (λ asked. asked.0) result ≡ (does self.now after).wild }
+        ensures opens { option_map_or (λ asked. asked.1) result false ≡ (does self.now after).opens }
+    {
+        match self {
+            Class::Wild { questions, opens } => {
+                Some((in_turn(questions, after), truth_in_turn(opens, after)))
+            }
+            _ => None,
+        }
+    }
+
+    /// Whether path 1 or 2 conducts, where its latch is open or isn't.
+    #[tactic(auto, unfolding(crate::specs::Effects::no_effects, crate::specs::Faults::does))]
+    pub(crate) fn conducts(&self, after: u32, path: u8, opened: bool) -> bool
+        ensures { result ≡ (does self.now after).conducts path opened }
+    {
+        match self {
+            Class::Path1Closed => path == 1 || !opened,
+            Class::Path2Closed => path == 2 || !opened,
+            Class::PathOpen { path: broken } => path != *broken && !opened,
+            _ => !opened,
+        }
+    }
+}
+
+/// The number of a script whose turn it is.
+#[tactic(auto, unfolding(crate::specs::Faults::in_turn))]
+fn in_turn(script: &Script, after: u32) -> u16
+    ensures { result ≡ Faults.in_turn script.now after }
+{
+    let values = script.values();
+    values[after as usize % values.len()]
+}
+
+/// The truth value whose turn it is.
+#[tactic(auto, unfolding(crate::specs::Faults::truth_in_turn))]
+fn truth_in_turn(opens: &Opens, after: u32) -> bool
+    ensures { result ≡ Faults.truth_in_turn opens.now after }
+{
+    let values = opens.values();
+    values[after as usize % values.len()]
+}
+
+/// A reading with something added or taken away, cut at 0 and at 65,535.
+#[tactic(auto, unfolding(crate::specs::Faults::offset_by))]
+fn offset_by(add: i32, sound: u16) -> u16
+    ensures { result ≡ Faults.offset_by add sound }
+{
+    u32::from(sound).saturating_add_signed(add).min(65_535) as u16
+}
+
+/// Whether level 2 is left out, where these ticks are named.
+#[tactic(auto, unfolding(crate::specs::Faults::is_left_out))]
+fn is_left_out(ticks: &Script, every: u16, after: u32) -> bool
+    ensures { result ≡ Faults.is_left_out ticks.now every after }
+{
+    let tick = if every == 0 {
+        after
+    } else {
+        after % u32::from(every)
+    };
+    ticks
+        .values()
+        .iter()
+        .any(|left_out| u32::from(*left_out) == tick)
+}

@@ -1,0 +1,195 @@
+// What a fault does at a tick.
+ghost use Rattle.std.specs.Prelude.{◌≡◌, false, option_map};
+ghost use Rattle.std.specs.Option.{option_copied, option_map_or};
+ghost use Rattle.eg_answer.specs.Periods;
+ghost use Rattle.eg_fault.specs.Effects;
+ghost use Rattle.eg_fault.specs.Effects.{no_effects, readings_under, sends_at};
+ghost use Rattle.eg_fault.specs.Faults.{effects, does};
+ghost use Rattle.eg_fault.specs.Running.{RunningLaw};
+
+use crate::{Class, Fault};
+use eg_answer::Times;
+use eg_sensor::Readings;
+
+/// What the sensors read at a tick, where sound tracks read the truth (docs/CONCEPT.md, "Faults").
+#[tactic(auto, unfolding(crate::specs::Effects::readings_under))]
+pub fn faulty_readings(fault: Option<&Fault>, tick: u32, truth: &Readings) -> Readings
+    ensures { result ≡ readings_under (effects (option_copied fault.entry) tick) truth.now }
+{
+    Readings {
+        pedal: [
+            track(fault, tick, 0, truth.pedal[0]),
+            track(fault, tick, 1, truth.pedal[1]),
+        ],
+        plate: [
+            track(fault, tick, 2, truth.plate[0]),
+            track(fault, tick, 3, truth.plate[1]),
+        ],
+        load: [
+            track(fault, tick, 4, truth.load[0]),
+            track(fault, tick, 5, truth.load[1]),
+        ],
+        speed: [
+            track(fault, tick, 6, truth.speed[0]),
+            track(fault, tick, 7, truth.speed[1]),
+        ],
+        raise: raise(fault, tick, truth.raise),
+        raise_check: truth.raise_check,
+    }
+}
+
+/// Where the throttle plate is held at a tick, in per mille, if it is (docs/CONCEPT.md, "Faults").
+#[tactic(auto, unfolding(crate::specs::Effects::no_effects))]
+pub fn held(fault: Option<&Fault>, tick: u32) -> Option<u16>
+    ensures { result ≡ (effects (option_copied fault.entry) tick).held }
+{
+    let (class, after) = acting(fault, tick)?;
+    class.held(after)
+}
+
+/// Whether level 1 runs at a tick (docs/CONCEPT.md, "Faults").
+#[tactic(auto, unfolding(crate::specs::Effects::no_effects))]
+pub fn level1_runs(fault: Option<&Fault>, tick: u32) -> bool
+    ensures { result ≡ (effects (option_copied fault.entry) tick).level1 }
+{
+    let Some((class, after)) = acting(fault, tick) else {
+        return true;
+    };
+    class.level1_runs(after)
+}
+
+/// Whether a module of level 2 (0 to 7) runs at a tick (docs/CONCEPT.md, "Faults").
+#[tactic(auto, unfolding(crate::specs::Effects::no_effects))]
+pub fn module_runs(fault: Option<&Fault>, tick: u32, module: u8) -> bool
+    ensures { result ≡ (effects (option_copied fault.entry) tick).ran «module» }
+{
+    let Some((class, after)) = acting(fault, tick) else {
+        return true;
+    };
+    class.module_runs(after, module)
+}
+
+/// The bits that are mixed into the result of a module of level 2 (0 to 7) at a tick (docs/CONCEPT.md,
+/// "Faults").
+#[tactic(auto, unfolding(crate::specs::Effects::no_effects))]
+pub fn disturbance(fault: Option<&Fault>, tick: u32, module: u8) -> u16
+    ensures { result ≡ (effects (option_copied fault.entry) tick).disturbance «module» }
+{
+    let Some((class, after)) = acting(fault, tick) else {
+        return 0;
+    };
+    class.disturbance(after, module)
+}
+
+/// The word of level 2 (0 to 31) that is flipped at a tick, and its bits, if one is (docs/CONCEPT.md,
+/// "Faults").
+#[tactic(auto, unfolding(crate::specs::Effects::no_effects))]
+pub fn flip(fault: Option<&Fault>, tick: u32) -> Option<(u8, u16)>
+    ensures { result ≡ (effects (option_copied fault.entry) tick).flip }
+{
+    let (class, after) = acting(fault, tick)?;
+    class.flip(after)
+}
+
+/// Whether a tick is one at which level 2 sends its answer (docs/CONCEPT.md, "Faults").
+#[tactic(auto, unfolding(crate::specs::Effects::sends_at))]
+pub fn sends(fault: Option<&Fault>, tick: u32, times: &Times) -> bool
+    ensures { result ≡ sends_at (effects (option_copied fault.entry) tick) times.now tick }
+{
+    sends_in(moved_send(fault, tick), tick, times)
+}
+
+/// What a wild monitoring module does at a tick: the number of the question that it asks, which counts modulo
+/// the count of questions, and whether it orders path 2 open. None where the module isn't wild
+/// (docs/CONCEPT.md, "Faults").
+#[tactic(auto, unfolding(crate::specs::Effects::no_effects))]
+pub fn wild(fault: Option<&Fault>, tick: u32) -> Option<(u16, bool)>
+    ensures question { option_map (λ asked. asked.0) result
+        ≡ (effects (option_copied fault.entry) tick).wild }
+    ensures opens { option_map_or (λ asked. asked.1) result false
+        ≡ (effects (option_copied fault.entry) tick).opens }
+{
+    let (class, after) = acting(fault, tick)?;
+    class.wild(after)
+}
+
+/// Whether path 1 or 2 conducts at a tick, where its latch is open or isn't (docs/CONCEPT.md, "Faults").
+#[tactic(auto, unfolding(crate::specs::Effects::no_effects))]
+pub fn conducts(fault: Option<&Fault>, tick: u32, path: u8, opened: bool) -> bool
+    ensures { result ≡ (effects (option_copied fault.entry) tick).conducts path opened }
+{
+    let Some((class, after)) = acting(fault, tick) else {
+        return !opened;
+    };
+    class.conducts(after, path, opened)
+}
+
+/// Does nothing when it runs. Its contract is a law: without a fault and under any fault all modules of level
+/// 2 run at a tick, or none does, or all but one, and then it is the same one at each tick from the onset on
+/// (docs/CONCEPT.md, "Faults").
+#[tactic(auto, using(crate::proofs::RunningLemmas::running_law))]
+pub fn modules_run_together()
+    ensures { RunningLaw }
+{}
+
+/// What a track (0 to 7) reads at a tick, where a sound one reads that.
+#[tactic(auto, unfolding(crate::specs::Effects::no_effects))]
+fn track(fault: Option<&Fault>, tick: u32, index: u8, sound: u16) -> u16
+    ensures { result ≡ (effects (option_copied fault.entry) tick).track index sound }
+{
+    let Some((class, after)) = acting(fault, tick) else {
+        return sound;
+    };
+    class.track(after, index, sound)
+}
+
+/// What is read as the raise at a tick, in tenths of Nm, where that is sent.
+#[tactic(auto, unfolding(crate::specs::Effects::no_effects))]
+fn raise(fault: Option<&Fault>, tick: u32, sent: u16) -> u16
+    ensures { result ≡ (effects (option_copied fault.entry) tick).raise sent }
+{
+    let Some((class, after)) = acting(fault, tick) else {
+        return sent;
+    };
+    class.raise(after, sent)
+}
+
+/// The tick of a period at which answers are sent, where it isn't the usual one.
+#[tactic(auto, unfolding(crate::specs::Effects::no_effects))]
+fn moved_send(fault: Option<&Fault>, tick: u32) -> Option<u16>
+    ensures { result ≡ (effects (option_copied fault.entry) tick).send }
+{
+    let (class, after) = acting(fault, tick)?;
+    class.moved_send(after)
+}
+
+/// Whether a tick is one at which answers are sent, at the usual tick of each period or at another.
+#[tactic(auto, unfolding(crate::specs::Effects::sends_in, eg_answer::specs::Periods::is_send_tick))]
+fn sends_in(moved: Option<u16>, tick: u32, times: &Times) -> bool
+    ensures { result ≡ Effects.sends_in moved times.now tick }
+{
+    let place = place_of(times, tick);
+    match moved {
+        Some(send) => place == u32::from(send),
+        None => place == u32::from(times.send()),
+    }
+}
+
+/// Which tick of its period it is.
+#[tactic(auto, unfolding(eg_answer::specs::Periods::place_of))]
+fn place_of(times: &Times, tick: u32) -> u32
+    ensures { result ≡ Periods.place_of times.now tick }
+{
+    tick % u32::from(times.period())
+}
+
+/// The class of a fault that acts at a tick, and how many ticks after the onset that is.
+#[tactic(auto, unfolding(crate::specs::Faults::effects))]
+fn acting(fault: Option<&Fault>, tick: u32) -> Option<(&Class, u32)>
+    ensures { effects (option_copied fault.entry) tick
+        ≡ option_map_or (λ a. does a.0.now a.1) result no_effects }
+{
+    let fault = fault?;
+    let after = tick.checked_sub(fault.onset)?;
+    Some((&fault.class, after))
+}
