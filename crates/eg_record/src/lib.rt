@@ -1,0 +1,13 @@
+//! The record of a run: rows, one a tick, with what holds at that tick; the watches; and what a report says of
+//! a run, its summary. Rows and summaries are also given as the lines that are printed.
+#![tactic(auto)]
+
+mod row;
+mod summary;
+mod watch;
+
+pub use eg_answer::{AnswerMark, Verdict};
+pub use eg_num::{Drive, Watches};
+pub use row::Row;
+pub use summary::Summary;
+pub use watch::Watch;
