@@ -1,5 +1,5 @@
-//! The record of a run: rows, one a tick, with what holds at that tick; the watches; and what a report says of
-//! a run, its summary. Rows and summaries are also given as the lines that are printed.
+//! The record of a run: rows, one a tick, with what holds at that tick; the watches; and the summary of a run,
+//! which is what a report says of it. Rows and summaries are also given as the lines that are printed.
 #![tactic(auto)]
 
 mod row;

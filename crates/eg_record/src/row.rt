@@ -23,8 +23,8 @@ pub struct Row {
     pub path2: bool,
     /// Whether the power stages are on.
     pub on: bool,
-    /// The signals of level 2 after the tick: the pedal that it uses (per mille), the permitted and the actual
-    /// torque (tenths of Nm), the excess (0 or 1), and the bits of the pairs that disagree.
+    /// The signals of level 2 after the tick: the pedal that it uses (per mille), the permitted and the
+    /// actual torque (tenths of Nm), the excess (0 or 1), and the bits of the pairs that disagree.
     pub signals: [u16; 5],
     /// Level 1's command of the throttle after the tick, in per mille.
     pub throttle: u16,
