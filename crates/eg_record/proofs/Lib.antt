@@ -1,0 +1,4 @@
+pub mod RowsLemmas
+pub mod FirstLemmas
+pub mod ColumnsLemmas
+pub mod NamesLemmas

@@ -59,17 +59,34 @@ verdict_text None = codes "-"
 verdict_text (Some Right) = codes "right"
 verdict_text (Some Wrong) = codes "wrong"
 
--- the columns of a row
+-- the columns of a row, in groups: its tick with the drive row; the engine; the paths and the stages; the
+-- signals of level 2; the commands of level 1; what is found, the answer and the verdict
+unfoldable pub drive_columns : Row → List (List ℕ)
+drive_columns row =
+    decimal row.tick ∷ decimal row.drive.pedal ∷ decimal row.drive.speed ∷ decimal row.drive.raise ∷ []
+
+unfoldable pub engine_columns : Row → List (List ℕ)
+engine_columns row = decimal row.plate ∷ decimal row.charge ∷ decimal row.torque ∷ decimal row.limit ∷ []
+
+unfoldable pub path_columns : Row → List (List ℕ)
+path_columns row = bit row.path1 ∷ bit row.path2 ∷ bit row.on ∷ []
+
+unfoldable pub signal_columns : Row → List (List ℕ)
+signal_columns row =
+    decimal (slice_index row.signals 0) ∷ decimal (slice_index row.signals 1)
+    ∷ decimal (slice_index row.signals 2) ∷ decimal (slice_index row.signals 3)
+    ∷ decimal (slice_index row.signals 4) ∷ []
+
+unfoldable pub command_columns : Row → List (List ℕ)
+command_columns row = decimal row.throttle ∷ decimal row.ignition ∷ []
+
+unfoldable pub event_columns : Row → List (List ℕ)
+event_columns row = found_text row.found ∷ answer_text row.answer ∷ verdict_text row.verdict ∷ []
+
 unfoldable pub columns : Row → List (List ℕ)
 columns row =
-    decimal row.tick
-    ∷ decimal row.drive.pedal ∷ decimal row.drive.speed ∷ decimal row.drive.raise
-    ∷ decimal row.plate ∷ decimal row.charge ∷ decimal row.torque ∷ decimal row.limit
-    ∷ bit row.path1 ∷ bit row.path2 ∷ bit row.on
-    ∷ decimal (slice_index row.signals 0) ∷ decimal (slice_index row.signals 1) ∷ decimal (slice_index row.signals 2)
-    ∷ decimal (slice_index row.signals 3) ∷ decimal (slice_index row.signals 4)
-    ∷ decimal row.throttle ∷ decimal row.ignition
-    ∷ found_text row.found ∷ answer_text row.answer ∷ verdict_text row.verdict ∷ []
+    drive_columns row ++ engine_columns row ++ path_columns row ++ signal_columns row ++ command_columns row
+    ++ event_columns row
 
 -- the line of a row: its columns, joined by commas
 unfoldable pub row_line : Row → List ℕ

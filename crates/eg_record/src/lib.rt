@@ -2,12 +2,17 @@
 //! which is what a report says of it. Rows and summaries are also given as the lines that are printed.
 #![tactic(auto)]
 
+mod detection;
 mod row;
+mod row_line;
 mod summary;
+mod summary_line;
 mod watch;
 
 pub use eg_answer::{AnswerMark, Verdict};
 pub use eg_num::{Drive, Watches};
 pub use row::Row;
-pub use summary::Summary;
+pub use row_line::{record_header, row_text};
+pub use summary::{Summary, summarize};
+pub use summary_line::summary_text;
 pub use watch::Watch;

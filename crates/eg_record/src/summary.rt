@@ -1,7 +1,14 @@
-// What a report says of a run.
-use crate::Watch;
-use eg_base::Text;
+// The summary of a run.
+ghost use Rattle.std.specs.Prelude.{◌≡◌, ◌≤◌, length, reverse, IfOk};
+ghost use Rattle.eg_record.specs.Rows.{AreRows};
+ghost use Rattle.eg_record.specs.Summaries.{summary_of};
+
+use crate::detection::{first_confirmed, first_detection, first_off};
+use crate::{Row, Watch};
+use eg_base::{NoMemory, Text};
+use eg_num::Weights;
 use eg_word::Trap;
+use std::alloc::Global;
 
 /// What a report says of a run (docs/CONCEPT.md, "The report of a run").
 #[derive(Debug, Drop)]
@@ -18,4 +25,33 @@ pub struct Summary {
     pub confirmed: Option<u32>,
     /// The reaction time, in ticks.
     pub bound: u32,
+}
+
+/// The summary of a run of these rows, which stand in the order of time (docs/CONCEPT.md, "The report of a
+/// run"). The true excess goes by the threshold (tenths of Nm) and by these weights; name, trap and reaction
+/// time (ticks) are told as they are handed in.
+#[tactic(auto, unfolding(crate::specs::Summaries::summary_of))]
+pub fn summarize(
+    alloc: Global,
+    name: &str,
+    rows: &[Row],
+    trap: Option<(Trap, u32)>,
+    threshold: u16,
+    weights: &Weights,
+    bound: u32,
+) -> Result<Summary, NoMemory>
+    requires few { length rows.now ≤ 20000 }
+    requires ticks { AreRows (reverse rows.now) }
+    ensures { IfOk result (λ summary.
+        summary ≡ summary_of name.now (reverse rows.now) trap threshold weights.now bound) }
+{
+    let name = String::from_str(alloc, name)?;
+    Ok(Summary {
+        name: Text::new(name),
+        first: first_detection(rows),
+        off: first_off(rows),
+        trap,
+        confirmed: first_confirmed(rows, threshold, weights),
+        bound,
+    })
 }

@@ -1,0 +1,59 @@
+// What is first in the rows of a run.
+ghost use Rattle.std.specs.Prelude.{◌≡◌, reverse};
+ghost use Rattle.eg_record.specs.Rows.{AreRows};
+ghost use Rattle.eg_record.specs.Detection.{first_detection};
+ghost use Rattle.eg_record.specs.Stages.{first_off};
+ghost use Rattle.eg_record.specs.Excess.{true_excess, first_confirmed};
+
+use crate::{Row, Watch};
+use eg_num::{Counter, Weights};
+use eg_torque::excess;
+
+/// The first detection in these rows, which stand in the order of time.
+pub(crate) fn first_detection(rows: &[Row]) -> Option<(Watch, u32)>
+    ensures { result ≡ first_detection (reverse rows.now) }
+{
+    for row in rows {
+        if let Some(watch) = Watch::first_among(&row.found) {
+            return Some((watch, row.tick));
+        }
+    }
+    None
+}
+
+/// The first tick of these rows at which the stages are off.
+pub(crate) fn first_off(rows: &[Row]) -> Option<u32>
+    ensures { result ≡ first_off (reverse rows.now) }
+{
+    for row in rows {
+        if !row.on {
+            return Some(row.tick);
+        }
+    }
+    None
+}
+
+/// The first tick of these rows by which the true excess is confirmed.
+pub(crate) fn first_confirmed(rows: &[Row], threshold: u16, weights: &Weights) -> Option<u32>
+    requires { AreRows (reverse rows.now) }
+    ensures { result ≡ first_confirmed weights.now threshold (reverse rows.now) }
+{
+    // A limit is at least 1: without a row nothing is confirmed.
+    let limit = weights.limit();
+    prove!(limit >= 1);
+    let mut counter = Counter::new();
+    for row in rows {
+        if counter.feed(weights, is_excess(row, threshold)) {
+            return Some(row.tick);
+        }
+    }
+    None
+}
+
+/// Whether the torque of a row exceeds what is permitted.
+#[tactic(auto, unfolding(crate::specs::Excess::true_excess))]
+fn is_excess(row: &Row, threshold: u16) -> bool
+    ensures { result ≡ true_excess threshold row.now }
+{
+    excess(row.torque, row.limit, threshold)
+}
