@@ -2,3 +2,7 @@ pub mod RowsLemmas
 pub mod FirstLemmas
 pub mod ColumnsLemmas
 pub mod NamesLemmas
+pub mod WatchLemmas
+pub mod GivenLemmas
+pub mod LawLemmas
+mod Worked

@@ -33,13 +33,15 @@ is_nil-push [] w = refl
 is_nil-push (v ∷ ws) w = refl
 
 -- one watch more
-found_before-found : (found : Watches) (i : ℕ) (d : Watch) → i < length watches → is_found found (get_or watches i d) ≡ true → found_before found (i + 1) ≡ found_before found i ++ get_or watches i d ∷ []
+found_before-found : (found : Watches) (i : ℕ) (d : Watch) → i < length watches → is_found found (get_or watches i d) ≡ true →
+    found_before found (i + 1) ≡ found_before found i ++ get_or watches i d ∷ []
 unfolding found_before
 found_before-found found i d below among =
     filter_more (is_found found) watches i d below
     ∙ ap (λ (b : Bool). filter (is_found found) (take i watches) ++ cond b (get_or watches i d ∷ []) []) among
 
-pub found_before-other : (found : Watches) (i : ℕ) (d : Watch) → i < length watches → is_found found (get_or watches i d) ≡ false → found_before found (i + 1) ≡ found_before found i
+pub found_before-other : (found : Watches) (i : ℕ) (d : Watch) → i < length watches → is_found found (get_or watches i d) ≡ false →
+    found_before found (i + 1) ≡ found_before found i
 unfolding found_before
 found_before-other found i d below other =
     filter_more (is_found found) watches i d below
@@ -80,14 +82,16 @@ unfolding found_before
 all_watches found i all = ap (filter (is_found found)) (take_all i watches all)
 
 -- nothing is found
-pub text-nil : (found : Watches) (i : ℕ) (old line : List ℕ) → length watches ≤ i → line ≡ old ++ joined (found_before found i) → true ≡ is_nil (found_before found i) → line ++ names [] ≡ old ++ found_text found
+pub text-nil : (found : Watches) (i : ℕ) (old line : List ℕ) → length watches ≤ i → line ≡ old ++ joined (found_before found i) →
+    true ≡ is_nil (found_before found i) → line ++ names [] ≡ old ++ found_text found
 unfolding found_text
 text-nil found i old line all before nil =
     ap (λ (l : List ℕ). l ++ names []) before ∙ append_assoc old (joined (found_before found i)) (names [])
     ∙ ap (λ (l : List ℕ). old ++ l) (names-nil (found_before found i) (sym nil)) ∙ ap (λ ws. old ++ names ws) (all_watches found i all)
 
 -- something is found
-pub text-names : (found : Watches) (i : ℕ) (old line : List ℕ) → length watches ≤ i → line ≡ old ++ joined (found_before found i) → false ≡ is_nil (found_before found i) → line ≡ old ++ found_text found
+pub text-names : (found : Watches) (i : ℕ) (old line : List ℕ) → length watches ≤ i → line ≡ old ++ joined (found_before found i) →
+    false ≡ is_nil (found_before found i) → line ≡ old ++ found_text found
 unfolding found_text
 text-names found i old line all before some =
     before ∙ ap (λ (l : List ℕ). old ++ l) (names-cons (found_before found i) (sym some)) ∙ ap (λ ws. old ++ names ws) (all_watches found i all)

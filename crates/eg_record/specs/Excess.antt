@@ -1,5 +1,5 @@
--- The excess of the torque of a row over what its drive permits: the true one by the torque of the engine, and
--- the full-efficiency one by the torque that its charge would give at full ignition efficiency. Both are
+-- The excess of the torque of a row over what its drive permits: the true one by the torque of the engine,
+-- and the full-efficiency one by the torque that its charge would give at full ignition efficiency. Both are
 -- debounced by the weights of the torque.
 use Rattle.std.specs.Prelude.{ℕ, Bool, List, map, Option}
 use Rattle.eg_num.specs.Arithmetic.{estimate}

@@ -10,8 +10,8 @@ use Rattle.eg_record.specs.Stages.{first_off}
 
 -- Of the rows it tells the first detection, the first tick at which the stages are off, and the first tick by
 -- which the true excess is confirmed. Name, trap and reaction time are handed in.
-unfoldable pub summary_of : (name : List ℕ) → List Row → (trap : Option (Trap × ℕ)) → (threshold : ℕ) → WeightParts →
-    (bound : ℕ) → Summary
+unfoldable pub summary_of : (name : List ℕ) → List Row → (trap : Option (Trap × ℕ)) → (threshold : ℕ) →
+    WeightParts → (bound : ℕ) → Summary
 summary_of name rows trap threshold weights bound = record {
   name = name;
   first = first_detection rows;

@@ -132,5 +132,6 @@ summary_line s =
 -- the last line: of how many runs, in how many a watch was found, and in how many the stages went off
 unfoldable pub report_end : List Summary → List ℕ
 report_end runs =
-    codes "runs " ++ decimal (length runs) ++ codes "; detected " ++ decimal (count_by (λ s. is_some s.first) runs)
+    codes "runs " ++ decimal (length runs)
+    ++ codes "; detected " ++ decimal (count_by (λ s. is_some s.first) runs)
     ++ codes "; off " ++ decimal (count_by (λ s. is_some s.off) runs) ++ codes "\n"

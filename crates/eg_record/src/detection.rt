@@ -1,8 +1,8 @@
 // What is first in the rows of a run.
 ghost use Rattle.std.specs.Prelude.{◌≡◌, reverse};
 ghost use Rattle.eg_record.specs.Rows.{AreRows};
-ghost use Rattle.eg_record.specs.Detection.{first_detection};
-ghost use Rattle.eg_record.specs.Stages.{first_off};
+ghost use Rattle.eg_record.specs.Detection.{first_detection, DetectionLaw};
+ghost use Rattle.eg_record.specs.Stages.{first_off, OffLaw};
 ghost use Rattle.eg_record.specs.Excess.{true_excess, first_confirmed};
 
 use crate::{Row, Watch};
@@ -49,6 +49,19 @@ pub(crate) fn first_confirmed(rows: &[Row], threshold: u16, weights: &Weights) -
     }
     None
 }
+
+/// Does nothing when it runs. Its contract is a law: what is told as the first detection of a run is found at
+/// its tick, nothing is found at an earlier tick, and nothing before it in the order of watches at that tick
+/// (docs/CONCEPT.md, "The report of a run").
+pub fn detections_are_first()
+    ensures { DetectionLaw }
+{}
+
+/// Does nothing when it runs. Its contract is a law: at the tick that is told as the first at which the
+/// stages are off they are off, and at each earlier one on (docs/CONCEPT.md, "The report of a run").
+pub fn off_ticks_are_first()
+    ensures { OffLaw }
+{}
 
 /// Whether the torque of a row exceeds what is permitted.
 #[tactic(auto, unfolding(crate::specs::Excess::true_excess))]

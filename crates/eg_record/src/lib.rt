@@ -1,5 +1,5 @@
-//! The record of a run: rows, one a tick, with what holds at that tick; the watches; and the summary of a run,
-//! which is what a report says of it. Rows and summaries are also given as the lines that are printed.
+//! The record of a run: rows, one a tick, with what holds at that tick; the watches; and the summary of a
+//! run, which is what a report says of it. Rows and summaries are also given as the lines that are printed.
 #![tactic(auto)]
 
 mod detection;
@@ -9,10 +9,14 @@ mod summary;
 mod summary_line;
 mod watch;
 
+pub use detection::{detections_are_first, off_ticks_are_first};
 pub use eg_answer::{AnswerMark, Verdict};
 pub use eg_num::{Drive, Watches};
 pub use row::Row;
 pub use row_line::{record_header, row_text};
 pub use summary::{Summary, summarize};
-pub use summary_line::summary_text;
+pub use summary_line::{report_end_text, summary_text};
 pub use watch::Watch;
+
+#[cfg(test)]
+mod tests;

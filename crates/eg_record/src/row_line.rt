@@ -39,14 +39,8 @@ fn push_drive(line: &mut String, row: &Row) -> Result<(), AllocError>
         string_bytes line.old ++ join_with_byte comma (drive_columns row.now) ++ codes ",") }
 {
     let drive = &row.drive;
-    write!(
-        line,
-        "{},{},{},{},",
-        row.tick,
-        drive.pedal(),
-        drive.speed(),
-        drive.raise()
-    )?;
+    let (pedal, speed, raise) = (drive.pedal(), drive.speed(), drive.raise());
+    write!(line, "{},{pedal},{speed},{raise},", row.tick)?;
     Ok(())
 }
 

@@ -1,5 +1,5 @@
 // The summary of a run.
-ghost use Rattle.std.specs.Prelude.{◌≡◌, ◌≤◌, length, reverse, IfOk};
+ghost use Rattle.std.specs.Prelude.{◌≡◌, reverse, IfOk};
 ghost use Rattle.eg_record.specs.Rows.{AreRows};
 ghost use Rattle.eg_record.specs.Summaries.{summary_of};
 
@@ -40,8 +40,7 @@ pub fn summarize(
     weights: &Weights,
     bound: u32,
 ) -> Result<Summary, NoMemory>
-    requires few { length rows.now ≤ 20000 }
-    requires ticks { AreRows (reverse rows.now) }
+    requires { AreRows (reverse rows.now) }
     ensures { IfOk result (λ summary.
         summary ≡ summary_of name.now (reverse rows.now) trap threshold weights.now bound) }
 {

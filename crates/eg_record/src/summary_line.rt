@@ -1,6 +1,6 @@
 // The line of a summary, and the last line of a report.
-ghost use Rattle.std.specs.Prelude.{◌≡◌, ◌++◌, codes, string_bytes, IfOk, OnOk};
-ghost use Rattle.eg_record.specs.Texts.{at_text, first_text, trap_name, trap_text, summary_line};
+ghost use Rattle.std.specs.Prelude.{◌≡◌, ◌++◌, codes, string_bytes, is_some, count_by, IfOk, OnOk};
+ghost use Rattle.eg_record.specs.Texts.{at_text, first_text, trap_name, trap_text, summary_line, report_end};
 
 use crate::{Summary, Watch};
 use eg_base::NoMemory;
@@ -24,6 +24,30 @@ pub fn summary_text(alloc: Global, summary: &Summary) -> Result<String, NoMemory
     push_tick(&mut line, summary.confirmed, "none")?;
     write!(line, "; bound {}\n", summary.bound)?;
     Ok(line)
+}
+
+/// The last line of a report on these runs, with its LF (docs/FORMATS.md, "The report").
+#[tactic(auto, unfolding(crate::specs::Texts::report_end))]
+pub fn report_end_text(alloc: Global, runs: &[Summary]) -> Result<String, NoMemory>
+    ensures { IfOk result (λ line. string_bytes line ≡ report_end runs.now) }
+{
+    let (count, detected, off) = (runs.len(), count_detected(runs), count_off(runs));
+    let line = format!(in alloc; "runs {count}; detected {detected}; off {off}\n")?;
+    Ok(line)
+}
+
+/// How many runs have a first detection.
+fn count_detected(runs: &[Summary]) -> usize
+    ensures { result ≡ count_by (λ run. is_some run.first) runs.now }
+{
+    runs.iter().filter(|run| run.first.is_some()).count()
+}
+
+/// How many runs have a tick at which the stages are off.
+fn count_off(runs: &[Summary]) -> usize
+    ensures { result ≡ count_by (λ run. is_some run.off) runs.now }
+{
+    runs.iter().filter(|run| run.off.is_some()).count()
 }
 
 /// Appends the first detection.

@@ -1,0 +1,121 @@
+-- The first detection and the first tick at which the stages are off, in words and as they are computed.
+use Rattle.std.proofs.Common.{◌≡◌, ◌∙◌, ◌<◌, List, ℕ, Bool, true, false, None, Some, refl, sym, ap, subst}
+use Rattle.std.specs.Prelude.{Option, IsTrue, option_map, if◌then◌else◌}
+use Rattle.std.proofs.lemmas.List.Elements.{All-weaker}
+use Rattle.std.proofs.lemmas.Bool.{false_from_ne_true, both_ways}
+use Rattle.std.proofs.lemmas.Option.{none-some, same_Some, some_pair_parts}
+use Rattle.eg_record.specs.declared.row.Row.{Row}
+use Rattle.eg_record.specs.declared.watch.Watch.{Watch}
+use Rattle.eg_record.specs.Detection.{is_found, first_watch, detected_at, first_detection, FindsNothing, IsDetectedFirst, DetectionLaw}
+use Rattle.eg_record.specs.Stages.{off_at, first_off, IsOffFirst, OffLaw}
+use Rattle.eg_record.proofs.FirstLemmas.{off_at-on, off_at-off, detected_at-none, detected_at-found}
+use Rattle.eg_record.proofs.WatchLemmas.{first_watch-some, first_watch-none, first_watch-nothing, first_watch-is}
+use Rattle.eg_record.proofs.GivenLemmas.{IsGivenFirst, first_given-none, none_given, first_given-some, given_first}
+
+-- ---- the first detection ----
+
+-- nothing is detected at a row that finds nothing, and the other way
+nothing_detected : (row : Row) → FindsNothing row → detected_at row ≡ None
+nothing_detected row nothing = detected_at-none row (first_watch-nothing row.found (λ w. false_from_ne_true (is_found row.found w) (nothing w)))
+
+finds_nothing : (row : Row) → detected_at row ≡ None → FindsNothing row
+unfolding detected_at
+finds_nothing row none w found = both_ways (is_found row.found w) (first_watch-none row.found (no_watch (first_watch row.found) none) w) found
+  where
+    no_watch : (first : Option Watch) → option_map {U = Watch × ℕ} (λ watch. (watch, row.tick)) first ≡ None → first ≡ None
+    no_watch None e = refl
+    no_watch (Some v) e = absurd (none-some (v, row.tick) (sym e))
+
+-- what is detected is the first watch, and the tick of the row
+detected_parts : (row : Row) (w : Watch) (tick : ℕ) → detected_at row ≡ Some (w, tick) → (first_watch row.found ≡ Some w) × (row.tick ≡ tick)
+unfolding detected_at
+detected_parts row w tick detected = parts (first_watch row.found) detected
+  where
+    parts : (first : Option Watch) → option_map {U = Watch × ℕ} (λ watch. (watch, row.tick)) first ≡ Some (w, tick) → (first ≡ Some w) × (row.tick ≡ tick)
+    parts None e = absurd (none-some (w, tick) e)
+    parts (Some v) e = let pair = some_pair_parts v w row.tick tick e in (ap Some pair.0, pair.1)
+
+-- what the words say is what the first row gives
+given_detection : (rows : List Row) (w : Watch) (tick : ℕ) → IsDetectedFirst rows w tick → IsGivenFirst detected_at rows (w, tick)
+given_detection rows w tick first = record {
+  row = first.row;
+  stands = first.stands;
+  here = detected_at-found first.row w (first_watch-is first.row.found w first.found (λ v before. false_from_ne_true (is_found first.row.found v) (first.none_before v before))) ∙ ap (λ (t : ℕ). Some (w, t)) first.at_tick;
+  none_earlier = All-weaker (λ other. other.tick < tick → FindsNothing other) (λ other. other.tick < first.row.tick → detected_at other ≡ None)
+      (λ other nothing earlier. nothing_detected other (nothing (subst (λ (t : ℕ). other.tick < t) first.at_tick earlier))) rows first.none_earlier;
+}
+
+detection_given : (rows : List Row) (w : Watch) (tick : ℕ) → IsGivenFirst detected_at rows (w, tick) → IsDetectedFirst rows w tick
+detection_given rows w tick given =
+    let parts = detected_parts given.row w tick given.here in
+    let some = first_watch-some given.row.found w parts.0 in
+    record {
+      row = given.row;
+      stands = given.stands;
+      at_tick = parts.1;
+      found = some.0;
+      none_earlier = All-weaker (λ other. other.tick < given.row.tick → detected_at other ≡ None) (λ other. other.tick < tick → FindsNothing other)
+          (λ other none earlier. finds_nothing other (none (subst (λ (t : ℕ). other.tick < t) (sym parts.1) earlier))) rows given.none_earlier;
+      none_before = λ v before found. both_ways (is_found given.row.found v) (some.1 v before) found;
+    }
+
+pub detection_law : DetectionLaw
+unfolding first_detection
+detection_law rows whole None = (
+  λ none. sym (first_given-none detected_at rows (All-weaker FindsNothing (λ row. detected_at row ≡ None) nothing_detected rows none)),
+  λ none. All-weaker (λ row. detected_at row ≡ None) FindsNothing finds_nothing rows (none_given detected_at rows (sym none)),
+)
+detection_law rows whole (Some d) = (
+  λ first. sym (first_given-some detected_at rows d whole (given_detection rows d.0 d.1 first)),
+  λ first. detection_given rows d.0 d.1 (given_first detected_at rows d whole (sym first)),
+)
+
+-- ---- the first tick at which the stages are off ----
+
+stays_on : (row : Row) → off_at row ≡ None → row.on ≡ true
+unfolding off_at
+stays_on row none = on row.on none
+  where
+    on : (b : Bool) → (if b then None else Some row.tick) ≡ None → b ≡ true
+    on true e = refl
+    on false e = absurd (none-some row.tick (sym e))
+
+goes_off : (row : Row) (tick : ℕ) → off_at row ≡ Some tick → (row.on ≡ false) × (row.tick ≡ tick)
+unfolding off_at
+goes_off row tick some = off row.on some
+  where
+    off : (b : Bool) → (if b then None else Some row.tick) ≡ Some tick → (b ≡ false) × (row.tick ≡ tick)
+    off true e = absurd (none-some tick e)
+    off false e = (refl, same_Some row.tick tick e)
+
+given_off : (rows : List Row) (tick : ℕ) → IsOffFirst rows tick → IsGivenFirst off_at rows tick
+given_off rows tick first = record {
+  row = first.row;
+  stands = first.stands;
+  here = off_at-off first.row first.off ∙ ap Some first.at_tick;
+  none_earlier = All-weaker (λ other. other.tick < tick → IsTrue other.on) (λ other. other.tick < first.row.tick → off_at other ≡ None)
+      (λ other on earlier. off_at-on other (on (subst (λ (t : ℕ). other.tick < t) first.at_tick earlier))) rows first.on_earlier;
+}
+
+off_given : (rows : List Row) (tick : ℕ) → IsGivenFirst off_at rows tick → IsOffFirst rows tick
+off_given rows tick given =
+    let parts = goes_off given.row tick given.here in
+    record {
+      row = given.row;
+      stands = given.stands;
+      at_tick = parts.1;
+      off = parts.0;
+      on_earlier = All-weaker (λ other. other.tick < given.row.tick → off_at other ≡ None) (λ other. other.tick < tick → IsTrue other.on)
+          (λ other none earlier. stays_on other (none (subst (λ (t : ℕ). other.tick < t) (sym parts.1) earlier))) rows given.none_earlier;
+    }
+
+pub off_law : OffLaw
+unfolding first_off
+off_law rows whole None = (
+  λ on. sym (first_given-none off_at rows (All-weaker (λ row. IsTrue row.on) (λ row. off_at row ≡ None) off_at-on rows on)),
+  λ none. All-weaker (λ row. off_at row ≡ None) (λ row. IsTrue row.on) stays_on rows (none_given off_at rows (sym none)),
+)
+off_law rows whole (Some tick) = (
+  λ first. sym (first_given-some off_at rows tick whole (given_off rows tick first)),
+  λ first. off_given rows tick (given_first off_at rows tick whole (sym first)),
+)

@@ -1,0 +1,165 @@
+-- Lines of rows and of summaries, a whole summary, and the two excesses, computed from the definitions.
+use Rattle.std.proofs.Common.{◌≡◌, ◌∷◌, [], ◌*◌, ℕ, List, true, false, None, Some, refl, codes}
+use Rattle.std.specs.Prelude.{Option, ◌+◌, ◌==◌, length, count_by}
+use Rattle.std.specs.Fmt.{digits}
+use Rattle.eg_num.specs.declared.watches.Watches.{Watches}
+use Rattle.eg_num.specs.Windows.{WeightParts, weight, windows, is_reached, is_confirmed, is_first, first_place}
+use Rattle.eg_torque.specs.Excess.{is_excess}
+use Rattle.eg_answer.specs.declared.marks.AnswerMark.TheVariants.{Absent, Good, Bad}
+use Rattle.eg_answer.specs.declared.marks.Verdict.TheVariants.{Right, Wrong}
+use Rattle.eg_word.specs.declared.registers.Trap.{Trap}
+use Rattle.eg_word.specs.declared.registers.Trap.TheVariants as kind
+use Rattle.eg_record.specs.declared.row.Row.{Row}
+use Rattle.eg_record.specs.declared.summary.Summary.{Summary}
+use Rattle.eg_record.specs.declared.watch.Watch.{Watch}
+use Rattle.eg_record.specs.declared.watch.Watch.TheVariants.{Mirror, Pedal, Torque}
+use Rattle.eg_record.specs.Rows.{first_given}
+use Rattle.eg_record.specs.Excess.{true_excess, full_excess, first_confirmed}
+use Rattle.eg_record.specs.Detection.{is_found, first_watch, detected_at, first_detection}
+use Rattle.eg_record.specs.Stages.{off_at, first_off}
+use Rattle.eg_record.specs.Summaries.{summary_of}
+use Rattle.eg_record.specs.Texts.{comma, bit, watch_name, names, found_text, answer_text, verdict_text, drive_columns, engine_columns, path_columns, signal_columns, command_columns, event_columns, columns, row_line, record_header, at_text, first_text, trap_name, trap_text, summary_line, report_end}
+
+-- every definition that these need
+unfoldable recording : ℕ
+unfolding weight windows is_reached is_confirmed is_first first_place is_excess first_given true_excess full_excess first_confirmed
+    is_found first_watch detected_at first_detection off_at first_off summary_of bit watch_name names found_text answer_text
+    verdict_text drive_columns engine_columns path_columns signal_columns command_columns event_columns columns row_line
+    record_header at_text first_text trap_name trap_text summary_line report_end digits
+recording = 0
+
+abbrev nothing : Watches
+nothing = record { mirror = false; pedal = false; plate = false; load = false; speed = false; torque = false; answers = false }
+
+-- ---- lines of rows ----
+
+-- a row at speed 800 and pedal 0, paths closed, nothing found
+abbrev plain : (tick raise plate charge limit actual throttle : ℕ) → Row
+plain tick raise plate charge limit actual throttle = record {
+  tick = tick;
+  drive = record { pedal = 0; speed = 800; raise = raise };
+  plate = plate;
+  charge = charge;
+  torque = 0;
+  limit = limit;
+  path1 = true;
+  path2 = true;
+  on = true;
+  signals = 0 ∷ 200 ∷ actual ∷ 0 ∷ 0 ∷ [];
+  throttle = throttle;
+  ignition = 0;
+  found = nothing;
+  answer = Absent;
+  verdict = None;
+}
+
+probe_0 : row_line (plain 0 0 0 40 200 100 100) ≡ codes "0,0,800,0,0,40,0,200,1,1,1,0,200,100,0,0,100,0,-,-,-\n"
+unfolding recording
+probe_0 = refl
+
+probe_1 : row_line (plain 1 0 50 40 200 100 0) ≡ codes "1,0,800,0,50,40,0,200,1,1,1,0,200,100,0,0,0,0,-,-,-\n"
+unfolding recording
+probe_1 = refl
+
+probe_2 : row_line (plain 2 0 0 80 200 200 100) ≡ codes "2,0,800,0,0,80,0,200,1,1,1,0,200,200,0,0,100,0,-,-,-\n"
+unfolding recording
+probe_2 = refl
+
+probe_3 : row_line (plain 3 0 50 40 200 100 65436) ≡ codes "3,0,800,0,50,40,0,200,1,1,1,0,200,100,0,0,65436,0,-,-,-\n"
+unfolding recording
+probe_3 = refl
+
+-- a raise that is disturbed on the bus: the limit has it, level 2 doesn't
+raised : row_line (plain 0 600 0 40 600 100 0) ≡ codes "0,0,800,600,0,40,0,600,1,1,1,0,200,100,0,0,0,0,-,-,-\n"
+unfolding recording
+raised = refl
+
+-- two watches at one tick, a path that is open, an answer that is bad and a verdict that is wrong
+abbrev busy : Row
+busy = record (plain 19 0 0 40 200 100 0) {
+  path2 = false;
+  on = false;
+  found = record nothing { pedal = true; answers = true };
+  answer = Bad;
+  verdict = Some Wrong;
+}
+
+busy_line : row_line busy ≡ codes "19,0,800,0,0,40,0,200,1,0,0,0,200,100,0,0,0,0,pedal+answers,bad,wrong\n"
+unfolding recording
+busy_line = refl
+
+good_line : row_line (record (plain 15 0 0 40 200 100 0) { answer = Good; verdict = Some Right }) ≡ codes "15,0,800,0,0,40,0,200,1,1,1,0,200,100,0,0,0,0,-,good,right\n"
+unfolding recording
+good_line = refl
+
+-- of the two watches the pedal's is told
+busy_first : first_detection (busy ∷ []) ≡ Some (Pedal, 19)
+unfolding recording
+busy_first = refl
+
+-- the header has a name for each column
+header_columns : count_by (λ b. b == comma) record_header + 1 ≡ length (columns busy)
+unfolding recording
+header_columns = refl
+
+-- ---- a whole summary ----
+
+abbrev torque_weights : WeightParts
+torque_weights = record { up = 1; down = 1; limit = 5 }
+
+-- a tick of a run whose charge rises by 40 a tick, where 200 is permitted
+abbrev rising : (tick : ℕ) → Row
+rising tick = record (plain tick 0 0 (40 * tick) 200 (100 * tick) 1000) { torque = 100 * tick; ignition = 1000 }
+
+-- the same once the stages are off
+abbrev fallen : (tick : ℕ) → Row
+fallen tick = record (plain tick 0 0 0 200 0 1000) { path1 = false; on = false; ignition = 1000 }
+
+-- the torque watch is found at tick 9, and the stages are off from tick 10 on
+abbrev run : List Row
+run =
+    fallen 11 ∷ fallen 10 ∷ record (rising 9) { found = record nothing { torque = true } } ∷ rising 8 ∷ rising 7 ∷ rising 6
+    ∷ rising 5 ∷ rising 4 ∷ rising 3 ∷ rising 2 ∷ rising 1 ∷ rising 0 ∷ []
+
+abbrev told : Option (Watch × ℕ) → Option ℕ → Option (Trap × ℕ) → Option ℕ → Summary
+told first off trap confirmed = record { name = codes "a"; first = first; off = off; trap = trap; confirmed = confirmed; bound = 34 }
+
+run_summary : summary_of (codes "a") run None 200 torque_weights 34 ≡ told (Some (Torque, 9)) (Some 10) None (Some 9)
+unfolding recording
+run_summary = refl
+
+-- a tie is no excess, of either kind
+tie : true_excess 200 (rising 4) ≡ false
+unfolding recording
+tie = refl
+
+full_tie : full_excess 2500 200 (rising 4) ≡ false
+unfolding recording
+full_tie = refl
+
+-- without ignition there is no torque, and the charge alone is more than is permitted
+full_alone : (true_excess 200 (record (rising 5) { torque = 0 }) ≡ false) × (full_excess 2500 200 (record (rising 5) { torque = 0 }) ≡ true)
+unfolding recording
+full_alone = (refl, refl)
+
+-- ---- lines of summaries ----
+
+run_line : summary_line (told (Some (Torque, 9)) (Some 10) None (Some 9)) ≡ codes "a: first torque at 9; off at 10; trap none; excess at 9; bound 34\n"
+unfolding recording
+run_line = refl
+
+late_line : summary_line (told (Some (Torque, 9)) (Some 40) None (Some 9)) ≡ codes "a: first torque at 9; off at 40; trap none; excess at 9; bound 34\n"
+unfolding recording
+late_line = refl
+
+mirror_line : summary_line (told (Some (Mirror, 7)) (Some 8) None None) ≡ codes "a: first mirror at 7; off at 8; trap none; excess none; bound 34\n"
+unfolding recording
+mirror_line = refl
+
+trap_line : summary_line (told None None (Some (kind.Store, 0)) None) ≡ codes "a: first none; off never; trap store at 0; excess none; bound 34\n"
+unfolding recording
+trap_line = refl
+
+end_line : report_end (told (Some (Torque, 9)) (Some 10) None (Some 9) ∷ told None None (Some (kind.Fetch, 1)) None ∷ []) ≡ codes "runs 2; detected 1; off 1\n"
+unfolding recording
+end_line = refl
