@@ -1,0 +1,131 @@
+-- What module 6 makes of the words by their names.
+use Rattle.std.proofs.Common.{◌≡◌, ◌∙◌, refl, sym, ap, ℕ, ◌≤◌, Bool, true, false}
+use Rattle.std.specs.Prelude.{if◌then◌else◌}
+use Rattle.eg_num.specs.Windows.{WeightParts}
+use Rattle.eg_num.specs.declared.watches.Watches.{Watches}
+use Rattle.eg_answer.specs.Token.{next_token_of}
+use Rattle.eg_answer.specs.declared.rules.Rules.{Rules}
+use Rattle.eg_level2.specs.declared.debounce.Fed.{Fed}
+use Rattle.eg_level2.specs.declared.debounce.Feeds.{Feeds}
+use Rattle.eg_level2.specs.Words.{Words, named, is_set, AreWithin}
+use Rattle.eg_level2.specs.Modules.{has_bit, counted, is_found, debounced, limits, trips, debounce_step, pedal_bit, plate_bit, load_bit, speed_bit, torque_bit, no_watches, finding}
+use Rattle.eg_level2.specs.Stores.{put, keep, keep_where, fed_of, feeds_of, counters_kept, trips_of, found_of}
+
+-- ---- what is fed ----
+
+pub within_pedal : (rules : Rules) (f : ℕ → ℕ) (n : ℕ) → n ≡ f 5 → AreWithin rules (named f) → n ≤ rules.pair.limit
+unfolding named
+within_pedal rules f n e within = rw e within.pedal
+
+pub within_plate : (rules : Rules) (f : ℕ → ℕ) (n : ℕ) → n ≡ f 6 → AreWithin rules (named f) → n ≤ rules.pair.limit
+unfolding named
+within_plate rules f n e within = rw e within.plate
+
+pub within_load : (rules : Rules) (f : ℕ → ℕ) (n : ℕ) → n ≡ f 7 → AreWithin rules (named f) → n ≤ rules.pair.limit
+unfolding named
+within_load rules f n e within = rw e within.load
+
+pub within_speed : (rules : Rules) (f : ℕ → ℕ) (n : ℕ) → n ≡ f 8 → AreWithin rules (named f) → n ≤ rules.pair.limit
+unfolding named
+within_speed rules f n e within = rw e within.speed
+
+pub within_torque : (rules : Rules) (f : ℕ → ℕ) (n : ℕ) → n ≡ f 9 → AreWithin rules (named f) → n ≤ rules.torque.limit
+unfolding named
+within_torque rules f n e within = rw e within.torque
+
+-- one feed of the five
+pub fed_by : (weights : WeightParts) (f : ℕ → ℕ) (counter signal size value pairs : ℕ) (bad : Bool) (fed : Fed) → fed ≡ fed_of weights value bad → value ≡ f counter
+    → bad ≡ has_bit size pairs → pairs ≡ f signal → fed ≡ fed_of weights (f counter) (has_bit size (f signal))
+fed_by weights f counter signal size value pairs bad fed e ev eb ep = e ∙ rw (ev, eb, ep) refl
+
+pub feeds_by : (f : ℕ → ℕ) (rules : Rules) (pedal plate load speed torque : Fed) → pedal ≡ fed_of rules.pair (f 5) (has_bit 1 (f 4))
+    → plate ≡ fed_of rules.pair (f 6) (has_bit 2 (f 4)) → load ≡ fed_of rules.pair (f 7) (has_bit 4 (f 4)) → speed ≡ fed_of rules.pair (f 8) (has_bit 8 (f 4))
+    → torque ≡ fed_of rules.torque (f 9) (has_bit 1 (f 3))
+    → (let feeds : Feeds = record { pedal = pedal; plate = plate; load = load; speed = speed; torque = torque } in feeds ≡ feeds_of rules (named f))
+unfolding named feeds_of pedal_bit plate_bit load_bit speed_bit torque_bit
+feeds_by f rules pedal plate load speed torque ep el eo es et = rw (ep, el, eo, es, et) refl
+
+-- ---- what is stored ----
+
+pub counters_by : (f g1 g2 g3 g4 h : ℕ → ℕ) (feeds : Feeds) → h ≡ keep 9 feeds.torque.value g4 → g4 ≡ keep 8 feeds.speed.value g3 → g3 ≡ keep 7 feeds.load.value g2
+    → g2 ≡ keep 6 feeds.plate.value g1 → g1 ≡ keep 5 feeds.pedal.value f → h ≡ counters_kept feeds f
+unfolding counters_kept
+counters_by f g1 g2 g3 g4 h feeds eh e4 e3 e2 e1 = eh ∙ rw (e4, e3, e2, e1) refl
+
+-- the words after the five counters, limp where its test is true, trip where its test is true, and the token
+abbrev fed_words : Feeds → Bool → Bool → ℕ → Words → Words
+fed_words feeds limit trip token words = record words {
+  pedal_counter = feeds.pedal.value;
+  plate_counter = feeds.plate.value;
+  load_counter = feeds.load.value;
+  speed_counter = feeds.speed.value;
+  torque_counter = feeds.torque.value;
+  limp = if limit then 1 else words.limp;
+  trip = if trip then 1 else words.trip;
+  token = token;
+}
+
+stored_by : (feeds : Feeds) (limit trip : Bool) (token : ℕ) (f : ℕ → ℕ)
+    → named (keep 12 token (keep_where trip 11 1 (keep_where limit 10 1 (counters_kept feeds f)))) ≡ fed_words feeds limit trip token (named f)
+unfolding named keep put keep_where counters_kept
+stored_by feeds true true token f = refl
+stored_by feeds true false token f = refl
+stored_by feeds false true token f = refl
+stored_by feeds false false token f = refl
+
+-- the same of feeds, tests and token that are known
+same_words : (feeds other : Feeds) (trip : Bool) (token moved : ℕ) (words : Words) → feeds ≡ other → trip ≡ trips_of feeds → token ≡ moved
+    → fed_words feeds feeds.pedal.found trip token words ≡ fed_words other other.pedal.found (trips_of other) moved words
+same_words feeds other trip token moved words ef et em =
+    ap (λ t. fed_words feeds feeds.pedal.found t token words) et
+    ∙ ap (λ t. fed_words feeds feeds.pedal.found (trips_of feeds) t words) em
+    ∙ ap (λ (x : Feeds). fed_words x x.pedal.found (trips_of x) moved words) ef
+
+-- ---- the step ----
+
+-- without a trip the counters are fed
+free : (rules : Rules) (words : Words) → is_set words.trip ≡ false
+    → fed_words (feeds_of rules words) (feeds_of rules words).pedal.found (trips_of (feeds_of rules words)) (next_token_of words.token 6) words ≡ debounce_step rules words
+unfolding debounce_step debounced limits trips counted is_found feeds_of fed_of trips_of
+free rules words e = rw e refl
+
+free-found : (rules : Rules) (words : Words) → is_set words.trip ≡ false → found_of (feeds_of rules words) ≡ debounced rules words
+unfolding debounced is_found feeds_of fed_of found_of
+free-found rules words e = rw e refl
+
+-- with a trip the token alone moves
+tripped : (rules : Rules) (words : Words) → is_set words.trip ≡ true → record words { token = next_token_of words.token 6 } ≡ debounce_step rules words
+unfolding debounce_step debounced limits trips counted is_found
+tripped rules words e = rw e refl
+
+tripped-found : (rules : Rules) (words : Words) → is_set words.trip ≡ true → no_watches ≡ debounced rules words
+unfolding debounced is_found no_watches
+tripped-found rules words e = rw e refl
+
+-- ---- both, from the calls ----
+
+pub fed_step : (f g1 g2 g3 h : ℕ → ℕ) (rules : Rules) (feeds : Feeds) (trip set : Bool) (w t token : ℕ) → h ≡ keep 12 token g3 → g3 ≡ keep_where trip 11 1 g2
+    → g2 ≡ keep_where feeds.pedal.found 10 1 g1 → g1 ≡ counters_kept feeds f → trip ≡ trips_of feeds → feeds ≡ feeds_of rules (named f)
+    → set ≡ is_set w → set ≡ false → w ≡ f 11 → token ≡ next_token_of t 6 → t ≡ f 12 → named h ≡ debounce_step rules (named f)
+unfolding named
+fed_step f g1 g2 g3 h rules feeds trip set w t token eh e3 e2 e1 etrip ef eset off ew etoken et =
+    let stored : h ≡ keep 12 token (keep_where trip 11 1 (keep_where feeds.pedal.found 10 1 (counters_kept feeds f))) = eh ∙ rw (e3, e2, e1) refl in
+    ap named stored
+    ∙ stored_by feeds feeds.pedal.found trip token f
+    ∙ same_words feeds (feeds_of rules (named f)) trip token (next_token_of (f 12) 6) (named f) ef etrip (etoken ∙ ap (λ t. next_token_of t 6) et)
+    ∙ free rules (named f) (ap is_set (sym ew) ∙ sym eset ∙ off)
+
+pub fed_found : (f : ℕ → ℕ) (rules : Rules) (feeds : Feeds) (set : Bool) (w : ℕ) (found : Watches) → found ≡ found_of feeds → feeds ≡ feeds_of rules (named f)
+    → set ≡ is_set w → set ≡ false → w ≡ f 11 → found ≡ debounced rules (named f)
+unfolding named
+fed_found f rules feeds set w found e ef eset off ew = e ∙ ap found_of ef ∙ free-found rules (named f) (ap is_set (sym ew) ∙ sym eset ∙ off)
+
+pub tripped_step : (f h : ℕ → ℕ) (rules : Rules) (set : Bool) (w t token : ℕ) → h ≡ keep 12 token f → set ≡ is_set w → set ≡ true → w ≡ f 11
+    → token ≡ next_token_of t 6 → t ≡ f 12 → named h ≡ debounce_step rules (named f)
+unfolding named keep put
+tripped_step f h rules set w t token eh eset on ew etoken et =
+    rw (eh, etoken, et) (tripped rules (named f) (ap is_set (sym ew) ∙ sym eset ∙ on))
+
+pub tripped_found : (f : ℕ → ℕ) (rules : Rules) (set : Bool) (w : ℕ) → set ≡ is_set w → set ≡ true → w ≡ f 11 → no_watches ≡ debounced rules (named f)
+unfolding named
+tripped_found f rules set w eset on ew = tripped-found rules (named f) (ap is_set (sym ew) ∙ sym eset ∙ on)

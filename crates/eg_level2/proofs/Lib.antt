@@ -1,0 +1,7 @@
+pub mod PlaceLemmas
+pub mod StoreLemmas
+pub mod PortLemmas
+pub mod ModuleLemmas
+pub mod DebounceLemmas
+pub mod StepLemmas
+mod Worked

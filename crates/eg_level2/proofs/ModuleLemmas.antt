@@ -1,0 +1,96 @@
+-- What the stores of a module make of the words by their names.
+use Rattle.std.proofs.Common.{◌≡◌, ◌∙◌, refl, ap, ℕ, ◌+◌, ◌-◌, ◌*◌, ◌%◌, Bool, false, not, ◌&&◌}
+use Rattle.std.specs.Prelude.{if◌then◌else◌, ◌==◌, bit_xor, slice_index, Option, Some, None}
+use Rattle.eg_torque.specs.Permit.{permitted}
+use Rattle.eg_torque.specs.Excess.{is_excess}
+use Rattle.eg_sensor.specs.Readings.{used_pedal, checked_raise, bit, pair_bits}
+use Rattle.eg_sensor.specs.declared.readings.Readings.{Readings}
+use Rattle.eg_answer.specs.Folds.{mixed}
+use Rattle.eg_answer.specs.Answers.{pedal_result, permitted_result, estimate_result, excess_result, pairs_result}
+use Rattle.eg_answer.specs.Token.{next_token_of}
+use Rattle.eg_answer.specs.declared.rules.Rules.{Rules}
+use Rattle.eg_answer.specs.declared.rules.TestRow.{TestRow}
+use Rattle.eg_level2.specs.Words.{named, is_set, start}
+use Rattle.eg_level2.specs.Signals.{pedal_signal, permitted_signal, actual_signal, excess_signal, pairs_signal}
+use Rattle.eg_level2.specs.Modules.{marked, check_step, given_up, written, signed, pedal_step, permitted_step, actual_step, excess_step, pairs_step, closed_flow, answers_now, number_of, answer_of, react_step}
+use Rattle.eg_level2.specs.Stores.{put, keep, cleared, signalled}
+
+-- ---- module 0 ----
+
+pub gone_on : (f g1 g2 g3 h : ℕ → ℕ) (tick seed t token w l flow : ℕ) → h ≡ keep 15 seed g3 → g3 ≡ keep 14 tick g2 → g2 ≡ keep 13 flow g1 → g1 ≡ keep 12 token f
+    → flow ≡ (if (l + 1) % 65536 == tick then w else marked w) → w ≡ f 13 → l ≡ f 14 → token ≡ next_token_of t 0 → t ≡ f 12 → named h ≡ check_step seed tick (named f)
+unfolding named keep put check_step
+gone_on f g1 g2 g3 h tick seed t token w l flow eh e3 e2 e1 ef ew el etoken et = rw (eh, e3, e2, e1, ef, ew, el, etoken, et) refl
+
+pub gave_up : (f g0 g1 g2 g3 h : ℕ → ℕ) (tick : ℕ) → h ≡ keep 14 tick g3 → g3 ≡ keep 13 33023 g2 → g2 ≡ keep 12 1 g1 → g1 ≡ keep 11 1 g0 → g0 ≡ cleared 16 f
+    → named h ≡ given_up tick
+unfolding named keep put cleared given_up
+gave_up f g0 g1 g2 g3 h tick eh e3 e2 e1 e0 = rw (eh, e3, e2, e1, e0) refl
+
+-- ---- modules 1 to 5 ----
+
+-- the three stores
+pub signalled_by : (f g1 g2 h : ℕ → ℕ) (number signal test d place value t token s sign w : ℕ) (trip : Bool) → h ≡ keep 15 sign g2 → g2 ≡ keep 12 token g1
+    → g1 ≡ keep place value f → place ≡ number - 1 → value ≡ (if trip then 0 else bit_xor signal d) → trip ≡ is_set w → w ≡ f 11
+    → token ≡ next_token_of t number → t ≡ f 12 → sign ≡ bit_xor (mixed s test) d → s ≡ f 15 → h ≡ signalled number signal test d f
+unfolding signalled
+signalled_by f g1 g2 h number signal test d place value t token s sign w trip eh e2 e1 ep ev etrip ew etoken et esign es =
+    eh ∙ rw (e2, e1, ep, ev, etrip, ew, etoken, et, esign, es) refl
+
+pub pedal_by : (f h : ℕ → ℕ) (read readings : Readings) (row : TestRow) (d signal test w : ℕ) (limp : Bool) → h ≡ signalled 1 signal test d f
+    → read ≡ readings → signal ≡ used_pedal read.pedal limp → limp ≡ is_set w → w ≡ f 10 → test ≡ used_pedal row.readings.pedal false
+    → named h ≡ pedal_step readings row d (named f)
+unfolding named signalled keep put pedal_step written signed pedal_signal pedal_result
+pedal_by f h read readings row d signal test w limp eh er es el ew et = rw (eh, es, el, ew, et, er) refl
+
+-- the permitted torque at a pedal, and at the speeds and the raise of these readings
+abbrev permitted_at : Rules → ℕ → Readings → ℕ
+permitted_at rules pedal read = permitted rules.permit pedal (slice_index read.speed 0) (slice_index read.speed 1) (checked_raise read.raise read.raise_check)
+
+pub permitted_by : (f h : ℕ → ℕ) (rules : Rules) (read readings : Readings) (row : TestRow) (d signal test pedal : ℕ) → h ≡ signalled 2 signal test d f
+    → read ≡ readings → signal ≡ permitted_at rules pedal read → pedal ≡ f 0 → test ≡ permitted_at rules row.used row.readings
+    → named h ≡ permitted_step rules readings row d (named f)
+unfolding named signalled keep put permitted_step written signed permitted_signal permitted_result
+permitted_by f h rules read readings row d signal test pedal eh er es ep et = rw (eh, es, ep, et, er) refl
+
+pub actual_by : (f h : ℕ → ℕ) (rules : Rules) (read readings : Readings) (row : TestRow) (d signal test : ℕ) → h ≡ signalled 3 signal test d f
+    → read ≡ readings → signal ≡ actual_signal rules read → test ≡ actual_signal rules row.readings
+    → named h ≡ actual_step rules readings row d (named f)
+unfolding named signalled keep put actual_step written signed actual_signal estimate_result
+actual_by f h rules read readings row d signal test eh er es et = rw (eh, es, et, er) refl
+
+pub excess_by : (f h : ℕ → ℕ) (rules : Rules) (row : TestRow) (d signal test actual allowed : ℕ) → h ≡ signalled 4 signal test d f
+    → signal ≡ bit 1 (is_excess actual allowed rules.threshold) → actual ≡ f 2 → allowed ≡ f 1 → test ≡ bit 1 (is_excess row.estimate row.allowed rules.threshold)
+    → named h ≡ excess_step rules row d (named f)
+unfolding named signalled keep put excess_step written signed excess_signal excess_result
+excess_by f h rules row d signal test actual allowed eh es ea ep et = rw (eh, es, ea, ep, et) refl
+
+pub pairs_by : (f h : ℕ → ℕ) (rules : Rules) (read readings : Readings) (row : TestRow) (d signal test : ℕ) → h ≡ signalled 5 signal test d f
+    → read ≡ readings → signal ≡ pair_bits read rules.tolerances → test ≡ pair_bits row.readings rules.tolerances
+    → named h ≡ pairs_step rules readings row d (named f)
+unfolding named signalled keep put pairs_step written signed pairs_signal pairs_result
+pairs_by f h rules read readings row d signal test eh er es et = rw (eh, es, et, er) refl
+
+-- ---- module 7 ----
+
+pub reacted : (f g h : ℕ → ℕ) (send sends trip : Bool) (w t token v flow after : ℕ) → h ≡ keep 13 after g → g ≡ keep 12 0 f → after ≡ (if sends then 255 else flow)
+    → sends ≡ (send && not trip) → trip ≡ is_set w → w ≡ f 11 → flow ≡ (if token == 255 then v else marked v) → token ≡ next_token_of t 7 → t ≡ f 12 → v ≡ f 13
+    → named h ≡ react_step send (named f)
+unfolding named keep put react_step answers_now closed_flow
+reacted f g h send sends trip w t token v flow after eh eg ea es etrip ew ef etoken et ev = rw (eh, eg, ea, es, etrip, ew, ef, etoken, et, ev) refl
+
+pub answered : (f : ℕ → ℕ) (answer : Option ℕ) (send sends trip : Bool) (w t token v flow sign : ℕ) → answer ≡ (if sends then Some (flow * 65536 + sign) else None)
+    → sends ≡ (send && not trip) → trip ≡ is_set w → w ≡ f 11 → flow ≡ (if token == 255 then v else marked v) → token ≡ next_token_of t 7 → t ≡ f 12 → v ≡ f 13 → sign ≡ f 15
+    → answer ≡ answer_of send (named f)
+unfolding named answer_of answers_now closed_flow number_of
+answered f answer send sends trip w t token v flow sign ea es etrip ew ef etoken et ev esign = ea ∙ rw (es, etrip, ew, ef, etoken, et, ev, esign) refl
+
+pub ordered : (f : ℕ → ℕ) (trip : Bool) (w : ℕ) → trip ≡ is_set w → w ≡ f 11 → trip ≡ is_set (named f).trip
+unfolding named
+ordered f trip w e p = e ∙ ap is_set p
+
+-- ---- the start ----
+
+pub began : (f g0 g1 h : ℕ → ℕ) → h ≡ keep 14 65535 g1 → g1 ≡ keep 13 255 g0 → g0 ≡ cleared 16 f → named h ≡ start
+unfolding named keep put cleared start
+began f g0 g1 h eh e1 e0 = rw (eh, e1, e0) refl

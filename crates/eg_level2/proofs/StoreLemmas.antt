@@ -1,0 +1,83 @@
+-- What a store of a word and its complement makes of the words, and what it keeps.
+use Rattle.std.proofs.Common.{◌≡◌, ◌∙◌, refl, sym, ap, subst, ℕ, suc, ◌+◌, ◌-◌, ◌<◌, inl, inr, Bool, true, false, List, slice_index, arith}
+use Rattle.std.specs.Prelude.{Result, Ok, Err, OnOk, if◌then◌else◌}
+use Rattle.eg_guard.specs.Regions.{region_of}
+use Rattle.std.proofs.lemmas.Bool.Decides.{eqb_tells}
+use Rattle.std.proofs.lemmas.Bool.{eq-eqb, ne_eqb}
+use Rattle.eg_level2.specs.Words.{word_at, AreMirrored, is_level2_own}
+use Rattle.eg_level2.specs.Stores.{put, keep, cleared, outside}
+
+-- what follows from the words of a call that was done
+pub on_ok : {T E : Type 0} (result : Result T E) {P Q : Type 0} → (P → Q) → OnOk result P → OnOk result Q
+on_ok (Ok x) f p = f p
+on_ok (Err x) f p = p
+
+-- a word, and then its complement
+pub kept_at : (f g h : ℕ → ℕ) (number value : ℕ) → h ≡ put (number + 16) (65535 - value) g → g ≡ put number value f → h ≡ keep number value f
+unfolding keep
+kept_at f g h number value e p = e ∙ ap (put (number + 16) (65535 - value)) p
+
+-- words by their numbers, each with its complement
+abbrev pub Mirror : (ℕ → ℕ) → Type 0
+Mirror word = (k : ℕ) → k < 16 → word k + word (k + 16) ≡ 65535
+
+-- a store keeps every word with its complement
+pub keep-mirror : (word : ℕ → ℕ) (number value : ℕ) → number < 16 → value < 65536 → Mirror word → Mirror (keep number value word)
+unfolding keep put
+keep-mirror word number value within fits m k h = elim (eqb_tells k number) [
+  | inl same ↦ rw (ne_eqb k (number + 16) (λ e. omega arith), same.0, eq-eqb (k + 16) (number + 16) (let e = same.1 in omega arith)) (omega arith)
+  | inr other ↦ rw (ne_eqb k (number + 16) (λ e. omega arith), other.0, ne_eqb (k + 16) (number + 16) (λ e. other.1 (omega arith)), ne_eqb (k + 16) number (λ e. omega arith)) (m k h)
+]
+
+pub kept_mirrored : (old new : List ℕ) (g : ℕ → ℕ) (number value : ℕ) → word_at new ≡ put (number + 16) (65535 - value) g → g ≡ put number value (word_at old)
+    → number < 16 → value < 65536 → AreMirrored old → AreMirrored new
+kept_mirrored old new g number value e p within fits are = record {
+  sums = subst Mirror (sym (kept_at (word_at old) g (word_at new) number value e p)) (keep-mirror (word_at old) number value within fits are.sums);
+}
+
+-- all words are mirrored where each of them was looked at
+pub mirrored_all : (memory : List ℕ) → ((k : ℕ) → k < 16 → word_at memory k + word_at memory (k + 16) ≡ 65535) → AreMirrored memory
+mirrored_all memory sums = record { sums = sums }
+
+pub kept_on : {T E : Type 0} (result : Result T E) (f g h : ℕ → ℕ) (number value : ℕ) → OnOk result (h ≡ put (number + 16) (65535 - value) g) → g ≡ put number value f
+    → OnOk result (h ≡ keep number value f)
+kept_on (Ok x) f g h number value e p = kept_at f g h number value e p
+kept_on (Err x) f g h number value e p = e
+
+-- ---- all words made 0 ----
+
+pub cleared-more : (f g h : ℕ → ℕ) (count : ℕ) → h ≡ keep count 0 g → g ≡ cleared count f → h ≡ cleared (count + 1) f
+unfolding cleared
+cleared-more f g h count e p = e ∙ ap (keep count 0) p ∙ ap (λ k. cleared k f) (let one_more : suc count ≡ count + 1 = omega arith in one_more)
+
+-- the first so many words are mirrored
+abbrev pub MirrorBelow : ℕ → (ℕ → ℕ) → Type 0
+MirrorBelow count word = (k : ℕ) → k < count → word k + word (k + 16) ≡ 65535
+
+pub mirror-more : (g h : ℕ → ℕ) (count : ℕ) → count < 16 → h ≡ keep count 0 g → MirrorBelow count g → MirrorBelow (count + 1) h
+unfolding keep put
+mirror-more g h count within e m = subst (MirrorBelow (count + 1)) (sym e) below
+  where
+    below : MirrorBelow (count + 1) (keep count 0 g)
+    below k h = elim (eqb_tells k count) [
+      | inl same ↦ rw (ne_eqb k (count + 16) (λ e. omega arith), same.0, eq-eqb (k + 16) (count + 16) (let e = same.1 in omega arith)) refl
+      | inr other ↦ rw (ne_eqb k (count + 16) (λ e. omega arith), other.0, ne_eqb (k + 16) (count + 16) (λ e. other.1 (omega arith)), ne_eqb (k + 16) count (λ e. omega arith))
+          (m k (let apart = other.1 in grind arith))
+    ]
+
+pub ruleset stores = (kept_on, kept_mirrored)
+
+pub ruleset mirrors = (mirrored_all)
+
+-- ---- what is left ----
+
+picked : (own : Bool) (a b : ℕ) → (if own then 0 else a) ≡ (if own then 0 else b) → own ≡ false → a ≡ b
+picked true a b e is = absurd (let clash : true ≡ false = is in cc)
+picked false a b e is = e
+
+-- the words outside level 2's own regions, address by address
+pub same_outside : (old new : List ℕ) (address : ℕ) → outside new ≡ outside old → is_level2_own (region_of address) ≡ false → slice_index new address ≡ slice_index old address
+unfolding outside
+same_outside old new address e is = picked (is_level2_own (region_of address)) (slice_index new address) (slice_index old address) (ap (λ (word : ℕ → ℕ). word address) e) is
+
+pub ruleset outsides = (same_outside)

@@ -1,0 +1,120 @@
+-- Ticks of level 2 that were worked by hand, against the definitions.
+use Rattle.std.proofs.Common.{◌≡◌, ℕ, Bool, true, false, List, [], ◌∷◌, ◌++◌, refl}
+use Rattle.std.specs.Prelude.{fold, Some, None}
+use Rattle.eg_num.specs.Interpolation.{value_at}
+use Rattle.eg_num.specs.Counting.{fed}
+use Rattle.eg_torque.specs.Permit.{permitted}
+use Rattle.eg_torque.specs.Excess.{is_excess}
+use Rattle.eg_sensor.specs.Readings.{sound_readings}
+use Rattle.eg_sensor.specs.declared.readings.Readings.{Readings}
+use Rattle.eg_answer.specs.Folds.{mixed}
+use Rattle.eg_answer.specs.Answers.{pedal_result, permitted_result, estimate_result, excess_result, pairs_result}
+use Rattle.eg_answer.specs.Token.{next_token_of}
+use Rattle.eg_answer.specs.declared.rules.Rules.{Rules}
+use Rattle.eg_answer.specs.declared.questions.Question.{Question}
+use Rattle.eg_level2.specs.Words.{Words, is_set, start}
+use Rattle.eg_level2.specs.Inputs.{Inputs, row_of}
+use Rattle.eg_level2.specs.Signals.{pedal_signal, permitted_signal, actual_signal, excess_signal, pairs_signal}
+use Rattle.eg_level2.specs.Modules.{marked, check_step, written, signed, pedal_step, permitted_step, actual_step, excess_step, pairs_step, has_bit, pedal_bit, plate_bit, load_bit, speed_bit, torque_bit, counted, is_found, debounced, limits, trips, debounce_step, closed_flow, answers_now, number_of, answer_of, react_step, module_step, answer_after}
+
+-- pedals 0, 500, 1000; speeds 800, 3000, 6000
+abbrev rules : Rules
+rules = record {
+  permit = record {
+    rows = 0 ∷ 500 ∷ 1000 ∷ [];
+    columns = 800 ∷ 3000 ∷ 6000 ∷ [];
+    values = 200 ∷ 100 ∷ 0 ∷ 1000 ∷ 1200 ∷ 900 ∷ 2000 ∷ 2400 ∷ 1800 ∷ [];
+  };
+  kt = 2500;
+  threshold = 200;
+  tolerances = 50 ∷ 50 ∷ 50 ∷ 50 ∷ [];
+  pair = record { up = 2; down = 1; limit = 10 };
+  torque = record { up = 1; down = 1; limit = 5 };
+}
+
+-- all tracks agree, and the row's estimate is an excess; its answer is 8842
+abbrev question : Question
+question = record {
+  row = record {
+    seed = 4660;
+    readings = record {
+      pedal = 500 ∷ 500 ∷ [];
+      plate = 200 ∷ 800 ∷ [];
+      load = 300 ∷ 300 ∷ [];
+      speed = 800 ∷ 800 ∷ [];
+      raise = 0;
+      raise_check = 65535;
+    };
+    used = 500;
+    estimate = 1400;
+    allowed = 1000;
+  };
+  answer = 8842;
+}
+
+-- what goes in where the question is asked at a tick
+abbrev inputs : Readings → ℕ → Bool → ℕ → Inputs
+inputs readings tick sends disturbance = record {
+  rules = rules;
+  questions = question ∷ question ∷ [];
+  readings = readings;
+  asked = 2;
+  tick = tick;
+  sends = sends;
+  disturbance = disturbance;
+}
+
+-- pedal 0, plate 0, both loads 40, speed 800, no raise
+abbrev idle : Readings
+idle = sound_readings 0 0 (40 ∷ 40 ∷ []) 800 0
+
+-- runs of these modules, in this order, with all that they are made of opened
+unfoldable run : Inputs → List ℕ → Words → Words
+unfolding value_at permitted is_excess mixed pedal_result permitted_result estimate_result excess_result pairs_result next_token_of fed
+    is_set row_of pedal_signal permitted_signal actual_signal excess_signal pairs_signal marked check_step written signed pedal_step permitted_step
+    actual_step excess_step pairs_step has_bit pedal_bit plate_bit load_bit speed_bit torque_bit counted is_found debounced limits trips debounce_step
+    closed_flow answers_now react_step module_step start
+run given numbers words = fold (λ before number. module_step given number before) words numbers
+
+abbrev to_react : List ℕ
+to_react = 0 ∷ 1 ∷ 2 ∷ 3 ∷ 4 ∷ 5 ∷ 6 ∷ []
+
+-- the words that a sound tick 0 leaves
+abbrev after_tick_0 : Words
+after_tick_0 = record {
+  pedal = 0;
+  permitted = 200;
+  actual = 100;
+  excess = 0;
+  pairs = 0;
+  pedal_counter = 0;
+  plate_counter = 0;
+  load_counter = 0;
+  speed_counter = 0;
+  torque_counter = 0;
+  limp = 0;
+  trip = 0;
+  token = 0;
+  flow = 255;
+  last = 0;
+  sign = 8842;
+}
+
+-- modules 0 to 7 at tick 0
+tick_0 : run (inputs idle 0 false 0) (to_react ++ 7 ∷ []) start ≡ after_tick_0
+unfolding run
+tick_0 = refl
+
+-- the same at a send tick, and its answer
+sends_0 : run (inputs idle 0 true 0) (to_react ++ 7 ∷ []) start ≡ after_tick_0
+unfolding run
+sends_0 = refl
+
+answers_0 : answer_after (inputs idle 0 true 0) 7 (run (inputs idle 0 true 0) to_react start) ≡ Some 16720522
+unfolding run answer_after answer_of answers_now number_of closed_flow next_token_of is_set
+answers_0 = refl
+
+-- no answer at another tick, nor from another module
+quiet_0 : answer_after (inputs idle 0 false 0) 7 (run (inputs idle 0 false 0) to_react start) ≡ None
+unfolding run answer_after answer_of answers_now number_of closed_flow next_token_of is_set
+quiet_0 = refl

@@ -1,0 +1,58 @@
+-- What goes into one run of a module beside level 2's words.
+use Rattle.std.specs.Prelude.{◌≤◌, ℕ, ◌%◌, Bool, List, [], ◌∷◌, length, slice_index}
+use Rattle.eg_sensor.specs.declared.readings.Readings.{Readings}
+use Rattle.eg_answer.specs.declared.rules.Rules.{Rules}
+use Rattle.eg_answer.specs.declared.rules.TestRow.{TestRow}
+use Rattle.eg_answer.specs.declared.questions.Question.{Question}
+use Rattle.eg_answer.specs.Questions.{question_at}
+
+-- what level 2 is made of: the rules that it goes by, and the questions that it answers
+pub record Level2Parts : Type 0 where
+  pub rules : Rules
+  pub questions : List Question
+
+-- there are at least two questions
+abbrev pub AreParts : Level2Parts → Type 0
+AreParts parts = 2 ≤ length parts.questions
+
+-- what goes into one run: those two, the readings at the input ports, the number of the question at the link,
+-- the tick, whether it is one at which the answer is sent, and what disturbs the run (0 where nothing does)
+pub record Inputs : Type 0 where
+  pub rules : Rules
+  pub questions : List Question
+  pub readings : Readings
+  pub asked : ℕ
+  pub tick : ℕ
+  pub sends : Bool
+  pub disturbance : ℕ
+
+-- the readings that stand at the ten input ports
+unfoldable pub readings_of : List ℕ → Readings
+readings_of memory = record {
+  pedal = slice_index memory 2048 ∷ slice_index memory 2049 ∷ [];
+  plate = slice_index memory 2050 ∷ slice_index memory 2051 ∷ [];
+  load = slice_index memory 2052 ∷ slice_index memory 2053 ∷ [];
+  speed = slice_index memory 2054 ∷ slice_index memory 2055 ∷ [];
+  raise = slice_index memory 2056;
+  raise_check = slice_index memory 2057;
+}
+
+-- the number that stands at the link
+unfoldable pub asked_of : List ℕ → ℕ
+asked_of memory = slice_index memory 2128
+
+-- the inputs of a run over this memory
+unfoldable pub inputs_of : Level2Parts → List ℕ → ℕ → Bool → ℕ → Inputs
+inputs_of parts memory tick sends disturbance = record {
+  rules = parts.rules;
+  questions = parts.questions;
+  readings = readings_of memory;
+  asked = asked_of memory;
+  tick = tick;
+  sends = sends;
+  disturbance = disturbance;
+}
+
+-- the test row of the question that is asked, its number taken modulo the count of questions
+unfoldable pub row_of : List Question → ℕ → TestRow
+row_of questions asked = (question_at questions (asked % length questions)).row

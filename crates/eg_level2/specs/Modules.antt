@@ -1,0 +1,243 @@
+-- The eight modules of level 2: what one run of a module makes of the words, what it answers and orders, and
+-- which watches it finds. Each word after the run is one formula over the words before it.
+use Rattle.std.specs.Prelude.{ℕ, ◌+◌, ◌*◌, ◌/◌, ◌%◌, Bool, true, false, not, ◌&&◌, ◌||◌, ◌==◌, nat_lt, if◌then◌else◌, bit_or, bit_xor, Option, Some, None}
+use Rattle.eg_num.specs.Windows.{WeightParts}
+use Rattle.eg_num.specs.Counting.{fed}
+use Rattle.eg_num.specs.declared.watches.Watches.{Watches}
+use Rattle.eg_sensor.specs.declared.readings.Readings.{Readings}
+use Rattle.eg_answer.specs.declared.rules.Rules.{Rules}
+use Rattle.eg_answer.specs.declared.rules.TestRow.{TestRow}
+use Rattle.eg_answer.specs.Answers.{pedal_result, permitted_result, estimate_result, excess_result, pairs_result}
+use Rattle.eg_answer.specs.Folds.{mixed}
+use Rattle.eg_answer.specs.Token.{next_token_of}
+use Rattle.eg_level2.specs.declared.step.Step.{Step}
+use Rattle.eg_level2.specs.Words.{Words, is_set}
+use Rattle.eg_level2.specs.Inputs.{Inputs, row_of}
+use Rattle.eg_level2.specs.Signals.{pedal_signal, permitted_signal, actual_signal, excess_signal, pairs_signal}
+
+-- the high word of an answer with the mark that the program flow was broken
+unfoldable pub marked : ℕ → ℕ
+marked flow = bit_or flow 0x8000
+
+-- ---- module 0, check ----
+
+-- Where each word has its complement, it moves the token, marks the flow where its last run wasn't just the
+-- tick before, notes the tick, and begins the fold with the seed of the question.
+unfoldable pub check_step : ℕ → ℕ → Words → Words
+check_step seed tick words = record words {
+  token = next_token_of words.token 0;
+  flow = if (words.last + 1) % 65536 == tick then words.flow else marked words.flow;
+  last = tick;
+  sign = seed;
+}
+
+-- Where a word differs from its complement, all words are given up: the unit trips, and the flow is marked.
+unfoldable pub given_up : ℕ → Words
+given_up tick = record {
+  pedal = 0;
+  permitted = 0;
+  actual = 0;
+  excess = 0;
+  pairs = 0;
+  pedal_counter = 0;
+  plate_counter = 0;
+  load_counter = 0;
+  speed_counter = 0;
+  torque_counter = 0;
+  limp = 0;
+  trip = 1;
+  token = 1;
+  flow = 0x80ff;
+  last = tick;
+  sign = 0;
+}
+
+-- ---- modules 1 to 5: a signal each, and a result of the question's row ----
+
+-- the signal is disturbed on its way, and it is 0 where a trip stands
+unfoldable pub written : Words → ℕ → ℕ → ℕ
+written words signal disturbance = if is_set words.trip then 0 else bit_xor signal disturbance
+
+-- the fold with one result more, which is disturbed likewise, also where a trip stands
+unfoldable pub signed : Words → ℕ → ℕ → ℕ
+signed words result disturbance = bit_xor (mixed words.sign result) disturbance
+
+unfoldable pub pedal_step : Readings → TestRow → ℕ → Words → Words
+pedal_step readings row disturbance words = record words {
+  pedal = written words (pedal_signal readings words) disturbance;
+  token = next_token_of words.token 1;
+  sign = signed words (pedal_result row) disturbance;
+}
+
+unfoldable pub permitted_step : Rules → Readings → TestRow → ℕ → Words → Words
+permitted_step rules readings row disturbance words = record words {
+  permitted = written words (permitted_signal rules readings words) disturbance;
+  token = next_token_of words.token 2;
+  sign = signed words (permitted_result rules row) disturbance;
+}
+
+unfoldable pub actual_step : Rules → Readings → TestRow → ℕ → Words → Words
+actual_step rules readings row disturbance words = record words {
+  actual = written words (actual_signal rules readings) disturbance;
+  token = next_token_of words.token 3;
+  sign = signed words (estimate_result rules row) disturbance;
+}
+
+unfoldable pub excess_step : Rules → TestRow → ℕ → Words → Words
+excess_step rules row disturbance words = record words {
+  excess = written words (excess_signal rules words) disturbance;
+  token = next_token_of words.token 4;
+  sign = signed words (excess_result rules row) disturbance;
+}
+
+unfoldable pub pairs_step : Rules → Readings → TestRow → ℕ → Words → Words
+pairs_step rules readings row disturbance words = record words {
+  pairs = written words (pairs_signal rules readings) disturbance;
+  token = next_token_of words.token 5;
+  sign = signed words (pairs_result rules row) disturbance;
+}
+
+-- ---- module 6, debounce ----
+
+-- the bit of that size is set in a word
+unfoldable pub has_bit : ℕ → ℕ → Bool
+has_bit size word = word / size % 2 == 1
+
+-- what is fed: the bits of the pairs, and that of the excess
+unfoldable pub pedal_bit : Words → Bool
+pedal_bit words = has_bit 1 words.pairs
+
+unfoldable pub plate_bit : Words → Bool
+plate_bit words = has_bit 2 words.pairs
+
+unfoldable pub load_bit : Words → Bool
+load_bit words = has_bit 4 words.pairs
+
+unfoldable pub speed_bit : Words → Bool
+speed_bit words = has_bit 8 words.pairs
+
+unfoldable pub torque_bit : Words → Bool
+torque_bit words = has_bit 1 words.excess
+
+-- a counter after the run: where a trip stands nothing is fed
+unfoldable pub counted : Words → WeightParts → ℕ → Bool → ℕ
+counted words weights value bad = if is_set words.trip then value else fed weights value bad
+
+-- its watch is found: the feed brings it to its limit, for the first time
+unfoldable pub is_found : Words → WeightParts → ℕ → Bool → Bool
+is_found words weights value bad =
+    not (is_set words.trip) && (nat_lt value weights.limit && fed weights value bad == weights.limit)
+
+-- the watches that it finds
+unfoldable pub debounced : Rules → Words → Watches
+debounced rules words = record {
+  mirror = false;
+  pedal = is_found words rules.pair words.pedal_counter (pedal_bit words);
+  plate = is_found words rules.pair words.plate_counter (plate_bit words);
+  load = is_found words rules.pair words.load_counter (load_bit words);
+  speed = is_found words rules.pair words.speed_counter (speed_bit words);
+  torque = is_found words rules.torque words.torque_counter (torque_bit words);
+  answers = false;
+}
+
+-- a pedal that is found limits the operation, and each of the other four trips the unit
+unfoldable pub limits : Watches → Bool
+limits found = found.pedal
+
+unfoldable pub trips : Watches → Bool
+trips found = found.plate || found.load || found.speed || found.torque
+
+unfoldable pub debounce_step : Rules → Words → Words
+debounce_step rules words = record words {
+  pedal_counter = counted words rules.pair words.pedal_counter (pedal_bit words);
+  plate_counter = counted words rules.pair words.plate_counter (plate_bit words);
+  load_counter = counted words rules.pair words.load_counter (load_bit words);
+  speed_counter = counted words rules.pair words.speed_counter (speed_bit words);
+  torque_counter = counted words rules.torque words.torque_counter (torque_bit words);
+  limp = if limits (debounced rules words) then 1 else words.limp;
+  trip = if trips (debounced rules words) then 1 else words.trip;
+  token = next_token_of words.token 6;
+}
+
+-- ---- module 7, react ----
+
+-- the high word of the answer: marked where the token isn't whole once it has been moved
+unfoldable pub closed_flow : Words → ℕ
+closed_flow words = if next_token_of words.token 7 == 255 then words.flow else marked words.flow
+
+-- an answer is sent at a send tick, but never where a trip stands
+unfoldable pub answers_now : Bool → Words → Bool
+answers_now sends words = sends && not (is_set words.trip)
+
+-- the number that is sent: the flow in the high word, the fold in the low word
+unfoldable pub number_of : Words → ℕ
+number_of words = closed_flow words * 65536 + words.sign
+
+-- the answer, if one is sent
+unfoldable pub answer_of : Bool → Words → Option ℕ
+answer_of sends words = if answers_now sends words then Some (number_of words) else None
+
+-- the token begins anew, and after an answer the flow does too
+unfoldable pub react_step : Bool → Words → Words
+react_step sends words = record words {
+  token = 0;
+  flow = if answers_now sends words then 0x00ff else closed_flow words;
+}
+
+-- ---- a module by its number ----
+
+-- the words after a run of the module of this number, 0 to 7, where each word had its complement
+unfoldable pub module_step : Inputs → ℕ → Words → Words
+module_step inputs number words =
+    let row = row_of inputs.questions inputs.asked in
+    let disturbance = inputs.disturbance in
+    if number == 0 then check_step row.seed inputs.tick words
+    else if number == 1 then pedal_step inputs.readings row disturbance words
+    else if number == 2 then permitted_step inputs.rules inputs.readings row disturbance words
+    else if number == 3 then actual_step inputs.rules inputs.readings row disturbance words
+    else if number == 4 then excess_step inputs.rules row disturbance words
+    else if number == 5 then pairs_step inputs.rules inputs.readings row disturbance words
+    else if number == 6 then debounce_step inputs.rules words
+    else react_step inputs.sends words
+
+-- the answer that it sends, if any
+unfoldable pub answer_after : Inputs → ℕ → Words → Option ℕ
+answer_after inputs number words = if number == 7 then answer_of inputs.sends words else None
+
+-- whether it orders path 1 open
+unfoldable pub order_after : ℕ → Words → Bool
+order_after number words = number == 7 && is_set words.trip
+
+-- no watch, and that of the mirrored words alone
+unfoldable pub no_watches : Watches
+no_watches = record {
+  mirror = false;
+  pedal = false;
+  plate = false;
+  load = false;
+  speed = false;
+  torque = false;
+  answers = false;
+}
+
+unfoldable pub mirror_alone : Watches
+mirror_alone = record no_watches { mirror = true }
+
+-- the watches that it finds, where each word had its complement
+unfoldable pub found_by : Inputs → ℕ → Words → Watches
+found_by inputs number words = if number == 6 then debounced inputs.rules words else no_watches
+
+-- all three, as a run answers them
+unfoldable pub step_of : Inputs → ℕ → Words → Step
+step_of inputs number words = record {
+  open_path = order_after number words;
+  answer = answer_after inputs number words;
+  found = found_by inputs number words;
+}
+
+-- a run that finds these watches, and no more; and one that doesn't find any
+abbrev pub finding : Watches → Step
+finding found = record { open_path = false; answer = None; found = found }
+
+abbrev pub quiet_step : Step
+quiet_step = finding no_watches

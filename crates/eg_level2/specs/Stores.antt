@@ -1,0 +1,81 @@
+-- What stores make of level 2's words, by their numbers, and what they leave. The public contracts say the
+-- same by the words' names.
+use Rattle.std.specs.Prelude.{ℕ, zero, suc, ◌+◌, ◌-◌, Bool, false, ◌&&◌, ◌||◌, ◌==◌, nat_lt, if◌then◌else◌, List, slice_index, bit_xor}
+use Rattle.eg_guard.specs.Regions.{region_of}
+use Rattle.eg_num.specs.declared.watches.Watches.{Watches}
+use Rattle.eg_num.specs.Windows.{WeightParts}
+use Rattle.eg_num.specs.Counting.{fed}
+use Rattle.eg_answer.specs.Folds.{mixed}
+use Rattle.eg_answer.specs.Token.{next_token_of}
+use Rattle.eg_answer.specs.declared.rules.Rules.{Rules}
+use Rattle.eg_level2.specs.declared.debounce.Fed.{Fed}
+use Rattle.eg_level2.specs.declared.debounce.Feeds.{Feeds}
+use Rattle.eg_level2.specs.Words.{Words, is_set, is_level2_own}
+use Rattle.eg_level2.specs.Modules.{pedal_bit, plate_bit, load_bit, speed_bit, torque_bit}
+
+-- a store of one word
+unfoldable pub put : ℕ → ℕ → (ℕ → ℕ) → ℕ → ℕ
+put number value word k = if k == number then value else word k
+
+-- a store of a word and its complement
+unfoldable pub keep : ℕ → ℕ → (ℕ → ℕ) → ℕ → ℕ
+keep number value word = put (number + 16) (65535 - value) (put number value word)
+
+-- the same where a test is true, and else nothing
+unfoldable pub keep_where : Bool → ℕ → ℕ → (ℕ → ℕ) → ℕ → ℕ
+keep_where test number value word = if test then keep number value word else word
+
+-- the first so many words made 0
+unfoldable pub cleared : ℕ → (ℕ → ℕ) → ℕ → ℕ
+cleared zero word = word
+cleared (suc count) word = keep count 0 (cleared count word)
+
+-- what a module of number 1 to 5 stores: its signal, the token and the fold
+unfoldable pub signalled : ℕ → ℕ → ℕ → ℕ → (ℕ → ℕ) → ℕ → ℕ
+signalled number signal test disturbance word =
+    keep 15 (bit_xor (mixed (word 15) test) disturbance)
+    (keep 12 (next_token_of (word 12) number)
+    (keep (number - 1) (if is_set (word 11) then 0 else bit_xor signal disturbance) word))
+
+-- a counter after a feed, and whether it comes to its limit by it
+unfoldable pub fed_of : WeightParts → ℕ → Bool → Fed
+fed_of weights value bad = record {
+  value = fed weights value bad;
+  found = nat_lt value weights.limit && fed weights value bad == weights.limit;
+}
+
+-- all five
+unfoldable pub feeds_of : Rules → Words → Feeds
+feeds_of rules words = record {
+  pedal = fed_of rules.pair words.pedal_counter (pedal_bit words);
+  plate = fed_of rules.pair words.plate_counter (plate_bit words);
+  load = fed_of rules.pair words.load_counter (load_bit words);
+  speed = fed_of rules.pair words.speed_counter (speed_bit words);
+  torque = fed_of rules.torque words.torque_counter (torque_bit words);
+}
+
+-- whether a watch is found that trips the unit
+unfoldable pub trips_of : Feeds → Bool
+trips_of feeds = feeds.plate.found || feeds.load.found || feeds.speed.found || feeds.torque.found
+
+-- the watches that are found
+unfoldable pub found_of : Feeds → Watches
+found_of feeds = record {
+  mirror = false;
+  pedal = feeds.pedal.found;
+  plate = feeds.plate.found;
+  load = feeds.load.found;
+  speed = feeds.speed.found;
+  torque = feeds.torque.found;
+  answers = false;
+}
+
+-- their values stored
+unfoldable pub counters_kept : Feeds → (ℕ → ℕ) → ℕ → ℕ
+counters_kept feeds word =
+    keep 9 feeds.torque.value (keep 8 feeds.speed.value (keep 7 feeds.load.value
+    (keep 6 feeds.plate.value (keep 5 feeds.pedal.value word))))
+
+-- the words outside level 2's own regions, by their addresses
+unfoldable pub outside : List ℕ → ℕ → ℕ
+outside memory address = if is_level2_own (region_of address) then 0 else slice_index memory address

@@ -1,0 +1,107 @@
+-- The sixteen words that level 2 keeps in the guarded memory, each with its complement.
+use Rattle.std.specs.Prelude.{◌≡◌, ℕ, ◌+◌, ◌<◌, ◌≤◌, Bool, true, false, not, ◌==◌, nat_lt, if◌then◌else◌, List, slice_index}
+use Rattle.eg_guard.specs.declared.regions.Region.{Region}
+use Rattle.eg_guard.specs.declared.regions.Region.TheVariants.{Results, Protected}
+use Rattle.eg_answer.specs.declared.rules.Rules.{Rules}
+
+-- The words by their names: the five signals, the five debounce counters, whether limited operation and
+-- whether a trip was found, and what tells that level 2 ran: the token, the high word of the next answer, the
+-- last tick at which module 0 ran, and the fold so far.
+pub record Words : Type 0 where
+  pub pedal : ℕ
+  pub permitted : ℕ
+  pub actual : ℕ
+  pub excess : ℕ
+  pub pairs : ℕ
+  pub pedal_counter : ℕ
+  pub plate_counter : ℕ
+  pub load_counter : ℕ
+  pub speed_counter : ℕ
+  pub torque_counter : ℕ
+  pub limp : ℕ
+  pub trip : ℕ
+  pub token : ℕ
+  pub flow : ℕ
+  pub last : ℕ
+  pub sign : ℕ
+
+-- ---- where they stand ----
+
+-- The table of places. The words have the numbers 0 to 15, in the order of their names, and the complement of
+-- a word has its number and 16 more. Words 0 to 4 stand among the results, all else in the protected region.
+unfoldable pub place : ℕ → ℕ
+place number = if nat_lt number 5 then 2080 + number else 2091 + number
+
+-- the word of that number in a memory, and from 16 on the complement
+unfoldable pub word_at : List ℕ → ℕ → ℕ
+word_at memory number = slice_index memory (place number)
+
+-- words by their numbers, by their names
+unfoldable pub named : (ℕ → ℕ) → Words
+named word = record {
+  pedal = word 0;
+  permitted = word 1;
+  actual = word 2;
+  excess = word 3;
+  pairs = word 4;
+  pedal_counter = word 5;
+  plate_counter = word 6;
+  load_counter = word 7;
+  speed_counter = word 8;
+  torque_counter = word 9;
+  limp = word 10;
+  trip = word 11;
+  token = word 12;
+  flow = word 13;
+  last = word 14;
+  sign = word 15;
+}
+
+-- the words that a memory has
+abbrev pub words_of : List ℕ → Words
+words_of memory = named (word_at memory)
+
+-- every word and its complement add up to 65535
+pub record AreMirrored (memory : List ℕ) : Type 0 where
+  pub sums : (number : ℕ) → number < 16 → word_at memory number + word_at memory (number + 16) ≡ 65535
+
+-- the regions that level 2 may change
+unfoldable pub is_level2_own : Region → Bool
+is_level2_own Results = true
+is_level2_own Protected = true
+is_level2_own _ = false
+
+-- ---- what they begin with, and what they keep ----
+
+-- a word that is 1 or 0 is set
+unfoldable pub is_set : ℕ → Bool
+is_set word = not (word == 0)
+
+-- the words after a reset: as if module 0 had last run just before tick 0
+unfoldable pub start : Words
+start = record {
+  pedal = 0;
+  permitted = 0;
+  actual = 0;
+  excess = 0;
+  pairs = 0;
+  pedal_counter = 0;
+  plate_counter = 0;
+  load_counter = 0;
+  speed_counter = 0;
+  torque_counter = 0;
+  limp = 0;
+  trip = 0;
+  token = 0;
+  flow = 0x00ff;
+  last = 65535;
+  sign = 0;
+}
+
+-- no counter has passed its limit
+pub record AreWithin (rules : Rules) (words : Words) : Type 0 where
+  pub pedal : words.pedal_counter ≤ rules.pair.limit
+  pub plate : words.plate_counter ≤ rules.pair.limit
+  pub load : words.load_counter ≤ rules.pair.limit
+  pub speed : words.speed_counter ≤ rules.pair.limit
+  pub torque : words.torque_counter ≤ rules.torque.limit

@@ -1,0 +1,98 @@
+// Module 0: whether level 2's words are what they were left as, and whether it ran at the tick before.
+ghost use Rattle.std.specs.Prelude.{◌≡◌, ◌↔◌, ◌+◌, ◌%◌, ◌==◌, IsTrue, IsOk, OnOk, IfOk, if◌then◌else◌, None, false};
+ghost use Rattle.eg_answer.specs.declared.rules.Rules.{Rules};
+ghost use Rattle.eg_guard.specs.Memory.{AreWords};
+ghost use Rattle.eg_level2.specs.Words.{words_of, AreMirrored, AreWithin};
+ghost use Rattle.eg_level2.specs.Modules.{marked, check_step, given_up, no_watches, mirror_alone};
+ghost use Rattle.eg_level2.specs.Stores.{outside};
+
+use crate::Step;
+use crate::words::{
+    BROKEN_FLOW, FLOW, LAST, SIGN, TOKEN, TRIP, WHOLE_FLOW, clear, is_mirrored, keep, word,
+};
+use eg_answer::next_token;
+use eg_base::NoMemory;
+use eg_guard::Guarded;
+
+/// Module 0: compares each word with its complement, and begins the token and the fold of this tick
+/// (docs/CONCEPT.md, "Level 2").
+#[tactic(auto, unfolding(crate::specs::Modules::no_watches, crate::specs::Modules::mirror_alone))]
+pub(crate) fn check<M: Guarded>(memory: &mut M, tick: u16, seed: u16) -> Result<Step, NoMemory>
+    ensures words { AreMirrored (M.shows memory.old).words
+        → OnOk result (words_of (M.shows memory.new).words
+        ≡ check_step seed tick (words_of (M.shows memory.old).words)) }
+    ensures given_up { ¬ AreMirrored (M.shows memory.old).words
+        → OnOk result (words_of (M.shows memory.new).words ≡ given_up tick) }
+    ensures answer { IfOk result (λ step. step.answer ≡ None) }
+    ensures order { IfOk result (λ step. step.open_path ≡ false) }
+    ensures found { AreMirrored (M.shows memory.old).words
+        → IfOk result (λ step. step.found ≡ no_watches) }
+    ensures mirror_alone { ¬ AreMirrored (M.shows memory.old).words
+        → IfOk result (λ step. step.found ≡ mirror_alone) }
+    ensures mirror { IfOk result (λ step. IsTrue step.found.mirror
+        ↔ ¬ AreMirrored (M.shows memory.old).words) }
+    ensures mirrored { OnOk result (AreMirrored (M.shows memory.new).words) }
+    ensures within { (rules : Rules)
+        → (AreMirrored (M.shows memory.old).words → AreWithin rules (words_of (M.shows memory.old).words))
+        → OnOk result (AreWithin rules (words_of (M.shows memory.new).words)) }
+    ensures outside { outside (M.shows memory.new).words ≡ outside (M.shows memory.old).words }
+    ensures sure { IsTrue (M.shows memory.old).sure → IsOk result }
+    ensures stays_sure { (M.shows memory.new).sure ≡ (M.shows memory.old).sure }
+    ensures are_words { AreWords (M.shows memory.old).words → AreWords (M.shows memory.new).words }
+{
+    if !is_mirrored(memory) {
+        give_up(memory, tick)?;
+        return Ok(Step::mirror());
+    }
+    go_on(memory, tick, seed)?;
+    Ok(Step::quiet())
+}
+
+/// Moves the token, looks at the tick of the last run, notes this one, and begins the fold.
+
+fn go_on<M: Guarded>(memory: &mut M, tick: u16, seed: u16) -> Result<(), NoMemory>
+    ensures words { OnOk result (words_of (M.shows memory.new).words
+        ≡ check_step seed tick (words_of (M.shows memory.old).words)) }
+    ensures mirrored { AreMirrored (M.shows memory.old).words
+        → OnOk result (AreMirrored (M.shows memory.new).words) }
+    ensures outside { outside (M.shows memory.new).words ≡ outside (M.shows memory.old).words }
+    ensures sure { IsTrue (M.shows memory.old).sure → IsOk result }
+    ensures stays_sure { (M.shows memory.new).sure ≡ (M.shows memory.old).sure }
+    ensures are_words { AreWords (M.shows memory.old).words → AreWords (M.shows memory.new).words }
+{
+    let token = next_token(word(memory, TOKEN), 0);
+    let flow = flow_after(word(memory, FLOW), word(memory, LAST), tick);
+    keep(memory, TOKEN, token)?;
+    keep(memory, FLOW, flow)?;
+    keep(memory, LAST, tick)?;
+    keep(memory, SIGN, seed)
+}
+
+/// The flow, marked where the last run wasn't at the tick before.
+#[tactic(auto, unfolding(crate::specs::Modules::marked))]
+fn flow_after(flow: u16, last: u16, tick: u16) -> u16
+    ensures { result ≡ (if (last + 1) % 65536 == tick then flow else marked flow) }
+{
+    if last.wrapping_add(1) == tick {
+        flow
+    } else {
+        flow | BROKEN_FLOW
+    }
+}
+
+/// Gives all words up, and trips.
+
+fn give_up<M: Guarded>(memory: &mut M, tick: u16) -> Result<(), NoMemory>
+    ensures words { OnOk result (words_of (M.shows memory.new).words ≡ given_up tick) }
+    ensures mirrored { OnOk result (AreMirrored (M.shows memory.new).words) }
+    ensures outside { outside (M.shows memory.new).words ≡ outside (M.shows memory.old).words }
+    ensures sure { IsTrue (M.shows memory.old).sure → IsOk result }
+    ensures stays_sure { (M.shows memory.new).sure ≡ (M.shows memory.old).sure }
+    ensures are_words { AreWords (M.shows memory.old).words → AreWords (M.shows memory.new).words }
+{
+    clear(memory)?;
+    keep(memory, TRIP, 1)?;
+    keep(memory, TOKEN, 1)?;
+    keep(memory, FLOW, WHOLE_FLOW | BROKEN_FLOW)?;
+    keep(memory, LAST, tick)
+}

@@ -1,0 +1,156 @@
+// Module 6: the signals are debounced, and what is confirmed for the first time is found.
+ghost use Rattle.std.specs.Prelude.{◌≡◌, ◌≤◌, ◌&&◌, ◌||◌, ◌==◌, nat_lt, IsTrue, IsOk, OnOk, IfOk, None, false};
+ghost use Rattle.eg_num.specs.Counting.{fed};
+ghost use Rattle.eg_guard.specs.Memory.{AreWords};
+ghost use Rattle.eg_level2.specs.Words.{word_at, words_of, AreMirrored, AreWithin};
+ghost use Rattle.eg_level2.specs.Modules.{has_bit, debounced, debounce_step, finding};
+ghost use Rattle.eg_level2.specs.Stores.{fed_of, feeds_of, trips_of, found_of, counters_kept, outside};
+
+use crate::Step;
+use crate::step::no_watches;
+use crate::words::{
+    EXCESS, LIMP, LOAD_COUNTER, PAIRS, PEDAL_COUNTER, PLATE_COUNTER, SPEED_COUNTER, TOKEN,
+    TORQUE_COUNTER, TRIP, is_set, keep, keep_where, word,
+};
+use eg_answer::{Rules, next_token};
+use eg_base::NoMemory;
+use eg_guard::Guarded;
+use eg_num::{Counter, Watches, Weights};
+
+/// A counter after a feed, and whether it comes to its limit by that feed.
+#[derive(Clone, Copy)]
+struct Fed {
+    value: u16,
+    found: bool,
+}
+
+/// The five counters after their feeds.
+#[derive(Clone, Copy)]
+struct Feeds {
+    pedal: Fed,
+    plate: Fed,
+    load: Fed,
+    speed: Fed,
+    torque: Fed,
+}
+
+/// Module 6: debounces the pairs and the excess, where no trip stands. A pedal that is found limits the
+/// operation; any other watch that is found trips (docs/CONCEPT.md, "Level 2").
+pub(crate) fn debounce<M: Guarded>(memory: &mut M, rules: &Rules) -> Result<Step, NoMemory>
+    requires { AreWithin rules.now (words_of (M.shows memory.old).words) }
+    ensures words { OnOk result (words_of (M.shows memory.new).words
+        ≡ debounce_step rules.now (words_of (M.shows memory.old).words)) }
+    ensures step { IfOk result (λ step. step
+        ≡ finding (debounced rules.now (words_of (M.shows memory.old).words))) }
+    ensures mirrored { AreMirrored (M.shows memory.old).words
+        → OnOk result (AreMirrored (M.shows memory.new).words) }
+    ensures outside { outside (M.shows memory.new).words ≡ outside (M.shows memory.old).words }
+    ensures sure { IsTrue (M.shows memory.old).sure → IsOk result }
+    ensures stays_sure { (M.shows memory.new).sure ≡ (M.shows memory.old).sure }
+    ensures are_words { AreWords (M.shows memory.old).words → AreWords (M.shows memory.new).words }
+{
+    let token = next_token(word(memory, TOKEN), 6);
+    if is_set(word(memory, TRIP)) {
+        keep(memory, TOKEN, token)?;
+        return Ok(Step::quiet());
+    }
+    let feeds = feed_all(memory, rules);
+    keep_counters(memory, &feeds)?;
+    keep_where(feeds.pedal.found, memory, LIMP, 1)?;
+    keep_where(feeds.trips(), memory, TRIP, 1)?;
+    keep(memory, TOKEN, token)?;
+    Ok(Step::finding(feeds.found()))
+}
+
+/// One feed of a counter.
+#[tactic(auto, unfolding(crate::specs::Stores::fed_of))]
+fn feed(weights: &Weights, value: u16, bad: bool) -> Fed
+    requires { value ≤ weights.now.limit }
+    ensures { result ≡ fed_of weights.now value bad }
+{
+    let mut counter = Counter { value };
+    let confirmed = counter.feed(weights, bad);
+    Fed {
+        value: counter.value,
+        found: is_new(value, weights, confirmed),
+    }
+}
+
+/// Whether a counter is confirmed that was below its limit before.
+fn is_new(before: u16, weights: &Weights, confirmed: bool) -> bool
+    ensures { result ≡ (nat_lt before weights.now.limit && confirmed) }
+{
+    before < weights.limit() && confirmed
+}
+
+/// Whether the bit of that size is set in a word.
+#[tactic(auto, unfolding(crate::specs::Modules::has_bit))]
+fn has_bit(size: u16, word: u16) -> bool
+    requires { 1 ≤ size }
+    ensures { result ≡ has_bit size word }
+{
+    word / size % 2 == 1
+}
+
+/// Feeds the counters with the bits of the pairs and of the excess.
+fn feed_all<M: Guarded>(memory: &M, rules: &Rules) -> Feeds
+    requires { AreWithin rules.now (words_of (M.shows memory.now).words) }
+    ensures { result ≡ feeds_of rules.now (words_of (M.shows memory.now).words) }
+{
+    let pairs = word(memory, PAIRS);
+    let excess = word(memory, EXCESS);
+    Feeds {
+        pedal: feed(&rules.pair, word(memory, PEDAL_COUNTER), has_bit(1, pairs)),
+        plate: feed(&rules.pair, word(memory, PLATE_COUNTER), has_bit(2, pairs)),
+        load: feed(&rules.pair, word(memory, LOAD_COUNTER), has_bit(4, pairs)),
+        speed: feed(&rules.pair, word(memory, SPEED_COUNTER), has_bit(8, pairs)),
+        torque: feed(
+            &rules.torque,
+            word(memory, TORQUE_COUNTER),
+            has_bit(1, excess),
+        ),
+    }
+}
+
+/// Stores the counters.
+fn keep_counters<M: Guarded>(memory: &mut M, feeds: &Feeds) -> Result<(), NoMemory>
+    ensures stored { OnOk result (word_at (M.shows memory.new).words
+        ≡ counters_kept feeds.now (word_at (M.shows memory.old).words)) }
+    ensures mirrored { AreMirrored (M.shows memory.old).words
+        → OnOk result (AreMirrored (M.shows memory.new).words) }
+    ensures outside { outside (M.shows memory.new).words ≡ outside (M.shows memory.old).words }
+    ensures sure { IsTrue (M.shows memory.old).sure → IsOk result }
+    ensures stays_sure { (M.shows memory.new).sure ≡ (M.shows memory.old).sure }
+    ensures are_words { AreWords (M.shows memory.old).words → AreWords (M.shows memory.new).words }
+{
+    keep(memory, PEDAL_COUNTER, feeds.pedal.value)?;
+    keep(memory, PLATE_COUNTER, feeds.plate.value)?;
+    keep(memory, LOAD_COUNTER, feeds.load.value)?;
+    keep(memory, SPEED_COUNTER, feeds.speed.value)?;
+    keep(memory, TORQUE_COUNTER, feeds.torque.value)
+}
+
+impl Feeds {
+    /// Whether a watch is found that trips the unit: any but the pedal's.
+    #[tactic(auto, unfolding(crate::specs::Stores::trips_of))]
+    fn trips(&self) -> bool
+        ensures { result ≡ trips_of self.now }
+    {
+        self.plate.found || self.load.found || self.speed.found || self.torque.found
+    }
+
+    /// The watches that are found.
+    #[tactic(auto, unfolding(crate::specs::Modules::no_watches, crate::specs::Stores::found_of))]
+    fn found(&self) -> Watches
+        ensures { result ≡ found_of self.now }
+    {
+        Watches {
+            pedal: self.pedal.found,
+            plate: self.plate.found,
+            load: self.load.found,
+            speed: self.speed.found,
+            torque: self.torque.found,
+            ..no_watches()
+        }
+    }
+}

@@ -1,0 +1,187 @@
+// Level 2 as a whole: its eight modules by their numbers, and its reset.
+ghost use Rattle.std.specs.Prelude.{◌≡◌, ◌↔◌, ℕ, ◌<◌, ◌≤◌, length, IsTrue, IsOk, OnOk, IfOk};
+ghost use Rattle.eg_answer.specs.Questions.{question_at};
+ghost use Rattle.eg_guard.specs.Memory.{AreWords, SameOutside};
+ghost use Rattle.eg_level2.specs.Words.{words_of, AreMirrored, AreWithin, is_level2_own, start};
+ghost use Rattle.eg_level2.specs.Inputs.{Level2Parts, AreParts, inputs_of, asked_of, row_of};
+ghost use Rattle.eg_level2.specs.Modules.{given_up, module_step, step_of, answer_after, order_after, mirror_alone, found_by};
+ghost use Rattle.eg_level2.specs.Stores.{outside};
+
+use crate::Step;
+use crate::check::check;
+use crate::debounce::debounce;
+use crate::ports::asked;
+use crate::react::react;
+use crate::signals::{actual, excess, pairs, pedal, permitted};
+use crate::words::{FLOW, LAST, WHOLE_FLOW, clear, keep};
+use eg_answer::{Questions, Rules, TestRow};
+use eg_base::NoMemory;
+use eg_guard::Guarded;
+use std::marker::Model;
+
+/// Level 2, the function monitoring (docs/CONCEPT.md, "Level 2"): the rules that it goes by, and the questions
+/// that it answers. What it remembers stands in the guarded memory. Contracts see its `Level2Parts`.
+#[derive(Drop)]
+pub struct Level2 {
+    rules: Rules,
+    questions: Questions,
+}
+
+impl Model for Level2 {
+    ghost use Rattle.eg_level2.specs.Inputs.{Level2Parts, AreParts};
+
+    ghost Value = { Level2Parts };
+
+    ghost view = { λ l. record { rules = l.rules; questions = l.questions } };
+
+    ghost invariant = { λ l. AreParts (record { rules = l.rules; questions = l.questions }) };
+}
+
+impl Level2 {
+    /// Level 2 with these rules and questions.
+    pub fn new(rules: Rules, questions: Questions) -> Level2
+        requires { 2 ≤ length questions }
+        ensures parts { result ≡ record { rules = rules; questions = questions } }
+        ensures keeps { AreParts result }
+    {
+        Level2 { rules, questions }
+    }
+
+    /// The rules that it goes by.
+    pub fn rules(&self) -> &Rules
+        ensures rules { result.now ≡ self.now.rules }
+        ensures keeps { AreParts self.now }
+    {
+        &self.rules
+    }
+
+    /// The questions that it answers.
+    pub fn questions(&self) -> &Questions
+        ensures questions { result.now ≡ self.now.questions }
+        ensures keeps { AreParts self.now }
+    {
+        &self.questions
+    }
+
+    /// Puts level 2's words, with their complements, to their start (docs/CONCEPT.md, "Level 2").
+    #[tactic(auto, using(crate::proofs::StoreLemmas::outsides))]
+    pub fn reset<M: Guarded>(&self, memory: &mut M) -> Result<(), NoMemory>
+        ensures words { OnOk result (words_of (M.shows memory.new).words ≡ start) }
+        ensures within { OnOk result (AreWithin self.now.rules (words_of (M.shows memory.new).words)) }
+        ensures mirrored { OnOk result (AreMirrored (M.shows memory.new).words) }
+
+        // No word outside results and protected changes. NoMemory never comes over a sure memory.
+        ensures outside { SameOutside is_level2_own (M.shows memory.old).words (M.shows memory.new).words }
+        ensures sure { IsTrue (M.shows memory.old).sure → IsOk result }
+        ensures stays_sure { (M.shows memory.new).sure ≡ (M.shows memory.old).sure }
+        ensures are_words { AreWords (M.shows memory.old).words → AreWords (M.shows memory.new).words }
+    {
+        clear(memory)?;
+        keep(memory, FLOW, WHOLE_FLOW)?;
+        keep(memory, LAST, u16::MAX)
+    }
+
+    /// Runs the module of this number, 0 to 7, over the memory (docs/CONCEPT.md, "Level 2"). The readings and
+    /// the number of the question stand at the input ports and at the link. `tick` is this tick, and `send`
+    /// says whether the answer is sent at it. What disturbs the run is mixed in by exclusive or; 0 disturbs
+    /// nothing. NoMemory leaves the words as far as they were stored.
+    #[tactic(auto, using(crate::proofs::StoreLemmas::outsides))]
+    pub fn module<M: Guarded>(
+        &self,
+        number: u8,
+        memory: &mut M,
+        tick: u16,
+        send: bool,
+        disturbance: u16,
+    ) -> Result<Step, NoMemory>
+        requires number { number < 8 }
+        // Module 0 takes any words. The others rely on what it has checked.
+        requires mirrored { 0 < number → AreMirrored (M.shows memory.old).words }
+        requires within { 0 < number → AreWithin self.now.rules (words_of (M.shows memory.old).words) }
+
+        // The words after the run, and what it answers, orders and finds, where each word had its complement.
+        ensures words { AreMirrored (M.shows memory.old).words
+            → OnOk result (words_of (M.shows memory.new).words
+            ≡ module_step (inputs_of self.now (M.shows memory.old).words tick send disturbance) number
+            (words_of (M.shows memory.old).words)) }
+        ensures answer { IfOk result (λ step. step.answer
+            ≡ answer_after (inputs_of self.now (M.shows memory.old).words tick send disturbance) number
+            (words_of (M.shows memory.old).words)) }
+        ensures order { IfOk result (λ step. step.open_path
+            ≡ order_after number (words_of (M.shows memory.old).words)) }
+        ensures found { AreMirrored (M.shows memory.old).words → IfOk result (λ step. step.found
+            ≡ found_by (inputs_of self.now (M.shows memory.old).words tick send disturbance) number
+            (words_of (M.shows memory.old).words)) }
+
+        // Where a word differed from its complement, module 0 gives all words up, and finds that alone. Mirror
+        // is found exactly there.
+        ensures given_up { ¬ AreMirrored (M.shows memory.old).words
+            → OnOk result (words_of (M.shows memory.new).words ≡ given_up tick) }
+        ensures mirror_alone { ¬ AreMirrored (M.shows memory.old).words
+            → IfOk result (λ step. step.found ≡ mirror_alone) }
+        ensures mirror { IfOk result (λ step. IsTrue step.found.mirror
+            ↔ ¬ AreMirrored (M.shows memory.old).words) }
+
+        // Each word has its complement afterwards, and no counter passes its limit.
+        ensures mirrored { OnOk result (AreMirrored (M.shows memory.new).words) }
+        ensures within { (AreMirrored (M.shows memory.old).words
+            → AreWithin self.now.rules (words_of (M.shows memory.old).words))
+            → OnOk result (AreWithin self.now.rules (words_of (M.shows memory.new).words)) }
+
+        // No word outside results and protected changes. NoMemory never comes over a sure memory.
+        ensures outside { SameOutside is_level2_own (M.shows memory.old).words (M.shows memory.new).words }
+        ensures sure { IsTrue (M.shows memory.old).sure → IsOk result }
+        ensures stays_sure { (M.shows memory.new).sure ≡ (M.shows memory.old).sure }
+        ensures are_words { AreWords (M.shows memory.old).words → AreWords (M.shows memory.new).words }
+    {
+        if number == 0 {
+            return check(memory, tick, self.row(memory).seed);
+        }
+        self.run(number, memory, send, disturbance)
+    }
+
+    /// Runs a module other than the first.
+    fn run<M: Guarded>(
+        &self,
+        number: u8,
+        memory: &mut M,
+        send: bool,
+        disturbance: u16,
+    ) -> Result<Step, NoMemory>
+        requires first { 0 < number }
+        requires last { number < 8 }
+        requires within { AreWithin self.now.rules (words_of (M.shows memory.old).words) }
+        ensures words { (tick : ℕ) → OnOk result (words_of (M.shows memory.new).words
+            ≡ module_step (inputs_of self.now (M.shows memory.old).words tick send disturbance) number
+            (words_of (M.shows memory.old).words)) }
+        ensures step { (tick : ℕ) → IfOk result (λ step. step
+            ≡ step_of (inputs_of self.now (M.shows memory.old).words tick send disturbance) number
+            (words_of (M.shows memory.old).words)) }
+        ensures mirrored { AreMirrored (M.shows memory.old).words
+            → OnOk result (AreMirrored (M.shows memory.new).words) }
+        ensures outside { outside (M.shows memory.new).words ≡ outside (M.shows memory.old).words }
+        ensures sure { IsTrue (M.shows memory.old).sure → IsOk result }
+        ensures stays_sure { (M.shows memory.new).sure ≡ (M.shows memory.old).sure }
+        ensures are_words { AreWords (M.shows memory.old).words → AreWords (M.shows memory.new).words }
+    {
+        let row = self.row(memory);
+        match number {
+            1 => pedal(memory, row, disturbance),
+            2 => permitted(memory, &self.rules, row, disturbance),
+            3 => actual(memory, &self.rules, row, disturbance),
+            4 => excess(memory, &self.rules, row, disturbance),
+            5 => pairs(memory, &self.rules, row, disturbance),
+            6 => debounce(memory, &self.rules),
+            _ => react(memory, send),
+        }
+    }
+
+    /// The test row of the question whose number stands at the link.
+    #[tactic(auto, unfolding(crate::specs::Inputs::row_of))]
+    fn row<M: Guarded>(&self, memory: &M) -> &TestRow
+        ensures { result.now ≡ row_of self.now.questions (asked_of (M.shows memory.now).words) }
+    {
+        self.questions
+            .row(usize::from(asked(memory)) % self.questions.len())
+    }
+}

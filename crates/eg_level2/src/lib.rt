@@ -1,0 +1,24 @@
+//! Level 2, the function monitoring, as eight modules over the guarded memory.
+//!
+//! Level 2 is what the unit trusts. It compares the torque of the engine with the torque that the drive
+//! permits, debounces what it finds, looks at its own program flow and answers questions. Its sixteen words
+//! stand in a memory that it shares with level 1, which nobody trusts: each has its complement beside it, and
+//! module 0 compares them. A module is a small function over the guarded memory, and its contract is one
+//! formula a word (`specs/Modules.antt`).
+#![tactic(auto)]
+
+mod check;
+mod debounce;
+mod level2;
+mod ports;
+mod react;
+mod signals;
+mod step;
+mod words;
+
+pub use eg_num::Watches;
+pub use level2::Level2;
+pub use step::Step;
+
+#[cfg(test)]
+mod tests;

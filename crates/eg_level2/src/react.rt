@@ -1,0 +1,84 @@
+// Module 7: what comes of a trip, and the answer.
+ghost use Rattle.std.specs.Prelude.{◌≡◌, ◌+◌, ◌*◌, ◌==◌, ◌&&◌, not, IsTrue, IsOk, OnOk, IfOk, if◌then◌else◌, Some, None, false};
+ghost use Rattle.eg_guard.specs.Memory.{AreWords};
+ghost use Rattle.eg_level2.specs.Words.{words_of, AreMirrored, is_set};
+ghost use Rattle.eg_level2.specs.Modules.{marked, react_step, answer_of, no_watches};
+ghost use Rattle.eg_level2.specs.Stores.{outside};
+
+use crate::Step;
+use crate::step::no_watches;
+use crate::words::{BROKEN_FLOW, FLOW, SIGN, TOKEN, TRIP, WHOLE_FLOW, is_set, keep, word};
+use eg_answer::next_token;
+use eg_base::NoMemory;
+use eg_guard::Guarded;
+
+/// The token that all eight modules have moved.
+const WHOLE_TOKEN: u16 = 0x00ff;
+
+/// Module 7: orders path 1 open where a trip stands, and else sends the answer at a send tick
+/// (docs/CONCEPT.md, "Level 2").
+pub(crate) fn react<M: Guarded>(memory: &mut M, send: bool) -> Result<Step, NoMemory>
+    ensures words { OnOk result (words_of (M.shows memory.new).words
+        ≡ react_step send (words_of (M.shows memory.old).words)) }
+    ensures answer { IfOk result (λ step. step.answer
+        ≡ answer_of send (words_of (M.shows memory.old).words)) }
+    ensures order { IfOk result (λ step. step.open_path
+        ≡ is_set (words_of (M.shows memory.old).words).trip) }
+    ensures found { IfOk result (λ step. step.found ≡ no_watches) }
+    ensures mirrored { AreMirrored (M.shows memory.old).words
+        → OnOk result (AreMirrored (M.shows memory.new).words) }
+    ensures outside { outside (M.shows memory.new).words ≡ outside (M.shows memory.old).words }
+    ensures sure { IsTrue (M.shows memory.old).sure → IsOk result }
+    ensures stays_sure { (M.shows memory.new).sure ≡ (M.shows memory.old).sure }
+    ensures are_words { AreWords (M.shows memory.old).words → AreWords (M.shows memory.new).words }
+{
+    let trip = is_set(word(memory, TRIP));
+    let token = next_token(word(memory, TOKEN), 7);
+    let flow = closed(word(memory, FLOW), token);
+    let sign = word(memory, SIGN);
+    let sends = answers(send, trip);
+    keep(memory, TOKEN, 0)?;
+    keep(memory, FLOW, flow_after(sends, flow))?;
+    Ok(Step {
+        open_path: trip,
+        answer: number(sends, flow, sign),
+        found: no_watches(),
+    })
+}
+
+/// The flow, marked where the token isn't whole.
+#[tactic(auto, unfolding(crate::specs::Modules::marked))]
+fn closed(flow: u16, token: u16) -> u16
+    ensures { result ≡ (if token == 255 then flow else marked flow) }
+{
+    if token == WHOLE_TOKEN {
+        flow
+    } else {
+        flow | BROKEN_FLOW
+    }
+}
+
+/// Whether an answer is sent: at a send tick without a trip.
+fn answers(send: bool, trip: bool) -> bool
+    ensures { result ≡ (send && not trip) }
+{
+    send && !trip
+}
+
+/// The flow, which begins anew once an answer was sent.
+fn flow_after(sent: bool, flow: u16) -> u16
+    ensures { result ≡ (if sent then 255 else flow) }
+{
+    if sent { WHOLE_FLOW } else { flow }
+}
+
+/// The number that is sent, if one is.
+fn number(sends: bool, flow: u16, sign: u16) -> Option<u32>
+    ensures { result ≡ (if sends then Some (flow * 65536 + sign) else None) }
+{
+    if sends {
+        Some(u32::from(flow) * 65536 + u32::from(sign))
+    } else {
+        None
+    }
+}

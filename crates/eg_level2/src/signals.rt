@@ -1,0 +1,208 @@
+// Modules 1 to 5: each computes a signal, and by the same function a result of the question's row.
+ghost use Rattle.std.specs.Prelude.{◌≡◌, ◌≤◌, IsTrue, IsOk, OnOk, IfOk, bit_xor, if◌then◌else◌, slice_index, None, false};
+ghost use Rattle.eg_guard.specs.Memory.{AreWords};
+ghost use Rattle.eg_torque.specs.Permit.{permitted as permitted_of};
+ghost use Rattle.eg_torque.specs.Excess.{is_excess};
+ghost use Rattle.eg_sensor.specs.Readings.{checked_raise as raise_of, bit};
+ghost use Rattle.eg_answer.specs.Folds.{mixed};
+ghost use Rattle.eg_level2.specs.Words.{word_at, words_of, AreMirrored, is_set};
+ghost use Rattle.eg_level2.specs.Inputs.{readings_of};
+ghost use Rattle.eg_level2.specs.Signals.{actual_signal};
+ghost use Rattle.eg_level2.specs.Modules.{pedal_step, permitted_step, actual_step, excess_step, pairs_step, quiet_step};
+ghost use Rattle.eg_level2.specs.Stores.{signalled, outside};
+
+use crate::Step;
+use crate::ports::readings;
+use crate::words::{ACTUAL, LIMP, PEDAL, PERMITTED, SIGN, TOKEN, TRIP, is_set, keep, word};
+use eg_answer::{Rules, TestRow, next_token};
+use eg_base::NoMemory;
+use eg_guard::Guarded;
+use eg_sensor::{Readings, checked_raise, pair_bits, used};
+use eg_torque as torque;
+
+/// Module 1: the pedal that level 2 uses, in per mille (docs/CONCEPT.md, "Level 2").
+pub(crate) fn pedal<M: Guarded>(
+    memory: &mut M,
+    row: &TestRow,
+    disturbance: u16,
+) -> Result<Step, NoMemory>
+    ensures words { OnOk result (words_of (M.shows memory.new).words
+        ≡ pedal_step (readings_of (M.shows memory.old).words) row.now disturbance
+        (words_of (M.shows memory.old).words)) }
+    ensures step { IfOk result (λ step. step ≡ quiet_step) }
+    ensures mirrored { AreMirrored (M.shows memory.old).words
+        → OnOk result (AreMirrored (M.shows memory.new).words) }
+    ensures outside { outside (M.shows memory.new).words ≡ outside (M.shows memory.old).words }
+    ensures sure { IsTrue (M.shows memory.old).sure → IsOk result }
+    ensures stays_sure { (M.shows memory.new).sure ≡ (M.shows memory.old).sure }
+    ensures are_words { AreWords (M.shows memory.old).words → AreWords (M.shows memory.new).words }
+{
+    let read = readings(memory);
+    let signal = used(read.pedal, is_set(word(memory, LIMP)));
+    let test = used(row.readings.pedal, false);
+    write(memory, 1, signal, test, disturbance)?;
+    Ok(Step::quiet())
+}
+
+/// Module 2: the permitted torque, in tenths of Nm (docs/CONCEPT.md, "Level 2").
+pub(crate) fn permitted<M: Guarded>(
+    memory: &mut M,
+    rules: &Rules,
+    row: &TestRow,
+    disturbance: u16,
+) -> Result<Step, NoMemory>
+    ensures words { OnOk result (words_of (M.shows memory.new).words
+        ≡ permitted_step rules.now (readings_of (M.shows memory.old).words) row.now disturbance
+        (words_of (M.shows memory.old).words)) }
+    ensures step { IfOk result (λ step. step ≡ quiet_step) }
+    ensures mirrored { AreMirrored (M.shows memory.old).words
+        → OnOk result (AreMirrored (M.shows memory.new).words) }
+    ensures outside { outside (M.shows memory.new).words ≡ outside (M.shows memory.old).words }
+    ensures sure { IsTrue (M.shows memory.old).sure → IsOk result }
+    ensures stays_sure { (M.shows memory.new).sure ≡ (M.shows memory.old).sure }
+    ensures are_words { AreWords (M.shows memory.old).words → AreWords (M.shows memory.new).words }
+{
+    let signal = permit(rules, word(memory, PEDAL), &readings(memory));
+    let test = permit(rules, row.used, &row.readings);
+    write(memory, 2, signal, test, disturbance)?;
+    Ok(Step::quiet())
+}
+
+/// Module 3: the actual torque, in tenths of Nm (docs/CONCEPT.md, "Level 2").
+pub(crate) fn actual<M: Guarded>(
+    memory: &mut M,
+    rules: &Rules,
+    row: &TestRow,
+    disturbance: u16,
+) -> Result<Step, NoMemory>
+    ensures words { OnOk result (words_of (M.shows memory.new).words
+        ≡ actual_step rules.now (readings_of (M.shows memory.old).words) row.now disturbance
+        (words_of (M.shows memory.old).words)) }
+    ensures step { IfOk result (λ step. step ≡ quiet_step) }
+    ensures mirrored { AreMirrored (M.shows memory.old).words
+        → OnOk result (AreMirrored (M.shows memory.new).words) }
+    ensures outside { outside (M.shows memory.new).words ≡ outside (M.shows memory.old).words }
+    ensures sure { IsTrue (M.shows memory.old).sure → IsOk result }
+    ensures stays_sure { (M.shows memory.new).sure ≡ (M.shows memory.old).sure }
+    ensures are_words { AreWords (M.shows memory.old).words → AreWords (M.shows memory.new).words }
+{
+    let signal = estimate(rules, &readings(memory));
+    let test = estimate(rules, &row.readings);
+    write(memory, 3, signal, test, disturbance)?;
+    Ok(Step::quiet())
+}
+
+/// Module 4: 1 where the actual torque is an excess over the permitted torque, else 0 (docs/CONCEPT.md,
+/// "Level 2").
+pub(crate) fn excess<M: Guarded>(
+    memory: &mut M,
+    rules: &Rules,
+    row: &TestRow,
+    disturbance: u16,
+) -> Result<Step, NoMemory>
+    ensures words { OnOk result (words_of (M.shows memory.new).words
+        ≡ excess_step rules.now row.now disturbance (words_of (M.shows memory.old).words)) }
+    ensures step { IfOk result (λ step. step ≡ quiet_step) }
+    ensures mirrored { AreMirrored (M.shows memory.old).words
+        → OnOk result (AreMirrored (M.shows memory.new).words) }
+    ensures outside { outside (M.shows memory.new).words ≡ outside (M.shows memory.old).words }
+    ensures sure { IsTrue (M.shows memory.old).sure → IsOk result }
+    ensures stays_sure { (M.shows memory.new).sure ≡ (M.shows memory.old).sure }
+    ensures are_words { AreWords (M.shows memory.old).words → AreWords (M.shows memory.new).words }
+{
+    let signal = exceeds(rules, word(memory, ACTUAL), word(memory, PERMITTED));
+    let test = exceeds(rules, row.estimate, row.allowed);
+    write(memory, 4, signal, test, disturbance)?;
+    Ok(Step::quiet())
+}
+
+/// Module 5: the bits of the pairs that disagree (docs/CONCEPT.md, "Level 2").
+pub(crate) fn pairs<M: Guarded>(
+    memory: &mut M,
+    rules: &Rules,
+    row: &TestRow,
+    disturbance: u16,
+) -> Result<Step, NoMemory>
+    ensures words { OnOk result (words_of (M.shows memory.new).words
+        ≡ pairs_step rules.now (readings_of (M.shows memory.old).words) row.now disturbance
+        (words_of (M.shows memory.old).words)) }
+    ensures step { IfOk result (λ step. step ≡ quiet_step) }
+    ensures mirrored { AreMirrored (M.shows memory.old).words
+        → OnOk result (AreMirrored (M.shows memory.new).words) }
+    ensures outside { outside (M.shows memory.new).words ≡ outside (M.shows memory.old).words }
+    ensures sure { IsTrue (M.shows memory.old).sure → IsOk result }
+    ensures stays_sure { (M.shows memory.new).sure ≡ (M.shows memory.old).sure }
+    ensures are_words { AreWords (M.shows memory.old).words → AreWords (M.shows memory.new).words }
+{
+    let signal = pair_bits(&readings(memory), &rules.tolerances);
+    let test = pair_bits(&row.readings, &rules.tolerances);
+    write(memory, 5, signal, test, disturbance)?;
+    Ok(Step::quiet())
+}
+
+/// The permitted torque at a pedal (per mille), and at the speeds and the raise that are read.
+fn permit(rules: &Rules, pedal: u16, read: &Readings) -> u16
+    ensures { result ≡ permitted_of rules.now.permit pedal (slice_index read.now.speed 0)
+        (slice_index read.now.speed 1) (raise_of read.now.raise read.now.raise_check) }
+{
+    let raise = checked_raise(read.raise, read.raise_check);
+    rules.permit.at(pedal, read.speed[0], read.speed[1], raise)
+}
+
+/// The torque estimate of the higher of the two loads.
+#[tactic(auto, unfolding(crate::specs::Signals::actual_signal))]
+fn estimate(rules: &Rules, read: &Readings) -> u16
+    ensures { result ≡ actual_signal rules.now read.now }
+{
+    torque::actual(read.load[0].max(read.load[1]), rules.kt)
+}
+
+/// 1 where an estimate is an excess over a permitted torque, else 0.
+fn exceeds(rules: &Rules, estimate: u16, permitted: u16) -> u16
+    ensures { result ≡ bit 1 (is_excess estimate permitted rules.now.threshold) }
+{
+    u16::from(torque::excess(estimate, permitted, rules.threshold))
+}
+
+/// Stores the signal of a module, moves the token, and mixes the result of the question's row into the fold.
+
+fn write<M: Guarded>(
+    memory: &mut M,
+    number: u8,
+    signal: u16,
+    test: u16,
+    disturbance: u16,
+) -> Result<(), NoMemory>
+    requires first { 1 ≤ number }
+    requires last { number ≤ 5 }
+    ensures stored { OnOk result (word_at (M.shows memory.new).words
+        ≡ signalled number signal test disturbance (word_at (M.shows memory.old).words)) }
+    ensures mirrored { AreMirrored (M.shows memory.old).words
+        → OnOk result (AreMirrored (M.shows memory.new).words) }
+    ensures outside { outside (M.shows memory.new).words ≡ outside (M.shows memory.old).words }
+    ensures sure { IsTrue (M.shows memory.old).sure → IsOk result }
+    ensures stays_sure { (M.shows memory.new).sure ≡ (M.shows memory.old).sure }
+    ensures are_words { AreWords (M.shows memory.old).words → AreWords (M.shows memory.new).words }
+{
+    let value = written(is_set(word(memory, TRIP)), signal, disturbance);
+    let token = next_token(word(memory, TOKEN), number);
+    let sign = signed(word(memory, SIGN), test, disturbance);
+    keep(memory, u16::from(number) - 1, value)?;
+    keep(memory, TOKEN, token)?;
+    keep(memory, SIGN, sign)
+}
+
+/// A signal as it is written: disturbed, and 0 where a trip stands.
+fn written(trip: bool, signal: u16, disturbance: u16) -> u16
+    ensures { result ≡ (if trip then 0 else bit_xor signal disturbance) }
+{
+    if trip { 0 } else { signal ^ disturbance }
+}
+
+/// The fold with one result more, which is disturbed too.
+#[tactic(auto, unfolding(eg_answer::specs::Folds::mixed))]
+fn signed(sign: u16, test: u16, disturbance: u16) -> u16
+    ensures { result ≡ bit_xor (mixed sign test) disturbance }
+{
+    sign.rotate_left(3) ^ test ^ disturbance
+}

@@ -1,0 +1,173 @@
+// Level 2's words in the guarded memory: each is stored with its complement.
+ghost use Rattle.std.specs.Prelude.{◌≡◌, ◌↔◌, ◌+◌, ◌-◌, ◌<◌, IsTrue, IsOk, OnOk, not, ◌==◌};
+ghost use Rattle.eg_guard.specs.Memory.{AreWords};
+ghost use Rattle.eg_level2.specs.Words.{place, word_at, AreMirrored, is_set};
+ghost use Rattle.eg_level2.specs.Stores.{put, keep, keep_where, cleared, outside};
+
+use eg_base::NoMemory;
+use eg_guard::{Guarded, StoreRefusal, Who};
+
+/// How many words there are, each with a complement.
+const WORDS: u16 = 16;
+
+// The numbers of the words (docs/FORMATS.md, "Words of level 2").
+pub(crate) const PEDAL: u16 = 0;
+
+pub(crate) const PERMITTED: u16 = 1;
+
+pub(crate) const ACTUAL: u16 = 2;
+
+pub(crate) const EXCESS: u16 = 3;
+
+pub(crate) const PAIRS: u16 = 4;
+
+pub(crate) const PEDAL_COUNTER: u16 = 5;
+
+pub(crate) const PLATE_COUNTER: u16 = 6;
+
+pub(crate) const LOAD_COUNTER: u16 = 7;
+
+pub(crate) const SPEED_COUNTER: u16 = 8;
+
+pub(crate) const TORQUE_COUNTER: u16 = 9;
+
+pub(crate) const LIMP: u16 = 10;
+
+pub(crate) const TRIP: u16 = 11;
+
+pub(crate) const TOKEN: u16 = 12;
+
+pub(crate) const FLOW: u16 = 13;
+
+pub(crate) const LAST: u16 = 14;
+
+pub(crate) const SIGN: u16 = 15;
+
+/// The high word of an answer where the program flow is whole.
+pub(crate) const WHOLE_FLOW: u16 = 0x00ff;
+
+/// What marks it where the program flow was broken.
+pub(crate) const BROKEN_FLOW: u16 = 0x8000;
+
+/// The address at which the word of that number stands (docs/FORMATS.md, "Words of level 2"), and from 16 on
+/// its complement.
+#[tactic(auto, unfolding(crate::specs::Words::place))]
+fn place(number: u16) -> u16
+    requires { number < 32 }
+    ensures { result ≡ place number }
+{
+    if number < 5 {
+        2080 + number
+    } else {
+        2091 + number
+    }
+}
+
+/// The word of that number, and from 16 on the complement.
+#[tactic(auto, using(crate::proofs::PlaceLemmas::places), unfolding(crate::specs::Words::word_at))]
+pub(crate) fn word<M: Guarded>(memory: &M, number: u16) -> u16
+    requires { number < 32 }
+    ensures { result ≡ word_at (M.shows memory.now).words number }
+{
+    match memory.load(Who::Level2, place(number)) {
+        Ok(word) => word,
+        Err(_) => unreachable!(),
+    }
+}
+
+/// Stores one word alone.
+#[tactic(auto, using(crate::proofs::PlaceLemmas::places))]
+fn put<M: Guarded>(memory: &mut M, number: u16, value: u16) -> Result<(), NoMemory>
+    requires { number < 32 }
+    ensures stored { OnOk result (word_at (M.shows memory.new).words
+        ≡ put number value (word_at (M.shows memory.old).words)) }
+    ensures outside { outside (M.shows memory.new).words ≡ outside (M.shows memory.old).words }
+    ensures sure { IsTrue (M.shows memory.old).sure → IsOk result }
+    ensures stays_sure { (M.shows memory.new).sure ≡ (M.shows memory.old).sure }
+    ensures are_words { AreWords (M.shows memory.new).words }
+{
+    match memory.store(Who::Level2, place(number), value) {
+        Ok(()) => Ok(()),
+        Err(StoreRefusal::Refused) => unreachable!(),
+        Err(StoreRefusal::Memory) => Err(NoMemory),
+    }
+}
+
+/// Stores a word and its complement.
+#[tactic(auto, using(crate::proofs::StoreLemmas::stores))]
+pub(crate) fn keep<M: Guarded>(memory: &mut M, number: u16, value: u16) -> Result<(), NoMemory>
+    requires { number < 16 }
+    ensures stored { OnOk result (word_at (M.shows memory.new).words
+        ≡ keep number value (word_at (M.shows memory.old).words)) }
+    ensures mirrored { AreMirrored (M.shows memory.old).words
+        → OnOk result (AreMirrored (M.shows memory.new).words) }
+    ensures outside { outside (M.shows memory.new).words ≡ outside (M.shows memory.old).words }
+    ensures sure { IsTrue (M.shows memory.old).sure → IsOk result }
+    ensures stays_sure { (M.shows memory.new).sure ≡ (M.shows memory.old).sure }
+    ensures are_words { AreWords (M.shows memory.new).words }
+{
+    put(memory, number, value)?;
+    put(memory, number + WORDS, u16::MAX - value)
+}
+
+/// Stores a word and its complement where a test is true, and else nothing.
+#[tactic(auto, unfolding(crate::specs::Stores::keep_where))]
+pub(crate) fn keep_where<M: Guarded>(
+    test: bool,
+    memory: &mut M,
+    number: u16,
+    value: u16,
+) -> Result<(), NoMemory>
+    requires { number < 16 }
+    ensures stored { OnOk result (word_at (M.shows memory.new).words
+        ≡ keep_where test number value (word_at (M.shows memory.old).words)) }
+    ensures mirrored { AreMirrored (M.shows memory.old).words
+        → OnOk result (AreMirrored (M.shows memory.new).words) }
+    ensures outside { outside (M.shows memory.new).words ≡ outside (M.shows memory.old).words }
+    ensures sure { IsTrue (M.shows memory.old).sure → IsOk result }
+    ensures stays_sure { (M.shows memory.new).sure ≡ (M.shows memory.old).sure }
+    ensures are_words { AreWords (M.shows memory.old).words → AreWords (M.shows memory.new).words }
+{
+    if !test {
+        return Ok(());
+    }
+    keep(memory, number, value)
+}
+
+/// Makes all words 0.
+pub(crate) fn clear<M: Guarded>(memory: &mut M) -> Result<(), NoMemory>
+    ensures stored { OnOk result (word_at (M.shows memory.new).words
+        ≡ cleared 16 (word_at (M.shows memory.old).words)) }
+    ensures mirrored { OnOk result (AreMirrored (M.shows memory.new).words) }
+    ensures outside { outside (M.shows memory.new).words ≡ outside (M.shows memory.old).words }
+    ensures sure { IsTrue (M.shows memory.old).sure → IsOk result }
+    ensures stays_sure { (M.shows memory.new).sure ≡ (M.shows memory.old).sure }
+    ensures are_words { AreWords (M.shows memory.old).words → AreWords (M.shows memory.new).words }
+{
+    for number in 0..WORDS {
+        keep(memory, number, 0)?;
+    }
+    Ok(())
+}
+
+/// Whether every word and its complement add up to 65535.
+#[tactic(auto, using(crate::proofs::StoreLemmas::mirrors))]
+pub(crate) fn is_mirrored<M: Guarded>(memory: &M) -> bool
+    ensures { IsTrue result ↔ AreMirrored (M.shows memory.now).words }
+{
+    for number in 0..WORDS {
+        let sum = u32::from(word(memory, number)) + u32::from(word(memory, number + WORDS));
+        if sum != 65535 {
+            return false;
+        }
+    }
+    true
+}
+
+/// Whether a word that is 1 or 0 is set.
+#[tactic(auto, unfolding(crate::specs::Words::is_set))]
+pub(crate) fn is_set(word: u16) -> bool
+    ensures { result ≡ is_set word }
+{
+    word != 0
+}
