@@ -1,11 +1,12 @@
 -- What `check` says of a file: the first tick by which the torque excess of its rows is confirmed.
-use Rattle.std.specs.Prelude.{ℕ, List, ◌++◌, Bool, map, length, codes, decimal, Option, Some, None, Result, Ok, Err, nat_le, if◌then◌else◌}
+use Rattle.std.specs.Prelude.{ℕ, List, ◌++◌, Bool, map, codes, decimal, Option, Some, None, Result, Ok, Err, if◌then◌else◌}
 use Rattle.eg_torque.specs.Permit.{drive_permits}
 use Rattle.eg_torque.specs.Excess.{is_excess}
 use Rattle.eg_input.specs.CheckFile.{CheckRow, check_rows}
 use Rattle.eg_input.specs.Records.{records_of}
 use Rattle.eg_input.specs.declared.fault.TraceFault.{TraceFault}
 use Rattle.eg_answer.specs.declared.rules.Rules.{Rules}
+use Rattle.eg_app.specs.Files.{is_too_long}
 use Rattle.eg_app.specs.declared.outcome.Refusal.{Refusal}
 use Rattle.eg_app.specs.declared.outcome.Refusal.TheVariants as refusal
 use Rattle.eg_app.specs.declared.outcome.Role.TheVariants as role
@@ -22,10 +23,6 @@ excesses rules rows = map (is_row_excess rules) rows
 abbrev pub check_line : Option ℕ → List ℕ
 check_line None = codes "none\n"
 check_line (Some tick) = codes "torque " ++ decimal tick ++ codes "\n"
-
--- a file has more than 4,194,304 bytes where a read of one more gives as many
-abbrev pub is_too_long : List ℕ → Bool
-is_too_long bytes = nat_le 4194305 (length bytes)
 
 -- why the rows of a check file are refused
 abbrev pub refused_rows : Result (List CheckRow) TraceFault → Result (List CheckRow) Refusal

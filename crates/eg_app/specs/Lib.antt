@@ -1,4 +1,6 @@
 pub mod Words
+pub mod Files
+pub mod Calibrations
 pub mod Check
 pub mod Bound
 pub mod Status

@@ -1,11 +1,9 @@
 // The top call.
-ghost use Rattle.std.specs.Prelude.{◌≡◌, ◌≢◌, Some};
+ghost use Rattle.std.specs.Prelude.{◌≡◌, Some};
 ghost use Rattle.eg_app.specs.Words.{words_of, command_of, said};
-ghost use Rattle.eg_app.specs.Ends.{Ends, ReadsNothing, TellsMissing, Completes, PutsNothing};
+ghost use Rattle.eg_app.specs.Ends.{Ends, ReadsNothing, TellsMissing, TellsNoMemory, Completes, PutsNothing};
 ghost use Rattle.eg_app.specs.Notes.{PutsNote, note_of, file_name};
-ghost use Rattle.eg_app.specs.declared.outcome.Outcome.TheVariants.{Done, Refused};
-ghost use Rattle.eg_app.specs.declared.outcome.Refusal.TheVariants as refusal;
-ghost use Rattle.eg_input.specs.declared.fault.TraceFault.TheVariants as fault;
+ghost use Rattle.eg_app.specs.declared.outcome.Outcome.TheVariants.{Done};
 
 use crate::Outcome;
 use crate::bound::bound;
@@ -13,7 +11,6 @@ use crate::check::check;
 use crate::command::Command;
 use crate::note::note;
 use eg_base::{Sink, Store};
-use eg_values::reference;
 use std::alloc::Global;
 
 /// Does what the words ask for (docs/FORMATS.md, "Commands"): it reads files from `store`, writes its text to
@@ -32,7 +29,7 @@ pub fn egasim<S: Store, K: Sink, N: Sink>(
     ensures missing { TellsMissing (command_of (words_of words.now)) (S.shows store.old) result }
     ensures completes { Completes (command_of (words_of words.now)) (S.shows store.old) (S.shows store.new)
         (K.shows out.old) (K.shows out.new) result }
-    ensures never_memory { result ≢ Refused (refusal.Check fault.Memory) }
+    ensures no_memory { TellsNoMemory result }
 
     // What stays as it was.
     ensures nothing_read { ReadsNothing (command_of (words_of words.now)) → store.new ≡ store.old }
@@ -41,7 +38,7 @@ pub fn egasim<S: Store, K: Sink, N: Sink>(
 
     // The note of the outcome is put, and none after Done.
     ensures note { PutsNote (N.shows notes.old) (N.shows notes.new)
-        (note_of result (file_name (command_of (words_of words.now)))) }
+        (note_of result (file_name (command_of (words_of words.now)) result)) }
     ensures no_note { result ≡ Done → notes.new ≡ notes.old }
 {
     let Some(command) = Command::of(words) else {
@@ -49,7 +46,7 @@ pub fn egasim<S: Store, K: Sink, N: Sink>(
         return Outcome::Usage;
     };
     let outcome = run(alloc, command, store, out);
-    note(&outcome, command.file(), notes);
+    note(&outcome, command.file_of(&outcome), notes);
     outcome
 }
 
@@ -63,14 +60,13 @@ fn run<S: Store, K: Sink>(
     ensures ends { Ends (Some (said command.entry)) (S.shows store.old) (S.shows store.new)
         (K.shows out.old) (K.shows out.new) result }
     ensures missing { TellsMissing (Some (said command.entry)) (S.shows store.old) result }
-    ensures never_memory { result ≢ Refused (refusal.Check fault.Memory) }
+    ensures no_memory { TellsNoMemory result }
     ensures nothing_read { ReadsNothing (Some (said command.entry)) → store.new ≡ store.old }
     ensures files { (S.shows store.new).files ≡ (S.shows store.old).files }
     ensures nothing_put { PutsNothing result → out.new ≡ out.old }
 {
-    let calibration = reference();
     match command {
-        Command::Check { file } => check(alloc, calibration.rules(), file, store, out),
-        Command::Bound => bound(alloc, calibration.times(), out),
+        Command::Check { calibration, file } => check(alloc, calibration, file, store, out),
+        Command::Bound { calibration } => bound(alloc, calibration, store, out),
     }
 }

@@ -1,13 +1,15 @@
-// `check FILE`: the first tick by which the torque excess of a file's rows is confirmed.
-ghost use Rattle.std.specs.Prelude.{◌≡◌, ◌≢◌, List, IfOk, string_bytes};
+// `check [--cal NAME] FILE`: the first tick by which the torque excess of a file's rows is confirmed.
+ghost use Rattle.std.specs.Prelude.{◌≡◌, ◌↔◌, Some, IfOk, IsTrue, string_bytes};
+ghost use Rattle.std.specs.Option.{option_copied};
 ghost use Rattle.eg_base.specs.Outside.{IsMissing};
-ghost use Rattle.eg_app.specs.Words.{Command, check};
+ghost use Rattle.eg_app.specs.Words.{check};
 ghost use Rattle.eg_app.specs.Check.{check_line};
-ghost use Rattle.eg_app.specs.Ends.{LineEnds, RowsEnd, BytesEnd, CheckEnds, TellsMissing, PutsNothing, IsReadFault};
-ghost use Rattle.eg_app.specs.declared.outcome.Outcome.TheVariants.{Refused};
-ghost use Rattle.eg_app.specs.declared.outcome.Refusal.TheVariants as refusal;
-ghost use Rattle.eg_input.specs.declared.fault.TraceFault.TheVariants as fault;
+ghost use Rattle.eg_app.specs.Ends.{LineEnds, RowsEnd, BytesEnd, CheckWorks, CheckEnds, TellsMissing, TellsNoMemory, PutsNothing, IsReadFault};
+ghost use Rattle.eg_app.specs.declared.outcome.Outcome.TheVariants.{ReadFault};
+ghost use Rattle.eg_app.specs.declared.outcome.Role.TheVariants as role;
 
+use crate::calibration::calibration_for;
+use crate::files::{MOST_BYTES, is_too_long};
 use crate::line::put_line;
 use crate::monitoring::first_confirmed;
 use crate::{Outcome, Refusal, Role};
@@ -17,23 +19,43 @@ use eg_input::{TraceFault, read_check};
 use eg_num::Drive;
 use std::alloc::{AllocError, Global};
 
-/// The most bytes that a file may have.
-const MOST_BYTES: usize = 4_194_304;
-
-/// Does `check FILE`, but for its note.
+/// Does `check [--cal NAME] FILE`, but for its note. The calibration is read before the file.
 pub(crate) fn check<S: Store, K: Sink>(
+    alloc: Global,
+    calibration: Option<&str>,
+    file: &str,
+    store: &mut S,
+    out: &mut K,
+) -> Outcome
+    ensures ends { CheckEnds (option_copied calibration.entry) file.now (S.shows store.old) (S.shows store.new)
+        (K.shows out.old) (K.shows out.new) result }
+    ensures missing { TellsMissing (Some (check (option_copied calibration.entry) file.now))
+        (S.shows store.old) result }
+    ensures no_memory { TellsNoMemory result }
+    ensures files { (S.shows store.new).files ≡ (S.shows store.old).files }
+    ensures nothing_put { PutsNothing result → out.new ≡ out.old }
+{
+    match calibration_for(alloc, calibration, store) {
+        Ok(calibration) => check_by(alloc, calibration.rules(), file, store, out),
+        Err(outcome) => outcome,
+    }
+}
+
+/// Checks the file of that name by these rules.
+fn check_by<S: Store, K: Sink>(
     alloc: Global,
     rules: &Rules,
     file: &str,
     store: &mut S,
     out: &mut K,
 ) -> Outcome
-    ensures ends { CheckEnds rules.now file.now (S.shows store.old) (S.shows store.new)
+    ensures works { CheckWorks rules.now file.now (S.shows store.old) (S.shows store.new)
         (K.shows out.old) (K.shows out.new) result }
-    ensures missing { TellsMissing (Some (check file.now)) (S.shows store.old) result }
+    ensures missing { IsTrue (S.shows store.old).sure →
+        ((result ≡ ReadFault role.Check) ↔ IsMissing (S.shows store.old).files file.now) }
+    ensures no_memory { TellsNoMemory result }
     ensures files { (S.shows store.new).files ≡ (S.shows store.old).files }
     ensures nothing_put { PutsNothing result → out.new ≡ out.old }
-    ensures never_memory { result ≢ Refused (refusal.Check fault.Memory) }
 {
     let mut bytes = Vec::new(alloc);
     match store.read(file, MOST_BYTES + 1, &mut bytes) {
@@ -48,9 +70,9 @@ fn check_bytes<K: Sink>(alloc: Global, rules: &Rules, bytes: &[u8], out: &mut K)
     ensures ends { BytesEnd rules.now bytes.now (K.shows out.old) (K.shows out.new) result }
     ensures read { IsReadFault result → ⊥ }
     ensures nothing_put { PutsNothing result → out.new ≡ out.old }
-    ensures never_memory { result ≢ Refused (refusal.Check fault.Memory) }
+    ensures no_memory { TellsNoMemory result }
 {
-    if bytes.len() > MOST_BYTES {
+    if is_too_long(bytes) {
         return Outcome::Refused(Refusal::Size { file: Role::Check });
     }
     match read_check(alloc, bytes) {

@@ -2,9 +2,11 @@
 #![tactic(auto)]
 
 mod bound;
+mod calibration;
 mod call;
 mod check;
 mod command;
+mod files;
 mod line;
 mod monitoring;
 mod note;
@@ -13,5 +15,7 @@ mod outcome;
 pub use call::egasim;
 pub use outcome::{Outcome, Refusal, Role};
 
+#[cfg(test)]
+mod calibration_tests;
 #[cfg(test)]
 mod tests;

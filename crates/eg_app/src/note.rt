@@ -1,11 +1,12 @@
 // The line that notes how a call ended.
 ghost use Rattle.std.specs.Prelude.{◌≡◌, ◌++◌, List, map};
 ghost use Rattle.std.specs.List.{concat};
-ghost use Rattle.eg_app.specs.Notes.{PutsNote, note_of, refusal_note, fault_note};
+ghost use Rattle.eg_app.specs.Notes.{PutsNote, note_of, refusal_note, calibration_note, check_note};
 ghost use Rattle.eg_app.specs.declared.outcome.Outcome.TheVariants.{Done};
 
 use crate::{Outcome, Refusal};
 use eg_base::Sink;
+use eg_cal::CalFault;
 use eg_input::TraceFault;
 use itoa::Buffer;
 
@@ -31,12 +32,39 @@ fn note_refusal<N: Sink>(refusal: &Refusal, file: &[u8], notes: &mut N)
 {
     match refusal {
         Refusal::Size { .. } => put_pieces(notes, &[file, b": longer than 4194304 bytes\n"]),
-        Refusal::Check(fault) => note_fault(fault, file, notes),
+        Refusal::Calibration(fault) => note_calibration(fault, file, notes),
+        Refusal::Check(fault) => note_check(fault, file, notes),
     }
 }
 
-fn note_fault<N: Sink>(fault: &TraceFault, file: &[u8], notes: &mut N)
-    ensures { PutsNote (N.shows notes.old) (N.shows notes.new) (file.now ++ fault_note fault.now) }
+fn note_calibration<N: Sink>(fault: &CalFault, file: &[u8], notes: &mut N)
+    ensures { PutsNote (N.shows notes.old) (N.shows notes.new) (file.now ++ calibration_note fault.now) }
+{
+    match fault {
+        CalFault::Memory => put_pieces(notes, &[file, b": no memory\n"]),
+        CalFault::Text => put_pieces(notes, &[file, b": not TOML\n"]),
+        CalFault::Key { key } => {
+            put_pieces(notes, &[file, b": key ", key.text().as_bytes(), b"\n"]);
+        }
+        CalFault::Axis { key } => {
+            put_pieces(notes, &[file, b": axis ", key.text().as_bytes(), b"\n"]);
+        }
+        CalFault::Rising { row } => {
+            let mut buffer = Buffer::new();
+            let row = buffer.format(*row).as_bytes();
+            put_pieces(notes, &[file, b": row ", row, b" falls\n"]);
+        }
+        CalFault::Window => put_pieces(notes, &[file, b": answer window\n"]),
+        CalFault::Answer { index } => {
+            let mut buffer = Buffer::new();
+            let index = buffer.format(*index).as_bytes();
+            put_pieces(notes, &[file, b": answer ", index, b"\n"]);
+        }
+    }
+}
+
+fn note_check<N: Sink>(fault: &TraceFault, file: &[u8], notes: &mut N)
+    ensures { PutsNote (N.shows notes.old) (N.shows notes.new) (file.now ++ check_note fault.now) }
 {
     match fault {
         TraceFault::Memory => put_pieces(notes, &[file, b": no memory\n"]),

@@ -2,11 +2,14 @@
 ghost use Rattle.std.specs.Prelude.{◌≡◌};
 ghost use Rattle.eg_app.specs.Status.{status_of};
 
+use eg_cal::CalFault;
 use eg_input::TraceFault;
 
 /// A file of a command, by what it is for.
 #[derive(Clone, Copy, Debug, PartialEq, Eq)]
 pub enum Role {
+    /// The calibration file behind `--cal`.
+    Calibration,
     /// The file of `check`.
     Check,
 }
@@ -16,6 +19,8 @@ pub enum Role {
 pub enum Refusal {
     /// The file has more than 4,194,304 bytes.
     Size { file: Role },
+    /// A calibration file. Want of memory is `Outcome::Memory`, and never stands here.
+    Calibration(CalFault),
     /// The records of a check file. Want of memory is `Outcome::Memory`, and never stands here.
     Check(TraceFault),
 }

@@ -8,7 +8,7 @@ use std::process::Abort;
 use std::test::Fail;
 
 /// The words of a line, which stand apart by blanks.
-fn words(alloc: Global, line: &str) -> Result<Vec<String>, Fail> {
+pub(crate) fn words(alloc: Global, line: &str) -> Result<Vec<String>, Fail> {
     let mut words = Vec::new(alloc);
     for word in line.split_whitespace() {
         words.push(word.to_string(alloc)?)?;
@@ -17,7 +17,7 @@ fn words(alloc: Global, line: &str) -> Result<Vec<String>, Fail> {
 }
 
 /// A check file of these records.
-fn check_file(alloc: Global, records: &str) -> Result<String, Fail> {
+pub(crate) fn check_file(alloc: Global, records: &str) -> Result<String, Fail> {
     Ok(format!(in alloc; "pedal,speed,raise,torque\n{records}")?)
 }
 
@@ -86,7 +86,7 @@ const USAGE: Wanted = Wanted {
 };
 
 /// So many equal records.
-fn repeated(alloc: Global, record: &str, count: usize) -> Result<String, Fail> {
+pub(crate) fn repeated(alloc: Global, record: &str, count: usize) -> Result<String, Fail> {
     let mut records = String::new(alloc);
     for _ in 0..count {
         records.push_str(record)?;
@@ -154,6 +154,13 @@ fn refuses_words_that_are_no_command(rt: HostRuntime) -> Result<(), Fail> {
         "check",
         "check in.csv in.csv",
         "Check in.csv",
+        "check in.csv --cal in.csv",
+        "check --cal in.csv",
+        "check --cal -x in.csv",
+        "check --cal in.csv -x",
+        "--cal in.csv check in.csv",
+        "bound --cal",
+        "bound --cal in.csv in.csv",
     ] {
         shows(&rt, rt.alloc(), line, "0,800,0,1\n", &USAGE)?;
     }

@@ -1,0 +1,1 @@
+./egasim check --cal examples/reference.toml examples/tie.csv

@@ -1,0 +1,1 @@
+./egasim check --cal examples/strict.toml examples/tie.csv
