@@ -25,7 +25,8 @@ refused_calibration (Err fault) = Err (refusal.Calibration fault)
 -- the calibration of a file, or its first refusal: of its size, or else by the rules of eg_cal
 abbrev pub calibration_file : List ℕ → Result CalibrationParts Refusal
 calibration_file bytes =
-    if is_too_long bytes then Err (refusal.Size role.Calibration) else refused_calibration (calibration_said bytes)
+    if is_too_long bytes then Err (refusal.Size role.Calibration)
+    else refused_calibration (calibration_said bytes)
 
 -- ---- what comes of reading it ----
 
@@ -41,8 +42,8 @@ BytesCome bytes (Err _) = ⊥
 abbrev pub ReadComes : List ℕ → ShownStore → Result CalibrationParts Outcome → Type 0
 ReadComes name store come = (bytes : List ℕ) × AreRead store name bytes × BytesCome bytes come
 
--- Reading the file of this name failed, or memory ran out, or the file was read. Where the call ends there, no
--- fault of reading was met; where it goes on, the work says which were.
+-- Reading the file of this name failed, or memory ran out, or the file was read. Where the call ends with the
+-- refusal of what was read, no fault of reading was met; where it goes on, the work says which were.
 abbrev pub FileComes : List ℕ → ShownStore → ShownStore → Result CalibrationParts Outcome → Type 0
 FileComes name store later (Ok parts) = ReadComes name store (Ok parts)
 FileComes name store later (Err (outcome.ReadFault role.Calibration)) = Rose store.faults later.faults
@@ -51,6 +52,7 @@ FileComes name store later (Err end) = (later.faults ≡ store.faults) × ReadCo
 
 -- What comes of the calibration that a command goes by: its parts, or how the call ends without one. Where no
 -- file is named it is the reference calibration.
-abbrev pub CalibrationComes : Option (List ℕ) → ShownStore → ShownStore → Result CalibrationParts Outcome → Type 0
+abbrev pub CalibrationComes : Option (List ℕ) → ShownStore → ShownStore → Result CalibrationParts Outcome
+    → Type 0
 CalibrationComes (Some name) store later come = FileComes name store later come
 CalibrationComes None store later come = come ≡ Ok reference_parts

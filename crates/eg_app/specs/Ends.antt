@@ -25,8 +25,8 @@ use Rattle.eg_app.specs.Bound.{bound_line}
 -- ---- a command that goes by a calibration ----
 
 -- how the work ends with the calibration that came; or the call ends without one, and nothing is put
-abbrev pub Follows : (CalibrationParts → Outcome → Type 0) → ShownSink → ShownSink → Result CalibrationParts Outcome
-    → Outcome → Type 0
+abbrev pub Follows : (CalibrationParts → Outcome → Type 0) → ShownSink → ShownSink
+    → Result CalibrationParts Outcome → Outcome → Type 0
 Follows work out now (Ok parts) o = work parts o
 Follows work out now (Err end) o = (o ≡ end) × (now ≡ out)
 
@@ -122,7 +122,8 @@ MissesCalibration None store = ⊥
 
 -- whatever a read of the file behind `--cal` may give is accepted
 abbrev pub AcceptsCalibration : Option (List ℕ) → ShownStore → Type 0
-AcceptsCalibration (Some name) store = (bytes : List ℕ) → AreRead store name bytes → IsOk (calibration_file bytes)
+AcceptsCalibration (Some name) store =
+    (bytes : List ℕ) → AreRead store name bytes → IsOk (calibration_file bytes)
 AcceptsCalibration None store = Unit {0}
 
 -- whatever a read of the check file may give is accepted

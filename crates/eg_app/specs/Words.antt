@@ -6,8 +6,8 @@ use Rattle.std.specs.declared.alloc.Global.{Global}
 use Rattle.eg_app.specs.declared.command.Command.{Command as Parsed}
 use Rattle.eg_app.specs.declared.command.Command.TheVariants as parsed
 
--- What can be asked for: to check the file of this name, or the reaction time. Each goes by the calibration in
--- the file of the name behind `--cal`, or by the reference calibration where there is none.
+-- What can be asked for: to check the file of this name, or the reaction time. Each goes by the calibration
+-- in the file of the name behind `--cal`, or by the reference calibration where there is none.
 pub data Command : Type 0 where
   check : (calibration : Option (List ℕ)) (file : List ℕ) → Command
   bound : (calibration : Option (List ℕ)) → Command

@@ -21,7 +21,8 @@ pub(crate) fn bound<S: Store, K: Sink>(
 ) -> Outcome
     ensures ends { BoundEnds (option_copied calibration.entry) (S.shows store.old) (S.shows store.new)
         (K.shows out.old) (K.shows out.new) result }
-    ensures missing { TellsMissing (Some (bound (option_copied calibration.entry))) (S.shows store.old) result }
+    ensures missing { TellsMissing (Some (bound (option_copied calibration.entry)))
+        (S.shows store.old) result }
     ensures no_memory { TellsNoMemory result }
     ensures unread { option_copied calibration.entry ≡ None → store.new ≡ store.old }
     ensures files { (S.shows store.new).files ≡ (S.shows store.old).files }

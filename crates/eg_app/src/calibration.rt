@@ -22,7 +22,8 @@ pub(crate) fn calibration_for<S: Store>(
     file: Option<&str>,
     store: &mut S,
 ) -> Result<Calibration, Outcome>
-    ensures comes { CalibrationComes (option_copied file.entry) (S.shows store.old) (S.shows store.new) result }
+    ensures comes { CalibrationComes (option_copied file.entry)
+        (S.shows store.old) (S.shows store.new) result }
     ensures missing { IsTrue (S.shows store.old).sure → ((result ≡ Err (ReadFault role.Calibration))
         ↔ MissesCalibration (option_copied file.entry) (S.shows store.old)) }
     ensures no_memory { IfErr result TellsNoMemory }

@@ -1,5 +1,5 @@
-// What no clause says of a call with a calibration: the worked examples, and that it never answers Memory where
-// memory is there.
+// What no clause says of a call with a calibration: the worked examples, and that it never answers Memory
+// where memory is there.
 use crate::tests::{check_file, repeated, words};
 use crate::{Outcome, Refusal, Role, egasim};
 use eg_base::{MemorySink, MemoryStore, SureSink, SureStore};
@@ -134,8 +134,8 @@ fn goes_by_the_calibration_that_is_named(rt: HostRuntime) -> Result<(), Fail> {
     let check = "check --cal cal.toml in.csv";
     let bound = "bound --cal cal.toml";
     let rows: [(&str, &str, &str, &'static [u8]); 4] = [
-        (check, "threshold = 200", "threshold = 200", b"torque 4\n"),
-        (check, "threshold = 200", "threshold = 201", b"none\n"),
+        (check, "limit = 5", "limit = 5", b"torque 4\n"),
+        (check, "limit = 5", "limit = 6", b"none\n"),
         (bound, "limit = 9", "limit = 9", b"reaction 34\n"),
         (bound, "limit = 9", "limit = 3", b"reaction 14\n"),
     ];

@@ -27,8 +27,8 @@ pub(crate) fn check<S: Store, K: Sink>(
     store: &mut S,
     out: &mut K,
 ) -> Outcome
-    ensures ends { CheckEnds (option_copied calibration.entry) file.now (S.shows store.old) (S.shows store.new)
-        (K.shows out.old) (K.shows out.new) result }
+    ensures ends { CheckEnds (option_copied calibration.entry) file.now
+        (S.shows store.old) (S.shows store.new) (K.shows out.old) (K.shows out.new) result }
     ensures missing { TellsMissing (Some (check (option_copied calibration.entry) file.now))
         (S.shows store.old) result }
     ensures no_memory { TellsNoMemory result }

@@ -36,7 +36,8 @@ impl<'a> Command<'a> {
     fn of_form(words: &'a [String], calibration: Option<&'a str>, own: usize) -> Option<Command<'a>>
         requires least { 1 ≤ own }
         requires most { own ≤ 3 }
-        ensures { option_map said result ≡ form_of (words_of words.now) (option_copied calibration.entry) own }
+        ensures { option_map said result
+            ≡ form_of (words_of words.now) (option_copied calibration.entry) own }
     {
         if is_check(words, own) {
             return Some(Command::Check {
