@@ -1,7 +1,8 @@
 -- What stores make of level 2's words, by their numbers, and what they leave. The public contracts say the
 -- same by the words' names.
-use Rattle.std.specs.Prelude.{ℕ, zero, suc, ◌+◌, ◌-◌, Bool, false, ◌&&◌, ◌||◌, ◌==◌, nat_lt, if◌then◌else◌, List, slice_index, bit_xor}
+use Rattle.std.specs.Prelude.{◌≡◌, ℕ, zero, suc, ◌+◌, ◌-◌, Bool, false, ◌&&◌, ◌||◌, ◌==◌, nat_lt, if◌then◌else◌, List, slice_index, bit_xor, Result, IsTrue, IsOk, OnOk}
 use Rattle.eg_guard.specs.Regions.{region_of}
+use Rattle.eg_guard.specs.Memory.{ShownMemory, AreWords}
 use Rattle.eg_num.specs.declared.watches.Watches.{Watches}
 use Rattle.eg_num.specs.Windows.{WeightParts}
 use Rattle.eg_num.specs.Counting.{fed}
@@ -10,7 +11,7 @@ use Rattle.eg_answer.specs.Token.{next_token_of}
 use Rattle.eg_answer.specs.declared.rules.Rules.{Rules}
 use Rattle.eg_level2.specs.declared.debounce.Fed.{Fed}
 use Rattle.eg_level2.specs.declared.debounce.Feeds.{Feeds}
-use Rattle.eg_level2.specs.Words.{Words, is_set, is_level2_own}
+use Rattle.eg_level2.specs.Words.{Words, is_set, is_level2_own, AreMirrored}
 use Rattle.eg_level2.specs.Modules.{pedal_bit, plate_bit, load_bit, speed_bit, torque_bit}
 
 -- a store of one word
@@ -79,3 +80,12 @@ counters_kept feeds word =
 -- the words outside level 2's own regions, by their addresses
 unfoldable pub outside : List ℕ → ℕ → ℕ
 outside memory address = if is_level2_own (region_of address) then 0 else slice_index memory address
+
+-- What each of level 2's calls keeps, whatever it answers: the words outside level 2's own regions, and whether
+-- the memory is sure. Over a sure memory it is done, and once it is done mirrored words are mirrored.
+pub record Keeps {T E : Type 0} (old new : ShownMemory) (result : Result T E) : Type 0 where
+  pub outside : outside new.words ≡ outside old.words
+  pub stays_sure : new.sure ≡ old.sure
+  pub are_words : AreWords old.words → AreWords new.words
+  pub sure : IsTrue old.sure → IsOk result
+  pub mirrored : AreMirrored old.words → OnOk result (AreMirrored new.words)

@@ -1,10 +1,9 @@
 // Module 0: whether level 2's words are what they were left as, and whether it ran at the tick before.
-ghost use Rattle.std.specs.Prelude.{◌≡◌, ◌↔◌, ◌+◌, ◌%◌, ◌==◌, IsTrue, IsOk, OnOk, IfOk, if◌then◌else◌, None, false};
+ghost use Rattle.std.specs.Prelude.{◌≡◌, ◌↔◌, ◌+◌, ◌%◌, ◌==◌, IsTrue, OnOk, IfOk, if◌then◌else◌, None, false};
 ghost use Rattle.eg_answer.specs.declared.rules.Rules.{Rules};
-ghost use Rattle.eg_guard.specs.Memory.{AreWords};
 ghost use Rattle.eg_level2.specs.Words.{words_of, AreMirrored, AreWithin};
 ghost use Rattle.eg_level2.specs.Modules.{marked, check_step, given_up, no_watches, mirror_alone};
-ghost use Rattle.eg_level2.specs.Stores.{outside};
+ghost use Rattle.eg_level2.specs.Stores.{Keeps};
 
 use crate::Step;
 use crate::words::{
@@ -35,10 +34,7 @@ pub(crate) fn check<M: Guarded>(memory: &mut M, tick: u16, seed: u16) -> Result<
     ensures within { (rules : Rules)
         → (AreMirrored (M.shows memory.old).words → AreWithin rules (words_of (M.shows memory.old).words))
         → OnOk result (AreWithin rules (words_of (M.shows memory.new).words)) }
-    ensures outside { outside (M.shows memory.new).words ≡ outside (M.shows memory.old).words }
-    ensures sure { IsTrue (M.shows memory.old).sure → IsOk result }
-    ensures stays_sure { (M.shows memory.new).sure ≡ (M.shows memory.old).sure }
-    ensures are_words { AreWords (M.shows memory.old).words → AreWords (M.shows memory.new).words }
+    ensures keeps { Keeps (M.shows memory.old) (M.shows memory.new) result }
 {
     if !is_mirrored(memory) {
         give_up(memory, tick)?;
@@ -49,19 +45,14 @@ pub(crate) fn check<M: Guarded>(memory: &mut M, tick: u16, seed: u16) -> Result<
 }
 
 /// Moves the token, looks at the tick of the last run, notes this one, and begins the fold.
-
 fn go_on<M: Guarded>(memory: &mut M, tick: u16, seed: u16) -> Result<(), NoMemory>
     ensures words { OnOk result (words_of (M.shows memory.new).words
         ≡ check_step seed tick (words_of (M.shows memory.old).words)) }
-    ensures mirrored { AreMirrored (M.shows memory.old).words
-        → OnOk result (AreMirrored (M.shows memory.new).words) }
-    ensures outside { outside (M.shows memory.new).words ≡ outside (M.shows memory.old).words }
-    ensures sure { IsTrue (M.shows memory.old).sure → IsOk result }
-    ensures stays_sure { (M.shows memory.new).sure ≡ (M.shows memory.old).sure }
-    ensures are_words { AreWords (M.shows memory.old).words → AreWords (M.shows memory.new).words }
+    ensures keeps { Keeps (M.shows memory.old) (M.shows memory.new) result }
 {
     let token = next_token(word(memory, TOKEN), 0);
-    let flow = flow_after(word(memory, FLOW), word(memory, LAST), tick);
+    let last = word(memory, LAST);
+    let flow = flow_after(word(memory, FLOW), last, tick);
     keep(memory, TOKEN, token)?;
     keep(memory, FLOW, flow)?;
     keep(memory, LAST, tick)?;
@@ -81,14 +72,10 @@ fn flow_after(flow: u16, last: u16, tick: u16) -> u16
 }
 
 /// Gives all words up, and trips.
-
 fn give_up<M: Guarded>(memory: &mut M, tick: u16) -> Result<(), NoMemory>
     ensures words { OnOk result (words_of (M.shows memory.new).words ≡ given_up tick) }
     ensures mirrored { OnOk result (AreMirrored (M.shows memory.new).words) }
-    ensures outside { outside (M.shows memory.new).words ≡ outside (M.shows memory.old).words }
-    ensures sure { IsTrue (M.shows memory.old).sure → IsOk result }
-    ensures stays_sure { (M.shows memory.new).sure ≡ (M.shows memory.old).sure }
-    ensures are_words { AreWords (M.shows memory.old).words → AreWords (M.shows memory.new).words }
+    ensures keeps { Keeps (M.shows memory.old) (M.shows memory.new) result }
 {
     clear(memory)?;
     keep(memory, TRIP, 1)?;

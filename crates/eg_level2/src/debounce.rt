@@ -1,10 +1,8 @@
 // Module 6: the signals are debounced, and what is confirmed for the first time is found.
-ghost use Rattle.std.specs.Prelude.{◌≡◌, ◌≤◌, ◌&&◌, ◌||◌, ◌==◌, nat_lt, IsTrue, IsOk, OnOk, IfOk, None, false};
-ghost use Rattle.eg_num.specs.Counting.{fed};
-ghost use Rattle.eg_guard.specs.Memory.{AreWords};
-ghost use Rattle.eg_level2.specs.Words.{word_at, words_of, AreMirrored, AreWithin};
+ghost use Rattle.std.specs.Prelude.{◌≡◌, ◌≤◌, ◌&&◌, nat_lt, OnOk, IfOk};
+ghost use Rattle.eg_level2.specs.Words.{word_at, words_of, AreWithin};
 ghost use Rattle.eg_level2.specs.Modules.{has_bit, debounced, debounce_step, finding};
-ghost use Rattle.eg_level2.specs.Stores.{fed_of, feeds_of, trips_of, found_of, counters_kept, outside};
+ghost use Rattle.eg_level2.specs.Stores.{Keeps, fed_of, feeds_of, trips_of, found_of, counters_kept};
 
 use crate::Step;
 use crate::step::no_watches;
@@ -42,12 +40,7 @@ pub(crate) fn debounce<M: Guarded>(memory: &mut M, rules: &Rules) -> Result<Step
         ≡ debounce_step rules.now (words_of (M.shows memory.old).words)) }
     ensures step { IfOk result (λ step. step
         ≡ finding (debounced rules.now (words_of (M.shows memory.old).words))) }
-    ensures mirrored { AreMirrored (M.shows memory.old).words
-        → OnOk result (AreMirrored (M.shows memory.new).words) }
-    ensures outside { outside (M.shows memory.new).words ≡ outside (M.shows memory.old).words }
-    ensures sure { IsTrue (M.shows memory.old).sure → IsOk result }
-    ensures stays_sure { (M.shows memory.new).sure ≡ (M.shows memory.old).sure }
-    ensures are_words { AreWords (M.shows memory.old).words → AreWords (M.shows memory.new).words }
+    ensures keeps { Keeps (M.shows memory.old) (M.shows memory.new) result }
 {
     let token = next_token(word(memory, TOKEN), 6);
     if is_set(word(memory, TRIP)) {
@@ -116,12 +109,7 @@ fn feed_all<M: Guarded>(memory: &M, rules: &Rules) -> Feeds
 fn keep_counters<M: Guarded>(memory: &mut M, feeds: &Feeds) -> Result<(), NoMemory>
     ensures stored { OnOk result (word_at (M.shows memory.new).words
         ≡ counters_kept feeds.now (word_at (M.shows memory.old).words)) }
-    ensures mirrored { AreMirrored (M.shows memory.old).words
-        → OnOk result (AreMirrored (M.shows memory.new).words) }
-    ensures outside { outside (M.shows memory.new).words ≡ outside (M.shows memory.old).words }
-    ensures sure { IsTrue (M.shows memory.old).sure → IsOk result }
-    ensures stays_sure { (M.shows memory.new).sure ≡ (M.shows memory.old).sure }
-    ensures are_words { AreWords (M.shows memory.old).words → AreWords (M.shows memory.new).words }
+    ensures keeps { Keeps (M.shows memory.old) (M.shows memory.new) result }
 {
     keep(memory, PEDAL_COUNTER, feeds.pedal.value)?;
     keep(memory, PLATE_COUNTER, feeds.plate.value)?;

@@ -1,11 +1,10 @@
 // Level 2 as a whole: its eight modules by their numbers, and its reset.
 ghost use Rattle.std.specs.Prelude.{◌≡◌, ◌↔◌, ℕ, ◌<◌, ◌≤◌, length, IsTrue, IsOk, OnOk, IfOk};
-ghost use Rattle.eg_answer.specs.Questions.{question_at};
 ghost use Rattle.eg_guard.specs.Memory.{AreWords, SameOutside};
 ghost use Rattle.eg_level2.specs.Words.{words_of, AreMirrored, AreWithin, is_level2_own, start};
-ghost use Rattle.eg_level2.specs.Inputs.{Level2Parts, AreParts, inputs_of, asked_of, row_of};
+ghost use Rattle.eg_level2.specs.Inputs.{AreParts, inputs_of, asked_of, row_of};
 ghost use Rattle.eg_level2.specs.Modules.{given_up, module_step, step_of, answer_after, order_after, mirror_alone, found_by};
-ghost use Rattle.eg_level2.specs.Stores.{outside};
+ghost use Rattle.eg_level2.specs.Stores.{Keeps};
 
 use crate::Step;
 use crate::check::check;
@@ -157,12 +156,7 @@ impl Level2 {
         ensures step { (tick : ℕ) → IfOk result (λ step. step
             ≡ step_of (inputs_of self.now (M.shows memory.old).words tick send disturbance) number
             (words_of (M.shows memory.old).words)) }
-        ensures mirrored { AreMirrored (M.shows memory.old).words
-            → OnOk result (AreMirrored (M.shows memory.new).words) }
-        ensures outside { outside (M.shows memory.new).words ≡ outside (M.shows memory.old).words }
-        ensures sure { IsTrue (M.shows memory.old).sure → IsOk result }
-        ensures stays_sure { (M.shows memory.new).sure ≡ (M.shows memory.old).sure }
-        ensures are_words { AreWords (M.shows memory.old).words → AreWords (M.shows memory.new).words }
+        ensures keeps { Keeps (M.shows memory.old) (M.shows memory.new) result }
     {
         let row = self.row(memory);
         match number {

@@ -1,9 +1,8 @@
 // Module 7: what comes of a trip, and the answer.
-ghost use Rattle.std.specs.Prelude.{◌≡◌, ◌+◌, ◌*◌, ◌==◌, ◌&&◌, not, IsTrue, IsOk, OnOk, IfOk, if◌then◌else◌, Some, None, false};
-ghost use Rattle.eg_guard.specs.Memory.{AreWords};
-ghost use Rattle.eg_level2.specs.Words.{words_of, AreMirrored, is_set};
+ghost use Rattle.std.specs.Prelude.{◌≡◌, ◌+◌, ◌*◌, ◌==◌, ◌&&◌, not, OnOk, IfOk, if◌then◌else◌, Some, None};
+ghost use Rattle.eg_level2.specs.Words.{words_of, is_set};
 ghost use Rattle.eg_level2.specs.Modules.{marked, react_step, answer_of, no_watches};
-ghost use Rattle.eg_level2.specs.Stores.{outside};
+ghost use Rattle.eg_level2.specs.Stores.{Keeps};
 
 use crate::Step;
 use crate::step::no_watches;
@@ -25,12 +24,7 @@ pub(crate) fn react<M: Guarded>(memory: &mut M, send: bool) -> Result<Step, NoMe
     ensures order { IfOk result (λ step. step.open_path
         ≡ is_set (words_of (M.shows memory.old).words).trip) }
     ensures found { IfOk result (λ step. step.found ≡ no_watches) }
-    ensures mirrored { AreMirrored (M.shows memory.old).words
-        → OnOk result (AreMirrored (M.shows memory.new).words) }
-    ensures outside { outside (M.shows memory.new).words ≡ outside (M.shows memory.old).words }
-    ensures sure { IsTrue (M.shows memory.old).sure → IsOk result }
-    ensures stays_sure { (M.shows memory.new).sure ≡ (M.shows memory.old).sure }
-    ensures are_words { AreWords (M.shows memory.old).words → AreWords (M.shows memory.new).words }
+    ensures keeps { Keeps (M.shows memory.old) (M.shows memory.new) result }
 {
     let trip = is_set(word(memory, TRIP));
     let token = next_token(word(memory, TOKEN), 7);

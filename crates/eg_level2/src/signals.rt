@@ -1,15 +1,14 @@
 // Modules 1 to 5: each computes a signal, and by the same function a result of the question's row.
-ghost use Rattle.std.specs.Prelude.{◌≡◌, ◌≤◌, IsTrue, IsOk, OnOk, IfOk, bit_xor, if◌then◌else◌, slice_index, None, false};
-ghost use Rattle.eg_guard.specs.Memory.{AreWords};
+ghost use Rattle.std.specs.Prelude.{◌≡◌, ◌≤◌, OnOk, IfOk, bit_xor, if◌then◌else◌, slice_index};
 ghost use Rattle.eg_torque.specs.Permit.{permitted as permitted_of};
 ghost use Rattle.eg_torque.specs.Excess.{is_excess};
 ghost use Rattle.eg_sensor.specs.Readings.{checked_raise as raise_of, bit};
 ghost use Rattle.eg_answer.specs.Folds.{mixed};
-ghost use Rattle.eg_level2.specs.Words.{word_at, words_of, AreMirrored, is_set};
+ghost use Rattle.eg_level2.specs.Words.{word_at, words_of};
 ghost use Rattle.eg_level2.specs.Inputs.{readings_of};
 ghost use Rattle.eg_level2.specs.Signals.{actual_signal};
 ghost use Rattle.eg_level2.specs.Modules.{pedal_step, permitted_step, actual_step, excess_step, pairs_step, quiet_step};
-ghost use Rattle.eg_level2.specs.Stores.{signalled, outside};
+ghost use Rattle.eg_level2.specs.Stores.{Keeps, signalled};
 
 use crate::Step;
 use crate::ports::readings;
@@ -30,12 +29,7 @@ pub(crate) fn pedal<M: Guarded>(
         ≡ pedal_step (readings_of (M.shows memory.old).words) row.now disturbance
         (words_of (M.shows memory.old).words)) }
     ensures step { IfOk result (λ step. step ≡ quiet_step) }
-    ensures mirrored { AreMirrored (M.shows memory.old).words
-        → OnOk result (AreMirrored (M.shows memory.new).words) }
-    ensures outside { outside (M.shows memory.new).words ≡ outside (M.shows memory.old).words }
-    ensures sure { IsTrue (M.shows memory.old).sure → IsOk result }
-    ensures stays_sure { (M.shows memory.new).sure ≡ (M.shows memory.old).sure }
-    ensures are_words { AreWords (M.shows memory.old).words → AreWords (M.shows memory.new).words }
+    ensures keeps { Keeps (M.shows memory.old) (M.shows memory.new) result }
 {
     let read = readings(memory);
     let signal = used(read.pedal, is_set(word(memory, LIMP)));
@@ -55,12 +49,7 @@ pub(crate) fn permitted<M: Guarded>(
         ≡ permitted_step rules.now (readings_of (M.shows memory.old).words) row.now disturbance
         (words_of (M.shows memory.old).words)) }
     ensures step { IfOk result (λ step. step ≡ quiet_step) }
-    ensures mirrored { AreMirrored (M.shows memory.old).words
-        → OnOk result (AreMirrored (M.shows memory.new).words) }
-    ensures outside { outside (M.shows memory.new).words ≡ outside (M.shows memory.old).words }
-    ensures sure { IsTrue (M.shows memory.old).sure → IsOk result }
-    ensures stays_sure { (M.shows memory.new).sure ≡ (M.shows memory.old).sure }
-    ensures are_words { AreWords (M.shows memory.old).words → AreWords (M.shows memory.new).words }
+    ensures keeps { Keeps (M.shows memory.old) (M.shows memory.new) result }
 {
     let signal = permit(rules, word(memory, PEDAL), &readings(memory));
     let test = permit(rules, row.used, &row.readings);
@@ -79,12 +68,7 @@ pub(crate) fn actual<M: Guarded>(
         ≡ actual_step rules.now (readings_of (M.shows memory.old).words) row.now disturbance
         (words_of (M.shows memory.old).words)) }
     ensures step { IfOk result (λ step. step ≡ quiet_step) }
-    ensures mirrored { AreMirrored (M.shows memory.old).words
-        → OnOk result (AreMirrored (M.shows memory.new).words) }
-    ensures outside { outside (M.shows memory.new).words ≡ outside (M.shows memory.old).words }
-    ensures sure { IsTrue (M.shows memory.old).sure → IsOk result }
-    ensures stays_sure { (M.shows memory.new).sure ≡ (M.shows memory.old).sure }
-    ensures are_words { AreWords (M.shows memory.old).words → AreWords (M.shows memory.new).words }
+    ensures keeps { Keeps (M.shows memory.old) (M.shows memory.new) result }
 {
     let signal = estimate(rules, &readings(memory));
     let test = estimate(rules, &row.readings);
@@ -103,12 +87,7 @@ pub(crate) fn excess<M: Guarded>(
     ensures words { OnOk result (words_of (M.shows memory.new).words
         ≡ excess_step rules.now row.now disturbance (words_of (M.shows memory.old).words)) }
     ensures step { IfOk result (λ step. step ≡ quiet_step) }
-    ensures mirrored { AreMirrored (M.shows memory.old).words
-        → OnOk result (AreMirrored (M.shows memory.new).words) }
-    ensures outside { outside (M.shows memory.new).words ≡ outside (M.shows memory.old).words }
-    ensures sure { IsTrue (M.shows memory.old).sure → IsOk result }
-    ensures stays_sure { (M.shows memory.new).sure ≡ (M.shows memory.old).sure }
-    ensures are_words { AreWords (M.shows memory.old).words → AreWords (M.shows memory.new).words }
+    ensures keeps { Keeps (M.shows memory.old) (M.shows memory.new) result }
 {
     let signal = exceeds(rules, word(memory, ACTUAL), word(memory, PERMITTED));
     let test = exceeds(rules, row.estimate, row.allowed);
@@ -127,12 +106,7 @@ pub(crate) fn pairs<M: Guarded>(
         ≡ pairs_step rules.now (readings_of (M.shows memory.old).words) row.now disturbance
         (words_of (M.shows memory.old).words)) }
     ensures step { IfOk result (λ step. step ≡ quiet_step) }
-    ensures mirrored { AreMirrored (M.shows memory.old).words
-        → OnOk result (AreMirrored (M.shows memory.new).words) }
-    ensures outside { outside (M.shows memory.new).words ≡ outside (M.shows memory.old).words }
-    ensures sure { IsTrue (M.shows memory.old).sure → IsOk result }
-    ensures stays_sure { (M.shows memory.new).sure ≡ (M.shows memory.old).sure }
-    ensures are_words { AreWords (M.shows memory.old).words → AreWords (M.shows memory.new).words }
+    ensures keeps { Keeps (M.shows memory.old) (M.shows memory.new) result }
 {
     let signal = pair_bits(&readings(memory), &rules.tolerances);
     let test = pair_bits(&row.readings, &rules.tolerances);
@@ -165,7 +139,6 @@ fn exceeds(rules: &Rules, estimate: u16, permitted: u16) -> u16
 }
 
 /// Stores the signal of a module, moves the token, and mixes the result of the question's row into the fold.
-
 fn write<M: Guarded>(
     memory: &mut M,
     number: u8,
@@ -177,12 +150,7 @@ fn write<M: Guarded>(
     requires last { number ≤ 5 }
     ensures stored { OnOk result (word_at (M.shows memory.new).words
         ≡ signalled number signal test disturbance (word_at (M.shows memory.old).words)) }
-    ensures mirrored { AreMirrored (M.shows memory.old).words
-        → OnOk result (AreMirrored (M.shows memory.new).words) }
-    ensures outside { outside (M.shows memory.new).words ≡ outside (M.shows memory.old).words }
-    ensures sure { IsTrue (M.shows memory.old).sure → IsOk result }
-    ensures stays_sure { (M.shows memory.new).sure ≡ (M.shows memory.old).sure }
-    ensures are_words { AreWords (M.shows memory.old).words → AreWords (M.shows memory.new).words }
+    ensures keeps { Keeps (M.shows memory.old) (M.shows memory.new) result }
 {
     let value = written(is_set(word(memory, TRIP)), signal, disturbance);
     let token = next_token(word(memory, TOKEN), number);

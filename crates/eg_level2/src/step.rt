@@ -1,5 +1,5 @@
 // What a run of a module answers.
-ghost use Rattle.std.specs.Prelude.{◌≡◌, None, false};
+ghost use Rattle.std.specs.Prelude.{◌≡◌};
 ghost use Rattle.eg_level2.specs.Modules.{no_watches, mirror_alone, finding, quiet_step};
 
 use eg_num::Watches;

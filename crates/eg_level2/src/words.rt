@@ -1,8 +1,8 @@
 // Level 2's words in the guarded memory: each is stored with its complement.
-ghost use Rattle.std.specs.Prelude.{◌≡◌, ◌↔◌, ◌+◌, ◌-◌, ◌<◌, IsTrue, IsOk, OnOk, not, ◌==◌};
+ghost use Rattle.std.specs.Prelude.{◌≡◌, ◌↔◌, ◌<◌, IsTrue, IsOk, OnOk};
 ghost use Rattle.eg_guard.specs.Memory.{AreWords};
 ghost use Rattle.eg_level2.specs.Words.{place, word_at, AreMirrored, is_set};
-ghost use Rattle.eg_level2.specs.Stores.{put, keep, keep_where, cleared, outside};
+ghost use Rattle.eg_level2.specs.Stores.{Keeps, put, keep, keep_where, cleared, outside};
 
 use eg_base::NoMemory;
 use eg_guard::{Guarded, StoreRefusal, Who};
@@ -99,12 +99,7 @@ pub(crate) fn keep<M: Guarded>(memory: &mut M, number: u16, value: u16) -> Resul
     requires { number < 16 }
     ensures stored { OnOk result (word_at (M.shows memory.new).words
         ≡ keep number value (word_at (M.shows memory.old).words)) }
-    ensures mirrored { AreMirrored (M.shows memory.old).words
-        → OnOk result (AreMirrored (M.shows memory.new).words) }
-    ensures outside { outside (M.shows memory.new).words ≡ outside (M.shows memory.old).words }
-    ensures sure { IsTrue (M.shows memory.old).sure → IsOk result }
-    ensures stays_sure { (M.shows memory.new).sure ≡ (M.shows memory.old).sure }
-    ensures are_words { AreWords (M.shows memory.new).words }
+    ensures keeps { Keeps (M.shows memory.old) (M.shows memory.new) result }
 {
     put(memory, number, value)?;
     put(memory, number + WORDS, u16::MAX - value)
@@ -121,12 +116,7 @@ pub(crate) fn keep_where<M: Guarded>(
     requires { number < 16 }
     ensures stored { OnOk result (word_at (M.shows memory.new).words
         ≡ keep_where test number value (word_at (M.shows memory.old).words)) }
-    ensures mirrored { AreMirrored (M.shows memory.old).words
-        → OnOk result (AreMirrored (M.shows memory.new).words) }
-    ensures outside { outside (M.shows memory.new).words ≡ outside (M.shows memory.old).words }
-    ensures sure { IsTrue (M.shows memory.old).sure → IsOk result }
-    ensures stays_sure { (M.shows memory.new).sure ≡ (M.shows memory.old).sure }
-    ensures are_words { AreWords (M.shows memory.old).words → AreWords (M.shows memory.new).words }
+    ensures keeps { Keeps (M.shows memory.old) (M.shows memory.new) result }
 {
     if !test {
         return Ok(());
@@ -139,10 +129,7 @@ pub(crate) fn clear<M: Guarded>(memory: &mut M) -> Result<(), NoMemory>
     ensures stored { OnOk result (word_at (M.shows memory.new).words
         ≡ cleared 16 (word_at (M.shows memory.old).words)) }
     ensures mirrored { OnOk result (AreMirrored (M.shows memory.new).words) }
-    ensures outside { outside (M.shows memory.new).words ≡ outside (M.shows memory.old).words }
-    ensures sure { IsTrue (M.shows memory.old).sure → IsOk result }
-    ensures stays_sure { (M.shows memory.new).sure ≡ (M.shows memory.old).sure }
-    ensures are_words { AreWords (M.shows memory.old).words → AreWords (M.shows memory.new).words }
+    ensures keeps { Keeps (M.shows memory.old) (M.shows memory.new) result }
 {
     for number in 0..WORDS {
         keep(memory, number, 0)?;
