@@ -1,3 +1,4 @@
 pub mod FoldLemmas
 pub mod TokenLemmas
 mod Worked
+pub mod QuotientLemmas

@@ -1,13 +1,14 @@
--- Four questions with their results, the folds on the way and the numbers that are expected, the token of a tick, and
--- a reaction time, computed from the definitions.
-use Rattle.std.proofs.Common.{◌≡◌, ℕ, ◌∷◌, List, [], map, take, refl}
+-- Four questions with their results, the folds on the way and the numbers that are expected, the token of a tick,
+-- a reaction time and bounds for lapses, computed from the definitions.
+use Rattle.std.proofs.Common.{◌≡◌, ℕ, ◌∷◌, List, [], map, take, refl, arith}
+use Rattle.eg_num.specs.Windows.{WeightParts}
 use Rattle.eg_num.specs.Interpolation.{value_at}
 use Rattle.eg_torque.specs.Permit.{permitted}
 use Rattle.eg_torque.specs.Excess.{is_excess}
 use Rattle.eg_answer.specs.Folds.{mixed, fold_of}
 use Rattle.eg_answer.specs.Answers.{pedal_result, permitted_result, estimate_result, excess_result, pairs_result, results_of, expected_of, answer_number}
 use Rattle.eg_answer.specs.Token.{next_token_of, token_after, all_modules}
-use Rattle.eg_answer.specs.Times.{TimeParts, verdicts_to_confirm, reaction_of}
+use Rattle.eg_answer.specs.Times.{TimeParts, verdicts_to_confirm, reaction_of, runs_to_confirm, periods_to_confirm, worth_of, rounds_to_confirm, lapse_periods, lapse_bound_of, HasLapseBound}
 use Rattle.eg_answer.specs.declared.rules.Rules.{Rules}
 use Rattle.eg_answer.specs.declared.rules.TestRow.{TestRow}
 
@@ -15,6 +16,7 @@ use Rattle.eg_answer.specs.declared.rules.TestRow.{TestRow}
 unfoldable answering : ℕ
 unfolding value_at permitted is_excess mixed fold_of pedal_result permitted_result estimate_result excess_result pairs_result
     results_of expected_of answer_number next_token_of token_after verdicts_to_confirm reaction_of
+    runs_to_confirm periods_to_confirm worth_of rounds_to_confirm lapse_periods lapse_bound_of
 answering = 0
 
 -- pedals 0, 500, 1000; speeds 800, 3000, 6000
@@ -129,3 +131,22 @@ reaction-3 = refl
 reaction-2 : reaction_of (times 2) ≡ 54
 unfolding answering
 reaction-2 = refl
+
+-- the weights of an excess, in which each counts 1 up and 1 down
+abbrev torque : ℕ → WeightParts
+torque limit = record { up = 1; down = 1; limit = limit }
+
+-- five runs fill one period, so no verdict of it is right, and three rounds confirm
+lapse-5 : lapse_bound_of (torque 5) (times 3) ≡ 50
+unfolding answering
+lapse-5 = refl
+
+-- 25 runs fill three periods: two right verdicts leave 1 of 3, and nine rounds of three confirm
+lapse-25 : map (λ f. f (torque 25) (times 3)) (periods_to_confirm ∷ worth_of ∷ rounds_to_confirm ∷ lapse_periods ∷ lapse_bound_of ∷ []) ≡ 3 ∷ 1 ∷ 9 ∷ 28 ∷ 290 ∷ []
+unfolding answering
+lapse-25 = refl
+
+-- a hundred runs fill ten periods: nine right verdicts outweigh a wrong one
+lapse-100 : ¬ HasLapseBound (torque 100) (times 3)
+unfolding answering
+lapse-100 h = absurd (omega (arith, h))

@@ -31,3 +31,37 @@ verdicts_to_confirm w = quotient_up w.limit w.up
 -- the first tick with an open path.
 unfoldable pub reaction_of : TimeParts → ℕ
 reaction_of t = (verdicts_to_confirm t.weights + 1) * t.period - t.send - 1
+
+-- ---- lapses: level 2 as a whole doesn't run at some ticks, again and again ----
+
+-- how many runs of level 2 in a row are enough to confirm an excess, where each of them finds it
+unfoldable pub runs_to_confirm : WeightParts → ℕ
+runs_to_confirm torque = quotient_up torque.limit torque.up
+
+-- How many periods so many runs fill. A right verdict takes the runs of a whole period, so fewer verdicts
+-- than this are right until the excess is confirmed.
+unfoldable pub periods_to_confirm : WeightParts → TimeParts → ℕ
+periods_to_confirm torque times = quotient_up (runs_to_confirm torque) times.period
+
+-- There is a bound for lapses exactly where one wrong verdict adds more than the right ones take.
+abbrev pub HasLapseBound : WeightParts → TimeParts → Type 0
+HasLapseBound torque times = (periods_to_confirm torque times - 1) * times.weights.down < times.weights.up
+
+-- How much more: what so many verdicts in a row weigh at least, of which all but one are right.
+unfoldable pub worth_of : WeightParts → TimeParts → ℕ
+worth_of torque times = times.weights.up - (periods_to_confirm torque times - 1) * times.weights.down
+
+-- How many rounds of `periods_to_confirm` verdicts are enough to confirm. In each round one at least is
+-- wrong, so it weighs at least `worth_of`.
+unfoldable pub rounds_to_confirm : WeightParts → TimeParts → ℕ
+rounds_to_confirm torque times = quotient_up times.weights.limit (worth_of torque times)
+
+-- After so many whole periods of excess a path is open: those of these rounds, and one before them, whose
+-- verdict may be right by runs from before the excess.
+unfoldable pub lapse_periods : WeightParts → TimeParts → ℕ
+lapse_periods torque times = rounds_to_confirm torque times * periods_to_confirm torque times + 1
+
+-- The bound for lapses, in ticks. Wherever so many ticks in a row begin, they hold those whole periods and a
+-- tick after them; so each stretch of excess is shorter.
+unfoldable pub lapse_bound_of : WeightParts → TimeParts → ℕ
+lapse_bound_of torque times = (lapse_periods torque times + 1) * times.period

@@ -1,6 +1,6 @@
 //! Questions and answers of the controller monitoring: test rows and their results, the fold that an answer
 //! carries, the token that the modules of level 2 move, the questions, and the times of the answers with the
-//! reaction time.
+//! reaction time and the bound for lapses.
 #![tactic(auto)]
 
 mod answers;
@@ -14,5 +14,5 @@ pub use answers::{expected, fold, folds_tell_results_apart, results};
 pub use marks::{AnswerMark, Verdict};
 pub use questions::{Question, Questions};
 pub use rules::{Rules, TestRow};
-pub use times::{Times, reaction};
+pub use times::{Times, lapse_bound, reaction};
 pub use token::{next_token, token_counts_modules};

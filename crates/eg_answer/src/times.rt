@@ -1,7 +1,7 @@
 // The times of the answers, and the reaction time.
-ghost use Rattle.std.specs.Prelude.{◌≡◌, SomeIff};
+ghost use Rattle.std.specs.Prelude.{◌≡◌, ◌+◌, ◌*◌, ◌≤◌, ◌<◌, SomeIff};
 ghost use Rattle.eg_num.specs.Windows.{AreWeights};
-ghost use Rattle.eg_answer.specs.Times.{TimeParts, AreTimes, reaction_of};
+ghost use Rattle.eg_answer.specs.Times.{TimeParts, AreTimes, reaction_of, periods_to_confirm, HasLapseBound, lapse_bound_of};
 
 use eg_num::Weights;
 use std::marker::Model;
@@ -129,6 +129,36 @@ pub fn reaction(times: &Times) -> u32
     (verdicts + 1) * u32::from(times.period()) - u32::from(times.send()) - 1
 }
 
+/// How many periods the runs of level 2 fill that are enough to confirm an excess (docs/CONCEPT.md,
+/// "Lapses").
+fn periods_to_confirm(torque: &Weights, times: &Times) -> u32
+    ensures number { result ≡ periods_to_confirm torque.now times.now }
+    ensures some { 1 ≤ result }
+    ensures within { result ≤ 10000 }
+    ensures ticks { result * times.now.period < 10000 + times.now.period }
+{
+    let runs = u32::from(torque.limit()).div_ceil(u32::from(torque.up()));
+    runs.div_ceil(u32::from(times.period()))
+}
+
+/// The bound for lapses in ticks (docs/CONCEPT.md, "Lapses"): where level 2 as a whole doesn't run at some
+/// ticks, whichever they are, each stretch of torque excess is shorter. `torque` are the weights by which
+/// level 2 debounces the excess. None where right verdicts can outweigh the wrong ones.
+pub fn lapse_bound(torque: &Weights, times: &Times) -> Option<u32>
+    ensures { SomeIff result (HasLapseBound torque.now times.now) (lapse_bound_of torque.now times.now) }
+{
+    let answers = times.weights();
+    let up = u32::from(answers.up());
+    let periods = periods_to_confirm(torque, times);
+    let taken = (periods - 1) * u32::from(answers.down());
+    if taken < up {
+        let rounds = u32::from(answers.limit()).div_ceil(up - taken);
+        Some((rounds * periods + 2) * u32::from(times.period()))
+    } else {
+        None
+    }
+}
+
 #[cfg(test)]
 mod tests {
     use super::*;
@@ -144,6 +174,9 @@ mod tests {
         );
         assert_eq!(rt; times.weights().limit(), 9);
         assert_eq!(rt; reaction(&times), 34);
+        let torque = |limit| Weights::new(1, 1, limit).ok_or("no weights");
+        assert_eq!(rt; lapse_bound(&torque(5)?, &times), Some(50));
+        assert_eq!(rt; lapse_bound(&torque(100)?, &times), None);
         Ok(())
     }
 }

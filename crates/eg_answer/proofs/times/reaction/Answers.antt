@@ -1,25 +1,9 @@
-use Rattle.std.proofs.Common.{◌≡◌, ℕ, ◌+◌, ◌-◌, ◌*◌, ◌/◌, ◌<◌, ◌≤◌, sym, ap, ap₂, ◌∙◌, arith}
-use Rattle.std.specs.Int.{div_ceil}
-use Rattle.std.proofs.lemmas.Grind.{div_ceil_times}
-use Rattle.std.proofs.lemmas.Nat.{div-mul-add}
+use Rattle.std.proofs.Common.{◌≡◌, ◌+◌, ◌-◌, ◌*◌, ◌<◌, ap, ap₂, ◌∙◌, arith}
 use Rattle.eg_num.specs.Arithmetic.{quotient_up}
 use Rattle.eg_num.specs.Windows.{WeightParts}
 use Rattle.eg_answer.specs.Times.{reaction_of, verdicts_to_confirm}
+use Rattle.eg_answer.proofs.QuotientLemmas.{div_ceil-quotient_up}
 use Rattle.eg_answer.proofs.times.reaction.Goals as goal
-
--- the code's rounded quotient is the definition's
-div_ceil-quotient_up : (a b : ℕ) → 0 < b → div_ceil a b ≡ quotient_up a b
-div_ceil-quotient_up a b positive =
-    let bounds = div_ceil_times a b positive in
-    let whole : a + (b - 1) ≡ div_ceil a b * b + (a + (b - 1) - div_ceil a b * b) = within a b (div_ceil a b * b) positive bounds.0 bounds.1 in
-    let rest = below a b (div_ceil a b * b) positive bounds.0 bounds.1 in
-    sym (ap (λ n. n / b) whole ∙ div-mul-add (div_ceil a b) b (a + (b - 1) - div_ceil a b * b) rest)
-  where
-    within : (a b c : ℕ) → 0 < b → a ≤ c → c < a + b → a + (b - 1) ≡ c + (a + (b - 1) - c)
-    within a b c h l m = omega arith
-
-    below : (a b c : ℕ) → 0 < b → a ≤ c → c < a + b → a + (b - 1) - c < b
-    below a b c h l m = omega arith
 
 pub returns : goal.returns
 unfolding reaction_of verdicts_to_confirm
