@@ -1,0 +1,14 @@
+pub mod WholeModel
+pub mod WorkedRuns
+pub mod WorkedFaults
+pub mod WorkedImages
+pub mod TickLemmas
+pub mod TripLemmas
+pub mod Seeing
+pub mod PeriodLemmas
+pub mod Silence
+pub mod ClassLemmas
+pub mod ReactionLaw
+pub mod PlainTick
+pub mod SharpCutLaw
+pub mod RecordLaws

@@ -1,0 +1,147 @@
+-- A tick at which nothing is out of order: what level 2 makes of it before any trip.
+use Rattle.std.proofs.Common.{◌≡◌, ℕ, zero, suc, ◌+◌, ◌-◌, ◌/◌, ◌%◌, ◌≤◌, Bool, true, false, List, refl, sym, ap, ap₂, ◌∙◌, arith, nat_lt, min, max}
+use Rattle.std.specs.Prelude.{if◌then◌else◌, ◌==◌, slice_index}
+use Rattle.std.proofs.lemmas.Bool.{le-ltb, eq-eqb}
+use Rattle.eg_num.specs.Arithmetic.{estimate}
+use Rattle.eg_torque.specs.Permit.{permitted, drive_permits}
+use Rattle.eg_torque.specs.Excess.{is_excess}
+use Rattle.eg_sensor.specs.Readings.{bit}
+use Rattle.eg_fault.specs.Effects.{no_effects, readings_under}
+use Rattle.eg_record.specs.Excess.{full_excess}
+use Rattle.eg_model.specs.History.{Setting, Entry, Tick, Moment}
+use Rattle.eg_model.specs.Signals.{tripped, is_limited, last_signals, pedal_value, permitted_value, excess_value, pairs_value, signals_at}
+use Rattle.eg_model.specs.Detection.{has_bit, pedal_bit, plate_bit, load_bit, speed_bit, torque_bit}
+use Rattle.eg_model.specs.Moments.{readings_at, moment}
+use Rattle.eg_model.specs.Rows.{row_of}
+use Rattle.eg_model.specs.Premises.{IsProper}
+use Rattle.eg_model.proofs.TickLemmas.{Runs}
+use Rattle.eg_model.proofs.Seeing.{IsUndisturbed, signal_value, actual-is, permitted-is, pedal-is, excess-is}
+
+-- a tick at which nothing is out of order
+abbrev pub plain : Entry → Tick
+plain e = record { effects = no_effects; entry = e }
+
+pub plain_runs : Runs no_effects
+unfolding no_effects
+plain_runs = record { ran = λ i. refl; unflipped = refl }
+
+pub plain_undisturbed : IsUndisturbed no_effects
+unfolding no_effects
+plain_undisturbed i = refl
+
+else_of : {A : Type 0} (b : Bool) (y z : A) → b ≡ false → (if b then y else z) ≡ z
+else_of true y z e = absurd (let e' : true ≡ false = e in cc)
+else_of false y z e = refl
+
+lower_is : (p : ℕ) → p ≤ 1000 → min p (1000 - (1000 - p)) ≡ p
+lower_is p l = omega arith
+
+checked_is : (v : ℕ) → v ≤ 10000 → (if v + (65535 - v) == 65535 then v else 0) ≡ v
+checked_is v l = rw (eq-eqb (v + (65535 - v)) 65535 (omega arith)) refl
+
+agree : (a b tolerance : ℕ) → a ≡ b → nat_lt tolerance ((a - b) + (b - a)) ≡ false
+agree a b tolerance e = le-ltb tolerance ((a - b) + (b - a)) (omega arith)
+
+flag_bit : (b : Bool) → has_bit 1 (bit 1 b) ≡ b
+unfolding has_bit
+flag_bit true = refl
+flag_bit false = refl
+
+no_bit : (k : ℕ) → has_bit k 0 ≡ false
+unfolding has_bit
+no_bit k = go (0 / k) (nothing k)
+  where
+    nothing : (k : ℕ) → 0 / k ≡ 0
+    nothing zero = refl
+    nothing (suc k) = omega arith
+
+    go : (n : ℕ) → n ≡ 0 → (n % 2 == 1) ≡ false
+    go n e = rw e refl
+
+module _ (s : Setting) (e : Entry) (past : List Moment) (proper : IsProper s (plain e) past)
+    (loads : e.shown.load_2 ≡ e.shown.load_1) (untripped : tripped past ≡ false)
+    (unlimited : is_limited past ≡ false) where
+  abbrev m : Moment
+  m = moment s no_effects e past
+
+  pedal-same : m.signals.pedal ≡ e.drive.pedal
+  pedal-same =
+      pedal-is s (plain e) past plain_runs plain_undisturbed untripped
+      ∙ (unfold pedal_value readings_at readings_under no_effects in else_of (is_limited past) 0 _ unlimited
+      ∙ lower_is e.drive.pedal proper.drive.0)
+
+  allowed-same : m.signals.permitted ≡ m.limit
+  allowed-same =
+      permitted-is s (plain e) past plain_runs plain_undisturbed untripped
+      ∙ ap (permitted_value s.cal.rules (readings_at no_effects e)) pedal-same ∙ value ∙ sym limit-is
+    where
+      limit-is : m.limit ≡ drive_permits s.cal.rules.permit e.drive
+      limit-is = unfold moment in refl
+
+      same : (a r q : ℕ) → r ≡ q → max (min a a) r ≡ max a q
+      same a r q f = omega arith
+
+      value : permitted_value s.cal.rules (readings_at no_effects e) e.drive.pedal
+          ≡ drive_permits s.cal.rules.permit e.drive
+      value = unfold permitted_value permitted drive_permits readings_at readings_under no_effects in
+          same _ _ _ (checked_is e.drive.raise proper.drive.2)
+
+  actual-same : m.signals.actual ≡ estimate s.cal.rules.kt e.shown.load_1
+  actual-same =
+      actual-is s (plain e) past plain_runs plain_undisturbed untripped
+      ∙ (unfold readings_at readings_under no_effects in
+      ap (estimate s.cal.rules.kt) (higher e.shown.load_1 e.shown.load_2 loads))
+    where
+      higher : (a b : ℕ) → b ≡ a → max a b ≡ a
+      higher a b f = omega arith
+
+  flag : torque_bit m.signals ≡ is_excess m.signals.actual m.signals.permitted s.cal.rules.threshold
+  unfolding torque_bit excess_value
+  flag = ap (has_bit 1) (excess-is s (plain e) past plain_runs plain_undisturbed untripped)
+      ∙ flag_bit (is_excess m.signals.actual m.signals.permitted s.cal.rules.threshold)
+
+  -- the torque bit is the full-efficiency excess
+  pub torque_bit-is : torque_bit m.signals ≡ full_excess s.cal.rules.kt s.cal.rules.threshold (row_of m)
+  torque_bit-is =
+      flag
+      ∙ ap₂ (λ a p. is_excess a p s.cal.rules.threshold) actual-same allowed-same
+      ∙ shown
+    where
+      shown : is_excess (estimate s.cal.rules.kt e.shown.load_1) m.limit s.cal.rules.threshold
+          ≡ full_excess s.cal.rules.kt s.cal.rules.threshold (row_of m)
+      shown = unfold full_excess row_of moment in refl
+
+  no_pairs : m.signals.pairs ≡ 0
+  unfolding moment signals_at
+  no_pairs = signal_value no_effects past 5 (last_signals past).pairs
+      (pairs_value s.cal.rules (readings_at no_effects e)) plain_runs plain_undisturbed untripped ∙ none
+    where
+      none : pairs_value s.cal.rules (readings_at no_effects e) ≡ 0
+      none = unfold pairs_value readings_at readings_under no_effects in
+          rw (
+            agree e.drive.pedal (1000 - (1000 - e.drive.pedal)) (slice_index s.cal.rules.tolerances 0)
+                (falls e.drive.pedal proper.drive.0),
+            agree e.shown.position (1000 - (1000 - e.shown.position)) (slice_index s.cal.rules.tolerances 1)
+                (falls e.shown.position proper.engine.position),
+            agree e.shown.load_1 e.shown.load_2 (slice_index s.cal.rules.tolerances 2) (sym loads),
+            agree e.drive.speed e.drive.speed (slice_index s.cal.rules.tolerances 3) refl,
+          ) refl
+        where
+          falls : (p : ℕ) → p ≤ 1000 → p ≡ 1000 - (1000 - p)
+          falls p l = omega arith
+
+  pub pedal_bit-is : pedal_bit m.signals ≡ false
+  unfolding pedal_bit
+  pedal_bit-is = ap (has_bit 1) no_pairs ∙ no_bit 1
+
+  pub plate_bit-is : plate_bit m.signals ≡ false
+  unfolding plate_bit
+  plate_bit-is = ap (has_bit 2) no_pairs ∙ no_bit 2
+
+  pub load_bit-is : load_bit m.signals ≡ false
+  unfolding load_bit
+  load_bit-is = ap (has_bit 4) no_pairs ∙ no_bit 4
+
+  pub speed_bit-is : speed_bit m.signals ≡ false
+  unfolding speed_bit
+  speed_bit-is = ap (has_bit 8) no_pairs ∙ no_bit 8

@@ -1,0 +1,193 @@
+-- Level 2 sees each true excess where one track of each pair is sound.
+use Rattle.std.proofs.Common.{◌≡◌, ℕ, ◌+◌, ◌-◌, ◌≤◌, ◌<◌, Bool, true, false, List, [], ◌∷◌, refl, arith, inl, inr, ◌⊎◌, min, max}
+use Rattle.std.specs.Prelude.{if◌then◌else◌, ◌==◌, slice_index}
+use Rattle.std.specs.Int.Bits.{xor_zero_r}
+use Rattle.std.proofs.lemmas.Bool.{ltb-true, lt-ltb, eqb-true}
+use Rattle.eg_num.specs.Arithmetic.{estimate}
+use Rattle.eg_num.proofs.RisingLemmas.{estimate-rises}
+use Rattle.eg_torque.specs.Permit.{permitted, drive_permits}
+use Rattle.eg_torque.specs.Excess.{is_excess}
+use Rattle.eg_num.specs.Interpolation.{grid_at}
+use Rattle.eg_torque.proofs.PermitLemmas.{grid_at-rises}
+use Rattle.eg_sensor.specs.Readings.{checked_raise}
+use Rattle.eg_sensor.specs.declared.readings.Readings.{Readings}
+use Rattle.eg_values.specs.Calibration.{IsAccepted}
+use Rattle.eg_fault.specs.Effects.{Effects, readings_under}
+use Rattle.eg_record.specs.Excess.{true_excess}
+use Rattle.eg_model.specs.History.{Setting, Entry, Tick, Moment}
+use Rattle.eg_model.specs.Signals.{tripped, is_limited, signal, pedal_value, permitted_value, actual_value, excess_value, signals_at}
+use Rattle.eg_model.specs.Detection.{has_bit, torque_bit}
+use Rattle.eg_model.specs.Moments.{readings_at, moment, moments_of}
+use Rattle.eg_model.specs.Rows.{row_of}
+use Rattle.eg_model.specs.Premises.{AreProper, IsProper}
+use Rattle.eg_model.proofs.TickLemmas.{Each, Runs}
+use Rattle.eg_model.proofs.TripLemmas.{Sees, exceeds}
+
+-- a track that reads what a sound one reads
+abbrev pub IsSound : Effects → ℕ → Type 0
+IsSound x i = (v : ℕ) → x.track i v ≡ v
+
+-- nothing disturbs a signal
+abbrev pub IsUndisturbed : Effects → Type 0
+IsUndisturbed x = (i : ℕ) → x.disturbance i ≡ 0
+
+-- level 2 runs whole and undisturbed, and one track of each of these pairs is sound
+pub record SeesExcess (x : Effects) : Type 0 where
+  pub runs : Runs x
+  pub undisturbed : IsUndisturbed x
+  pub pedal : IsSound x 0 ⊎ IsSound x 1
+  pub load : IsSound x 4 ⊎ IsSound x 5
+  pub speed : IsSound x 6 ⊎ IsSound x 7
+
+-- the readings, track by track
+abbrev lower_pedal : Readings → ℕ
+lower_pedal r = min (slice_index r.pedal 0) (1000 - slice_index r.pedal 1)
+
+abbrev higher_load : Readings → ℕ
+higher_load r = max (slice_index r.load 0) (slice_index r.load 1)
+
+abbrev raise_of : Readings → ℕ
+raise_of r = checked_raise r.raise r.raise_check
+
+-- what was read errs to the safe side
+pub record ErrsSafely (kt : ℕ) (r : Readings) (e : Entry) : Type 0 where
+  pub load : e.shown.torque ≤ estimate kt (higher_load r)
+  pub pedal : lower_pedal r ≤ e.drive.pedal
+  pub speed : (slice_index r.speed 0 ≡ e.drive.speed) ⊎ (slice_index r.speed 1 ≡ e.drive.speed)
+  pub raise : raise_of r ≤ e.drive.raise
+
+at_most : (a b : ℕ) → (if a + (65535 - b) == 65535 then a else 0) ≤ b
+at_most a b = go (a + (65535 - b) == 65535) refl
+  where
+    go : (t : Bool) → (a + (65535 - b) == 65535) ≡ t → (if t then a else 0) ≤ b
+    go true e = let e' : a + (65535 - b) ≡ 65535 = eqb-true _ _ e in omega arith
+    go false e = omega arith
+
+lower_first : (a b p : ℕ) → a ≡ p → min a b ≤ p
+lower_first a b p h = omega arith
+
+lower_second : (a b p : ℕ) → b ≡ 1000 - p → min a (1000 - b) ≤ p
+lower_second a b p h = omega arith
+
+-- one sound track of each pair is enough
+errs_safely : (s : Setting) (x : Tick) (past : List Moment) → SeesExcess x.effects → IsProper s x past →
+    ErrsSafely s.cal.rules.kt (readings_at x.effects x.entry) x.entry
+unfolding readings_at readings_under
+errs_safely s x past sees proper = record {
+  load = elim sees.load [
+    | inl sound ↦ (let a = sound x.entry.shown.load_1 in let b = proper.engine.load_1 in let c =
+        estimate-rises s.cal.rules.kt x.entry.shown.load_1
+        (max (x.effects.track 4 x.entry.shown.load_1) (x.effects.track 5 x.entry.shown.load_2))
+        (omega arith) in omega arith)
+    | inr sound ↦ (let a = sound x.entry.shown.load_2 in let b = proper.engine.load_2 in let c =
+        estimate-rises s.cal.rules.kt x.entry.shown.load_2
+        (max (x.effects.track 4 x.entry.shown.load_1) (x.effects.track 5 x.entry.shown.load_2))
+        (omega arith) in omega arith)
+  ];
+  pedal = elim sees.pedal [
+    | inl sound ↦ lower_first _ _ _ (sound x.entry.drive.pedal)
+    | inr sound ↦ lower_second _ _ _ (sound (1000 - x.entry.drive.pedal))
+  ];
+  speed = elim sees.speed [
+    | inl sound ↦ inl (sound x.entry.drive.speed)
+    | inr sound ↦ inr (sound x.entry.drive.speed)
+  ];
+  raise = at_most (x.effects.raise x.entry.drive.raise) x.entry.drive.raise;
+}
+
+-- a signal of a module that runs before any trip is its value
+pub signal_value : (x : Effects) (past : List Moment) (i before value : ℕ) → Runs x → IsUndisturbed x →
+    tripped past ≡ false → signal x past i before value ≡ value
+unfolding signal
+signal_value x past i before value r u h = rw (r.unflipped, r.ran i, h, u i) (xor_zero_r value)
+
+module _ (s : Setting) (x : Tick) (past : List Moment) (runs : Runs x.effects)
+    (calm : IsUndisturbed x.effects) (untripped : tripped past ≡ false) where
+  abbrev pub m : Moment
+  m = moment s x.effects x.entry past
+
+  pub reads-is : m.reads ≡ readings_at x.effects x.entry
+  unfolding moment
+  reads-is = refl
+
+  pub actual-is : m.signals.actual ≡ estimate s.cal.rules.kt (higher_load (readings_at x.effects x.entry))
+  unfolding moment signals_at actual_value
+  actual-is = signal_value x.effects past 3 _ _ runs calm untripped
+
+  pub permitted-is : m.signals.permitted
+      ≡ permitted_value s.cal.rules (readings_at x.effects x.entry) m.signals.pedal
+  unfolding moment signals_at
+  permitted-is = signal_value x.effects past 2 _ _ runs calm untripped
+
+  pub pedal-is : m.signals.pedal ≡ pedal_value (readings_at x.effects x.entry) past
+  unfolding moment signals_at
+  pedal-is = signal_value x.effects past 1 _ _ runs calm untripped
+
+  pub excess-is : m.signals.excess ≡ excess_value s.cal.rules m.signals.permitted m.signals.actual
+  unfolding moment signals_at
+  excess-is = signal_value x.effects past 4 _ _ runs calm untripped
+
+  pedal-below : m.signals.pedal ≤ lower_pedal (readings_at x.effects x.entry)
+  unfolding pedal_value
+  pedal-below = rw pedal-is (go (is_limited past) _)
+    where
+      go : (b : Bool) (n : ℕ) → (if b then 0 else n) ≤ n
+      go true n = omega arith
+      go false n = omega arith
+
+  permitted-below : IsAccepted s.cal → ErrsSafely s.cal.rules.kt (readings_at x.effects x.entry) x.entry →
+      m.signals.permitted ≤ m.limit
+  permitted-below accepted safe =
+      rw (permitted-is, limit-is)
+      (below (readings_at x.effects x.entry) safe.pedal safe.speed safe.raise pedal-below)
+    where
+      limit-is : m.limit ≡ drive_permits s.cal.rules.permit x.entry.drive
+      limit-is = unfold moment in refl
+
+      up : (p q v : ℕ) → p ≤ q → grid_at s.cal.rules.permit p v ≤ grid_at s.cal.rules.permit q v
+      up = grid_at-rises s.cal.rules.permit accepted.grid accepted.permit
+
+      lower : (a b r p q : ℕ) → r ≤ q → (a ≤ p) ⊎ (b ≤ p) → max (min a b) r ≤ max p q
+      lower a b r p q hr hab = omega arith
+
+      below : (r : Readings) → lower_pedal r ≤ x.entry.drive.pedal →
+          (slice_index r.speed 0 ≡ x.entry.drive.speed) ⊎ (slice_index r.speed 1 ≡ x.entry.drive.speed) →
+          raise_of r ≤ x.entry.drive.raise → m.signals.pedal ≤ lower_pedal r →
+          permitted_value s.cal.rules r m.signals.pedal ≤ drive_permits s.cal.rules.permit x.entry.drive
+      below r pedal speed raise less = unfold permitted_value permitted drive_permits in
+          lower _ _ _ _ _ raise (at_speed speed)
+        where
+          at_speed : (slice_index r.speed 0 ≡ x.entry.drive.speed) ⊎
+              (slice_index r.speed 1 ≡ x.entry.drive.speed) →
+              (grid_at s.cal.rules.permit m.signals.pedal
+              (slice_index r.speed 0) ≤ grid_at s.cal.rules.permit x.entry.drive.pedal x.entry.drive.speed) ⊎
+              (grid_at s.cal.rules.permit m.signals.pedal
+              (slice_index r.speed 1) ≤ grid_at s.cal.rules.permit x.entry.drive.pedal x.entry.drive.speed)
+          at_speed (inl same) = inl (rw same (up _ _ _ (omega (arith, less, pedal))))
+          at_speed (inr same) = inr (rw same (up _ _ _ (omega (arith, less, pedal))))
+
+  -- true excess shows in the excess word
+  excess_seen : IsAccepted s.cal → ErrsSafely s.cal.rules.kt (readings_at x.effects x.entry) x.entry →
+      exceeds s m ≡ true → torque_bit m.signals ≡ true
+  excess_seen accepted safe over_now = unfold torque_bit has_bit in rw (excess-is, shows) refl
+    where
+      over : m.limit + s.cal.rules.threshold < x.entry.shown.torque
+      over = ltb-true _ _ (unfold true_excess row_of is_excess moment in over_now)
+
+      above : m.signals.permitted + s.cal.rules.threshold < m.signals.actual
+      above = let a = permitted-below accepted safe in let b = safe.load in
+          rw actual-is (omega (arith, over, a, b))
+
+      shows : excess_value s.cal.rules m.signals.permitted m.signals.actual ≡ 1
+      shows = unfold excess_value is_excess in rw (lt-ltb _ _ above) refl
+
+-- so the torque bit is set at each tick with true excess
+pub sees_all : (s : Setting) → IsAccepted s.cal → (h : List Tick) → Each (λ x. SeesExcess x.effects) h →
+    AreProper s h → Sees s h
+unfolding Sees AreProper Each
+sees_all s accepted [] each proper = tt
+sees_all s accepted (x ∷ h) each proper = (
+  (λ u over. excess_seen s x (moments_of s h) each.0.runs each.0.undisturbed u accepted
+      (errs_safely s x (moments_of s h) each.0 proper.0) over),
+  sees_all s accepted h each.1 proper.1,
+)

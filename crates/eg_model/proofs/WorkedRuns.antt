@@ -1,0 +1,54 @@
+-- Runs that are worked out, computed from the definitions.
+use Rattle.std.proofs.Common.{◌≡◌, true, false, [], ◌∷◌, ◌++◌, map, replicate, Some, None, refl}
+use Rattle.std.specs.Prelude.{codes}
+use Rattle.eg_num.specs.Arithmetic.{estimate}
+use Rattle.eg_answer.specs.declared.marks.AnswerMark.TheVariants.{Good}
+use Rattle.eg_answer.specs.declared.marks.Verdict.TheVariants.{Right, Wrong}
+use Rattle.eg_record.specs.declared.watch.Watch.TheVariants.{Torque}
+use Rattle.eg_model.specs.Rows.{report_of}
+use Rattle.eg_model.specs.Examples.{idle, full, bench_run, moments_in_time, answers_of, verdicts_of, stages_of, reported}
+use Rattle.eg_model.proofs.WholeModel.{whole_model}
+
+-- ---- full throttle, without a fault ----
+
+pub full_throttle : report_of (codes "a") (bench_run full None 20)
+    ≡ reported (Some (Torque, 9)) (Some 10) None (Some 9)
+unfolding whole_model
+full_throttle = refl
+
+pub full_throttle-charge : map (λ m. m.entry.shown.load_1) (moments_in_time (bench_run full None 10))
+    ≡ 40 ∷ 40 ∷ 80 ∷ 120 ∷ 160 ∷ 200 ∷ 240 ∷ 280 ∷ 320 ∷ 360 ∷ []
+unfolding whole_model
+full_throttle-charge = refl
+
+pub full_throttle-stages : stages_of (bench_run full None 12) ≡ replicate 10 true ++ false ∷ false ∷ []
+unfolding whole_model
+full_throttle-stages = refl
+
+pub full_throttle-estimate : map (estimate 2500) (160 ∷ 200 ∷ []) ≡ 400 ∷ 500 ∷ []
+full_throttle-estimate = refl
+
+pub full_throttle-answers : answers_of (bench_run full None 40) ≡ (5, Good) ∷ []
+unfolding whole_model
+full_throttle-answers = refl
+
+pub full_throttle-verdicts : verdicts_of (bench_run full None 40)
+    ≡ (9, Some Right) ∷ (19, Some Wrong) ∷ (29, Some Wrong) ∷ (39, Some Wrong) ∷ []
+unfolding whole_model
+full_throttle-verdicts = refl
+
+-- ---- nothing happens ----
+
+pub idle_run : report_of (codes "a") (bench_run idle None 60) ≡ reported None None None None
+unfolding whole_model
+idle_run = refl
+
+pub idle-answers : answers_of (bench_run idle None 40)
+    ≡ (5, Good) ∷ (15, Good) ∷ (25, Good) ∷ (35, Good) ∷ []
+unfolding whole_model
+idle-answers = refl
+
+pub idle-verdicts : verdicts_of (bench_run idle None 40)
+    ≡ (9, Some Right) ∷ (19, Some Right) ∷ (29, Some Right) ∷ (39, Some Right) ∷ []
+unfolding whole_model
+idle-verdicts = refl

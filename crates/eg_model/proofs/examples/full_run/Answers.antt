@@ -1,0 +1,5 @@
+use Rattle.eg_model.proofs.WorkedRuns.{full_throttle}
+use Rattle.eg_model.proofs.examples.full_run.Goals as goal
+
+pub returns : goal.returns
+returns c = full_throttle

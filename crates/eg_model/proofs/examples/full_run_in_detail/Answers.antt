@@ -1,0 +1,14 @@
+use Rattle.eg_model.proofs.WorkedRuns.{full_throttle-charge, full_throttle-stages, full_throttle-answers, full_throttle-verdicts}
+use Rattle.eg_model.proofs.examples.full_run_in_detail.Goals as goal
+
+pub returns-clause-charge : goal.returns-clause-charge
+returns-clause-charge c = full_throttle-charge
+
+pub returns-clause-stages : goal.returns-clause-stages
+returns-clause-stages c = full_throttle-stages
+
+pub returns-clause-answers : goal.returns-clause-answers
+returns-clause-answers c = full_throttle-answers
+
+pub returns-clause-verdicts : goal.returns-clause-verdicts
+returns-clause-verdicts c = full_throttle-verdicts

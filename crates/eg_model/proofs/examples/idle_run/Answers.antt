@@ -1,0 +1,8 @@
+use Rattle.eg_model.proofs.WorkedRuns.{idle_run, idle-answers}
+use Rattle.eg_model.proofs.examples.idle_run.Goals as goal
+
+pub returns-clause-report : goal.returns-clause-report
+returns-clause-report c = idle_run
+
+pub returns-clause-answers : goal.returns-clause-answers
+returns-clause-answers c = idle-answers

@@ -1,0 +1,8 @@
+use Rattle.eg_model.proofs.RecordLaws.{runs_cut_sharply, records_cut_sharply}
+use Rattle.eg_model.proofs.records.records_cut_sharply.Goals as goal
+
+pub returns-clause-ticks : goal.returns-clause-ticks
+returns-clause-ticks c = runs_cut_sharply
+
+pub returns-clause-rows : goal.returns-clause-rows
+returns-clause-rows c = records_cut_sharply

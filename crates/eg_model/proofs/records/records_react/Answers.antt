@@ -1,0 +1,11 @@
+use Rattle.eg_model.proofs.RecordLaws.{runs_react, runs_react_at_once, records_react}
+use Rattle.eg_model.proofs.records.records_react.Goals as goal
+
+pub returns-clause-in_time : goal.returns-clause-in_time
+returns-clause-in_time c = runs_react
+
+pub returns-clause-at_once : goal.returns-clause-at_once
+returns-clause-at_once c = runs_react_at_once
+
+pub returns-clause-rows : goal.returns-clause-rows
+returns-clause-rows c = records_react

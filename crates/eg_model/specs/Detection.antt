@@ -1,0 +1,40 @@
+-- Detection in level 2: the debouncers of the four pairs and of the torque.
+use Rattle.std.specs.Prelude.{ℕ, ◌/◌, ◌%◌, ◌==◌, Bool, not, ◌&&◌, is_some, List, ◌∷◌, map, filter}
+use Rattle.eg_num.specs.Windows.{WeightParts, is_first}
+use Rattle.eg_fault.specs.Effects.{Effects}
+use Rattle.eg_model.specs.History.{Signals, Moment}
+use Rattle.eg_model.specs.Signals.{tripped}
+
+-- whether the bit of this size is set in a word
+unfoldable pub has_bit : ℕ → ℕ → Bool
+has_bit size word = word / size % 2 == 1
+
+-- ---- what each debouncer is fed with ----
+
+unfoldable pub pedal_bit : Signals → Bool
+pedal_bit s = has_bit 1 s.pairs
+
+unfoldable pub plate_bit : Signals → Bool
+plate_bit s = has_bit 2 s.pairs
+
+unfoldable pub load_bit : Signals → Bool
+load_bit s = has_bit 4 s.pairs
+
+unfoldable pub speed_bit : Signals → Bool
+speed_bit s = has_bit 8 s.pairs
+
+unfoldable pub torque_bit : Signals → Bool
+torque_bit s = has_bit 1 s.excess
+
+-- they are fed at a tick where debounce runs, no trip stands and no word is flipped
+unfoldable pub feeds_at : Effects → List Moment → Bool
+feeds_at x past = x.ran 6 && not (tripped past) && not (is_some x.flip)
+
+-- the bits of the ticks at which they were fed, newest first
+unfoldable pub fed_bits : (Signals → Bool) → List Moment → List Bool
+fed_bits bit past = map (λ m. bit m.signals) (filter (λ m. m.feeds) past)
+
+-- A watch is found at a tick that feeds it, and whose bit is the first place at which the list of its bits
+-- reaches the limit.
+unfoldable pub finds : WeightParts → (Signals → Bool) → Bool → Signals → List Moment → Bool
+finds w bit feeds now past = feeds && is_first w (bit now ∷ fed_bits bit past)

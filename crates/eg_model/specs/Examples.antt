@@ -1,0 +1,102 @@
+-- Runs on the bench that are worked out: images of level 1, drives, and runs of them with the reference
+-- calibration.
+use Rattle.std.specs.Prelude.{ℕ, Bool, is_some, List, [], ◌∷◌, ◌++◌, map, filter, reverse, length, replicate, codes, Option, Some, None}
+use Rattle.eg_num.specs.Drive.{DriveRow}
+use Rattle.eg_answer.specs.declared.marks.AnswerMark.{AnswerMark}
+use Rattle.eg_answer.specs.declared.marks.Verdict.{Verdict}
+use Rattle.eg_word.specs.declared.registers.Trap.{Trap}
+use Rattle.eg_fault.specs.declared.class.Class.{Class}
+use Rattle.eg_fault.specs.declared.class.Class.TheVariants.{Script, Path1Closed}
+use Rattle.eg_fault.specs.declared.class.Fault.{Fault}
+use Rattle.eg_values.specs.Reference.{reference_parts}
+use Rattle.eg_record.specs.declared.summary.Summary.{Summary}
+use Rattle.eg_record.specs.declared.watch.Watch.{Watch}
+use Rattle.eg_model.specs.History.{Moment}
+use Rattle.eg_model.specs.Answers.{is_answer}
+use Rattle.eg_model.specs.Bench.{Run, moments_to}
+
+-- waits for ever
+abbrev pub idle : List ℕ
+idle = 0xf000 ∷ 0xd1fe ∷ []
+
+-- sets both outputs to 1000, and waits
+abbrev pub full : List ℕ
+full = 0x1210 ∷ 0x2210 ∷ 0x1407 ∷ 0x2468 ∷ 0xc440 ∷ 0xc441 ∷ 0xf000 ∷ 0xd1fe ∷ []
+
+-- in each slice: half of the pedal to the throttle, and 1000 to the ignition
+abbrev pub follow : List ℕ
+follow =
+    0x1210 ∷ 0x2200 ∷ 0x1407 ∷ 0x2468 ∷ 0xb640 ∷ 0x96c1 ∷ 0xc650 ∷ 0xc451 ∷ 0xf000 ∷ 0xd1fa ∷ []
+
+-- reads the actual torque in one slice and again in the next, and gives the difference to the throttle
+abbrev pub probe : List ℕ
+probe =
+    0x1210 ∷ 0x2220 ∷ 0x1a10 ∷ 0x2a10 ∷ 0xb442 ∷ 0xf000 ∷ 0xb642 ∷ 0x58d0 ∷ 0xc940 ∷ 0xf000 ∷ 0xd1f9 ∷ []
+
+-- the pedal at rest, at 800 rpm
+abbrev pub at_rest : DriveRow
+at_rest = record { pedal = 0; speed = 800; raise = 0 }
+
+-- the usual slices: a hundred instructions each
+abbrev pub usual_slices : List ℕ
+usual_slices = replicate 9 100
+
+-- a fault of this class from this tick on
+abbrev pub fault_from : ℕ → Class → Option Fault
+fault_from onset class = Some (record { onset = onset; class = class })
+
+-- a run of an image with the reference calibration and the usual slices
+abbrev pub run_of : List ℕ → Option Fault → List DriveRow → Run
+run_of image fault drive = record {
+  setting = record { cal = reference_parts; image = image; fault = fault };
+  plan = usual_slices ∷ [];
+  drive = drive;
+}
+
+-- so many ticks of it with the pedal at rest
+abbrev pub bench_run : List ℕ → Option Fault → ℕ → Run
+bench_run image fault count = run_of image fault (replicate count at_rest)
+
+-- path 1 is closed from the start, and a raise permits all torque at the first 12 of 60 ticks
+abbrev pub raised_run : Run
+raised_run =
+    run_of full (fault_from 0 Path1Closed)
+    (replicate 12 (record { pedal = 0; speed = 800; raise = 10000 }) ++ replicate 48 at_rest)
+
+-- four ticks of the probe, which runs in slices 3 and 4 alone
+abbrev pub probe_run : Run
+probe_run = record (bench_run probe None 4) { plan = (0 ∷ 0 ∷ 0 ∷ 10 ∷ 10 ∷ 0 ∷ 0 ∷ 0 ∷ 0 ∷ []) ∷ [] }
+
+-- the pedal at 200 from tick 5 to tick 24, and else at 0
+abbrev pub follow_run : Run
+follow_run =
+    run_of follow None (replicate 5 at_rest ++ replicate 20
+    (record { pedal = 200; speed = 800; raise = 0 }) ++ replicate 15 at_rest)
+
+-- the first pedal track reads 1000 where the pedal stands at 500, for ten ticks
+abbrev pub pressed_run : Run
+pressed_run =
+    run_of idle (fault_from 0 (Script 0 (1000 ∷ []))) (replicate 10 (record { pedal = 500; speed = 800; raise = 0 }))
+
+-- ---- what is told of a run ----
+
+-- the moments of a run, in the order of time
+abbrev pub moments_in_time : Run → List Moment
+moments_in_time r = reverse (moments_to r (length r.drive))
+
+-- the answers that are sent, each with its tick
+abbrev pub answers_of : Run → List (ℕ × AnswerMark)
+answers_of r = map (λ m. (m.tick, m.mark)) (filter (λ m. is_answer m.mark) (moments_in_time r))
+
+-- the verdicts, each with its tick
+abbrev pub verdicts_of : Run → List (ℕ × Option Verdict)
+verdicts_of r = map (λ m. (m.tick, m.verdict)) (filter (λ m. is_some m.verdict) (moments_in_time r))
+
+-- whether the stages are on, tick by tick
+abbrev pub stages_of : Run → List Bool
+stages_of r = map (λ m. m.on) (moments_in_time r)
+
+-- what the report says of a run of the name `a` with the reference calibration
+abbrev pub reported : Option (Watch × ℕ) → Option ℕ → Option (Trap × ℕ) → Option ℕ → Summary
+reported first off trap excess =
+    record { name = codes "a"; first = first; off = off; trap = trap; confirmed = excess; bound = 34 }

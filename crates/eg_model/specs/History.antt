@@ -1,0 +1,71 @@
+-- A run, tick by tick: what comes in, and what is true of each tick. A history is a list of ticks from a
+-- start
+-- on; it stands newest first, so the past of a tick is the rest of the list behind it, and the number of a
+-- tick
+-- is the length of its past.
+use Rattle.std.specs.Prelude.{ℕ, Bool, List, Option}
+use Rattle.eg_num.specs.Drive.{DriveRow}
+use Rattle.eg_num.specs.declared.watches.Watches.{Watches}
+use Rattle.eg_sensor.specs.declared.readings.Readings.{Readings}
+use Rattle.eg_plant.specs.Engine.{Shown}
+use Rattle.eg_answer.specs.declared.marks.AnswerMark.{AnswerMark}
+use Rattle.eg_answer.specs.declared.marks.Verdict.{Verdict}
+use Rattle.eg_word.specs.World.{World}
+use Rattle.eg_fault.specs.Effects.{Effects}
+use Rattle.eg_fault.specs.declared.class.Fault.{Fault}
+use Rattle.eg_values.specs.Calibration.{CalibrationParts}
+
+-- what a run is made of beside its drive: the calibration, the image that level 1 runs, and the fault
+pub record Setting : Type 0 where
+  pub cal : CalibrationParts
+  pub image : List ℕ
+  pub fault : Option Fault
+
+-- What comes in at one tick: the drive row; the slice row, which is how many instructions level 1 may do
+-- before
+-- each module and after the last; and what the engine shows after its step.
+pub record Entry : Type 0 where
+  pub drive : DriveRow
+  pub slices : List ℕ
+  pub shown : Shown
+
+-- one tick of a history that stands by itself: what is out of order at it, and what comes in
+pub record Tick : Type 0 where
+  pub effects : Effects
+  pub entry : Entry
+
+-- the five signals of level 2
+pub record Signals : Type 0 where
+  pub pedal : ℕ
+  pub permitted : ℕ
+  pub actual : ℕ
+  pub excess : ℕ
+  pub pairs : ℕ
+
+-- what is true of one tick
+pub record Moment : Type 0 where
+  -- its number, and what came in
+  pub tick : ℕ
+  pub entry : Entry
+  -- what the sensors read, and the permitted torque of the drive row
+  pub reads : Readings
+  pub limit : ℕ
+  -- whether each path conducts, and whether the power stages are on
+  pub path1 : Bool
+  pub path2 : Bool
+  pub on : Bool
+  -- level 2: the signals after the tick, whether the debouncers are fed, what they find, and whether that
+  -- trips
+  pub signals : Signals
+  pub feeds : Bool
+  pub found : Watches
+  pub trip : Bool
+  -- whether react runs, and whether all eight modules do
+  pub reacts : Bool
+  pub whole : Bool
+  -- the answer and the verdict, if any, and whether a wild monitoring module orders path 2 open
+  pub mark : AnswerMark
+  pub verdict : Option Verdict
+  pub opens : Bool
+  -- level 1's world after the tick
+  pub world : World

@@ -1,0 +1,57 @@
+-- Level 1 in a run: its slices between the modules of level 2, and what it is shown in each of them.
+use Rattle.std.specs.Prelude.{ℕ, ◌+◌, Bool, ◌&&◌, is_some, nat_le, nat_lt, List, [], ◌∷◌, ◌++◌, if◌then◌else◌}
+use Rattle.eg_sensor.specs.declared.readings.Readings.{Readings}
+use Rattle.eg_word.specs.World.{View, World, new_world}
+use Rattle.eg_host.specs.Slices.{world_slice}
+use Rattle.eg_fault.specs.Effects.{Effects}
+use Rattle.eg_model.specs.History.{Signals, Moment}
+use Rattle.eg_model.specs.Signals.{last_signals}
+
+-- level 1's world after the last of these ticks
+unfoldable pub last_world : List Moment → World
+last_world [] = new_world
+last_world (m ∷ past) = m.world
+
+-- the ten readings, in the order in which level 1 reads them
+unfoldable pub ports_of : Readings → List ℕ
+ports_of reads =
+    reads.pedal ++ reads.plate ++ reads.load ++ reads.speed ++ reads.raise ∷ reads.raise_check ∷ []
+
+-- The signal of module i as slice j sees it. Slice j comes after the modules below j: so it is that of this
+-- tick
+-- where i lies below j, and else that of the tick before. A flipped word is met by module 0, which sets all
+-- signals to 0.
+unfoldable pub seen : Bool → ℕ → ℕ → ℕ → ℕ → ℕ
+seen flipped j i before now =
+    if flipped && nat_le 1 j then 0 else if nat_lt i j then now else before
+
+-- the five signals as slice j sees them
+unfoldable pub seen_signals : Bool → ℕ → Signals → Signals → List ℕ
+seen_signals flipped j before now =
+    seen flipped j 1 before.pedal now.pedal
+    ∷ seen flipped j 2 before.permitted now.permitted
+    ∷ seen flipped j 3 before.actual now.actual
+    ∷ seen flipped j 4 before.excess now.excess
+    ∷ seen flipped j 5 before.pairs now.pairs
+    ∷ []
+
+-- what slice j is shown
+unfoldable pub view_in : List ℕ → Effects → Readings → Signals → Signals → ℕ → View
+view_in image x reads before now j = record {
+  image = image;
+  ports = ports_of reads;
+  results = seen_signals (is_some x.flip) j before now;
+}
+
+-- the world after slice j and those after it, where `view j` is what slice j is shown
+unfoldable pub slices_from : ℕ → (ℕ → View) → List ℕ → World → World
+slices_from j view [] world = world
+slices_from j view (budget ∷ budgets) world =
+    slices_from (j + 1) view budgets (world_slice (view j) budget world)
+
+-- the world after a tick
+unfoldable pub world_at : List ℕ → Effects → List ℕ → Readings → Signals → List Moment → World
+world_at image x slices reads now past =
+    if x.level1
+    then slices_from 0 (view_in image x reads (last_signals past) now) slices (last_world past)
+    else last_world past

@@ -1,0 +1,14 @@
+pub mod History
+pub mod Signals
+pub mod Detection
+pub mod Answers
+pub mod Paths
+pub mod Level1
+pub mod Moments
+pub mod Bench
+pub mod Rows
+pub mod Examples
+pub mod Premises
+pub mod Reaction
+pub mod SharpCut
+pub mod Records

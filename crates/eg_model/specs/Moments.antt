@@ -1,0 +1,83 @@
+-- What is true of a tick, from what is out of order at it, what comes in, and what was true of the ticks
+-- before;
+-- and so of each tick of a history.
+use Rattle.std.specs.Prelude.{◌||◌, is_some, List, [], ◌∷◌, length}
+use Rattle.eg_sensor.specs.Readings.{sound_readings}
+use Rattle.eg_sensor.specs.declared.readings.Readings.{Readings}
+use Rattle.eg_torque.specs.Permit.{drive_permits}
+use Rattle.eg_fault.specs.Effects.{Effects, readings_under}
+use Rattle.eg_fault.specs.Faults.{effects}
+use Rattle.eg_model.specs.History.{Setting, Entry, Tick, Moment}
+use Rattle.eg_model.specs.Signals.{signals_at}
+use Rattle.eg_model.specs.Detection.{pedal_bit, plate_bit, load_bit, speed_bit, torque_bit, feeds_at, finds}
+use Rattle.eg_model.specs.Answers.{is_whole, mark_at, verdict_at, finds_answers}
+use Rattle.eg_model.specs.Paths.{path1_at, path2_at, on_at}
+use Rattle.eg_model.specs.Level1.{world_at}
+
+-- what the sensors read
+unfoldable pub readings_at : Effects → Entry → Readings
+readings_at x e =
+    readings_under x (sound_readings e.drive.pedal e.shown.position (e.shown.load_1 ∷ e.shown.load_2 ∷ [])
+    e.drive.speed e.drive.raise)
+
+-- the moment of one tick
+unfoldable pub moment : Setting → Effects → Entry → List Moment → Moment
+moment s x e past =
+    let rules = s.cal.rules in
+    let times = s.cal.times in
+    let reads = readings_at x e in
+    let signals = signals_at rules x reads past in
+    let feeds = feeds_at x past in
+    let mirror = is_some x.flip in
+    let plate = finds rules.pair plate_bit feeds signals past in
+    let load = finds rules.pair load_bit feeds signals past in
+    let speed = finds rules.pair speed_bit feeds signals past in
+    let torque = finds rules.torque torque_bit feeds signals past in
+    let trip = mirror || plate || load || speed || torque in
+    let mark = mark_at times x trip past in
+    let verdict = verdict_at times x mark past in
+    record {
+      tick = length past;
+      entry = e;
+      reads = reads;
+      limit = drive_permits rules.permit e.drive;
+      path1 = path1_at x past;
+      path2 = path2_at x past;
+      on = on_at x past;
+      signals = signals;
+      feeds = feeds;
+      found = record {
+        mirror = mirror;
+        pedal = finds rules.pair pedal_bit feeds signals past;
+        plate = plate;
+        load = load;
+        speed = speed;
+        torque = torque;
+        answers = finds_answers times verdict past;
+      };
+      trip = trip;
+      reacts = x.ran 7;
+      whole = is_whole x;
+      mark = mark;
+      verdict = verdict;
+      opens = x.opens;
+      world = world_at s.image x e.slices reads signals past;
+    }
+
+-- the moments of a history that stands by itself
+unfoldable pub moments_of : Setting → List Tick → List Moment
+moments_of s [] = []
+moments_of s (x ∷ before) = let past = moments_of s before in moment s x.effects x.entry past ∷ past
+
+-- the ticks of a history from power-on: what is out of order at each is what the setting's fault does
+unfoldable pub ticks : Setting → List Entry → List Tick
+ticks s [] = []
+ticks s (e ∷ before) = record { effects = effects s.fault (length before); entry = e } ∷ ticks s before
+
+-- the moments of a history from power-on
+unfoldable pub moments : Setting → List Entry → List Moment
+moments s h = moments_of s (ticks s h)
+
+-- the moment of one tick more
+unfoldable pub next : Setting → Entry → List Entry → Moment
+next s e h = moment s (effects s.fault (length h)) e (moments s h)

@@ -1,0 +1,102 @@
+-- The laws for the record of a run on the bench: what the report says, and what the rows keep.
+use Rattle.std.specs.Prelude.{◌≡◌, ℕ, ◌+◌, ◌≤◌, ◌<◌, Bool, true, false, not, nat_lt, nat_le, List, All, map, length, Option, Some, None, MatchOption}
+use Rattle.eg_num.specs.Drive.{IsDrive}
+use Rattle.eg_num.specs.Windows.{WeightParts, is_confirmed, first_place}
+use Rattle.eg_answer.specs.Times.{reaction_of}
+use Rattle.eg_values.specs.Calibration.{IsAccepted}
+use Rattle.eg_fault.specs.Faults.{effects, IsListed}
+use Rattle.eg_fault.specs.declared.class.Fault.{Fault}
+use Rattle.eg_record.specs.declared.row.Row.{Row}
+use Rattle.eg_record.specs.Rows.{AreRows}
+use Rattle.eg_record.specs.Excess.{true_excess, full_excess, first_confirmed}
+use Rattle.eg_model.specs.Reaction.{is_at_once}
+use Rattle.eg_model.specs.Moments.{moment, moments}
+use Rattle.eg_model.specs.Bench.{Run, entry_at, moments_to, entries_to}
+use Rattle.eg_model.specs.Rows.{row_of, rows_of, record_rows}
+
+-- a run that may be asked for: its calibration is an accepted one, and its drive rows keep their limits
+pub record IsRun (r : Run) : Type 0 where
+  pub accepted : IsAccepted r.setting.cal
+  pub drive : All IsDrive r.drive
+
+-- the row of tick t, and the rows of the first n ticks
+unfoldable pub row_at : Run → ℕ → Row
+row_at r t =
+    row_of (moment r.setting (effects r.setting.fault t) (entry_at r t (moments_to r t)) (moments_to r t))
+
+unfoldable pub rows_to : Run → ℕ → List Row
+rows_to r n = rows_of (moments_to r n)
+
+-- the record is a history from power-on: what came in at its ticks gives its moments
+abbrev pub RecordsAreHistories : Type 0
+RecordsAreHistories = (r : Run) (n : ℕ) → moments_to r n ≡ moments r.setting (entries_to r n)
+
+-- its rows are numbered from 0 on
+abbrev pub RecordsAreRows : Type 0
+RecordsAreRows = (r : Run) (n : ℕ) → AreRows (rows_to r n) × (length (rows_to r n) ≡ n)
+
+-- ---- tick by tick ----
+
+-- the true excess is confirmed by tick c
+abbrev pub IsConfirmedBy : Run → ℕ → Type 0
+IsConfirmedBy r c =
+    is_confirmed r.setting.cal.rules.torque
+    (map (true_excess r.setting.cal.rules.threshold) (rows_to r (c + 1)))
+    ≡ true
+
+-- the reaction theorem: where the true excess is confirmed by tick c, the stages are off at each tick from
+-- c + R on
+abbrev pub RunsReact : Type 0
+RunsReact =
+    (r : Run) → IsRun r → IsListed r.setting.fault → (c t : ℕ) → IsConfirmedBy r c →
+    c + reaction_of r.setting.cal.times ≤ t → (row_at r t).on ≡ false
+
+-- and under most faults already at each tick after c
+abbrev pub RunsReactAtOnce : Type 0
+RunsReactAtOnce =
+    (r : Run) → IsRun r → IsListed r.setting.fault → (c t : ℕ) → IsConfirmedBy r c →
+    is_at_once r.setting.fault (c + 1) ≡ true → c < t → (row_at r t).on ≡ false
+
+-- no fault has begun by a tick
+unfoldable pub is_before_onset : Option Fault → ℕ → Bool
+is_before_onset None t = true
+is_before_onset (Some fault) t = nat_lt t fault.onset
+
+-- the sharp cut: where no fault has begun by tick t, the stages are on at it exactly where the
+-- full-efficiency
+-- excess isn't confirmed before it
+abbrev pub RunsCutSharply : Type 0
+RunsCutSharply =
+    (r : Run) → IsRun r → (t : ℕ) → is_before_onset r.setting.fault t ≡ true →
+    (row_at r t).on
+    ≡ not (is_confirmed r.setting.cal.rules.torque
+    (map (full_excess r.setting.cal.rules.kt r.setting.cal.rules.threshold) (rows_to r t)))
+
+-- ---- by the rows of the whole record ----
+
+-- from `bound` ticks after the first tick by which the true excess is confirmed, the stages are off
+abbrev pub ReactWithin : (bound : ℕ) → WeightParts → (threshold : ℕ) → List Row → Type 0
+ReactWithin bound weights threshold rows =
+    (c : ℕ) → first_confirmed weights threshold rows ≡ Some c →
+    All (λ row. c + bound ≤ row.tick → row.on ≡ false) rows
+
+-- the stages are on at each tick up to the first by which the full-efficiency excess is confirmed, and off
+-- at each
+-- later one; and where it is never confirmed, they are on at every tick
+abbrev pub CutOneTickAfter : WeightParts → (kt threshold : ℕ) → List Row → Type 0
+CutOneTickAfter weights kt threshold rows =
+    MatchOption (first_place weights (map (full_excess kt threshold) rows))
+    (All (λ row. row.on ≡ true) rows) (λ c. All (λ row. row.on ≡ nat_le row.tick c) rows)
+
+-- so it is for every record
+abbrev pub RecordsReact : Type 0
+RecordsReact =
+    (r : Run) → IsRun r → IsListed r.setting.fault →
+    ReactWithin (reaction_of r.setting.cal.times) r.setting.cal.rules.torque r.setting.cal.rules.threshold
+    (record_rows r)
+
+abbrev pub RecordsCutSharply : Type 0
+RecordsCutSharply =
+    (r : Run) → IsRun r → r.setting.fault ≡ None →
+    CutOneTickAfter r.setting.cal.rules.torque r.setting.cal.rules.kt r.setting.cal.rules.threshold
+    (record_rows r)

@@ -1,0 +1,29 @@
+-- The sharp cut: while nothing is out of order outside level 1, the stages are on exactly until the tick at
+-- which
+-- the full-efficiency excess is first confirmed, that tick included. So a run whose estimate stays within
+-- the
+-- threshold is never cut off.
+use Rattle.std.specs.Prelude.{◌≡◌, not, List, [], ◌∷◌}
+use Rattle.eg_num.specs.Windows.{is_confirmed}
+use Rattle.eg_values.specs.Calibration.{IsAccepted}
+use Rattle.eg_fault.specs.Effects.{no_effects}
+use Rattle.eg_model.specs.History.{Setting, Tick}
+use Rattle.eg_model.specs.Premises.{AreProper, is_on_after, full_excesses}
+
+-- nothing is out of order at a tick, and the engine shows one load twice
+pub record IsPlain (x : Tick) : Type 0 where
+  pub effects : x.effects ≡ no_effects
+  pub loads : x.entry.shown.load_2 ≡ x.entry.shown.load_1
+
+unfoldable pub ArePlain : List Tick → Type 0
+ArePlain [] = Unit {0}
+ArePlain (x ∷ before) = IsPlain x × ArePlain before
+
+-- The law. The stages are on at the tick x after h exactly where the full-efficiency excess isn't confirmed
+-- by the
+-- last tick of h.
+abbrev pub CutsSharply : Type 0
+CutsSharply =
+    (s : Setting) → IsAccepted s.cal → (h : List Tick) → ArePlain h → AreProper s h →
+    (x : Tick) → x.effects ≡ no_effects →
+    is_on_after s h x ≡ not (is_confirmed s.cal.rules.torque (full_excesses s h))
