@@ -60,6 +60,26 @@ fn run<S: Store, K: Sink>(
     ensures ends { Ends (Some (said command.entry)) (S.shows store.old) (S.shows store.new)
         (K.shows out.old) (K.shows out.new) result }
     ensures missing { TellsMissing (Some (said command.entry)) (S.shows store.old) result }
+    ensures completes { Completes (Some (said command.entry)) (S.shows store.old) (S.shows store.new)
+        (K.shows out.old) (K.shows out.new) result }
+    ensures no_memory { TellsNoMemory result }
+    ensures nothing_read { ReadsNothing (Some (said command.entry)) → store.new ≡ store.old }
+    ensures files { (S.shows store.new).files ≡ (S.shows store.old).files }
+    ensures nothing_put { PutsNothing result → out.new ≡ out.old }
+{
+    work(alloc, command, store, out)
+}
+
+/// The same. That the work is done where nothing hinders it is `run`'s to say.
+fn work<S: Store, K: Sink>(
+    alloc: Global,
+    command: Command<'_>,
+    store: &mut S,
+    out: &mut K,
+) -> Outcome
+    ensures ends { Ends (Some (said command.entry)) (S.shows store.old) (S.shows store.new)
+        (K.shows out.old) (K.shows out.new) result }
+    ensures missing { TellsMissing (Some (said command.entry)) (S.shows store.old) result }
     ensures no_memory { TellsNoMemory result }
     ensures nothing_read { ReadsNothing (Some (said command.entry)) → store.new ≡ store.old }
     ensures files { (S.shows store.new).files ≡ (S.shows store.old).files }
