@@ -16,7 +16,7 @@ pub record Effects : Type 0 where
   pub level1 : Bool
   -- whether module i of level 2 runs
   pub ran : ℕ → Bool
-  -- what module i mixes into its result
+  -- what module i mixes into its signal and into its result of the test row
   pub disturbance : ℕ → ℕ
   -- the word of level 2 that is flipped, and the bits of it
   pub flip : Option (ℕ × ℕ)

@@ -1,5 +1,5 @@
--- Faults outside level 1: what each class of them does, k ticks after its onset. Before the onset, and without
--- a fault, nothing is out of order.
+-- Faults outside level 1: what each class of them does, k ticks after its onset. Before the onset, and
+-- without a fault, nothing is out of order.
 use Rattle.std.specs.Prelude.{ℕ, ◌+◌, ◌-◌, ◌%◌, ◌≤◌, ◌<◌, ◌==◌, ◌≡◌, ℤ, pos, negsuc, Bool, true, false, not, ◌&&◌, ◌||◌, min, nat_le, bit_xor, List, length, All, slice_index, slice_index_or, Option, Some, None, if◌then◌else◌}
 use Rattle.std.specs.List.{list_any}
 use Rattle.std.specs.List.Sorted.{IsStrictlyIncreasing}

@@ -28,7 +28,8 @@ pub enum Class {
     Plate { at: u16 },
     /// A module of level 2 (0 to 7) doesn't run.
     Skip { module: u8 },
-    /// A module of level 2 (1 to 5) has these bits (1 to 65,535) mixed into its result.
+    /// A module of level 2 (1 to 5) has these bits (1 to 65,535) mixed into its signal and into its result of
+    /// the test row.
     Disturb { module: u8, mask: u16 },
     /// At the onset alone these bits (1 to 65,535) of a word of level 2 (0 to 31) are flipped.
     Flip { word: u8, mask: u16 },

@@ -69,8 +69,8 @@ pub fn module_runs(fault: Option<&Fault>, tick: u32, module: u8) -> bool
     class.module_runs(after, module)
 }
 
-/// The bits that are mixed into the result of a module of level 2 (0 to 7) at a tick (docs/CONCEPT.md,
-/// "Faults").
+/// The bits that are mixed into the signal of a module of level 2 (0 to 7), and into its result of the test
+/// row, at a tick (docs/CONCEPT.md, "Faults").
 #[tactic(auto, unfolding(crate::specs::Effects::no_effects))]
 pub fn disturbance(fault: Option<&Fault>, tick: u32, module: u8) -> u16
     ensures { result ≡ (effects (option_copied fault.entry) tick).disturbance «module» }

@@ -12,3 +12,8 @@ pub mod ReactionLaw
 pub mod PlainTick
 pub mod SharpCutLaw
 pub mod RecordLaws
+pub mod LapseRuns
+pub mod LapseAnswers
+pub mod LapseWeights
+pub mod LapseLaw
+pub mod WorkedLapses

@@ -17,7 +17,7 @@ use Rattle.eg_model.specs.Answers.{is_sent, is_good, mark_at}
 use Rattle.eg_model.specs.Moments.{moment, moments_of}
 use Rattle.eg_model.specs.Rows.{rows_of}
 use Rattle.eg_model.specs.Premises.{AreProper, Follows, is_on_after, true_excesses, IsExcessConfirmed}
-use Rattle.eg_model.specs.Reaction.{ReactsInTime, ReactsAtOnce, reacts_at_once, is_at_once}
+use Rattle.eg_model.specs.Reaction.{ReactsInTime, ReactsAtOnce, reacts_at_once, is_at_once, spoils_answers, CutsFromOnset}
 use Rattle.eg_model.proofs.TickLemmas.{Each, Each-map, moment-mark, moment-mirror, trip_from_mirror, tripped-cons, tripped_on}
 use Rattle.eg_model.proofs.TripLemmas.{trip_by_excess, off_after_trip}
 use Rattle.eg_model.proofs.Seeing.{SeesExcess, sees_all}
@@ -59,13 +59,13 @@ of_early P x end late none t low high =
     same : (x y : Fault) → Some x ≡ Some y → x ≡ y
     same x y e = cc
 
-Follows-tail : (f : Option Fault) (start : ℕ) (more h : List Tick) → Follows f start (more ++ h) →
+pub Follows-tail : (f : Option Fault) (start : ℕ) (more h : List Tick) → Follows f start (more ++ h) →
     Follows f start h
 unfolding Follows
 Follows-tail f start [] h g = g
 Follows-tail f start (x ∷ more) h g = Follows-tail f start more h g.1
 
-AreProper-tail : (s : Setting) (more h : List Tick) → AreProper s (more ++ h) → AreProper s h
+pub AreProper-tail : (s : Setting) (more h : List Tick) → AreProper s (more ++ h) → AreProper s h
 unfolding AreProper
 AreProper-tail s [] h proper = proper
 AreProper-tail s (x ∷ more) h proper = AreProper-tail s more h proper.1
@@ -467,3 +467,47 @@ reacts_at_once_law s accepted listed start h soon confirmed more x follows prope
     go None is listed soon = cut_none s is start h more x g
     go (Some f) is listed soon = unfold IsListed is_at_once in
         cut_at_once s f is f.class refl listed.1 start h more x soon g
+
+-- ---- whatever the torque ----
+
+cut_spoiled : (s : Setting) (f : Fault) → s.fault ≡ Some f → IsAccepted s.cal →
+    ((k : ℕ) → IsRegular (does f.class k)) → ((k : ℕ) → Obeys2 (does f.class k)) →
+    ((k : ℕ) → IsSpoiled (does f.class k)) → (start : ℕ) (h more : List Tick) (x : Tick) →
+    f.onset ≤ start + length h → Follows s.fault start (x ∷ more ++ h) → reaction_of s.cal.times ≤ length more →
+    is_on_after s (more ++ h) x ≡ false
+cut_spoiled s f is accepted regular obeys spoiled start h more x late follows long =
+    off_by_silence s accepted (rw is (of_class IsRegular f regular_plain regular))
+    (rw is (of_class Obeys2 f (unfold no_effects in refl) obeys)) start more h x follows
+    (spoiled_history s f is spoiled_on start more h (Follows-tail s.fault start (x ∷ []) (more ++ h) follows) late) long
+  where
+    acting : (t : ℕ) → f.onset ≤ t → effects (Some f) t ≡ does f.class (t - f.onset)
+    acting t from = unfold effects in rw (le-leb f.onset t from) refl
+
+    spoiled_on : (t : ℕ) → f.onset ≤ t → IsSpoiled (effects s.fault t)
+    spoiled_on t from = rw is (subst IsSpoiled (sym (acting t from)) (spoiled (t - f.onset)))
+
+cut_by_class : (s : Setting) (f : Fault) → s.fault ≡ Some f → IsAccepted s.cal → (c : Class) → f.class ≡ c →
+    IsValidClass c → spoils_answers c ≡ true → (start : ℕ) (h more : List Tick) (x : Tick) →
+    f.onset ≤ start + length h → Follows s.fault start (x ∷ more ++ h) → reaction_of s.cal.times ≤ length more →
+    is_on_after s (more ++ h) x ≡ false
+unfolding spoils_answers does no_effects IsValidClass
+cut_by_class s f is a (Skip i) class v b = cut_spoiled s f is a (λ k. rw class (regular_skip i k))
+    (λ k. rw class refl) (λ k. rw class (spoiled_skip i k v))
+cut_by_class s f is a (Disturb i mask) class v b = cut_spoiled s f is a (λ k. rw class (regular_disturb i mask k))
+    (λ k. rw class refl) (λ k. rw class (spoiled_disturb i mask k (let q = v.1 in omega arith) (let q = v.2.0 in omega arith)))
+cut_by_class s f is a Halt class v b = cut_spoiled s f is a (λ k. rw class (regular_halt k))
+    (λ k. rw class refl) (λ k. rw class (spoiled_halt k))
+cut_by_class s f is a (Script track values) class v b = absurd (let e : false ≡ true = b in cc)
+cut_by_class s f is a (Offset track add) class v b = absurd (let e : false ≡ true = b in cc)
+cut_by_class s f is a (Bus mask) class v b = absurd (let e : false ≡ true = b in cc)
+cut_by_class s f is a (Plate at) class v b = absurd (let e : false ≡ true = b in cc)
+cut_by_class s f is a (Flip word mask) class v b = absurd (let e : false ≡ true = b in cc)
+cut_by_class s f is a (Timing offset) class v b = absurd (let e : false ≡ true = b in cc)
+cut_by_class s f is a (Wild questions opens) class v b = absurd (let e : false ≡ true = b in cc)
+cut_by_class s f is a Path1Closed class v b = absurd (let e : false ≡ true = b in cc)
+cut_by_class s f is a Path2Closed class v b = absurd (let e : false ≡ true = b in cc)
+cut_by_class s f is a (PathOpen path) class v b = absurd (let e : false ≡ true = b in cc)
+cut_by_class s f is a (Lapse after every) class v b = absurd (let e : false ≡ true = b in cc)
+
+pub cuts_from_onset : CutsFromOnset
+cuts_from_onset s f a is valid spoils = cut_by_class s f is a f.class refl valid.1 spoils

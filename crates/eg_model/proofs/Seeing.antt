@@ -70,7 +70,7 @@ lower_second : (a b p : ℕ) → b ≡ 1000 - p → min a (1000 - b) ≤ p
 lower_second a b p h = omega arith
 
 -- one sound track of each pair is enough
-errs_safely : (s : Setting) (x : Tick) (past : List Moment) → SeesExcess x.effects → IsProper s x past →
+pub errs_safely : (s : Setting) (x : Tick) (past : List Moment) → SeesExcess x.effects → IsProper s x past →
     ErrsSafely s.cal.rules.kt (readings_at x.effects x.entry) x.entry
 unfolding readings_at readings_under
 errs_safely s x past sees proper = record {
@@ -167,7 +167,7 @@ module _ (s : Setting) (x : Tick) (past : List Moment) (runs : Runs x.effects)
           at_speed (inr same) = inr (rw same (up _ _ _ (omega (arith, less, pedal))))
 
   -- true excess shows in the excess word
-  excess_seen : IsAccepted s.cal → ErrsSafely s.cal.rules.kt (readings_at x.effects x.entry) x.entry →
+  pub excess_seen : IsAccepted s.cal → ErrsSafely s.cal.rules.kt (readings_at x.effects x.entry) x.entry →
       exceeds s m ≡ true → torque_bit m.signals ≡ true
   excess_seen accepted safe over_now = unfold torque_bit has_bit in rw (excess-is, shows) refl
     where

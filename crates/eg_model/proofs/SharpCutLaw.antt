@@ -1,6 +1,5 @@
 -- The sharp cut: while nothing is out of order, the stages go off one tick after the first confirmed
--- full-efficiency
--- excess, and at no other time.
+-- full-efficiency excess, and at no other time.
 use Rattle.std.proofs.Common.{◌≡◌, ℕ, zero, suc, ◌+◌, ◌-◌, ◌*◌, ◌/◌, ◌%◌, ◌≤◌, ◌<◌, Bool, true, false, not, ◌||◌, ◌&&◌, List, [], ◌∷◌, map, length, take, refl, sym, ap, ap₂, ◌∙◌, arith, inl, inr, ◌⊎◌, Option, Some, None, nat_lt, subst}
 use Rattle.std.specs.Prelude.{if◌then◌else◌, ◌==◌}
 use Rattle.std.proofs.lemmas.Nat.{mod-mul-add}

@@ -64,7 +64,7 @@ trip_step s x r past ih c = go (tripped past) refl
         first = is_first_from s.cal.rules.torque (torque_bit m.signals) (fed_bits torque_bit past)
             (rw (← fed_bits-cons torque_bit m past feeds) c) (before _ refl)
 
-confirmed_none : (w : WeightParts) (b : Signals → Bool) → is_confirmed w (fed_bits b []) ≡ true → ⊥
+pub confirmed_none : (w : WeightParts) (b : Signals → Bool) → is_confirmed w (fed_bits b []) ≡ true → ⊥
 unfolding fed_bits is_confirmed
 confirmed_none w b c = let c' : false ≡ true = c in cc
 
@@ -119,7 +119,7 @@ unfolding latch1
 latch1-cons m past = refl
 
 -- once a trip came, react has ordered path 1 open
-latch1_from_trip : (s : Setting) → (x : Tick) (h : List Tick) → x.effects.ran 7 ≡ true →
+pub latch1_from_trip : (s : Setting) → (x : Tick) (h : List Tick) → x.effects.ran 7 ≡ true →
     tripped (moments_of s (x ∷ h)) ≡ true → latch1 (moments_of s (x ∷ h)) ≡ true
 unfolding moments_of
 latch1_from_trip s x h r u =
@@ -127,14 +127,14 @@ latch1_from_trip s x h r u =
     ∙ or_left _ _ (and_from _ _ (moment-reacts s x.effects x.entry (moments_of s h) ∙ r) u)
 
 -- and it stays open
-latch1_on : (s : Setting) (more h : List Tick) → latch1 (moments_of s h) ≡ true →
+pub latch1_on : (s : Setting) (more h : List Tick) → latch1 (moments_of s h) ≡ true →
     latch1 (moments_of s (more ++ h)) ≡ true
 unfolding moments_of
 latch1_on s [] h u = u
 latch1_on s (x ∷ more) h u = latch1-cons _ _ ∙ or_right _ _ (latch1_on s more h u)
 
 -- where it is open, and no fault makes it conduct, the stages are off
-off_by_latch1 : (s : Setting) (x : Effects) (e : Entry) (past : List Moment) → x.conducts 1 true ≡ false →
+pub off_by_latch1 : (s : Setting) (x : Effects) (e : Entry) (past : List Moment) → x.conducts 1 true ≡ false →
     latch1 past ≡ true → (moment s x e past).on ≡ false
 unfolding moment on_at path1_at
 off_by_latch1 s x e past opens u = and_left _ _ (ap (x.conducts 1) u ∙ opens)

@@ -3,7 +3,7 @@ use Rattle.std.proofs.Common.{◌≡◌, true, false, [], ◌∷◌, ◌++◌, m
 use Rattle.std.specs.Prelude.{codes}
 use Rattle.eg_answer.specs.declared.marks.AnswerMark.TheVariants.{Absent, Good, Bad}
 use Rattle.eg_answer.specs.declared.marks.Verdict.TheVariants.{Right, Wrong}
-use Rattle.eg_fault.specs.declared.class.Class.TheVariants.{Script, Bus, Skip, Disturb, Flip, Timing, Wild, Path1Closed, Lapse}
+use Rattle.eg_fault.specs.declared.class.Class.TheVariants.{Script, Bus, Plate, Skip, Disturb, Flip, Halt, Timing, Wild, Path1Closed, Path2Closed, PathOpen, Lapse}
 use Rattle.eg_record.specs.declared.watch.Watch.TheVariants as found
 use Rattle.eg_model.specs.Rows.{report_of, rows_of}
 use Rattle.eg_model.specs.Examples.{idle, full, fault_from, run_of, bench_run, raised_run, pressed_run, moments_in_time, answers_of, verdicts_of, stages_of, reported}
@@ -177,3 +177,25 @@ pub bus_disturbed : rows_of (moments_in_time
     } ∷ []
 unfolding whole_model
 bus_disturbed = refl
+
+-- ---- what the other classes do ----
+
+pub wild_opens : stages_of (bench_run idle (fault_from 3 (Wild (0 ∷ []) (false ∷ true ∷ []))) 6) ≡ replicate 5 true ++ false ∷ []
+unfolding whole_model
+wild_opens = refl
+
+pub path_2_opened : stages_of (bench_run idle (fault_from 3 (PathOpen 2)) 6) ≡ replicate 3 true ++ replicate 3 false
+unfolding whole_model
+path_2_opened = refl
+
+pub path_2_closed : map (λ m. m.path2) (moments_in_time (bench_run full (fault_from 0 Path2Closed) 45)) ≡ replicate 45 true
+unfolding whole_model
+path_2_closed = refl
+
+pub halted : map (λ m. m.world.throttle) (moments_in_time (bench_run full (fault_from 0 Halt) 2)) ≡ 0 ∷ 0 ∷ []
+unfolding whole_model
+halted = refl
+
+pub plate_held : map (λ m. m.entry.shown.position) (moments_in_time (bench_run idle (fault_from 2 (Plate 300)) 3)) ≡ 0 ∷ 0 ∷ 300 ∷ []
+unfolding whole_model
+plate_held = refl

@@ -6,7 +6,7 @@ use Rattle.eg_answer.specs.declared.marks.AnswerMark.TheVariants.{Absent}
 use Rattle.eg_record.specs.declared.row.Row.{Row}
 use Rattle.eg_model.specs.Bench.{Run}
 use Rattle.eg_model.specs.Rows.{report_of, rows_of, signal_list}
-use Rattle.eg_model.specs.Examples.{idle, at_rest, probe_run, follow_run, bench_run, moments_in_time, reported}
+use Rattle.eg_model.specs.Examples.{idle, full, storing, at_rest, probe_run, follow_run, probe_row, looping_run, alternating_run, flipped_probe_run, raise_run, bench_run, moments_in_time, reported}
 use Rattle.eg_model.proofs.WholeModel.{whole_model}
 
 -- ---- slices lie between the modules ----
@@ -15,52 +15,33 @@ pub probed : map (λ m. m.world.throttle) (moments_in_time probe_run) ≡ 100 �
 unfolding whole_model
 probed = refl
 
--- a row of this run, by what changes in it
-abbrev probe_row : (tick plate charge actual throttle : ℕ) → Row
-probe_row tick plate charge actual throttle = record {
-  tick = tick;
-  drive = at_rest;
-  plate = plate;
-  charge = charge;
-  torque = 0;
-  limit = 200;
-  path1 = true;
-  path2 = true;
-  on = true;
-  signals = 0 ∷ 200 ∷ actual ∷ 0 ∷ 0 ∷ [];
-  throttle = throttle;
-  ignition = 0;
-  found = record {
-    mirror = false;
-    pedal = false;
-    plate = false;
-    load = false;
-    speed = false;
-    torque =
-        false;
-    answers = false;
-  };
-  answer = Absent;
-  verdict = None;
-}
-
 pub probed-rows : rows_of (moments_in_time probe_run) ≡
     probe_row 0 0 40 100 100 ∷ probe_row 1 50 40 100 0 ∷ probe_row 2 0 80 200 100 ∷ probe_row 3 50 40 100 65436 ∷ []
 unfolding whole_model
 probed-rows = refl
 
+-- ---- slice rows in turn, flipped words, and ports ----
+
+pub alternated : map (λ m. m.world.throttle) (moments_in_time alternating_run) ≡ 0 ∷ 1000 ∷ []
+unfolding whole_model
+alternated = refl
+
+pub flipped_probe : map (λ m. m.world.throttle) (moments_in_time flipped_probe_run) ≡ 0 ∷ 65436 ∷ []
+unfolding whole_model
+flipped_probe = refl
+
+pub raise_read : map (λ m. m.world.throttle) (moments_in_time raise_run) ≡ 7 ∷ []
+unfolding whole_model
+raise_read = refl
+
 -- ---- traps ----
 
--- a store to the word of a signal
-abbrev pub stores : List ℕ
-stores = 0x1210 ∷ 0x2220 ∷ 0xc240 ∷ []
-
-pub store_is_refused : report_of (codes "a") (bench_run stores None 30)
+pub store_is_refused : report_of (codes "a") (bench_run storing None 30)
     ≡ reported None None (Some (Store, 0)) None
 unfolding whole_model
 store_is_refused = refl
 
-pub store_changes_nothing : map (λ m. signal_list m.signals) (moments_in_time (bench_run stores None 30))
+pub store_changes_nothing : map (λ m. signal_list m.signals) (moments_in_time (bench_run storing None 30))
     ≡ map (λ m. signal_list m.signals) (moments_in_time (bench_run idle None 30))
 unfolding whole_model
 store_changes_nothing = refl
@@ -71,12 +52,6 @@ unfolding whole_model
 runs_off_the_end = refl
 
 -- ---- a jump to itself ----
-
-abbrev pub looping_run : Run
-looping_run = record (bench_run (0xd1ff ∷ []) None 30) {
-  plan =
-      (1000 ∷ 0 ∷ 0 ∷ 0 ∷ 0 ∷ 0 ∷ 0 ∷ 0 ∷ 0 ∷ []) ∷ [];
-}
 
 pub loops : report_of (codes "a") looping_run ≡ reported None None None None
 unfolding whole_model

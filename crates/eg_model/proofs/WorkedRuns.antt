@@ -6,7 +6,10 @@ use Rattle.eg_answer.specs.declared.marks.AnswerMark.TheVariants.{Good}
 use Rattle.eg_answer.specs.declared.marks.Verdict.TheVariants.{Right, Wrong}
 use Rattle.eg_record.specs.declared.watch.Watch.TheVariants.{Torque}
 use Rattle.eg_model.specs.Rows.{report_of}
-use Rattle.eg_model.specs.Examples.{idle, full, bench_run, moments_in_time, answers_of, verdicts_of, stages_of, reported}
+use Rattle.std.specs.Fmt.{digits}
+use Rattle.eg_fault.specs.declared.class.Class.TheVariants.{Path1Closed}
+use Rattle.eg_record.specs.Texts.{report_end}
+use Rattle.eg_model.specs.Examples.{idle, full, fault_from, bench_run, moments_in_time, answers_of, verdicts_of, stages_of, reported}
 use Rattle.eg_model.proofs.WholeModel.{whole_model}
 
 -- ---- full throttle, without a fault ----
@@ -52,3 +55,25 @@ pub idle-verdicts : verdicts_of (bench_run idle None 40)
     ≡ (9, Some Right) ∷ (19, Some Right) ∷ (29, Some Right) ∷ (39, Some Right) ∷ []
 unfolding whole_model
 idle-verdicts = refl
+
+-- ---- answers are found after a trip ----
+
+pub full_throttle-found : map (λ m. m.found.answers) (moments_in_time (bench_run full None 40)) ≡ replicate 39 false ++ true ∷ []
+unfolding whole_model
+full_throttle-found = refl
+
+-- ---- a campaign of three runs, and its last line ----
+
+pub three_runs : map (report_of (codes "a"))
+    (bench_run idle None 60 ∷ bench_run full None 60 ∷ bench_run full (fault_from 0 Path1Closed) 60 ∷ [])
+    ≡ reported None None None None
+    ∷ reported (Some (Torque, 9)) (Some 10) None (Some 9)
+    ∷ reported (Some (Torque, 9)) (Some 40) None (Some 9) ∷ []
+unfolding whole_model
+three_runs = refl
+
+pub three_runs-end : report_end (map (report_of (codes "a"))
+    (bench_run idle None 60 ∷ bench_run full None 60 ∷ bench_run full (fault_from 0 Path1Closed) 60 ∷ []))
+    ≡ codes "runs 3; detected 2; off 2\n"
+unfolding whole_model report_end digits
+three_runs-end = refl

@@ -1,6 +1,5 @@
 -- The run of an engine on the bench: the gasoline plant, from its rest on, under level 1's two outputs as
--- the
--- tick before left them.
+-- the tick before left them.
 use Rattle.std.specs.Prelude.{ℕ, zero, suc, ◌%◌, List, [], ◌∷◌, length, slice_index_or}
 use Rattle.eg_num.specs.Drive.{DriveRow}
 use Rattle.eg_plant.specs.PlantParts.{PlantParts}

@@ -1,14 +1,16 @@
 -- Runs on the bench that are worked out: images of level 1, drives, and runs of them with the reference
 -- calibration.
-use Rattle.std.specs.Prelude.{ℕ, Bool, is_some, List, [], ◌∷◌, ◌++◌, map, filter, reverse, length, replicate, codes, Option, Some, None}
+use Rattle.std.specs.Prelude.{ℕ, Bool, true, false, is_some, List, [], ◌∷◌, ◌++◌, map, filter, reverse, length, replicate, codes, Option, Some, None}
 use Rattle.eg_num.specs.Drive.{DriveRow}
 use Rattle.eg_answer.specs.declared.marks.AnswerMark.{AnswerMark}
+use Rattle.eg_answer.specs.declared.marks.AnswerMark.TheVariants.{Absent}
 use Rattle.eg_answer.specs.declared.marks.Verdict.{Verdict}
 use Rattle.eg_word.specs.declared.registers.Trap.{Trap}
 use Rattle.eg_fault.specs.declared.class.Class.{Class}
-use Rattle.eg_fault.specs.declared.class.Class.TheVariants.{Script, Path1Closed}
+use Rattle.eg_fault.specs.declared.class.Class.TheVariants.{Script, Flip, Path1Closed}
 use Rattle.eg_fault.specs.declared.class.Fault.{Fault}
 use Rattle.eg_values.specs.Reference.{reference_parts}
+use Rattle.eg_record.specs.declared.row.Row.{Row}
 use Rattle.eg_record.specs.declared.summary.Summary.{Summary}
 use Rattle.eg_record.specs.declared.watch.Watch.{Watch}
 use Rattle.eg_model.specs.History.{Moment}
@@ -67,6 +69,35 @@ raised_run =
 abbrev pub probe_run : Run
 probe_run = record (bench_run probe None 4) { plan = (0 ∷ 0 ∷ 0 ∷ 10 ∷ 10 ∷ 0 ∷ 0 ∷ 0 ∷ 0 ∷ []) ∷ [] }
 
+-- a row of this run, by what changes in it
+abbrev pub probe_row : (tick plate charge actual throttle : ℕ) → Row
+probe_row tick plate charge actual throttle = record {
+  tick = tick;
+  drive = at_rest;
+  plate = plate;
+  charge = charge;
+  torque = 0;
+  limit = 200;
+  path1 = true;
+  path2 = true;
+  on = true;
+  signals = 0 ∷ 200 ∷ actual ∷ 0 ∷ 0 ∷ [];
+  throttle = throttle;
+  ignition = 0;
+  found = record {
+    mirror = false;
+    pedal = false;
+    plate = false;
+    load = false;
+    speed = false;
+    torque =
+        false;
+    answers = false;
+  };
+  answer = Absent;
+  verdict = None;
+}
+
 -- the pedal at 200 from tick 5 to tick 24, and else at 0
 abbrev pub follow_run : Run
 follow_run =
@@ -77,6 +108,31 @@ follow_run =
 abbrev pub pressed_run : Run
 pressed_run =
     run_of idle (fault_from 0 (Script 0 (1000 ∷ []))) (replicate 10 (record { pedal = 500; speed = 800; raise = 0 }))
+
+-- a slice plan of two rows: nothing in the first tick, and the usual slices in the second
+abbrev pub alternating_run : Run
+alternating_run = record (bench_run full None 2) { plan = replicate 9 0 ∷ usual_slices ∷ [] }
+
+-- the probe in slices 0 and 1, under a word that is flipped at tick 1
+abbrev pub flipped_probe_run : Run
+flipped_probe_run =
+    record (bench_run probe (fault_from 1 (Flip 3 1)) 2) { plan = (10 ∷ 10 ∷ replicate 7 0) ∷ [] }
+
+-- gives the raise, as it is read, to the throttle
+abbrev pub raise_reader : List ℕ
+raise_reader = 0x1210 ∷ 0x2210 ∷ 0x1410 ∷ 0x2408 ∷ 0xb680 ∷ 0xc640 ∷ 0xf000 ∷ 0xd1fe ∷ []
+
+-- one tick of it, with a raise of 7
+abbrev pub raise_run : Run
+raise_run = run_of raise_reader None (record { pedal = 0; speed = 800; raise = 7 } ∷ [])
+
+-- stores to the word of a signal
+abbrev pub storing : List ℕ
+storing = 0x1210 ∷ 0x2220 ∷ 0xc240 ∷ []
+
+-- jumps to itself for ever, a thousand times a tick
+abbrev pub looping_run : Run
+looping_run = record (bench_run (0xd1ff ∷ []) None 30) { plan = (1000 ∷ replicate 8 0) ∷ [] }
 
 -- ---- what is told of a run ----
 

@@ -1,8 +1,6 @@
 -- A run, tick by tick: what comes in, and what is true of each tick. A history is a list of ticks from a
--- start
--- on; it stands newest first, so the past of a tick is the rest of the list behind it, and the number of a
--- tick
--- is the length of its past.
+-- start on; it stands newest first, so the past of a tick is the rest of the list behind it, and the number
+-- of a tick is the length of its past.
 use Rattle.std.specs.Prelude.{ℕ, Bool, List, Option}
 use Rattle.eg_num.specs.Drive.{DriveRow}
 use Rattle.eg_num.specs.declared.watches.Watches.{Watches}
@@ -22,8 +20,7 @@ pub record Setting : Type 0 where
   pub fault : Option Fault
 
 -- What comes in at one tick: the drive row; the slice row, which is how many instructions level 1 may do
--- before
--- each module and after the last; and what the engine shows after its step.
+-- before each module and after the last; and what the engine shows after its step.
 pub record Entry : Type 0 where
   pub drive : DriveRow
   pub slices : List ℕ

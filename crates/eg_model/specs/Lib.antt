@@ -12,3 +12,5 @@ pub mod Premises
 pub mod Reaction
 pub mod SharpCut
 pub mod Records
+pub mod Lapses
+pub mod WorkedLapses

@@ -1,6 +1,5 @@
 -- What is true of a tick, from what is out of order at it, what comes in, and what was true of the ticks
--- before;
--- and so of each tick of a history.
+-- before; and so of each tick of a history.
 use Rattle.std.specs.Prelude.{◌||◌, is_some, List, [], ◌∷◌, length}
 use Rattle.eg_sensor.specs.Readings.{sound_readings}
 use Rattle.eg_sensor.specs.declared.readings.Readings.{Readings}

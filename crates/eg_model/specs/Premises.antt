@@ -1,6 +1,5 @@
 -- What the laws of a run speak of, and the little that they ask of a history: of the engine that it shows
--- what
--- every engine keeps, and of the drive that it is one. Nothing is asked of level 1.
+-- what every engine keeps, and of the drive that it is one. Nothing is asked of level 1.
 use Rattle.std.specs.Prelude.{◌≡◌, ℕ, ◌+◌, Bool, true, false, List, [], ◌∷◌, map, length, Option}
 use Rattle.eg_num.specs.Drive.{IsDrive}
 use Rattle.eg_num.specs.Windows.{is_confirmed}
@@ -14,8 +13,7 @@ use Rattle.eg_model.specs.Moments.{moment, moments_of}
 use Rattle.eg_model.specs.Rows.{rows_of}
 
 -- What comes in at a tick after these moments is proper: the drive row keeps its limits; the plate has an
--- angle
--- within its range, and neither load hides torque; and where the stages are off there is no torque.
+-- angle within its range, and neither load hides torque; and where the stages are off there is no torque.
 pub record IsProper (s : Setting) (x : Tick) (past : List Moment) : Type 0 where
   pub drive : IsDrive x.entry.drive
   pub engine : KeepsLaws s.cal.rules.kt x.entry.shown

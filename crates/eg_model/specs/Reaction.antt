@@ -1,10 +1,9 @@
 -- The reaction theorem: whatever level 1 does, and under each listed fault, the stages are off from R ticks
--- after
--- a confirmed torque excess to the end of the power cycle.
+-- after a confirmed torque excess to the end of the power cycle.
 use Rattle.std.specs.Prelude.{◌≡◌, ℕ, ◌+◌, ◌≤◌, Bool, true, false, nat_le, List, ◌∷◌, ◌++◌, length, Option, Some, None}
 use Rattle.eg_answer.specs.Times.{reaction_of}
 use Rattle.eg_values.specs.Calibration.{IsAccepted}
-use Rattle.eg_fault.specs.Faults.{IsListed}
+use Rattle.eg_fault.specs.Faults.{IsValid, IsListed}
 use Rattle.eg_fault.specs.declared.class.Class.{Class}
 use Rattle.eg_fault.specs.declared.class.Class.TheVariants.{Skip, Disturb, Halt, Path1Closed}
 use Rattle.eg_fault.specs.declared.class.Fault.{Fault}
@@ -12,28 +11,24 @@ use Rattle.eg_model.specs.History.{Setting, Tick}
 use Rattle.eg_model.specs.Premises.{AreProper, Follows, is_on_after, IsExcessConfirmed}
 
 -- After h, the stages are off at each tick that comes `after` ticks or more after the last of h. (`more`
--- are the
--- ticks between; x is the tick that is asked of, so it comes length more + 1 ticks after the last of h.)
+-- are the ticks between; x is the tick that is asked of, so it comes length more + 1 ticks after the last
+-- of h.)
 abbrev pub OffFrom : Setting → (start : ℕ) → List Tick → (after : ℕ) → Type 0
 OffFrom s start h after =
     (more : List Tick) (x : Tick) → Follows s.fault start (x ∷ more ++ h) → AreProper s (more ++ h) →
     after ≤ length more + 1 → is_on_after s (more ++ h) x ≡ false
 
 -- The theorem. Let the calibration be an accepted one and the fault a listed one, let h be a history that
--- begins
--- at any tick of the run, and let the true excess be confirmed by the last tick of h. Then the stages are
--- off at
--- each tick that comes R ticks or more after that one.
+-- begins at any tick of the run, and let the true excess be confirmed by the last tick of h. Then the
+-- stages are off at each tick that comes R ticks or more after that one.
 abbrev pub ReactsInTime : Type 0
 ReactsInTime =
     (s : Setting) → IsAccepted s.cal → IsListed s.fault →
     (start : ℕ) (h : List Tick) → IsExcessConfirmed s h → OffFrom s start h (reaction_of s.cal.times)
 
 -- Under most faults the stages are off already from the next tick on. Not so where path 1 is closed; and
--- where a
--- module is skipped or disturbed, or the controller halts, only while the fault hasn't begun by the tick at
--- which
--- the excess is confirmed. Here `tick` is the tick after that one.
+-- where a module is skipped or disturbed, or the controller halts, only while the fault hasn't begun by the
+-- tick at which the excess is confirmed. Here `tick` is the tick after that one.
 unfoldable pub reacts_at_once : Class → (onset tick : ℕ) → Bool
 reacts_at_once Path1Closed onset tick = false
 reacts_at_once (Skip index) onset tick = nat_le tick onset
@@ -50,3 +45,22 @@ ReactsAtOnce =
     (s : Setting) → IsAccepted s.cal → IsListed s.fault →
     (start : ℕ) (h : List Tick) → is_at_once s.fault (start + length h) ≡ true → IsExcessConfirmed s h →
     OffFrom s start h 1
+
+-- ---- whatever the torque ----
+
+-- a class under which no answer is good any more
+unfoldable pub spoils_answers : Class → Bool
+spoils_answers (Skip index) = true
+spoils_answers (Disturb index mask) = true
+spoils_answers Halt = true
+spoils_answers _ = false
+
+-- Where a module is skipped or disturbed, or the controller halts, the stages are off from R ticks after
+-- the onset, whatever the torque. (Here h is any history that ends with the tick before the onset or
+-- later.)
+abbrev pub CutsFromOnset : Type 0
+CutsFromOnset =
+    (s : Setting) (fault : Fault) → IsAccepted s.cal → s.fault ≡ Some fault → IsValid fault →
+    spoils_answers fault.class ≡ true → (start : ℕ) (h more : List Tick) (x : Tick) →
+    fault.onset ≤ start + length h → Follows s.fault start (x ∷ more ++ h) →
+    reaction_of s.cal.times ≤ length more → is_on_after s (more ++ h) x ≡ false

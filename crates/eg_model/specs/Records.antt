@@ -63,8 +63,7 @@ is_before_onset None t = true
 is_before_onset (Some fault) t = nat_lt t fault.onset
 
 -- the sharp cut: where no fault has begun by tick t, the stages are on at it exactly where the
--- full-efficiency
--- excess isn't confirmed before it
+-- full-efficiency excess isn't confirmed before it
 abbrev pub RunsCutSharply : Type 0
 RunsCutSharply =
     (r : Run) → IsRun r → (t : ℕ) → is_before_onset r.setting.fault t ≡ true →
@@ -81,8 +80,7 @@ ReactWithin bound weights threshold rows =
     All (λ row. c + bound ≤ row.tick → row.on ≡ false) rows
 
 -- the stages are on at each tick up to the first by which the full-efficiency excess is confirmed, and off
--- at each
--- later one; and where it is never confirmed, they are on at every tick
+-- at each later one; and where it is never confirmed, they are on at every tick
 abbrev pub CutOneTickAfter : WeightParts → (kt threshold : ℕ) → List Row → Type 0
 CutOneTickAfter weights kt threshold rows =
     MatchOption (first_place weights (map (full_excess kt threshold) rows))

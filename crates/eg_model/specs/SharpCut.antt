@@ -1,8 +1,6 @@
 -- The sharp cut: while nothing is out of order outside level 1, the stages are on exactly until the tick at
--- which
--- the full-efficiency excess is first confirmed, that tick included. So a run whose estimate stays within
--- the
--- threshold is never cut off.
+-- which the full-efficiency excess is first confirmed, that tick included. So a run whose estimate stays
+-- within the threshold is never cut off.
 use Rattle.std.specs.Prelude.{◌≡◌, not, List, [], ◌∷◌}
 use Rattle.eg_num.specs.Windows.{is_confirmed}
 use Rattle.eg_values.specs.Calibration.{IsAccepted}
@@ -20,8 +18,7 @@ ArePlain [] = Unit {0}
 ArePlain (x ∷ before) = IsPlain x × ArePlain before
 
 -- The law. The stages are on at the tick x after h exactly where the full-efficiency excess isn't confirmed
--- by the
--- last tick of h.
+-- by the last tick of h.
 abbrev pub CutsSharply : Type 0
 CutsSharply =
     (s : Setting) → IsAccepted s.cal → (h : List Tick) → ArePlain h → AreProper s h →

@@ -28,8 +28,7 @@ last_signals (m ∷ past) = m.signals
 
 -- What the signal of module i is after a tick, by what it was before and by its value now. Where a word is
 -- flipped it is 0. Where its module doesn't run it stays. After a trip it is 0. Otherwise it is its value,
--- with
--- the disturbance mixed in.
+-- with the disturbance mixed in.
 unfoldable pub signal : Effects → List Moment → ℕ → ℕ → ℕ → ℕ
 signal x past i before value =
     if is_some x.flip then 0

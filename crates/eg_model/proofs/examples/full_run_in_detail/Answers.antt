@@ -1,4 +1,4 @@
-use Rattle.eg_model.proofs.WorkedRuns.{full_throttle-charge, full_throttle-stages, full_throttle-answers, full_throttle-verdicts}
+use Rattle.eg_model.proofs.WorkedRuns.{full_throttle-charge, full_throttle-stages, full_throttle-answers, full_throttle-verdicts, full_throttle-found}
 use Rattle.eg_model.proofs.examples.full_run_in_detail.Goals as goal
 
 pub returns-clause-charge : goal.returns-clause-charge
@@ -12,3 +12,6 @@ returns-clause-answers c = full_throttle-answers
 
 pub returns-clause-verdicts : goal.returns-clause-verdicts
 returns-clause-verdicts c = full_throttle-verdicts
+
+pub returns-clause-found : goal.returns-clause-found
+returns-clause-found c = full_throttle-found

@@ -1,0 +1,252 @@
+-- Under lapses level 2 runs as a whole or not at all, and each of its runs in a stretch of excess finds the
+-- excess.
+use Rattle.std.proofs.Common.{◌≡◌, ℕ, zero, suc, ◌+◌, ◌-◌, Bool, true, false, not, ◌||◌, ◌&&◌, cond, List, [], ◌∷◌, take, refl, sym, ap, ◌∙◌, subst, arith, Option, None, nat_le, is_some, inl}
+use Rattle.std.specs.Prelude.{if◌then◌else◌}
+use Rattle.std.specs.List.{list_all, count_by}
+use Rattle.std.proofs.lemmas.List.Sums.{sum_by-cons}
+use Rattle.std.proofs.lemmas.Bool.{or_left, or_right, or_from, and_left, and_parts}
+use Rattle.eg_num.specs.Windows.{WeightParts, is_confirmed}
+use Rattle.eg_num.proofs.FirstPlaceLemmas.{is_first_from}
+use Rattle.eg_values.specs.Calibration.{IsAccepted}
+use Rattle.eg_fault.specs.Effects.{Effects, no_effects}
+use Rattle.eg_fault.specs.Faults.{is_left_out, does, effects}
+use Rattle.eg_fault.specs.declared.class.Class.TheVariants.{Lapse}
+use Rattle.eg_fault.specs.declared.class.Fault.{Fault}
+use Rattle.eg_model.specs.History.{Setting, Tick, Moment, Signals}
+use Rattle.eg_model.specs.Signals.{tripped}
+use Rattle.eg_model.specs.Detection.{feeds_at, fed_bits, finds, torque_bit}
+use Rattle.eg_model.specs.Answers.{modules, is_whole}
+use Rattle.eg_model.specs.Paths.{latch1}
+use Rattle.eg_model.specs.Moments.{moment, moments_of}
+use Rattle.eg_model.specs.Rows.{rows_of}
+use Rattle.eg_model.specs.Premises.{AreProper, true_excesses}
+use Rattle.eg_model.specs.Lapses.{IsLapse}
+use Rattle.eg_model.proofs.TickLemmas.{Each, tripped-cons, untripped_before, moment-whole, moment-trip, moment-mirror, moment-plate, moment-load, moment-speed, moment-torque_found, moment-torque, trip_from_torque}
+use Rattle.eg_model.proofs.TripLemmas.{fed_bits-cons, confirmed_none, latch1-cons, latch1_from_trip}
+use Rattle.eg_model.proofs.Seeing.{IsSound, IsUndisturbed, SeesExcess, errs_safely, excess_seen}
+use Rattle.eg_model.proofs.Silence.{IsRegular, TrueRun}
+
+-- ---- what lapses leave as it is ----
+
+-- all modules of level 2 run at a tick or none does, and all else is in order
+pub record AllOrNone (x : Effects) : Type 0 where
+  pub runs : Bool
+  pub ran : (i : ℕ) → x.ran i ≡ runs
+  pub unflipped : x.flip ≡ None
+  pub undisturbed : IsUndisturbed x
+  pub sound : (i : ℕ) → IsSound x i
+  pub regular : IsRegular x
+  pub obeys : (path : ℕ) → x.conducts path true ≡ false
+
+all_or_none : (b : Bool) (after : List ℕ) (every k : ℕ) →
+    AllOrNone (if b then does (Lapse after every) k else no_effects)
+unfolding does no_effects
+all_or_none true after every k = record {
+  runs = not (is_left_out after every k);
+  ran = λ i. refl;
+  unflipped = refl;
+  undisturbed = λ i. refl;
+  sound = λ i v. refl;
+  regular = record { sends = refl; judged = refl };
+  obeys = λ path. refl;
+}
+all_or_none false after every k = record {
+  runs = true;
+  ran = λ i. refl;
+  unflipped = refl;
+  undisturbed = λ i. refl;
+  sound = λ i v. refl;
+  regular = record { sends = refl; judged = refl };
+  obeys = λ path. refl;
+}
+
+-- so it is at each tick of a run with a lapse
+pub lapse_all_or_none : (f : Option Fault) → IsLapse f → (t : ℕ) → AllOrNone (effects f t)
+unfolding effects
+lapse_all_or_none f lapse t = subst (λ g. AllOrNone (effects g t)) (sym lapse.is)
+    (all_or_none (nat_le lapse.onset t) lapse.after lapse.every (t - lapse.onset))
+
+abbrev pub AllOrNoneEach : List Tick → Type 0
+AllOrNoneEach h = Each (λ x. AllOrNone x.effects) h
+
+-- ---- one tick ----
+
+module _ (s : Setting) (x : Tick) (past : List Moment) (one : AllOrNone x.effects) where
+  abbrev now : Moment
+  now = moment s x.effects x.entry past
+
+  pub whole-is : now.whole ≡ one.runs
+  whole-is = moment-whole s x.effects x.entry past ∙ all x.effects one.runs one.ran
+    where
+      all : (x : Effects) (b : Bool) → ((i : ℕ) → x.ran i ≡ b) → is_whole x ≡ b
+      all x true r = unfold is_whole modules in rw (r 0, r 1, r 2, r 3, r 4, r 5, r 6, r 7) refl
+      all x false r = unfold is_whole modules in and_left _ _ (r 0)
+
+  feeds-is : tripped past ≡ false → now.feeds ≡ one.runs
+  unfolding moment feeds_at
+  feeds-is u = rw (one.ran 6, u, one.unflipped) (and_trues one.runs)
+    where
+      and_trues : (b : Bool) → (b && true && true) ≡ b
+      and_trues true = refl
+      and_trues false = refl
+
+  feeds_out : one.runs ≡ false → now.feeds ≡ false
+  unfolding moment feeds_at
+  feeds_out out = and_left _ _ (and_left _ _ (one.ran 6 ∙ out))
+
+  -- where level 2 doesn't run it finds nothing
+  trip_out : one.runs ≡ false → now.trip ≡ false
+  trip_out out =
+      moment-trip s x.effects x.entry past
+      ∙ or_from _ _ (or_from _ _
+      (or_from _ _ (or_from _ _
+      (moment-mirror s x.effects x.entry past ∙ ap (λ flip. is_some flip) one.unflipped)
+      (moment-plate s x.effects x.entry past ∙ none _ _))
+      (moment-load s x.effects x.entry past ∙ none _ _))
+      (moment-speed s x.effects x.entry past ∙ none _ _))
+      (moment-torque_found s x.effects x.entry past ∙ none _ _)
+    where
+      none : (w : WeightParts) (bit : Signals → Bool) → finds w bit now.feeds now.signals past ≡ false
+      none w bit = unfold finds in and_left _ _ (feeds_out out)
+
+  -- where it runs it sees an excess
+  sees : one.runs ≡ true → SeesExcess x.effects
+  sees runs = record {
+    runs = record { ran = λ i. one.ran i ∙ runs; unflipped = one.unflipped };
+    undisturbed = one.undisturbed;
+    pedal = inl (one.sound 0);
+    load = inl (one.sound 4);
+    speed = inl (one.sound 6);
+  }
+
+-- a trip comes where react runs, so it opens path 1
+pub trip_opens : (s : Setting) (h : List Tick) → AllOrNoneEach h → tripped (moments_of s h) ≡ true →
+    latch1 (moments_of s h) ≡ true
+unfolding Each moments_of
+trip_opens s [] each u = absurd (never u)
+  where
+    never : tripped [] ≡ true → ⊥
+    never u = let u' : false ≡ true = unfold tripped in u in cc
+trip_opens s (x ∷ h) each u = go each.0.runs refl (trip_opens s h each.1)
+  where
+    past : List Moment
+    past = moments_of s h
+
+    older : (a b : Bool) → (a || b) ≡ true → a ≡ false → b ≡ true
+    older true b e f = absurd (let f' : true ≡ false = f in cc)
+    older false b e f = e
+
+    go : (runs : Bool) → each.0.runs ≡ runs → (tripped past ≡ true → latch1 past ≡ true) →
+        latch1 (moment s x.effects x.entry past ∷ past) ≡ true
+    go true runs before = latch1_from_trip s x h (each.0.ran 7 ∙ runs) u
+    go false out before = latch1-cons _ _
+        ∙ or_right _ _ (before (older _ _ (sym (tripped-cons _ _) ∙ u) (trip_out s x past each.0 out)))
+
+-- ---- the bits that are fed ----
+
+fed_bits-skip : (b : Signals → Bool) (m : Moment) (past : List Moment) → m.feeds ≡ false →
+    fed_bits b (m ∷ past) ≡ fed_bits b past
+unfolding fed_bits
+fed_bits-skip b m past h = rw h refl
+
+-- where the fed torque bits are confirmed a trip has come, whichever ticks fed them
+pub trip_from_fed : (s : Setting) (h : List Tick) →
+    is_confirmed s.cal.rules.torque (fed_bits torque_bit (moments_of s h)) ≡ true →
+    tripped (moments_of s h) ≡ true
+unfolding moments_of
+trip_from_fed s [] c = absurd (confirmed_none s.cal.rules.torque torque_bit c)
+trip_from_fed s (x ∷ h) c = tripped-cons _ _ ∙ go now.feeds refl (confirmed past) refl (trip_from_fed s h)
+  where
+    past : List Moment
+    past = moments_of s h
+
+    now : Moment
+    now = moment s x.effects x.entry past
+
+    confirmed : List Moment → Bool
+    confirmed ms = is_confirmed s.cal.rules.torque (fed_bits torque_bit ms)
+
+    go : (feeds : Bool) → now.feeds ≡ feeds → (before : Bool) → confirmed past ≡ before →
+        (confirmed past ≡ true → tripped past ≡ true) → (now.trip || tripped past) ≡ true
+    go feeds e true before ih = or_right _ _ (ih before)
+    go true e false before ih =
+        let first = is_first_from s.cal.rules.torque (torque_bit now.signals) (fed_bits torque_bit past)
+        (rw (← fed_bits-cons torque_bit now past e) c) before in
+        or_left _ _ (trip_from_torque s x.effects x.entry past
+        (moment-torque s x.effects x.entry past e first))
+    go false e false before ih =
+        absurd (let k : true ≡ false = sym c
+        ∙ ap (is_confirmed s.cal.rules.torque) (fed_bits-skip torque_bit now past e) ∙ before in cc)
+
+-- ---- how often level 2 ran ----
+
+pub count-cons : {X : Type 0} (p : X → Bool) (x : X) (xs : List X) →
+    count_by p (x ∷ xs) ≡ (if p x then suc (count_by p xs) else count_by p xs)
+count-cons p x xs = sum_by-cons _ x xs ∙ go (p x) (count_by p xs)
+  where
+    go : (b : Bool) (n : ℕ) → cond b 1 0 + n ≡ (if b then suc n else n)
+    go true n = omega arith
+    go false n = omega arith
+
+-- at how many of the newest n ticks it ran
+unfoldable pub runs_in : ℕ → List Moment → ℕ
+runs_in n ms = count_by (λ m. m.whole) (take n ms)
+
+pub runs_in-cons : (n : ℕ) (m : Moment) (past : List Moment) →
+    runs_in (suc n) (m ∷ past) ≡ (if m.whole then suc (runs_in n past) else runs_in n past)
+unfolding runs_in
+runs_in-cons n m past = count-cons (λ x. x.whole) m (take n past)
+
+-- so many newest fed torque bits are set
+abbrev RunsFind : ℕ → List Moment → Type 0
+RunsFind n ms = TrueRun (runs_in n ms) (fed_bits torque_bit ms)
+
+as_run : {k k' : ℕ} {bs bs' : List Bool} → k' ≡ k → bs' ≡ bs → TrueRun k bs → TrueRun k' bs'
+as_run {k} {k'} {bs} {bs'} p q t = subst (λ n. TrueRun n bs') (sym p) (subst (λ l. TrueRun k l) (sym q) t)
+
+run_more : (m : Moment) (past : List Moment) (n : ℕ) → m.whole ≡ true → m.feeds ≡ true →
+    torque_bit m.signals ≡ true →
+    RunsFind n past → RunsFind (suc n) (m ∷ past)
+unfolding TrueRun
+run_more m past n w f b ih = as_run
+    (runs_in-cons n m past ∙ ap (λ x. if x then suc (runs_in n past) else runs_in n past) w)
+    (fed_bits-cons torque_bit m past f) (b, ih)
+
+run_same : (m : Moment) (past : List Moment) (n : ℕ) → m.whole ≡ false → m.feeds ≡ false → RunsFind n past →
+    RunsFind (suc n) (m ∷ past)
+run_same m past n w f ih = as_run
+    (runs_in-cons n m past ∙ ap (λ x. if x then suc (runs_in n past) else runs_in n past) w)
+    (fed_bits-skip torque_bit m past f) ih
+
+-- there is true excess at each of the newest n ticks
+abbrev pub AllExceed : Setting → ℕ → List Tick → Type 0
+AllExceed s n h = list_all (λ excess. excess) (take n (true_excesses s h)) ≡ true
+
+-- each run in a stretch of excess feeds a bit that is set
+pub runs_find : (s : Setting) → IsAccepted s.cal → (h : List Tick) → AllOrNoneEach h → AreProper s h →
+    (n : ℕ) → AllExceed s n h →
+    tripped (moments_of s h) ≡ false → RunsFind n (moments_of s h)
+unfolding Each AreProper moments_of true_excesses rows_of runs_in TrueRun
+runs_find s a h each proper zero over u = tt
+runs_find s a [] each proper (suc n) over u = tt
+runs_find s a (x ∷ h) each proper (suc n) over u =
+    go each.0.runs refl (runs_find s a h each.1 proper.1 n (and_parts _ _ over).1 before)
+  where
+    past : List Moment
+    past = moments_of s h
+
+    now : Moment
+    now = moment s x.effects x.entry past
+
+    before : tripped past ≡ false
+    before = untripped_before now past u
+
+    go : (runs : Bool) → each.0.runs ≡ runs → RunsFind n past → RunsFind (suc n) (now ∷ past)
+    go true runs ih =
+        let seen = sees s x past each.0 runs in
+        let bit = excess_seen s x past seen.runs seen.undisturbed before a
+        (errs_safely s x past seen proper.0) (and_parts _ _ over).0 in
+        run_more now past n (whole-is s x past each.0 ∙ runs)
+        (feeds-is s x past each.0 before ∙ runs) bit ih
+    go false out ih = run_same now past n (whole-is s x past each.0 ∙ out)
+        (feeds-is s x past each.0 before ∙ out) ih

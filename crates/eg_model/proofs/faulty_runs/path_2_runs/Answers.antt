@@ -1,0 +1,8 @@
+use Rattle.eg_model.proofs.WorkedFaults.{path_2_closed, path_2_opened}
+use Rattle.eg_model.proofs.faulty_runs.path_2_runs.Goals as goal
+
+pub returns-clause-closed : goal.returns-clause-closed
+returns-clause-closed c = path_2_closed
+
+pub returns-clause-opened : goal.returns-clause-opened
+returns-clause-opened c = path_2_opened

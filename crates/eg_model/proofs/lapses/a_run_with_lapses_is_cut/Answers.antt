@@ -1,0 +1,5 @@
+use Rattle.eg_model.proofs.WorkedLapses.{lapsing, lapsing-excesses, reference-bound}
+use Rattle.eg_model.proofs.lapses.a_run_with_lapses_is_cut.Goals as goal
+
+pub returns : goal.returns
+returns c = record { line = lapsing; stretch = lapsing-excesses; bound = reference-bound }
