@@ -1,11 +1,12 @@
 -- What module 6 makes of the words by their names.
 use Rattle.std.proofs.Common.{◌≡◌, ◌∙◌, refl, sym, ap, ℕ, ◌≤◌, Bool, true, false}
-use Rattle.std.specs.Prelude.{if◌then◌else◌}
+use Rattle.std.specs.Prelude.{Result, Ok, Err, OnOk, if◌then◌else◌}
 use Rattle.eg_num.specs.Windows.{WeightParts}
 use Rattle.eg_num.specs.declared.watches.Watches.{Watches}
 use Rattle.eg_answer.specs.Token.{next_token_of}
 use Rattle.eg_answer.specs.declared.rules.Rules.{Rules}
 use Rattle.eg_level2.specs.declared.debounce.Fed.{Fed}
+use Rattle.eg_level2.specs.declared.step.Step.{Step}
 use Rattle.eg_level2.specs.declared.debounce.Feeds.{Feeds}
 use Rattle.eg_level2.specs.Words.{Words, named, is_set, AreWithin}
 use Rattle.eg_level2.specs.Modules.{has_bit, counted, is_found, debounced, limits, trips, debounce_step, pedal_bit, plate_bit, load_bit, speed_bit, torque_bit, no_watches, finding}
@@ -129,3 +130,23 @@ tripped_step f h rules set w t token eh eset on ew etoken et =
 pub tripped_found : (f : ℕ → ℕ) (rules : Rules) (set : Bool) (w : ℕ) → set ≡ is_set w → set ≡ true → w ≡ f 11 → no_watches ≡ debounced rules (named f)
 unfolding named
 tripped_found f rules set w eset on ew = tripped-found rules (named f) (ap is_set (sym ew) ∙ sym eset ∙ on)
+
+-- the watches that are found, as the run answers them
+pub fed_finding : (f : ℕ → ℕ) (rules : Rules) (feeds : Feeds) (set : Bool) (w : ℕ) (found : Watches) (step : Step) → step ≡ finding found → found ≡ found_of feeds
+    → feeds ≡ feeds_of rules (named f) → set ≡ is_set w → set ≡ false → w ≡ f 11 → step ≡ finding (debounced rules (named f))
+fed_finding f rules feeds set w found step es e ef eset off ew = es ∙ ap finding (fed_found f rules feeds set w found e ef eset off ew)
+
+pub tripped_finding : (f : ℕ → ℕ) (rules : Rules) (set : Bool) (w : ℕ) (step : Step) → step ≡ finding no_watches → set ≡ is_set w → set ≡ true → w ≡ f 11
+    → step ≡ finding (debounced rules (named f))
+tripped_finding f rules set w step es eset on ew = es ∙ ap finding (tripped_found f rules set w eset on ew)
+
+-- ---- the same of calls that were done ----
+
+pub counters-ok : {T E : Type 0} (result : Result T E) (f g1 g2 g3 g4 h : ℕ → ℕ) (feeds : Feeds) → OnOk result (h ≡ keep 9 feeds.torque.value g4) → g4 ≡ keep 8 feeds.speed.value g3
+    → g3 ≡ keep 7 feeds.load.value g2 → g2 ≡ keep 6 feeds.plate.value g1 → g1 ≡ keep 5 feeds.pedal.value f → OnOk result (h ≡ counters_kept feeds f)
+counters-ok (Ok x) f g1 g2 g3 g4 h feeds eh e4 e3 e2 e1 = counters_by f g1 g2 g3 g4 h feeds eh e4 e3 e2 e1
+counters-ok (Err x) f g1 g2 g3 g4 h feeds eh e4 e3 e2 e1 = eh
+
+pub ruleset counter_laws = (counters-ok)
+
+pub ruleset debounce_laws = (fed_step, tripped_step, tripped_finding)

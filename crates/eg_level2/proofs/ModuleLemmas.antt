@@ -1,6 +1,6 @@
 -- What the stores of a module make of the words by their names.
-use Rattle.std.proofs.Common.{◌≡◌, ◌∙◌, refl, ap, ℕ, ◌+◌, ◌-◌, ◌*◌, ◌%◌, Bool, false, not, ◌&&◌}
-use Rattle.std.specs.Prelude.{if◌then◌else◌, ◌==◌, bit_xor, slice_index, Option, Some, None}
+use Rattle.std.proofs.Common.{◌≡◌, ◌∙◌, refl, ap, ℕ, ◌+◌, ◌-◌, ◌*◌, ◌%◌, Bool, false}
+use Rattle.std.specs.Prelude.{Result, Ok, Err, OnOk, if◌then◌else◌, ◌==◌, bit_xor, slice_index, Option, Some, None}
 use Rattle.eg_torque.specs.Permit.{permitted}
 use Rattle.eg_torque.specs.Excess.{is_excess}
 use Rattle.eg_sensor.specs.Readings.{used_pedal, checked_raise, bit, pair_bits}
@@ -73,17 +73,15 @@ pairs_by f h rules read readings row d signal test eh er es et = rw (eh, es, et,
 
 -- ---- module 7 ----
 
-pub reacted : (f g h : ℕ → ℕ) (send sends trip : Bool) (w t token v flow after : ℕ) → h ≡ keep 13 after g → g ≡ keep 12 0 f → after ≡ (if sends then 255 else flow)
-    → sends ≡ (send && not trip) → trip ≡ is_set w → w ≡ f 11 → flow ≡ (if token == 255 then v else marked v) → token ≡ next_token_of t 7 → t ≡ f 12 → v ≡ f 13
-    → named h ≡ react_step send (named f)
-unfolding named keep put react_step answers_now closed_flow
-reacted f g h send sends trip w t token v flow after eh eg ea es etrip ew ef etoken et ev = rw (eh, eg, ea, es, etrip, ew, ef, etoken, et, ev) refl
+pub reacted : (f g h : ℕ → ℕ) (send sends : Bool) (flow after : ℕ) → h ≡ keep 13 after g → g ≡ keep 12 0 f → after ≡ (if sends then 255 else flow)
+    → sends ≡ answers_now send (named f) → flow ≡ closed_flow (named f) → named h ≡ react_step send (named f)
+unfolding named keep put react_step
+reacted f g h send sends flow after eh eg ea es ef = rw (eh, eg, ea, es, ef) refl
 
-pub answered : (f : ℕ → ℕ) (answer : Option ℕ) (send sends trip : Bool) (w t token v flow sign : ℕ) → answer ≡ (if sends then Some (flow * 65536 + sign) else None)
-    → sends ≡ (send && not trip) → trip ≡ is_set w → w ≡ f 11 → flow ≡ (if token == 255 then v else marked v) → token ≡ next_token_of t 7 → t ≡ f 12 → v ≡ f 13 → sign ≡ f 15
-    → answer ≡ answer_of send (named f)
-unfolding named answer_of answers_now closed_flow number_of
-answered f answer send sends trip w t token v flow sign ea es etrip ew ef etoken et ev esign = ea ∙ rw (es, etrip, ew, ef, etoken, et, ev, esign) refl
+pub answered : (f : ℕ → ℕ) (answer : Option ℕ) (send sends : Bool) (flow sign : ℕ) → answer ≡ (if sends then Some (flow * 65536 + sign) else None)
+    → sends ≡ answers_now send (named f) → flow ≡ closed_flow (named f) → sign ≡ f 15 → answer ≡ answer_of send (named f)
+unfolding named answer_of number_of
+answered f answer send sends flow sign ea es ef esign = ea ∙ rw (es, ef, esign) refl
 
 pub ordered : (f : ℕ → ℕ) (trip : Bool) (w : ℕ) → trip ≡ is_set w → w ≡ f 11 → trip ≡ is_set (named f).trip
 unfolding named
@@ -94,3 +92,37 @@ ordered f trip w e p = e ∙ ap is_set p
 pub began : (f g0 g1 h : ℕ → ℕ) → h ≡ keep 14 65535 g1 → g1 ≡ keep 13 255 g0 → g0 ≡ cleared 16 f → named h ≡ start
 unfolding named keep put cleared start
 began f g0 g1 h eh e1 e0 = rw (eh, e1, e0) refl
+
+-- ---- the same of calls that were done ----
+
+pub gone_on-ok : {T E : Type 0} (result : Result T E) (f g1 g2 g3 h : ℕ → ℕ) (tick seed t token w l flow : ℕ) → OnOk result (h ≡ keep 15 seed g3) → g3 ≡ keep 14 tick g2
+    → g2 ≡ keep 13 flow g1 → g1 ≡ keep 12 token f → flow ≡ (if (l + 1) % 65536 == tick then w else marked w) → w ≡ f 13 → l ≡ f 14 → token ≡ next_token_of t 0
+    → t ≡ f 12 → OnOk result (named h ≡ check_step seed tick (named f))
+gone_on-ok (Ok x) f g1 g2 g3 h tick seed t token w l flow eh e3 e2 e1 ef ew el etoken et = gone_on f g1 g2 g3 h tick seed t token w l flow eh e3 e2 e1 ef ew el etoken et
+gone_on-ok (Err x) f g1 g2 g3 h tick seed t token w l flow eh e3 e2 e1 ef ew el etoken et = eh
+
+pub gave_up-ok : {T E : Type 0} (result : Result T E) (f g0 g1 g2 g3 h : ℕ → ℕ) (tick : ℕ) → OnOk result (h ≡ keep 14 tick g3) → g3 ≡ keep 13 33023 g2 → g2 ≡ keep 12 1 g1
+    → g1 ≡ keep 11 1 g0 → g0 ≡ cleared 16 f → OnOk result (named h ≡ given_up tick)
+gave_up-ok (Ok x) f g0 g1 g2 g3 h tick eh e3 e2 e1 e0 = gave_up f g0 g1 g2 g3 h tick eh e3 e2 e1 e0
+gave_up-ok (Err x) f g0 g1 g2 g3 h tick eh e3 e2 e1 e0 = eh
+
+pub signalled-ok : {T E : Type 0} (result : Result T E) (f g1 g2 h : ℕ → ℕ) (number signal test d place value t token s sign w : ℕ) (trip : Bool) → OnOk result (h ≡ keep 15 sign g2)
+    → g2 ≡ keep 12 token g1 → g1 ≡ keep place value f → place ≡ number - 1 → value ≡ (if trip then 0 else bit_xor signal d) → trip ≡ is_set w → w ≡ f 11
+    → token ≡ next_token_of t number → t ≡ f 12 → sign ≡ bit_xor (mixed s test) d → s ≡ f 15 → OnOk result (h ≡ signalled number signal test d f)
+signalled-ok (Ok x) f g1 g2 h number signal test d place value t token s sign w trip eh e2 e1 ep ev etrip ew etoken et esign es =
+    signalled_by f g1 g2 h number signal test d place value t token s sign w trip eh e2 e1 ep ev etrip ew etoken et esign es
+signalled-ok (Err x) f g1 g2 h number signal test d place value t token s sign w trip eh e2 e1 ep ev etrip ew etoken et esign es = eh
+
+pub began-ok : {T E : Type 0} (result : Result T E) (f g0 g1 h : ℕ → ℕ) → OnOk result (h ≡ keep 14 65535 g1) → g1 ≡ keep 13 255 g0 → g0 ≡ cleared 16 f
+    → OnOk result (named h ≡ start)
+began-ok (Ok x) f g0 g1 h eh e1 e0 = began f g0 g1 h eh e1 e0
+began-ok (Err x) f g0 g1 h eh e1 e0 = eh
+
+-- what each module's body follows from
+pub ruleset check_laws = (gone_on-ok, gave_up-ok)
+
+pub ruleset signal_laws = (pedal_by, permitted_by, actual_by, excess_by, pairs_by)
+
+pub ruleset write_laws = (signalled-ok)
+
+pub ruleset react_laws = (reacted, answered, ordered)

@@ -1,14 +1,14 @@
 -- Where level 2's words stand: it may load and store there, and no two stand at one place.
-use Rattle.std.proofs.Common.{◌≡◌, ◌≢◌, ◌∙◌, refl, sym, ap, ℕ, ◌+◌, ◌≤◌, ◌<◌, ◌⊎◌, inl, inr, true, IsTrue, List, length, slice_index, slice_set, arith}
+use Rattle.std.proofs.Common.{◌≡◌, ◌≢◌, ◌∙◌, refl, sym, ap, ℕ, ◌+◌, ◌-◌, ◌≤◌, ◌<◌, ◌⊎◌, inl, inr, true, IsTrue, List, length, slice_index, slice_set, arith}
 use Rattle.std.specs.Prelude.{Result, Ok, Err, OnOk, OnErr, if◌then◌else◌}
-use Rattle.std.proofs.lemmas.Bool.{lt-ltb, le-ltb, cases_lt}
+use Rattle.std.proofs.lemmas.Bool.{lt-ltb, le-ltb, cases_lt, eq-eqb, ne_eqb}
 use Rattle.std.proofs.lemmas.Bool.Decides.{eqb_tells, nat_tests}
 use Rattle.std.proofs.lemmas.List.{length-set, get_or-set_same, get_or-set_other}
 use Rattle.eg_guard.specs.declared.regions.Who.TheVariants.{Level2}
 use Rattle.eg_guard.specs.declared.regions.Region.TheVariants.{Results, Protected}
 use Rattle.eg_guard.specs.Regions.{both, allows, access, region_of}
 use Rattle.eg_guard.specs.Memory.{AreWords}
-use Rattle.eg_level2.specs.Words.{place, word_at, is_level2_own}
+use Rattle.eg_level2.specs.Words.{place, word_at, ChangeLaw, is_level2_own}
 use Rattle.eg_level2.specs.Stores.{put, outside}
 
 -- where a word stands, by its number
@@ -97,6 +97,35 @@ pub left_outside : {T E : Type 0} (result : Result T E) (old new : List ℕ) (nu
 left_outside (Ok x) old new number address value ok err p within =
     ap outside (ok ∙ ap (λ a. slice_set old a value) p) ∙ (λ i k. left_at old number value k within i)
 left_outside (Err x) old new number address value ok err p within = ap outside err
+
+-- ---- a word that changes ----
+
+stored_same : (memory : List ℕ) (number value k : ℕ) → length memory ≡ 4096 → number < 32 → k ≡ number → word_at (slice_set memory (place number) value) k ≡ value
+unfolding put
+stored_same memory number value k size within e = put_at memory number value k size within ∙ rw (eq-eqb k number e) refl
+
+stored_other : (memory : List ℕ) (number value k : ℕ) → length memory ≡ 4096 → number < 32 → k ≢ number → word_at (slice_set memory (place number) value) k ≡ word_at memory k
+unfolding put
+stored_other memory number value k size within apart = put_at memory number value k size within ∙ rw (ne_eqb k number apart) refl
+
+same_sum : (a b c d : ℕ) → a + b ≡ 65535 → c + d ≡ 65535 → d ≡ b → c ≡ a
+same_sum a b c d old new e = omega arith
+
+same_sum_other : (a b c d : ℕ) → a + b ≡ 65535 → c + d ≡ 65535 → c ≡ a → d ≡ b
+same_sum_other a b c d old new e = omega arith
+
+pub change_law : ChangeLaw
+change_law memory number word are within mirrored apart still = elim (cases_lt number 16) [
+  | inl low ↦ apart (sym (stored_same memory number word number are.count within refl)
+      ∙ same_sum _ _ _ _ (mirrored.sums number low) (still.sums number low)
+      (stored_other memory number word (number + 16) are.count within (λ e. omega arith)))
+  | inr high ↦ upper (number - 16) (omega arith) (omega arith)
+]
+  where
+    upper : (k : ℕ) → k < 16 → k + 16 ≡ number → ⊥
+    upper k low e = apart (sym (stored_same memory number word (k + 16) are.count within e)
+        ∙ same_sum_other _ _ _ _ (mirrored.sums k low) (still.sums k low) (stored_other memory number word k are.count within (λ q. omega arith))
+        ∙ ap (word_at memory) e)
 
 -- what loads and stores at places need
 pub ruleset places = (place_load, place_store, read_at, stored_at, left_outside)

@@ -16,9 +16,13 @@ pub if_ok : {T E : Type 0} (result : Result T E) {P Q : T → Type 0} → ((x : 
 if_ok (Ok x) f p = f x p
 if_ok (Err x) f p = p
 
-pub if_ok_all : {T E : Type 0} (result : Result T E) {P Q R S : T → Type 0} → ((x : T) → P x → Q x → R x → S x) → IfOk result P → IfOk result Q → IfOk result R → IfOk result S
+pub if_ok_all : {T E : Type 0} (result : Result T E) {P Q R S : T → Type 0} → ((x : T) → P x → Q x → R x → S x)
+    → IfOk result P → IfOk result Q → IfOk result R → IfOk result S
 if_ok_all (Ok x) f p q r = f x p q r
 if_ok_all (Err x) f p q r = p
+
+pub same_rules : (one other : Level2Parts) → one ≡ other → one.rules ≡ other.rules
+same_rules one other e = ap (λ (parts : Level2Parts). parts.rules) e
 
 -- ---- the words ----
 
@@ -33,12 +37,14 @@ unfolding module_step inputs_of
 pedals parts memory tick sends d n row words en er = rw (en, er) refl
 
 pub permits : (parts : Level2Parts) (memory : List ℕ) (tick : ℕ) (sends : Bool) (d n : ℕ) (rules : Rules) (row : TestRow) (words : Words) → n ≡ 2
-    → rules ≡ parts.rules → row ≡ row_of parts.questions (asked_of memory) → permitted_step rules (readings_of memory) row d words ≡ module_step (inputs_of parts memory tick sends d) n words
+    → rules ≡ parts.rules → row ≡ row_of parts.questions (asked_of memory)
+    → permitted_step rules (readings_of memory) row d words ≡ module_step (inputs_of parts memory tick sends d) n words
 unfolding module_step inputs_of
 permits parts memory tick sends d n rules row words en eu er = rw (en, er, eu) refl
 
 pub actuals : (parts : Level2Parts) (memory : List ℕ) (tick : ℕ) (sends : Bool) (d n : ℕ) (rules : Rules) (row : TestRow) (words : Words) → n ≡ 3
-    → rules ≡ parts.rules → row ≡ row_of parts.questions (asked_of memory) → actual_step rules (readings_of memory) row d words ≡ module_step (inputs_of parts memory tick sends d) n words
+    → rules ≡ parts.rules → row ≡ row_of parts.questions (asked_of memory)
+    → actual_step rules (readings_of memory) row d words ≡ module_step (inputs_of parts memory tick sends d) n words
 unfolding module_step inputs_of
 actuals parts memory tick sends d n rules row words en eu er = rw (en, er, eu) refl
 
@@ -48,7 +54,8 @@ unfolding module_step inputs_of
 excesses parts memory tick sends d n rules row words en eu er = rw (en, er, eu) refl
 
 pub pairings : (parts : Level2Parts) (memory : List ℕ) (tick : ℕ) (sends : Bool) (d n : ℕ) (rules : Rules) (row : TestRow) (words : Words) → n ≡ 5
-    → rules ≡ parts.rules → row ≡ row_of parts.questions (asked_of memory) → pairs_step rules (readings_of memory) row d words ≡ module_step (inputs_of parts memory tick sends d) n words
+    → rules ≡ parts.rules → row ≡ row_of parts.questions (asked_of memory)
+    → pairs_step rules (readings_of memory) row d words ≡ module_step (inputs_of parts memory tick sends d) n words
 unfolding module_step inputs_of
 pairings parts memory tick sends d n rules row words en eu er = rw (en, er, eu) refl
 

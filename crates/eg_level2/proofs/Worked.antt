@@ -15,7 +15,7 @@ use Rattle.eg_answer.specs.declared.questions.Question.{Question}
 use Rattle.eg_level2.specs.Words.{Words, is_set, start}
 use Rattle.eg_level2.specs.Inputs.{Inputs, row_of}
 use Rattle.eg_level2.specs.Signals.{pedal_signal, permitted_signal, actual_signal, excess_signal, pairs_signal}
-use Rattle.eg_level2.specs.Modules.{marked, check_step, written, signed, pedal_step, permitted_step, actual_step, excess_step, pairs_step, has_bit, pedal_bit, plate_bit, load_bit, speed_bit, torque_bit, counted, is_found, debounced, limits, trips, debounce_step, closed_flow, answers_now, number_of, answer_of, react_step, module_step, answer_after}
+use Rattle.eg_level2.specs.Modules.{marked, check_step, written, signed, pedal_step, permitted_step, actual_step, excess_step, pairs_step, has_bit, pedal_bit, plate_bit, load_bit, speed_bit, torque_bit, counted, is_found, debounced, limits, trips, debounce_step, closed_flow, answers_now, number_of, answer_of, react_step, module_step, answer_after, given_up, found_by, order_after, no_watches, mirror_alone}
 
 -- pedals 0, 500, 1000; speeds 800, 3000, 6000
 abbrev rules : Rules
@@ -118,3 +118,89 @@ answers_0 = refl
 quiet_0 : answer_after (inputs idle 0 false 0) 7 (run (inputs idle 0 false 0) to_react start) ≡ None
 unfolding run answer_after answer_of answers_now number_of closed_flow next_token_of is_set
 quiet_0 = refl
+
+-- ---- several ticks ----
+
+abbrev all : List ℕ
+all = to_react ++ 7 ∷ []
+
+-- whole ticks with these readings, without a send tick, in this order
+abbrev ticks : Readings → List ℕ → Words
+ticks readings numbers = fold (λ before tick. run (inputs readings tick false 0) all before) start numbers
+
+-- two ticks at which level 2 didn't run don't cancel each other
+two_gaps : (ticks idle (0 ∷ 2 ∷ 4 ∷ [])).flow ≡ 0x80ff
+unfolding run
+two_gaps = refl
+
+-- a module that is left out, and one that is disturbed, each spoil the number that is sent
+left_out : answer_after (inputs idle 0 true 0) 7 (run (inputs idle 0 true 0) (0 ∷ 1 ∷ 2 ∷ 3 ∷ 4 ∷ 5 ∷ []) start) ≡ Some 2164204170
+unfolding run answer_after answer_of answers_now number_of closed_flow next_token_of is_set
+left_out = refl
+
+disturbed : answer_after (inputs idle 0 true 0) 7 (run (inputs idle 0 true 0) (4 ∷ 5 ∷ 6 ∷ []) (run (inputs idle 0 true 1) (3 ∷ []) (run (inputs idle 0 true 0) (0 ∷ 1 ∷ 2 ∷ []) start)))
+    ≡ Some 16720586
+unfolding run answer_after answer_of answers_now number_of closed_flow next_token_of is_set
+disturbed = refl
+
+-- the values of the pedal's tracks differ, 300 and 100
+abbrev torn : Readings
+torn = record idle { pedal = 300 ∷ 900 ∷ [] }
+
+-- the pedal is found at the fifth such tick, which limits the operation, and from then on the pedal counts as 0
+torn_five : ticks torn (0 ∷ 1 ∷ 2 ∷ 3 ∷ 4 ∷ [])
+    ≡ record after_tick_0 { pedal = 100; permitted = 360; pairs = 1; pedal_counter = 10; limp = 1; last = 4 }
+unfolding run
+torn_five = refl
+
+torn_found : found_by (inputs torn 4 false 0) 6 (run (inputs torn 4 false 0) (0 ∷ 1 ∷ 2 ∷ 3 ∷ 4 ∷ 5 ∷ []) (ticks torn (0 ∷ 1 ∷ 2 ∷ 3 ∷ [])))
+    ≡ record { mirror = false; pedal = true; plate = false; load = false; speed = false; torque = false; answers = false }
+unfolding run found_by debounced is_found fed is_set pedal_bit plate_bit load_bit speed_bit torque_bit has_bit
+torn_found = refl
+
+torn_six : (ticks torn (0 ∷ 1 ∷ 2 ∷ 3 ∷ 4 ∷ 5 ∷ [])).pedal ≡ 0
+unfolding run
+torn_six = refl
+
+-- both loads 500: an estimate of 1250, where 200 is permitted and 200 more are let pass
+abbrev heavy : Readings
+heavy = record idle { load = 500 ∷ 500 ∷ [] }
+
+-- the torque is found at the fifth such tick; path 1 is ordered open in that tick, and no answer is sent
+heavy_five : ticks heavy (0 ∷ 1 ∷ 2 ∷ 3 ∷ 4 ∷ [])
+    ≡ record after_tick_0 { actual = 1250; excess = 1; torque_counter = 5; trip = 1; last = 4 }
+unfolding run
+heavy_five = refl
+
+heavy_order : order_after 7 (run (inputs heavy 4 true 0) to_react (ticks heavy (0 ∷ 1 ∷ 2 ∷ 3 ∷ []))) ≡ true
+unfolding run order_after is_set
+heavy_order = refl
+
+heavy_answer : answer_after (inputs heavy 4 true 0) 7 (run (inputs heavy 4 true 0) to_react (ticks heavy (0 ∷ 1 ∷ 2 ∷ 3 ∷ []))) ≡ None
+unfolding run answer_after answer_of answers_now number_of closed_flow next_token_of is_set
+heavy_answer = refl
+
+-- after a trip the signals are 0, also where the runs are disturbed
+heavy_six : run (inputs heavy 5 false 7) (to_react ++ 7 ∷ []) (ticks heavy (0 ∷ 1 ∷ 2 ∷ 3 ∷ 4 ∷ []))
+    ≡ record after_tick_0 { pedal = 0; permitted = 0; actual = 0; torque_counter = 5; trip = 1; last = 5; sign = 23925 }
+unfolding run
+heavy_six = refl
+
+-- ---- a word that differs from its complement ----
+
+-- the words that are given up
+abbrev gave_up : Words
+gave_up = record after_tick_0 { permitted = 0; actual = 0; trip = 1; token = 1; flow = 33023; sign = 0 }
+
+flip_0 : given_up 0 ≡ gave_up
+unfolding given_up
+flip_0 = refl
+
+flip_found : mirror_alone ≡ record { mirror = true; pedal = false; plate = false; load = false; speed = false; torque = false; answers = false }
+unfolding mirror_alone no_watches
+flip_found = refl
+
+-- the other modules of that tick leave the signals 0, and order path 1 open
+flip_later : run (inputs idle 0 false 0) (1 ∷ 2 ∷ 3 ∷ 4 ∷ 5 ∷ 6 ∷ 7 ∷ []) (given_up 0) ≡ record gave_up { token = 0; sign = 11152 }
+unfolding run given_up
+flip_later = refl

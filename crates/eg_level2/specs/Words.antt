@@ -1,7 +1,8 @@
 -- The sixteen words that level 2 keeps in the guarded memory, each with its complement.
-use Rattle.std.specs.Prelude.{◌≡◌, ℕ, ◌+◌, ◌<◌, ◌≤◌, Bool, true, false, not, ◌==◌, nat_lt, if◌then◌else◌, List, slice_index}
+use Rattle.std.specs.Prelude.{◌≡◌, ◌≢◌, ℕ, ◌+◌, ◌<◌, ◌≤◌, Bool, true, false, not, ◌==◌, nat_lt, if◌then◌else◌, List, slice_index, slice_set}
 use Rattle.eg_guard.specs.declared.regions.Region.{Region}
 use Rattle.eg_guard.specs.declared.regions.Region.TheVariants.{Results, Protected}
+use Rattle.eg_guard.specs.Memory.{AreWords}
 use Rattle.eg_answer.specs.declared.rules.Rules.{Rules}
 
 -- The words by their names: the five signals, the five debounce counters, whether limited operation and
@@ -64,6 +65,11 @@ words_of memory = named (word_at memory)
 -- every word and its complement add up to 65535
 pub record AreMirrored (memory : List ℕ) : Type 0 where
   pub sums : (number : ℕ) → number < 16 → word_at memory number + word_at memory (number + 16) ≡ 65535
+
+-- the law: where of mirrored words one word alone changes, or one complement alone, they are mirrored no longer
+abbrev pub ChangeLaw : Type 0
+ChangeLaw = (memory : List ℕ) (number word : ℕ) → AreWords memory → number < 32 → AreMirrored memory →
+    word ≢ word_at memory number → ¬ AreMirrored (slice_set memory (place number) word)
 
 -- the regions that level 2 may change
 unfoldable pub is_level2_own : Region → Bool

@@ -34,6 +34,7 @@ struct Feeds {
 
 /// Module 6: debounces the pairs and the excess, where no trip stands. A pedal that is found limits the
 /// operation; any other watch that is found trips (docs/CONCEPT.md, "Level 2").
+#[tactic(auto, using(crate::proofs::DebounceLemmas::debounce_laws))]
 pub(crate) fn debounce<M: Guarded>(memory: &mut M, rules: &Rules) -> Result<Step, NoMemory>
     requires { AreWithin rules.now (words_of (M.shows memory.old).words) }
     ensures words { OnOk result (words_of (M.shows memory.new).words
@@ -106,6 +107,7 @@ fn feed_all<M: Guarded>(memory: &M, rules: &Rules) -> Feeds
 }
 
 /// Stores the counters.
+#[tactic(auto, using(crate::proofs::DebounceLemmas::counter_laws))]
 fn keep_counters<M: Guarded>(memory: &mut M, feeds: &Feeds) -> Result<(), NoMemory>
     ensures stored { OnOk result (word_at (M.shows memory.new).words
         ≡ counters_kept feeds.now (word_at (M.shows memory.old).words)) }

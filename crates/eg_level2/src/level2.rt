@@ -1,7 +1,7 @@
 // Level 2 as a whole: its eight modules by their numbers, and its reset.
 ghost use Rattle.std.specs.Prelude.{◌≡◌, ◌↔◌, ℕ, ◌<◌, ◌≤◌, length, IsTrue, IsOk, OnOk, IfOk};
 ghost use Rattle.eg_guard.specs.Memory.{AreWords, SameOutside};
-ghost use Rattle.eg_level2.specs.Words.{words_of, AreMirrored, AreWithin, is_level2_own, start};
+ghost use Rattle.eg_level2.specs.Words.{ChangeLaw, words_of, AreMirrored, AreWithin, is_level2_own, start};
 ghost use Rattle.eg_level2.specs.Inputs.{AreParts, inputs_of, asked_of, row_of};
 ghost use Rattle.eg_level2.specs.Modules.{given_up, module_step, step_of, answer_after, order_after, mirror_alone, found_by};
 ghost use Rattle.eg_level2.specs.Stores.{Keeps};
@@ -18,8 +18,9 @@ use eg_base::NoMemory;
 use eg_guard::Guarded;
 use std::marker::Model;
 
-/// Level 2, the function monitoring (docs/CONCEPT.md, "Level 2"): the rules that it goes by, and the questions
-/// that it answers. What it remembers stands in the guarded memory. Contracts see its `Level2Parts`.
+/// Level 2, the function monitoring (docs/CONCEPT.md, "Level 2"): the rules that it goes by, and the
+/// questions that it answers. What it remembers stands in the guarded memory. Contracts see its
+/// `Level2Parts`.
 #[derive(Drop)]
 pub struct Level2 {
     rules: Rules,
@@ -112,8 +113,8 @@ impl Level2 {
             ≡ found_by (inputs_of self.now (M.shows memory.old).words tick send disturbance) number
             (words_of (M.shows memory.old).words)) }
 
-        // Where a word differed from its complement, module 0 gives all words up, and finds that alone. Mirror
-        // is found exactly there.
+        // Where a word differed from its complement, module 0 gives all words up, and finds that alone.
+        // Mirror is found exactly there.
         ensures given_up { ¬ AreMirrored (M.shows memory.old).words
             → OnOk result (words_of (M.shows memory.new).words ≡ given_up tick) }
         ensures mirror_alone { ¬ AreMirrored (M.shows memory.old).words
@@ -179,3 +180,9 @@ impl Level2 {
             .row(usize::from(asked(memory)) % self.questions.len())
     }
 }
+
+/// Does nothing when it runs. Its contract is a law: where of mirrored words one word alone changes, or one
+/// complement alone, they are mirrored no longer, so that module 0 finds it (docs/CONCEPT.md, "Level 2").
+pub fn one_changed_word_is_found()
+    ensures { ChangeLaw }
+{}

@@ -1,7 +1,7 @@
 // Module 7: what comes of a trip, and the answer.
-ghost use Rattle.std.specs.Prelude.{◌≡◌, ◌+◌, ◌*◌, ◌==◌, ◌&&◌, not, OnOk, IfOk, if◌then◌else◌, Some, None};
+ghost use Rattle.std.specs.Prelude.{◌≡◌, ◌+◌, ◌*◌, ◌==◌, OnOk, IfOk, if◌then◌else◌, Some, None};
 ghost use Rattle.eg_level2.specs.Words.{words_of, is_set};
-ghost use Rattle.eg_level2.specs.Modules.{marked, react_step, answer_of, no_watches};
+ghost use Rattle.eg_level2.specs.Modules.{marked, closed_flow, answers_now, react_step, answer_of, no_watches};
 ghost use Rattle.eg_level2.specs.Stores.{Keeps};
 
 use crate::Step;
@@ -16,6 +16,7 @@ const WHOLE_TOKEN: u16 = 0x00ff;
 
 /// Module 7: orders path 1 open where a trip stands, and else sends the answer at a send tick
 /// (docs/CONCEPT.md, "Level 2").
+#[tactic(auto, using(crate::proofs::ModuleLemmas::react_laws))]
 pub(crate) fn react<M: Guarded>(memory: &mut M, send: bool) -> Result<Step, NoMemory>
     ensures words { OnOk result (words_of (M.shows memory.new).words
         ≡ react_step send (words_of (M.shows memory.old).words)) }
@@ -27,10 +28,9 @@ pub(crate) fn react<M: Guarded>(memory: &mut M, send: bool) -> Result<Step, NoMe
     ensures keeps { Keeps (M.shows memory.old) (M.shows memory.new) result }
 {
     let trip = is_set(word(memory, TRIP));
-    let token = next_token(word(memory, TOKEN), 7);
-    let flow = closed(word(memory, FLOW), token);
+    let sends = answers_now(memory, send);
+    let flow = closed_flow(memory);
     let sign = word(memory, SIGN);
-    let sends = answers(send, trip);
     keep(memory, TOKEN, 0)?;
     keep(memory, FLOW, flow_after(sends, flow))?;
     Ok(Step {
@@ -38,6 +38,14 @@ pub(crate) fn react<M: Guarded>(memory: &mut M, send: bool) -> Result<Step, NoMe
         answer: number(sends, flow, sign),
         found: no_watches(),
     })
+}
+
+/// The flow of this tick's answer.
+#[tactic(auto, unfolding(crate::specs::Words::named, crate::specs::Modules::closed_flow))]
+fn closed_flow<M: Guarded>(memory: &M) -> u16
+    ensures { result ≡ closed_flow (words_of (M.shows memory.now).words) }
+{
+    closed(word(memory, FLOW), next_token(word(memory, TOKEN), 7))
 }
 
 /// The flow, marked where the token isn't whole.
@@ -53,10 +61,11 @@ fn closed(flow: u16, token: u16) -> u16
 }
 
 /// Whether an answer is sent: at a send tick without a trip.
-fn answers(send: bool, trip: bool) -> bool
-    ensures { result ≡ (send && not trip) }
+#[tactic(auto, unfolding(crate::specs::Words::named, crate::specs::Modules::answers_now))]
+fn answers_now<M: Guarded>(memory: &M, send: bool) -> bool
+    ensures { result ≡ answers_now send (words_of (M.shows memory.now).words) }
 {
-    send && !trip
+    send && !is_set(word(memory, TRIP))
 }
 
 /// The flow, which begins anew once an answer was sent.

@@ -20,6 +20,7 @@ use eg_sensor::{Readings, checked_raise, pair_bits, used};
 use eg_torque as torque;
 
 /// Module 1: the pedal that level 2 uses, in per mille (docs/CONCEPT.md, "Level 2").
+#[tactic(auto, using(crate::proofs::ModuleLemmas::signal_laws))]
 pub(crate) fn pedal<M: Guarded>(
     memory: &mut M,
     row: &TestRow,
@@ -39,6 +40,7 @@ pub(crate) fn pedal<M: Guarded>(
 }
 
 /// Module 2: the permitted torque, in tenths of Nm (docs/CONCEPT.md, "Level 2").
+#[tactic(auto, using(crate::proofs::ModuleLemmas::signal_laws))]
 pub(crate) fn permitted<M: Guarded>(
     memory: &mut M,
     rules: &Rules,
@@ -58,6 +60,7 @@ pub(crate) fn permitted<M: Guarded>(
 }
 
 /// Module 3: the actual torque, in tenths of Nm (docs/CONCEPT.md, "Level 2").
+#[tactic(auto, using(crate::proofs::ModuleLemmas::signal_laws))]
 pub(crate) fn actual<M: Guarded>(
     memory: &mut M,
     rules: &Rules,
@@ -78,6 +81,7 @@ pub(crate) fn actual<M: Guarded>(
 
 /// Module 4: 1 where the actual torque is an excess over the permitted torque, else 0 (docs/CONCEPT.md,
 /// "Level 2").
+#[tactic(auto, using(crate::proofs::ModuleLemmas::signal_laws))]
 pub(crate) fn excess<M: Guarded>(
     memory: &mut M,
     rules: &Rules,
@@ -96,6 +100,7 @@ pub(crate) fn excess<M: Guarded>(
 }
 
 /// Module 5: the bits of the pairs that disagree (docs/CONCEPT.md, "Level 2").
+#[tactic(auto, using(crate::proofs::ModuleLemmas::signal_laws))]
 pub(crate) fn pairs<M: Guarded>(
     memory: &mut M,
     rules: &Rules,
@@ -139,6 +144,7 @@ fn exceeds(rules: &Rules, estimate: u16, permitted: u16) -> u16
 }
 
 /// Stores the signal of a module, moves the token, and mixes the result of the question's row into the fold.
+#[tactic(auto, using(crate::proofs::ModuleLemmas::write_laws))]
 fn write<M: Guarded>(
     memory: &mut M,
     number: u8,
