@@ -82,7 +82,7 @@ unfoldable pub outside : List ℕ → ℕ → ℕ
 outside memory address = if is_level2_own (region_of address) then 0 else slice_index memory address
 
 -- What each of level 2's calls keeps, whatever it answers: the words outside level 2's own regions, and
--- whether the memory is sure. Over a sure memory it is done, and where it is done mirrored words stay mirrored.
+-- whether the memory is sure. Over a sure memory it is done, and where it is done mirrored words stay so.
 pub record Keeps {T E : Type 0} (old new : ShownMemory) (result : Result T E) : Type 0 where
   pub outside : outside new.words ≡ outside old.words
   pub stays_sure : new.sure ≡ old.sure

@@ -66,7 +66,8 @@ words_of memory = named (word_at memory)
 pub record AreMirrored (memory : List ℕ) : Type 0 where
   pub sums : (number : ℕ) → number < 16 → word_at memory number + word_at memory (number + 16) ≡ 65535
 
--- the law: where of mirrored words one word alone changes, or one complement alone, they are mirrored no longer
+-- The law: where of mirrored words one word alone changes, or one complement alone, they are
+-- mirrored no longer.
 abbrev pub ChangeLaw : Type 0
 ChangeLaw = (memory : List ℕ) (number word : ℕ) → AreWords memory → number < 32 → AreMirrored memory →
     word ≢ word_at memory number → ¬ AreMirrored (slice_set memory (place number) word)
