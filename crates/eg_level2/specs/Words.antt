@@ -80,7 +80,7 @@ is_level2_own _ = false
 
 -- ---- what they begin with, and what they keep ----
 
--- a word that is 1 or 0 is set
+-- a word that says yes or no is set where it isn't 0
 unfoldable pub is_set : ℕ → Bool
 is_set word = not (word == 0)
 

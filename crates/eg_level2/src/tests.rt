@@ -139,6 +139,10 @@ fn want_of_memory_is_told(rt: HostRuntime) -> Result<(), Fail> {
     let mut memory = StingyMemory::new(45);
     put_readings(&rt, &mut memory);
     assert!(rt; level2.reset(&mut memory).is_err());
+    // The last store is missing: the word of the last tick is there, and its complement isn't.
+    assert_eq!(rt; memory.load(Who::Level2, 2104), Ok(255));
+    assert_eq!(rt; memory.load(Who::Level2, 2105), Ok(65535));
+    assert_eq!(rt; memory.load(Who::Level2, 2121), Ok(65535));
     assert!(rt; tick(&level2, &mut memory, true).is_ok());
     let mut memory = StingyMemory::new(46);
     put_readings(&rt, &mut memory);
