@@ -1,0 +1,160 @@
+-- Laws of one tick over truth values and numbers alone: what a word becomes, by whether a word is flipped,
+-- whether
+-- the module runs, and whether a trip stood before.
+use Rattle.std.proofs.Common.{◌≡◌, ℕ, ◌≤◌, Bool, true, false, not, ◌||◌, ◌&&◌, List, ◌∷◌, refl, sym, ap, ◌∙◌, nat_lt}
+use Rattle.std.specs.Prelude.{if◌then◌else◌, ◌==◌, is_some, bit_xor, Some, None}
+use Rattle.std.proofs.lemmas.Bool.{true≢false, false≢true}
+use Rattle.eg_num.specs.Windows.{WeightParts, is_first}
+use Rattle.eg_num.specs.Counting.{fed, counted}
+use Rattle.eg_num.proofs.CounterLemmas.{StandsFor-first}
+use Rattle.eg_sensor.specs.Readings.{bit}
+use Rattle.eg_level2.specs.Words.{is_set}
+
+-- a part of what a test chooses is what the test chooses of that part
+pub if-part : {T U : Type 0} (part : T → U) (runs : Bool) (a b : T) →
+    part (if runs then a else b) ≡ (if runs then part a else part b)
+if-part part true a b = refl
+if-part part false a b = refl
+
+-- a part that is the same either way
+pub if-same : {T U : Type 0} (part : T → U) (runs : Bool) (a b : T) (u : U) → part a ≡ part b → part b ≡ u →
+    part (if runs then a else b) ≡ u
+if-same part true a b u e kept = e ∙ kept
+if-same part false a b u e kept = kept
+
+pub if-nested : (runs test : Bool) (a b : ℕ) →
+    (if runs then (if test then a else b) else b) ≡ (if runs && test then a else b)
+if-nested true test a b = refl
+if-nested false test a b = refl
+
+pub if-false : (runs test : Bool) → (if runs then test else false) ≡ (runs && test)
+if-false true test = refl
+if-false false test = refl
+
+-- what has to run doesn't where it is stopped by the first, or by the second
+pub stopped : (runs trip flip : Bool) → trip ≡ true → (runs && not trip && not flip) ≡ false
+stopped true true flip e = refl
+stopped false true flip e = refl
+stopped runs false flip e = absurd (false≢true e)
+
+pub stopped_by_flip : (runs trip flip : Bool) → flip ≡ true → (runs && not trip && not flip) ≡ false
+stopped_by_flip true true true e = refl
+stopped_by_flip true false true e = refl
+stopped_by_flip false trip true e = refl
+stopped_by_flip runs trip false e = absurd (false≢true e)
+
+pub is_set-bit : (b : Bool) → is_set (bit 1 b) ≡ b
+unfolding is_set
+is_set-bit true = refl
+is_set-bit false = refl
+
+-- a signal that module i writes
+pub written-law : (flip runs trip : Bool) (trip_word old before value told mask : ℕ) →
+    trip_word ≡ bit 1 (flip || trip) → old ≡ (if flip && true then 0 else before)
+    → (flip ≡ false → trip ≡ false → value ≡ told)
+    → (if runs then (if is_set trip_word then 0 else bit_xor value mask) else old)
+    ≡ (if flip && true then 0 else
+    (if flip then 0 else if not runs then before else if trip then 0 else bit_xor told mask))
+unfolding is_set
+written-law true true trip tw old before value told mask et eo ev = rw et refl
+written-law true false trip tw old before value told mask et eo ev = eo
+written-law false true true tw old before value told mask et eo ev = rw et refl
+written-law false true false tw old before value told mask et eo ev =
+    rw et (ap (λ n. bit_xor n mask) (ev refl refl))
+written-law false false trip tw old before value told mask et eo ev = eo
+
+-- a counter that module 6 feeds
+pub counted-law : (weights : WeightParts) (flip runs trip : Bool) (trip_word value kept : ℕ)
+    (bad told : Bool) → trip_word ≡ bit 1 (flip || trip) → value ≡ (if flip then 0 else kept)
+    → (flip ≡ false → bad ≡ told)
+    → (if runs then (if is_set trip_word then value else fed weights value bad) else value)
+    ≡ (if flip then 0 else if runs && not trip && not flip then fed weights kept told else kept)
+unfolding is_set
+counted-law weights true true trip tw value kept bad told et ev eb = rw (et, ev) refl
+counted-law weights true false trip tw value kept bad told et ev eb = ev
+counted-law weights false true true tw value kept bad told et ev eb = rw et ev
+counted-law weights false true false tw value kept bad told et ev eb = rw (et, ev, eb refl) refl
+counted-law weights false false trip tw value kept bad told et ev eb = ev
+
+-- a watch that module 6 finds
+pub found-law : (weights : WeightParts) (flip runs trip mirror : Bool) (trip_word value : ℕ)
+    (bits : List Bool) (bad told : Bool) → 1 ≤ weights.limit
+    → (mirror ≡ true → trip ≡ true) → trip_word ≡ bit 1 (flip || trip) →
+    value ≡ (if flip then 0 else if mirror then 0 else counted weights bits) →
+    (flip ≡ false → bad ≡ told)
+    → (runs && (not (is_set trip_word) &&
+    (nat_lt value weights.limit && fed weights value bad == weights.limit)))
+    ≡ ((runs && not trip && not flip) && is_first weights (told ∷ bits))
+unfolding is_set
+found-law weights true true true mirror tw value bits bad told positive em et ev eb = rw et refl
+found-law weights true true false mirror tw value bits bad told positive em et ev eb = rw et refl
+found-law weights flip false trip mirror tw value bits bad told positive em et ev eb = refl
+found-law weights false true true mirror tw value bits bad told positive em et ev eb = rw et refl
+found-law weights false true false true tw value bits bad told positive em et ev eb =
+    absurd (false≢true (em refl))
+found-law weights false true false false tw value bits bad told positive em et ev eb =
+    rw (et, eb refl) (sym (StandsFor-first weights value told bits positive ev))
+
+-- limited operation, of which module 6 finds the pedal
+pub limp-law : (flip runs mirror limited pedal told : Bool) (word : ℕ) →
+    word ≡ (if flip then 0 else if mirror then 0 else bit 1 limited) → (runs && pedal) ≡ told
+    → (flip ≡ true → told ≡ false) → (mirror ≡ true → told ≡ false)
+    → (if runs then (if pedal then 1 else word) else word)
+    ≡ (if flip || mirror then 0 else bit 1 (told || limited))
+limp-law flip runs mirror limited pedal told word ew ep ef em = if-nested runs pedal 1 word
+    ∙ ap (λ found. if found then 1 else word) ep ∙ go flip mirror told ew ef em
+  where
+    go : (flip mirror told : Bool) → word ≡ (if flip then 0 else if mirror then 0 else bit 1 limited) →
+        (flip ≡ true → told ≡ false) → (mirror ≡ true → told ≡ false)
+        → (if told then 1 else word) ≡ (if flip || mirror then 0 else bit 1 (told || limited))
+    go true mirror true ew ef em = absurd (true≢false (ef refl))
+    go false true true ew ef em = absurd (true≢false (em refl))
+    go false false true ew ef em = refl
+    go true mirror false ew ef em = ew
+    go false true false ew ef em = ew
+    go false false false ew ef em = ew
+
+-- the trip, by the four watches of module 6 that trip
+pub trip-law : (flip runs trip plate load speed turn plate' load' speed' turn' : Bool) (word : ℕ) →
+    word ≡ bit 1 (flip || trip)
+    → (runs && plate) ≡ plate' → (runs && load) ≡ load' → (runs && speed) ≡ speed' → (runs && turn) ≡ turn'
+    → (if runs then (if plate || load || speed || turn then 1 else word) else word)
+    ≡ bit 1 ((flip || plate' || load' || speed' || turn') || trip)
+trip-law flip true trip plate load speed turn plate' load' speed' turn' word ew ep el es et =
+    rw (ep, el, es, et, ew) (go flip trip
+    (plate' || load' || speed' || turn') plate' load' speed' turn' refl)
+  where
+    go : (flip trip any a b c d : Bool) → any ≡ (a || b || c || d) →
+        (if a || b || c || d then 1 else bit 1 (flip || trip)) ≡ bit 1 ((flip || a || b || c || d) || trip)
+    go true trip any a b c d e = rw (← e) (same any)
+      where
+        same : (any : Bool) → (if any then 1 else bit 1 true) ≡ bit 1 true
+        same true = refl
+        same false = refl
+    go false trip any a b c d e = rw (← e) (either any)
+      where
+        either : (any : Bool) → (if any then 1 else bit 1 trip) ≡ bit 1 (any || trip)
+        either true = refl
+        either false = refl
+trip-law flip false trip plate load speed turn plate' load' speed' turn' word ew ep el es et =
+    rw (← ep, ← el, ← es, ← et) (go flip ew)
+  where
+    go : (flip : Bool) → word ≡ bit 1 (flip || trip) →
+        word ≡ bit 1 ((flip || false || false || false || false) || trip)
+    go true ew = ew
+    go false ew = ew
+
+-- whether module 7 sends an answer
+pub sent-law : {T : Type 0} (runs sends tripped : Bool) (word : ℕ) (answer : T) → word ≡ bit 1 tripped
+    → is_some (if runs then (if sends && not (is_set word) then Some answer else None) else None)
+    ≡ (sends && runs && not tripped)
+sent-law runs sends tripped word answer ew = rw (ew, is_set-bit tripped) (go runs sends tripped)
+  where
+    go : (runs sends tripped : Bool) →
+        is_some (if runs then (if sends && not tripped then Some answer else None) else None)
+        ≡ (sends && runs && not tripped)
+    go true true true = refl
+    go true true false = refl
+    go true false tripped = refl
+    go false true tripped = refl
+    go false false tripped = refl

@@ -1,0 +1,342 @@
+-- The number that is sent has the mark of the model's tick, under every fault.
+use Rattle.std.proofs.Common.{◌≡◌, ℕ, suc, ◌+◌, ◌≤◌, ◌<◌, ◌⊎◌, inl, inr, Bool, true, false, not, ◌&&◌, ◌||◌, List, [], ◌∷◌, length, refl, sym, ap, subst, ◌∙◌, arith, Option, Some, None, is_some}
+use Rattle.std.specs.Prelude.{if◌then◌else◌, ◌==◌}
+use Rattle.std.proofs.lemmas.Bool.{and_parts, or_parts, or_from, not-true, cases_lt, eq-eqb, ne_eqb, eqb-true, and_left}
+use Rattle.std.proofs.Math.Nat.{mod-lt, mod-eq_of_lt}
+use Rattle.eg_answer.specs.Answers.{expected_of, answer_number}
+use Rattle.eg_answer.specs.Periods.{asked, expected_number as expected_number_of}
+use Rattle.eg_answer.specs.Questions.{question_at}
+use Rattle.eg_answer.specs.Times.{TimeParts}
+use Rattle.eg_answer.specs.declared.marks.AnswerMark.TheVariants.{Absent, Good, Bad}
+use Rattle.eg_values.specs.Calibration.{IsAccepted}
+use Rattle.eg_level2.specs.Words.{Words}
+use Rattle.eg_level2.specs.Inputs.{row_of}
+use Rattle.eg_level2.specs.Modules.{number_of}
+use Rattle.eg_fault.specs.Effects.{Effects, asked_in, asked_at}
+use Rattle.eg_fault.specs.Faults.{effects}
+use Rattle.eg_fault.specs.Running.{AllRun, NoneRuns, OthersRun, RunsWhole}
+use Rattle.eg_flow.specs.Ticks.{Doing, answer_at}
+use Rattle.eg_flow.specs.Flow.{FitsWords, IsSteady, row_asked, expected_fold, expected_number, AtMostOneIsDisturbed}
+use Rattle.eg_flow.specs.Laws.{at_react}
+use Rattle.eg_flow.proofs.FlowSteps.{answer-is}
+use Rattle.eg_flow.proofs.SteadyLemmas.{steady_answers, gap_answers, all_told, out_told}
+use Rattle.eg_flow.proofs.RowLemmas.{fits_words}
+use Rattle.eg_model.specs.History.{Setting, Entry, Tick, Moment}
+use Rattle.eg_model.specs.Signals.{tripped}
+use Rattle.eg_model.specs.Answers.{is_undisturbed, is_answer, whole_since_answer, is_sent, is_good}
+use Rattle.eg_model.specs.Moments.{readings_at, moment, moments_of, ticks, moments, next}
+use Rattle.eg_model.specs.Premises.{Follows}
+use Rattle.eg_model.proofs.TickLemmas.{tripped-cons, moment-whole}
+use Rattle.eg_agree.specs.Doings.{doing_at}
+use Rattle.eg_agree.specs.Replies.{doing_after, words_over, answer_from_power_on, TellTrips, IsReady, FlowMarks, AnswersHold, AnswersHoldFromPowerOn, RestsBetweenAnswers, moment_after, number_expected, mark_of, HasWords, IsAnyFault, is_flipped, RanTogether, ReactRan, has_just_answered, KeepsFlow}
+use Rattle.eg_agree.proofs.ReplyShapes.{shape, LeavesOneOut, few_are_disturbed}
+use Rattle.eg_agree.proofs.ReplySteps.{whole_same, undisturbed_same, sent_same, mark-is, keeps_next, keeps_start}
+
+-- ---- the question that is asked ----
+
+asked_in-below : (times : TimeParts) (count tick : ℕ) → 0 < count → (wild : Option ℕ) →
+    asked_in wild times count tick < count
+unfolding asked_in asked
+asked_in-below times count tick some None = mod-lt _ some
+asked_in-below times count tick some (Some question) = mod-lt _ some
+
+module _ (s : Setting) (accepted : IsAccepted s.cal) (x : Tick) (h : List Tick) where
+  abbrev place : ℕ
+  place = asked_at x.effects s.cal.times (length s.cal.questions) (length h)
+
+  place-below : place < length s.cal.questions
+  unfolding asked_at
+  place-below = asked_in-below s.cal.times (length s.cal.questions) (length h)
+      (let two = accepted.together.two_questions in omega arith) x.effects.wild
+
+  pub row-is : row_asked (doing_after s x h) ≡ (question_at s.cal.questions place).row
+  unfolding row_asked row_of doing_after doing_at
+  row-is = ap (λ n. (question_at s.cal.questions n).row) (mod-eq_of_lt place-below)
+
+  pub row_fits : HasWords s.cal → FitsWords s.cal.rules (row_asked (doing_after s x h))
+  row_fits words = subst (FitsWords s.cal.rules) (sym row-is)
+      (fits_words s.cal.rules (question_at s.cal.questions place).row words.values
+      (words.seeds place _ place-below))
+
+  -- the number that is expected is that of the row that is asked
+  pub number-is : number_expected s x.effects (length h) ≡ expected_number (doing_after s x h)
+  unfolding number_expected expected_number expected_fold doing_after doing_at
+  number-is = ap answer_number
+      (accepted.together.answered place _ place-below ∙ ap (expected_of s.cal.rules) (sym row-is))
+
+-- where no monitoring module is wild, it is the number that the period expects
+pub number_expected-usual : (s : Setting) (x : Effects) (tick : ℕ) → x.wild ≡ None →
+    number_expected s x tick ≡ expected_number_of s.cal.times s.cal.questions tick
+unfolding number_expected expected_number_of asked_at asked_in
+number_expected-usual s x tick e = rw e refl
+
+-- ---- no flip without a trip ----
+
+flip_trips : (s : Setting) (x : Effects) (e : Entry) (past : List Moment) →
+    (moment s x e past).trip ≡ false → is_some x.flip ≡ false
+unfolding moment
+flip_trips s x e past none = (or_parts _ _ (or_parts _ _ (or_parts _ _ (or_parts _ _ none).0).0).0).0
+
+unflipped : (s : Setting) (h : List Tick) → tripped (moments_of s h) ≡ false → is_flipped h ≡ false
+unfolding moments_of is_flipped
+unflipped s [] none = refl
+unflipped s (x ∷ h) none =
+    let parts = or_parts _ _ (sym (tripped-cons (moment_after s x h) (moments_of s h)) ∙ none) in
+    or_from _ _ (flip_trips s x.effects x.entry (moments_of s h) parts.0) (unflipped s h parts.1)
+
+sent_untripped : (s : Setting) (x : Tick) (h : List Tick) →
+    is_sent s.cal.times x.effects (moment_after s x h).trip (moments_of s h) ≡ true →
+    tripped (moments_of s (x ∷ h)) ≡ false
+unfolding is_sent moments_of
+sent_untripped s x h sent = tripped-cons (moment_after s x h) (moments_of s h)
+    ∙ not-true _ (and_parts _ _ sent).1
+
+sent_react : (s : Setting) (x : Tick) (h : List Tick) →
+    is_sent s.cal.times x.effects (moment_after s x h).trip (moments_of s h) ≡ true → x.effects.ran 7 ≡ true
+unfolding is_sent
+sent_react s x h sent = (and_parts _ _ (and_parts _ _ sent).0).1
+
+-- ---- which ticks ran together ----
+
+run_as : (P : Effects → Type 0) (s : Setting) (start : ℕ) (x : Tick) (h : List Tick) →
+    Follows s.fault start (x ∷ h) → P (effects s.fault (start + length h)) → P x.effects
+unfolding Follows
+run_as P s start x h follows p = subst P (sym follows.0) p
+
+whole_together : (s : Setting) → RunsWhole s.fault → (start : ℕ) (h : List Tick) → Follows s.fault start h →
+    RanTogether h
+unfolding RanTogether Follows
+whole_together s whole start [] follows = tt
+whole_together s whole start (x ∷ h) follows = (
+  run_as (λ x. AllRun x ⊎ NoneRuns x) s start x h follows (whole (start + length h)),
+  whole_together s whole start h follows.1,
+)
+
+-- before the onset all run
+early_together : (s : Setting) (out : LeavesOneOut s.fault) (start : ℕ) (h : List Tick) →
+    Follows s.fault start h → start + length h ≤ out.onset → RanTogether h
+unfolding RanTogether Follows
+early_together s out start [] follows early = tt
+early_together s out start (x ∷ h) follows early = (
+  inl (run_as AllRun s start x h follows (out.before (start + length h) (omega arith))),
+  early_together s out start h follows.1 (omega arith),
+)
+
+-- where it isn't react that is left out, react runs at each tick
+react_ran : (s : Setting) (out : LeavesOneOut s.fault) → out.one < 7 → (start : ℕ) (h : List Tick) →
+    Follows s.fault start h → ReactRan h
+unfolding ReactRan Follows
+react_ran s out below start [] follows = tt
+react_ran s out below start (x ∷ h) follows = (
+  run_as (λ x. x.ran 7 ≡ true) s start x h follows (runs (cases_lt (start + length h) out.onset)),
+  react_ran s out below start h follows.1,
+)
+  where
+    runs : (start + length h < out.onset) ⊎ (out.onset ≤ start + length h) →
+        (effects s.fault (start + length h)).ran 7 ≡ true
+    runs (inl early) = out.before (start + length h) early 7
+    runs (inr late) = out.after (start + length h) late 7 ∙ ap not (ne_eqb 7 out.one (λ e. omega arith))
+
+-- ---- the mark ----
+
+mark_law : (answer : Option ℕ) (sent good : Bool) (number expected : ℕ) → is_some answer ≡ sent →
+    (is_some answer ≡ true → answer ≡ Some number)
+    → (sent ≡ true → (number == expected) ≡ good) →
+    mark_of expected answer ≡ (if sent then (if good then Good else Bad) else Absent)
+unfolding mark_of
+mark_law None true good number expected same is tells = absurd (let e : false ≡ true = same in cc)
+mark_law None false good number expected same is tells = refl
+mark_law (Some n) false good number expected same is tells = absurd (let e : true ≡ false = same in cc)
+mark_law (Some n) true good number expected same is tells = ap (mark_of expected) (is refl)
+    ∙ ap (λ b. if b then Good else Bad) (tells refl)
+
+module _ (s : Setting) (start : ℕ) (x : Tick) (h : List Tick) (w : Words) (g : IsReady s start x h w) where
+  abbrev d : Doing
+  d = doing_after s x h
+
+  abbrev past : List Moment
+  past = moments_of s h
+
+  -- the number that is sent, if one is, is the expected one exactly where the model calls the answer good
+  abbrev Tells : Type 0
+  Tells = (number_of (at_react d w) == number_expected s x.effects (length h)) ≡ is_good x.effects past
+
+  few : AtMostOneIsDisturbed d
+  unfolding doing_after
+  few =
+      run_as (λ y. AtMostOneIsDisturbed
+      (doing_at s y (readings_at x.effects x.entry) (length h))) s start x h g.follows
+      (few_are_disturbed s.fault (start + length h) g.fault s (readings_at x.effects x.entry) (length h))
+
+  expects : (n : ℕ) → (n == number_expected s x.effects (length h)) ≡ (n == expected_number d)
+  expects n = ap (λ k. n == k) (number-is s g.accepted x h)
+
+  -- where all modules ran together so far, and now
+  tells_all : AllRun x.effects → is_flipped (x ∷ h) ≡ false → RanTogether h → Tells
+  unfolding is_good is_flipped doing_after doing_at
+  tells_all all unflipped together =
+      let parts = or_parts _ _ unflipped in
+      expects _
+      ∙ steady_answers d w (whole_since_answer past) parts.0 all g.fits few
+      (g.keeps.steady parts.1 together)
+      ∙ ap (λ b. whole_since_answer past && b) (undisturbed_same s x h)
+      ∙ ap (λ b. b && whole_since_answer past && is_undisturbed x.effects)
+      (sym (sym (whole_same s x h) ∙ all_told d all))
+
+  -- where one before react is left out now
+  tells_out : (one : ℕ) → one < 7 → OthersRun one x.effects → is_flipped (x ∷ h) ≡ false → w.token ≡ 0 →
+      Tells
+  unfolding is_good is_flipped doing_after doing_at
+  tells_out one below others unflipped z =
+      let parts = or_parts _ _ unflipped in
+      expects _
+      ∙ gap_answers d w one parts.0 others below g.fits z
+      ∙ ap (λ b. b && whole_since_answer past && is_undisturbed x.effects)
+      (sym (sym (whole_same s x h) ∙ out_told d one (omega arith) others))
+
+  seven : (one : ℕ) → one < 8 → (one < 7) ⊎ (one ≡ 7)
+  seven one below = grind arith
+
+  by_shape : RunsWhole s.fault ⊎ LeavesOneOut s.fault → is_flipped (x ∷ h) ≡ false →
+      x.effects.ran 7 ≡ true → Tells
+  unfolding Follows
+  by_shape (inl whole) unflipped ran =
+      elim (run_as (λ y. AllRun y ⊎ NoneRuns y) s start x h g.follows (whole (start + length h))) [
+        | inl all ↦ tells_all all unflipped (whole_together s whole start h g.follows.1)
+        | inr none ↦ absurd (let e : false ≡ true = sym (none 7) ∙ ran in cc)
+      ]
+  by_shape (inr out) unflipped ran =
+      elim (cases_lt (start + length h) out.onset) [
+        | inl early ↦ tells_all
+            (run_as AllRun s start x h g.follows (out.before (start + length h) early)) unflipped
+            (early_together s out start h g.follows.1 (omega arith))
+        | inr late ↦ after (run_as (OthersRun out.one) s start x h g.follows
+            (out.after (start + length h) late)) (seven out.one out.below)
+      ]
+    where
+      after : OthersRun out.one x.effects → (out.one < 7) ⊎ (out.one ≡ 7) → Tells
+      after others (inl below) =
+          tells_out out.one below others unflipped
+          (g.keeps.token (react_ran s out below start h g.follows.1))
+      after others (inr is7) =
+          absurd (let e : true ≡ false = sym ran ∙ others 7 ∙ ap not (eq-eqb 7 out.one (sym is7)) in cc)
+
+  number-tells : is_sent s.cal.times x.effects (moment_after s x h).trip past ≡ true → Tells
+  number-tells sent =
+      by_shape (shape s.fault g.fault) (unflipped s (x ∷ h) (sent_untripped s x h sent))
+      (sent_react s x h sent)
+
+  -- the mark of what is sent is the mark of the tick
+  pub marks : mark_of (number_expected s x.effects (length h)) (answer_at d w) ≡ (moment_after s x h).mark
+  marks =
+      mark_law (answer_at d w) (is_sent s.cal.times x.effects (moment_after s x h).trip past)
+      (is_good x.effects past) (number_of (at_react d w)) (number_expected s x.effects (length h))
+      (sent_same s x h w g.trip) (answer-is d w) number-tells
+      ∙ sym (mark-is s x h)
+
+-- ---- between answers ----
+
+rest_of : (w : Words) (made : ℕ) (whole : Bool) → whole ≡ true → IsSteady made whole w →
+    (w.token ≡ 0) × (w.flow ≡ 255)
+rest_of w made whole e steady = (steady.token, eqb-true w.flow 255 (and_parts _ _ (steady.tells ∙ e)).0)
+
+-- after a tick that wasn't whole it is the answer of that tick from which all ran
+answered_now : (m : Moment) (past : List Moment) → m.whole ≡ false → whole_since_answer (m ∷ past) ≡ true →
+    is_answer m.mark ≡ true
+unfolding whole_since_answer
+answered_now m past part e = cases (is_answer m.mark) m.whole part e
+  where
+    cases : (a b : Bool) → b ≡ false → (a || (b && whole_since_answer past)) ≡ true → a ≡ true
+    cases true b p q = refl
+    cases false b p q = absurd (let f : false ≡ true = sym (and_left b _ p) ∙ q in cc)
+
+module _ (s : Setting) (fault : IsAnyFault s.fault) (start : ℕ) (w : Words) where
+  -- the tick isn't whole
+  part_of : (one : ℕ) (x : Tick) (h : List Tick) → one < 8 → OthersRun one x.effects →
+      (moment_after s x h).whole ≡ false
+  unfolding doing_after doing_at
+  part_of one x h below others = moment-whole s x.effects x.entry (moments_of s h) ∙ sym (whole_same s x h)
+      ∙ out_told (doing_after s x h) one below others
+
+  -- where one module is left out
+  rest_out : (out : LeavesOneOut s.fault) (h : List Tick) → Follows s.fault start h → KeepsFlow s w h →
+      is_flipped h ≡ false → whole_since_answer (moments_of s h) ≡ true → (w.token ≡ 0) × (w.flow ≡ 255)
+  unfolding moments_of has_just_answered Follows
+  rest_out out [] follows keeps unflipped whole =
+      rest_of w 0 _ whole (keeps.steady unflipped (unfold RanTogether in tt))
+  rest_out out (x ∷ h) follows keeps unflipped whole =
+      elim (cases_lt (start + length h) out.onset) [
+        | inl early ↦ rest_of w (length (x ∷ h)) _ whole
+            (keeps.steady unflipped (early_together s out start (x ∷ h) follows (omega arith)))
+        | inr late ↦ keeps.anew (answered_now (moment_after s x h) (moments_of s h) (part late) whole)
+      ]
+    where
+      part : out.onset ≤ start + length h → (moment_after s x h).whole ≡ false
+      part late = part_of out.one x h out.below
+          (run_as (OthersRun out.one) s start x h follows (out.after (start + length h) late))
+
+  -- where no word was flipped and all ran at each tick since the last answer, token and flow rest
+  pub rests : (h : List Tick) → Follows s.fault start h → KeepsFlow s w h → is_flipped h ≡ false →
+      whole_since_answer (moments_of s h) ≡ true → (w.token ≡ 0) × (w.flow ≡ 255)
+  rests h follows keeps unflipped whole =
+      elim (shape s.fault fault) [
+        | inl together ↦ rest_of w (length h) _ whole
+            (keeps.steady unflipped (whole_together s together start h follows))
+        | inr out ↦ rest_out out h follows keeps unflipped whole
+      ]
+
+-- ---- the theorems ----
+
+-- the words tell of the program flow over every history
+pub keeps_over : (s : Setting) (h : List Tick) → length h < 65536 → TellTrips s h →
+    KeepsFlow s (words_over s h) h
+unfolding words_over TellTrips
+keeps_over s [] small told = keeps_start s
+keeps_over s (x ∷ h) small told =
+    keeps_next s x h (words_over s h) told.0 (omega arith) (keeps_over s h (omega arith) told.1)
+
+pub flow_marks : FlowMarks
+flow_marks s start x h w g = marks s start x h w g
+
+pub answers_hold : AnswersHold
+unfolding TellTrips
+answers_hold s accepted words fault start x h follows small told =
+    marks s start x h (words_over s h)
+    (record {
+      accepted = accepted;
+      fault = fault;
+      follows = follows;
+      short = small;
+      fits = row_fits s accepted x h words;
+      keeps = keeps_over s h (omega arith) told.1;
+      trip = told.0;
+    })
+
+-- a history from power-on has its own faults' effects
+pub length-ticks : (s : Setting) (h : List Entry) → length (ticks s h) ≡ length h
+unfolding ticks
+length-ticks s [] = refl
+length-ticks s (e ∷ h) = ap suc (length-ticks s h)
+
+pub ticks_follow : (s : Setting) (h : List Entry) → Follows s.fault 0 (ticks s h)
+unfolding ticks Follows
+ticks_follow s [] = tt
+ticks_follow s (e ∷ h) = (
+  let same : length h
+      ≡ 0 + length (ticks s h) = (let e = length-ticks s h in omega arith) in
+      ap (effects s.fault) same,
+  ticks_follow s h,
+)
+
+pub answers_hold_from_power_on : AnswersHoldFromPowerOn
+unfolding ticks answer_from_power_on next moments
+answers_hold_from_power_on s accepted words fault e h small told =
+    let x : Tick = record { effects = effects s.fault (length h); entry = e } in
+    ap (λ n. mark_of (number_expected s x.effects n)
+    (answer_at (doing_after s x (ticks s h)) (words_over s (ticks s h)))) (sym (length-ticks s h))
+    ∙ answers_hold s accepted words fault 0 x (ticks s h) (ticks_follow s (e ∷ h))
+    (let same = length-ticks s h in omega arith) told
+
+pub rests_between_answers : RestsBetweenAnswers
+rests_between_answers s fault start h follows small told unflipped whole =
+    rests s fault start (words_over s h) h follows (keeps_over s h small told) unflipped whole

@@ -1,0 +1,102 @@
+-- Which modules run under a valid fault, and which are disturbed.
+use Rattle.std.proofs.Common.{◌≡◌, ℕ, suc, ◌-◌, ◌≤◌, ◌<◌, ◌⊎◌, inl, inr, Bool, true, false, not, refl, sym, ap, subst, ◌∙◌, arith, Option, Some, None}
+use Rattle.std.specs.Prelude.{◌==◌}
+use Rattle.std.proofs.lemmas.Bool.{eq-eqb, ne_eqb, eqb-true, le-leb}
+use Rattle.eg_sensor.specs.declared.readings.Readings.{Readings}
+use Rattle.eg_fault.specs.Effects.{Effects, no_effects}
+use Rattle.eg_fault.specs.Faults.{does, effects, IsValidClass}
+use Rattle.eg_fault.specs.Running.{AllRun, OthersRun, RunsWhole}
+use Rattle.eg_fault.specs.declared.class.Class.{Class}
+use Rattle.eg_fault.specs.declared.class.Class.TheVariants.{Disturb, Skip, Halt, Lapse}
+use Rattle.eg_fault.specs.declared.class.Fault.{Fault}
+use Rattle.eg_fault.proofs.RunningLemmas.{running_law}
+use Rattle.eg_flow.specs.Flow.{AtMostOneIsDisturbed}
+use Rattle.eg_model.specs.History.{Setting}
+use Rattle.eg_model.proofs.ClassLemmas.{Acts, of_effects}
+use Rattle.eg_agree.specs.Doings.{doing_at}
+use Rattle.eg_agree.specs.Replies.{IsAnyFault}
+
+-- ---- the module that is left out ----
+
+itself : (n : ℕ) → (n == n) ≡ true
+itself n = eq-eqb n n refl
+
+one_below : (class : Class) (k : ℕ) → IsValidClass class → (one : ℕ) → OthersRun one (does class k) →
+    one < 8
+unfolding does no_effects IsValidClass
+one_below (Skip index) k valid one others =
+    let same : one ≡ index = go (one == index) refl in
+    omega arith
+  where
+    go : (b : Bool) → (one == index) ≡ b → one ≡ index
+    go true e = eqb-true one index e
+    go false e = absurd (let f : true ≡ false = sym (ap not e) ∙ others one ∙ ap not (itself one) in cc)
+one_below Halt k valid one others =
+    absurd (let f : false ≡ true = others (suc one) ∙ ap not (ne_eqb (suc one) one (λ e. omega arith)) in
+    cc)
+one_below (Lapse after every) k valid one others =
+    absurd (let f : false ≡ true = sym (ap not (itself one)) ∙ sym (others one) ∙ others (suc one)
+    ∙ ap not (ne_eqb (suc one) one (λ e. omega arith)) in cc)
+one_below _ k valid one others = absurd (let f : true ≡ false = others one ∙ ap not (itself one) in cc)
+
+-- one of the eight modules is left out from a tick on, and before it all run
+pub record LeavesOneOut (fault : Option Fault) : Type 0 where
+  pub one : ℕ
+  pub below : one < 8
+  pub onset : ℕ
+  pub before : (tick : ℕ) → tick < onset → AllRun (effects fault tick)
+  pub after : (tick : ℕ) → onset ≤ tick → OthersRun one (effects fault tick)
+
+at_onset : (fault : Fault) → effects (Some fault) fault.onset ≡ does fault.class (fault.onset - fault.onset)
+unfolding effects
+at_onset fault = rw (le-leb fault.onset fault.onset (omega arith)) refl
+
+pub shape : (fault : Option Fault) → IsAnyFault fault → RunsWhole fault ⊎ LeavesOneOut fault
+unfolding IsAnyFault
+shape None valid = inl running_law.0
+shape (Some fault) valid = elim (running_law.1 fault) [
+  | inl whole ↦ inl whole
+  | inr found ↦ inr (record {
+    one = found.0;
+    below = one_below fault.class (fault.onset - fault.onset) valid.1 found.0
+        (subst (OthersRun found.0) (at_onset fault) (found.1.after fault.onset (omega arith)));
+    onset = fault.onset;
+    before = found.1.before;
+    after = found.1.after;
+  })
+]
+
+-- ---- the module that is disturbed ----
+
+-- at most one of them is, whatever else the tick has
+abbrev FewAreDisturbed : Effects → Type 0
+FewAreDisturbed x = (s : Setting) (reads : Readings) (tick : ℕ) →
+    AtMostOneIsDisturbed (doing_at s x reads tick)
+
+none_by : FewAreDisturbed no_effects
+unfolding no_effects doing_at
+none_by s reads tick = inl (λ i. refl)
+
+few_by : (class : Class) (k : ℕ) → IsValidClass class → FewAreDisturbed (does class k)
+unfolding does no_effects doing_at IsValidClass
+few_by (Disturb index mask) k valid s reads tick = inr (record {
+  one = index;
+  mask = mask;
+  from_1 = valid.0;
+  to_5 = valid.1;
+  some = valid.2.0;
+  word = let few = valid.2.1 in omega arith;
+  alone = λ i. refl;
+})
+few_by _ k valid s reads tick = inl (λ i. refl)
+
+valid_acts : (fault : Option Fault) (tick : ℕ) → IsAnyFault fault → (a : Acts fault tick) →
+    IsValidClass a.fault.class
+unfolding IsAnyFault
+valid_acts fault tick valid a = (subst IsAnyFault a.is valid).1
+
+pub few_are_disturbed : (fault : Option Fault) (tick : ℕ) → IsAnyFault fault →
+    FewAreDisturbed (effects fault tick)
+few_are_disturbed fault tick valid =
+    of_effects FewAreDisturbed fault tick none_by
+    (λ a. few_by a.fault.class (tick - a.fault.onset) (valid_acts fault tick valid a))

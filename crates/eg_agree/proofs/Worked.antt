@@ -1,0 +1,106 @@
+-- What the words stand for after some histories with the reference calibration, and the words that eight
+-- modules a tick
+-- make of the start over the same histories: both computed from the definitions alone.
+use Rattle.std.proofs.Common.{◌≡◌, ℕ, false, List, [], ◌∷◌, map, replicate, refl}
+use Rattle.std.specs.Prelude.{if◌then◌else◌, ◌==◌, length, Some, None}
+use Rattle.eg_num.specs.Windows.{greatest_of, greatest}
+use Rattle.eg_num.specs.Counting.{fed, counted}
+use Rattle.eg_values.specs.Reference.{reference_parts}
+use Rattle.eg_fault.specs.Effects.{Effects, no_effects}
+use Rattle.eg_level2.specs.Words.{Words, is_set, start}
+use Rattle.eg_level2.specs.Signals as signal
+use Rattle.eg_level2.specs.Modules as module_of
+use Rattle.eg_flow.specs.Ticks.{inputs_for, after_module, after_modules, after_tick}
+use Rattle.eg_model.specs.Detection.{pedal_bit, load_bit}
+use Rattle.eg_model.specs.History.{Setting, Tick}
+use Rattle.eg_model.specs.Moments.{readings_at, moments_of}
+use Rattle.eg_model.specs.Examples.{idle, at_rest}
+use Rattle.eg_model.proofs.WholeModel.{whole_model}
+use Rattle.eg_agree.specs.Doings.{doing_at}
+use Rattle.eg_agree.specs.Standing.{mirror_found, counter_after, limp_after, trip_after}
+
+-- ticks at which nothing happens, a pedal track reads 1000, a load track reads 0, a word is flipped, or
+-- level 2 is left out
+abbrev setting : Setting
+setting = record { cal = reference_parts; image = idle; fault = None }
+
+abbrev tick : Effects → Tick
+tick x = record {
+  effects = x;
+  entry =
+      record {
+        drive = at_rest;
+        slices = [];
+        shown =
+            record { position = 0; load_1 = 100; load_2 = 100; torque = 0 };
+      };
+}
+
+abbrev reading : ℕ → ℕ → Tick
+reading track value = tick (record no_effects { track = λ i sound. if i == track then value else sound })
+
+abbrev calm : Tick
+calm = tick no_effects
+
+abbrev pedal_off : Tick
+pedal_off = reading 0 1000
+
+abbrev load_off : Tick
+load_off = reading 4 0
+
+abbrev flip : Tick
+flip = tick (record no_effects { flip = Some (3, 1) })
+
+abbrev left_out : Tick
+left_out = tick (record no_effects { ran = λ i. false })
+
+-- two counters, limp and trip, as they stand for a history, newest first
+abbrev standing : List Tick → List ℕ
+standing h =
+    let past = moments_of setting h in
+    counter_after reference_parts.rules.pair pedal_bit past ∷ counter_after reference_parts.rules.pair load_bit past ∷ limp_after past ∷ trip_after past ∷ []
+
+-- the words after it, by eight modules a tick
+words_after : List Tick → Words
+words_after [] = start
+words_after (x ∷ h) = after_tick (doing_at setting x.effects (readings_at x.effects x.entry) (length h))
+    (words_after h)
+
+abbrev holding : Words → List ℕ
+holding w = w.pedal_counter ∷ w.load_counter ∷ w.limp ∷ w.trip ∷ []
+
+-- every definition of the eight modules that these words go through
+modules : ℕ
+unfolding start is_set doing_at inputs_for after_module after_modules after_tick module_of.module_step module_of.check_step module_of.given_up module_of.written module_of.pedal_step module_of.permitted_step module_of.actual_step module_of.excess_step module_of.pairs_step module_of.has_bit module_of.pedal_bit module_of.plate_bit module_of.load_bit module_of.speed_bit module_of.torque_bit module_of.counted module_of.is_found module_of.debounced module_of.limits module_of.trips module_of.debounce_step module_of.react_step signal.pedal_signal signal.permitted_signal signal.actual_signal signal.excess_signal signal.pairs_signal fed
+modules = 0
+
+-- the histories: up 2, down 1, limit 10
+abbrev histories : List (List Tick)
+histories =
+    (load_off ∷ calm ∷ load_off ∷ load_off ∷ [])
+    ∷ (left_out ∷ replicate 3 load_off)
+    ∷ (replicate 5 load_off)
+    ∷ (calm ∷ calm ∷ replicate 5 load_off)
+    ∷ (calm ∷ calm ∷ replicate 5 pedal_off)
+    ∷ (flip ∷ replicate 5 pedal_off)
+    ∷ (pedal_off ∷ flip ∷ replicate 4 pedal_off)
+    ∷ []
+
+abbrev expected : List (List ℕ)
+expected =
+    (0 ∷ 5 ∷ 0 ∷ 0 ∷ [])
+    ∷ (0 ∷ 6 ∷ 0 ∷ 0 ∷ [])
+    ∷ (0 ∷ 10 ∷ 0 ∷ 1 ∷ [])
+    ∷ (0 ∷ 10 ∷ 0 ∷ 1 ∷ [])
+    ∷ (10 ∷ 0 ∷ 1 ∷ 0 ∷ [])
+    ∷ (0 ∷ 0 ∷ 0 ∷ 1 ∷ [])
+    ∷ (0 ∷ 0 ∷ 0 ∷ 1 ∷ [])
+    ∷ []
+
+stands : map standing histories ≡ expected
+unfolding whole_model mirror_found counter_after limp_after trip_after counted greatest greatest_of
+stands = refl
+
+holds : map (λ h. holding (words_after h)) histories ≡ expected
+unfolding whole_model words_after modules
+holds = refl

@@ -1,0 +1,5 @@
+pub mod Doings
+pub mod Standing
+pub mod Ticking
+pub mod Replies
+pub mod Agreement

@@ -1,0 +1,168 @@
+-- What level 2 answers over a history, against the answers of the model: its modules run one after another,
+-- from the start on, and the number that it sends is compared with the number that the monitoring module
+-- expects.
+use Rattle.std.specs.Prelude.{◌≡◌, ℕ, ◌^◌, ◌<◌, ◌==◌, ◌⊎◌, Bool, true, false, is_some, List, [], ◌∷◌, length, All, Option, Some, None, if◌then◌else◌}
+use Rattle.std.specs.List.{list_any}
+use Rattle.eg_answer.specs.Answers.{answer_number}
+use Rattle.eg_answer.specs.Questions.{question_at}
+use Rattle.eg_answer.specs.declared.marks.AnswerMark.{AnswerMark}
+use Rattle.eg_answer.specs.declared.marks.AnswerMark.TheVariants.{Absent, Good, Bad}
+use Rattle.eg_values.specs.Calibration.{CalibrationParts, IsAccepted}
+use Rattle.eg_level2.specs.Words.{Words, is_set, start}
+use Rattle.eg_fault.specs.Effects.{Effects, asked_at}
+use Rattle.eg_fault.specs.Faults.{effects, IsValid}
+use Rattle.eg_fault.specs.Running.{AllRun, NoneRuns}
+use Rattle.eg_fault.specs.declared.class.Fault.{Fault}
+use Rattle.eg_flow.specs.Ticks.{Doing, after_tick, answer_at}
+use Rattle.eg_flow.specs.Flow.{row_asked, FitsWords, IsSteady}
+use Rattle.eg_flow.specs.Laws.{at_react}
+use Rattle.eg_model.specs.History.{Setting, Entry, Tick, Moment}
+use Rattle.eg_model.specs.Signals.{tripped}
+use Rattle.eg_model.specs.Answers.{is_answer, whole_since_answer}
+use Rattle.eg_model.specs.Premises.{Follows}
+use Rattle.eg_model.specs.Moments.{readings_at, moment, moments_of, ticks, next}
+use Rattle.eg_agree.specs.Doings.{doing_at}
+
+-- ---- level 2 over a history, newest first ----
+
+-- what level 2 meets at tick x, which comes after these
+unfoldable pub doing_after : Setting → Tick → List Tick → Doing
+doing_after s x before = doing_at s x.effects (readings_at x.effects x.entry) (length before)
+
+-- its words after these ticks, from the start on
+unfoldable pub words_over : Setting → List Tick → Words
+words_over s [] = start
+words_over s (x ∷ before) = after_tick (doing_after s x before) (words_over s before)
+
+-- what it sends at the tick of an entry that comes after a history from power-on, if anything
+unfoldable pub answer_from_power_on : Setting → Entry → List Entry → Option ℕ
+answer_from_power_on s e h =
+    let x : Tick = record { effects = effects s.fault (length h); entry = e } in
+    answer_at (doing_after s x (ticks s h)) (words_over s (ticks s h))
+
+-- the moment of tick x
+abbrev pub moment_after : Setting → Tick → List Tick → Moment
+moment_after s x before = moment s x.effects x.entry (moments_of s before)
+
+-- ---- what is expected, and what is heard ----
+
+-- the number that is expected to be heard at a tick: that of the question that is asked, whoever asks
+unfoldable pub number_expected : Setting → Effects → ℕ → ℕ
+number_expected s x tick =
+    answer_number (question_at s.cal.questions (asked_at x s.cal.times (length s.cal.questions) tick)).answer
+
+-- the mark of what is heard, where this number is expected
+unfoldable pub mark_of : ℕ → Option ℕ → AnswerMark
+mark_of expected None = Absent
+mark_of expected (Some number) = if number == expected then Good else Bad
+
+-- ---- what the theorems ask for ----
+
+-- The seeds of the questions, and the values of the permit table, are words of 16 bits.
+pub record HasWords (c : CalibrationParts) : Type 0 where
+  pub seeds : All (λ question. question.row.seed < 2 ^ 16) c.questions
+  pub values : All (λ value. value < 2 ^ 16) c.rules.permit.values
+
+-- no fault, or a valid one of any class, lapses too
+unfoldable pub IsAnyFault : Option Fault → Type 0
+IsAnyFault None = Unit {0}
+IsAnyFault (Some fault) = IsValid fault
+
+-- As react begins at tick x, the word for the trip tells whether a trip came by this tick.
+abbrev pub TellsTrip : Setting → Words → Tick → List Tick → Type 0
+TellsTrip s words x before =
+    is_set (at_react (doing_after s x before) words).trip
+    ≡ tripped (moment_after s x before ∷ moments_of s before)
+
+-- it is so at each of these ticks
+unfoldable pub TellTrips : Setting → List Tick → Type 0
+TellTrips s [] = Unit {0}
+TellTrips s (x ∷ before) = TellsTrip s (words_over s before) x before × TellTrips s before
+
+-- ---- what the token, the flow and the last tick stand for ----
+
+-- a word was flipped at one of these ticks
+unfoldable pub is_flipped : List Tick → Bool
+is_flipped h = list_any (λ x. is_some x.effects.flip) h
+
+-- at each of them all modules ran or none did
+unfoldable pub RanTogether : List Tick → Type 0
+RanTogether [] = Unit {0}
+RanTogether (x ∷ before) = (AllRun x.effects ⊎ NoneRuns x.effects) × RanTogether before
+
+-- at each of them react ran
+unfoldable pub ReactRan : List Tick → Type 0
+ReactRan [] = Unit {0}
+ReactRan (x ∷ before) = (x.effects.ran 7 ≡ true) × ReactRan before
+
+-- the last of them had an answer
+unfoldable pub has_just_answered : List Moment → Bool
+has_just_answered [] = false
+has_just_answered (m ∷ past) = is_answer m.mark
+
+-- The words tell of the program flow over the ticks h: they are steady where the modules ran together and no
+-- word was flipped; the token rests at 0 where react always ran; and just after an answer the token and the
+-- flow begin anew.
+pub record KeepsFlow (s : Setting) (words : Words) (h : List Tick) : Type 0 where
+  pub steady : is_flipped h ≡ false → RanTogether h →
+      IsSteady (length h) (whole_since_answer (moments_of s h)) words
+  pub token : ReactRan h → words.token ≡ 0
+  pub anew : has_just_answered (moments_of s h) ≡ true → (words.token ≡ 0) × (words.flow ≡ 0x00ff)
+
+-- ---- one tick ----
+
+-- It is so at the start, and a tick keeps it, whatever runs.
+abbrev pub FlowBegins : Type 0
+FlowBegins = (s : Setting) → KeepsFlow s start []
+
+abbrev pub FlowIsKept : Type 0
+FlowIsKept =
+    (s : Setting) (x : Tick) (h : List Tick) (words : Words) → TellsTrip s words x h → length h < 65535 →
+    KeepsFlow s words h → KeepsFlow s (after_tick (doing_after s x h) words) (x ∷ h)
+
+-- The words are ready for tick x, which comes after h in a history from tick `begin` of the run on: all that
+-- the theorem asks for at one tick.
+pub record IsReady (s : Setting) (begin : ℕ) (x : Tick) (h : List Tick) (words : Words) : Type 0 where
+  pub accepted : IsAccepted s.cal
+  pub fault : IsAnyFault s.fault
+  pub follows : Follows s.fault begin (x ∷ h)
+  pub short : length h < 65535
+  pub fits : FitsWords s.cal.rules (row_asked (doing_after s x h))
+  pub keeps : KeepsFlow s words h
+  pub trip : TellsTrip s words x h
+
+-- What level 2 sends at a tick, if anything, has the mark of the model's tick.
+abbrev pub FlowMarks : Type 0
+FlowMarks =
+    (s : Setting) (begin : ℕ) (x : Tick) (h : List Tick) (words : Words) → IsReady s begin x h words →
+    mark_of (number_expected s x.effects (length h)) (answer_at (doing_after s x h) words)
+    ≡ (moment_after s x h).mark
+
+-- ---- whole histories ----
+
+-- Let the calibration be an accepted one, of words, and the fault any valid one or none. At each tick x of a
+-- history from tick `begin` of the run on, what level 2 sends has the mark of the model's tick: Absent where
+-- it sends nothing, Good where it sends the number that is expected, else Bad.
+abbrev pub AnswersHold : Type 0
+AnswersHold =
+    (s : Setting) → IsAccepted s.cal → HasWords s.cal → IsAnyFault s.fault →
+    (begin : ℕ) (x : Tick) (h : List Tick) → Follows s.fault begin (x ∷ h) → length h < 65535 →
+    TellTrips s (x ∷ h) →
+    mark_of (number_expected s x.effects (length h)) (answer_at (doing_after s x h) (words_over s h))
+    ≡ (moment_after s x h).mark
+
+-- the same over the histories from power-on
+abbrev pub AnswersHoldFromPowerOn : Type 0
+AnswersHoldFromPowerOn =
+    (s : Setting) → IsAccepted s.cal → HasWords s.cal → IsAnyFault s.fault →
+    (e : Entry) (h : List Entry) → length h < 65535 → TellTrips s (ticks s (e ∷ h)) →
+    mark_of (number_expected s (effects s.fault (length h)) (length h)) (answer_from_power_on s e h)
+    ≡ (next s e h).mark
+
+-- After a history in which no word was flipped, and all eight modules ran at each tick since the last answer,
+-- the token is 0 and the flow is unmarked.
+abbrev pub RestsBetweenAnswers : Type 0
+RestsBetweenAnswers =
+    (s : Setting) → IsAnyFault s.fault → (begin : ℕ) (h : List Tick) → Follows s.fault begin h →
+    length h < 65536 → TellTrips s h → is_flipped h ≡ false → whole_since_answer (moments_of s h) ≡ true →
+    ((words_over s h).token ≡ 0) × ((words_over s h).flow ≡ 0x00ff)

@@ -1,0 +1,109 @@
+-- The program flow of level 2 over its ticks: which modules run, whether one is disturbed, which number a
+-- right answer is, and what the token, the flow and the last tick tell between two ticks.
+use Rattle.std.specs.Prelude.{◌≡◌, ℕ, ◌+◌, ◌%◌, ◌^◌, ◌≤◌, ◌<◌, ◌==◌, ◌⊎◌, Bool, true, false, not, ◌&&◌, ◌||◌, is_some, List, [], ◌∷◌, length, All, if◌then◌else◌}
+use Rattle.std.specs.List.{list_all}
+use Rattle.eg_answer.specs.Answers.{results_of, expected_of, answer_number}
+use Rattle.eg_answer.specs.declared.rules.Rules.{Rules}
+use Rattle.eg_answer.specs.declared.rules.TestRow.{TestRow}
+use Rattle.eg_level2.specs.Words.{Words}
+use Rattle.eg_level2.specs.Inputs.{row_of}
+use Rattle.eg_flow.specs.Ticks.{Doing, after_tick, answer_at}
+
+-- ---- which modules run at a tick ----
+
+abbrev pub AllRun : Doing → Type 0
+AllRun d = (i : ℕ) → d.ran i ≡ true
+
+abbrev pub NoneRuns : Doing → Type 0
+NoneRuns d = (i : ℕ) → d.ran i ≡ false
+
+abbrev pub OthersRun : ℕ → Doing → Type 0
+OthersRun one d = (i : ℕ) → d.ran i ≡ not (i == one)
+
+-- the modules before react
+unfoldable pub modules_before_react : List ℕ
+modules_before_react = 0 ∷ 1 ∷ 2 ∷ 3 ∷ 4 ∷ 5 ∷ 6 ∷ []
+
+-- all eight of them
+unfoldable pub modules : List ℕ
+modules = 0 ∷ 1 ∷ 2 ∷ 3 ∷ 4 ∷ 5 ∷ 6 ∷ 7 ∷ []
+
+-- whether all eight run
+unfoldable pub is_whole : Doing → Bool
+is_whole d = list_all (λ i. d.ran i) modules
+
+-- ---- the question, and disturbances ----
+
+-- the row of the question that is asked
+unfoldable pub row_asked : Doing → TestRow
+row_asked d = row_of d.questions d.asked
+
+-- its answer, and the number that is expected to be heard
+unfoldable pub expected_fold : Doing → ℕ
+expected_fold d = expected_of d.rules (row_asked d)
+
+unfoldable pub expected_number : Doing → ℕ
+expected_number d = answer_number (expected_fold d)
+
+-- the seed of a row, and its five results, fit into words of 16 bits
+pub record FitsWords (rules : Rules) (row : TestRow) : Type 0 where
+  pub seed : row.seed < 2 ^ 16
+  pub results : All (λ result. result < 2 ^ 16) (results_of rules row)
+
+-- no module is disturbed
+abbrev pub NoneIsDisturbed : Doing → Type 0
+NoneIsDisturbed d = (i : ℕ) → d.disturbance i ≡ 0
+
+-- one of the modules 1 to 5 is, by some of the 16 bits, and no other
+pub record OneIsDisturbed (d : Doing) : Type 0 where
+  pub one : ℕ
+  pub mask : ℕ
+  pub from_1 : 1 ≤ one
+  pub to_5 : one ≤ 5
+  pub some : 1 ≤ mask
+  pub word : mask < 2 ^ 16
+  pub alone : (i : ℕ) → d.disturbance i ≡ (if i == one then mask else 0)
+
+abbrev pub AtMostOneIsDisturbed : Doing → Type 0
+AtMostOneIsDisturbed d = NoneIsDisturbed d ⊎ OneIsDisturbed d
+
+-- whether none of the eight is
+unfoldable pub is_undisturbed : Doing → Bool
+is_undisturbed d = list_all (λ i. d.disturbance i == 0) modules
+
+-- ---- over many ticks, newest first ----
+
+-- the ticks are numbered from 0 on
+unfoldable pub AreInOrder : List Doing → Type 0
+AreInOrder [] = Unit {0}
+AreInOrder (d ∷ before) = (d.tick ≡ length before) × AreInOrder before
+
+-- at each of them all eight modules run or none does, and no word differs from its complement
+unfoldable pub AreTogether : List Doing → Type 0
+AreTogether [] = Unit {0}
+AreTogether (d ∷ before) = (AllRun d ⊎ NoneRuns d) × (d.differs ≡ false) × AreTogether before
+
+-- the words after them
+unfoldable pub words_after : Words → List Doing → Words
+words_after words [] = words
+words_after words (d ∷ before) = after_tick d (words_after words before)
+
+-- After a tick: all eight modules ran at each tick since the last answer. A tick that sends one begins anew.
+unfoldable pub whole_after : Doing → Words → Bool → Bool
+whole_after d words whole = is_some (answer_at d words) || (is_whole d && whole)
+
+-- the same after all of these ticks
+unfoldable pub whole_since : Words → List Doing → Bool
+whole_since words [] = true
+whole_since words (d ∷ before) = whole_after d (words_after words before) (whole_since words before)
+
+-- ---- what the words tell between two ticks ----
+
+-- Steady words, after so many ticks (`made`). The token rests at 0. The flow is unmarked or marked. Module 0
+-- ran last at one of those ticks, or at none so far. And the flow is unmarked, and module 0 ran at the very
+-- last of them, exactly where all eight modules ran at each tick since the last answer (`whole`).
+pub record IsSteady (made : ℕ) (whole : Bool) (words : Words) : Type 0 where
+  pub token : words.token ≡ 0
+  pub flow : (words.flow ≡ 0x00ff) ⊎ (words.flow ≡ 0x80ff)
+  pub near : (words.last + 1) % 65536 ≤ made
+  pub tells : (words.flow == 0x00ff && (words.last + 1) % 65536 == made) ≡ whole
