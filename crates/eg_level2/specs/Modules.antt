@@ -62,6 +62,7 @@ written words signal disturbance = if is_set words.trip then 0 else bit_xor sign
 unfoldable pub signed : Words → ℕ → ℕ → ℕ
 signed words result disturbance = bit_xor (mixed words.sign result) disturbance
 
+-- module 1, pedal
 unfoldable pub pedal_step : Readings → TestRow → ℕ → Words → Words
 pedal_step readings row disturbance words = record words {
   pedal = written words (pedal_signal readings words) disturbance;
@@ -69,6 +70,7 @@ pedal_step readings row disturbance words = record words {
   sign = signed words (pedal_result row) disturbance;
 }
 
+-- module 2, permitted torque, in tenths of Nm
 unfoldable pub permitted_step : Rules → Readings → TestRow → ℕ → Words → Words
 permitted_step rules readings row disturbance words = record words {
   permitted = written words (permitted_signal rules readings words) disturbance;
@@ -76,6 +78,7 @@ permitted_step rules readings row disturbance words = record words {
   sign = signed words (permitted_result rules row) disturbance;
 }
 
+-- module 3, actual torque, in tenths of Nm
 unfoldable pub actual_step : Rules → Readings → TestRow → ℕ → Words → Words
 actual_step rules readings row disturbance words = record words {
   actual = written words (actual_signal rules readings) disturbance;
@@ -83,6 +86,7 @@ actual_step rules readings row disturbance words = record words {
   sign = signed words (estimate_result rules row) disturbance;
 }
 
+-- module 4, excess
 unfoldable pub excess_step : Rules → TestRow → ℕ → Words → Words
 excess_step rules row disturbance words = record words {
   excess = written words (excess_signal rules words) disturbance;
@@ -90,6 +94,7 @@ excess_step rules row disturbance words = record words {
   sign = signed words (excess_result rules row) disturbance;
 }
 
+-- module 5, pairs of sensors
 unfoldable pub pairs_step : Rules → Readings → TestRow → ℕ → Words → Words
 pairs_step rules readings row disturbance words = record words {
   pairs = written words (pairs_signal rules readings) disturbance;
@@ -103,7 +108,8 @@ pairs_step rules readings row disturbance words = record words {
 unfoldable pub has_bit : ℕ → ℕ → Bool
 has_bit size word = word / size % 2 == 1
 
--- what is fed: the bits of the pairs, and that of the excess
+-- What is fed: bits 0 to 3 of the pairs for pedal, plate, load and speed, and bit 0 of the excess for the
+-- torque. Other bits don't count.
 unfoldable pub pedal_bit : Words → Bool
 pedal_bit words = has_bit 1 words.pairs
 
@@ -140,13 +146,15 @@ debounced rules words = record {
   answers = false;
 }
 
--- a pedal that is found limits the operation, and each of the other four trips the unit
+-- a pedal that is found limits the operation,
 unfoldable pub limits : Watches → Bool
 limits found = found.pedal
 
+-- and each of the other four trips the unit
 unfoldable pub trips : Watches → Bool
 trips found = found.plate || found.load || found.speed || found.torque
 
+-- It feeds the counters, sets limp and trip by what is found, and moves the token.
 unfoldable pub debounce_step : Rules → Words → Words
 debounce_step rules words = record words {
   pedal_counter = counted words rules.pair words.pedal_counter (pedal_bit words);
@@ -208,7 +216,7 @@ answer_after inputs number words = if number == 7 then answer_of inputs.sends wo
 unfoldable pub order_after : ℕ → Words → Bool
 order_after number words = number == 7 && is_set words.trip
 
--- no watch, and that of the mirrored words alone
+-- no watch,
 unfoldable pub no_watches : Watches
 no_watches = record {
   mirror = false;
@@ -220,6 +228,7 @@ no_watches = record {
   answers = false;
 }
 
+-- and that of the mirrored words alone
 unfoldable pub mirror_alone : Watches
 mirror_alone = record no_watches { mirror = true }
 
@@ -235,9 +244,10 @@ step_of inputs number words = record {
   found = found_by inputs number words;
 }
 
--- a run that finds these watches, and no more; and one that doesn't find any
+-- a run that finds these watches and does no more,
 abbrev pub finding : Watches → Step
 finding found = record { open_path = false; answer = None; found = found }
 
+-- and one that finds none
 abbrev pub quiet_step : Step
 quiet_step = finding no_watches

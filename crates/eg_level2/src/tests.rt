@@ -1,5 +1,4 @@
 // Level 2 over both memories: ticks that were worked by hand, and want of memory.
-
 use crate::{Level2, Step, Watches};
 use eg_answer::{Questions, Rules, TestRow};
 use eg_base::NoMemory;
