@@ -241,13 +241,11 @@ fn refuses_calibrations_by_name(rt: HostRuntime) -> Result<(), Fail> {
             &refused(fault, note),
         )?;
     }
-    shows(
-        &rt,
-        rt.alloc(),
-        line,
-        &[255],
-        &refused(CalFault::Text, b"cal.toml: not TOML\n"),
-    )
+    let mut file = Vec::new(rt.alloc());
+    file.extend_from_slice(REFERENCE.as_bytes())?;
+    file.push(255)?;
+    let text = refused(CalFault::Text, b"cal.toml: not TOML\n");
+    shows(&rt, rt.alloc(), line, &file, &text)
 }
 
 #[test]
@@ -276,6 +274,35 @@ fn names_the_file_that_is_missing(rt: HostRuntime) -> Result<(), Fail> {
             note,
         };
         shows(&rt, rt.alloc(), line, REFERENCE.as_bytes(), &wanted)?;
+    }
+    Ok(())
+}
+
+/// The store counts its faults together: where it isn't sure, no clause says which of the two reads met one.
+#[test]
+fn tells_which_read_failed(rt: HostRuntime) -> Result<(), Fail> {
+    let alloc = rt.alloc();
+    let words = words(alloc, "check --cal cal.toml in.csv")?;
+    let check_file = check_file(alloc, "0,800,0,401\n")?;
+    let rows: [(u32, Role, &'static [u8]); 2] = [
+        (0, Role::Calibration, b"cannot read cal.toml\n"),
+        (1, Role::Check, b"cannot read in.csv\n"),
+    ];
+    for (number, file, note) in rows {
+        let mut store = MemoryStore::new(alloc);
+        let mut out = MemorySink::new(alloc);
+        let mut notes = MemorySink::new(alloc);
+        store
+            .add("cal.toml", REFERENCE.as_bytes())
+            .expect(&rt, "memory");
+        store
+            .add("in.csv", check_file.as_bytes())
+            .expect(&rt, "memory");
+        store.fail_at(number).expect(&rt, "memory");
+        let outcome = egasim(alloc, &words, &mut store, &mut out, &mut notes);
+        assert_eq!(rt; outcome, Outcome::ReadFault { file });
+        assert!(rt; out.bytes().is_empty());
+        assert_eq!(rt; notes.bytes(), note);
     }
     Ok(())
 }

@@ -2,6 +2,7 @@
 // failing note changes no outcome.
 use crate::{Outcome, Refusal, Role, egasim};
 use eg_base::{MemorySink, MemoryStore, SureSink, SureStore};
+use eg_cal::CalFault;
 use eg_input::TraceFault;
 use std::alloc::Global;
 use std::process::Abort;
@@ -247,7 +248,7 @@ fn works_over_a_sure_store_and_output(rt: HostRuntime) -> Result<(), Fail> {
     Ok(())
 }
 
-/// A file of so many bytes that is no check file.
+/// A file of so many bytes that is neither a check file nor a calibration.
 fn long_file(alloc: Global, length: usize) -> Result<Vec<u8>, Fail> {
     let mut file = Vec::new(alloc);
     for _ in 0..length {
@@ -256,22 +257,42 @@ fn long_file(alloc: Global, length: usize) -> Result<Vec<u8>, Fail> {
     Ok(file)
 }
 
+/// Asserts that a call with these words refuses its file, `in.csv`, for this.
+fn refuses(
+    rt: &impl Abort,
+    alloc: Global,
+    line: &str,
+    store: &mut MemoryStore,
+    refusal: Refusal,
+) -> Result<(), Fail> {
+    let words = words(alloc, line)?;
+    let mut out = MemorySink::new(alloc);
+    let mut notes = MemorySink::new(alloc);
+    let outcome = egasim(alloc, &words, store, &mut out, &mut notes);
+    assert_eq!(rt; outcome, Outcome::Refused(refusal), "{line}");
+    assert!(rt; out.bytes().is_empty());
+    assert!(rt; notes.bytes().starts_with(b"in.csv: "));
+    Ok(())
+}
+
 #[test]
 fn refuses_a_file_that_is_too_long(rt: HostRuntime) -> Result<(), Fail> {
     let alloc = rt.alloc();
-    let words = words(alloc, "check in.csv")?;
-    let size = Outcome::Refused(Refusal::Size { file: Role::Check });
-    let header = Outcome::Refused(Refusal::Check(TraceFault::Header));
-    for (length, wanted) in [(4_194_305, size), (4_194_304, header)] {
+    let header = Refusal::Check(TraceFault::Header);
+    let text = Refusal::Calibration(CalFault::Text);
+    let long_check = Refusal::Size { file: Role::Check };
+    let long_calibration = Refusal::Size {
+        file: Role::Calibration,
+    };
+    for (length, check, calibration) in [
+        (4_194_305, long_check, long_calibration),
+        (4_194_304, header, text),
+    ] {
         let file = long_file(alloc, length)?;
         let mut store = MemoryStore::new(alloc);
-        let mut out = MemorySink::new(alloc);
-        let mut notes = MemorySink::new(alloc);
         store.add("in.csv", &file).expect(&rt, "memory");
-        let outcome = egasim(alloc, &words, &mut store, &mut out, &mut notes);
-        assert_eq!(rt; outcome, wanted);
-        assert!(rt; out.bytes().is_empty());
-        assert!(rt; notes.bytes().starts_with(b"in.csv: "));
+        refuses(&rt, alloc, "check in.csv", &mut store, check)?;
+        refuses(&rt, alloc, "bound --cal in.csv", &mut store, calibration)?;
     }
     Ok(())
 }

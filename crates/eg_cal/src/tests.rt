@@ -92,7 +92,7 @@ type Broken = (&'static str, &'static str, CalKey);
 
 /// Files with a fault of a key. The last three have two faults, of which the first in the order of the keys,
 /// or the key rather than what comes after the keys, counts.
-const BROKEN_KEYS: [Broken; 68] = [
+const BROKEN_KEYS: [Broken; 69] = [
     ("version = 1\n", "", K::Version),
     ("version = 1", "version = 2", K::Version),
     ("version = 1", "version = true", K::Version),
@@ -111,6 +111,11 @@ const BROKEN_KEYS: [Broken; 68] = [
     ("6000]", "8001]", K::PermitSpeed),
     ("[200, 100, 0], ", "", K::PermitTable),
     ("[200, 100, 0]", "[200, 100]", K::PermitTable),
+    (
+        "[[200, 100, 0], [1000, 1200, 900], [2000, 2400, 1800]]",
+        "[]",
+        K::PermitTable,
+    ),
     ("2400, 1800", "2400, 10001", K::PermitTable),
     ("threshold = 200", "threshold = 10001", K::PermitThreshold),
     ("threshold = 200", "threshold = -1", K::PermitThreshold),
@@ -233,9 +238,33 @@ const BROKEN_ELSEWHERE: [(&str, &str, CalFault); 11] = [
     ),
 ];
 
-/// The reference file with something else at one place.
-fn broken(alloc: Global, place: &str, instead: &str) -> Result<String, Fail> {
-    let (before, after) = REFERENCE.split_once(place).ok_or("no such place")?;
+/// A place of a file, and what stands there instead.
+type Change = (&'static str, &'static str);
+
+/// Files with two faults that aren't both of keys, and the fault that counts.
+const BROKEN_TWICE: [(Change, Change, CalFault); 3] = [
+    (
+        ("[0, 500, 1000]", "[500, 0, 1000]"),
+        ("speed = [800, 3000, 6000]\n", ""),
+        CalFault::Axis {
+            key: K::PermitPedal,
+        },
+    ),
+    (
+        ("[1000, 1200, 900]", "[199, 1200, 900]"),
+        ("send = 5", "send = 3"),
+        CalFault::Rising { row: 1 },
+    ),
+    (
+        ("send = 5", "send = 3"),
+        ("answer = 8842", "answer = 8843"),
+        CalFault::Window,
+    ),
+];
+
+/// The text with something else at one place.
+fn changed(alloc: Global, text: &str, place: &str, instead: &str) -> Result<String, Fail> {
+    let (before, after) = text.split_once(place).ok_or("no such place")?;
     Ok(format!(in alloc; "{before}{instead}{after}")?)
 }
 
@@ -243,11 +272,11 @@ fn broken(alloc: Global, place: &str, instead: &str) -> Result<String, Fail> {
 fn refuses(
     rt: &impl Abort,
     alloc: Global,
-    place: &str,
-    instead: &str,
+    file: &str,
+    (place, instead): (&str, &str),
     fault: CalFault,
 ) -> Result<(), Fail> {
-    let text = broken(alloc, place, instead)?;
+    let text = changed(alloc, file, place, instead)?;
     let refused = read_calibration(alloc, text.as_bytes()).err();
     assert_eq!(rt; refused, Some(fault), "{text}");
     Ok(())
@@ -256,13 +285,24 @@ fn refuses(
 #[test]
 fn the_first_rule_that_is_broken_is_named(rt: HostRuntime) -> Result<(), Fail> {
     for (place, instead, key) in BROKEN_KEYS {
-        refuses(&rt, rt.alloc(), place, instead, CalFault::Key { key })?;
+        let fault = CalFault::Key { key };
+        refuses(&rt, rt.alloc(), REFERENCE, (place, instead), fault)?;
     }
     for (place, instead, key) in BROKEN_AXES {
-        refuses(&rt, rt.alloc(), place, instead, CalFault::Axis { key })?;
+        let fault = CalFault::Axis { key };
+        refuses(&rt, rt.alloc(), REFERENCE, (place, instead), fault)?;
     }
     for (place, instead, fault) in BROKEN_ELSEWHERE {
-        refuses(&rt, rt.alloc(), place, instead, fault)?;
+        refuses(&rt, rt.alloc(), REFERENCE, (place, instead), fault)?;
+    }
+    Ok(())
+}
+
+#[test]
+fn the_first_of_two_broken_rules_is_named(rt: HostRuntime) -> Result<(), Fail> {
+    for ((place, instead), second, fault) in BROKEN_TWICE {
+        let file = changed(rt.alloc(), REFERENCE, place, instead)?;
+        refuses(&rt, rt.alloc(), file.as_str(), second, fault)?;
     }
     Ok(())
 }
@@ -290,7 +330,9 @@ fn two_to_64_questions_are_accepted(rt: HostRuntime) -> Result<(), Fail> {
         let read = read_calibration(rt.alloc(), text.as_bytes());
         assert_eq!(rt; read.err(), refused, "{count}");
     }
-    Ok(())
+    let empty = ("version = 1", "version = 1\nquestion = []");
+    let fault = CalFault::Key { key: K::Question };
+    refuses(&rt, rt.alloc(), head, empty, fault)
 }
 
 #[test]
