@@ -1,14 +1,98 @@
 -- Level 2 and the model agree over whole runs.
-use Rattle.std.proofs.Common.{◌∷◌}
+use Rattle.std.proofs.Common.{◌≡◌, ℕ, Bool, true, false, List, [], ◌∷◌, length, refl, ap, ◌∙◌}
+use Rattle.std.specs.Prelude.{if◌then◌else◌}
+use Rattle.eg_level2.specs.Words.{Words, start}
+use Rattle.eg_level2.specs.Inputs.{Inputs}
+use Rattle.eg_level2.specs.Modules.{check_step, given_up, pedal_step, permitted_step, actual_step, excess_step, pairs_step, debounce_step, react_step, module_step}
+use Rattle.eg_flow.specs.Ticks.{Doing, inputs_for, after_module, after_modules, after_tick}
+use Rattle.eg_model.specs.History.{Setting, Tick}
 use Rattle.eg_model.specs.Moments.{ticks}
-use Rattle.eg_agree.specs.Agreement.{WordsStand, EachAnswerHolds}
-use Rattle.eg_agree.proofs.ReplyLaws.{ticks_follow, answers_hold_from_power_on}
+use Rattle.eg_agree.specs.Doings.{doing_at}
+use Rattle.eg_agree.specs.Replies.{doing_after, words_over}
+use Rattle.eg_agree.specs.Agreement.{WordsStand, EachAnswerHolds, EachAnswerHoldsFromPowerOn, WordsRest, last_check, LastChecksStand, LastCheckIsKept}
+use Rattle.eg_agree.proofs.ReplyLaws.{ticks_follow, answers_hold, answers_hold_from_power_on, rests_between_answers}
 use Rattle.eg_agree.proofs.TripTellings.{words-keep, tell_trips}
 
 pub words_stand : WordsStand
 words_stand s accepted begin h follows = words-keep s accepted begin h follows
 
 pub each_answer_holds : EachAnswerHolds
-each_answer_holds s accepted words fault e h short =
+each_answer_holds s accepted words fault begin x h follows short =
+    answers_hold s accepted words fault begin x h follows short
+    (tell_trips s accepted begin (x ∷ h) follows)
+
+pub each_answer_holds_from_power_on : EachAnswerHoldsFromPowerOn
+each_answer_holds_from_power_on s accepted words fault e h short =
     answers_hold_from_power_on s accepted words fault e h short
     (tell_trips s accepted 0 (ticks s (e ∷ h)) (ticks_follow s (e ∷ h)))
+
+pub words_rest : WordsRest
+words_rest s accepted fault begin h follows short =
+    rests_between_answers s fault begin h follows short (tell_trips s accepted begin h follows)
+
+-- ---- the last tick of check ----
+
+-- check notes its tick
+checked_last : (d : Doing) (w : Words) → (after_module d 0 w).last ≡ (if d.ran 0 then d.tick else w.last)
+unfolding after_module module_step check_step given_up inputs_for
+checked_last d w = go (d.ran 0) d.differs
+  where
+    go : (r f : Bool) → (if r then
+        (if f then given_up d.tick else module_step (inputs_for d 0) 0 w) else w).last
+        ≡ (if r then d.tick else w.last)
+    go true true = refl
+    go true false = refl
+    go false f = refl
+
+-- no other module changes it
+kept_last : (d : Doing) (i : ℕ) (w : Words) → (module_step (inputs_for d i) i w).last ≡ w.last →
+    (if d.ran i then module_step (inputs_for d i) i w else w).last ≡ w.last
+kept_last d i w same = go (d.ran i)
+  where
+    go : (r : Bool) → (if r then module_step (inputs_for d i) i w else w).last ≡ w.last
+    go true = same
+    go false = refl
+
+module _ (d : Doing) (w : Words) where
+  last-1 : (after_module d 1 w).last ≡ w.last
+  unfolding after_module
+  last-1 = kept_last d 1 w (unfold module_step pedal_step inputs_for in refl)
+
+  last-2 : (after_module d 2 w).last ≡ w.last
+  unfolding after_module
+  last-2 = kept_last d 2 w (unfold module_step permitted_step inputs_for in refl)
+
+  last-3 : (after_module d 3 w).last ≡ w.last
+  unfolding after_module
+  last-3 = kept_last d 3 w (unfold module_step actual_step inputs_for in refl)
+
+  last-4 : (after_module d 4 w).last ≡ w.last
+  unfolding after_module
+  last-4 = kept_last d 4 w (unfold module_step excess_step inputs_for in refl)
+
+  last-5 : (after_module d 5 w).last ≡ w.last
+  unfolding after_module
+  last-5 = kept_last d 5 w (unfold module_step pairs_step inputs_for in refl)
+
+  last-6 : (after_module d 6 w).last ≡ w.last
+  unfolding after_module
+  last-6 = kept_last d 6 w (unfold module_step debounce_step inputs_for in refl)
+
+  last-7 : (after_module d 7 w).last ≡ w.last
+  unfolding after_module
+  last-7 = kept_last d 7 w (unfold module_step react_step inputs_for in refl)
+
+tick_last : (d : Doing) (w : Words) → (after_tick d w).last ≡ (if d.ran 0 then d.tick else w.last)
+unfolding after_tick after_modules
+tick_last d w =
+    last-7 d _ ∙ last-6 d _ ∙ last-5 d _ ∙ last-4 d _ ∙ last-3 d _ ∙ last-2 d _ ∙ last-1 d _
+    ∙ checked_last d w
+
+pub last_check_is_kept : LastCheckIsKept
+last_check_is_kept s x h words = tick_last (doing_after s x h) words ∙ (unfold doing_after doing_at in refl)
+
+pub last_checks_stand : LastChecksStand
+unfolding words_over last_check
+last_checks_stand s [] = unfold start in refl
+last_checks_stand s (x ∷ h) = last_check_is_kept s x h (words_over s h)
+    ∙ ap (λ n. if x.effects.ran 0 then length h else n) (last_checks_stand s h)

@@ -1,14 +1,17 @@
 -- Level 2 and the model agree over whole runs: the eight modules run one after another at each tick, from
 -- the start on, and their words stand for the history; what they send at the next tick, compared with what
 -- is expected, is what the model calls it.
-use Rattle.std.specs.Prelude.{◌≡◌, ◌<◌, ℕ, List, length}
+use Rattle.std.specs.Prelude.{◌≡◌, ◌<◌, ℕ, true, false, List, [], ◌∷◌, length, if◌then◌else◌}
 use Rattle.eg_values.specs.Calibration.{IsAccepted}
 use Rattle.eg_fault.specs.Faults.{effects}
 use Rattle.eg_model.specs.History.{Setting, Entry, Tick}
 use Rattle.eg_model.specs.Premises.{Follows}
+use Rattle.eg_level2.specs.Words.{Words}
+use Rattle.eg_flow.specs.Ticks.{after_tick, answer_at}
+use Rattle.eg_model.specs.Answers.{whole_since_answer}
 use Rattle.eg_model.specs.Moments.{moments_of, next}
 use Rattle.eg_agree.specs.Standing.{KeepsWords}
-use Rattle.eg_agree.specs.Replies.{HasWords, IsAnyFault, words_over, mark_of, number_expected, answer_from_power_on}
+use Rattle.eg_agree.specs.Replies.{HasWords, IsAnyFault, doing_after, words_over, moment_after, mark_of, number_expected, answer_from_power_on, is_flipped}
 
 -- after every history under any fault, from any tick of the run on
 abbrev pub WordsStand : Type 0
@@ -17,12 +20,46 @@ WordsStand =
     KeepsWords s (words_over s h) (moments_of s h)
 
 -- The theorem on answers. Let the calibration be an accepted one, whose seeds and permit values are words,
--- and let there be no fault or a valid one of any class, lapses too. What is sent at the tick of e, after
--- the history h from power-on, is the expected number exactly where the model calls the answer good;
--- nothing is sent exactly where it calls it absent.
+-- and let there be no fault or a valid one of any class, lapses too. What is sent at tick x, after a
+-- history that begins at any tick of the run, is the expected number exactly where the model calls the
+-- answer good; nothing is sent exactly where it calls it absent.
 abbrev pub EachAnswerHolds : Type 0
 EachAnswerHolds =
+    (s : Setting) → IsAccepted s.cal → HasWords s.cal → IsAnyFault s.fault →
+    (begin : ℕ) (x : Tick) (h : List Tick) → Follows s.fault begin (x ∷ h) → length h < 65535 →
+    mark_of (number_expected s x.effects (length h)) (answer_at (doing_after s x h) (words_over s h))
+    ≡ (moment_after s x h).mark
+
+-- the same from power-on: the tick is that of an entry e after the history h
+abbrev pub EachAnswerHoldsFromPowerOn : Type 0
+EachAnswerHoldsFromPowerOn =
     (s : Setting) → IsAccepted s.cal → HasWords s.cal → IsAnyFault s.fault →
     (e : Entry) (h : List Entry) → length h < 65535 →
     mark_of (number_expected s (effects s.fault (length h)) (length h)) (answer_from_power_on s e h)
     ≡ (next s e h).mark
+
+-- After a history in which no word was flipped, and all eight modules ran at each tick since the last
+-- answer, the token is 0 and the flow is unmarked.
+abbrev pub WordsRest : Type 0
+WordsRest =
+    (s : Setting) → IsAccepted s.cal → IsAnyFault s.fault → (begin : ℕ) (h : List Tick) →
+    Follows s.fault begin h → length h < 65536 → is_flipped h ≡ false →
+    whole_since_answer (moments_of s h) ≡ true →
+    ((words_over s h).token ≡ 0) × ((words_over s h).flow ≡ 0x00ff)
+
+-- ---- the last tick of check ----
+
+-- the last of these ticks at which module 0 ran, or 65535 where it never did
+unfoldable pub last_check : List Tick → ℕ
+last_check [] = 65535
+last_check (x ∷ before) = if x.effects.ran 0 then length before else last_check before
+
+-- the word for the last tick is that, after every history
+abbrev pub LastChecksStand : Type 0
+LastChecksStand = (s : Setting) (h : List Tick) → (words_over s h).last ≡ last_check h
+
+-- and a tick makes it so, whatever the words are
+abbrev pub LastCheckIsKept : Type 0
+LastCheckIsKept =
+    (s : Setting) (x : Tick) (h : List Tick) (words : Words) →
+    (after_tick (doing_after s x h) words).last ≡ (if x.effects.ran 0 then length h else words.last)

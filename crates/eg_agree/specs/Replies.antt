@@ -100,9 +100,9 @@ unfoldable pub has_just_answered : List Moment → Bool
 has_just_answered [] = false
 has_just_answered (m ∷ past) = is_answer m.mark
 
--- The words tell of the program flow over the ticks h: they are steady where the modules ran together and no
--- word was flipped; the token rests at 0 where react always ran; and just after an answer the token and the
--- flow begin anew.
+-- The words tell of the program flow over the ticks h: they are steady where the modules ran together and
+-- no word was flipped; the token rests at 0 where react always ran; and just after an answer the token and
+-- the flow begin anew.
 pub record KeepsFlow (s : Setting) (words : Words) (h : List Tick) : Type 0 where
   pub steady : is_flipped h ≡ false → RanTogether h →
       IsSteady (length h) (whole_since_answer (moments_of s h)) words
@@ -120,8 +120,8 @@ FlowIsKept =
     (s : Setting) (x : Tick) (h : List Tick) (words : Words) → TellsTrip s words x h → length h < 65535 →
     KeepsFlow s words h → KeepsFlow s (after_tick (doing_after s x h) words) (x ∷ h)
 
--- The words are ready for tick x, which comes after h in a history from tick `begin` of the run on: all that
--- the theorem asks for at one tick.
+-- The words are ready for tick x, which comes after h in a history from tick `begin` of the run on: all
+-- that the theorem asks for at one tick.
 pub record IsReady (s : Setting) (begin : ℕ) (x : Tick) (h : List Tick) (words : Words) : Type 0 where
   pub accepted : IsAccepted s.cal
   pub fault : IsAnyFault s.fault
@@ -140,9 +140,9 @@ FlowMarks =
 
 -- ---- whole histories ----
 
--- Let the calibration be an accepted one, of words, and the fault any valid one or none. At each tick x of a
--- history from tick `begin` of the run on, what level 2 sends has the mark of the model's tick: Absent where
--- it sends nothing, Good where it sends the number that is expected, else Bad.
+-- Let the calibration be an accepted one, of words, and the fault any valid one or none. At each tick x of
+-- a history from tick `begin` of the run on, what level 2 sends has the mark of the model's tick: Absent
+-- where it sends nothing, Good where it sends the number that is expected, else Bad.
 abbrev pub AnswersHold : Type 0
 AnswersHold =
     (s : Setting) → IsAccepted s.cal → HasWords s.cal → IsAnyFault s.fault →
@@ -159,8 +159,8 @@ AnswersHoldFromPowerOn =
     mark_of (number_expected s (effects s.fault (length h)) (length h)) (answer_from_power_on s e h)
     ≡ (next s e h).mark
 
--- After a history in which no word was flipped, and all eight modules ran at each tick since the last answer,
--- the token is 0 and the flow is unmarked.
+-- After a history in which no word was flipped, and all eight modules ran at each tick since the last
+-- answer, the token is 0 and the flow is unmarked.
 abbrev pub RestsBetweenAnswers : Type 0
 RestsBetweenAnswers =
     (s : Setting) → IsAnyFault s.fault → (begin : ℕ) (h : List Tick) → Follows s.fault begin h →

@@ -22,8 +22,9 @@ found_in_level2 m = record m.found { answers = false }
 
 -- What eight modules make of the words w at a tick is what the model says of the tick m after these ticks:
 -- the words stand for one tick more; the signals that they hold after the first j modules are those that
--- slice j of level 1 sees; as react begins they tell whether a trip came; path 1 is ordered open where react
--- runs and a trip came; the watches are those of the model; and an answer is sent where the model says so.
+-- slice j of level 1 sees; as react begins they tell whether a trip came; path 1 is ordered open where
+-- react runs and a trip came; the watches are those of the model; and an answer is sent where the model
+-- says so.
 pub record IsTick (s : Setting) (x : Effects) (d : Doing) (w : Words)
     (m : Moment) (past : List Moment) : Type 0 where
   pub words : KeepsWords s (after_tick d w) (m ∷ past)
@@ -37,8 +38,8 @@ pub record IsTick (s : Setting) (x : Effects) (d : Doing) (w : Words)
 
 -- ---- the laws ----
 
--- Where a word is flipped at a tick, module 0 runs at it, and so finds it. No more is asked of what is out of
--- order.
+-- Where a word is flipped at a tick, module 0 runs at it, and so finds it. No more is asked of what is out
+-- of order.
 abbrev pub ChecksFlips : Effects → Type 0
 ChecksFlips x = is_some x.flip ≡ true → x.ran 0 ≡ true
 

@@ -3,12 +3,13 @@ ghost use Rattle.eg_agree.specs.Replies.{FlowBegins, FlowIsKept, FlowMarks};
 ghost use Rattle.eg_agree.specs.Replies.{AnswersHold, AnswersHoldFromPowerOn, RestsBetweenAnswers};
 
 /// Does nothing when it runs. Its contract is the theorem on answers (docs/CONCEPT.md, "Questions and
-/// answers"), for an accepted calibration and without a fault or under any, lapses too. Let the eight modules
-/// run one after another at each tick from the start on, each where the fault lets it. The number that is
-/// sent, compared with the one that is expected, is then just what the model calls it: absent where none is
-/// sent, good where it is the expected one, and else bad. So a number is the expected one exactly where all
-/// eight modules ran at each tick since the last answer and none is disturbed. It rests on this alone: as
-/// react begins, the word for the trip tells whether a trip came.
+/// answers"), for an accepted calibration and without a fault or under any, lapses too. Let the eight
+/// modules run one after another at each tick from the start on, each where the fault lets it. The number
+/// that is sent, compared with the one that is expected, is then just what the model calls it: absent where
+/// none is sent, good where it is the expected one, and else bad. So a number is the expected one exactly
+/// where all eight modules ran at each tick since the last answer and none is disturbed. It asks that seeds
+/// and permit values are words, that the history is shorter than 65,535 ticks, and that as react begins the
+/// word for the trip tells whether a trip came; `level_2_agrees` says it without the last.
 #[tactic(auto, using(crate::proofs::ReplyLaws::answers_hold))]
 pub fn answers_hold()
     ensures any { AnswersHold }
@@ -16,8 +17,8 @@ pub fn answers_hold()
 {}
 
 /// Does nothing when it runs. Its contract is a law: where no word was flipped and all eight modules ran at
-/// each tick since the last answer, the token is 0 and the flow is unmarked (docs/CONCEPT.md, "Questions and
-/// answers").
+/// each tick since the last answer, the token is 0 and the flow is unmarked (docs/CONCEPT.md, "Questions
+/// and answers").
 #[tactic(auto, using(crate::proofs::ReplyLaws::rests_between_answers))]
 pub fn words_rest_between_answers()
     ensures { RestsBetweenAnswers }

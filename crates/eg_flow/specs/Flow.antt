@@ -88,7 +88,8 @@ unfoldable pub words_after : Words → List Doing → Words
 words_after words [] = words
 words_after words (d ∷ before) = after_tick d (words_after words before)
 
--- After a tick: all eight modules ran at each tick since the last answer. A tick that sends one begins anew.
+-- After a tick: all eight modules ran at each tick since the last answer. A tick that sends one begins
+-- anew.
 unfoldable pub whole_after : Doing → Words → Bool → Bool
 whole_after d words whole = is_some (answer_at d words) || (is_whole d && whole)
 
@@ -99,9 +100,9 @@ whole_since words (d ∷ before) = whole_after d (words_after words before) (who
 
 -- ---- what the words tell between two ticks ----
 
--- Steady words, after so many ticks (`made`). The token rests at 0. The flow is unmarked or marked. Module 0
--- ran last at one of those ticks, or at none so far. And the flow is unmarked, and module 0 ran at the very
--- last of them, exactly where all eight modules ran at each tick since the last answer (`whole`).
+-- Steady words, after so many ticks (`made`). The token rests at 0. The flow is unmarked or marked. Module
+-- 0 ran last at one of those ticks, or at none so far. And the flow is unmarked, and module 0 ran at the
+-- very last of them, exactly where all eight modules ran at each tick since the last answer (`whole`).
 pub record IsSteady (made : ℕ) (whole : Bool) (words : Words) : Type 0 where
   pub token : words.token ≡ 0
   pub flow : (words.flow ≡ 0x00ff) ⊎ (words.flow ≡ 0x80ff)

@@ -26,8 +26,8 @@ ReactClears = (d : Doing) (words : Words) → d.ran 7 ≡ true → (after_tick d
 
 -- ---- the flow and the last tick ----
 
--- A tick at which all eight modules run leaves the flow to the answer as it was, where module 0 ran last just
--- before it, and else marks it. The token is 0 after it, and the last tick is its own.
+-- A tick at which all eight modules run leaves the flow to the answer as it was, where module 0 ran last
+-- just before it, and else marks it. The token is 0 after it, and the last tick is its own.
 pub record RunsThrough (d : Doing) (words : Words) : Type 0 where
   pub flow : closed_flow (at_react d words)
       ≡ (if (words.last + 1) % 65536 == d.tick then words.flow else marked words.flow)
@@ -59,8 +59,8 @@ TwoFlows = (d : Doing) (words : Words) → IsFlow words.flow →
 
 -- ---- the fold ----
 
--- where all eight modules run, the fold is that of the row that is asked exactly where none of them is
--- disturbed, also where a trip stands
+-- where all eight modules run and at most one of them is disturbed, the fold is that of the row that is
+-- asked exactly where none of them is disturbed, also where a trip stands
 abbrev pub FoldTells : Type 0
 FoldTells = (d : Doing) (words : Words) → AllRun d → d.differs ≡ false → FitsWords d.rules (row_asked d) →
     AtMostOneIsDisturbed d → ((at_react d words).sign == expected_fold d) ≡ is_undisturbed d
@@ -78,8 +78,8 @@ SteadyStays = (d : Doing) (words : Words) (whole : Bool) → d.tick < 65535 → 
     AllRun d ⊎ NoneRuns d → IsSteady d.tick whole words →
     IsSteady (suc d.tick) (whole_after d words whole) (after_tick d words)
 
--- From steady words on, a tick at which all eight modules run has the expected number exactly where all eight
--- ran at each tick since the last answer and none is disturbed now.
+-- From steady words on, a tick at which all eight modules run has the expected number exactly where all
+-- eight ran at each tick since the last answer and none is disturbed now.
 abbrev pub SteadyAnswers : Type 0
 SteadyAnswers = (d : Doing) (words : Words) (whole : Bool) → d.differs ≡ false → AllRun d →
     FitsWords d.rules (row_asked d) → AtMostOneIsDisturbed d → IsSteady d.tick whole words →

@@ -1,9 +1,10 @@
 //! The program flow of level 2: the laws of the token, the flow, the last tick and the fold, over one tick
 //! and over many. They speak of level 2 alone, whatever the fault.
 //!
-//! A tick is the eight modules one after another (`specs/Ticks.antt`). Between two ticks four words tell
+//! A tick is the eight modules one after another (`specs/Ticks.antt`). Between two ticks three words tell
 //! whether all eight ran since the last answer (`specs/Flow.antt`, `IsSteady`), and the number that is sent
-//! is the expected one exactly where they did and none is disturbed now.
+//! is the expected one exactly where they did and none is disturbed now, where each tick ran whole or not
+//! at all.
 #![tactic(auto)]
 
 ghost use Rattle.eg_flow.specs.Laws.{TokenTells, ReactClears, WholeTick, EmptyTick, MarkStays, TwoFlows, FoldTells};
@@ -19,9 +20,10 @@ pub fn tokens_tell_gaps()
 {}
 
 /// Does nothing when it runs. Its contract is the laws of the flow and the last tick (docs/CONCEPT.md,
-/// "Questions and answers"). A tick at which all eight modules run leaves the flow as it was where module 0
-/// ran just the tick before, and else marks it. A tick at which none runs changes no word. A mark stays until
-/// an answer is sent, which has it too. Unmarked and marked, 0x00ff and 0x80ff, are the only two flows.
+/// "Questions and answers"). A tick at which all eight modules run, with the token 0 as it begins and no
+/// word that differs, leaves the flow as it was where module 0 ran just the tick before, and else marks it.
+/// A tick at which none runs changes no word. A mark stays until an answer is sent, which has it too.
+/// Unmarked and marked, 0x00ff and 0x80ff, are the only two flows.
 pub fn flows_tell_gaps()
     ensures whole { WholeTick }
     ensures empty { EmptyTick }
@@ -29,9 +31,9 @@ pub fn flows_tell_gaps()
     ensures two { TwoFlows }
 {}
 
-/// Does nothing when it runs. Its contract is a law: where all eight modules run, the fold is that of the row
-/// that is asked exactly where none of them is disturbed, also where a trip stands (docs/CONCEPT.md,
-/// "Questions and answers").
+/// Does nothing when it runs. Its contract is a law: where all eight modules run, no word differs from its
+/// complement, and at most one module is disturbed, the fold is that of the row that is asked exactly where
+/// none of them is disturbed, also where a trip stands (docs/CONCEPT.md, "Questions and answers").
 #[tactic(auto, using(crate::proofs::FoldSteps::fold_tells))]
 pub fn folds_tell_disturbances()
     ensures { FoldTells }
@@ -53,10 +55,10 @@ pub fn words_stay_steady()
     ensures start { SteadyFromStart }
 {}
 
-/// Does nothing when it runs. Its contract is two laws of answers (docs/CONCEPT.md, "Questions and answers").
-/// From steady words on, a tick at which all eight modules run has the expected number exactly where all
-/// eight ran at each tick since the last answer and none is disturbed. A tick that one module before react is
-/// left out of has another number.
+/// Does nothing when it runs. Its contract is two laws of answers (docs/CONCEPT.md, "Questions and
+/// answers"). From steady words on, a tick at which all eight modules run has the expected number exactly
+/// where all eight ran at each tick since the last answer and none is disturbed. A tick that one module
+/// before react is left out of has another number.
 #[tactic(auto, using(crate::proofs::SteadyLemmas::steady_answers))]
 pub fn answers_tell_gaps()
     ensures steady { SteadyAnswers }

@@ -5,8 +5,8 @@ use Rattle.eg_answer.specs.declared.marks.AnswerMark.TheVariants.{Absent, Good, 
 use Rattle.eg_answer.specs.declared.marks.Verdict.TheVariants.{Right, Wrong}
 use Rattle.eg_fault.specs.declared.class.Class.TheVariants.{Script, Bus, Plate, Skip, Disturb, Flip, Halt, Timing, Wild, Path1Closed, Path2Closed, PathOpen, Lapse}
 use Rattle.eg_record.specs.declared.watch.Watch.TheVariants as found
-use Rattle.eg_model.specs.Rows.{report_of, rows_of}
-use Rattle.eg_model.specs.Examples.{idle, full, fault_from, run_of, bench_run, raised_run, pressed_run, moments_in_time, answers_of, verdicts_of, stages_of, reported}
+use Rattle.eg_model.specs.Rows.{report_of, rows_of, signal_list}
+use Rattle.eg_model.specs.Examples.{idle, full, fault_from, run_of, bench_run, raised_run, pressed_run, offset_run, disturbed_raise_run, moments_in_time, answers_of, verdicts_of, stages_of, reported}
 use Rattle.eg_model.proofs.WholeModel.{whole_model}
 
 -- ---- path 1 is closed: the answers stay out, and path 2 cuts ----
@@ -87,13 +87,15 @@ pedal_track_reads_1000-permitted = refl
 
 -- ---- it limits the pedal, once it is found ----
 
-pub limited-permitted : map (λ m. m.signals.permitted) (moments_in_time pressed_run) ≡ replicate 5 1000 ++ replicate 5 200
+pub limited-permitted : map (λ m. m.signals.permitted) (moments_in_time pressed_run)
+    ≡ replicate 5 1000 ++ replicate 5 200
 unfolding whole_model
 limited-permitted = refl
 
 -- ---- react doesn't run any more, right after it has ordered path 1 open ----
 
-pub open_without_react : stages_of (bench_run full (fault_from 10 (Skip 7)) 15) ≡ replicate 10 true ++ replicate 5 false
+pub open_without_react : stages_of (bench_run full (fault_from 10 (Skip 7)) 15)
+    ≡ replicate 10 true ++ replicate 5 false
 unfolding whole_model
 open_without_react = refl
 
@@ -115,6 +117,10 @@ pub wild : report_of (codes "a") (bench_run full (fault_from 0 (Wild (65535 ∷ 
     ≡ reported (Some (found.Torque, 9)) (Some 10) None (Some 9)
 unfolding whole_model
 wild = refl
+
+pub wild-verdicts : verdicts_of (bench_run full (fault_from 0 (Wild (65535 ∷ []) (false ∷ []))) 20) ≡ []
+unfolding whole_model
+wild-verdicts = refl
 
 -- ---- a module doesn't run ----
 
@@ -168,8 +174,7 @@ pub bus_disturbed : rows_of (moments_in_time
         plate = false;
         load = false;
         speed = false;
-        torque =
-            false;
+        torque = false;
         answers = false;
       };
       answer = Absent;
@@ -180,22 +185,46 @@ bus_disturbed = refl
 
 -- ---- what the other classes do ----
 
-pub wild_opens : stages_of (bench_run idle (fault_from 3 (Wild (0 ∷ []) (false ∷ true ∷ []))) 6) ≡ replicate 5 true ++ false ∷ []
+pub wild_opens : stages_of (bench_run idle (fault_from 3 (Wild (0 ∷ []) (false ∷ true ∷ []))) 6)
+    ≡ replicate 5 true ++ false ∷ []
 unfolding whole_model
 wild_opens = refl
 
-pub path_2_opened : stages_of (bench_run idle (fault_from 3 (PathOpen 2)) 6) ≡ replicate 3 true ++ replicate 3 false
+pub path_2_opened : stages_of (bench_run idle (fault_from 3 (PathOpen 2)) 6)
+    ≡ replicate 3 true ++ replicate 3 false
 unfolding whole_model
 path_2_opened = refl
 
-pub path_2_closed : map (λ m. m.path2) (moments_in_time (bench_run full (fault_from 0 Path2Closed) 45)) ≡ replicate 45 true
+pub path_2_closed : map (λ m. m.path2) (moments_in_time (bench_run full (fault_from 0 Path2Closed) 45))
+    ≡ replicate 45 true
 unfolding whole_model
 path_2_closed = refl
 
-pub halted : map (λ m. m.world.throttle) (moments_in_time (bench_run full (fault_from 0 Halt) 2)) ≡ 0 ∷ 0 ∷ []
+pub halted : map (λ m. m.world.throttle) (moments_in_time (bench_run full (fault_from 0 Halt) 2))
+    ≡ 0 ∷ 0 ∷ []
 unfolding whole_model
 halted = refl
 
-pub plate_held : map (λ m. m.entry.shown.position) (moments_in_time (bench_run idle (fault_from 2 (Plate 300)) 3)) ≡ 0 ∷ 0 ∷ 300 ∷ []
+pub plate_held : map (λ m. m.entry.shown.position)
+    (moments_in_time (bench_run idle (fault_from 2 (Plate 300)) 5)) ≡ 0 ∷ 0 ∷ 300 ∷ 300 ∷ 300 ∷ []
 unfolding whole_model
 plate_held = refl
+
+-- ---- a pedal track reads less than it should, cut at 0 ----
+
+pub offset-pedal : map (λ m. m.reads.pedal) (moments_in_time offset_run) ≡ (0 ∷ 950 ∷ []) ∷ []
+unfolding whole_model
+offset-pedal = refl
+
+pub limited : report_of (codes "a") pressed_run ≡ reported (Some (found.Pedal, 4)) None None None
+unfolding whole_model
+limited = refl
+
+pub raise-limit : map (λ m. m.limit) (moments_in_time disturbed_raise_run) ≡ 600 ∷ []
+unfolding whole_model
+raise-limit = refl
+
+pub raise-signals : map (λ m. signal_list m.signals) (moments_in_time disturbed_raise_run)
+    ≡ (0 ∷ 200 ∷ 100 ∷ 0 ∷ 0 ∷ []) ∷ []
+unfolding whole_model
+raise-signals = refl

@@ -6,7 +6,7 @@ use Rattle.eg_answer.specs.declared.marks.Verdict.TheVariants.{Wrong}
 use Rattle.eg_record.specs.declared.watch.Watch.TheVariants.{Answers}
 use Rattle.eg_values.specs.Reference.{reference_parts}
 use Rattle.eg_model.specs.Rows.{report_of}
-use Rattle.eg_model.specs.Examples.{answers_of, verdicts_of, moments_in_time, reported}
+use Rattle.eg_model.specs.Examples.{answers_of, verdicts_of, stages_of, moments_in_time, reported}
 use Rattle.eg_model.specs.WorkedLapses.{lapsing_run, excesses_of}
 use Rattle.eg_model.proofs.WholeModel.{whole_model}
 
@@ -27,7 +27,7 @@ lapsing-runs : map (λ m. m.tick) (filter (λ m. m.feeds) (moments_in_time lapsi
 unfolding whole_model
 lapsing-runs = refl
 
-lapsing-answers : answers_of lapsing_run ≡ []
+pub lapsing-answers : answers_of lapsing_run ≡ []
 unfolding whole_model
 lapsing-answers = refl
 
@@ -36,6 +36,10 @@ lapsing-verdicts : verdicts_of lapsing_run
     (59, Some Wrong) ∷ []
 unfolding whole_model
 lapsing-verdicts = refl
+
+pub lapsing-stages : stages_of lapsing_run ≡ replicate 30 true ++ replicate 30 false
+unfolding whole_model
+lapsing-stages = refl
 
 -- its calibration's numbers: four whole periods, and 50 ticks
 reference-periods : lapse_periods reference_parts.rules.torque reference_parts.times ≡ 4

@@ -1,13 +1,13 @@
 -- Runs on the bench that are worked out: images of level 1, drives, and runs of them with the reference
 -- calibration.
-use Rattle.std.specs.Prelude.{ℕ, Bool, true, false, is_some, List, [], ◌∷◌, ◌++◌, map, filter, reverse, length, replicate, codes, Option, Some, None}
+use Rattle.std.specs.Prelude.{ℕ, negsuc, Bool, true, false, is_some, List, [], ◌∷◌, ◌++◌, map, filter, reverse, length, replicate, codes, Option, Some, None}
 use Rattle.eg_num.specs.Drive.{DriveRow}
 use Rattle.eg_answer.specs.declared.marks.AnswerMark.{AnswerMark}
 use Rattle.eg_answer.specs.declared.marks.AnswerMark.TheVariants.{Absent}
 use Rattle.eg_answer.specs.declared.marks.Verdict.{Verdict}
 use Rattle.eg_word.specs.declared.registers.Trap.{Trap}
 use Rattle.eg_fault.specs.declared.class.Class.{Class}
-use Rattle.eg_fault.specs.declared.class.Class.TheVariants.{Script, Flip, Path1Closed}
+use Rattle.eg_fault.specs.declared.class.Class.TheVariants.{Script, Offset, Bus, Flip, Path1Closed}
 use Rattle.eg_fault.specs.declared.class.Fault.{Fault}
 use Rattle.eg_values.specs.Reference.{reference_parts}
 use Rattle.eg_record.specs.declared.row.Row.{Row}
@@ -108,6 +108,16 @@ follow_run =
 abbrev pub pressed_run : Run
 pressed_run =
     run_of idle (fault_from 0 (Script 0 (1000 ∷ []))) (replicate 10 (record { pedal = 500; speed = 800; raise = 0 }))
+
+-- the first pedal track reads 100 less where the pedal stands at 50, for one tick
+abbrev pub offset_run : Run
+offset_run =
+    run_of idle (fault_from 0 (Offset 0 (negsuc 99))) (record { pedal = 50; speed = 800; raise = 0 } ∷ [])
+
+-- a raise of 600 whose lowest bit is flipped on its way, for one tick
+abbrev pub disturbed_raise_run : Run
+disturbed_raise_run =
+    run_of idle (fault_from 0 (Bus 1)) (record { pedal = 0; speed = 800; raise = 600 } ∷ [])
 
 -- a slice plan of two rows: nothing in the first tick, and the usual slices in the second
 abbrev pub alternating_run : Run

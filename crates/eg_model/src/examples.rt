@@ -30,7 +30,8 @@ pub fn full_run_in_detail()
         ≡ replicate 39 false ++ true ∷ [] }
 {}
 
-/// Level 1 waits for ever: nothing is found in 60 ticks, each answer is good, and each verdict is right.
+/// Level 1 waits for ever: nothing is found in 60 ticks, and in the first 40 each answer is good and each
+/// verdict right.
 pub fn idle_run()
     ensures report { report_of (codes "a") (bench_run idle None 60) ≡ reported None None None None }
     ensures answers { answers_of (bench_run idle None 40) ≡ (5, Good) ∷ (15, Good) ∷ (25, Good) ∷ (35, Good) ∷ [] }

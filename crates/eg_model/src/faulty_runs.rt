@@ -5,8 +5,8 @@ ghost use Rattle.eg_answer.specs.declared.marks.AnswerMark.TheVariants.{Good, Ba
 ghost use Rattle.eg_answer.specs.declared.marks.Verdict.TheVariants.{Right, Wrong};
 ghost use Rattle.eg_fault.specs.declared.class.Class.TheVariants.{Script, Plate, Skip, Disturb, Flip, Halt, Timing, Wild, Path1Closed, Path2Closed, PathOpen, Lapse};
 ghost use Rattle.eg_record.specs.declared.watch.Watch.TheVariants as found;
-ghost use Rattle.eg_model.specs.Rows.{report_of};
-ghost use Rattle.eg_model.specs.Examples.{idle, full, fault_from, bench_run, raised_run, pressed_run, flipped_probe_run, reported, moments_in_time, answers_of, verdicts_of, stages_of};
+ghost use Rattle.eg_model.specs.Rows.{report_of, signal_list};
+ghost use Rattle.eg_model.specs.Examples.{idle, full, fault_from, bench_run, raised_run, pressed_run, offset_run, disturbed_raise_run, flipped_probe_run, reported, moments_in_time, answers_of, verdicts_of, stages_of};
 
 /// Path 1 is closed from the start: the torque is found at tick 9 in vain, no answer comes any more, and
 /// path 2 cuts at tick 40.
@@ -83,7 +83,8 @@ pub fn raised_pedal_run()
 /// It reads 1000 where the pedal stands at 500: the pair is found at tick 4, and from tick 5 on the pedal
 /// is limited to 0.
 pub fn limited_run()
-    ensures { map (λ m. m.signals.permitted) (moments_in_time pressed_run) ≡ replicate 5 1000 ++ replicate 5 200 }
+    ensures found { report_of (codes "a") pressed_run ≡ reported (Some (found.Pedal, 4)) None None None }
+    ensures permitted { map (λ m. m.signals.permitted) (moments_in_time pressed_run) ≡ replicate 5 1000 ++ replicate 5 200 }
 {}
 
 /// React doesn't run from tick 10 on, right after it has ordered path 1 open: the path stays open.
@@ -102,8 +103,8 @@ pub fn skipped_run()
 /// Neither level runs: level 1's outputs stay 0. And a plate that is held stays there.
 pub fn halted_and_held_runs()
     ensures halted { map (λ m. m.world.throttle) (moments_in_time (bench_run full (fault_from 0 Halt) 2)) ≡ 0 ∷ 0 ∷ [] }
-    ensures held { map (λ m. m.entry.shown.position) (moments_in_time (bench_run idle (fault_from 2 (Plate 300)) 3))
-        ≡ 0 ∷ 0 ∷ 300 ∷ [] }
+    ensures held { map (λ m. m.entry.shown.position) (moments_in_time (bench_run idle (fault_from 2 (Plate 300)) 5))
+        ≡ 0 ∷ 0 ∷ 300 ∷ 300 ∷ 300 ∷ [] }
 {}
 
 /// Answers that are sent at tick 8 of their period come too late; those at tick 7 come in time.
@@ -118,6 +119,7 @@ pub fn moved_answers_run()
 pub fn wild_run()
     ensures report { report_of (codes "a") (bench_run full (fault_from 0 (Wild (65535 ∷ []) (false ∷ []))) 20)
         ≡ reported (Some (found.Torque, 9)) (Some 10) None (Some 9) }
+    ensures verdicts { verdicts_of (bench_run full (fault_from 0 (Wild (65535 ∷ []) (false ∷ []))) 20) ≡ [] }
     ensures opens { stages_of (bench_run idle (fault_from 3 (Wild (0 ∷ []) (false ∷ true ∷ []))) 6)
         ≡ replicate 5 true ++ false ∷ [] }
 {}
@@ -130,4 +132,17 @@ pub fn lapsed_run()
         ≡ (5, Bad) ∷ (15, Good) ∷ (25, Good) ∷ [] }
     ensures verdicts { verdicts_of (bench_run idle (fault_from 3 (Lapse (0 ∷ []) 0)) 30)
         ≡ (9, Some Wrong) ∷ (19, Some Right) ∷ (29, Some Right) ∷ [] }
+{}
+
+/// A pedal track that reads 100 less where the pedal stands at 50 reads 0; the other track is sound.
+pub fn offset_track()
+    ensures { map (λ m. m.reads.pedal) (moments_in_time offset_run) ≡ (0 ∷ 950 ∷ []) ∷ [] }
+{}
+
+/// A raise of 600 is disturbed on its way, its check word isn't: it counts as 0 for level 2, whatever the
+/// drive permits.
+pub fn disturbed_raise()
+    ensures limit { map (λ m. m.limit) (moments_in_time disturbed_raise_run) ≡ 600 ∷ [] }
+    ensures signals { map (λ m. signal_list m.signals) (moments_in_time disturbed_raise_run)
+        ≡ (0 ∷ 200 ∷ 100 ∷ 0 ∷ 0 ∷ []) ∷ [] }
 {}

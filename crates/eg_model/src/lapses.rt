@@ -1,18 +1,18 @@
 // The laws of lapses.
-ghost use Rattle.std.specs.Prelude.{◌≡◌, ◌++◌, codes, replicate, true, false, Some, None};
+ghost use Rattle.std.specs.Prelude.{◌≡◌, [], ◌++◌, codes, replicate, true, false, Some, None};
 ghost use Rattle.eg_answer.specs.Times.{lapse_bound_of};
 ghost use Rattle.eg_values.specs.Reference.{reference_parts};
 ghost use Rattle.eg_record.specs.declared.watch.Watch.TheVariants.{Answers};
 ghost use Rattle.eg_model.specs.Rows.{report_of};
-ghost use Rattle.eg_model.specs.Examples.{reported};
+ghost use Rattle.eg_model.specs.Examples.{reported, answers_of, stages_of};
 ghost use Rattle.eg_model.specs.Lapses.{CutsLapses, LapsesAreShort};
 ghost use Rattle.eg_model.specs.WorkedLapses.{lapsing_run, excesses_of};
 
 /// The laws of lapses (docs/CONCEPT.md, "Lapses"): level 2 as a whole doesn't run at some ticks, whichever
-/// they are. Where `lapse_periods` whole periods lie in a stretch of true excess, the stages are off from
-/// the tick after the last of them to the end of the power cycle; and each such stretch is shorter than the
-/// bound in ticks that `eg_answer::lapse_bound` gives. Nothing is said of an excess with gaps. It does
-/// nothing when it runs.
+/// they are. For a calibration that has a bound: where `lapse_periods` whole periods lie in a stretch of
+/// true excess, the stages are off from the tick after the last of them to the end of the power cycle; and
+/// each such stretch is shorter than the bound in ticks that `eg_answer::lapse_bound` gives. Nothing is
+/// said of an excess with gaps. It does nothing when it runs.
 pub fn lapses_are_cut()
     ensures cut { CutsLapses }
     ensures short { LapsesAreShort }
@@ -24,5 +24,7 @@ pub fn lapses_are_cut()
 pub fn a_run_with_lapses_is_cut()
     ensures line { report_of (codes "a") lapsing_run ≡ reported (Some (Answers, 29)) (Some 30) None (Some 9) }
     ensures stretch { excesses_of lapsing_run ≡ replicate 5 false ++ replicate 25 true ++ replicate 30 false }
+    ensures answers { answers_of lapsing_run ≡ [] }
+    ensures stages { stages_of lapsing_run ≡ replicate 30 true ++ replicate 30 false }
     ensures bound { lapse_bound_of reference_parts.rules.torque reference_parts.times ≡ 50 }
 {}

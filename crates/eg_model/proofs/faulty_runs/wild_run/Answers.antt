@@ -1,8 +1,11 @@
-use Rattle.eg_model.proofs.WorkedFaults.{wild, wild_opens}
+use Rattle.eg_model.proofs.WorkedFaults.{wild, wild-verdicts, wild_opens}
 use Rattle.eg_model.proofs.faulty_runs.wild_run.Goals as goal
 
 pub returns-clause-report : goal.returns-clause-report
 returns-clause-report c = wild
+
+pub returns-clause-verdicts : goal.returns-clause-verdicts
+returns-clause-verdicts c = wild-verdicts
 
 pub returns-clause-opens : goal.returns-clause-opens
 returns-clause-opens c = wild_opens
