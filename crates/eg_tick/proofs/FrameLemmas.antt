@@ -1,0 +1,140 @@
+-- What stays in the memory while somebody else stores: the regions of level 1, of level 2 and of the board lie
+-- apart.
+use Rattle.std.proofs.Common.{◌≡◌, ◌∙◌, refl, ap, inl, inr, ℕ, ◌+◌, ◌≤◌, ◌<◌, ◌⊎◌, Bool, true, false, List, slice_index, arith}
+use Rattle.std.proofs.lemmas.Bool.{lt-ltb, le-ltb, cases_lt}
+use Rattle.std.proofs.lemmas.Bool.Decides.{nat_tests}
+use Rattle.eg_guard.specs.declared.regions.Region.{Region}
+use Rattle.eg_guard.specs.declared.regions.Region.TheVariants.{Code, Data, InPorts, OutPorts, Results, Protected, Link, None as NoRegion}
+use Rattle.eg_guard.specs.Regions.{region_of}
+use Rattle.eg_guard.specs.Memory.{AreWords, SameOutside}
+use Rattle.eg_guard.proofs.AccessLemmas.{code-is, in_ports-is, results-is}
+use Rattle.eg_word.specs.declared.registers.Registers.{Registers}
+use Rattle.eg_word.specs.Memory.{is_level1_own}
+use Rattle.eg_word.specs.World.{world_of}
+use Rattle.eg_word.proofs.WorldLemmas.{world_of-elsewhere}
+use Rattle.eg_level2.specs.Words.{place, word_at, named, words_of, AreMirrored, is_level2_own}
+use Rattle.eg_level2.specs.Inputs.{readings_of, asked_of}
+use Rattle.eg_tick.specs.Midway.{Work, IsSet}
+
+-- ---- where things stand ----
+
+pub protected-is : (address : ℕ) → 2096 ≤ address → address < 2123 → region_of address ≡ Protected
+unfolding region_of
+protected-is address from to = grind (arith, nat_tests)
+
+pub place-is : (number : ℕ) → ((number < 5) × (place number ≡ 2080 + number)) ⊎ ((5 ≤ number) × (place number ≡ 2091 + number))
+unfolding place
+place-is number = elim (cases_lt number 5) [
+  | inl low ↦ inl (low, rw (lt-ltb number 5 low) refl)
+  | inr high ↦ inr (high, rw (le-ltb number 5 high) refl)
+]
+
+-- no word of level 2 is one of level 1's own
+place-apart : (number : ℕ) → number < 32 → is_level1_own (region_of (place number)) ≡ false
+unfolding is_level1_own
+place-apart number within = elim (place-is number) [
+  | inl low ↦ let is = low.1 in let below = low.0 in ap is_level1_own (results-is (place number) (omega arith) (omega arith))
+  | inr high ↦ let is = high.1 in let from = high.0 in ap is_level1_own (protected-is (place number) (omega arith) (omega arith))
+]
+
+-- level 1's own regions aren't level 2's
+own-apart : (region : Region) → is_level1_own region ≡ true → is_level2_own region ≡ false
+unfolding is_level1_own is_level2_own
+own-apart Code is = refl
+own-apart Data is = refl
+own-apart InPorts is = refl
+own-apart OutPorts is = refl
+own-apart Results is = absurd (let clash : false ≡ true = is in cc)
+own-apart Protected is = absurd (let clash : false ≡ true = is in cc)
+own-apart Link is = refl
+own-apart NoRegion is = refl
+
+-- ---- what the board wrote ----
+
+-- regions that the board alone changes while a tick is made: code, input ports and link lie outside of them
+pub record LeavesBoard (is_own : Region → Bool) : Type 0 where
+  pub code : is_own Code ≡ false
+  pub ports : is_own InPorts ≡ false
+  pub link : is_own Link ≡ false
+
+pub level1_leaves : LeavesBoard is_level1_own
+unfolding is_level1_own
+level1_leaves = record { code = refl; ports = refl; link = refl }
+
+pub level2_leaves : LeavesBoard is_level2_own
+unfolding is_level2_own
+level2_leaves = record { code = refl; ports = refl; link = refl }
+
+module _ (is_own : Region → Bool) (leaves : LeavesBoard is_own) (old new : List ℕ) (same : SameOutside is_own old new) where
+  port-stays : (address : ℕ) → 2048 ≤ address → address < 2058 → slice_index new address ≡ slice_index old address
+  port-stays address from to = same address (ap is_own (in_ports-is address from to) ∙ leaves.ports)
+
+  pub code-stays : (k : ℕ) → k < 1024 → slice_index new k ≡ slice_index old k
+  code-stays k within = same k (ap is_own (code-is k within) ∙ leaves.code)
+
+  asked-stays : asked_of new ≡ asked_of old
+  unfolding asked_of region_of
+  asked-stays = same 2128 leaves.link
+
+  readings-stay : readings_of new ≡ readings_of old
+  unfolding readings_of
+  readings-stay =
+      let a = port-stays 2048 (omega arith) (omega arith) in
+      let b = port-stays 2049 (omega arith) (omega arith) in
+      let c = port-stays 2050 (omega arith) (omega arith) in
+      let d = port-stays 2051 (omega arith) (omega arith) in
+      let e = port-stays 2052 (omega arith) (omega arith) in
+      let f = port-stays 2053 (omega arith) (omega arith) in
+      let g = port-stays 2054 (omega arith) (omega arith) in
+      let h = port-stays 2055 (omega arith) (omega arith) in
+      let p = port-stays 2056 (omega arith) (omega arith) in
+      let q = port-stays 2057 (omega arith) (omega arith) in
+      rw (a, b, c, d, e, f, g, h, p, q) refl
+
+  pub set-stays : (w : Work) → AreWords new → IsSet w old → IsSet w new
+  set-stays w are set = record {
+    are_words = are;
+    code = λ k within. code-stays k within ∙ set.code k within;
+    readings = readings-stay ∙ set.readings;
+    asked = asked-stays ∙ set.asked;
+  }
+
+-- ---- level 2's words while level 1 stores ----
+
+module _ (old new : List ℕ) (same : SameOutside is_level1_own old new) where
+  word-stays : (number : ℕ) → number < 32 → word_at new number ≡ word_at old number
+  unfolding word_at
+  word-stays number within = same (place number) (place-apart number within)
+
+  pub words-stay : words_of new ≡ words_of old
+  unfolding named
+  words-stay =
+      let word : (number : ℕ) → number < 32 → word_at new number ≡ word_at old number = word-stays in
+      λ i. record {
+        pedal = word 0 (omega arith) i;
+        permitted = word 1 (omega arith) i;
+        actual = word 2 (omega arith) i;
+        excess = word 3 (omega arith) i;
+        pairs = word 4 (omega arith) i;
+        pedal_counter = word 5 (omega arith) i;
+        plate_counter = word 6 (omega arith) i;
+        load_counter = word 7 (omega arith) i;
+        speed_counter = word 8 (omega arith) i;
+        torque_counter = word 9 (omega arith) i;
+        limp = word 10 (omega arith) i;
+        trip = word 11 (omega arith) i;
+        token = word 12 (omega arith) i;
+        flow = word 13 (omega arith) i;
+        last = word 14 (omega arith) i;
+        sign = word 15 (omega arith) i;
+      }
+
+  pub mirrors-stay : AreMirrored old → AreMirrored new
+  mirrors-stay are = record {
+    sums = λ number within. rw (word-stays number (omega arith), word-stays (number + 16) (omega arith)) (are.sums number within);
+  }
+
+-- ---- level 1's world while level 2 stores ----
+
+pub world-stays : (m : Registers) (old new : List ℕ) → AreWords old → AreWords new → SameOutside is_level2_own old new → world_of m new ≡ world_of m old
+world-stays m old new were are same = world_of-elsewhere m old new were are (λ address own. same address (own-apart (region_of address) own))

@@ -1,0 +1,7 @@
+pub mod FrameLemmas
+pub mod MidwayLemmas
+pub mod TickLemmas
+pub mod BoardLemmas
+pub mod LevelLemmas
+pub mod StartLemmas
+mod Worked

@@ -1,0 +1,12 @@
+use Rattle.eg_level2.proofs.StoreLemmas.{on_ok}
+use Rattle.eg_tick.proofs.BoardLemmas.{flipped_changed, flipped_outside}
+use Rattle.eg_tick.proofs.board.flip.Goals as goal
+
+pub returns-clause-changed : goal.returns-clause-changed
+returns-clause-changed g c mirrored =
+    on_ok c.put.result (λ stored. flipped_changed _ _ c.args.word c.place-address.result c.in-Ok.before c.args.mask stored c.place-address.ensures
+    c.in-Ok.ensures.word c.requires.some c.in-Ok.ensures.words c.requires.word mirrored) c.put.ensures.stored
+
+pub returns-clause-outside : goal.returns-clause-outside
+returns-clause-outside g c =
+    on_ok c.put.result (λ stored. flipped_outside _ _ c.args.word c.place-address.result _ stored c.place-address.ensures c.requires.word) c.put.ensures.stored

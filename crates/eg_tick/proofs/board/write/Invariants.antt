@@ -1,0 +1,13 @@
+use Rattle.std.proofs.Common.{◌≡◌, ◌+◌}
+use Rattle.eg_guard.specs.Memory.{AreWords}
+use Rattle.eg_tick.specs.Board.{IsWritten}
+use Rattle.eg_tick.proofs.board.write.Given as goal
+
+-- so many values stand, and the memory is as sure as it was
+abbrev pub invariant-loop-value : goal.invariant-loop-value
+invariant-loop-value g l = record {
+  at : l.address ≡ l.fn.first + l.value-index;
+  written : IsWritten (g.M.Guarded.shows l.fn.memory).words (g.M.Guarded.shows l.memory).words l.fn.first l.fn.values l.value-index;
+  are_words : AreWords (g.M.Guarded.shows l.memory).words;
+  sure : (g.M.Guarded.shows l.memory).sure ≡ (g.M.Guarded.shows l.fn.memory).sure;
+}

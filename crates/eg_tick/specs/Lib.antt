@@ -1,0 +1,5 @@
+pub mod Weights
+pub mod Kept
+pub mod Stands
+pub mod Board
+pub mod Midway

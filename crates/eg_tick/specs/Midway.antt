@@ -1,0 +1,89 @@
+-- Inside a tick: what the memory holds after some slices of level 1 and some modules of level 2.
+use Rattle.std.specs.Prelude.{◌≡◌, ℕ, ◌<◌, ◌==◌, ◌&&◌, Bool, is_some, List, drop, length, slice_index, if◌then◌else◌}
+use Rattle.eg_word.specs.declared.registers.Registers.{Registers}
+use Rattle.eg_word.specs.World.{View, World, world_of}
+use Rattle.eg_guard.specs.Memory.{AreWords}
+use Rattle.eg_level2.specs.Words.{Words, AreMirrored, words_of}
+use Rattle.eg_level2.specs.Inputs.{Level2Parts, readings_of, asked_of}
+use Rattle.eg_level2.specs.declared.step.Step.{Step}
+use Rattle.eg_level2.specs.Modules.{step_of, finding, mirror_alone, quiet_step}
+use Rattle.eg_flow.specs.Ticks.{Doing, inputs_for, after_modules}
+use Rattle.eg_fault.specs.Effects.{Effects}
+use Rattle.eg_fault.specs.Faults.{effects}
+use Rattle.eg_model.specs.History.{Setting, Entry}
+use Rattle.eg_model.specs.Level1.{last_world, ports_of, slices_from}
+use Rattle.eg_model.specs.Moments.{readings_at, moments}
+use Rattle.eg_model.specs.Rows.{signal_list}
+use Rattle.eg_agree.specs.Doings.{doing_at}
+use Rattle.eg_agree.specs.Standing.{signals_of}
+
+-- What a tick begins with: the image, what level 2 meets (`doing`) and its words; whether level 1 runs, how
+-- many instructions it may do in each slice, and its world.
+pub record Work : Type 0 where
+  pub image : List ℕ
+  pub doing : Doing
+  pub words : Words
+  pub level1 : Bool
+  pub slices : List ℕ
+  pub world : World
+
+-- what slice j is shown: the signals are those that level 2's words hold after the modules below j
+unfoldable pub view_at : Work → ℕ → View
+view_at w j = record {
+  image = w.image;
+  ports = ports_of w.doing.readings;
+  results = signal_list (signals_of (after_modules w.doing j w.words));
+}
+
+-- what the slices from j on make of a world
+unfoldable pub rest_of : Work → ℕ → World → World
+rest_of w j world = if w.level1 then slices_from j (view_at w) (drop j w.slices) world else world
+
+-- what the board writes: the image, once, and at each tick the readings and the number of the question
+pub record IsSet (w : Work) (memory : List ℕ) : Type 0 where
+  pub are_words : AreWords memory
+  pub code : (k : ℕ) → k < 1024 → slice_index memory k ≡ slice_index w.image k
+  pub readings : readings_of memory ≡ w.doing.readings
+  pub asked : asked_of memory ≡ w.doing.asked
+
+-- After so many slices and so many modules: what the board wrote stands; level 2's words are those after so
+-- many modules, each with its complement; and the slices that are left make of level 1's world now what all
+-- nine make of the world with which the tick began.
+pub record IsMidway (w : Work) (slices modules : ℕ) (m : Registers) (memory : List ℕ) : Type 0 where
+  pub set : IsSet w memory
+  pub mirrored : AreMirrored memory
+  pub words : words_of memory ≡ after_modules w.doing modules w.words
+  pub world : rest_of w slices (world_of m memory) ≡ rest_of w 0 w.world
+
+-- ---- what level 2 meets ----
+
+-- What a tick does to level 2 (`d`) is what its parts, and what is out of order at the tick, say.
+pub record Meets (parts : Level2Parts) (x : Effects) (tick : ℕ) (sends : Bool) (d : Doing) : Type 0 where
+  pub rules : d.rules ≡ parts.rules
+  pub questions : d.questions ≡ parts.questions
+  pub at : d.tick ≡ tick
+  pub sends_now : d.sends ≡ sends
+  pub ran : d.ran ≡ x.ran
+  pub disturbance : d.disturbance ≡ x.disturbance
+  pub differs : d.differs ≡ is_some x.flip
+
+-- what module i orders, answers and finds, where the words before the tick are these
+unfoldable pub step_at : Doing → ℕ → Words → Step
+step_at d i words =
+    if d.ran i
+    then (if i == 0 && d.differs then finding mirror_alone
+    else step_of (inputs_for d i) i (after_modules d i words))
+    else quiet_step
+
+-- the work of the tick of an entry that comes after a history, where level 2 begins with these words
+unfoldable pub work_at : Setting → Entry → List Entry → Words → Work
+work_at s e h words =
+    let x = effects s.fault (length h) in
+    record {
+      image = s.image;
+      doing = doing_at s x (readings_at x e) (length h);
+      words = words;
+      level1 = x.level1;
+      slices = e.slices;
+      world = last_world (moments s h);
+    }

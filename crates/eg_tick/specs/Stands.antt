@@ -1,0 +1,96 @@
+-- What a controller stands for: a history from power-on, newest first, one entry a tick. What the controller
+-- keeps in its memory, latches and counters is what the model says of the ticks of that history.
+use Rattle.std.specs.Prelude.{◌≡◌, ℕ, ◌<◌, Bool, false, is_some, List, [], ◌∷◌, map, take, length, slice_index}
+use Rattle.std.specs.List.{list_any}
+use Rattle.eg_plant.specs.Engine.{Shown}
+use Rattle.eg_answer.specs.Periods.{period_of, place_of, expected_number, marked}
+use Rattle.eg_word.specs.declared.registers.Registers.{Registers}
+use Rattle.eg_word.specs.World.{world_of}
+use Rattle.eg_guard.specs.Memory.{AreWords}
+use Rattle.eg_level2.specs.Words.{AreMirrored, words_of}
+use Rattle.eg_module.specs.Monitoring.{MonitorParts, HasGiven}
+use Rattle.eg_model.specs.History.{Setting, Entry, Tick, Moment}
+use Rattle.eg_model.specs.Answers.{answers_in, verdicts_in}
+use Rattle.eg_model.specs.Paths.{latch1, latch2}
+use Rattle.eg_model.specs.Level1.{last_world}
+use Rattle.eg_model.specs.Premises.{AreProper}
+use Rattle.eg_model.specs.Moments.{ticks, moments}
+use Rattle.eg_model.specs.Rows.{first_trap}
+use Rattle.eg_agree.specs.Standing.{KeepsWords}
+use Rattle.eg_agree.specs.Replies.{KeepsFlow}
+use Rattle.eg_agree.specs.Agreement.{last_check}
+use Rattle.eg_tick.specs.Kept.{Kept}
+
+-- ---- level 1 ----
+
+-- The code is the image, with 0 past its end; machine, data and outputs are the world of the model.
+pub record HoldsLevel1 (s : Setting) (m : Registers) (memory : List ℕ) (past : List Moment) : Type 0 where
+  pub code : (k : ℕ) → k < 1024 → slice_index memory k ≡ slice_index s.image k
+  pub world : world_of m memory ≡ last_world past
+
+-- ---- level 2 ----
+
+-- Each word has its complement. Signals, counters, limited operation and trip are those of the model, and the
+-- words of the program flow tell of the ticks.
+pub record HoldsLevel2 (s : Setting) (memory : List ℕ) (h : List Entry) : Type 0 where
+  pub mirrored : AreMirrored memory
+  pub words : KeepsWords s (words_of memory) (moments s h)
+  pub flow : KeepsFlow s (words_of memory) (ticks s h)
+  pub last : (words_of memory).last ≡ last_check (ticks s h)
+
+-- ---- latches and the monitoring module ----
+
+pub record HoldsLatches (open1 open2 : Bool) (past : List Moment) : Type 0 where
+  pub path1 : open1 ≡ latch1 past
+  pub path2 : open2 ≡ latch2 past
+
+-- the monitoring module was wild at one of these ticks
+unfoldable pub was_wild : List Tick → Bool
+was_wild h = list_any (λ x. is_some x.effects.wild) h
+
+-- In an orderly module the verdicts are as many as the periods that are over, and the answers that it holds
+-- are those that were sent in the period that isn't over yet, each at its tick, and each with the expected
+-- number exactly where it is good.
+pub record IsOrderly (s : Setting) (monitor : MonitorParts) (h : List Entry) : Type 0 where
+  pub period : monitor.verdicts ≡ period_of s.cal.times (length h)
+  pub heard : map (marked (expected_number s.cal.times s.cal.questions (length h))) monitor.heard
+      ≡ answers_in (take (place_of s.cal.times (length h)) (moments s h))
+
+-- The module has the run's times and questions, and has given the verdicts of the model. It is orderly where
+-- it was never wild.
+pub record HoldsMonitor (s : Setting) (monitor : MonitorParts) (h : List Entry) : Type 0 where
+  pub times : monitor.times ≡ s.cal.times
+  pub questions : monitor.questions ≡ s.cal.questions
+  pub given : HasGiven monitor (verdicts_in (moments s h))
+  pub orderly : was_wild (ticks s h) ≡ false → IsOrderly s monitor h
+
+-- ---- the engine ----
+
+-- the last entry tells what the engine shows now
+unfoldable pub IsShown : Shown → List Entry → Type 0
+IsShown shown [] = Unit {0}
+IsShown shown (e ∷ before) = e.shown ≡ shown
+
+-- The engine has the `kt` of the calibration. At each tick the drive row kept its limits, the plate had an
+-- angle within its range, neither load hid torque, and there was no torque where the stages were off.
+pub record HoldsEngine (s : Setting) (kt : ℕ) (shown : Shown) (h : List Entry) : Type 0 where
+  pub one_kt : kt ≡ s.cal.rules.kt
+  pub proper : AreProper s (ticks s h)
+  pub shows : IsShown shown h
+
+-- ---- the controller ----
+
+-- A controller stands for a history of a run: calibration, fault and the count of ticks are those of the
+-- run, and so is all that it holds.
+pub record Stands (s : Setting) (c : Kept) (h : List Entry) : Type 0 where
+  pub cal : c.cal ≡ s.cal
+  pub fault : c.fault ≡ s.fault
+  pub count : c.ticks ≡ length h
+  pub are_words : AreWords c.memory.words
+  pub level1 : HoldsLevel1 s c.registers c.memory.words (moments s h)
+  pub level2 : HoldsLevel2 s c.memory.words h
+  pub latches : HoldsLatches c.open1 c.open2 (moments s h)
+  pub monitor : HoldsMonitor s c.monitor h
+  pub engine : HoldsEngine s c.kt c.shown h
+  pub trap : c.trap ≡ first_trap (moments s h)
+  pub not_lost : c.lost ≡ false

@@ -1,0 +1,134 @@
+// What the board itself writes into the memory.
+ghost use Rattle.std.specs.Prelude.{◌≡◌, ℕ, ◌+◌, ◌<◌, ◌≤◌, length, slice_index, slice_set, [], ◌∷◌, IsTrue, IsOk, OnOk};
+ghost use Rattle.eg_guard.specs.declared.regions.Who.TheVariants.{Board};
+ghost use Rattle.eg_guard.specs.Memory.{AreWords, SameOutside};
+ghost use Rattle.eg_guard.specs.Regions;
+ghost use Rattle.eg_level2.specs.Words.{place, word_at, AreMirrored, is_level2_own};
+ghost use Rattle.eg_level2.specs.Inputs.{readings_of, asked_of};
+ghost use Rattle.eg_tick.specs.Board.{IsWritten, is_board_own, by_tracks};
+
+use eg_base::NoMemory;
+use eg_guard::{Guarded, StoreRefusal, Who};
+use eg_sensor::Readings;
+
+/// The first word of the code, the first input port, and the link (docs/FORMATS.md, "Memory map").
+const CODE: u16 = 0;
+
+const FIRST_PORT: u16 = 2048;
+
+const LINK: u16 = 2128;
+
+/// Stores a word, where one stands.
+fn put<M: Guarded>(memory: &mut M, address: u16, word: u16) -> Result<(), NoMemory>
+    requires { IsTrue (Regions.access Board address).store }
+    ensures stored { OnOk result
+        ((M.shows memory.new).words ≡ slice_set (M.shows memory.old).words address word) }
+    ensures sure { IsTrue (M.shows memory.old).sure → IsOk result }
+    ensures stays_sure { (M.shows memory.new).sure ≡ (M.shows memory.old).sure }
+    ensures are_words { AreWords (M.shows memory.new).words }
+{
+    match memory.store(Who::Board, address, word) {
+        Ok(()) => Ok(()),
+        Err(StoreRefusal::Refused) => unreachable!(),
+        Err(StoreRefusal::Memory) => Err(NoMemory),
+    }
+}
+
+/// Stores these words from an address on.
+fn write<M: Guarded>(memory: &mut M, first: u16, values: &[u16]) -> Result<(), NoMemory>
+    requires stored { (k : ℕ) → k < length values.now → IsTrue (Regions.access Board (first + k)).store }
+    requires within { first + length values.now ≤ 4096 }
+    requires are_words { AreWords (M.shows memory.old).words }
+    ensures written { OnOk result (IsWritten (M.shows memory.old).words (M.shows memory.new).words
+        first values.now (length values.now)) }
+    ensures sure { IsTrue (M.shows memory.old).sure → IsOk result }
+    ensures stays_sure { (M.shows memory.new).sure ≡ (M.shows memory.old).sure }
+    ensures are_words { AreWords (M.shows memory.new).words }
+{
+    let mut address = first;
+    for value in values {
+        put(memory, address, *value)?;
+        address += 1;
+    }
+    Ok(())
+}
+
+/// Loads the image that level 1 runs (docs/CONCEPT.md, "Level 1").
+#[tactic(auto, using(crate::proofs::BoardLemmas::board))]
+pub(crate) fn load_image<M: Guarded>(memory: &mut M, image: &[u16]) -> Result<(), NoMemory>
+    requires fits { length image.now ≤ 1024 }
+    requires are_words { AreWords (M.shows memory.old).words }
+    ensures written { OnOk result
+        (IsWritten (M.shows memory.old).words (M.shows memory.new).words 0 image.now (length image.now)) }
+    ensures sure { IsTrue (M.shows memory.old).sure → IsOk result }
+    ensures stays_sure { (M.shows memory.new).sure ≡ (M.shows memory.old).sure }
+    ensures are_words { AreWords (M.shows memory.new).words }
+{
+    write(memory, CODE, image)
+}
+
+/// Writes the readings to the input ports, and the number of the question to the link (docs/FORMATS.md,
+/// "Memory map").
+#[tactic(auto, using(crate::proofs::BoardLemmas::board))]
+pub(crate) fn show<M: Guarded>(
+    memory: &mut M,
+    readings: &Readings,
+    asked: u16,
+) -> Result<(), NoMemory>
+    requires are_words { AreWords (M.shows memory.old).words }
+    ensures readings { OnOk result (readings_of (M.shows memory.new).words ≡ by_tracks readings.now) }
+    ensures asked { OnOk result (asked_of (M.shows memory.new).words ≡ asked) }
+    ensures outside { OnOk result
+        (SameOutside is_board_own (M.shows memory.old).words (M.shows memory.new).words) }
+    ensures sure { IsTrue (M.shows memory.old).sure → IsOk result }
+    ensures stays_sure { (M.shows memory.new).sure ≡ (M.shows memory.old).sure }
+    ensures are_words { AreWords (M.shows memory.new).words }
+{
+    let ports = [
+        readings.pedal[0],
+        readings.pedal[1],
+        readings.plate[0],
+        readings.plate[1],
+        readings.load[0],
+        readings.load[1],
+        readings.speed[0],
+        readings.speed[1],
+        readings.raise,
+        readings.raise_check,
+    ];
+    write(memory, FIRST_PORT, &ports)?;
+    put(memory, LINK, asked)
+}
+
+/// Where a word of level 2 stands, and from 16 on its complement (docs/FORMATS.md, "Words of level 2").
+#[tactic(auto, unfolding(eg_level2::specs::Words::place))]
+fn place(word: u8) -> u16
+    requires { word < 32 }
+    ensures { result ≡ place word }
+{
+    if word < 5 {
+        2080 + u16::from(word)
+    } else {
+        2091 + u16::from(word)
+    }
+}
+
+/// Flips bits of a word of level 2 (docs/CONCEPT.md, "Faults").
+#[tactic(auto, using(crate::proofs::BoardLemmas::board))]
+pub(crate) fn flip<M: Guarded>(memory: &mut M, word: u8, mask: u16) -> Result<(), NoMemory>
+    requires word { word < 32 }
+    requires some { 1 ≤ mask }
+    ensures changed { AreMirrored (M.shows memory.old).words
+        → OnOk result (¬ AreMirrored (M.shows memory.new).words) }
+    ensures outside { OnOk result
+        (SameOutside is_level2_own (M.shows memory.old).words (M.shows memory.new).words) }
+    ensures sure { IsTrue (M.shows memory.old).sure → IsOk result }
+    ensures stays_sure { (M.shows memory.new).sure ≡ (M.shows memory.old).sure }
+    ensures are_words { AreWords (M.shows memory.new).words }
+{
+    let address = place(word);
+    let Ok(before) = memory.load(Who::Board, address) else {
+        unreachable!()
+    };
+    put(memory, address, before ^ mask)
+}
