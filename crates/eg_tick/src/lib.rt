@@ -1,16 +1,18 @@
 //! The controller: one tick of all three levels.
 //!
-//! A tick is made of slices of level 1, which nobody trusts, between the modules of level 2, over one guarded
-//! memory; of the monitoring module, two latches and the engine. This crate has what a tick is cut into, what
-//! counts the ticks that were made, and what the board, a slice and a module make of the memory in a tick. What
-//! a controller stands for is in `specs/Stands.antt`.
+//! A tick is made of slices of level 1, which nobody trusts, between the modules of level 2, over one
+//! guarded memory; of the monitoring module, two latches and the engine. This crate has what a tick is cut
+//! into, what counts the ticks that were made, how a controller begins, and what the board, a slice and a
+//! module make of the memory in a tick. What a controller stands for is in `specs/Stands.antt`.
 #![tactic(auto)]
 
 mod board;
+mod controller;
 mod levels;
 mod slices;
 mod ticks;
 mod total;
 
+pub use controller::Controller;
 pub use slices::{SlicePlan, Slices};
 pub use ticks::Ticks;

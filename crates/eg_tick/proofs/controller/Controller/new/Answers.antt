@@ -1,0 +1,42 @@
+use Rattle.std.proofs.Common.{◌≡◌, ◌∙◌, refl, sym, ap, subst, length, replicate}
+use Rattle.eg_guard.specs.Memory.{AreWords}
+use Rattle.eg_guard.proofs.WordsLemmas.{zeros_are_words}
+use Rattle.eg_word.specs.World.{world_of}
+use Rattle.eg_module.specs.Monitoring.{MonitorParts}
+use Rattle.eg_tick.specs.Board.{IsWritten}
+use Rattle.eg_tick.proofs.StartLemmas.{new_stands, made_code, made_world}
+use Rattle.eg_tick.proofs.controller.Controller.new.Goals as goal
+
+pub load_image-requires-clause-are_words : goal.load_image-requires-clause-are_words
+load_image-requires-clause-are_words g c = subst AreWords (sym c.requires.zeros) zeros_are_words
+
+pub returns-clause-stands : goal.returns-clause-stands
+returns-clause-stands g c =
+    let image = c.args.image.now in
+    let loaded = (g.M.Guarded.shows c.load_image.new.memory).words in
+    let made = (g.M.Guarded.shows c.reset.new.memory).words in
+    let written : IsWritten (replicate 4096 0) loaded 0 image (length image) =
+    subst (λ old. IsWritten old loaded 0 image (length image)) c.requires.zeros c.in_ok-load_image.ensures.written in
+    let are_words : AreWords made = c.reset.ensures.are_words c.load_image.ensures.are_words in
+    new_stands _ _ (record {
+      cal = refl;
+      fault = refl;
+      count = refl;
+      are_words = are_words;
+      code = made_code image loaded made c.requires.image c.load_image.ensures.are_words written c.reset.ensures.outside;
+      world =
+          ap (λ m. world_of m made) c.new.ensures
+          ∙ made_world image loaded made c.requires.image c.load_image.ensures.are_words are_words written c.reset.ensures.outside;
+      mirrored = c.in_ok-reset.ensures.mirrored;
+      words = c.in_ok-reset.ensures.words;
+      open1 = refl;
+      open2 = refl;
+      times = ap (λ (m : MonitorParts). m.times) c.new-monitor.ensures.begins ∙ c.copy-3.ensures ∙ c.times.ensures.times;
+      questions = ap (λ (m : MonitorParts). m.questions) c.new-monitor.ensures.begins ∙ c.copy-4.ensures ∙ c.questions-2.ensures.questions;
+      given = c.new-monitor.ensures.given;
+      period = c.new-monitor.ensures.next;
+      heard = ap (λ (m : MonitorParts). m.heard) c.new-monitor.ensures.begins;
+      kt = c.requires.kt;
+      trap = refl;
+      not_lost = refl;
+    })
