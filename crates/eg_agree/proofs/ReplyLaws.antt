@@ -28,7 +28,7 @@ use Rattle.eg_model.specs.Moments.{readings_at, moment, moments_of, ticks, momen
 use Rattle.eg_model.specs.Premises.{Follows}
 use Rattle.eg_model.proofs.TickLemmas.{tripped-cons, moment-whole}
 use Rattle.eg_agree.specs.Doings.{doing_at}
-use Rattle.eg_agree.specs.Replies.{doing_after, words_over, answer_from_power_on, TellTrips, IsReady, FlowMarks, AnswersHold, AnswersHoldFromPowerOn, RestsBetweenAnswers, moment_after, number_expected, mark_of, HasWords, IsAnyFault, is_flipped, RanTogether, ReactRan, has_just_answered, KeepsFlow}
+use Rattle.eg_agree.specs.Replies.{doing_after, words_over, answer_from_power_on, TellTrips, IsReady, FlowMarks, AnswersHold, AnswersHoldFromPowerOn, RestsBetweenAnswers, moment_after, number_expected, mark_of, IsAnyFault, is_flipped, RanTogether, ReactRan, has_just_answered, KeepsFlow}
 use Rattle.eg_agree.proofs.ReplyShapes.{shape, LeavesOneOut, few_are_disturbed}
 use Rattle.eg_agree.proofs.ReplySteps.{whole_same, undisturbed_same, sent_same, mark-is, keeps_next, keeps_start}
 
@@ -53,10 +53,10 @@ module _ (s : Setting) (accepted : IsAccepted s.cal) (x : Tick) (h : List Tick) 
   unfolding row_asked row_of doing_after doing_at
   row-is = ap (λ n. (question_at s.cal.questions n).row) (mod-eq_of_lt place-below)
 
-  pub row_fits : HasWords s.cal → FitsWords s.cal.rules (row_asked (doing_after s x h))
-  row_fits words = subst (FitsWords s.cal.rules) (sym row-is)
-      (fits_words s.cal.rules (question_at s.cal.questions place).row words.values
-      (words.seeds place _ place-below))
+  pub row_fits : FitsWords s.cal.rules (row_asked (doing_after s x h))
+  row_fits = subst (FitsWords s.cal.rules) (sym row-is)
+      (fits_words s.cal.rules (question_at s.cal.questions place).row accepted.words.values
+      (accepted.words.seeds place _ place-below))
 
   -- the number that is expected is that of the row that is asked
   pub number-is : number_expected s x.effects (length h) ≡ expected_number (doing_after s x h)
@@ -177,7 +177,7 @@ module _ (s : Setting) (start : ℕ) (x : Tick) (h : List Tick) (w : Words) (g :
   tells_all all unflipped together =
       let parts = or_parts _ _ unflipped in
       expects _
-      ∙ steady_answers d w (whole_since_answer past) parts.0 all g.fits few
+      ∙ steady_answers d w (whole_since_answer past) parts.0 all (row_fits s g.accepted x h) few
       (g.keeps.steady parts.1 together)
       ∙ ap (λ b. whole_since_answer past && b) (undisturbed_same s x h)
       ∙ ap (λ b. b && whole_since_answer past && is_undisturbed x.effects)
@@ -190,7 +190,7 @@ module _ (s : Setting) (start : ℕ) (x : Tick) (h : List Tick) (w : Words) (g :
   tells_out one below others unflipped z =
       let parts = or_parts _ _ unflipped in
       expects _
-      ∙ gap_answers d w one parts.0 others below g.fits z
+      ∙ gap_answers d w one parts.0 others below (row_fits s g.accepted x h) z
       ∙ ap (λ b. b && whole_since_answer past && is_undisturbed x.effects)
       (sym (sym (whole_same s x h) ∙ out_told d one (omega arith) others))
 
@@ -300,14 +300,13 @@ flow_marks s start x h w g = marks s start x h w g
 
 pub answers_hold : AnswersHold
 unfolding TellTrips
-answers_hold s accepted words fault start x h follows small told =
+answers_hold s accepted fault start x h follows small told =
     marks s start x h (words_over s h)
     (record {
       accepted = accepted;
       fault = fault;
       follows = follows;
       short = small;
-      fits = row_fits s accepted x h words;
       keeps = keeps_over s h (omega arith) told.1;
       trip = told.0;
     })
@@ -330,11 +329,11 @@ ticks_follow s (e ∷ h) = (
 
 pub answers_hold_from_power_on : AnswersHoldFromPowerOn
 unfolding ticks answer_from_power_on next moments
-answers_hold_from_power_on s accepted words fault e h small told =
+answers_hold_from_power_on s accepted fault e h small told =
     let x : Tick = record { effects = effects s.fault (length h); entry = e } in
     ap (λ n. mark_of (number_expected s x.effects n)
     (answer_at (doing_after s x (ticks s h)) (words_over s (ticks s h)))) (sym (length-ticks s h))
-    ∙ answers_hold s accepted words fault 0 x (ticks s h) (ticks_follow s (e ∷ h))
+    ∙ answers_hold s accepted fault 0 x (ticks s h) (ticks_follow s (e ∷ h))
     (let same = length-ticks s h in omega arith) told
 
 pub rests_between_answers : RestsBetweenAnswers

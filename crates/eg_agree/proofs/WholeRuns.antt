@@ -17,13 +17,13 @@ pub words_stand : WordsStand
 words_stand s accepted begin h follows = words-keep s accepted begin h follows
 
 pub each_answer_holds : EachAnswerHolds
-each_answer_holds s accepted words fault begin x h follows short =
-    answers_hold s accepted words fault begin x h follows short
+each_answer_holds s accepted fault begin x h follows short =
+    answers_hold s accepted fault begin x h follows short
     (tell_trips s accepted begin (x ∷ h) follows)
 
 pub each_answer_holds_from_power_on : EachAnswerHoldsFromPowerOn
-each_answer_holds_from_power_on s accepted words fault e h short =
-    answers_hold_from_power_on s accepted words fault e h short
+each_answer_holds_from_power_on s accepted fault e h short =
+    answers_hold_from_power_on s accepted fault e h short
     (tell_trips s accepted 0 (ticks s (e ∷ h)) (ticks_follow s (e ∷ h)))
 
 pub words_rest : WordsRest

@@ -11,7 +11,7 @@ use Rattle.eg_flow.specs.Ticks.{after_tick, answer_at}
 use Rattle.eg_model.specs.Answers.{whole_since_answer}
 use Rattle.eg_model.specs.Moments.{moments_of, next}
 use Rattle.eg_agree.specs.Standing.{KeepsWords}
-use Rattle.eg_agree.specs.Replies.{HasWords, IsAnyFault, doing_after, words_over, moment_after, mark_of, number_expected, answer_from_power_on, is_flipped}
+use Rattle.eg_agree.specs.Replies.{IsAnyFault, doing_after, words_over, moment_after, mark_of, number_expected, answer_from_power_on, is_flipped}
 
 -- after every history under any fault, from any tick of the run on
 abbrev pub WordsStand : Type 0
@@ -19,13 +19,13 @@ WordsStand =
     (s : Setting) → IsAccepted s.cal → (begin : ℕ) (h : List Tick) → Follows s.fault begin h →
     KeepsWords s (words_over s h) (moments_of s h)
 
--- The theorem on answers. Let the calibration be an accepted one, whose seeds and permit values are words,
--- and let there be no fault or a valid one of any class, lapses too. What is sent at tick x, after a
--- history that begins at any tick of the run, is the expected number exactly where the model calls the
--- answer good; nothing is sent exactly where it calls it absent.
+-- The theorem on answers. Let the calibration be an accepted one, and let there be no fault or a valid one of
+-- any class, lapses too. What is sent at tick x, after a history that begins at any tick of the run, is the
+-- expected number exactly where the model calls the answer good; nothing is sent exactly where it calls it
+-- absent.
 abbrev pub EachAnswerHolds : Type 0
 EachAnswerHolds =
-    (s : Setting) → IsAccepted s.cal → HasWords s.cal → IsAnyFault s.fault →
+    (s : Setting) → IsAccepted s.cal → IsAnyFault s.fault →
     (begin : ℕ) (x : Tick) (h : List Tick) → Follows s.fault begin (x ∷ h) → length h < 65535 →
     mark_of (number_expected s x.effects (length h)) (answer_at (doing_after s x h) (words_over s h))
     ≡ (moment_after s x h).mark
@@ -33,7 +33,7 @@ EachAnswerHolds =
 -- the same from power-on: the tick is that of an entry e after the history h
 abbrev pub EachAnswerHoldsFromPowerOn : Type 0
 EachAnswerHoldsFromPowerOn =
-    (s : Setting) → IsAccepted s.cal → HasWords s.cal → IsAnyFault s.fault →
+    (s : Setting) → IsAccepted s.cal → IsAnyFault s.fault →
     (e : Entry) (h : List Entry) → length h < 65535 →
     mark_of (number_expected s (effects s.fault (length h)) (length h)) (answer_from_power_on s e h)
     ≡ (next s e h).mark

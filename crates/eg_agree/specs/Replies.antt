@@ -58,11 +58,6 @@ mark_of expected (Some number) = if number == expected then Good else Bad
 
 -- ---- what the theorems ask for ----
 
--- The seeds of the questions, and the values of the permit table, are words of 16 bits.
-pub record HasWords (c : CalibrationParts) : Type 0 where
-  pub seeds : All (λ question. question.row.seed < 2 ^ 16) c.questions
-  pub values : All (λ value. value < 2 ^ 16) c.rules.permit.values
-
 -- no fault, or a valid one of any class, lapses too
 unfoldable pub IsAnyFault : Option Fault → Type 0
 IsAnyFault None = Unit {0}
@@ -127,7 +122,6 @@ pub record IsReady (s : Setting) (begin : ℕ) (x : Tick) (h : List Tick) (words
   pub fault : IsAnyFault s.fault
   pub follows : Follows s.fault begin (x ∷ h)
   pub short : length h < 65535
-  pub fits : FitsWords s.cal.rules (row_asked (doing_after s x h))
   pub keeps : KeepsFlow s words h
   pub trip : TellsTrip s words x h
 
@@ -140,12 +134,12 @@ FlowMarks =
 
 -- ---- whole histories ----
 
--- Let the calibration be an accepted one, of words, and the fault any valid one or none. At each tick x of
--- a history from tick `begin` of the run on, what level 2 sends has the mark of the model's tick: Absent
--- where it sends nothing, Good where it sends the number that is expected, else Bad.
+-- Let the calibration be an accepted one, and the fault any valid one or none. At each tick x of a history
+-- from tick `begin` of the run on, what level 2 sends has the mark of the model's tick: Absent where it sends
+-- nothing, Good where it sends the number that is expected, else Bad.
 abbrev pub AnswersHold : Type 0
 AnswersHold =
-    (s : Setting) → IsAccepted s.cal → HasWords s.cal → IsAnyFault s.fault →
+    (s : Setting) → IsAccepted s.cal → IsAnyFault s.fault →
     (begin : ℕ) (x : Tick) (h : List Tick) → Follows s.fault begin (x ∷ h) → length h < 65535 →
     TellTrips s (x ∷ h) →
     mark_of (number_expected s x.effects (length h)) (answer_at (doing_after s x h) (words_over s h))
@@ -154,7 +148,7 @@ AnswersHold =
 -- the same over the histories from power-on
 abbrev pub AnswersHoldFromPowerOn : Type 0
 AnswersHoldFromPowerOn =
-    (s : Setting) → IsAccepted s.cal → HasWords s.cal → IsAnyFault s.fault →
+    (s : Setting) → IsAccepted s.cal → IsAnyFault s.fault →
     (e : Entry) (h : List Entry) → length h < 65535 → TellTrips s (ticks s (e ∷ h)) →
     mark_of (number_expected s (effects s.fault (length h)) (length h)) (answer_from_power_on s e h)
     ≡ (next s e h).mark

@@ -7,9 +7,9 @@ ghost use Rattle.eg_agree.specs.Replies.{AnswersHold, AnswersHoldFromPowerOn, Re
 /// modules run one after another at each tick from the start on, each where the fault lets it. The number
 /// that is sent, compared with the one that is expected, is then just what the model calls it: absent where
 /// none is sent, good where it is the expected one, and else bad. So a number is the expected one exactly
-/// where all eight modules ran at each tick since the last answer and none is disturbed. It asks that seeds
-/// and permit values are words, that the history is shorter than 65,535 ticks, and that as react begins the
-/// word for the trip tells whether a trip came; `level_2_agrees` says it without the last.
+/// where all eight modules ran at each tick since the last answer and none is disturbed. It asks that the
+/// history is shorter than 65,535 ticks, and that as react begins the word for the trip tells whether a trip
+/// came; `level_2_agrees` says it without the last.
 #[tactic(auto, using(crate::proofs::ReplyLaws::answers_hold))]
 pub fn answers_hold()
     ensures any { AnswersHold }

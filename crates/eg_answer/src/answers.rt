@@ -1,5 +1,5 @@
 // The results of a test row, and the fold that an answer carries.
-ghost use Rattle.std.specs.Prelude.{◌≡◌};
+ghost use Rattle.std.specs.Prelude.{◌≡◌, ◌<◌, ◌^◌};
 ghost use Rattle.eg_answer.specs.Folds.{mixed, fold_of, FoldLaw};
 ghost use Rattle.eg_answer.specs.Answers.{results_of, expected_of};
 
@@ -40,7 +40,8 @@ pub fn fold(seed: u16, results: &[u16; 5]) -> u16
 /// The answer to a test row: the fold of its seed and its five results (docs/CONCEPT.md, "Questions and
 /// answers").
 pub fn expected(rules: &Rules, row: &TestRow) -> u16
-    ensures { result ≡ expected_of rules.now row.now }
+    ensures answer { result ≡ expected_of rules.now row.now }
+    ensures seed { row.now.seed < 2 ^ 16 }
 {
     fold(row.seed, &results(rules, row))
 }

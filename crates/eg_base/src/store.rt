@@ -40,7 +40,8 @@ pub trait Store {
         ensures ok { OnOk result (Reads (shows self.old).files name.now most into.old.items into.new.items) }
         ensures kept { OnErr result (BeginsWith into.old.items into.new.items) }
 
-        // Each Failed is counted, and Ok isn't. Over a sure store it comes exactly where there is no such file.
+        // Each Failed is counted, and Ok isn't. Over a sure store it comes exactly where there is no such
+        // file.
         ensures count { (shows self.old).faults ≤ (shows self.new).faults }
         ensures no_fault { OnOk result ((shows self.new).faults ≡ (shows self.old).faults) }
         ensures cause { IsErrOf result Failed → Rose (shows self.old).faults (shows self.new).faults }

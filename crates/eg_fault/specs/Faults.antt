@@ -71,7 +71,8 @@ IsOffset (negsuc less) = IsMask (less + 1)
 
 -- the ranges of the numbers of a class
 unfoldable pub IsValidClass : Class → Type 0
-IsValidClass (Script track values) = (track < 8) × AreFew (length values) × All (λ value. value ≤ 65535) values
+IsValidClass (Script track values) =
+    (track < 8) × AreFew (length values) × All (λ value. value ≤ 65535) values
 IsValidClass (Offset track add) = (track < 8) × IsOffset add
 IsValidClass (Bus mask) = IsMask mask
 IsValidClass (Plate at) = at ≤ 1000

@@ -11,7 +11,8 @@ use std::marker::Model;
 /// A memory as `FlatMemory`, but one of its stores answers Memory. It isn't sure. For tests of what comes of
 /// want of memory.
 ///
-/// Contracts see a `StingyState`: the words, and how many stores are still done before the one that is refused.
+/// Contracts see a `StingyState`: the words, and how many stores are still done before the one that is
+/// refused.
 #[derive(Drop)]
 pub struct StingyMemory {
     memory: FlatMemory,

@@ -11,8 +11,8 @@ const LOAD: (bool, bool) = (true, false);
 
 const BOTH: (bool, bool) = (true, true);
 
-/// Whether the addresses from `first` to `last` are of that region, and what it allows to level 1, to level 2 and
-/// to the board.
+/// Whether the addresses from `first` to `last` are of that region, and what it allows to level 1, to level 2
+/// and to the board.
 fn row_is(rt: &impl Abort, first: u16, last: u16, region: Region, allows: [(bool, bool); 3]) {
     for address in first..=last {
         assert_eq!(rt; region_of(address), region, "{address}");

@@ -61,7 +61,8 @@ fn a_slice_wakes_the_machine(rt: HostRuntime) {
 /// What stands in the words that level 1 may read or not even read, but never change.
 const MARK: u16 = 0xa5a5;
 
-/// The instructions that store 77 at an address: its upper nine bits and its lower seven, 77, the store, a wait.
+/// The instructions that store 77 at an address: its upper nine bits and its lower seven, 77, the store, a
+/// wait.
 fn image_for(address: u16) -> [u16; 5] {
     [
         0x1200 + address / 128,

@@ -84,8 +84,8 @@ impl Level2 {
     /// Runs the module of this number, 0 to 7, over the memory (docs/CONCEPT.md, "Level 2"). The readings and
     /// the number of the question stand at the input ports and at the link. `tick` is this tick, and `send`
     /// says whether the answer is sent at it. What disturbs the run is mixed in by exclusive or; 0 disturbs
-    /// nothing. After NoMemory, what was stored stays; a test shows that, and the clauses that no other word has
-    /// changed.
+    /// nothing. After NoMemory, what was stored stays; a test shows that, and the clauses that no other word
+    /// has changed.
     #[tactic(auto, using(crate::proofs::StoreLemmas::outsides))]
     pub fn module<M: Guarded>(
         &self,

@@ -107,7 +107,8 @@ follow_run =
 -- the first pedal track reads 1000 where the pedal stands at 500, for ten ticks
 abbrev pub pressed_run : Run
 pressed_run =
-    run_of idle (fault_from 0 (Script 0 (1000 ∷ []))) (replicate 10 (record { pedal = 500; speed = 800; raise = 0 }))
+    run_of idle (fault_from 0 (Script 0 (1000 ∷ [])))
+    (replicate 10 (record { pedal = 500; speed = 800; raise = 0 }))
 
 -- the first pedal track reads 100 less where the pedal stands at 50, for one tick
 abbrev pub offset_run : Run

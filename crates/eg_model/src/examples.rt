@@ -34,7 +34,8 @@ pub fn full_run_in_detail()
 /// verdict right.
 pub fn idle_run()
     ensures report { report_of (codes "a") (bench_run idle None 60) ≡ reported None None None None }
-    ensures answers { answers_of (bench_run idle None 40) ≡ (5, Good) ∷ (15, Good) ∷ (25, Good) ∷ (35, Good) ∷ [] }
+    ensures answers { answers_of (bench_run idle None 40)
+        ≡ (5, Good) ∷ (15, Good) ∷ (25, Good) ∷ (35, Good) ∷ [] }
     ensures verdicts { verdicts_of (bench_run idle None 40)
         ≡ (9, Some Right) ∷ (19, Some Right) ∷ (29, Some Right) ∷ (39, Some Right) ∷ [] }
 {}
@@ -85,7 +86,8 @@ pub fn refused_store()
 
 /// An empty image runs off the end of the code at tick 1: 900 words are done in tick 0, and 124 in tick 1.
 pub fn empty_image()
-    ensures { report_of (codes "a") (bench_run [] None 30) ≡ reported None None (Some (trapped.Fetch, 1)) None }
+    ensures { report_of (codes "a") (bench_run [] None 30)
+        ≡ reported None None (Some (trapped.Fetch, 1)) None }
 {}
 
 /// A jump to itself, a thousand times a tick, disturbs nothing.

@@ -31,7 +31,8 @@ pub fn path_1_closes_run()
 /// excess is confirmed at tick 16, the stages are still on at tick 49, and they are off at tick 50, which
 /// is 16 + 34.
 pub fn reaction_is_met()
-    ensures report { report_of (codes "a") raised_run ≡ reported (Some (found.Torque, 16)) (Some 50) None (Some 16) }
+    ensures report { report_of (codes "a") raised_run
+        ≡ reported (Some (found.Torque, 16)) (Some 50) None (Some 16) }
     ensures stages { stages_of raised_run ≡ replicate 50 true ++ replicate 10 false }
 {}
 
@@ -67,7 +68,8 @@ pub fn flip_seen_by_level_1()
 pub fn lost_load_run()
     ensures report { report_of (codes "a") (bench_run full (fault_from 0 (Script 4 (0 ∷ []))) 20)
         ≡ reported (Some (found.Load, 6)) (Some 7) None None }
-    ensures pairs { map (λ m. m.signals.pairs) (moments_in_time (bench_run full (fault_from 0 (Script 4 (0 ∷ []))) 7))
+    ensures pairs { map (λ m. m.signals.pairs)
+        (moments_in_time (bench_run full (fault_from 0 (Script 4 (0 ∷ []))) 7))
         ≡ 0 ∷ 0 ∷ 4 ∷ 4 ∷ 4 ∷ 4 ∷ 4 ∷ [] }
 {}
 
@@ -84,12 +86,14 @@ pub fn raised_pedal_run()
 /// is limited to 0.
 pub fn limited_run()
     ensures found { report_of (codes "a") pressed_run ≡ reported (Some (found.Pedal, 4)) None None None }
-    ensures permitted { map (λ m. m.signals.permitted) (moments_in_time pressed_run) ≡ replicate 5 1000 ++ replicate 5 200 }
+    ensures permitted { map (λ m. m.signals.permitted) (moments_in_time pressed_run)
+        ≡ replicate 5 1000 ++ replicate 5 200 }
 {}
 
 /// React doesn't run from tick 10 on, right after it has ordered path 1 open: the path stays open.
 pub fn latched_run()
-    ensures { stages_of (bench_run full (fault_from 10 (Skip 7)) 15) ≡ replicate 10 true ++ replicate 5 false }
+    ensures { stages_of (bench_run full (fault_from 10 (Skip 7)) 15)
+        ≡ replicate 10 true ++ replicate 5 false }
 {}
 
 /// Module 3 never runs: the actual torque stays 0, no answer is good, and path 2 cuts at tick 30.
@@ -102,8 +106,10 @@ pub fn skipped_run()
 
 /// Neither level runs: level 1's outputs stay 0. And a plate that is held stays there.
 pub fn halted_and_held_runs()
-    ensures halted { map (λ m. m.world.throttle) (moments_in_time (bench_run full (fault_from 0 Halt) 2)) ≡ 0 ∷ 0 ∷ [] }
-    ensures held { map (λ m. m.entry.shown.position) (moments_in_time (bench_run idle (fault_from 2 (Plate 300)) 5))
+    ensures halted { map (λ m. m.world.throttle)
+        (moments_in_time (bench_run full (fault_from 0 Halt) 2)) ≡ 0 ∷ 0 ∷ [] }
+    ensures held { map (λ m. m.entry.shown.position)
+        (moments_in_time (bench_run idle (fault_from 2 (Plate 300)) 5))
         ≡ 0 ∷ 0 ∷ 300 ∷ 300 ∷ 300 ∷ [] }
 {}
 
@@ -111,7 +117,8 @@ pub fn halted_and_held_runs()
 pub fn moved_answers_run()
     ensures late { report_of (codes "a") (bench_run idle (fault_from 0 (Timing 8)) 40)
         ≡ reported (Some (found.Answers, 29)) (Some 30) None None }
-    ensures in_time { report_of (codes "a") (bench_run idle (fault_from 0 (Timing 7)) 40) ≡ reported None None None None }
+    ensures in_time { report_of (codes "a") (bench_run idle (fault_from 0 (Timing 7)) 40)
+        ≡ reported None None None None }
 {}
 
 /// A wild monitoring module gives no verdicts, and level 2 cuts all the same; it opens path 2 where its

@@ -1,5 +1,5 @@
 // Tables of two axes.
-ghost use Rattle.std.specs.Prelude.{◌≡◌, ◌*◌, ◌+◌, ◌<◌, length, SomeIff};
+ghost use Rattle.std.specs.Prelude.{◌≡◌, ◌*◌, ◌+◌, ◌^◌, ◌<◌, All, length, SomeIff};
 ghost use Rattle.eg_num.specs.Interpolation.{Grid, IsGrid, IsGridValueAt, cell, grid_at, row_at};
 
 use crate::Axis;
@@ -60,6 +60,16 @@ impl Table2 {
         ensures grid { IsGrid self.now }
     {
         self.columns.points().len()
+    }
+
+    /// The values, row by row. All are words.
+    pub fn values(&self) -> &[u16]
+        ensures values { result.now ≡ self.now.values }
+        ensures words { All (λ value. value < 2 ^ 16) self.now.values }
+        ensures grid { IsGrid self.now }
+    {
+        let values = self.values.as_slice();
+        values
     }
 
     /// The value at the crossing of row `i` and column `j`.

@@ -27,9 +27,9 @@ pub struct Summary {
     pub bound: u32,
 }
 
-/// The summary of a run of these rows, which stand in the order of time, from tick 0 on (docs/CONCEPT.md, "The
-/// report of a run"). The true excess goes by the threshold (tenths of Nm) and by these weights; name, trap
-/// and reaction time (ticks) are told as they are handed in.
+/// The summary of a run of these rows, which stand in the order of time, from tick 0 on (docs/CONCEPT.md,
+/// "The report of a run"). The true excess goes by the threshold (tenths of Nm) and by these weights; name,
+/// trap and reaction time (ticks) are told as they are handed in.
 #[tactic(auto, unfolding(crate::specs::Summaries::summary_of))]
 pub fn summarize(
     alloc: Global,

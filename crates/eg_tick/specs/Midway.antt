@@ -7,7 +7,7 @@ use Rattle.eg_level2.specs.Words.{Words, AreMirrored, words_of}
 use Rattle.eg_level2.specs.Inputs.{Level2Parts, readings_of, asked_of}
 use Rattle.eg_level2.specs.declared.step.Step.{Step}
 use Rattle.eg_level2.specs.Modules.{step_of, finding, mirror_alone, quiet_step}
-use Rattle.eg_flow.specs.Ticks.{Doing, inputs_for, after_modules}
+use Rattle.eg_flow.specs.Ticks.{Doing, inputs_for, after_modules, answer_at, orders_at, finds_at}
 use Rattle.eg_fault.specs.Effects.{Effects}
 use Rattle.eg_fault.specs.Faults.{effects}
 use Rattle.eg_model.specs.History.{Setting, Entry}
@@ -74,6 +74,14 @@ step_at d i words =
     then (if i == 0 && d.differs then finding mirror_alone
     else step_of (inputs_for d i) i (after_modules d i words))
     else quiet_step
+
+-- what all eight order, answer and find
+unfoldable pub tick_step : Doing → Words → Step
+tick_step d words = record {
+  open_path = orders_at d words;
+  answer = answer_at d words;
+  found = finds_at d words;
+}
 
 -- the work of the tick of an entry that comes after a history, where level 2 begins with these words
 unfoldable pub work_at : Setting → Entry → List Entry → Words → Work

@@ -17,7 +17,7 @@ use Rattle.eg_model.specs.Premises.{AreProper}
 use Rattle.eg_model.specs.Moments.{ticks, moments}
 use Rattle.eg_model.specs.Rows.{first_trap}
 use Rattle.eg_agree.specs.Standing.{KeepsWords}
-use Rattle.eg_agree.specs.Replies.{KeepsFlow}
+use Rattle.eg_agree.specs.Replies.{KeepsFlow, IsAnyFault}
 use Rattle.eg_agree.specs.Agreement.{last_check}
 use Rattle.eg_tick.specs.Kept.{Kept}
 
@@ -94,3 +94,10 @@ pub record Stands (s : Setting) (c : Kept) (h : List Entry) : Type 0 where
   pub engine : HoldsEngine s c.kt c.shown h
   pub trap : c.trap ≡ first_trap (moments s h)
   pub not_lost : c.lost ≡ false
+
+-- What a controller always keeps: its fault, if any, is a valid one; and unless memory ran out it stands for
+-- some history of a run of its calibration and its fault.
+pub record IsController (c : Kept) : Type 0 where
+  pub fault : IsAnyFault c.fault
+  pub stands : c.lost ≡ false → (image : List ℕ) × (h : List Entry)
+      × Stands (record { cal = c.cal; image = image; fault = c.fault }) c h

@@ -1,5 +1,5 @@
 -- What a calibration holds, and when it is an accepted one.
-use Rattle.std.specs.Prelude.{◌≡◌, ◌≤◌, List, length, All}
+use Rattle.std.specs.Prelude.{◌≡◌, ◌≤◌, ◌<◌, ◌^◌, List, length, All}
 use Rattle.eg_num.specs.Interpolation.{IsGrid, IsCurve}
 use Rattle.eg_num.specs.Windows.{AreWeights}
 use Rattle.eg_torque.specs.Permit.{DoesNotFall}
@@ -23,6 +23,11 @@ pub record GoTogether (c : CalibrationParts) : Type 0 where
   pub two_questions : 2 ≤ length c.questions
   pub answered : All (λ question. question.answer ≡ expected_of c.rules question.row) c.questions
 
+-- the seeds of the questions, and the values of the permit table, are words of 16 bits
+pub record HasWords (c : CalibrationParts) : Type 0 where
+  pub seeds : All (λ question. question.row.seed < 2 ^ 16) c.questions
+  pub values : All (λ value. value < 2 ^ 16) c.rules.permit.values
+
 -- An accepted calibration: each part keeps its limits, and they go together. The laws of a run ask no more of
 -- a calibration than this.
 pub record IsAccepted (c : CalibrationParts) : Type 0 where
@@ -36,3 +41,4 @@ pub record IsAccepted (c : CalibrationParts) : Type 0 where
   pub answers : AreWeights c.times.weights
   pub at_most_64 : length c.questions ≤ 64
   pub together : GoTogether c
+  pub words : HasWords c

@@ -1,5 +1,5 @@
 // The values of a calibration.
-ghost use Rattle.std.specs.Prelude.{◌≡◌, ◌↔◌, All, IsTrue, IsSome, IfSome};
+ghost use Rattle.std.specs.Prelude.{◌≡◌, ◌↔◌, ◌<◌, ◌^◌, All, IsTrue, IsSome, IfSome};
 ghost use Rattle.eg_answer.specs.Answers.{expected_of};
 ghost use Rattle.eg_values.specs.Calibration.{CalibrationParts, GoTogether, IsAccepted};
 
@@ -59,7 +59,7 @@ impl Calibration {
             return None;
         }
         // Whoever reads these values learns what their types keep.
-        let _table = rules.permit.table();
+        let _values = rules.permit.table().values();
         let _limits = (rules.pair.limit(), rules.torque.limit());
         let _charges = plant.charge().values();
         let _weights = times.weights();
@@ -116,10 +116,11 @@ impl Calibration {
     }
 }
 
-/// Whether each question's answer is the fold of its row.
+/// Whether each question's answer is the fold of its row. Whoever asks learns that the seeds are words.
 fn are_answered(rules: &Rules, questions: &Questions) -> bool
-    ensures { IsTrue result
+    ensures answered { IsTrue result
         ↔ All (λ question. question.answer ≡ expected_of rules.now question.row) questions.now }
+    ensures seeds { IsTrue result → All (λ question. question.row.seed < 2 ^ 16) questions.now }
 {
     for i in 0..questions.len() {
         if questions.answer(i) != expected(rules, questions.row(i)) {

@@ -1,8 +1,9 @@
 //! The machine that runs level 1: its instructions, and one step over a guarded memory.
 //!
 //! Level 1 is code that nobody trusts: any 1,024 words may be its image. A step is the table of instructions,
-//! and reaches memory through `Guarded` alone, so that it changes no word but level 1's own. A step over a guarded
-//! memory is a step of level 1's private world (`specs/World.antt`), which the model of a run is built on.
+//! and reaches memory through `Guarded` alone, so that it changes no word but level 1's own. A step over a
+//! guarded memory is a step of level 1's private world (`specs/World.antt`), which the model of a run is built
+//! on.
 #![tactic(auto)]
 
 mod instruction;

@@ -138,7 +138,8 @@ fn execute<M: Guarded>(
 #[inline]
 #[tactic(auto, unfolding(crate::specs::Machine::load_into, crate::specs::Memory::load_from))]
 fn load<M: Guarded>(registers: &mut Registers, memory: &M, a: Register, address: u16)
-    ensures { registers.new ≡ (load_into registers.old a (load_from (M.shows memory.now).words address)).registers }
+    ensures { registers.new
+        ≡ (load_into registers.old a (load_from (M.shows memory.now).words address)).registers }
 {
     match memory.load(Who::Level1, address) {
         Ok(word) => registers.set(a, word),
