@@ -26,6 +26,14 @@ pub ports-store : (k : ℕ) → k < 10 → IsTrue (access Board (2048 + k)).stor
 unfolding access allows
 ports-store k below = ap (λ region. (allows region Board).store) (in_ports-is (2048 + k) (omega arith) (omega arith))
 
+pub throttle-load : IsTrue (access Board 2064).load
+unfolding access allows region_of
+throttle-load = refl
+
+pub ignition-load : IsTrue (access Board 2065).load
+unfolding access allows region_of
+ignition-load = refl
+
 pub link-store : IsTrue (access Board 2128).store
 unfolding access allows region_of
 link-store = refl
@@ -164,4 +172,4 @@ flipped_outside old new number address word e at within other outside =
     apart : other ≢ address
     apart same = let clash : true ≡ false = sym (own-place number within) ∙ ap (λ a. is_level2_own (region_of a)) (sym (same ∙ at)) ∙ outside in absurd (cc)
 
-pub ruleset board = (code-store, ports-store, link-store, place-store, place-load)
+pub ruleset board = (code-store, ports-store, link-store, place-store, place-load, throttle-load, ignition-load)

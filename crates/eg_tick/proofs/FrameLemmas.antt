@@ -14,6 +14,7 @@ use Rattle.eg_word.specs.World.{world_of}
 use Rattle.eg_word.proofs.WorldLemmas.{world_of-elsewhere}
 use Rattle.eg_level2.specs.Words.{place, word_at, named, words_of, AreMirrored, is_level2_own}
 use Rattle.eg_level2.specs.Inputs.{readings_of, asked_of}
+use Rattle.eg_tick.specs.Board.{is_board_own}
 use Rattle.eg_tick.specs.Midway.{Work, IsSet}
 
 -- ---- where things stand ----
@@ -29,12 +30,24 @@ place-is number = elim (cases_lt number 5) [
   | inr high ↦ inr (high, rw (le-ltb number 5 high) refl)
 ]
 
--- no word of level 2 is one of level 1's own
-place-apart : (number : ℕ) → number < 32 → is_level1_own (region_of (place number)) ≡ false
+-- regions of somebody else than level 2
+pub record LeavesWords (is_own : Region → Bool) : Type 0 where
+  pub results : is_own Results ≡ false
+  pub protected : is_own Protected ≡ false
+
+level1_leaves_words : LeavesWords is_level1_own
 unfolding is_level1_own
-place-apart number within = elim (place-is number) [
-  | inl low ↦ let is = low.1 in let below = low.0 in ap is_level1_own (results-is (place number) (omega arith) (omega arith))
-  | inr high ↦ let is = high.1 in let from = high.0 in ap is_level1_own (protected-is (place number) (omega arith) (omega arith))
+level1_leaves_words = record { results = refl; protected = refl }
+
+board_leaves_words : LeavesWords is_board_own
+unfolding is_board_own
+board_leaves_words = record { results = refl; protected = refl }
+
+-- no word of level 2 lies in them
+place-apart : (is_own : Region → Bool) → LeavesWords is_own → (number : ℕ) → number < 32 → is_own (region_of (place number)) ≡ false
+place-apart is_own leaves number within = elim (place-is number) [
+  | inl low ↦ let is = low.1 in let below = low.0 in ap is_own (results-is (place number) (omega arith) (omega arith)) ∙ leaves.results
+  | inr high ↦ let is = high.1 in let from = high.0 in ap is_own (protected-is (place number) (omega arith) (omega arith)) ∙ leaves.protected
 ]
 
 -- level 1's own regions aren't level 2's
@@ -48,6 +61,18 @@ own-apart Results is = absurd (let clash : false ≡ true = is in cc)
 own-apart Protected is = absurd (let clash : false ≡ true = is in cc)
 own-apart Link is = refl
 own-apart NoRegion is = refl
+
+-- nor are they the board's
+board-apart : (region : Region) → is_level1_own region ≡ true → is_board_own region ≡ false
+unfolding is_level1_own is_board_own
+board-apart Code is = refl
+board-apart Data is = refl
+board-apart InPorts is = absurd (let clash : false ≡ true = is in cc)
+board-apart OutPorts is = refl
+board-apart Results is = refl
+board-apart Protected is = refl
+board-apart Link is = absurd (let clash : false ≡ true = is in cc)
+board-apart NoRegion is = refl
 
 -- ---- what the board wrote ----
 
@@ -99,16 +124,16 @@ module _ (is_own : Region → Bool) (leaves : LeavesBoard is_own) (old new : Lis
     asked = asked-stays ∙ set.asked;
   }
 
--- ---- level 2's words while level 1 stores ----
+-- ---- level 2's words while somebody else stores ----
 
-module _ (old new : List ℕ) (same : SameOutside is_level1_own old new) where
+module _ (is_own : Region → Bool) (leaves : LeavesWords is_own) (old new : List ℕ) (same : SameOutside is_own old new) where
   word-stays : (number : ℕ) → number < 32 → word_at new number ≡ word_at old number
   unfolding word_at
-  word-stays number within = same (place number) (place-apart number within)
+  word-stays number within = same (place number) (place-apart is_own leaves number within)
 
-  pub words-stay : words_of new ≡ words_of old
+  words-kept : words_of new ≡ words_of old
   unfolding named
-  words-stay =
+  words-kept =
       let word : (number : ℕ) → number < 32 → word_at new number ≡ word_at old number = word-stays in
       λ i. record {
         pedal = word 0 (omega arith) i;
@@ -129,10 +154,32 @@ module _ (old new : List ℕ) (same : SameOutside is_level1_own old new) where
         sign = word 15 (omega arith) i;
       }
 
-  pub mirrors-stay : AreMirrored old → AreMirrored new
-  mirrors-stay are = record {
+  mirrors-kept : AreMirrored old → AreMirrored new
+  mirrors-kept are = record {
     sums = λ number within. rw (word-stays number (omega arith), word-stays (number + 16) (omega arith)) (are.sums number within);
   }
+
+-- level 1 stores
+pub words-stay : (old new : List ℕ) → SameOutside is_level1_own old new → words_of new ≡ words_of old
+words-stay = words-kept is_level1_own level1_leaves_words
+
+pub mirrors-stay : (old new : List ℕ) → SameOutside is_level1_own old new → AreMirrored old → AreMirrored new
+mirrors-stay = mirrors-kept is_level1_own level1_leaves_words
+
+-- the board stores the readings and the number of the question
+module _ (old new : List ℕ) (same : SameOutside is_board_own old new) where
+  pub shown-words : words_of new ≡ words_of old
+  shown-words = words-kept is_board_own board_leaves_words old new same
+
+  pub shown-mirrors : AreMirrored old → AreMirrored new
+  shown-mirrors = mirrors-kept is_board_own board_leaves_words old new same
+
+  pub shown-code : (k : ℕ) → k < 1024 → slice_index new k ≡ slice_index old k
+  unfolding is_board_own
+  shown-code k within = same k (ap is_board_own (code-is k within))
+
+  pub shown-world : (m : Registers) → AreWords old → AreWords new → world_of m new ≡ world_of m old
+  shown-world m were are = world_of-elsewhere m old new were are (λ address own. same address (board-apart (region_of address) own))
 
 -- ---- level 1's world while level 2 stores ----
 

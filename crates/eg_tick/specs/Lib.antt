@@ -3,3 +3,7 @@ pub mod Kept
 pub mod Stands
 pub mod Board
 pub mod Midway
+pub mod Working
+pub mod Judging
+pub mod Advancing
+pub mod Inside

@@ -34,6 +34,18 @@ fn put<M: Guarded>(memory: &mut M, address: u16, word: u16) -> Result<(), NoMemo
     }
 }
 
+/// Loads a word, where one stands.
+pub(crate) fn load<M: Guarded>(memory: &M, address: u16) -> u16
+    requires { IsTrue (Regions.access Board address).load }
+    ensures word { result ≡ slice_index (M.shows memory.now).words address }
+    ensures are_words { AreWords (M.shows memory.now).words }
+{
+    match memory.load(Who::Board, address) {
+        Ok(word) => word,
+        Err(_) => unreachable!(),
+    }
+}
+
 /// Stores these words from an address on.
 fn write<M: Guarded>(memory: &mut M, first: u16, values: &[u16]) -> Result<(), NoMemory>
     requires stored { (k : ℕ) → k < length values.now → IsTrue (Regions.access Board (first + k)).store }
@@ -102,7 +114,7 @@ pub(crate) fn show<M: Guarded>(
 
 /// Where a word of level 2 stands, and from 16 on its complement (docs/FORMATS.md, "Words of level 2").
 #[tactic(auto, unfolding(eg_level2::specs::Words::place))]
-fn place(word: u8) -> u16
+pub(crate) fn place(word: u8) -> u16
     requires { word < 32 }
     ensures { result ≡ place word }
 {
@@ -127,8 +139,6 @@ pub(crate) fn flip<M: Guarded>(memory: &mut M, word: u8, mask: u16) -> Result<()
     ensures are_words { AreWords (M.shows memory.new).words }
 {
     let address = place(word);
-    let Ok(before) = memory.load(Who::Board, address) else {
-        unreachable!()
-    };
+    let before = load(memory, address);
     put(memory, address, before ^ mask)
 }

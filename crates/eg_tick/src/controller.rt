@@ -1,18 +1,35 @@
 // The controller: what it is made of, and how it begins.
-ghost use Rattle.std.specs.Prelude.{◌≡◌, ℕ, ◌≤◌, length, replicate, [], IsTrue, IsOk, IfOk};
+ghost use Rattle.std.specs.Prelude.{◌≡◌, ℕ, ◌+◌, ◌≤◌, ◌<◌, ◌||◌, true, false, length, replicate, List, [], ◌∷◌};
+ghost use Rattle.std.specs.Prelude.{IsTrue, IsOk, IsErr, IfOk, OnOk, OnErr};
+ghost use Rattle.std.specs.Option.{option_or};
+ghost use Rattle.eg_model.specs.History.{Setting, Entry};
+ghost use Rattle.eg_model.specs.Paths.{on_at};
+ghost use Rattle.eg_model.specs.Level1.{last_world};
+ghost use Rattle.eg_model.specs.Moments.{moments, next};
+ghost use Rattle.eg_model.specs.Rows.{row_of, trap_in};
 ghost use Rattle.eg_agree.specs.Replies.{IsAnyFault};
-ghost use Rattle.eg_tick.specs.Stands.{Stands};
+ghost use Rattle.eg_tick.specs.Stands.{Stands, IsController};
+ghost use Rattle.eg_tick.specs.Working.{effects_after};
+ghost use Rattle.eg_tick.specs.Advancing.{entry_of};
 
 use crate::board::load_image;
+use crate::monitoring::{judge, question};
+use crate::paths::Paths;
+use crate::plant::{readings, step_engine};
+use crate::row::{Beginning, limit, row};
+use crate::working::{Task, work};
+use crate::{Slices, Ticks};
 use eg_base::NoMemory;
-use eg_fault::Fault;
+use eg_fault::{Fault, held, sends};
 use eg_guard::Guarded;
 use eg_host::Host;
 use eg_level2::Level2;
 use eg_module::Monitor;
+use eg_num::Drive;
 use eg_plant::Engine;
+use eg_record::Row;
 use eg_values::Calibration;
-use eg_word::Trap;
+use eg_word::{State, Trap};
 use std::marker::Model;
 
 /// The controller (docs/CONCEPT.md, "A run, tick by tick"): level 1 and level 2 over one guarded memory, the
@@ -36,6 +53,7 @@ pub struct Controller<E: Engine, M: Guarded> {
 impl<E: Engine, M: Guarded> Model for Controller<E, M> {
     ghost use Rattle.std.specs.Prelude.{◌≡◌};
     ghost use Rattle.eg_tick.specs.Kept.{ControllerParts};
+    ghost use Rattle.eg_tick.specs.Inside.{IsWhole};
 
     ghost Value = { ControllerParts E };
 
@@ -57,8 +75,20 @@ impl<E: Engine, M: Guarded> Model for Controller<E, M> {
       };
     } };
 
-    ghost invariant = { λ c. c.level2
-        ≡ record { rules = c.calibration.rules; questions = c.calibration.questions } };
+    ghost invariant = { λ c. IsWhole c.calibration c.level2 (record {
+      cal = c.calibration;
+      fault = c.fault;
+      ticks = c.ticks;
+      memory = M.shows c.memory;
+      registers = c.host.registers;
+      monitor = c.monitor;
+      open1 = c.open1;
+      open2 = c.open2;
+      trap = c.trap;
+      kt = E.kt c.engine;
+      shown = E.shows c.engine;
+      lost = c.lost;
+    }) };
 }
 
 impl<E: Engine + Drop, M: Guarded + Drop> Controller<E, M> {
@@ -103,10 +133,93 @@ impl<E: Engine + Drop, M: Guarded + Drop> Controller<E, M> {
         })
     }
 
+    /// One tick of all three levels (docs/CONCEPT.md, "A run, tick by tick"), and its row. It is counted in
+    /// `steps`.
+    pub fn tick(
+        &mut self,
+        drive: &Drive,
+        slices: &Slices,
+        steps: &mut Ticks,
+    ) -> Result<Row, NoMemory>
+        requires fewer { self.old.kept.ticks < 20000 }
+    {
+        steps.raise();
+        let row = self.advance(drive, slices)?;
+        steps.add(&row);
+        Ok(row)
+    }
+
+    /// The tick itself. Memory counts as lost until it is done.
+    fn advance(&mut self, drive: &Drive, slices: &Slices) -> Result<Row, NoMemory>
+        requires fewer { self.old.kept.ticks < 20000 }
+        ensures stands { (s : Setting) (h : List Entry) → Stands s self.old.kept h
+            → OnOk result (Stands s self.new.kept (entry_of drive.now slices.now self.new.kept.shown ∷ h)) }
+        ensures row { (s : Setting) (h : List Entry) → Stands s self.old.kept h → IfOk result (λ row. row
+            ≡ row_of (next s (entry_of drive.now slices.now self.new.kept.shown) h)) }
+        ensures engine { (s : Setting) (h : List Entry) → Stands s self.old.kept h → OnOk result
+            (E.steps self.old.engine (last_world (moments s h)).throttle (last_world (moments s h)).ignition
+            (on_at (effects_after s h) (moments s h)) (effects_after s h).held self.new.engine) }
+        ensures ticks { OnOk result (self.new.kept.ticks ≡ self.old.kept.ticks + 1) }
+        ensures fault { self.new.kept.fault ≡ self.old.kept.fault }
+        ensures cal { self.new.kept.cal ≡ self.old.kept.cal }
+        ensures keeps { IsController self.new.kept }
+        ensures lost { self.old.kept.lost ≡ true → IsErr result }
+        ensures loses { OnErr result (self.new.kept.lost ≡ true) }
+        ensures sure { IsTrue self.old.kept.memory.sure → self.old.kept.lost ≡ false → IsOk result }
+        ensures stays_sure { self.new.kept.memory.sure ≡ self.old.kept.memory.sure }
+    {
+        if self.lost {
+            return Err(NoMemory);
+        }
+        self.lost = true;
+        let fault = self.fault.as_ref();
+        let begins = Beginning {
+            tick: self.ticks,
+            drive: *drive,
+            limit: limit(&self.calibration.rules().permit, drive),
+            paths: Paths::at(fault, self.ticks, self.open1, self.open2),
+        };
+        let held = held(fault, self.ticks);
+        step_engine(&mut self.engine, &self.memory, begins.paths.on, held);
+        let task = Task {
+            tick: self.ticks as u16,
+            sends: sends(fault, self.ticks, self.calibration.times()),
+            asked: question(&self.monitor, self.calibration.questions(), fault, self.ticks),
+            readings: readings(&self.engine, drive, fault, self.ticks),
+        };
+        let step = work(&self.level2, fault, &task, slices, &mut self.host, &mut self.memory)?;
+        let judged = judge(&mut self.monitor, self.calibration.questions(), fault, self.ticks, step.answer);
+        self.open1 = either(step.open_path, self.open1);
+        self.open2 = either(either(judged.answers, judged.opens), self.open2);
+        self.trap = trap_after(self.trap, self.host.registers.state, self.ticks);
+        let row = row(begins, &self.engine, &self.memory, step.found, judged);
+        self.ticks += 1;
+        self.lost = false;
+        Ok(row)
+    }
+
     /// Level 1's trap, with the tick at which it came, if any (docs/CONCEPT.md, "Level 1").
     pub fn trap(&self) -> Option<(Trap, u32)>
         ensures { result ≡ self.now.kept.trap }
     {
         self.trap
+    }
+}
+
+/// Whether one of the two is so.
+fn either(first: bool, second: bool) -> bool
+    ensures { result ≡ (first || second) }
+{
+    first || second
+}
+
+/// Level 1's trap after a tick, by the trap before it and by the state of its machine.
+#[tactic(auto, unfolding(eg_model::specs::Rows::trap_in))]
+fn trap_after(before: Option<(Trap, u32)>, state: State, tick: u32) -> Option<(Trap, u32)>
+    ensures { result ≡ option_or before (trap_in state tick) }
+{
+    match (before, state) {
+        (None, State::Trapped(kind)) => Some((kind, tick)),
+        _ => before,
     }
 }

@@ -4,10 +4,12 @@ ghost use Rattle.std.specs.Option.{option_copied};
 ghost use Rattle.eg_guard.specs.Memory.{AreWords};
 ghost use Rattle.eg_word.specs.declared.registers.Registers.{Registers};
 ghost use Rattle.eg_fault.specs.Faults.{effects};
+ghost use Rattle.eg_agree.specs.Replies.{IsAnyFault};
 ghost use Rattle.eg_level2.specs.Words.{words_of, AreMirrored, AreWithin};
 ghost use Rattle.eg_level2.specs.Modules.{quiet_step};
-ghost use Rattle.eg_tick.specs.Midway.{Work, IsMidway, Meets, step_at};
+ghost use Rattle.eg_tick.specs.Midway.{Work, IsMidway, Meets, step_at, tick_step};
 
+use crate::Slices;
 use eg_base::NoMemory;
 use eg_fault::{Fault, disturbance, module_runs};
 use eg_guard::Guarded;
@@ -88,4 +90,33 @@ fn quiet() -> Step
             answers: false,
         },
     }
+}
+
+/// STUB
+pub(crate) fn run_levels<M: Guarded>(
+    level2: &Level2,
+    fault: Option<&Fault>,
+    tick: u16,
+    send: bool,
+    slices: &Slices,
+    host: &mut Host,
+    memory: &mut M,
+) -> Result<Step, NoMemory>
+    requires mirrored { AreMirrored (M.shows memory.old).words }
+    requires within { AreWithin level2.now.rules (words_of (M.shows memory.old).words) }
+    requires fault { IsAnyFault (option_copied fault) }
+    ensures midway { (w : Work) → Meets level2.now (effects (option_copied fault.entry) tick) tick send w.doing
+        → w.level1 ≡ (effects (option_copied fault.entry) tick).level1 → w.slices ≡ slices.now
+        → IsMidway w 0 0 host.old.registers (M.shows memory.old).words
+        → OnOk result (IsMidway w 9 8 host.new.registers (M.shows memory.new).words) }
+    ensures step { (w : Work) → Meets level2.now (effects (option_copied fault.entry) tick) tick send w.doing
+        → w.level1 ≡ (effects (option_copied fault.entry) tick).level1 → w.slices ≡ slices.now
+        → IsMidway w 0 0 host.old.registers (M.shows memory.old).words
+        → IfOk result (λ step. step ≡ tick_step w.doing w.words) }
+    ensures nine { length slices.now ≡ 9 }
+    ensures sure { IsTrue (M.shows memory.old).sure → IsOk result }
+    ensures stays_sure { (M.shows memory.new).sure ≡ (M.shows memory.old).sure }
+    ensures are_words { AreWords (M.shows memory.old).words → AreWords (M.shows memory.new).words }
+{
+    Err(NoMemory)
 }

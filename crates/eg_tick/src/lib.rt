@@ -9,9 +9,14 @@
 mod board;
 mod controller;
 mod levels;
+mod monitoring;
+mod paths;
+mod plant;
+mod row;
 mod slices;
 mod ticks;
 mod total;
+mod working;
 
 pub use controller::Controller;
 pub use slices::{SlicePlan, Slices};

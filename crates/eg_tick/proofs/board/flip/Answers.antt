@@ -4,8 +4,8 @@ use Rattle.eg_tick.proofs.board.flip.Goals as goal
 
 pub returns-clause-changed : goal.returns-clause-changed
 returns-clause-changed g c mirrored =
-    on_ok c.put.result (λ stored. flipped_changed _ _ c.args.word c.place-address.result c.in-Ok.before c.args.mask stored c.place-address.ensures
-    c.in-Ok.ensures.word c.requires.some c.in-Ok.ensures.words c.requires.word mirrored) c.put.ensures.stored
+    on_ok c.put.result (λ stored. flipped_changed _ _ c.args.word c.place-address.result c.load-before.result c.args.mask stored c.place-address.ensures
+    c.load-before.ensures.word c.requires.some c.load-before.ensures.are_words c.requires.word mirrored) c.put.ensures.stored
 
 pub returns-clause-outside : goal.returns-clause-outside
 returns-clause-outside g c =

@@ -1,0 +1,79 @@
+// The engine at a tick: its step by level 1's outputs, and what the sensors read of it.
+ghost use Rattle.std.specs.Prelude.{◌≡◌, ◌≤◌, slice_index, IsFalse};
+ghost use Rattle.std.specs.Option.{option_copied, ForSome};
+ghost use Rattle.eg_plant.specs.Engine.{KeepsLaws};
+ghost use Rattle.eg_fault.specs.Faults.{effects};
+ghost use Rattle.eg_model.specs.History.{Entry};
+ghost use Rattle.eg_model.specs.Moments.{readings_at};
+
+use crate::board::load;
+use eg_fault::{Fault, faulty_readings};
+use eg_guard::Guarded;
+use eg_num::Drive;
+use eg_plant::Engine;
+use eg_sensor::{Readings, sound};
+
+/// The two output words of level 1 (docs/FORMATS.md, "Memory map").
+const THROTTLE: u16 = 2064;
+
+const IGNITION: u16 = 2065;
+
+/// Level 1's commands to the throttle plate and to the ignition, as they stand in the memory.
+#[derive(Clone, Copy)]
+pub(crate) struct Commands {
+    pub(crate) throttle: u16,
+    pub(crate) ignition: u16,
+}
+
+impl Commands {
+    /// Those that stand now.
+    #[tactic(auto, using(crate::proofs::BoardLemmas::board))]
+    pub(crate) fn of<M: Guarded>(memory: &M) -> Commands
+        ensures throttle { result.throttle ≡ slice_index (M.shows memory.now).words 2064 }
+        ensures ignition { result.ignition ≡ slice_index (M.shows memory.now).words 2065 }
+    {
+        Commands {
+            throttle: load(memory, THROTTLE),
+            ignition: load(memory, IGNITION),
+        }
+    }
+}
+
+/// One step of the engine, by level 1's commands as the tick before left them (docs/CONCEPT.md, "Plant").
+pub(crate) fn step_engine<E: Engine, M: Guarded>(
+    engine: &mut E,
+    memory: &M,
+    on: bool,
+    held: Option<u16>,
+)
+    requires { ForSome held (λ at. at ≤ 1000) }
+    ensures steps { E.steps engine.old (slice_index (M.shows memory.now).words 2064)
+        (slice_index (M.shows memory.now).words 2065) on held engine.new }
+    ensures off { IsFalse on → (E.shows engine.new).torque ≡ 0 }
+    ensures kt { E.kt engine.new ≡ E.kt engine.old }
+    ensures laws { KeepsLaws (E.kt engine.new) (E.shows engine.new) }
+{
+    let commands = Commands::of(memory);
+    engine.step(commands.throttle, commands.ignition, on, held);
+}
+
+/// What the sensors read at a tick (docs/CONCEPT.md, "Sensors").
+#[tactic(auto, unfolding(eg_model::specs::Moments::readings_at))]
+pub(crate) fn readings<E: Engine>(
+    engine: &E,
+    drive: &Drive,
+    fault: Option<&Fault>,
+    tick: u32,
+) -> Readings
+    ensures { (e : Entry) → e.drive ≡ drive.now → e.shown ≡ E.shows engine.now
+        → result ≡ readings_at (effects (option_copied fault.entry) tick) e }
+{
+    let truth = sound(
+        drive.pedal(),
+        engine.position(),
+        engine.loads(),
+        drive.speed(),
+        drive.raise(),
+    );
+    faulty_readings(fault, tick, &truth)
+}
