@@ -3,3 +3,4 @@ pub mod Kept
 pub mod Stands
 pub mod Board
 pub mod Midway
+pub mod Judging

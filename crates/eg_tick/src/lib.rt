@@ -9,6 +9,7 @@
 mod board;
 mod controller;
 mod levels;
+mod monitoring;
 mod slices;
 mod ticks;
 mod total;

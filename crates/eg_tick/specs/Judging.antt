@@ -1,0 +1,56 @@
+-- What the monitoring module makes of a tick.
+use Rattle.std.specs.Prelude.{◌≡◌, ℕ, ◌+◌, List, [], ◌∷◌, length, Option, Some, None, IfSome, IfNone, SomeIff, IsTrue}
+use Rattle.eg_answer.specs.Times.{AreTimes}
+use Rattle.eg_answer.specs.Periods.{HeardAnswer, period_of, is_last_tick, verdict_over, with_verdict}
+use Rattle.eg_answer.specs.declared.marks.Verdict.{Verdict}
+use Rattle.eg_module.specs.Monitoring.{MonitorParts, HasGiven, expected_at}
+use Rattle.eg_fault.specs.Faults.{effects}
+use Rattle.eg_fault.specs.declared.class.Fault.{Fault}
+use Rattle.eg_model.specs.History.{Setting, Entry, Moment}
+use Rattle.eg_model.specs.Moments.{next}
+use Rattle.eg_agree.specs.Replies.{number_expected, mark_of}
+use Rattle.eg_tick.specs.Stands.{HoldsMonitor}
+use Rattle.eg_tick.specs.declared.monitoring.Judgement.{Judgement}
+
+-- ---- the module at a tick ----
+
+-- the answers with the number that comes at a tick, if one does
+unfoldable pub with_heard : ℕ → Option ℕ → List HeardAnswer → List HeardAnswer
+with_heard tick None heard = heard
+with_heard tick (Some number) heard = record { tick = tick; number = number } ∷ heard
+
+-- An orderly module hears the answer of a tick. At the last tick of a period it gives the verdict over what it
+-- has heard in it, and forgets that.
+pub record Takes (tick : ℕ) (answer : Option ℕ) (before now : MonitorParts) (verdict : Option Verdict) : Type 0 where
+  pub times : now.times ≡ before.times
+  pub are_times : AreTimes before.times
+  pub questions : now.questions ≡ before.questions
+  pub period : now.verdicts ≡ period_of before.times (tick + 1)
+  pub gives : SomeIff verdict (IsTrue (is_last_tick before.times tick))
+      (verdict_over before.times (expected_at before tick) (with_heard tick answer before.heard))
+  pub closed : IfSome verdict (λ given. now.heard ≡ [])
+  pub goes_on : IfNone verdict (now.heard ≡ with_heard tick answer before.heard)
+  pub given : (verdicts : List Verdict) → HasGiven before verdicts → HasGiven now (with_verdict verdict verdicts)
+
+-- a wild module hears nothing and gives no verdict
+pub record IsDeaf (before now : MonitorParts) (verdict : Option Verdict) : Type 0 where
+  pub unchanged : now ≡ before
+  pub none : verdict ≡ None
+
+-- ---- a tick of a run ----
+
+-- The setting has this fault. The module is as the model says after h, the tick comes after h, and what level
+-- 2 answers at it has the mark of the model.
+pub record ComesNext (s : Setting) (fault : Option Fault) (tick : ℕ) (answer : Option ℕ) (monitor : MonitorParts)
+    (e : Entry) (h : List Entry) : Type 0 where
+  pub same_fault : s.fault ≡ fault
+  pub count : length h ≡ tick
+  pub marked : mark_of (number_expected s (effects s.fault (length h)) (length h)) answer ≡ (next s e h).mark
+  pub holds : HoldsMonitor s monitor h
+
+-- what was made of a tick is what the model says of it
+pub record Tells (judgement : Judgement) (m : Moment) : Type 0 where
+  pub mark : judgement.mark ≡ m.mark
+  pub verdict : judgement.verdict ≡ m.verdict
+  pub answers : judgement.answers ≡ m.found.answers
+  pub opens : judgement.opens ≡ m.opens
