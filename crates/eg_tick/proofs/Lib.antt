@@ -4,4 +4,5 @@ pub mod TickLemmas
 pub mod BoardLemmas
 pub mod LevelLemmas
 pub mod StartLemmas
+pub mod MonitorLemmas
 mod Worked
