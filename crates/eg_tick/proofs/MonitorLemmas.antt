@@ -30,7 +30,9 @@ use Rattle.eg_model.proofs.TickLemmas.{length-moments, moment-tick, moment-verdi
 use Rattle.eg_model.proofs.ClassLemmas.{early_is_none}
 use Rattle.eg_agree.specs.Replies.{number_expected, mark_of}
 use Rattle.eg_agree.proofs.ReplyLaws.{number_expected-usual}
-use Rattle.eg_tick.specs.Stands.{was_wild, IsOrderly, HoldsMonitor}
+use Rattle.eg_tick.specs.Stands.{was_wild, IsOrderly, HoldsMonitor, Stands}
+use Rattle.eg_tick.specs.Kept.{Kept}
+use Rattle.eg_values.specs.Calibration.{CalibrationParts}
 use Rattle.eg_tick.specs.Judging.{with_heard, Takes, IsDeaf, ComesNext}
 
 -- ---- wild, once it has begun ----
@@ -314,7 +316,8 @@ module _ (s : Setting) (e : Entry) (h : List Entry) (answer : Option ℕ) (befor
     gives =
         subst (λ questions. SomeIff verdict (IsTrue (is_last_tick s.cal.times (length h))) (verdict_over s.cal.times (expected_number s.cal.times questions (length h)) heard))
         holds.questions
-        (subst (λ times. SomeIff verdict (IsTrue (is_last_tick times (length h))) (verdict_over times (expected_number times before.questions (length h)) heard)) holds.times takes.gives)
+        (subst (λ times. SomeIff verdict (IsTrue (is_last_tick times (length h))) (verdict_over times (expected_number times before.questions (length h)) heard))
+        holds.times takes.gives)
 
     tame-verdict : verdict ≡ (next s e h).verdict
     tame-verdict =
@@ -368,7 +371,8 @@ number_of fault times questions tick = answer_number (question_at questions (ask
 
 module _ (s : Setting) (e : Entry) (h : List Entry) (fault : Option Fault) (tick : ℕ) (answer : Option ℕ) (before : MonitorParts)
     (comes : ComesNext s fault tick answer before e h) where
-  pub judged : (now : MonitorParts) (verdict : Option Verdict) → Hears (effects fault tick) tick answer before now verdict → (verdict ≡ (next s e h).verdict) × HoldsMonitor s now (e ∷ h)
+  pub judged : (now : MonitorParts) (verdict : Option Verdict) → Hears (effects fault tick) tick answer before now verdict →
+      (verdict ≡ (next s e h).verdict) × HoldsMonitor s now (e ∷ h)
   judged now verdict hears =
       either s e h answer before now verdict comes.holds comes.marked
       (subst (λ t. Hears (effects s.fault t) t answer before now verdict) (sym comes.count)
@@ -407,3 +411,35 @@ module _ (s : Setting) (e : Entry) (h : List Entry) (fault : Option Fault) (tick
       ∙ ap (λ (times : TimeParts). is_confirmed times.weights (map is_wrong (verdicts_in (moments s (e ∷ h))))) holds.times
       ∙ ap (λ verdicts. is_confirmed s.cal.times.weights (map is_wrong verdicts)) (verdicts-cons s e h))
       ∙ sym (next-answers s e h)
+
+-- ---- for the controller ----
+
+-- what a controller knows of its module before a tick
+module _ (s : Setting) (c : Kept) (h : List Entry) (stands : Stands s c h) where
+  pub stands-questions : c.monitor.questions ≡ c.cal.questions
+  stands-questions = stands.monitor.questions ∙ ap (λ (cal : CalibrationParts). cal.questions) (sym stands.cal)
+
+  tame-before : (effects c.fault c.ticks).wild ≡ None → (effects s.fault (length h)).wild ≡ None
+  tame-before tame = ap (λ (x : Effects). x.wild) (ap₂ effects (sym stands.fault) (sym stands.count)) ∙ tame
+
+  pub stands-period : (effects c.fault c.ticks).wild ≡ None → c.monitor.verdicts ≡ period_of c.monitor.times c.ticks
+  stands-period tame = orderly_period s c.monitor h stands.monitor (tame-before tame) ∙ ap (period_of c.monitor.times) (sym stands.count)
+
+  pub stands-later : (effects c.fault c.ticks).wild ≡ None → All (λ heard. heard.tick < c.ticks) c.monitor.heard
+  stands-later tame = subst (λ tick. All (λ heard. heard.tick < tick) c.monitor.heard) (sym stands.count) (orderly_later s c.monitor h stands.monitor (tame-before tame))
+
+  pub stands-asked : asked_at (effects c.fault c.ticks) c.monitor.times (length c.cal.questions) c.ticks
+      ≡ asked_at (effects s.fault (length h)) s.cal.times (length s.cal.questions) (length h)
+  stands-asked =
+      ap (λ times. asked_at (effects c.fault c.ticks) times (length c.cal.questions) c.ticks) stands.monitor.times
+      ∙ ap (λ (cal : CalibrationParts). asked_at (effects c.fault c.ticks) s.cal.times (length cal.questions) c.ticks) stands.cal
+      ∙ ap₂ (λ fault tick. asked_at (effects fault tick) s.cal.times (length s.cal.questions) tick) stands.fault stands.count
+
+  pub stands-next : (e : Entry) (answer : Option ℕ) → mark_of (number_expected s (effects s.fault (length h)) (length h)) answer ≡ (next s e h).mark →
+      ComesNext s c.fault c.ticks answer c.monitor e h
+  stands-next e answer marked_so = record {
+    same_fault = sym stands.fault;
+    count = sym stands.count;
+    marked = marked_so;
+    holds = stands.monitor;
+  }

@@ -19,9 +19,10 @@ unfoldable pub with_heard : ℕ → Option ℕ → List HeardAnswer → List Hea
 with_heard tick None heard = heard
 with_heard tick (Some number) heard = record { tick = tick; number = number } ∷ heard
 
--- An orderly module hears the answer of a tick. At the last tick of a period it gives the verdict over what it
--- has heard in it, and forgets that.
-pub record Takes (tick : ℕ) (answer : Option ℕ) (before now : MonitorParts) (verdict : Option Verdict) : Type 0 where
+-- An orderly module hears the answer of a tick. At the last tick of a period it gives the verdict over what
+-- it has heard in it, and forgets that.
+pub record Takes (tick : ℕ) (answer : Option ℕ) (before now : MonitorParts)
+    (verdict : Option Verdict) : Type 0 where
   pub times : now.times ≡ before.times
   pub are_times : AreTimes before.times
   pub questions : now.questions ≡ before.questions
@@ -30,7 +31,8 @@ pub record Takes (tick : ℕ) (answer : Option ℕ) (before now : MonitorParts) 
       (verdict_over before.times (expected_at before tick) (with_heard tick answer before.heard))
   pub closed : IfSome verdict (λ given. now.heard ≡ [])
   pub goes_on : IfNone verdict (now.heard ≡ with_heard tick answer before.heard)
-  pub given : (verdicts : List Verdict) → HasGiven before verdicts → HasGiven now (with_verdict verdict verdicts)
+  pub given : (verdicts : List Verdict) → HasGiven before verdicts →
+      HasGiven now (with_verdict verdict verdicts)
 
 -- a wild module hears nothing and gives no verdict
 pub record IsDeaf (before now : MonitorParts) (verdict : Option Verdict) : Type 0 where
@@ -39,10 +41,10 @@ pub record IsDeaf (before now : MonitorParts) (verdict : Option Verdict) : Type 
 
 -- ---- a tick of a run ----
 
--- The setting has this fault. The module is as the model says after h, the tick comes after h, and what level
--- 2 answers at it has the mark of the model.
-pub record ComesNext (s : Setting) (fault : Option Fault) (tick : ℕ) (answer : Option ℕ) (monitor : MonitorParts)
-    (e : Entry) (h : List Entry) : Type 0 where
+-- The setting has this fault. The tick comes after h, the module is as the model says of h, and what level 2
+-- answers at the tick has the mark of the model.
+pub record ComesNext (s : Setting) (fault : Option Fault) (tick : ℕ) (answer : Option ℕ)
+    (monitor : MonitorParts) (e : Entry) (h : List Entry) : Type 0 where
   pub same_fault : s.fault ≡ fault
   pub count : length h ≡ tick
   pub marked : mark_of (number_expected s (effects s.fault (length h)) (length h)) answer ≡ (next s e h).mark
