@@ -6,4 +6,5 @@ pub mod LevelLemmas
 pub mod StartLemmas
 pub mod WorkLemmas
 pub mod StandsLemmas
+pub mod MonitorLemmas
 mod Worked

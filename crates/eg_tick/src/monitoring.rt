@@ -5,7 +5,7 @@ ghost use Rattle.eg_answer.specs.Answers.{answer_number};
 ghost use Rattle.eg_answer.specs.Questions.{question_at};
 ghost use Rattle.eg_answer.specs.Periods.{period_of};
 ghost use Rattle.eg_answer.specs.declared.marks.Verdict.{Verdict};
-ghost use Rattle.eg_module.specs.Monitoring.{IsMonitor, HasGiven};
+ghost use Rattle.eg_module.specs.Monitoring.{HasGiven};
 ghost use Rattle.eg_fault.specs.Effects.{asked_at};
 ghost use Rattle.eg_fault.specs.Faults.{effects};
 ghost use Rattle.eg_model.specs.History.{Setting, Entry};

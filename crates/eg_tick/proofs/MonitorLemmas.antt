@@ -1,0 +1,445 @@
+-- The monitoring module at a tick of a run: a module that isn't wild was never wild before, and what it hears and judges is what the model says.
+use Rattle.std.proofs.Common.{◌≡◌, ◌∙◌, refl, sym, ap, ap₂, ◌≢◌, subst, inl, inr, ℕ, zero, suc, ◌+◌, ◌-◌, ◌*◌, ◌/◌, ◌%◌, ◌≤◌, ◌<◌, le_trans, Bool, true, false, not, ◌&&◌, List, [], ◌∷◌, map, take, length, is_some, Option, Some, None, arith}
+use Rattle.std.specs.Prelude.{All, ◌==◌, if◌then◌else◌, IfSome, IfNone, OnSome, SomeIff, IsTrue}
+use Rattle.std.proofs.Math.Nat.{mod-lt}
+use Rattle.std.proofs.Math.Numerals.{add-one}
+use Rattle.std.proofs.lemmas.Nat.{div-add-mod', mod-mul-add}
+use Rattle.std.proofs.lemmas.Bool.{cases_Bool, cases_lt, le-leb, eqb-true, eqb-false, or_from, or_left}
+use Rattle.std.proofs.lemmas.List.Elements.{All-nil, All-cons, All-head, All-tail}
+use Rattle.eg_num.specs.Windows.{is_confirmed}
+use Rattle.eg_num.proofs.FirstPlaceLemmas.{is_first-cons}
+use Rattle.eg_answer.specs.Answers.{answer_number}
+use Rattle.eg_answer.specs.Questions.{question_at}
+use Rattle.eg_answer.specs.Times.{TimeParts, AreTimes}
+use Rattle.eg_answer.specs.Periods.{HeardAnswer, MarkedAnswer, period_of, place_of, is_last_tick, asked, expected_number, marked, verdict_of, verdict_over, with_verdict, is_wrong}
+use Rattle.eg_answer.specs.declared.questions.Question.{Question}
+use Rattle.eg_answer.specs.declared.marks.AnswerMark.{AnswerMark}
+use Rattle.eg_answer.specs.declared.marks.AnswerMark.TheVariants.{Absent, Good, Bad}
+use Rattle.eg_answer.specs.declared.marks.Verdict.{Verdict}
+use Rattle.eg_module.specs.Monitoring.{MonitorParts, HasGiven}
+use Rattle.eg_module.proofs.VerdictLemmas.{period_of-other}
+use Rattle.eg_fault.specs.Effects.{Effects, no_effects, asked_at}
+use Rattle.eg_fault.specs.Faults.{does, effects}
+use Rattle.eg_fault.specs.declared.class.Class.{Class}
+use Rattle.eg_fault.specs.declared.class.Class.TheVariants.{Script, Offset, Bus, Plate, Skip, Disturb, Flip, Halt, Timing, Wild, Path1Closed, Path2Closed, PathOpen, Lapse}
+use Rattle.eg_fault.specs.declared.class.Fault.{Fault}
+use Rattle.eg_model.specs.History.{Setting, Entry, Tick, Moment}
+use Rattle.eg_model.specs.Answers.{with_answer, answers_in, verdict_at, verdicts_in, finds_answers}
+use Rattle.eg_model.specs.Moments.{moment, moments_of, ticks, moments, next}
+use Rattle.eg_model.proofs.TickLemmas.{length-moments, moment-tick, moment-verdict, moment-answers, moment-opens}
+use Rattle.eg_model.proofs.ClassLemmas.{early_is_none}
+use Rattle.eg_agree.specs.Replies.{number_expected, mark_of}
+use Rattle.eg_agree.proofs.ReplyLaws.{number_expected-usual}
+use Rattle.eg_tick.specs.Stands.{was_wild, IsOrderly, HoldsMonitor, Stands}
+use Rattle.eg_tick.specs.Kept.{Kept}
+use Rattle.eg_values.specs.Calibration.{CalibrationParts}
+use Rattle.eg_tick.specs.Judging.{with_heard, Takes, IsDeaf, ComesNext}
+
+-- ---- wild, once it has begun ----
+
+-- a class is wild at each tick or at none
+tame_class : (class : Class) (k j : ℕ) → (does class k).wild ≡ None → (does class j).wild ≡ None
+unfolding does no_effects
+tame_class (Script track values) k j tame = refl
+tame_class (Offset track add) k j tame = refl
+tame_class (Bus mask) k j tame = refl
+tame_class (Plate at) k j tame = refl
+tame_class (Skip index) k j tame = refl
+tame_class (Disturb index mask) k j tame = refl
+tame_class (Flip word mask) k j tame = refl
+tame_class Halt k j tame = refl
+tame_class (Timing offset) k j tame = refl
+tame_class (Wild questions opens) k j tame = cc
+tame_class Path1Closed k j tame = refl
+tame_class Path2Closed k j tame = refl
+tame_class (PathOpen path) k j tame = refl
+tame_class (Lapse after every) k j tame = refl
+
+-- from its onset on a fault does what its class does
+acts_from : (fault : Fault) (t : ℕ) → fault.onset ≤ t → effects (Some fault) t ≡ does fault.class (t - fault.onset)
+unfolding effects
+acts_from fault t from = rw (le-leb fault.onset t from) refl
+
+-- where the module isn't wild at a tick, it wasn't at any before
+pub tame_earlier : (fault : Option Fault) (j k : ℕ) → j ≤ k → (effects fault k).wild ≡ None → (effects fault j).wild ≡ None
+unfolding effects no_effects
+tame_earlier None j k before tame = refl
+tame_earlier (Some fault) j k before tame = elim (cases_lt j fault.onset) [
+  | inl early ↦ ap (λ (x : Effects). x.wild) (early_is_none fault j early)
+  | inr from ↦
+      ap (λ (x : Effects). x.wild) (acts_from fault j from)
+      ∙ tame_class fault.class (k - fault.onset) (j - fault.onset)
+      (sym (ap (λ (x : Effects). x.wild) (acts_from fault k (le_trans from before))) ∙ tame)
+]
+
+pub never_wild : (s : Setting) (h : List Entry) (t : ℕ) → length h ≤ t → (effects s.fault t).wild ≡ None → was_wild (ticks s h) ≡ false
+unfolding was_wild ticks
+never_wild s [] t before tame = refl
+never_wild s (e ∷ h) t before tame =
+    or_from _ _ (ap is_some (tame_earlier s.fault (length h) t (omega (arith, before)) tame)) (never_wild s h t (omega (arith, before)) tame)
+
+-- ---- answers that were heard ----
+
+with_answer-below : (tick t : ℕ) (mark : AnswerMark) (before : List MarkedAnswer) → tick < t →
+    All (λ answer. answer.tick < t) before → All (λ answer. answer.tick < t) (with_answer tick mark before)
+unfolding with_answer
+with_answer-below tick t Absent before here all = all
+with_answer-below tick t Good before here all = All-cons (λ answer. answer.tick < t) _ before here all
+with_answer-below tick t Bad before here all = All-cons (λ answer. answer.tick < t) _ before here all
+
+answers_below : (s : Setting) (n : ℕ) (h : List Tick) (t : ℕ) → length h ≤ t → All (λ answer. answer.tick < t) (answers_in (take n (moments_of s h)))
+unfolding moments_of answers_in
+answers_below s zero h t before = All-nil (λ answer. answer.tick < t)
+answers_below s (suc n) [] t before = All-nil (λ answer. answer.tick < t)
+answers_below s (suc n) (x ∷ h) t before =
+    let is : (moment s x.effects x.entry (moments_of s h)).tick ≡ length h = moment-tick s x.effects x.entry (moments_of s h) ∙ length-moments s h in
+    with_answer-below _ t _ _ (omega (arith, is, before)) (answers_below s n h t (omega (arith, before)))
+
+heard_below : (n t : ℕ) (heard : List HeardAnswer) → All (λ answer. answer.tick < t) (map (marked n) heard) → All (λ answer. answer.tick < t) heard
+unfolding marked
+heard_below n t [] all = All-nil (λ answer. answer.tick < t)
+heard_below n t (answer ∷ before) all =
+    All-cons (λ answer. answer.tick < t) answer before (All-head (λ answer. answer.tick < t) _ (map (marked n) before) all)
+    (heard_below n t before (All-tail (λ answer. answer.tick < t) _ (map (marked n) before) all))
+
+length-ticks : (s : Setting) (h : List Entry) → length (ticks s h) ≡ length h
+unfolding ticks
+length-ticks s [] = refl
+length-ticks s (e ∷ h) = ap suc (length-ticks s h)
+
+-- What a tick asks of a module that isn't wild at it: it has given the verdicts of the periods that are over,
+pub orderly_period : (s : Setting) (monitor : MonitorParts) (h : List Entry) → HoldsMonitor s monitor h → (effects s.fault (length h)).wild ≡ None →
+    monitor.verdicts ≡ period_of monitor.times (length h)
+orderly_period s monitor h holds tame =
+    (holds.orderly (never_wild s h (length h) (omega arith) tame)).period ∙ ap (λ times. period_of times (length h)) (sym holds.times)
+
+-- and all that it has heard came before
+pub orderly_later : (s : Setting) (monitor : MonitorParts) (h : List Entry) → HoldsMonitor s monitor h → (effects s.fault (length h)).wild ≡ None →
+    All (λ heard. heard.tick < length h) monitor.heard
+unfolding moments
+orderly_later s monitor h holds tame =
+    let is = (holds.orderly (never_wild s h (length h) (omega arith) tame)).heard in
+    heard_below _ (length h) monitor.heard
+    (subst (λ answers. All (λ answer. answer.tick < length h) answers) (sym is)
+    (answers_below s (place_of s.cal.times (length h)) (ticks s h) (length h) (let same = length-ticks s h in omega arith)))
+
+-- ---- periods ----
+
+place_of-last : (times : TimeParts) (tick : ℕ) → AreTimes times → is_last_tick times tick ≡ true → place_of times (suc tick) ≡ 0
+unfolding is_last_tick place_of
+place_of-last times tick are is_last =
+    ap (λ n. n % times.period) (law (tick / times.period) times.period (tick % times.period) tick (div-add-mod' tick times.period) (eqb-true _ _ is_last))
+    ∙ mod-mul-add (tick / times.period + 1) times.period 0 (positive are.shortest)
+  where
+    positive : {n : ℕ} → 2 ≤ n → 0 < n
+    positive h = omega arith
+
+    law : (number period place tick : ℕ) → number * period + place ≡ tick → place + 1 ≡ period → suc tick ≡ (number + 1) * period + 0
+    law number period place tick e h = omega arith
+
+place_of-other : (times : TimeParts) (tick : ℕ) → AreTimes times → is_last_tick times tick ≡ false → place_of times (suc tick) ≡ suc (place_of times tick)
+unfolding is_last_tick place_of
+place_of-other times tick are other =
+    ap (λ n. n % times.period) (law (tick / times.period) times.period (tick % times.period) tick (div-add-mod' tick times.period))
+    ∙ mod-mul-add (tick / times.period) times.period (suc (tick % times.period))
+    (within (tick % times.period) times.period (mod-lt tick (positive are.shortest)) (eqb-false _ _ other))
+  where
+    positive : {n : ℕ} → 2 ≤ n → 0 < n
+    positive h = omega arith
+
+    within : (place period : ℕ) → place < period → place + 1 ≢ period → suc place < period
+    within place period h other = omega arith
+
+    law : (number period place tick : ℕ) → number * period + place ≡ tick → suc tick ≡ number * period + suc place
+    law number period place tick e = omega arith
+
+last_place : (times : TimeParts) (tick : ℕ) → is_last_tick times tick ≡ true → times.period - 1 ≡ place_of times tick
+unfolding is_last_tick
+last_place times tick is_last = let end = eqb-true _ _ is_last in omega arith
+
+expected_number-other : (times : TimeParts) (questions : List Question) (tick : ℕ) → AreTimes times → is_last_tick times tick ≡ false →
+    expected_number times questions (suc tick) ≡ expected_number times questions tick
+unfolding expected_number asked
+expected_number-other times questions tick are other =
+    ap (λ period. answer_number (question_at questions (period % length questions)).answer)
+    (ap (period_of times) (sym (add-one tick)) ∙ period_of-other times tick are other)
+
+-- ---- what is heard at a tick ----
+
+chosen : (tick : ℕ) (good : Bool) (before : List MarkedAnswer) →
+    record { tick = tick; good = good } ∷ before ≡ with_answer tick (if good then Good else Bad) before
+unfolding with_answer
+chosen tick true before = refl
+chosen tick false before = refl
+
+-- an answer, marked, is that of its mark
+heard-marked : (tick n : ℕ) (answer : Option ℕ) (heard : List HeardAnswer) →
+    map (marked n) (with_heard tick answer heard) ≡ with_answer tick (mark_of n answer) (map (marked n) heard)
+unfolding with_heard with_answer mark_of marked
+heard-marked tick n None heard = refl
+heard-marked tick n (Some number) heard = chosen tick (number == n) (map (marked n) heard)
+
+-- what is kept after a tick: nothing after the last tick of a period, and else what was heard
+kept-marked : (times : TimeParts) (questions : List Question) (tick : ℕ) (heard kept : List HeardAnswer) (m : Moment) (past : List Moment) (given : Verdict) →
+    (verdict : Option Verdict) → AreTimes times → m.tick ≡ tick →
+    map (marked (expected_number times questions tick)) heard ≡ with_answer tick m.mark (answers_in (take (place_of times tick) past)) →
+    SomeIff verdict (IsTrue (is_last_tick times tick)) given → IfSome verdict (λ given. kept ≡ []) → IfNone verdict (kept ≡ heard) →
+    map (marked (expected_number times questions (suc tick))) kept ≡ answers_in (take (place_of times (suc tick)) (m ∷ past))
+unfolding answers_in
+kept-marked times questions tick heard kept m past given (Some verdict) are same told gives closed goes_on =
+    ap (map (marked (expected_number times questions (suc tick)))) closed
+    ∙ ap (λ place. answers_in (take place (m ∷ past))) (sym (place_of-last times tick are gives.0))
+kept-marked times questions tick heard kept m past given None are same told gives closed goes_on = elim (cases_Bool (is_last_tick times tick)) [
+  | inl is_last ↦ absurd (gives is_last)
+  | inr other ↦
+      ap (map (marked (expected_number times questions (suc tick)))) goes_on
+      ∙ ap (λ n. map (marked n) heard) (expected_number-other times questions tick are other)
+      ∙ told
+      ∙ ap (λ t. with_answer t m.mark (answers_in (take (place_of times tick) past))) (sym same)
+      ∙ ap (λ place. answers_in (take place (m ∷ past))) (sym (place_of-other times tick are other))
+]
+
+-- ---- the verdict of a tick ----
+
+verdict-last : (times : TimeParts) (x : Effects) (mark : AnswerMark) (past : List Moment) (tick : ℕ) → length past ≡ tick → x.wild ≡ None →
+    is_last_tick times tick ≡ true →
+    verdict_at times x mark past ≡ Some (verdict_of times (with_answer tick mark (answers_in (take (place_of times tick) past))))
+unfolding verdict_at
+verdict-last times x mark past tick same tame is_last = rw (same, is_last, tame, last_place times tick is_last) refl
+
+verdict-other : (times : TimeParts) (x : Effects) (mark : AnswerMark) (past : List Moment) (tick : ℕ) → length past ≡ tick →
+    is_last_tick times tick ≡ false → verdict_at times x mark past ≡ None
+unfolding verdict_at
+verdict-other times x mark past tick same other = rw (same, other) refl
+
+never : (b : Bool) (verdict : Option Verdict) → (if b && false then verdict else None) ≡ None
+never true verdict = refl
+never false verdict = refl
+
+verdict-wild : (times : TimeParts) (x : Effects) (mark : AnswerMark) (past : List Moment) (asked : ℕ) → x.wild ≡ Some asked → verdict_at times x mark past ≡ None
+unfolding verdict_at
+verdict-wild times x mark past asked wild = rw wild (never _ _)
+
+verdict-given : (times : TimeParts) (x : Effects) (mark : AnswerMark) (past : List Moment) (tick n : ℕ) (heard : List HeardAnswer) (verdict : Option Verdict) →
+    length past ≡ tick → x.wild ≡ None → map (marked n) heard ≡ with_answer tick mark (answers_in (take (place_of times tick) past)) →
+    SomeIff verdict (IsTrue (is_last_tick times tick)) (verdict_over times n heard) → verdict ≡ verdict_at times x mark past
+unfolding verdict_over
+verdict-given times x mark past tick n heard (Some verdict) same tame told gives =
+    ap Some (gives.1 ∙ ap (verdict_of times) told) ∙ sym (verdict-last times x mark past tick same tame gives.0)
+verdict-given times x mark past tick n heard None same tame told gives = elim (cases_Bool (is_last_tick times tick)) [
+  | inl is_last ↦ absurd (gives is_last)
+  | inr other ↦ sym (verdict-other times x mark past tick same other)
+]
+
+-- ---- wrong answers are found ----
+
+still : (now before : Bool) → now ≡ before → (now && not before) ≡ false
+still true true e = refl
+still false false e = refl
+still true false e = cc
+still false true e = cc
+
+found : (times : TimeParts) (verdict : Option Verdict) (past : List Moment) (before now : Bool) →
+    before ≡ is_confirmed times.weights (map is_wrong (verdicts_in past)) →
+    now ≡ is_confirmed times.weights (map is_wrong (with_verdict verdict (verdicts_in past))) →
+    (now && not before) ≡ finds_answers times verdict past
+unfolding finds_answers with_verdict
+found times None past before now was is = still now before (is ∙ sym was)
+found times (Some verdict) past before now was is =
+    ap₂ (λ a b. a && not b) is was ∙ sym (is_first-cons times.weights (is_wrong verdict) (map is_wrong (verdicts_in past)))
+
+-- ---- the moment of a tick, and the moments with it ----
+
+module _ (s : Setting) (e : Entry) (h : List Entry) where
+  moments-cons : moments s (e ∷ h) ≡ next s e h ∷ moments s h
+  unfolding moments next ticks moments_of
+  moments-cons = refl
+
+  count-past : length (moments s h) ≡ length h
+  unfolding moments
+  count-past = length-moments s (ticks s h) ∙ length-ticks s h
+
+  next-tick : (next s e h).tick ≡ length h
+  unfolding next
+  next-tick = moment-tick s (effects s.fault (length h)) e (moments s h) ∙ count-past
+
+  next-verdict : (next s e h).verdict ≡ verdict_at s.cal.times (effects s.fault (length h)) (next s e h).mark (moments s h)
+  unfolding next
+  next-verdict = moment-verdict s (effects s.fault (length h)) e (moments s h)
+
+  next-answers : (next s e h).found.answers ≡ finds_answers s.cal.times (next s e h).verdict (moments s h)
+  unfolding next
+  next-answers = moment-answers s (effects s.fault (length h)) e (moments s h)
+
+  pub next-opens : (next s e h).opens ≡ (effects s.fault (length h)).opens
+  unfolding next
+  next-opens = moment-opens s (effects s.fault (length h)) e (moments s h)
+
+  verdicts-cons : verdicts_in (moments s (e ∷ h)) ≡ with_verdict (next s e h).verdict (verdicts_in (moments s h))
+  unfolding moments next ticks moments_of verdicts_in
+  verdicts-cons = refl
+
+none-more : (verdicts : List Verdict) → with_verdict None verdicts ≡ verdicts
+unfolding with_verdict
+none-more verdicts = refl
+
+-- ---- a tick ----
+
+-- what is known of a tick's verdict
+pub record Hears (x : Effects) (tick : ℕ) (answer : Option ℕ) (before now : MonitorParts) (verdict : Option Verdict) : Type 0 where
+  pub wild : OnSome x.wild (IsDeaf before now verdict)
+  pub orderly : x.wild ≡ None → Takes tick answer before now verdict
+
+module _ (s : Setting) (e : Entry) (h : List Entry) (answer : Option ℕ) (before now : MonitorParts) (verdict : Option Verdict) (holds : HoldsMonitor s before h) where
+  abbrev n : ℕ
+  n = expected_number s.cal.times s.cal.questions (length h)
+
+  abbrev heard : List HeardAnswer
+  heard = with_heard (length h) answer before.heard
+
+  given-on : verdict ≡ (next s e h).verdict → ((verdicts : List Verdict) → HasGiven before verdicts → HasGiven now (with_verdict verdict verdicts)) →
+      HasGiven now (verdicts_in (moments s (e ∷ h)))
+  given-on told given =
+      subst (HasGiven now) (ap (λ v. with_verdict v (verdicts_in (moments s h))) told ∙ sym (verdicts-cons s e h)) (given _ holds.given)
+
+  module _ (marked_so : mark_of (number_expected s (effects s.fault (length h)) (length h)) answer ≡ (next s e h).mark)
+      (tame : (effects s.fault (length h)).wild ≡ None) (takes : Takes (length h) answer before now verdict) where
+    orderly-now : IsOrderly s before h
+    orderly-now = holds.orderly (never_wild s h (length h) (omega arith) tame)
+
+    told : map (marked n) heard ≡ with_answer (length h) (next s e h).mark (answers_in (take (place_of s.cal.times (length h)) (moments s h)))
+    told =
+        heard-marked (length h) n answer before.heard
+        ∙ ap₂ (with_answer (length h)) (ap (λ k. mark_of k answer) (sym (number_expected-usual s (effects s.fault (length h)) (length h) tame)) ∙ marked_so) orderly-now.heard
+
+    gives : SomeIff verdict (IsTrue (is_last_tick s.cal.times (length h))) (verdict_over s.cal.times n heard)
+    gives =
+        subst (λ questions. SomeIff verdict (IsTrue (is_last_tick s.cal.times (length h))) (verdict_over s.cal.times (expected_number s.cal.times questions (length h)) heard))
+        holds.questions
+        (subst (λ times. SomeIff verdict (IsTrue (is_last_tick times (length h))) (verdict_over times (expected_number times before.questions (length h)) heard))
+        holds.times takes.gives)
+
+    tame-verdict : verdict ≡ (next s e h).verdict
+    tame-verdict =
+        verdict-given s.cal.times (effects s.fault (length h)) (next s e h).mark (moments s h) (length h) n heard verdict (count-past s e h) tame told gives
+        ∙ sym (next-verdict s e h)
+
+    tame-holds : HoldsMonitor s now (e ∷ h)
+    tame-holds = record {
+      times = takes.times ∙ holds.times;
+      questions = takes.questions ∙ holds.questions;
+      given = given-on tame-verdict takes.given;
+      orderly = λ never. record {
+        period = takes.period ∙ ap (λ times. period_of times (length h + 1)) holds.times ∙ ap (period_of s.cal.times) (add-one (length h));
+        heard =
+            kept-marked s.cal.times s.cal.questions (length h) heard now.heard (next s e h) (moments s h) _ verdict
+            (subst AreTimes holds.times takes.are_times) (next-tick s e h) told gives takes.closed takes.goes_on
+            ∙ ap (λ m. answers_in (take (place_of s.cal.times (suc (length h))) m)) (sym (moments-cons s e h));
+      };
+    }
+
+  module _ (asks : ℕ) (wild : (effects s.fault (length h)).wild ≡ Some asks) (deaf : IsDeaf before now verdict) where
+    wild-verdict : verdict ≡ (next s e h).verdict
+    wild-verdict = deaf.none ∙ sym (next-verdict s e h ∙ verdict-wild s.cal.times (effects s.fault (length h)) (next s e h).mark (moments s h) asks wild)
+
+    wild_now : was_wild (ticks s (e ∷ h)) ≡ true
+    unfolding was_wild ticks
+    wild_now = or_left _ _ (ap is_some wild)
+
+    wild-holds : HoldsMonitor s now (e ∷ h)
+    wild-holds = record {
+      times = ap (λ (m : MonitorParts). m.times) deaf.unchanged ∙ holds.times;
+      questions = ap (λ (m : MonitorParts). m.questions) deaf.unchanged ∙ holds.questions;
+      given = given-on wild-verdict (λ verdicts given. deaf-given verdict verdicts deaf.none (subst (λ m. HasGiven m verdicts) (sym deaf.unchanged) given));
+      orderly = λ never. absurd (let clash : true ≡ false = sym wild_now ∙ never in cc);
+    }
+      where
+        deaf-given : (v : Option Verdict) (verdicts : List Verdict) → v ≡ None → HasGiven now verdicts → HasGiven now (with_verdict v verdicts)
+        deaf-given v verdicts none given = subst (HasGiven now) (sym (ap (λ v. with_verdict v verdicts) none ∙ none-more verdicts)) given
+
+  module _ (marked_so : mark_of (number_expected s (effects s.fault (length h)) (length h)) answer ≡ (next s e h).mark)
+      (hears : Hears (effects s.fault (length h)) (length h) answer before now verdict) where
+    either : (w : Option ℕ) → (effects s.fault (length h)).wild ≡ w → (verdict ≡ (next s e h).verdict) × HoldsMonitor s now (e ∷ h)
+    either None is = (tame-verdict marked_so is (hears.orderly is), tame-holds marked_so is (hears.orderly is))
+    either (Some asks) is = let deaf = subst (λ w. OnSome w (IsDeaf before now verdict)) is hears.wild in (wild-verdict asks is deaf, wild-holds asks is deaf)
+
+-- ---- what is made of it ----
+
+-- the number that is expected, by the fault, the times and the questions
+number_of : Option Fault → TimeParts → List Question → ℕ → ℕ
+number_of fault times questions tick = answer_number (question_at questions (asked_at (effects fault tick) times (length questions) tick)).answer
+
+module _ (s : Setting) (e : Entry) (h : List Entry) (fault : Option Fault) (tick : ℕ) (answer : Option ℕ) (before : MonitorParts)
+    (comes : ComesNext s fault tick answer before e h) where
+  pub judged : (now : MonitorParts) (verdict : Option Verdict) → Hears (effects fault tick) tick answer before now verdict →
+      (verdict ≡ (next s e h).verdict) × HoldsMonitor s now (e ∷ h)
+  judged now verdict hears =
+      either s e h answer before now verdict comes.holds comes.marked
+      (subst (λ t. Hears (effects s.fault t) t answer before now verdict) (sym comes.count)
+      (subst (λ fault. Hears (effects fault tick) tick answer before now verdict) (sym comes.same_fault) hears)) _ refl
+
+  effects-is : effects fault tick ≡ effects s.fault (length h)
+  effects-is = ap₂ effects (sym comes.same_fault) (sym comes.count)
+
+  pub judged-opens : (opens : Bool) → opens ≡ (effects fault tick).opens → opens ≡ (next s e h).opens
+  judged-opens opens is = is ∙ ap (λ (x : Effects). x.opens) effects-is ∙ sym (next-opens s e h)
+
+  number-is : (questions : List Question) → before.questions ≡ questions → number_of fault before.times questions tick ≡ number_expected s (effects s.fault (length h)) (length h)
+  unfolding number_of number_expected
+  number-is questions same =
+      ap (λ questions. number_of fault before.times questions tick) (sym same ∙ comes.holds.questions)
+      ∙ ap (λ times. number_of fault times s.cal.questions tick) comes.holds.times
+      ∙ ap₂ (λ fault tick. number_of fault s.cal.times s.cal.questions tick) (sym comes.same_fault) (sym comes.count)
+
+  pub judged-mark : (mark : AnswerMark) (number asked : ℕ) (questions : List Question) → before.questions ≡ questions → mark ≡ mark_of number answer →
+      number ≡ answer_number (question_at questions asked).answer → asked ≡ asked_at (effects fault tick) before.times (length questions) tick → mark ≡ (next s e h).mark
+  unfolding number_of
+  judged-mark mark number asked questions same is number_so asked_so =
+      is
+      ∙ ap (λ k. mark_of k answer) (number_so ∙ ap (λ i. answer_number (question_at questions i).answer) asked_so ∙ number-is questions same)
+      ∙ comes.marked
+
+  pub judged-answers : (now : MonitorParts) (answers was is : Bool) → HoldsMonitor s now (e ∷ h) → answers ≡ (is && not was) →
+      ((verdicts : List Verdict) → HasGiven before verdicts → was ≡ is_confirmed before.times.weights (map is_wrong verdicts)) →
+      ((verdicts : List Verdict) → HasGiven now verdicts → is ≡ is_confirmed now.times.weights (map is_wrong verdicts)) →
+      answers ≡ (next s e h).found.answers
+  judged-answers now answers was is holds answers_so was_so is_so =
+      answers_so
+      ∙ found s.cal.times (next s e h).verdict (moments s h) was is
+      (was_so _ comes.holds.given ∙ ap (λ (times : TimeParts). is_confirmed times.weights (map is_wrong (verdicts_in (moments s h)))) comes.holds.times)
+      (is_so _ holds.given
+      ∙ ap (λ (times : TimeParts). is_confirmed times.weights (map is_wrong (verdicts_in (moments s (e ∷ h))))) holds.times
+      ∙ ap (λ verdicts. is_confirmed s.cal.times.weights (map is_wrong verdicts)) (verdicts-cons s e h))
+      ∙ sym (next-answers s e h)
+
+-- ---- for the controller ----
+
+-- what a controller knows of its module before a tick
+module _ (s : Setting) (c : Kept) (h : List Entry) (stands : Stands s c h) where
+  pub stands-questions : c.monitor.questions ≡ c.cal.questions
+  stands-questions = stands.monitor.questions ∙ ap (λ (cal : CalibrationParts). cal.questions) (sym stands.cal)
+
+  tame-before : (effects c.fault c.ticks).wild ≡ None → (effects s.fault (length h)).wild ≡ None
+  tame-before tame = ap (λ (x : Effects). x.wild) (ap₂ effects (sym stands.fault) (sym stands.count)) ∙ tame
+
+  pub stands-period : (effects c.fault c.ticks).wild ≡ None → c.monitor.verdicts ≡ period_of c.monitor.times c.ticks
+  stands-period tame = orderly_period s c.monitor h stands.monitor (tame-before tame) ∙ ap (period_of c.monitor.times) (sym stands.count)
+
+  pub stands-later : (effects c.fault c.ticks).wild ≡ None → All (λ heard. heard.tick < c.ticks) c.monitor.heard
+  stands-later tame = subst (λ tick. All (λ heard. heard.tick < tick) c.monitor.heard) (sym stands.count) (orderly_later s c.monitor h stands.monitor (tame-before tame))
+
+  pub stands-asked : asked_at (effects c.fault c.ticks) c.monitor.times (length c.cal.questions) c.ticks
+      ≡ asked_at (effects s.fault (length h)) s.cal.times (length s.cal.questions) (length h)
+  stands-asked =
+      ap (λ times. asked_at (effects c.fault c.ticks) times (length c.cal.questions) c.ticks) stands.monitor.times
+      ∙ ap (λ (cal : CalibrationParts). asked_at (effects c.fault c.ticks) s.cal.times (length cal.questions) c.ticks) stands.cal
+      ∙ ap₂ (λ fault tick. asked_at (effects fault tick) s.cal.times (length s.cal.questions) tick) stands.fault stands.count
+
+  pub stands-next : (e : Entry) (answer : Option ℕ) → mark_of (number_expected s (effects s.fault (length h)) (length h)) answer ≡ (next s e h).mark →
+      ComesNext s c.fault c.ticks answer c.monitor e h
+  stands-next e answer marked_so = record {
+    same_fault = sym stands.fault;
+    count = sym stands.count;
+    marked = marked_so;
+    holds = stands.monitor;
+  }
