@@ -1,5 +1,5 @@
 // The controller: what it is made of, and how it begins.
-ghost use Rattle.std.specs.Prelude.{◌≡◌, ℕ, ◌+◌, ◌≤◌, ◌<◌, ◌||◌, true, false, length, replicate, List, [], ◌∷◌};
+ghost use Rattle.std.specs.Prelude.{◌≡◌, ℕ, ◌+◌, ◌%◌, ◌^◌, ◌≤◌, ◌<◌, ◌||◌, true, false, length, replicate, List, [], ◌∷◌};
 ghost use Rattle.std.specs.Prelude.{IsTrue, IsOk, IsErr, IfOk, OnOk, OnErr};
 ghost use Rattle.std.specs.Option.{option_or};
 ghost use Rattle.eg_model.specs.History.{Setting, Entry};
@@ -10,7 +10,8 @@ ghost use Rattle.eg_model.specs.Rows.{row_of, trap_in};
 ghost use Rattle.eg_agree.specs.Replies.{IsAnyFault};
 ghost use Rattle.eg_tick.specs.Stands.{Stands, IsController};
 ghost use Rattle.eg_tick.specs.Working.{effects_after};
-ghost use Rattle.eg_tick.specs.Advancing.{entry_of};
+ghost use Rattle.eg_tick.specs.Advancing.{entry_of, ReactsInTime, ReactsAtOnce, CutsLapses, LapsesAreShort};
+ghost use Rattle.eg_tick.specs.Weights.{weight_of};
 
 use crate::board::load_image;
 use crate::monitoring::{judge, question};
@@ -142,6 +143,35 @@ impl<E: Engine + Drop, M: Guarded + Drop> Controller<E, M> {
         steps: &mut Ticks,
     ) -> Result<Row, NoMemory>
         requires fewer { self.old.kept.ticks < 20000 }
+        // Whichever history it stood for, it stands for the history with this tick, whose row is the model's.
+        ensures stands { (s : Setting) (h : List Entry) → Stands s self.old.kept h
+            → OnOk result (Stands s self.new.kept (entry_of drive.now slices.now self.new.kept.shown ∷ h)) }
+        ensures row { (s : Setting) (h : List Entry) → Stands s self.old.kept h → IfOk result (λ row. row
+            ≡ row_of (next s (entry_of drive.now slices.now self.new.kept.shown) h)) }
+        // The engine made a step of its own, by the commands as the tick before left them.
+        ensures engine { (s : Setting) (h : List Entry) → Stands s self.old.kept h → OnOk result
+            (E.steps self.old.engine (last_world (moments s h)).throttle (last_world (moments s h)).ignition
+            (on_at (effects_after s h) (moments s h)) (effects_after s h).held self.new.engine) }
+        // The stages are off in time after a confirmed torque excess, and a lapse is cut.
+        ensures reacts { (s : Setting) → IfOk result (ReactsInTime s self.old.kept) }
+        ensures at_once { (s : Setting) → IfOk result (ReactsAtOnce s self.old.kept) }
+        ensures lapses { (s : Setting) → IfOk result (CutsLapses s self.old.kept) }
+        ensures short { (s : Setting) → LapsesAreShort s self.new.kept }
+        // The tick is counted, and its row is weighed.
+        ensures count { steps.new.count ≡ (steps.old.count + 1) % 2 ^ 64 }
+        ensures weight { IfOk result (λ row.
+            steps.new.weights ≡ (steps.old.weights + weight_of row) % 2 ^ 64) }
+        ensures no_weight { OnErr result (steps.new.weights ≡ steps.old.weights) }
+        ensures ticks { OnOk result (self.new.kept.ticks ≡ self.old.kept.ticks + 1) }
+        // After want of memory every later tick answers it. It never comes over a sure memory.
+        ensures lost { self.old.kept.lost ≡ true → IsErr result }
+        ensures loses { OnErr result (self.new.kept.lost ≡ true) }
+        ensures sure { IsTrue self.old.kept.memory.sure → self.old.kept.lost ≡ false → IsOk result }
+        ensures stays_sure { self.new.kept.memory.sure ≡ self.old.kept.memory.sure }
+        // It stays a controller of its run.
+        ensures fault { self.new.kept.fault ≡ self.old.kept.fault }
+        ensures cal { self.new.kept.cal ≡ self.old.kept.cal }
+        ensures keeps { IsController self.new.kept }
     {
         steps.raise();
         let row = self.advance(drive, slices)?;
