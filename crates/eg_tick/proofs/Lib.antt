@@ -6,5 +6,6 @@ pub mod LevelLemmas
 pub mod StartLemmas
 pub mod WorkLemmas
 pub mod StandsLemmas
+pub mod AdvanceLemmas
 pub mod MonitorLemmas
 mod Worked

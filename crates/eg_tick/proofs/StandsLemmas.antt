@@ -34,6 +34,26 @@ pub tick-is : (s : Setting) (e : Entry) (h : List Entry) → (next s e h).tick �
 unfolding next moment moments
 tick-is s e h = length-moments s (ticks s h) ∙ length-ticks s h
 
+-- ---- the paths ----
+
+module _ (s : Setting) (e : Entry) (h : List Entry) (c : Kept) (stands : Stands s c h) where
+  pub path1-is : (effects_after s h).conducts 1 c.open1 ≡ (next s e h).path1
+  unfolding effects_after next moment path1_at
+  path1-is = ap ((effects s.fault (length h)).conducts 1) stands.latches.path1
+
+  pub path2-is : (effects_after s h).conducts 2 c.open2 ≡ (next s e h).path2
+  unfolding effects_after next moment path2_at
+  path2-is = ap ((effects s.fault (length h)).conducts 2) stands.latches.path2
+
+-- the stages are on where both paths conduct
+pub on-is : (s : Setting) (h : List Entry) (c : Kept) → Stands s c h
+    → ((effects_after s h).conducts 1 c.open1 && (effects_after s h).conducts 2 c.open2) ≡ on_at (effects_after s h) (moments s h)
+unfolding on_at path1_at path2_at
+on-is s h c stands =
+    ap₂ (λ a b. a && b) (ap ((effects_after s h).conducts 1) stands.latches.path1) (ap ((effects_after s h).conducts 2) stands.latches.path2)
+
+-- ---- a tick that was made ----
+
 -- What the parts of a tick made of a controller. `open1` and `open2` are the latches as the tick began.
 pub record Makes (s : Setting) (e : Entry) (h : List Entry) (old new : Kept) (done : Step) (judgement : Judgement) : Type 0 where
   pub cal : new.cal ≡ old.cal
@@ -108,19 +128,6 @@ watches-are found answers m is same = ap₂ (λ (f : Watches) a. record f { answ
 
 module _ (s : Setting) (e : Entry) (h : List Entry) (old new : Kept) (step : Step) (judgement : Judgement) (stands : Stands s old h)
     (makes : Makes s e h old new step judgement) where
-  path1-is : (effects_after s h).conducts 1 old.open1 ≡ (next s e h).path1
-  unfolding effects_after next moment path1_at
-  path1-is = ap ((effects s.fault (length h)).conducts 1) stands.latches.path1
-
-  path2-is : (effects_after s h).conducts 2 old.open2 ≡ (next s e h).path2
-  unfolding effects_after next moment path2_at
-  path2-is = ap ((effects s.fault (length h)).conducts 2) stands.latches.path2
-
-  -- the stages are on where both paths conduct
-  pub on-is : ((effects_after s h).conducts 1 old.open1 && (effects_after s h).conducts 2 old.open2) ≡ on_at (effects_after s h) (moments s h)
-  unfolding on_at path1_at path2_at
-  on-is = ap₂ (λ a b. a && b) (ap ((effects_after s h).conducts 1) stands.latches.path1) (ap ((effects_after s h).conducts 2) stands.latches.path2)
-
   signals-are : signals_of (words_of new.memory.words) ≡ (next s e h).signals
   unfolding moments moments_of ticks next last_signals
   signals-are = makes.served.1.words.signals
@@ -154,9 +161,9 @@ module _ (s : Setting) (e : Entry) (h : List Entry) (old new : Kept) (step : Ste
     charge = ap (λ (shown : Shown). shown.load_1) (sym makes.shown) i;
     torque = ap (λ (shown : Shown). shown.torque) (sym makes.shown) i;
     limit = drive_permits s.cal.rules.permit e.drive;
-    path1 = path1-is i;
-    path2 = path2-is i;
-    on = ap₂ (λ a b. a && b) path1-is path2-is i;
+    path1 = path1-is s e h old stands i;
+    path2 = path2-is s e h old stands i;
+    on = ap₂ (λ a b. a && b) (path1-is s e h old stands) (path2-is s e h old stands) i;
     signals = ap signal_list signals-are i;
     throttle = ap (λ (world : World). world.throttle) world-is i;
     ignition = ap (λ (world : World). world.ignition) world-is i;

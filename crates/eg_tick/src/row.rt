@@ -1,5 +1,6 @@
 // The row of a tick.
 ghost use Rattle.std.specs.Prelude.{◌≡◌, ◌<◌, slice_index};
+ghost use Rattle.eg_num.specs.Drive.{IsDrive};
 ghost use Rattle.eg_torque.specs.Permit.{drive_permits};
 ghost use Rattle.eg_level2.specs.Words.{word_at, words_of};
 ghost use Rattle.eg_model.specs.Rows.{signal_list};
@@ -26,7 +27,8 @@ pub(crate) struct Beginning {
 
 /// The torque that a drive row permits, in tenths of Nm (docs/CONCEPT.md, "Torque").
 pub(crate) fn limit(permit: &Permit, drive: &Drive) -> u16
-    ensures { result ≡ drive_permits permit.now drive.now }
+    ensures limit { result ≡ drive_permits permit.now drive.now }
+    ensures drive { IsDrive drive.now }
 {
     permit.at(drive.pedal(), drive.speed(), drive.speed(), drive.raise())
 }

@@ -1,8 +1,8 @@
 use Rattle.eg_torque.proofs.PermitLemmas.{drive_permits-permitted}
 use Rattle.eg_tick.proofs.row.limit.Goals as goal
 
-pub returns : goal.returns
-returns c =
+pub returns-clause-limit : goal.returns-clause-limit
+returns-clause-limit c =
     let value = c.at.ensures.value in
     let pedal = c.pedal.ensures.pedal in
     let speed = c.speed.ensures.speed in

@@ -1,48 +1,165 @@
-use Rattle.std.proofs.Common.{rules, ◌≡◌, ℕ, ◌+◌, ◌≤◌, ◌<◌, ◌||◌, true, false, length, replicate, List, [], ◌∷◌, IsTrue, IsOk, IsErr, IfOk, OnOk, OnErr, ◌-◌, ◌*◌, ◌/◌, ◌%◌, Bool, nat_eq, nat_lt, ◌++◌, slice_index_or, slice_set, bit_and, bit_or, Fits, w8, w32, w64, Bor, MutBor}
-use Rattle.std.specs.Option.{option_or}
+use Rattle.std.proofs.Common.{◌≡◌, ◌∙◌, refl, sym, ap, subst, ◌+◌, ◌<◌, ◌||◌, Some, None, List, [], ◌∷◌, length, false}
+use Rattle.std.specs.Option.{option_copied}
+use Rattle.eg_answer.specs.declared.rules.Rules.{Rules}
+use Rattle.eg_torque.specs.Permit.{drive_permits}
+use Rattle.eg_fault.specs.Effects.{sends_at, asked_at}
+use Rattle.eg_fault.specs.Faults.{effects}
+use Rattle.eg_level2.specs.Words.{words_of, AreWithin}
+use Rattle.eg_level2.specs.Inputs.{Level2Parts}
 use Rattle.eg_model.specs.History.{Setting, Entry}
 use Rattle.eg_model.specs.Paths.{on_at}
 use Rattle.eg_model.specs.Level1.{last_world}
 use Rattle.eg_model.specs.Moments.{moments, next}
-use Rattle.eg_model.specs.Rows.{row_of, trap_in}
-use Rattle.eg_agree.specs.Replies.{IsAnyFault}
-use Rattle.eg_tick.specs.Stands.{Stands, IsController}
+use Rattle.eg_model.specs.Rows.{row_of}
+use Rattle.eg_tick.specs.Kept.{Kept, ControllerParts}
 use Rattle.eg_tick.specs.Working.{effects_after}
+use Rattle.eg_tick.specs.Stands.{Stands, IsController}
 use Rattle.eg_tick.specs.Advancing.{entry_of}
+use Rattle.eg_tick.specs.declared.working.Task.{Task}
+use Rattle.eg_tick.proofs.MonitorLemmas.{stands-period, stands-later}
+use Rattle.eg_tick.proofs.StandsLemmas.{next_stands}
+use Rattle.eg_tick.proofs.AdvanceLemmas.{of_setting, held-within, within, Advance, makes, row-told, step-told}
+use Rattle.eg_tick.proofs.controller.Controller.advance.Given.{Over}
 use Rattle.eg_tick.proofs.controller.Controller.advance.Goals as goal
 
--- src/controller.rt:183:9
 pub step_engine-requires : goal.step_engine-requires
-step_engine-requires g c = ?
+step_engine-requires g c x is =
+    held-within c.self.inside.fault c.self.inside.ticks x c.self.invariant.keeps.fault
+    (subst (λ f. (effects f c.self.inside.ticks).held ≡ Some x) c.as_ref-fault.ensures.value (sym c.held-held.ensures ∙ is))
 
--- src/controller.rt:190:20
 pub work-requires-clause-within : goal.work-requires-clause-within
-work-requires-clause-within g c = ?
+work-requires-clause-within g c =
+    let some = c.self.invariant.keeps.stands c.if-self.false in
+    subst (λ (p : Level2Parts). AreWithin p.rules (words_of (g.M.Guarded.shows c.self.inside.memory).words)) (sym c.self.invariant.parts)
+    (within _ some.0 some.1 c.times.ensures.accepted some.2)
 
--- src/controller.rt:191:13
 pub judge-judged-requires-clause-period : goal.judge-judged-requires-clause-period
-judge-judged-requires-clause-period g c = ?
+judge-judged-requires-clause-period g c tame =
+    let some = c.self.invariant.keeps.stands c.if-self.false in
+    stands-period _ _ some.1 some.2 (subst (λ f. (effects f c.self.inside.ticks).wild ≡ None) c.as_ref-fault.ensures.value tame)
 
--- src/controller.rt:191:13
 pub judge-judged-requires-clause-later : goal.judge-judged-requires-clause-later
-judge-judged-requires-clause-later g c = ?
+judge-judged-requires-clause-later g c tame =
+    let some = c.self.invariant.keeps.stands c.if-self.false in
+    stands-later _ _ some.1 some.2 (subst (λ f. (effects f c.self.inside.ticks).wild ≡ None) c.as_ref-fault.ensures.value tame)
 
--- src/controller.rt:153:5
+-- ---- the tick that was made ----
+
+abbrev old : (g : Over) → goal.After-self-6-1 g → Kept
+old g c = record {
+  cal = c.self.inside.calibration;
+  fault = c.self.inside.fault;
+  ticks = c.self.inside.ticks;
+  memory = g.M.Guarded.shows c.self.inside.memory;
+  registers = c.self.inside.host.registers;
+  monitor = c.self.inside.monitor;
+  open1 = c.self.inside.open1;
+  open2 = c.self.inside.open2;
+  trap = c.self.inside.trap;
+  kt = g.E.Engine.kt c.self.inside.engine;
+  shown = g.E.Engine.shows c.self.inside.engine;
+  lost = c.self.inside.lost;
+}
+
+abbrev new : (g : Over) → goal.After-self-6-1 g → Kept
+new g c = record {
+  cal = c.self.inside.calibration;
+  fault = c.self.inside.fault;
+  ticks = c.self.inside.ticks + 1;
+  memory = g.M.Guarded.shows c.work.new.memory;
+  registers = c.work.new.host.registers;
+  monitor = c.judge-judged.new.monitor;
+  open1 = c.either-self-inside.result;
+  open2 = c.either-self-inside-2.result;
+  trap = c.trap_after-self-inside.result;
+  kt = g.E.Engine.kt c.step_engine.new.engine;
+  shown = g.E.Engine.shows c.step_engine.new.engine;
+  lost = false;
+}
+
+abbrev task : (g : Over) → goal.After-self-6-1 g → Task
+task g c = record {
+  tick = c.self.inside.ticks;
+  sends = c.sends.result;
+  asked = c.question.result;
+  readings = c.readings.result;
+}
+
+advance : (g : Over) (c : goal.After-self-6-1 g) → Advance (old g c) (new g c) c.args.drive.now c.args.slices.now c.self.inside.fault c.self.inside.level2
+    c.at.result (task g c) c.in_ok-step.step c.judge-judged.result
+advance g c =
+    subst (λ under. Advance (old g c) (new g c) c.args.drive.now c.args.slices.now under c.self.inside.level2 c.at.result (task g c) c.in_ok-step.step c.judge-judged.result)
+    c.as_ref-fault.ensures.value
+    (record {
+      accepted = c.times.ensures.accepted;
+      parts = c.self.invariant.parts;
+      few = subst (λ (v : ControllerParts g.row.E). v.kept.ticks < 20000) (sym c.self.view_is) c.requires.fewer;
+      is_drive = c.limit.ensures.drive;
+      path1 = c.at.ensures.path1;
+      path2 = c.at.ensures.path2;
+      on = c.at.ensures.on;
+      tick = refl;
+      sends = c.sends.ensures ∙ ap (λ times. sends_at (effects (option_copied c.as_ref-fault.result) c.self.inside.ticks) times c.self.inside.ticks) c.times.ensures.times;
+      asked = c.question.ensures.number
+          ∙ ap (λ questions. asked_at (effects (option_copied c.as_ref-fault.result) c.self.inside.ticks) c.self.inside.monitor.times (length questions) c.self.inside.ticks) c.questions.ensures.questions;
+      readings = c.readings.ensures;
+      served = c.in_ok-step.ensures.served;
+      step = c.in_ok-step.ensures.step;
+      holds = c.judge-judged.ensures.holds;
+      tells = c.judge-judged.ensures.tells;
+      cal = refl;
+      fault = refl;
+      count = refl;
+      are_words = c.work.ensures.are_words;
+      open1 = c.either-self-inside.ensures;
+      open2 = c.either-self-inside-2.ensures ∙ ap (λ b. b || c.self.inside.open2) c.either.ensures;
+      kt = c.step_engine.ensures.kt;
+      laws = c.step_engine.ensures.laws;
+      off = c.step_engine.ensures.off;
+      trap = c.trap_after-self-inside.ensures;
+      not_lost = refl;
+    })
+
+abbrev entry : (g : Over) → goal.After-self-6-1 g → Entry
+entry g c = entry_of c.args.drive.now c.args.slices.now (g.E.Engine.shows c.step_engine.new.engine)
+
+-- what the controller stood for, by its parts
+was : (g : Over) (c : goal.After-self-6-1 g) (s : Setting) (h : List Entry) → Stands s c.args.self.now.kept h → Stands s (old g c) h
+was g c s h = subst (λ (v : ControllerParts g.row.E). Stands s v.kept h) (sym c.self.view_is)
+
+goes : (g : Over) (c : goal.After-self-6-1 g) (s : Setting) (h : List Entry) → Stands s (old g c) h → Stands s (new g c) (entry g c ∷ h)
+goes g c = λ s h. of_setting (λ t. Stands t (new g c) (entry g c ∷ h)) (old g c) h
+    (λ image so. next_stands _ (entry g c) h (old g c) (new g c) _ _ so (makes (old g c) (new g c) _ _ _ _ (task g c) _ _ (advance g c) image h so)) s
+
+stood : (g : Over) (c : goal.After-self-6-1 g) (s : Setting) (h : List Entry) → Stands s c.args.self.now.kept h → Stands s (new g c) (entry g c ∷ h)
+stood g c s h stands = goes g c s h (was g c s h stands)
+
+still : (g : Over) (c : goal.After-self-6-1 g) → IsController (new g c)
+still g c =
+    let some = c.self.invariant.keeps.stands c.if-self.false in
+    record { fault = c.self.invariant.keeps.fault; stands = λ held. (some.0, entry g c ∷ some.1, goes g c _ some.1 some.2) }
+
 pub invariant_of-self-2 : goal.invariant_of-self-2
-invariant_of-self-2 g c = ?
+invariant_of-self-2 g c = record { parts = c.self.invariant.parts; keeps = still g c }
 
--- src/controller.rt:153:5
 pub returns-clause-stands : goal.returns-clause-stands
-returns-clause-stands g c = ?
+returns-clause-stands g c = stood g c
 
--- src/controller.rt:153:5
 pub returns-clause-row : goal.returns-clause-row
-returns-clause-row g c = ?
+returns-clause-row g c s h stands =
+    of_setting (λ t. c.row-row.result ≡ row_of (next t (entry g c) h)) (old g c) h
+    (λ image so. row-told (old g c) (new g c) _ _ _ _ (task g c) _ _ (advance g c) image h so c.row-row.result c.limit.result
+    (c.limit.ensures.limit ∙ ap (λ (rules : Rules). drive_permits rules.permit c.args.drive.now) c.rules.ensures.rules) c.row-row.ensures)
+    s (was g c s h stands)
 
--- src/controller.rt:153:5
 pub returns-clause-engine : goal.returns-clause-engine
-returns-clause-engine g c = ?
+returns-clause-engine g c s h stands =
+    of_setting (λ t. g.E.Engine.steps c.args.self.now.engine (last_world (moments t h)).throttle (last_world (moments t h)).ignition
+    (on_at (effects_after t h) (moments t h)) (effects_after t h).held c.step_engine.new.engine) (old g c) h
+    (λ image so. step-told (old g c) (new g c) _ _ _ _ (task g c) _ _ (advance g c) image h so
+    (λ throttle ignition on held. g.E.Engine.steps c.args.self.now.engine throttle ignition on held c.step_engine.new.engine)
+    ?)
+    s (was g c s h stands)
 
--- src/controller.rt:153:5
 pub returns-clause-keeps : goal.returns-clause-keeps
-returns-clause-keeps g c = ?
+returns-clause-keeps g c = still g c

@@ -1,17 +1,36 @@
-use Rattle.std.proofs.Common.{◌≡◌, ◌∙◌, refl, sym, ap, subst, length, replicate}
+use Rattle.std.proofs.Common.{◌≡◌, ◌∙◌, refl, sym, ap, ap₂, subst, length, replicate, List, [], false, None}
 use Rattle.eg_guard.specs.Memory.{AreWords}
 use Rattle.eg_guard.proofs.WordsLemmas.{zeros_are_words}
 use Rattle.eg_word.specs.World.{world_of}
 use Rattle.eg_module.specs.Monitoring.{MonitorParts}
+use Rattle.eg_tick.specs.Kept.{Kept}
+use Rattle.eg_tick.specs.Stands.{Stands}
 use Rattle.eg_tick.specs.Board.{IsWritten}
 use Rattle.eg_tick.proofs.StartLemmas.{new_stands, made_code, made_world}
+use Rattle.eg_tick.proofs.controller.Controller.new.Given.{Over}
 use Rattle.eg_tick.proofs.controller.Controller.new.Goals as goal
 
 pub load_image-requires-clause-are_words : goal.load_image-requires-clause-are_words
 load_image-requires-clause-are_words g c = subst AreWords (sym c.requires.zeros) zeros_are_words
 
-pub returns-clause-stands : goal.returns-clause-stands
-returns-clause-stands g c =
+abbrev kept : (g : Over) → goal.After-new g → Kept
+kept g c = record {
+  cal = c.args.calibration;
+  fault = c.args.fault;
+  ticks = 0;
+  memory = g.M.Guarded.shows c.reset.new.memory;
+  registers = c.new.result.registers;
+  monitor = c.new-monitor.result;
+  open1 = false;
+  open2 = false;
+  trap = None;
+  kt = g.E.Engine.kt c.args.engine;
+  shown = g.E.Engine.shows c.args.engine;
+  lost = false;
+}
+
+made : (g : Over) (c : goal.After-new g) → Stands (record { cal = c.args.calibration; image = c.args.image.now; fault = c.args.fault }) (kept g c) []
+made g c =
     let image = c.args.image.now in
     let loaded = (g.M.Guarded.shows c.load_image.new.memory).words in
     let made = (g.M.Guarded.shows c.reset.new.memory).words in
@@ -40,3 +59,13 @@ returns-clause-stands g c =
       trap = refl;
       not_lost = refl;
     })
+
+pub invariant_of-result : goal.invariant_of-result
+invariant_of-result g c = record {
+  parts = c.new-level2.ensures.parts ∙ ap₂ (λ a b. record { rules = a; questions = b }) (c.copy.ensures ∙ c.rules.ensures.rules) (c.copy-2.ensures ∙ c.questions.ensures.questions);
+  keeps = record { fault = c.requires.fault; stands = λ held. (c.args.image.now, [], made g c) };
+}
+
+pub returns-clause-stands : goal.returns-clause-stands
+returns-clause-stands g c = made g c
+

@@ -1,0 +1,238 @@
+-- A tick, from what each of its parts says of itself.
+use Rattle.std.proofs.Common.{◌≡◌, ◌∙◌, refl, sym, ap, ap₂, subst, ℕ, ◌+◌, ◌-◌, ◌≤◌, ◌<◌, ◌||◌, ◌&&◌, Bool, true, false, Option, Some, None, List, [], ◌∷◌, length, slice_index, arith}
+use Rattle.std.specs.Prelude.{if◌then◌else◌, nat_le}
+use Rattle.std.specs.Option.{option_or}
+use Rattle.eg_num.specs.Drive.{DriveRow, IsDrive}
+use Rattle.eg_plant.specs.Engine.{Shown, KeepsLaws}
+use Rattle.eg_fault.specs.declared.class.Fault.{Fault}
+use Rattle.eg_fault.specs.declared.class.Class.{Class}
+use Rattle.eg_fault.specs.declared.class.Class.TheVariants.{Script, Offset, Bus, Plate, Skip, Disturb, Flip, Halt, Timing, Wild, Path1Closed, Path2Closed, PathOpen, Lapse}
+use Rattle.eg_fault.specs.Effects.{Effects, no_effects, sends_at, asked_at}
+use Rattle.eg_fault.specs.Faults.{effects, does, IsValidClass}
+use Rattle.eg_values.specs.Calibration.{IsAccepted}
+use Rattle.eg_guard.specs.Memory.{AreWords}
+use Rattle.eg_torque.specs.Permit.{drive_permits}
+use Rattle.eg_word.specs.World.{World, world_of}
+use Rattle.eg_record.specs.declared.row.Row.{Row}
+use Rattle.eg_level2.specs.Words.{AreMirrored, AreWithin, words_of}
+use Rattle.eg_level2.specs.Inputs.{Level2Parts}
+use Rattle.eg_level2.specs.declared.step.Step.{Step}
+use Rattle.eg_answer.specs.Periods.{period_of}
+use Rattle.eg_model.specs.History.{Setting, Entry}
+use Rattle.eg_model.specs.Paths.{on_at}
+use Rattle.eg_model.specs.Level1.{last_world}
+use Rattle.eg_model.specs.Moments.{readings_at, moments, next}
+use Rattle.eg_model.specs.Rows.{trap_in, row_of, signal_list}
+use Rattle.eg_agree.specs.Standing.{signals_of}
+use Rattle.eg_agree.specs.Replies.{IsAnyFault}
+use Rattle.eg_agree.proofs.HistoryLemmas.{within_law}
+use Rattle.eg_tick.specs.Kept.{Kept}
+use Rattle.eg_tick.specs.Stands.{Stands, HoldsMonitor}
+use Rattle.eg_tick.specs.Working.{effects_after, IsTask, Serves, Served, IsStep}
+use Rattle.eg_tick.specs.Judging.{ComesNext, Tells}
+use Rattle.eg_tick.specs.Advancing.{entry_of}
+use Rattle.eg_tick.specs.declared.monitoring.Judgement.{Judgement}
+use Rattle.eg_tick.specs.declared.paths.Paths.{Paths}
+use Rattle.eg_tick.specs.declared.working.Task.{Task}
+use Rattle.eg_tick.proofs.MonitorLemmas.{stands-asked, stands-next}
+use Rattle.eg_tick.proofs.StandsLemmas.{Makes, on-is, row-is}
+
+-- ---- the setting of a controller ----
+
+abbrev pub setting_of : Kept → List ℕ → Setting
+setting_of c image = record { cal = c.cal; image = image; fault = c.fault }
+
+-- what holds of its setting with each image holds of each setting for which it stands
+pub of_setting : (P : Setting → Type 0) (c : Kept) (h : List Entry) → ((image : List ℕ) → Stands (setting_of c image) c h → P (setting_of c image))
+    → (s : Setting) → Stands s c h → P s
+of_setting P c h each s stands =
+    let same : setting_of c s.image ≡ s = (λ i. record { cal = stands.cal i; image = s.image; fault = stands.fault i }) in
+    subst P same (each s.image (subst (λ t. Stands t c h) (sym same) stands))
+
+-- ---- where a plate is held ----
+
+class-held : (class : Class) (k x : ℕ) → IsValidClass class → (does class k).held ≡ Some x → x ≤ 1000
+unfolding does no_effects IsValidClass
+class-held (Plate at) k x valid is = let same : Some at ≡ Some x = is in subst (λ n. n ≤ 1000) (some-same same) valid
+  where
+    some-same : {a b : ℕ} → Some a ≡ Some b → a ≡ b
+    some-same same = cc
+class-held (Script track values) k x valid is = absurd (let no_plate : None ≡ Some x = is in cc)
+class-held (Offset track add) k x valid is = absurd (let no_plate : None ≡ Some x = is in cc)
+class-held (Bus mask) k x valid is = absurd (let no_plate : None ≡ Some x = is in cc)
+class-held (Skip index) k x valid is = absurd (let no_plate : None ≡ Some x = is in cc)
+class-held (Disturb index mask) k x valid is = absurd (let no_plate : None ≡ Some x = is in cc)
+class-held (Flip word mask) k x valid is = absurd (let no_plate : None ≡ Some x = is in cc)
+class-held Halt k x valid is = absurd (let no_plate : None ≡ Some x = is in cc)
+class-held (Timing offset) k x valid is = absurd (let no_plate : None ≡ Some x = is in cc)
+class-held (Wild questions opens) k x valid is = absurd (let no_plate : None ≡ Some x = is in cc)
+class-held Path1Closed k x valid is = absurd (let no_plate : None ≡ Some x = is in cc)
+class-held Path2Closed k x valid is = absurd (let no_plate : None ≡ Some x = is in cc)
+class-held (PathOpen path) k x valid is = absurd (let no_plate : None ≡ Some x = is in cc)
+class-held (Lapse after every) k x valid is = absurd (let no_plate : None ≡ Some x = is in cc)
+
+-- under a valid fault it is within its range
+pub held-within : (fault : Option Fault) (tick x : ℕ) → IsAnyFault fault → (effects fault tick).held ≡ Some x → x ≤ 1000
+unfolding effects IsAnyFault no_effects
+held-within None tick x valid is = absurd (let no_plate : None ≡ Some x = is in cc)
+held-within (Some fault) tick x valid is = either (nat_le fault.onset tick) is
+  where
+    either : (began : Bool) → (if began then does fault.class (tick - fault.onset) else no_effects).held ≡ Some x → x ≤ 1000
+    either true is = class-held fault.class (tick - fault.onset) x valid.1 is
+    either false is = absurd (let no_plate : None ≡ Some x = is in cc)
+
+-- ---- level 2's counters ----
+
+pub within : (c : Kept) (image : List ℕ) (h : List Entry) → IsAccepted c.cal → Stands (setting_of c image) c h → AreWithin c.cal.rules (words_of c.memory.words)
+within c image h accepted stands = within_law (setting_of c image) accepted (moments (setting_of c image) h) (words_of c.memory.words) stands.level2.words
+
+-- ---- the tick ----
+
+four : (P : ℕ → ℕ → Bool → Option ℕ → Type 0) {a a′ b b′ : ℕ} {o o′ : Bool} {k k′ : Option ℕ} → a ≡ a′ → b ≡ b′ → o ≡ o′ → k ≡ k′ → P a b o k → P a′ b′ o′ k′
+four P {a} {a′} {b} {b′} {o} {o′} {k} {k′} first second third fourth told =
+    subst (λ n. P n b′ o′ k′) first (subst (λ n. P a n o′ k′) second (subst (λ n. P a b n k′) third (subst (λ n. P a b o n) fourth told)))
+
+-- What the parts of a tick say: `under` is the fault, and level 2 is `made` of these parts.
+pub record Advance (old new : Kept) (drive : DriveRow) (budgets : List ℕ) (under : Option Fault) (made : Level2Parts)
+    (paths : Paths) (task : Task) (done : Step) (judged : Judgement) : Type 0 where
+  pub accepted : IsAccepted old.cal
+  pub parts : made ≡ record { rules = old.cal.rules; questions = old.cal.questions }
+  pub few : old.ticks < 20000
+  pub is_drive : IsDrive drive
+  pub path1 : paths.path1 ≡ (effects under old.ticks).conducts 1 old.open1
+  pub path2 : paths.path2 ≡ (effects under old.ticks).conducts 2 old.open2
+  pub on : paths.on ≡ (paths.path1 && paths.path2)
+  pub tick : task.tick ≡ old.ticks
+  pub sends : task.sends ≡ sends_at (effects under old.ticks) old.cal.times old.ticks
+  pub asked : task.asked ≡ asked_at (effects under old.ticks) old.monitor.times (length old.cal.questions) old.ticks
+  pub readings : (e : Entry) → e.drive ≡ drive → e.shown ≡ new.shown → task.readings ≡ readings_at (effects under old.ticks) e
+  pub served : (s : Setting) (e : Entry) (h : List Entry) → Serves s e h made under task budgets old.registers old.memory.words
+      → Served s e h new.registers new.memory.words
+  pub step : (s : Setting) (e : Entry) (h : List Entry) → Serves s e h made under task budgets old.registers old.memory.words → IsStep s e h done
+  pub holds : (s : Setting) (e : Entry) (h : List Entry) → ComesNext s under old.ticks done.answer old.monitor e h → HoldsMonitor s new.monitor (e ∷ h)
+  pub tells : (s : Setting) (e : Entry) (h : List Entry) → ComesNext s under old.ticks done.answer old.monitor e h → Tells judged (next s e h)
+  pub cal : new.cal ≡ old.cal
+  pub fault : new.fault ≡ old.fault
+  pub count : new.ticks ≡ old.ticks + 1
+  pub are_words : AreWords new.memory.words
+  pub open1 : new.open1 ≡ (done.open_path || old.open1)
+  pub open2 : new.open2 ≡ ((judged.answers || judged.opens) || old.open2)
+  pub kt : new.kt ≡ old.kt
+  pub laws : KeepsLaws new.kt new.shown
+  pub off : paths.on ≡ false → new.shown.torque ≡ 0
+  pub trap : new.trap ≡ option_or old.trap (trap_in new.registers.state old.ticks)
+  pub not_lost : new.lost ≡ false
+
+module _ (old new : Kept) (drive : DriveRow) (budgets : List ℕ) (made : Level2Parts) (paths : Paths) (task : Task) (done : Step) (judged : Judgement)
+    (advance : Advance old new drive budgets old.fault made paths task done judged) (image : List ℕ) (h : List Entry)
+    (stands : Stands (setting_of old image) old h) where
+  abbrev s : Setting
+  s = setting_of old image
+
+  abbrev e : Entry
+  e = entry_of drive budgets new.shown
+
+  -- the stages are on as the model says
+  pub on-told : paths.on ≡ on_at (effects_after s h) (moments s h)
+  unfolding effects_after
+  on-told = advance.on
+      ∙ ap₂ (λ a b. a && b) (advance.path1 ∙ ap (λ t. (effects old.fault t).conducts 1 old.open1) stands.count)
+      (advance.path2 ∙ ap (λ t. (effects old.fault t).conducts 2 old.open2) stands.count)
+      ∙ on-is s h old stands
+
+  serves : Serves s e h made old.fault task budgets old.registers old.memory.words
+  unfolding effects_after entry_of
+  serves = record {
+    accepted = advance.accepted;
+    parts = advance.parts;
+    fault = refl;
+    task = record {
+      tick = advance.tick ∙ stands.count;
+      sends = advance.sends ∙ ap (λ t. sends_at (effects old.fault t) old.cal.times t) stands.count;
+      asked = advance.asked ∙ stands-asked s old h stands;
+      readings = advance.readings e refl refl ∙ ap (λ t. readings_at (effects old.fault t) e) stands.count;
+    };
+    slices = refl;
+    short = let few = advance.few in let count = stands.count in omega arith;
+    level1 = stands.level1;
+    level2 = stands.level2;
+  }
+
+  steps : IsStep s e h done
+  steps = advance.step s e h serves
+
+  comes : ComesNext s old.fault old.ticks done.answer old.monitor e h
+  unfolding effects_after
+  comes = stands-next s old h stands e done.answer steps.mark
+
+  pub makes : Makes s e h old new done judged
+  unfolding entry_of
+  makes = record {
+    cal = advance.cal;
+    fault = advance.fault;
+    count = advance.count;
+    are_words = advance.are_words;
+    served = advance.served s e h serves;
+    step = steps;
+    judged = advance.tells s e h comes;
+    monitor = advance.holds s e h comes;
+    open1 = advance.open1;
+    open2 = advance.open2;
+    kt = advance.kt;
+    drive = advance.is_drive;
+    shown = refl;
+    laws = advance.laws;
+    off = λ off. advance.off (on-told ∙ off);
+    trap = advance.trap;
+    not_lost = advance.not_lost;
+  }
+
+  -- its row is the model's
+  pub row-told : (row : Row) (allowed : ℕ) → allowed ≡ drive_permits old.cal.rules.permit drive → row ≡ record {
+        tick = old.ticks;
+        drive = drive;
+        plate = new.shown.position;
+        charge = new.shown.load_1;
+        torque = new.shown.torque;
+        limit = allowed;
+        path1 = paths.path1;
+        path2 = paths.path2;
+        on = paths.on;
+        signals = signal_list (signals_of (words_of new.memory.words));
+        throttle = slice_index new.memory.words 2064;
+        ignition = slice_index new.memory.words 2065;
+        found = record done.found { answers = judged.answers };
+        answer = judged.mark;
+        verdict = judged.verdict;
+      } → row ≡ row_of (next s e h)
+  unfolding entry_of effects_after
+  row-told row allowed permits is =
+      let first : paths.path1 ≡ (effects_after s h).conducts 1 old.open1 = advance.path1 ∙ ap (λ t. (effects old.fault t).conducts 1 old.open1) stands.count in
+      let second : paths.path2 ≡ (effects_after s h).conducts 2 old.open2 = advance.path2 ∙ ap (λ t. (effects old.fault t).conducts 2 old.open2) stands.count in
+      row-is s e h old new done judged stands makes row (is ∙ (λ i. record {
+        tick = old.ticks;
+        drive = drive;
+        plate = new.shown.position;
+        charge = new.shown.load_1;
+        torque = new.shown.torque;
+        limit = permits i;
+        path1 = first i;
+        path2 = second i;
+        on = (advance.on ∙ ap₂ (λ a b. a && b) first second) i;
+        signals = signal_list (signals_of (words_of new.memory.words));
+        throttle = slice_index new.memory.words 2064;
+        ignition = slice_index new.memory.words 2065;
+        found = record done.found { answers = judged.answers };
+        answer = judged.mark;
+        verdict = judged.verdict;
+      }))
+
+  -- the engine's step is by the commands as the tick before left them
+  pub step-told : (P : ℕ → ℕ → Bool → Option ℕ → Type 0) → P (slice_index old.memory.words 2064) (slice_index old.memory.words 2065) paths.on (effects old.fault old.ticks).held
+      → P (last_world (moments s h)).throttle (last_world (moments s h)).ignition (on_at (effects_after s h) (moments s h)) (effects_after s h).held
+  unfolding effects_after world_of
+  step-told P told =
+      let throttle : slice_index old.memory.words 2064 ≡ (last_world (moments s h)).throttle = ap (λ (world : World). world.throttle) stands.level1.world in
+      let ignition : slice_index old.memory.words 2065 ≡ (last_world (moments s h)).ignition = ap (λ (world : World). world.ignition) stands.level1.world in
+      let held : (effects old.fault old.ticks).held ≡ (effects_after s h).held = ap (λ t. (effects old.fault t).held) stands.count in
+      four P throttle ignition on-told held told
