@@ -4,4 +4,6 @@ pub mod TickLemmas
 pub mod BoardLemmas
 pub mod LevelLemmas
 pub mod StartLemmas
+pub mod FlipLemmas
+pub mod StepLemmas
 mod Worked
