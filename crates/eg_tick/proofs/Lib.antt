@@ -8,4 +8,6 @@ pub mod WorkLemmas
 pub mod StandsLemmas
 pub mod AdvanceLemmas
 pub mod MonitorLemmas
+pub mod FlipLemmas
+pub mod StepLemmas
 mod Worked

@@ -1,6 +1,6 @@
 -- Level 1 and level 2 at a tick: from what the memory holds of a history to what it holds of one tick more.
 use Rattle.std.proofs.Common.{◌≡◌, ◌∙◌, refl, sym, ap, ap₂, subst, ℕ, ◌+◌, ◌<◌, ◌&&◌, Bool, Option, List, [], ◌∷◌, length, arith}
-use Rattle.std.specs.Prelude.{is_some}
+use Rattle.std.specs.Prelude.{is_some, Result, Ok, Err, OnOk}
 use Rattle.eg_fault.specs.declared.class.Fault.{Fault}
 use Rattle.eg_fault.specs.Effects.{Effects}
 use Rattle.eg_fault.specs.Faults.{effects}
@@ -22,11 +22,16 @@ use Rattle.eg_agree.specs.Replies.{IsAnyFault, IsReady, doing_after, number_expe
 use Rattle.eg_agree.proofs.TickLemmas.{run_law}
 use Rattle.eg_agree.proofs.ReplyLaws.{length-ticks, ticks_follow, flow_marks}
 use Rattle.eg_tick.specs.Board.{is_board_own, by_tracks}
-use Rattle.eg_tick.specs.Midway.{Work, IsSet, IsMidway, Meets, work_at, tick_step}
+use Rattle.eg_tick.specs.Midway.{Work, IsSet, IsMidway, Meets, IsDue, work_at, tick_step}
 use Rattle.eg_tick.specs.Working.{effects_after, IsTask, Serves, Served, IsStep}
 use Rattle.eg_tick.specs.declared.working.Task.{Task}
 use Rattle.eg_tick.proofs.FrameLemmas.{shown-words, shown-mirrors, shown-code, shown-world}
 use Rattle.eg_tick.proofs.TickLemmas.{begins, level1-next, level2-next}
+
+-- two facts of a call that answers Ok give a third
+pub on_ok_both : {T E : Type 0} (result : Result T E) {P Q R : Type 0} → (P → Q → R) → OnOk result P → OnOk result Q → OnOk result R
+on_ok_both (Ok x) both p q = both p q
+on_ok_both (Err x) both p q = tt
 
 -- readings by their tracks are what faults make of sound ones
 tracks-are : (x : Effects) (truth : Readings) → by_tracks (readings_under x truth) ≡ readings_under x truth
@@ -49,7 +54,7 @@ module _ (s : Setting) (e : Entry) (h : List Entry) (made : Level2Parts) (under 
   effects-same : x ≡ effects under given.tick
   effects-same = ap₂ effects serves.fault (sym serves.task.tick)
 
-  pub meets : Meets made (effects under given.tick) given.tick given.sends w.doing
+  meets : Meets made (effects under given.tick) given.tick given.sends w.doing
   unfolding work_at doing_at effects_after
   meets = record {
     rules = ap (λ (p : Level2Parts). p.rules) (sym serves.parts);
@@ -61,13 +66,9 @@ module _ (s : Setting) (e : Entry) (h : List Entry) (made : Level2Parts) (under 
     differs = ap (λ (y : Effects). is_some y.flip) effects-same;
   }
 
-  pub level1-runs : w.level1 ≡ (effects under given.tick).level1
+  pub due : IsDue made (effects under given.tick) given.tick given.sends budgets w
   unfolding work_at
-  level1-runs = ap (λ (y : Effects). y.level1) effects-same
-
-  pub slices-are : w.slices ≡ budgets
-  unfolding work_at
-  slices-are = serves.slices
+  due = record { meets = meets; level1 = ap (λ (y : Effects). y.level1) effects-same; budgets = serves.slices }
 
   pub midway : (shown : List ℕ) → AreWords old → AreWords shown → SameOutside is_board_own old shown
       → readings_of shown ≡ by_tracks given.readings → asked_of shown ≡ given.asked → IsMidway w 0 0 m shown

@@ -1,5 +1,7 @@
 -- Inside a tick: what the memory holds after some slices of level 1 and some modules of level 2.
-use Rattle.std.specs.Prelude.{◌≡◌, ℕ, ◌<◌, ◌==◌, ◌&&◌, Bool, is_some, List, drop, length, slice_index, if◌then◌else◌}
+use Rattle.std.specs.Prelude.{◌≡◌, ℕ, ◌<◌, ◌==◌, ◌&&◌, ◌||◌, Bool, is_some, List, drop, length, slice_index, if◌then◌else◌}
+use Rattle.std.specs.Option.{option_or}
+use Rattle.eg_num.specs.declared.watches.Watches.{Watches}
 use Rattle.eg_word.specs.declared.registers.Registers.{Registers}
 use Rattle.eg_word.specs.World.{View, World, world_of}
 use Rattle.eg_guard.specs.Memory.{AreWords}
@@ -67,6 +69,13 @@ pub record Meets (parts : Level2Parts) (x : Effects) (tick : ℕ) (sends : Bool)
   pub disturbance : d.disturbance ≡ x.disturbance
   pub differs : d.differs ≡ is_some x.flip
 
+-- The work of a tick for these parts of level 2, with what is out of order at it, and with these slices.
+pub record IsDue (parts : Level2Parts) (x : Effects) (tick : ℕ) (sends : Bool) (slices : List ℕ)
+    (w : Work) : Type 0 where
+  pub meets : Meets parts x tick sends w.doing
+  pub level1 : w.level1 ≡ x.level1
+  pub budgets : w.slices ≡ slices
+
 -- what module i orders, answers and finds, where the words before the tick are these
 unfoldable pub step_at : Doing → ℕ → Words → Step
 step_at d i words =
@@ -74,6 +83,26 @@ step_at d i words =
     then (if i == 0 && d.differs then finding mirror_alone
     else step_of (inputs_for d i) i (after_modules d i words))
     else quiet_step
+
+-- the watches of a step and of the next
+unfoldable pub found_in_both : Watches → Watches → Watches
+found_in_both first next = record {
+  mirror = first.mirror || next.mirror;
+  pedal = first.pedal || next.pedal;
+  plate = first.plate || next.plate;
+  load = first.load || next.load;
+  speed = first.speed || next.speed;
+  torque = first.torque || next.torque;
+  answers = first.answers || next.answers;
+}
+
+-- what is ordered, answered and found by a step and by the next
+unfoldable pub joined : Step → Step → Step
+joined first next = record {
+  open_path = first.open_path || next.open_path;
+  answer = option_or first.answer next.answer;
+  found = found_in_both first.found next.found;
+}
 
 -- what all eight order, answer and find
 unfoldable pub tick_step : Doing → Words → Step

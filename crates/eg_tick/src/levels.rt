@@ -1,23 +1,25 @@
 // The slices of level 1 and the modules of level 2, in turn over one memory.
-ghost use Rattle.std.specs.Prelude.{◌≡◌, ℕ, ◌+◌, ◌<◌, ◌==◌, ◌&&◌, length, slice_index, false, IsTrue, IsOk, OnOk, IfOk};
+ghost use Rattle.std.specs.Prelude.{◌≡◌, ℕ, ◌+◌, ◌<◌, ◌==◌, ◌&&◌, ◌≤◌, length, slice_index, false, IsTrue, IsOk, OnOk, IfOk, IfSome};
 ghost use Rattle.std.specs.Option.{option_copied};
 ghost use Rattle.eg_guard.specs.Memory.{AreWords};
 ghost use Rattle.eg_word.specs.declared.registers.Registers.{Registers};
 ghost use Rattle.eg_fault.specs.Faults.{effects};
-ghost use Rattle.eg_agree.specs.Replies.{IsAnyFault};
 ghost use Rattle.eg_level2.specs.Words.{words_of, AreMirrored, AreWithin};
 ghost use Rattle.eg_level2.specs.Modules.{quiet_step};
-ghost use Rattle.eg_tick.specs.Midway.{Work, IsMidway, Meets, step_at, tick_step};
+ghost use Rattle.eg_agree.specs.Replies.{IsAnyFault};
+ghost use Rattle.eg_tick.specs.Midway;
+ghost use Rattle.eg_tick.specs.Midway.{Work, IsMidway, Meets, IsDue, step_at, tick_step};
 
 use crate::Slices;
+use crate::board::flip;
 use eg_base::NoMemory;
-use eg_fault::{Fault, disturbance, module_runs};
+use eg_fault::{Fault, disturbance, level1_runs, module_runs};
 use eg_guard::Guarded;
 use eg_host::Host;
 use eg_level2::{Level2, Step, Watches};
 
 /// A slice of level 1, where it runs at this tick (docs/CONCEPT.md, "Level 1").
-pub(crate) fn slice<M: Guarded>(
+fn slice<M: Guarded>(
     runs: bool,
     host: &mut Host,
     memory: &mut M,
@@ -40,7 +42,7 @@ pub(crate) fn slice<M: Guarded>(
 }
 
 /// A run of a module of level 2, where it runs at this tick (docs/CONCEPT.md, "Level 2").
-pub(crate) fn module<M: Guarded>(
+fn module<M: Guarded>(
     level2: &Level2,
     fault: Option<&Fault>,
     tick: u16,
@@ -72,6 +74,145 @@ pub(crate) fn module<M: Guarded>(
     level2.module(number, memory, tick, send, disturbance)
 }
 
+/// The run of module 0. A scheduled flip comes as it begins (docs/CONCEPT.md, "A run, tick by tick").
+fn first_module<M: Guarded>(
+    level2: &Level2,
+    fault: Option<&Fault>,
+    tick: u16,
+    send: bool,
+    memory: &mut M,
+) -> Result<Step, NoMemory>
+    requires fault { IsAnyFault (option_copied fault) }
+    requires mirrored { AreMirrored (M.shows memory.old).words }
+    requires within { AreWithin level2.now.rules (words_of (M.shows memory.old).words) }
+    ensures midway { (w : Work) (i : ℕ) (m : Registers)
+        → Meets level2.now (effects (option_copied fault.entry) tick) tick send w.doing
+        → IsMidway w i 0 m (M.shows memory.old).words
+        → OnOk result (IsMidway w i 1 m (M.shows memory.new).words) }
+    ensures step { (w : Work) (i : ℕ) (m : Registers)
+        → Meets level2.now (effects (option_copied fault.entry) tick) tick send w.doing
+        → IsMidway w i 0 m (M.shows memory.old).words
+        → IfOk result (λ step. step ≡ step_at w.doing 0 w.words) }
+    ensures mirrored { OnOk result (AreMirrored (M.shows memory.new).words) }
+    ensures within { OnOk result (AreWithin level2.now.rules (words_of (M.shows memory.new).words)) }
+    ensures sure { IsTrue (M.shows memory.old).sure → IsOk result }
+    ensures stays_sure { (M.shows memory.new).sure ≡ (M.shows memory.old).sure }
+    ensures are_words { AreWords (M.shows memory.old).words → AreWords (M.shows memory.new).words }
+{
+    let Some((word, mask)) = scheduled_flip(fault, tick) else {
+        return module(level2, fault, tick, send, 0, memory);
+    };
+    flip(memory, word, mask)?;
+    // No fault that flips a word leaves module 0 out, or disturbs it.
+    level2.module(0, memory, tick, send, 0)
+}
+
+/// The word of level 2 that is flipped at a tick, and its bits.
+fn scheduled_flip(fault: Option<&Fault>, tick: u16) -> Option<(u8, u16)>
+    requires fault { IsAnyFault (option_copied fault) }
+    ensures flip { result ≡ (effects (option_copied fault.entry) tick).flip }
+    ensures word { IfSome result (λ flipped. flipped.0 < 32) }
+    ensures some { IfSome result (λ flipped. 1 ≤ flipped.1) }
+{
+    eg_fault::flip(fault, u32::from(tick))
+}
+
+/// The slice of level 1 of that number, and then the module of level 2 of the same number (docs/CONCEPT.md,
+/// "A run, tick by tick").
+fn turn<M: Guarded>(
+    level2: &Level2,
+    fault: Option<&Fault>,
+    tick: u16,
+    send: bool,
+    slices: &Slices,
+    number: u8,
+    host: &mut Host,
+    memory: &mut M,
+) -> Result<Step, NoMemory>
+    requires number { number < 8 }
+    requires fault { IsAnyFault (option_copied fault) }
+    requires mirrored { AreMirrored (M.shows memory.old).words }
+    requires within { AreWithin level2.now.rules (words_of (M.shows memory.old).words) }
+    ensures midway { (w : Work)
+        → IsDue level2.now (effects (option_copied fault.entry) tick) tick send slices.now w
+        → IsMidway w number number host.old.registers (M.shows memory.old).words
+        → OnOk result (IsMidway w (number + 1) (number + 1) host.new.registers (M.shows memory.new).words) }
+    ensures step { (w : Work)
+        → IsDue level2.now (effects (option_copied fault.entry) tick) tick send slices.now w
+        → IsMidway w number number host.old.registers (M.shows memory.old).words
+        → IfOk result (λ step. step ≡ step_at w.doing number w.words) }
+    ensures mirrored { OnOk result (AreMirrored (M.shows memory.new).words) }
+    ensures within { OnOk result (AreWithin level2.now.rules (words_of (M.shows memory.new).words)) }
+    ensures sure { IsTrue (M.shows memory.old).sure → IsOk result }
+    ensures stays_sure { (M.shows memory.new).sure ≡ (M.shows memory.old).sure }
+    ensures are_words { AreWords (M.shows memory.old).words → AreWords (M.shows memory.new).words }
+{
+    let budget = slices.budget()[usize::from(number)];
+    slice(level1_runs(fault, u32::from(tick)), host, memory, budget)?;
+    if number == 0 {
+        return first_module(level2, fault, tick, send, memory);
+    }
+    module(level2, fault, tick, send, number, memory)
+}
+
+/// The nine slices of level 1 and the eight modules of level 2 of a tick, in turn: after each slice but the
+/// last comes the module of its number (docs/CONCEPT.md, "A run, tick by tick"). Answers what the modules
+/// order, answer and find.
+pub(crate) fn run_levels<M: Guarded>(
+    level2: &Level2,
+    fault: Option<&Fault>,
+    tick: u16,
+    send: bool,
+    slices: &Slices,
+    host: &mut Host,
+    memory: &mut M,
+) -> Result<Step, NoMemory>
+    requires fault { IsAnyFault (option_copied fault) }
+    requires mirrored { AreMirrored (M.shows memory.old).words }
+    requires within { AreWithin level2.now.rules (words_of (M.shows memory.old).words) }
+    ensures midway { (w : Work)
+        → IsDue level2.now (effects (option_copied fault.entry) tick) tick send slices.now w
+        → IsMidway w 0 0 host.old.registers (M.shows memory.old).words
+        → OnOk result (IsMidway w 9 8 host.new.registers (M.shows memory.new).words) }
+    ensures step { (w : Work)
+        → IsDue level2.now (effects (option_copied fault.entry) tick) tick send slices.now w
+        → IsMidway w 0 0 host.old.registers (M.shows memory.old).words
+        → IfOk result (λ step. step ≡ tick_step w.doing w.words) }
+    ensures nine { OnOk result (length slices.now ≡ 9) }
+    ensures sure { IsTrue (M.shows memory.old).sure → IsOk result }
+    ensures stays_sure { (M.shows memory.new).sure ≡ (M.shows memory.old).sure }
+    ensures are_words { AreWords (M.shows memory.old).words → AreWords (M.shows memory.new).words }
+{
+    let mut whole = quiet();
+    for number in 0..8 {
+        let step = turn(level2, fault, tick, send, slices, number, host, memory)?;
+        whole = joined(&whole, &step);
+    }
+    let last = slices.budget()[8];
+    slice(level1_runs(fault, u32::from(tick)), host, memory, last)?;
+    Ok(whole)
+}
+
+/// What is ordered, answered and found by a step and by the next.
+#[tactic(auto, unfolding(crate::specs::Midway::joined, crate::specs::Midway::found_in_both))]
+fn joined(first: &Step, next: &Step) -> Step
+    ensures { result ≡ Midway.joined first.now next.now }
+{
+    Step {
+        open_path: first.open_path | next.open_path,
+        answer: first.answer.or(next.answer),
+        found: Watches {
+            mirror: first.found.mirror | next.found.mirror,
+            pedal: first.found.pedal | next.found.pedal,
+            plate: first.found.plate | next.found.plate,
+            load: first.found.load | next.found.load,
+            speed: first.found.speed | next.found.speed,
+            torque: first.found.torque | next.found.torque,
+            answers: first.found.answers | next.found.answers,
+        },
+    }
+}
+
 /// What a module that doesn't run orders, answers and finds: nothing.
 #[tactic(auto, unfolding(eg_level2::specs::Modules::no_watches))]
 fn quiet() -> Step
@@ -90,33 +231,4 @@ fn quiet() -> Step
             answers: false,
         },
     }
-}
-
-/// STUB
-pub(crate) fn run_levels<M: Guarded>(
-    level2: &Level2,
-    fault: Option<&Fault>,
-    tick: u16,
-    send: bool,
-    slices: &Slices,
-    host: &mut Host,
-    memory: &mut M,
-) -> Result<Step, NoMemory>
-    requires mirrored { AreMirrored (M.shows memory.old).words }
-    requires within { AreWithin level2.now.rules (words_of (M.shows memory.old).words) }
-    requires fault { IsAnyFault (option_copied fault) }
-    ensures midway { (w : Work) → Meets level2.now (effects (option_copied fault.entry) tick) tick send w.doing
-        → w.level1 ≡ (effects (option_copied fault.entry) tick).level1 → w.slices ≡ slices.now
-        → IsMidway w 0 0 host.old.registers (M.shows memory.old).words
-        → OnOk result (IsMidway w 9 8 host.new.registers (M.shows memory.new).words) }
-    ensures step { (w : Work) → Meets level2.now (effects (option_copied fault.entry) tick) tick send w.doing
-        → w.level1 ≡ (effects (option_copied fault.entry) tick).level1 → w.slices ≡ slices.now
-        → IsMidway w 0 0 host.old.registers (M.shows memory.old).words
-        → IfOk result (λ step. step ≡ tick_step w.doing w.words) }
-    ensures nine { length slices.now ≡ 9 }
-    ensures sure { IsTrue (M.shows memory.old).sure → IsOk result }
-    ensures stays_sure { (M.shows memory.new).sure ≡ (M.shows memory.old).sure }
-    ensures are_words { AreWords (M.shows memory.old).words → AreWords (M.shows memory.new).words }
-{
-    Err(NoMemory)
 }

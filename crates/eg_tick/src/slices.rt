@@ -54,6 +54,7 @@ impl Slices {
     /// The instructions of each slice.
     pub fn budget(&self) -> [u16; 9]
         ensures budget { result ≡ self.now }
+        ensures nine { length self.now ≡ 9 }
         ensures most { sum self.now ≤ 1000 }
     {
         self.budget

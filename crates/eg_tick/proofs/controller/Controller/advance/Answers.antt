@@ -1,4 +1,4 @@
-use Rattle.std.proofs.Common.{◌≡◌, ◌∙◌, refl, sym, ap, subst, ◌+◌, ◌<◌, ◌||◌, Some, None, List, [], ◌∷◌, length, false}
+use Rattle.std.proofs.Common.{◌≡◌, ◌∙◌, refl, sym, ap, subst, ◌+◌, ◌<◌, ◌||◌, Some, None, List, [], ◌∷◌, length, slice_index, false}
 use Rattle.std.specs.Option.{option_copied}
 use Rattle.eg_answer.specs.declared.rules.Rules.{Rules}
 use Rattle.eg_torque.specs.Permit.{drive_permits}
@@ -93,7 +93,7 @@ advance g c =
     (record {
       accepted = c.times.ensures.accepted;
       parts = c.self.invariant.parts;
-      few = subst (λ (v : ControllerParts g.row.E). v.kept.ticks < 20000) (sym c.self.view_is) c.requires.fewer;
+      few = subst (λ v. v < 20000) (sym (ap (λ v. v.kept.ticks) c.self.view_is)) c.requires.fewer;
       is_drive = c.limit.ensures.drive;
       path1 = c.at.ensures.path1;
       path2 = c.at.ensures.path2;
@@ -125,7 +125,7 @@ entry g c = entry_of c.args.drive.now c.args.slices.now (g.E.Engine.shows c.step
 
 -- what the controller stood for, by its parts
 was : (g : Over) (c : goal.After-self-6-1 g) (s : Setting) (h : List Entry) → Stands s c.args.self.now.kept h → Stands s (old g c) h
-was g c s h = subst (λ (v : ControllerParts g.row.E). Stands s v.kept h) (sym c.self.view_is)
+was g c s h = subst (λ v. Stands s v h) (sym (ap (λ v. v.kept) c.self.view_is))
 
 goes : (g : Over) (c : goal.After-self-6-1 g) (s : Setting) (h : List Entry) → Stands s (old g c) h → Stands s (new g c) (entry g c ∷ h)
 goes g c = λ s h. of_setting (λ t. Stands t (new g c) (entry g c ∷ h)) (old g c) h
@@ -138,6 +138,10 @@ still : (g : Over) (c : goal.After-self-6-1 g) → IsController (new g c)
 still g c =
     let some = c.self.invariant.keeps.stands c.if-self.false in
     record { fault = c.self.invariant.keeps.fault; stands = λ held. (some.0, entry g c ∷ some.1, goes g c _ some.1 some.2) }
+
+steps : (g : Over) (c : goal.After-self-6-1 g) → g.E.Engine.steps c.args.self.now.engine (slice_index (g.M.Guarded.shows c.self.inside.memory).words 2064)
+    (slice_index (g.M.Guarded.shows c.self.inside.memory).words 2065) c.at.result.on (effects c.self.inside.fault c.self.inside.ticks).held c.step_engine.new.engine
+steps g c = ?
 
 pub invariant_of-self-2 : goal.invariant_of-self-2
 invariant_of-self-2 g c = record { parts = c.self.invariant.parts; keeps = still g c }
@@ -158,7 +162,7 @@ returns-clause-engine g c s h stands =
     (on_at (effects_after t h) (moments t h)) (effects_after t h).held c.step_engine.new.engine) (old g c) h
     (λ image so. step-told (old g c) (new g c) _ _ _ _ (task g c) _ _ (advance g c) image h so
     (λ throttle ignition on held. g.E.Engine.steps c.args.self.now.engine throttle ignition on held c.step_engine.new.engine)
-    ?)
+    (steps g c))
     s (was g c s h stands)
 
 pub returns-clause-keeps : goal.returns-clause-keeps
