@@ -1,23 +1,22 @@
 -- A tick, from what each of its parts says of itself.
-use Rattle.std.proofs.Common.{◌≡◌, ◌∙◌, refl, sym, ap, ap₂, subst, ℕ, ◌+◌, ◌-◌, ◌≤◌, ◌<◌, ◌||◌, ◌&&◌, Bool, true, false, Option, Some, None, List, [], ◌∷◌, length, slice_index, arith}
+use Rattle.std.proofs.Common.{◌≡◌, ◌∙◌, refl, sym, ap, ap₂, subst, ℕ, ◌+◌, ◌-◌, ◌≤◌, ◌<◌, ◌||◌, ◌&&◌, Bool, true, false, Option, Some, None, List, ◌∷◌, length, slice_index, arith}
 use Rattle.std.specs.Prelude.{if◌then◌else◌, nat_le}
 use Rattle.std.specs.Option.{option_or}
 use Rattle.eg_num.specs.Drive.{DriveRow, IsDrive}
-use Rattle.eg_plant.specs.Engine.{Shown, KeepsLaws}
+use Rattle.eg_plant.specs.Engine.{KeepsLaws}
 use Rattle.eg_fault.specs.declared.class.Fault.{Fault}
 use Rattle.eg_fault.specs.declared.class.Class.{Class}
 use Rattle.eg_fault.specs.declared.class.Class.TheVariants.{Script, Offset, Bus, Plate, Skip, Disturb, Flip, Halt, Timing, Wild, Path1Closed, Path2Closed, PathOpen, Lapse}
-use Rattle.eg_fault.specs.Effects.{Effects, no_effects, sends_at, asked_at}
+use Rattle.eg_fault.specs.Effects.{no_effects, sends_at, asked_at}
 use Rattle.eg_fault.specs.Faults.{effects, does, IsValidClass}
 use Rattle.eg_values.specs.Calibration.{IsAccepted}
 use Rattle.eg_guard.specs.Memory.{AreWords}
 use Rattle.eg_torque.specs.Permit.{drive_permits}
 use Rattle.eg_word.specs.World.{World, world_of}
 use Rattle.eg_record.specs.declared.row.Row.{Row}
-use Rattle.eg_level2.specs.Words.{AreMirrored, AreWithin, words_of}
+use Rattle.eg_level2.specs.Words.{AreWithin, words_of}
 use Rattle.eg_level2.specs.Inputs.{Level2Parts}
 use Rattle.eg_level2.specs.declared.step.Step.{Step}
-use Rattle.eg_answer.specs.Periods.{period_of}
 use Rattle.eg_model.specs.History.{Setting, Entry}
 use Rattle.eg_model.specs.Paths.{on_at}
 use Rattle.eg_model.specs.Level1.{last_world}
@@ -28,7 +27,7 @@ use Rattle.eg_agree.specs.Replies.{IsAnyFault}
 use Rattle.eg_agree.proofs.HistoryLemmas.{within_law}
 use Rattle.eg_tick.specs.Kept.{Kept}
 use Rattle.eg_tick.specs.Stands.{Stands, HoldsMonitor}
-use Rattle.eg_tick.specs.Working.{effects_after, IsTask, Serves, Served, IsStep}
+use Rattle.eg_tick.specs.Working.{effects_after, Serves, Served, IsStep}
 use Rattle.eg_tick.specs.Judging.{ComesNext, Tells}
 use Rattle.eg_tick.specs.Advancing.{entry_of}
 use Rattle.eg_tick.specs.declared.monitoring.Judgement.{Judgement}

@@ -10,4 +10,5 @@ pub mod AdvanceLemmas
 pub mod MonitorLemmas
 pub mod FlipLemmas
 pub mod StepLemmas
+pub mod ReactionLemmas
 mod Worked

@@ -1,22 +1,21 @@
 -- From what a controller stands for before a tick to what it stands for after it.
-use Rattle.std.proofs.Common.{◌≡◌, ◌∙◌, refl, sym, ap, ap₂, subst, ℕ, ◌+◌, ◌≤◌, ◌<◌, ◌||◌, ◌&&◌, Bool, true, false, Option, List, [], ◌∷◌, length, slice_index, arith}
+use Rattle.std.proofs.Common.{◌≡◌, ◌∙◌, sym, ap, ap₂, subst, ◌+◌, ◌||◌, ◌&&◌, Bool, false, List, ◌∷◌, length, slice_index, arith}
 use Rattle.std.specs.Option.{option_or}
-use Rattle.eg_num.specs.Drive.{DriveRow, IsDrive}
+use Rattle.eg_num.specs.Drive.{IsDrive}
 use Rattle.eg_num.specs.declared.watches.Watches.{Watches}
 use Rattle.eg_plant.specs.Engine.{Shown, KeepsLaws}
 use Rattle.eg_torque.specs.Permit.{drive_permits}
-use Rattle.eg_fault.specs.Effects.{Effects}
 use Rattle.eg_fault.specs.Faults.{effects}
 use Rattle.eg_guard.specs.Memory.{AreWords}
 use Rattle.eg_word.specs.World.{World, world_of}
 use Rattle.eg_level2.specs.Words.{words_of}
 use Rattle.eg_level2.specs.declared.step.Step.{Step}
 use Rattle.eg_record.specs.declared.row.Row.{Row}
-use Rattle.eg_model.specs.History.{Setting, Entry, Tick, Moment, Signals}
-use Rattle.eg_model.specs.Signals.{tripped, last_signals}
+use Rattle.eg_model.specs.History.{Setting, Entry, Moment}
+use Rattle.eg_model.specs.Signals.{last_signals}
 use Rattle.eg_model.specs.Paths.{latch1, latch2, path1_at, path2_at, on_at}
 use Rattle.eg_model.specs.Level1.{last_world}
-use Rattle.eg_model.specs.Premises.{AreProper, IsProper}
+use Rattle.eg_model.specs.Premises.{AreProper}
 use Rattle.eg_model.specs.Moments.{moment, moments, moments_of, ticks, next}
 use Rattle.eg_model.specs.Rows.{row_of, signal_list, first_trap, trap_in}
 use Rattle.eg_model.proofs.TickLemmas.{length-moments}

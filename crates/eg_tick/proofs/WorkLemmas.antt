@@ -1,29 +1,28 @@
 -- Level 1 and level 2 at a tick: from what the memory holds of a history to what it holds of one tick more.
-use Rattle.std.proofs.Common.{◌≡◌, ◌∙◌, refl, sym, ap, ap₂, subst, ℕ, ◌+◌, ◌<◌, ◌&&◌, Bool, Option, List, [], ◌∷◌, length, arith}
+use Rattle.std.proofs.Common.{◌≡◌, ◌∙◌, refl, sym, ap, ap₂, subst, ℕ, Option, List, ◌∷◌, length, arith}
 use Rattle.std.specs.Prelude.{is_some, Result, Ok, Err, OnOk}
 use Rattle.eg_fault.specs.declared.class.Fault.{Fault}
 use Rattle.eg_fault.specs.Effects.{Effects}
 use Rattle.eg_fault.specs.Faults.{effects}
 use Rattle.eg_guard.specs.Memory.{AreWords, SameOutside}
 use Rattle.eg_word.specs.declared.registers.Registers.{Registers}
-use Rattle.eg_word.specs.World.{world_of}
 use Rattle.eg_level2.specs.Words.{Words, words_of, is_set}
 use Rattle.eg_level2.specs.Inputs.{Level2Parts, readings_of, asked_of}
 use Rattle.eg_level2.specs.declared.step.Step.{Step}
-use Rattle.eg_flow.specs.Ticks.{Doing, after_modules, answer_at}
+use Rattle.eg_flow.specs.Ticks.{after_modules, answer_at}
 use Rattle.eg_sensor.specs.declared.readings.Readings.{Readings}
 use Rattle.eg_fault.specs.Effects.{readings_under}
 use Rattle.eg_model.specs.History.{Setting, Entry, Tick}
 use Rattle.eg_model.specs.Signals.{tripped}
-use Rattle.eg_model.specs.Moments.{readings_at, moments, moments_of, ticks, next}
+use Rattle.eg_model.specs.Moments.{readings_at, moments, ticks, next}
 use Rattle.eg_agree.specs.Doings.{doing_at}
 use Rattle.eg_agree.specs.Ticking.{IsTick}
-use Rattle.eg_agree.specs.Replies.{IsAnyFault, IsReady, doing_after, number_expected, mark_of, moment_after}
+use Rattle.eg_agree.specs.Replies.{IsAnyFault, IsReady, doing_after, number_expected, mark_of}
 use Rattle.eg_agree.proofs.TickLemmas.{run_law}
 use Rattle.eg_agree.proofs.ReplyLaws.{length-ticks, ticks_follow, flow_marks}
 use Rattle.eg_tick.specs.Board.{is_board_own, by_tracks}
-use Rattle.eg_tick.specs.Midway.{Work, IsSet, IsMidway, Meets, IsDue, work_at, tick_step}
-use Rattle.eg_tick.specs.Working.{effects_after, IsTask, Serves, Served, IsStep}
+use Rattle.eg_tick.specs.Midway.{Work, IsMidway, Meets, IsDue, work_at, tick_step}
+use Rattle.eg_tick.specs.Working.{effects_after, Serves, Served, IsStep}
 use Rattle.eg_tick.specs.declared.working.Task.{Task}
 use Rattle.eg_tick.proofs.FrameLemmas.{shown-words, shown-mirrors, shown-code, shown-world}
 use Rattle.eg_tick.proofs.TickLemmas.{begins, level1-next, level2-next}

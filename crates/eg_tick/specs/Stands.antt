@@ -3,6 +3,7 @@
 use Rattle.std.specs.Prelude.{◌≡◌, ℕ, ◌<◌, Bool, false, is_some, List, [], ◌∷◌, map, take, length, slice_index}
 use Rattle.std.specs.List.{list_any}
 use Rattle.eg_plant.specs.Engine.{Shown}
+use Rattle.eg_values.specs.Calibration.{IsAccepted}
 use Rattle.eg_answer.specs.Periods.{period_of, place_of, expected_number, marked}
 use Rattle.eg_word.specs.declared.registers.Registers.{Registers}
 use Rattle.eg_word.specs.World.{world_of}
@@ -95,9 +96,10 @@ pub record Stands (s : Setting) (c : Kept) (h : List Entry) : Type 0 where
   pub trap : c.trap ≡ first_trap (moments s h)
   pub not_lost : c.lost ≡ false
 
--- What a controller always keeps: its fault, if any, is a valid one; and unless memory ran out it stands for
--- some history of a run of its calibration and its fault.
+-- What a controller always keeps: its calibration is an accepted one; its fault, if any, is a valid one; and
+-- unless memory ran out it stands for some history of a run of its calibration and its fault.
 pub record IsController (c : Kept) : Type 0 where
+  pub accepted : IsAccepted c.cal
   pub fault : IsAnyFault c.fault
   pub stands : c.lost ≡ false → (image : List ℕ) × (h : List Entry)
       × Stands (record { cal = c.cal; image = image; fault = c.fault }) c h

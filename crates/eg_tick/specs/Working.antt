@@ -1,5 +1,5 @@
 -- What level 1 and level 2 are handed at a tick, and what comes of it.
-use Rattle.std.specs.Prelude.{◌≡◌, ℕ, ◌<◌, ◌&&◌, Bool, Option, List, ◌∷◌, length}
+use Rattle.std.specs.Prelude.{◌≡◌, ℕ, ◌<◌, ◌&&◌, Option, List, ◌∷◌, length}
 use Rattle.eg_fault.specs.declared.class.Fault.{Fault}
 use Rattle.eg_fault.specs.Effects.{Effects, sends_at, asked_at}
 use Rattle.eg_fault.specs.Faults.{effects}
@@ -7,7 +7,7 @@ use Rattle.eg_values.specs.Calibration.{IsAccepted}
 use Rattle.eg_word.specs.declared.registers.Registers.{Registers}
 use Rattle.eg_level2.specs.Inputs.{Level2Parts}
 use Rattle.eg_level2.specs.declared.step.Step.{Step}
-use Rattle.eg_model.specs.History.{Setting, Entry, Moment}
+use Rattle.eg_model.specs.History.{Setting, Entry}
 use Rattle.eg_model.specs.Signals.{tripped}
 use Rattle.eg_model.specs.Moments.{readings_at, moments, next}
 use Rattle.eg_agree.specs.Ticking.{found_in_level2}

@@ -1,7 +1,5 @@
-use Rattle.std.proofs.Common.{◌≡◌, ap, sym, subst}
-use Rattle.std.specs.Option.{option_copied}
+use Rattle.std.proofs.Common.{sym, subst}
 use Rattle.eg_level2.specs.Words.{words_of, AreWithin}
-use Rattle.eg_level2.proofs.StoreLemmas.{on_ok}
 use Rattle.eg_level2.proofs.StepLemmas.{if_ok}
 use Rattle.eg_tick.specs.Midway.{work_at}
 use Rattle.eg_tick.proofs.FrameLemmas.{shown-words, shown-mirrors}

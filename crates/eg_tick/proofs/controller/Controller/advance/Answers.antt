@@ -1,4 +1,4 @@
-use Rattle.std.proofs.Common.{◌≡◌, ◌∙◌, refl, sym, ap, subst, ◌+◌, ◌<◌, ◌||◌, Some, None, List, [], ◌∷◌, length, slice_index, false}
+use Rattle.std.proofs.Common.{◌≡◌, ◌∙◌, refl, sym, ap, subst, ◌+◌, ◌<◌, ◌||◌, Some, None, List, ◌∷◌, length, slice_index, false}
 use Rattle.std.specs.Option.{option_copied}
 use Rattle.eg_answer.specs.declared.rules.Rules.{Rules}
 use Rattle.eg_torque.specs.Permit.{drive_permits}
@@ -11,7 +11,7 @@ use Rattle.eg_model.specs.Paths.{on_at}
 use Rattle.eg_model.specs.Level1.{last_world}
 use Rattle.eg_model.specs.Moments.{moments, next}
 use Rattle.eg_model.specs.Rows.{row_of}
-use Rattle.eg_tick.specs.Kept.{Kept, ControllerParts}
+use Rattle.eg_tick.specs.Kept.{Kept}
 use Rattle.eg_tick.specs.Working.{effects_after}
 use Rattle.eg_tick.specs.Stands.{Stands, IsController}
 use Rattle.eg_tick.specs.Advancing.{entry_of}
@@ -137,11 +137,19 @@ stood g c s h stands = goes g c s h (was g c s h stands)
 still : (g : Over) (c : goal.After-self-6-1 g) → IsController (new g c)
 still g c =
     let some = c.self.invariant.keeps.stands c.if-self.false in
-    record { fault = c.self.invariant.keeps.fault; stands = λ held. (some.0, entry g c ∷ some.1, goes g c _ some.1 some.2) }
+    record { accepted = c.self.invariant.keeps.accepted; fault = c.self.invariant.keeps.fault; stands = λ held. (some.0, entry g c ∷ some.1, goes g c _ some.1 some.2) }
 
 steps : (g : Over) (c : goal.After-self-6-1 g) → g.E.Engine.steps c.args.self.now.engine (slice_index (g.M.Guarded.shows c.self.inside.memory).words 2064)
     (slice_index (g.M.Guarded.shows c.self.inside.memory).words 2065) c.at.result.on (effects c.self.inside.fault c.self.inside.ticks).held c.step_engine.new.engine
-steps g c = ?
+steps g c =
+    let words = (g.M.Guarded.shows c.self.inside.memory).words in
+    let engine : c.self.inside.engine ≡ c.args.self.now.engine = ap (λ v. v.engine) c.self.view_is in
+    let held : c.held-held.result ≡ (effects c.self.inside.fault c.self.inside.ticks).held =
+    c.held-held.ensures ∙ ap (λ f. (effects f c.self.inside.ticks).held) c.as_ref-fault.ensures.value in
+    subst (λ e. g.E.Engine.steps e (slice_index words 2064) (slice_index words 2065) c.at.result.on (effects c.self.inside.fault c.self.inside.ticks).held
+    c.step_engine.new.engine) engine
+    (subst (λ o. g.E.Engine.steps c.self.inside.engine (slice_index words 2064) (slice_index words 2065) c.at.result.on o c.step_engine.new.engine) held
+    c.step_engine.ensures.steps)
 
 pub invariant_of-self-2 : goal.invariant_of-self-2
 invariant_of-self-2 g c = record { parts = c.self.invariant.parts; keeps = still g c }
