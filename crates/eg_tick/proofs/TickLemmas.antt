@@ -5,9 +5,8 @@ use Rattle.eg_word.specs.declared.registers.Registers.{Registers}
 use Rattle.eg_word.specs.World.{View, World, world_of}
 use Rattle.eg_host.specs.Slices.{world_slice}
 use Rattle.eg_values.specs.Calibration.{IsAccepted}
-use Rattle.eg_fault.specs.Effects.{Effects, sends_at}
+use Rattle.eg_fault.specs.Effects.{Effects}
 use Rattle.eg_fault.specs.Faults.{effects}
-use Rattle.eg_level2.specs.Inputs.{Level2Parts}
 use Rattle.eg_level2.specs.Words.{Words, AreMirrored, words_of, is_set}
 use Rattle.eg_level2.specs.Modules.{check_step, given_up, module_step, pedal_step, permitted_step, actual_step, excess_step, pairs_step, debounce_step, react_step}
 use Rattle.eg_flow.specs.Ticks.{Doing, inputs_for, after_module, after_modules, after_tick}
@@ -21,9 +20,10 @@ use Rattle.eg_agree.specs.Ticking.{IsTick}
 use Rattle.eg_agree.specs.Replies.{doing_after, KeepsFlow}
 use Rattle.eg_agree.proofs.TickLemmas.{run_law}
 use Rattle.eg_agree.proofs.ReplySteps.{keeps_tick}
+use Rattle.eg_agree.proofs.ReplyLaws.{length-ticks}
 use Rattle.eg_tick.specs.Stands.{HoldsLevel1, HoldsLevel2}
 use Rattle.eg_agree.specs.Agreement.{last_check}
-use Rattle.eg_tick.specs.Midway.{Work, view_at, rest_of, IsSet, IsMidway, IsDue, work_at}
+use Rattle.eg_tick.specs.Midway.{Work, view_at, rest_of, IsSet, IsMidway, work_at}
 use Rattle.eg_tick.proofs.MidwayLemmas.{all-words, all-world}
 
 -- ---- level 1's world ----
@@ -85,29 +85,6 @@ unfolding after_tick
 tick-last d words = modules-last d words 7 (omega arith) ∙ check-last d words
 
 -- ---- one tick more ----
-
-length-ticks : (s : Setting) (h : List Entry) → length (ticks s h) ≡ length h
-unfolding ticks
-length-ticks s [] = refl
-length-ticks s (e ∷ h) = ap suc (length-ticks s h)
-
--- the work of the tick is the one that its parts and its fault make
-pub due-at : (s : Setting) (e : Entry) (h : List Entry) (words : Words) (parts : Level2Parts) → parts ≡ record { rules = s.cal.rules; questions = s.cal.questions }
-    → IsDue parts (effects s.fault (length h)) (length h) (sends_at (effects s.fault (length h)) s.cal.times (length h)) e.slices (work_at s e h words)
-unfolding work_at doing_at
-due-at s e h words parts same = record {
-  meets = record {
-    rules = ap (λ (p : Level2Parts). p.rules) (sym same);
-    questions = ap (λ (p : Level2Parts). p.questions) (sym same);
-    at = refl;
-    sends_now = refl;
-    ran = refl;
-    disturbance = refl;
-    differs = refl;
-  };
-  level1 = refl;
-  budgets = refl;
-}
 
 module _ (s : Setting) (accepted : IsAccepted s.cal) (e : Entry) (h : List Entry) (words : Words) (keeps : KeepsWords s words (moments s h)) where
   abbrev x : Effects
