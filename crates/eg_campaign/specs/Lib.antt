@@ -4,3 +4,6 @@ pub mod Contents
 pub mod Checks
 pub mod Classes
 pub mod Faults
+pub mod Runs
+pub mod Campaign
+pub mod Ticks

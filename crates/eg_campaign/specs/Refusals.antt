@@ -49,3 +49,8 @@ Reads f value (Err e) = (e ≡ fault.Memory) ⊎ (f ≡ Some e)
 abbrev pub IsRead : {X : Type 0} → Result X CampaignFault → Result X CampaignFault → Type 0
 IsRead expected (Ok x) = expected ≡ Ok x
 IsRead expected (Err e) = (e ≡ fault.Memory) ⊎ (expected ≡ Err e)
+
+-- a result, with what is seen of its value
+abbrev pub seen : {A B : Type 0} → (B → A) → Result B CampaignFault → Result A CampaignFault
+seen view (Ok x) = Ok (view x)
+seen view (Err e) = Err e

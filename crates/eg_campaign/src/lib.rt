@@ -5,7 +5,13 @@ mod class_name;
 mod contents;
 mod fault;
 mod key;
+mod reader;
+mod run;
 mod slices;
 mod texts;
+mod ticks;
 
 pub use key::{CampaignFault, RunKey};
+pub use reader::read_campaign;
+pub use run::RunPlan;
+pub use ticks::add_ticks;
