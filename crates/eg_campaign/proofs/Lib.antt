@@ -1,2 +1,5 @@
 pub mod RisingLemmas
 pub mod TableLemmas
+pub mod HeldLemmas
+pub mod RuleLemmas
+pub mod TickLemmas

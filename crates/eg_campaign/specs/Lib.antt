@@ -7,3 +7,4 @@ pub mod Faults
 pub mod Runs
 pub mod Campaign
 pub mod Ticks
+pub mod Rules

@@ -5,6 +5,7 @@ mod class_name;
 mod contents;
 mod fault;
 mod key;
+mod laws;
 mod reader;
 mod run;
 mod slices;
@@ -12,6 +13,7 @@ mod texts;
 mod ticks;
 
 pub use key::{CampaignFault, RunKey};
+pub use laws::accepted_files_keep_the_rules;
 pub use reader::read_campaign;
 pub use run::RunPlan;
 pub use ticks::add_ticks;
