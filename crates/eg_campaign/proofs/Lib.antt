@@ -3,3 +3,4 @@ pub mod TableLemmas
 pub mod HeldLemmas
 pub mod RuleLemmas
 pub mod TickLemmas
+pub mod Worked

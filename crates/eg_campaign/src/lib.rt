@@ -9,6 +9,8 @@ mod laws;
 mod reader;
 mod run;
 mod slices;
+#[cfg(test)]
+mod tests;
 mod texts;
 mod ticks;
 
