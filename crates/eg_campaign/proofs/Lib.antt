@@ -1,0 +1,6 @@
+pub mod RisingLemmas
+pub mod TableLemmas
+pub mod HeldLemmas
+pub mod RuleLemmas
+pub mod TickLemmas
+pub mod Worked

@@ -1,0 +1,5 @@
+use Rattle.eg_campaign.proofs.RisingLemmas.{rising-same}
+use Rattle.eg_campaign.proofs.contents.is_rising.Goals as goal
+
+pub returns : goal.returns
+returns c = rising-same _ _ c.are_rising.ensures

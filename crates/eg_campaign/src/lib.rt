@@ -1,0 +1,21 @@
+//! Campaign files: a file is read as the runs of a campaign, or refused by the first rule that it breaks.
+#![tactic(auto)]
+
+mod class_name;
+mod contents;
+mod fault;
+mod key;
+mod laws;
+mod reader;
+mod run;
+mod slices;
+#[cfg(test)]
+mod tests;
+mod texts;
+mod ticks;
+
+pub use key::{CampaignFault, RunKey};
+pub use laws::accepted_files_keep_the_rules;
+pub use reader::read_campaign;
+pub use run::RunPlan;
+pub use ticks::add_ticks;
