@@ -3,10 +3,11 @@ ghost use Rattle.std.specs.Prelude.{◌≡◌, ◌≢◌, ◌↔◌, Err, IfErr,
 ghost use Rattle.std.specs.Option.{option_copied};
 ghost use Rattle.eg_base.specs.Outside.{IsMissing};
 ghost use Rattle.eg_cal.specs.Faults.{IsRead};
-ghost use Rattle.eg_app.specs.Calibrations.{calibration_said, BytesCome, FileComes, CalibrationComes};
-ghost use Rattle.eg_app.specs.Ends.{TellsNoMemory, MissesCalibration};
-ghost use Rattle.eg_app.specs.declared.outcome.Outcome.TheVariants.{ReadFault};
-ghost use Rattle.eg_app.specs.declared.outcome.Role.TheVariants as role;
+ghost use Rattle.eg_outcome.specs.Reads.{BytesCome, FileComes};
+ghost use Rattle.eg_outcome.specs.Calibrations.{calibration_said, calibration_file, CalibrationComes, MissesCalibration};
+ghost use Rattle.eg_outcome.specs.Outcomes.{TellsNoMemory};
+ghost use Rattle.eg_outcome.specs.declared.outcome.Outcome.TheVariants.{ReadFault};
+ghost use Rattle.eg_outcome.specs.declared.outcome.Role.TheVariants as role;
 
 use crate::files::{MOST_BYTES, is_too_long};
 use crate::{Outcome, Refusal, Role};
@@ -17,7 +18,7 @@ use std::alloc::Global;
 
 /// The calibration in the file of that name, or the reference calibration where no file is named
 /// (docs/FORMATS.md, "Commands"). Where there is none, the call ends with the outcome that it answers.
-pub(crate) fn calibration_for<S: Store>(
+pub fn calibration_for<S: Store>(
     alloc: Global,
     file: Option<&str>,
     store: &mut S,
@@ -45,7 +46,7 @@ fn calibration_of<S: Store>(
     file: &str,
     store: &mut S,
 ) -> Result<Calibration, Outcome>
-    ensures comes { FileComes file.now (S.shows store.old) (S.shows store.new) result }
+    ensures comes { FileComes role.Calibration calibration_file file.now (S.shows store.old) (S.shows store.new) result }
     ensures missing { IsTrue (S.shows store.old).sure →
         ((result ≡ Err (ReadFault role.Calibration)) ↔ IsMissing (S.shows store.old).files file.now) }
     ensures no_memory { IfErr result TellsNoMemory }
@@ -64,7 +65,7 @@ fn calibration_of<S: Store>(
 
 /// The calibration that a file of these bytes says, or how the call ends without one.
 fn calibration_in(alloc: Global, bytes: &[u8]) -> Result<Calibration, Outcome>
-    ensures comes { BytesCome bytes.now result }
+    ensures comes { BytesCome calibration_file bytes.now result }
     ensures read { result ≢ Err (ReadFault role.Calibration) }
     ensures no_memory { IfErr result TellsNoMemory }
 {

@@ -1,7 +1,7 @@
 -- The exit status of each outcome.
 use Rattle.std.specs.Prelude.{ℕ}
-use Rattle.eg_app.specs.declared.outcome.Outcome.{Outcome}
-use Rattle.eg_app.specs.declared.outcome.Outcome.TheVariants as outcome
+use Rattle.eg_outcome.specs.declared.outcome.Outcome.{Outcome}
+use Rattle.eg_outcome.specs.declared.outcome.Outcome.TheVariants as outcome
 
 -- 0 where the work was done, else 2 to 6
 abbrev pub status_of : Outcome → ℕ

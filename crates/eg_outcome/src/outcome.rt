@@ -1,9 +1,10 @@
 // How a call of the program ends.
 ghost use Rattle.std.specs.Prelude.{◌≡◌};
-ghost use Rattle.eg_app.specs.Status.{status_of};
+ghost use Rattle.eg_outcome.specs.Status.{status_of};
 
 use eg_cal::CalFault;
-use eg_input::TraceFault;
+use eg_campaign::CampaignFault;
+use eg_input::{ImageFault, TraceFault};
 
 /// A file of a command, by what it is for.
 #[derive(Clone, Copy, Debug, PartialEq, Eq)]
@@ -12,6 +13,12 @@ pub enum Role {
     Calibration,
     /// The file of `check`.
     Check,
+    /// The campaign file of `run` or `record`.
+    Campaign,
+    /// The drive trace of a run of the campaign, the first being 1.
+    Trace { run: u32 },
+    /// The image of a run of the campaign, the first being 1.
+    Image { run: u32 },
 }
 
 /// Why a file was refused: the first rule that it breaks, in the order of docs/FORMATS.md.
@@ -23,6 +30,14 @@ pub enum Refusal {
     Calibration(CalFault),
     /// The records of a check file. Want of memory is `Outcome::Memory`, and never stands here.
     Check(TraceFault),
+    /// A campaign file, or too many ticks of its runs in all. Want of memory never stands here.
+    Campaign(CampaignFault),
+    /// The records of the drive trace of a run. Want of memory never stands here.
+    Trace { run: u32, fault: TraceFault },
+    /// The lines of the image of a run. Want of memory never stands here.
+    Image { run: u32, fault: ImageFault },
+    /// The campaign has no run of that name.
+    NoRun,
 }
 
 /// How a call of the program ends (docs/FORMATS.md, "Outcomes").

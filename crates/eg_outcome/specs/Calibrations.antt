@@ -1,0 +1,57 @@
+-- What the calibration of a command is: the reference calibration, or what the file behind `--cal` says.
+use Rattle.std.specs.Prelude.{◌≡◌, ℕ, List, Option, Some, None, Result, Ok, Err}
+use Rattle.eg_base.specs.Outside.{ShownStore, ShownSink, IsMissing}
+use Rattle.eg_toml.specs.Documents.{document_of}
+use Rattle.eg_values.specs.Calibration.{CalibrationParts}
+use Rattle.eg_values.specs.Reference.{reference_parts}
+use Rattle.eg_cal.specs.Calibration.{calibration_of}
+use Rattle.eg_cal.specs.declared.key.CalFault.{CalFault}
+use Rattle.eg_outcome.specs.Outcomes.{Follows}
+use Rattle.eg_outcome.specs.Reads.{sized, FileComes, Finds, Accepts}
+use Rattle.eg_outcome.specs.declared.outcome.Outcome.{Outcome}
+use Rattle.eg_outcome.specs.declared.outcome.Refusal.{Refusal}
+use Rattle.eg_outcome.specs.declared.outcome.Refusal.TheVariants as refusal
+use Rattle.eg_outcome.specs.declared.outcome.Role.TheVariants as role
+
+-- what the bytes of a calibration file say, by the rules of eg_cal
+unfoldable pub calibration_said : List ℕ → Result CalibrationParts CalFault
+calibration_said bytes = calibration_of (document_of bytes)
+
+-- why a calibration is refused
+abbrev pub refused_calibration : Result CalibrationParts CalFault → Result CalibrationParts Refusal
+refused_calibration (Ok parts) = Ok parts
+refused_calibration (Err fault) = Err (refusal.Calibration fault)
+
+-- the calibration of a file, or its first refusal
+abbrev pub calibration_file : List ℕ → Result CalibrationParts Refusal
+calibration_file = sized role.Calibration (λ bytes. refused_calibration (calibration_said bytes))
+
+-- What comes of the calibration that a command goes by: its parts, or how the call ends without one. Where no
+-- file is named it is the reference calibration.
+abbrev pub CalibrationComes : Option (List ℕ) → ShownStore → ShownStore → Result CalibrationParts Outcome
+    → Type 0
+CalibrationComes (Some name) store later come = FileComes role.Calibration calibration_file name store later come
+CalibrationComes None store later come = come ≡ Ok reference_parts
+
+-- something comes of the calibration, and the work follows
+abbrev pub CalibratedEnds : Option (List ℕ) → ShownStore → ShownStore → ShownSink → ShownSink
+    → (CalibrationParts → Outcome → Type 0) → Outcome → Type 0
+CalibratedEnds calibration store later out now work o = (come : Result CalibrationParts Outcome)
+    × CalibrationComes calibration store later come × Follows work out now come o
+
+-- ---- when it is there, and when it is accepted ----
+
+-- the file behind `--cal` isn't there
+abbrev pub MissesCalibration : Option (List ℕ) → ShownStore → Type 0
+MissesCalibration (Some name) store = IsMissing store.files name
+MissesCalibration None store = ⊥
+
+-- the file behind `--cal` is found
+abbrev pub FindsCalibration : Option (List ℕ) → ShownStore → ShownStore → Type 0
+FindsCalibration (Some name) store later = Finds name store later
+FindsCalibration None store later = Unit {0}
+
+-- whatever a read of the file behind `--cal` may give is accepted
+abbrev pub AcceptsCalibration : Option (List ℕ) → ShownStore → Type 0
+AcceptsCalibration (Some name) store = Accepts calibration_file name store
+AcceptsCalibration None store = Unit {0}

@@ -1,0 +1,5 @@
+pub mod Files
+pub mod Status
+pub mod Outcomes
+pub mod Reads
+pub mod Calibrations

@@ -1,0 +1,51 @@
+-- How a call ends: what was put, and what each outcome tells.
+use Rattle.std.specs.Prelude.{◌≡◌, ℕ, List, Result, Ok, Err}
+use Rattle.eg_base.specs.Outside.{ShownSink, Rose, Appends, AppendsPrefix}
+use Rattle.eg_input.specs.declared.fault.TraceFault.TheVariants as trace_fault
+use Rattle.eg_input.specs.declared.fault.ImageFault.TheVariants as image_fault
+use Rattle.eg_cal.specs.declared.key.CalFault.TheVariants as cal_fault
+use Rattle.eg_campaign.specs.declared.key.CampaignFault.TheVariants as campaign_fault
+use Rattle.eg_outcome.specs.declared.outcome.Outcome.{Outcome}
+use Rattle.eg_outcome.specs.declared.outcome.Outcome.TheVariants as outcome
+use Rattle.eg_outcome.specs.declared.outcome.Refusal.TheVariants as refusal
+
+-- once the text is known: all of it was written and no fault of writing was met, or a prefix of it and a
+-- fault or want of memory
+abbrev pub LineEnds : List ℕ → ShownSink → ShownSink → Outcome → Type 0
+LineEnds line out now outcome.Done = Appends out now line × (now.faults ≡ out.faults)
+LineEnds line out now outcome.WriteFault = AppendsPrefix out now line × Rose out.faults now.faults
+LineEnds line out now outcome.Memory = AppendsPrefix out now line
+LineEnds line out now _ = ⊥
+
+-- Something came, and the work follows with it; or the call ends without it, and nothing is put.
+abbrev pub Follows : {X : Type 0} → (X → Outcome → Type 0) → ShownSink → ShownSink → Result X Outcome → Outcome
+    → Type 0
+Follows work out now (Ok x) o = work x o
+Follows work out now (Err end) o = (o ≡ end) × (now ≡ out)
+
+-- a refusal never tells want of memory: that is the outcome Memory
+abbrev pub TellsNoMemory : Outcome → Type 0
+TellsNoMemory (outcome.Refused (refusal.Calibration cal_fault.Memory)) = ⊥
+TellsNoMemory (outcome.Refused (refusal.Check trace_fault.Memory)) = ⊥
+TellsNoMemory (outcome.Refused (refusal.Campaign campaign_fault.Memory)) = ⊥
+TellsNoMemory (outcome.Refused (refusal.Trace run trace_fault.Memory)) = ⊥
+TellsNoMemory (outcome.Refused (refusal.Image run image_fault.Memory)) = ⊥
+TellsNoMemory _ = Unit {0}
+
+-- the work was done, or memory ran out
+abbrev pub IsDoneOrMemory : Outcome → Type 0
+IsDoneOrMemory outcome.Done = Unit {0}
+IsDoneOrMemory outcome.Memory = Unit {0}
+IsDoneOrMemory _ = ⊥
+
+-- these put nothing to the output
+abbrev pub PutsNothing : Outcome → Type 0
+PutsNothing outcome.Usage = Unit {0}
+PutsNothing (outcome.ReadFault _) = Unit {0}
+PutsNothing (outcome.Refused _) = Unit {0}
+PutsNothing _ = ⊥
+
+-- the outcome is a fault of reading
+abbrev pub IsReadFault : Outcome → Type 0
+IsReadFault (outcome.ReadFault _) = Unit {0}
+IsReadFault _ = ⊥

@@ -1,0 +1,50 @@
+-- What comes of reading a file: its value, or how the call ends without it. `says` is what the bytes of such a
+-- file say: a value, or the first refusal.
+use Rattle.std.specs.Prelude.{◌≡◌, ◌⊎◌, ℕ, List, IsTrue, IsOk, Result, Ok, Err, if◌then◌else◌}
+use Rattle.eg_base.specs.Outside.{ShownStore, Rose, IsMissing}
+use Rattle.eg_outcome.specs.Files.{AreRead, is_too_long}
+use Rattle.eg_outcome.specs.declared.outcome.Outcome.{Outcome}
+use Rattle.eg_outcome.specs.declared.outcome.Outcome.TheVariants as outcome
+use Rattle.eg_outcome.specs.declared.outcome.Refusal.{Refusal}
+use Rattle.eg_outcome.specs.declared.outcome.Refusal.TheVariants as refusal
+use Rattle.eg_outcome.specs.declared.outcome.Role.{Role}
+
+-- what the bytes of a file say, or its first refusal: of its size, or else by the rules of its kind
+abbrev pub sized : {X : Type 0} → Role → (List ℕ → Result X Refusal) → List ℕ → Result X Refusal
+sized file says bytes = if is_too_long bytes then Err (refusal.Size file) else says bytes
+
+-- once the bytes of the file are known: it is accepted with this value, or refused by its first refusal, or
+-- memory ran out
+abbrev pub BytesCome : {X : Type 0} → (List ℕ → Result X Refusal) → List ℕ → Result X Outcome → Type 0
+BytesCome says bytes (Ok x) = says bytes ≡ Ok x
+BytesCome says bytes (Err (outcome.Refused r)) = says bytes ≡ Err r
+BytesCome says bytes (Err outcome.Memory) = Unit {0}
+BytesCome says bytes (Err _) = ⊥
+
+-- the file of this name was read
+abbrev pub ReadComes : {X : Type 0} → (List ℕ → Result X Refusal) → List ℕ → ShownStore → Result X Outcome
+    → Type 0
+ReadComes says name store come = (bytes : List ℕ) × AreRead store name bytes × BytesCome says bytes come
+
+-- Reading the file of this name failed, or memory ran out, or the file was read. Where the call ends with the
+-- refusal of what was read, no fault of reading was met; where it goes on, the work says which were. Over a
+-- sure store reading fails only where there is no such file.
+abbrev pub FileComes : {X : Type 0} → Role → (List ℕ → Result X Refusal) → List ℕ → ShownStore → ShownStore
+    → Result X Outcome → Type 0
+FileComes file says name store later (Ok x) = ReadComes says name store (Ok x)
+FileComes file says name store later (Err (outcome.ReadFault role)) = (role ≡ file)
+    × Rose store.faults later.faults × (IsTrue store.sure → IsMissing store.files name)
+FileComes file says name store later (Err outcome.Memory) = Unit {0}
+FileComes file says name store later (Err end) =
+    (later.faults ≡ store.faults) × ReadComes says name store (Err end)
+
+-- ---- when it is there, and when it is accepted ----
+
+-- no fault of reading is counted, or the store is sure and has the file
+abbrev pub Finds : List ℕ → ShownStore → ShownStore → Type 0
+Finds name store later =
+    ¬ Rose store.faults later.faults ⊎ (IsTrue store.sure × ¬ IsMissing store.files name)
+
+-- whatever a read of the file may give is accepted
+abbrev pub Accepts : {X : Type 0} → (List ℕ → Result X Refusal) → List ℕ → ShownStore → Type 0
+Accepts says name store = (bytes : List ℕ) → AreRead store name bytes → IsOk (says bytes)
