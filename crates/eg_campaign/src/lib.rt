@@ -6,6 +6,7 @@ mod contents;
 mod fault;
 mod key;
 mod laws;
+mod play;
 mod reader;
 mod run;
 mod slices;
@@ -16,6 +17,7 @@ mod ticks;
 
 pub use key::{CampaignFault, RunKey};
 pub use laws::accepted_files_keep_the_rules;
+pub use play::RunInput;
 pub use reader::read_campaign;
 pub use run::RunPlan;
 pub use ticks::add_ticks;

@@ -1,6 +1,6 @@
 -- What the calibration of a command is: the reference calibration, or what the file behind `--cal` says.
 use Rattle.std.specs.Prelude.{◌≡◌, ℕ, List, Option, Some, None, Result, Ok, Err}
-use Rattle.eg_base.specs.Outside.{ShownStore, ShownSink, IsMissing}
+use Rattle.eg_base.specs.Outside.{ShownStore, IsMissing}
 use Rattle.eg_toml.specs.Documents.{document_of}
 use Rattle.eg_values.specs.Calibration.{CalibrationParts}
 use Rattle.eg_values.specs.Reference.{reference_parts}
@@ -34,10 +34,10 @@ CalibrationComes (Some name) store later come = FileComes role.Calibration calib
 CalibrationComes None store later come = come ≡ Ok reference_parts
 
 -- something comes of the calibration, and the work follows
-abbrev pub CalibratedEnds : Option (List ℕ) → ShownStore → ShownStore → ShownSink → ShownSink
+abbrev pub CalibratedEnds : Option (List ℕ) → ShownStore → ShownStore → (nothing : Type 0)
     → (CalibrationParts → Outcome → Type 0) → Outcome → Type 0
-CalibratedEnds calibration store later out now work o = (come : Result CalibrationParts Outcome)
-    × CalibrationComes calibration store later come × Follows work out now come o
+CalibratedEnds calibration store later nothing work o = (come : Result CalibrationParts Outcome)
+    × CalibrationComes calibration store later come × Follows work nothing come o
 
 -- ---- when it is there, and when it is accepted ----
 

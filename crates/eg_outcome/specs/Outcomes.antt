@@ -17,11 +17,16 @@ LineEnds line out now outcome.WriteFault = AppendsPrefix out now line × Rose ou
 LineEnds line out now outcome.Memory = AppendsPrefix out now line
 LineEnds line out now _ = ⊥
 
--- Something came, and the work follows with it; or the call ends without it, and nothing is put.
-abbrev pub Follows : {X : Type 0} → (X → Outcome → Type 0) → ShownSink → ShownSink → Result X Outcome → Outcome
+-- Something came, and the work follows with it; or the call ends without it, and nothing was done.
+abbrev pub Follows : {X : Type 0} → (X → Outcome → Type 0) → (nothing : Type 0) → Result X Outcome → Outcome
     → Type 0
-Follows work out now (Ok x) o = work x o
-Follows work out now (Err end) o = (o ≡ end) × (now ≡ out)
+Follows work nothing (Ok x) o = work x o
+Follows work nothing (Err end) o = (o ≡ end) × nothing
+
+-- Something came, and more comes of it; or nothing more comes.
+abbrev pub Then : {X Y : Type 0} → (X → Result Y Outcome → Type 0) → Result X Outcome → Result Y Outcome → Type 0
+Then more (Ok x) come = more x come
+Then more (Err end) come = come ≡ Err end
 
 -- a refusal never tells want of memory: that is the outcome Memory
 abbrev pub TellsNoMemory : Outcome → Type 0

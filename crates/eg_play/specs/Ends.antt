@@ -1,0 +1,138 @@
+-- How `run` and `record` end: by cases on the outcome, nested from the outside in, as `check` and `bound` are.
+-- `store`, `out` and `was` are what the store, the output and the count of ticks show before the call, `later`,
+-- `now` and `is` what they show after it.
+use Rattle.std.specs.Prelude.{◌≡◌, ℕ, ◌+◌, ◌-◌, ◌%◌, ◌^◌, ◌≤◌, List, [], ◌∷◌, map, All, length, Bool, Option, Some, None, option_map, Result, Ok, Err, IsOk, IsSome, IsTrue, slice_get, bytes_eq, if◌then◌else◌}
+use Rattle.eg_base.specs.Outside.{ShownStore, ShownSink, Rose}
+use Rattle.eg_values.specs.Calibration.{CalibrationParts}
+use Rattle.eg_model.specs.Bench.{Run}
+use Rattle.eg_tick.specs.Weights.{TickCount}
+use Rattle.eg_campaign.specs.declared.run.RunPlan.{RunPlan}
+use Rattle.eg_campaign.specs.declared.play.RunInput.{RunInput}
+use Rattle.eg_outcome.specs.Files.{AreRead}
+use Rattle.eg_outcome.specs.Outcomes.{LineEnds, Follows, IsDoneOrMemory}
+use Rattle.eg_outcome.specs.Reads.{FileComes, Finds, Accepts}
+use Rattle.eg_outcome.specs.Calibrations.{CalibratedEnds, FindsCalibration, AcceptsCalibration}
+use Rattle.eg_outcome.specs.declared.outcome.Outcome.{Outcome}
+use Rattle.eg_outcome.specs.declared.outcome.Outcome.TheVariants as outcome
+use Rattle.eg_outcome.specs.declared.outcome.Refusal.{Refusal}
+use Rattle.eg_outcome.specs.declared.outcome.Refusal.TheVariants as refusal
+use Rattle.eg_outcome.specs.declared.outcome.Role.{Role}
+use Rattle.eg_outcome.specs.declared.outcome.Role.TheVariants as role
+use Rattle.eg_play.specs.Files.{campaign_file, trace_file, image_file}
+use Rattle.eg_play.specs.Inputs.{InputComes, InputsCome, too_many}
+use Rattle.eg_play.specs.Headline.{KeepsHeadline}
+use Rattle.eg_play.specs.Texts.{run_with, report_text, record_text, ticks_of, weights_of}
+
+-- ---- runs are played ----
+
+-- The ticks of these runs were made and counted, with the weights of the rows of their records; where memory
+-- ran out, no more than those ticks were counted.
+abbrev pub AreTicked : List Run → TickCount → TickCount → Outcome → Type 0
+AreTicked runs was is outcome.Memory =
+    (n : ℕ) × (n ≤ ticks_of runs) × (is.count ≡ (was.count + n) % 2 ^ 64)
+AreTicked runs was is o = is ≡ record {
+  count = (was.count + ticks_of runs) % 2 ^ 64;
+  weights = (was.weights + weights_of runs) % 2 ^ 64;
+}
+
+-- These runs were played, and this text on them was written: on Done all of it. The record of each run keeps
+-- the headline.
+pub record Plays (text : List ℕ) (runs : List Run) (out now : ShownSink) (was is : TickCount)
+    (o : Outcome) : Type 0 where
+  pub written : LineEnds text out now o
+  pub ticked : AreTicked runs was is o
+  pub headline : All KeepsHeadline runs
+
+-- nothing was put, and no tick was made
+abbrev pub NothingPlayed : ShownSink → ShownSink → TickCount → TickCount → Type 0
+NothingPlayed out now was is = (now ≡ out) × (is ≡ was)
+
+-- ---- `run [--cal NAME] CAMPAIGN` ----
+
+-- the inputs of all runs are known, and no fault of reading was met: the report is written
+abbrev pub ReportEnds : CalibrationParts → List RunInput → ShownStore → ShownStore → ShownSink → ShownSink
+    → TickCount → TickCount → Outcome → Type 0
+ReportEnds cal inputs store later out now was is o = (later.faults ≡ store.faults)
+    × Plays (report_text cal inputs) (map (run_with cal) inputs) out now was is o
+
+-- the runs of the campaign are known: their files are read in order
+abbrev pub RunsEnd : CalibrationParts → List RunPlan → ShownStore → ShownStore → ShownSink → ShownSink
+    → TickCount → TickCount → Outcome → Type 0
+RunsEnd cal plans store later out now was is o = (come : Result (List RunInput) Outcome)
+    × InputsCome store later 1 0 plans come
+    × Follows (λ inputs end. ReportEnds cal inputs store later out now was is end) (NothingPlayed out now was is)
+    come o
+
+-- ---- `record [--cal NAME] CAMPAIGN RUN` ----
+
+-- the input of the run is known, and no fault of reading was met: its record is written
+abbrev pub RecordEnds : CalibrationParts → RunInput → ShownStore → ShownStore → ShownSink → ShownSink
+    → TickCount → TickCount → Outcome → Type 0
+RecordEnds cal input store later out now was is o = (later.faults ≡ store.faults)
+    × Plays (record_text cal input) (run_with cal input ∷ []) out now was is o
+
+-- the first run of this name, with its number, where n is the number of the first run of the list
+abbrev pub run_named : List ℕ → ℕ → List RunPlan → Option (ℕ × RunPlan)
+run_named name n [] = None
+run_named name n (plan ∷ plans) =
+    if bytes_eq plan.name name then Some (n, plan) else run_named name (n + 1) plans
+
+-- there is no run of that name, or its files are read; whatever its count of ticks, it isn't refused for that
+abbrev pub NamedEnds : CalibrationParts → Option (ℕ × RunPlan) → ShownStore → ShownStore → ShownSink
+    → ShownSink → TickCount → TickCount → Outcome → Type 0
+NamedEnds cal None store later out now was is o = (o ≡ outcome.Refused refusal.NoRun)
+    × (later.faults ≡ store.faults) × NothingPlayed out now was is
+NamedEnds cal (Some found) store later out now was is o = (come : Result RunInput Outcome)
+    × InputComes (λ count. None) store later found.0 found.1 come
+    × Follows (λ input end. RecordEnds cal input store later out now was is end) (NothingPlayed out now was is)
+    come o
+
+-- ---- both ----
+
+-- the campaign is read, and the work follows with its runs
+abbrev pub CampaignEnds : List ℕ → ShownStore → ShownStore → (nothing : Type 0)
+    → (List RunPlan → Outcome → Type 0) → Outcome → Type 0
+CampaignEnds campaign store later nothing work o = (come : Result (List RunPlan) Outcome)
+    × FileComes role.Campaign campaign_file campaign store later come × Follows work nothing come o
+
+abbrev pub RunCommandEnds : Option (List ℕ) → List ℕ → ShownStore → ShownStore → ShownSink → ShownSink
+    → TickCount → TickCount → Outcome → Type 0
+RunCommandEnds calibration campaign store later out now was is o =
+    CalibratedEnds calibration store later (NothingPlayed out now was is)
+    (λ cal. CampaignEnds campaign store later (NothingPlayed out now was is)
+    (λ plans. RunsEnd cal plans store later out now was is)) o
+
+abbrev pub RecordCommandEnds : Option (List ℕ) → List ℕ → List ℕ → ShownStore → ShownStore → ShownSink
+    → ShownSink → TickCount → TickCount → Outcome → Type 0
+RecordCommandEnds calibration campaign name store later out now was is o =
+    CalibratedEnds calibration store later (NothingPlayed out now was is)
+    (λ cal. CampaignEnds campaign store later (NothingPlayed out now was is)
+    (λ plans. NamedEnds cal (run_named name 1 plans) store later out now was is)) o
+
+-- ---- the name of a file of a run ----
+
+-- the name that a run of the campaign gives to the file of this role, if the role is of a run
+abbrev pub name_in : List RunPlan → Role → Option (List ℕ)
+name_in plans (role.Trace n) = option_map (λ plan. plan.trace) (slice_get plans (n - 1))
+name_in plans (role.Image n) = option_map (λ plan. plan.image) (slice_get plans (n - 1))
+name_in plans _ = None
+
+-- the role of the file that an outcome speaks of, if it speaks of one
+abbrev pub role_in : Outcome → Option Role
+role_in (outcome.ReadFault file) = Some file
+role_in (outcome.Refused (refusal.Size file)) = Some file
+role_in (outcome.Refused (refusal.Trace n fault)) = Some (role.Trace n)
+role_in (outcome.Refused (refusal.Image n fault)) = Some (role.Image n)
+role_in _ = None
+
+-- the campaign that was read gives this name to the file of this role
+abbrev pub IsNameIn : List ℕ → ShownStore → Role → Option (List ℕ) → Type 0
+IsNameIn campaign store file name = (bytes : List ℕ) × AreRead store campaign bytes
+    × (plans : List RunPlan) × (campaign_file bytes ≡ Ok plans) × IsSome name × (name ≡ name_in plans file)
+
+-- Where an outcome speaks of the trace or the image of a run, the name is the one that the campaign gives;
+-- otherwise there is none.
+abbrev pub NamesFile : List ℕ → ShownStore → Option Role → Option (List ℕ) → Type 0
+NamesFile campaign store (Some (role.Trace n)) name = IsNameIn campaign store (role.Trace n) name
+NamesFile campaign store (Some (role.Image n)) name = IsNameIn campaign store (role.Image n) name
+NamesFile campaign store _ name = name ≡ None

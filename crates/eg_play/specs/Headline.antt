@@ -1,0 +1,28 @@
+-- The headline, for the record of one run. Its rows stand newest first.
+use Rattle.std.specs.Prelude.{◌≡◌, None}
+use Rattle.eg_answer.specs.Times.{reaction_of, HasLapseBound}
+use Rattle.eg_fault.specs.Faults.{IsListed}
+use Rattle.eg_record.specs.Detection.{first_detection, IsFirstDetection}
+use Rattle.eg_model.specs.Bench.{Run}
+use Rattle.eg_model.specs.Rows.{record_rows}
+use Rattle.eg_model.specs.Records.{ReactWithin, CutOneTickAfter}
+use Rattle.eg_model.specs.Lapses.{IsLapse}
+use Rattle.eg_tick.specs.Run.{ReactAtOnce, CutLapses, LapsesAreShort}
+
+pub record KeepsHeadline (r : Run) : Type 0 where
+  -- With at most one listed fault outside level 1, the power stages are off from R ticks after any confirmed
+  -- torque excess to the end of the power cycle; under most faults from the next tick.
+  pub reacts : IsListed r.setting.fault → ReactWithin (reaction_of r.setting.cal.times)
+      r.setting.cal.rules.torque r.setting.cal.rules.threshold (record_rows r)
+  pub at_once : IsListed r.setting.fault → ReactAtOnce r.setting.fault r.setting.cal.rules.torque
+      r.setting.cal.rules.threshold (record_rows r)
+  -- Without a fault they go off exactly one tick after the first confirmed full-efficiency excess.
+  pub cuts : r.setting.fault ≡ None → CutOneTickAfter r.setting.cal.rules.torque r.setting.cal.rules.kt
+      r.setting.cal.rules.threshold (record_rows r)
+  -- Lapses are cut, and each stretch of torque excess under them is short, where the calibration has a bound.
+  pub lapses : HasLapseBound r.setting.cal.rules.torque r.setting.cal.times → IsLapse r.setting.fault →
+      CutLapses r.setting.cal (record_rows r)
+  pub short : HasLapseBound r.setting.cal.rules.torque r.setting.cal.times → IsLapse r.setting.fault →
+      LapsesAreShort r.setting.cal (record_rows r)
+  -- What the report names is the first detecting monitor and its tick.
+  pub detects : IsFirstDetection (record_rows r) (first_detection (record_rows r))

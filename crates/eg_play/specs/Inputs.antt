@@ -1,0 +1,61 @@
+-- What comes of the files of runs: the drive and the image of each, or how the call ends without them.
+use Rattle.std.specs.Prelude.{◌≡◌, ℕ, ◌+◌, List, [], ◌∷◌, length, Option, Some, None, Result, Ok, Err}
+use Rattle.eg_base.specs.Outside.{ShownStore}
+use Rattle.eg_num.specs.Drive.{DriveRow}
+use Rattle.eg_campaign.specs.Ticks.{sum_with}
+use Rattle.eg_campaign.specs.declared.key.CampaignFault.{CampaignFault}
+use Rattle.eg_campaign.specs.declared.run.RunPlan.{RunPlan}
+use Rattle.eg_campaign.specs.declared.play.RunInput.{RunInput}
+use Rattle.eg_outcome.specs.Outcomes.{Then}
+use Rattle.eg_outcome.specs.Reads.{FileComes}
+use Rattle.eg_outcome.specs.declared.outcome.Outcome.{Outcome}
+use Rattle.eg_outcome.specs.declared.outcome.Outcome.TheVariants as outcome
+use Rattle.eg_outcome.specs.declared.outcome.Refusal.{Refusal}
+use Rattle.eg_outcome.specs.declared.outcome.Refusal.TheVariants as refusal
+use Rattle.eg_outcome.specs.declared.outcome.Role.TheVariants as role
+use Rattle.eg_play.specs.Files.{trace_file, image_file}
+
+-- ---- one run ----
+
+abbrev pub input_of : RunPlan → List DriveRow → List ℕ → RunInput
+input_of plan drive words = record { plan = plan; drive = drive; image = words }
+
+-- the image of run n is read, where its drive is known
+abbrev pub ImageComes : ShownStore → ShownStore → ℕ → RunPlan → List DriveRow → Result RunInput Outcome → Type 0
+ImageComes store later n plan drive come = (image : Result (List ℕ) Outcome)
+    × FileComes (role.Image n) (image_file n) plan.image store later image
+    × Then (λ words made. made ≡ Ok (input_of plan drive words)) image come
+
+-- where the count of its ticks is refused, the call ends before the image is read
+abbrev pub TicksCome : Option Refusal → ShownStore → ShownStore → ℕ → RunPlan → List DriveRow
+    → Result RunInput Outcome → Type 0
+TicksCome (Some r) store later n plan drive come =
+    (come ≡ Err (outcome.Refused r)) × (later.faults ≡ store.faults)
+TicksCome None store later n plan drive come = ImageComes store later n plan drive come
+
+-- What comes of the files of run n: first its trace, then its image. `refuses` tells which counts of ticks are
+-- refused.
+abbrev pub InputComes : (ℕ → Option Refusal) → ShownStore → ShownStore → ℕ → RunPlan → Result RunInput Outcome
+    → Type 0
+InputComes refuses store later n plan come = (trace : Result (List DriveRow) Outcome)
+    × FileComes (role.Trace n) (trace_file n) plan.trace store later trace
+    × Then (λ drive made. TicksCome (refuses (length drive)) store later n plan drive made) trace come
+
+-- ---- all runs of a campaign ----
+
+abbrev pub refusal_in : Result ℕ CampaignFault → Option Refusal
+refusal_in (Ok sum) = None
+refusal_in (Err fault) = Some (refusal.Campaign fault)
+
+-- run n is refused where its ticks with those of the runs before it, `sum`, are more than 1,000,000
+abbrev pub too_many : ℕ → ℕ → ℕ → Option Refusal
+too_many sum n count = refusal_in (sum_with sum n count)
+
+-- What comes of the files of the runs from run n on, in their order, where the runs before have `sum` ticks.
+abbrev pub InputsCome : ShownStore → ShownStore → ℕ → ℕ → List RunPlan → Result (List RunInput) Outcome → Type 0
+InputsCome store later n sum [] come = come ≡ Ok []
+InputsCome store later n sum (plan ∷ plans) come = (first : Result RunInput Outcome)
+    × InputComes (too_many sum n) store later n plan first
+    × Then (λ input made. (rest : Result (List RunInput) Outcome)
+    × InputsCome store later (n + 1) (sum + length input.drive) plans rest
+    × Then (λ inputs all. all ≡ Ok (input ∷ inputs)) rest made) first come

@@ -1,0 +1,5 @@
+pub mod Files
+pub mod Inputs
+pub mod Headline
+pub mod Texts
+pub mod Ends

@@ -1,0 +1,17 @@
+//! The commands that play whole runs: `run` and `record`.
+//!
+//! A campaign is read, then the drive trace and the image of each of its runs; then the controller plays them
+//! tick by tick, and the report or the record is written.
+#![tactic(auto)]
+
+mod campaign;
+mod end;
+mod input;
+mod inputs;
+mod lines;
+mod record;
+mod run;
+
+pub use end::End;
+pub use record::record;
+pub use run::run;
