@@ -7,4 +7,6 @@ pub mod StartLemmas
 pub mod WorkLemmas
 pub mod StandsLemmas
 pub mod MonitorLemmas
+pub mod RunLemmas
+pub mod RunLaws
 mod Worked
