@@ -1,26 +1,26 @@
 -- What the rows of a record keep, by the laws of runs.
-use Rattle.std.proofs.Common.{◌≡◌, ◌∙◌, refl, sym, ap, ap₂, subst, ℕ, zero, suc, ◌+◌, ◌*◌, ◌≤◌, ◌<◌, ◌⊎◌, inl, inr, Bool, true, false, List, [], ◌∷◌, ◌++◌, All, map, take, length, arith, Option, None}
+use Rattle.std.proofs.Common.{◌≡◌, ◌∙◌, refl, sym, ap, subst, ℕ, zero, suc, ◌+◌, ◌*◌, ◌≤◌, ◌<◌, ◌⊎◌, inl, inr, Bool, true, false, List, [], ◌∷◌, ◌++◌, All, map, take, length, arith, Option}
 use Rattle.std.specs.Prelude.{reverse, slice_index_or}
 use Rattle.std.specs.List.{list_all}
-use Rattle.std.proofs.lemmas.List.{reverse-reverse, length-append}
+use Rattle.std.proofs.lemmas.List.{reverse-reverse}
 use Rattle.std.proofs.lemmas.List.Elements.{All-cons, All-nil}
 use Rattle.eg_num.specs.Drive.{DriveRow, IsDrive}
 use Rattle.eg_num.specs.Windows.{WeightParts, is_confirmed}
-use Rattle.eg_answer.specs.Times.{HasLapseBound, lapse_periods, lapse_bound_of, reaction_of}
+use Rattle.eg_answer.specs.Times.{HasLapseBound, lapse_periods}
 use Rattle.eg_fault.specs.Faults.{effects, IsListed}
 use Rattle.eg_values.specs.Calibration.{IsAccepted}
 use Rattle.eg_word.specs.declared.registers.Trap.{Trap}
 use Rattle.eg_record.specs.declared.row.Row.{Row}
 use Rattle.eg_record.specs.Excess.{true_excess}
-use Rattle.eg_model.specs.History.{Setting, Tick, Moment}
+use Rattle.eg_model.specs.History.{Tick}
 use Rattle.eg_model.specs.Premises.{AreProper, Follows, is_on_after, true_excesses}
 use Rattle.eg_model.specs.Reaction.{OffFrom, is_at_once}
 use Rattle.eg_model.specs.Lapses.{IsLapse, Exceeds}
 use Rattle.eg_model.specs.Moments.{moment, moments_of, moments, ticks}
 use Rattle.eg_model.specs.Bench.{Run, no_drive, drive_at, entry_at, moments_to, entries_to}
 use Rattle.eg_model.specs.Rows.{row_of, rows_of, record_rows}
-use Rattle.eg_model.specs.Records.{IsRun, row_at, rows_to, IsConfirmedBy, ReactWithin, CutOneTickAfter}
-use Rattle.eg_model.proofs.RecordLaws.{length-entries, records_are_histories, records_are_rows, records_react, runs_react_at_once, records_cut_sharply}
+use Rattle.eg_model.specs.Records.{IsRun, row_at, rows_to}
+use Rattle.eg_model.proofs.RecordLaws.{length-entries, records_are_histories, records_are_rows, runs_react_at_once}
 use Rattle.eg_model.proofs.LapseLaw.{cuts_lapses, lapses_are_short}
 use Rattle.eg_tick.specs.Run.{IsRecordOf, ReactAtOnce, ExceedLast, CutLapses, LapsesAreShort}
 

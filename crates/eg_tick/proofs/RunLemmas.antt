@@ -1,21 +1,19 @@
 -- One tick of a run on the bench, and what its ticks come to.
-use Rattle.std.proofs.Common.{◌≡◌, ◌∙◌, refl, sym, ap, ap₂, subst, ℕ, zero, suc, ◌+◌, ◌%◌, ◌^◌, ◌≤◌, ◌<◌, List, [], ◌∷◌, ◌++◌, map, length, arith, Option, Result, Ok, Err}
+use Rattle.std.proofs.Common.{◌≡◌, ◌∙◌, refl, sym, ap, ap₂, subst, ℕ, zero, suc, ◌+◌, ◌%◌, ◌^◌, ◌<◌, List, [], ◌∷◌, ◌++◌, map, length, arith, Option, Result, Ok, Err}
 use Rattle.std.specs.Prelude.{reverse, slice_index_or, IfOk, OnErr}
 use Rattle.std.specs.List.{sum}
 use Rattle.std.proofs.Math.Nat.{mod-add-mod, mod-eq_of_lt}
 use Rattle.std.proofs.lemmas.List.{reverse-append, map-append}
 use Rattle.std.proofs.lemmas.List.Sums.{fold-append}
 use Rattle.eg_num.specs.Drive.{DriveRow}
-use Rattle.eg_plant.specs.Engine.{Shown}
-use Rattle.eg_plant.specs.PlantParts.{PlantParts}
-use Rattle.eg_plant.specs.Gasoline.{Gasoline, GasolinePlant, StepsAsGasoline, at_rest, gasoline_step, shown_of}
+use Rattle.eg_plant.specs.Gasoline.{GasolinePlant, StepsAsGasoline, at_rest, gasoline_step, shown_of}
 use Rattle.eg_fault.specs.Effects.{Effects}
 use Rattle.eg_fault.specs.Faults.{effects}
 use Rattle.eg_fault.specs.declared.class.Fault.{Fault}
 use Rattle.eg_values.specs.Calibration.{CalibrationParts}
 use Rattle.eg_word.specs.declared.registers.Trap.{Trap}
 use Rattle.eg_record.specs.declared.row.Row.{Row}
-use Rattle.eg_model.specs.History.{Setting, Entry, Moment}
+use Rattle.eg_model.specs.History.{Moment}
 use Rattle.eg_model.specs.Paths.{on_at}
 use Rattle.eg_model.specs.Level1.{last_world}
 use Rattle.eg_model.specs.Moments.{moment, moments, next}
@@ -99,9 +97,9 @@ module _ (r : Run) (t : ℕ) (old new : ControllerParts GasolinePlant) (at : IsA
       unfolding next row_at
       next_row row is = is
           ∙ ap (λ e. row_of (moment r.setting (effects r.setting.fault (length (entries_to r t))) e
-              (moments r.setting (entries_to r t)))) entry-is
+          (moments r.setting (entries_to r t)))) entry-is
           ∙ ap₂ (λ n before. row_of (moment r.setting (effects r.setting.fault n) (entry_at r t (moments_to r t)) before))
-              (length-entries r t) (sym (records_are_histories r t))
+          (length-entries r t) (sym (records_are_histories r t))
 
 -- ---- how a run begins ----
 

@@ -4,7 +4,7 @@ use Rattle.std.specs.Prelude.{◌≡◌, ℕ, ◌*◌, ◌≤◌, ◌<◌, true,
 use Rattle.std.specs.List.{list_all}
 use Rattle.eg_num.specs.Drive.{DriveRow}
 use Rattle.eg_num.specs.Windows.{WeightParts, is_confirmed}
-use Rattle.eg_answer.specs.Times.{HasLapseBound, lapse_periods, lapse_bound_of}
+use Rattle.eg_answer.specs.Times.{lapse_periods, lapse_bound_of}
 use Rattle.eg_plant.specs.Gasoline.{GasolinePlant}
 use Rattle.eg_fault.specs.declared.class.Fault.{Fault}
 use Rattle.eg_values.specs.Calibration.{CalibrationParts}

@@ -75,9 +75,9 @@ pub fn run_one(
     // Each tick is counted, and each row is weighed. Where memory ran out, no more ticks are counted than the
     // drive has rows.
     ensures counted { IfOk result (λ made. steps.new ≡ record {
-        count = (steps.old.count + length drive.now) % 2 ^ 64;
-        weights = (steps.old.weights + sum (map weight_of made.rows)) % 2 ^ 64;
-      }) }
+      count = (steps.old.count + length drive.now) % 2 ^ 64;
+      weights = (steps.old.weights + sum (map weight_of made.rows)) % 2 ^ 64;
+    }) }
     ensures count { OnErr result
         ((n : ℕ) × (n ≤ length drive.now) × (steps.new.count ≡ (steps.old.count + n) % 2 ^ 64)) }
 {
@@ -103,9 +103,9 @@ fn record_run(
         (run_by calibration.now image.now (option_copied fault.entry) plan.now drive.now)
         made.rows made.trap) }
     ensures counted { IfOk result (λ made. steps.new ≡ record {
-        count = (steps.old.count + length drive.now) % 2 ^ 64;
-        weights = (steps.old.weights + sum (map weight_of made.rows)) % 2 ^ 64;
-      }) }
+      count = (steps.old.count + length drive.now) % 2 ^ 64;
+      weights = (steps.old.weights + sum (map weight_of made.rows)) % 2 ^ 64;
+    }) }
     ensures count { OnErr result
         ((n : ℕ) × (n ≤ length drive.now) × (steps.new.count ≡ (steps.old.count + n) % 2 ^ 64)) }
 {
@@ -113,10 +113,18 @@ fn record_run(
     let _count = steps.count();
     let mut controller = begin(calibration, image, fault)?;
     let rows = make_rows(alloc, &mut controller, plan, drive, steps)?;
-    Ok(RunRecord {
+    Ok(record_of(rows, &controller))
+}
+
+/// The record of these rows and of the trap that a controller tells.
+fn record_of(rows: Vec<Row>, controller: &Controller<GasolineEngine, FlatMemory>) -> RunRecord
+    ensures rows { result.rows ≡ rows.items }
+    ensures trap { result.trap ≡ controller.now.kept.trap }
+{
+    RunRecord {
         rows: Items::new(rows),
         trap: controller.trap(),
-    })
+    }
 }
 
 /// A controller of an engine at rest, that has made no tick.
@@ -161,9 +169,9 @@ fn make_rows(
     ensures rows { (r : Run) → r.plan ≡ plan.now → r.drive ≡ drive.now → IsAt r 0 controller.old →
         IfOk result (λ rows. rows.items ≡ reverse (rows_to r (length drive.now))) }
     ensures counted { IfOk result (λ rows. steps.new ≡ record {
-        count = (steps.old.count + length drive.now) % 2 ^ 64;
-        weights = (steps.old.weights + sum (map weight_of rows.items)) % 2 ^ 64;
-      }) }
+      count = (steps.old.count + length drive.now) % 2 ^ 64;
+      weights = (steps.old.weights + sum (map weight_of rows.items)) % 2 ^ 64;
+    }) }
     ensures count { OnErr result
         ((n : ℕ) × (n ≤ length drive.now) × (steps.new.count ≡ (steps.old.count + n) % 2 ^ 64)) }
 {
@@ -201,3 +209,6 @@ fn make_row(
     let _engine = controller.engine();
     Ok(row)
 }
+
+#[cfg(test)]
+mod tests;

@@ -1,7 +1,3 @@
-use Rattle.std.proofs.Common.{◌≡◌, ◌%◌, ap, ◌∙◌, sym, List, ℕ, [], length}
-use Rattle.std.specs.Prelude.{slice_index_or}
-use Rattle.eg_model.specs.Bench.{Run, slices_at}
-use Rattle.eg_tick.specs.Run.{IsAt}
 use Rattle.eg_tick.proofs.RunLemmas.{next_at, next_row, slices-at}
 use Rattle.eg_tick.proofs.run.make_row.Goals as goal
 

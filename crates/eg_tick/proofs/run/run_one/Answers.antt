@@ -1,8 +1,6 @@
-use Rattle.std.proofs.Common.{◌≡◌, subst, List}
+use Rattle.std.proofs.Common.{subst}
 use Rattle.std.specs.Option.{option_copied}
 use Rattle.eg_answer.specs.Times.{reaction_of}
-use Rattle.eg_values.specs.Calibration.{CalibrationParts}
-use Rattle.eg_record.specs.declared.row.Row.{Row}
 use Rattle.eg_model.specs.Bench.{Run}
 use Rattle.eg_model.specs.Records.{ReactWithin, CutOneTickAfter}
 use Rattle.eg_model.proofs.RecordLaws.{records_react, records_cut_sharply}
