@@ -125,6 +125,33 @@ role_in (outcome.Refused (refusal.Trace n fault)) = Some (role.Trace n)
 role_in (outcome.Refused (refusal.Image n fault)) = Some (role.Image n)
 role_in _ = None
 
+-- the name that the plan of a run gives to the file of this role
+abbrev pub name_by : RunPlan → Option Role → Option (List ℕ)
+name_by plan (Some (role.Trace n)) = Some plan.trace
+name_by plan (Some (role.Image n)) = Some plan.image
+name_by plan _ = None
+
+-- the name that a run of the campaign gives to the file of this role, if there is a role and it is of a run
+abbrev pub name_for : List RunPlan → Option Role → Option (List ℕ)
+name_for plans (Some file) = name_in plans file
+name_for plans None = None
+
+-- where the role is of a run, it is of run n
+abbrev pub IsOf : ℕ → Option Role → Type 0
+IsOf n (Some (role.Trace run)) = run ≡ n
+IsOf n (Some (role.Image run)) = run ≡ n
+IsOf n _ = Unit {0}
+
+-- the outcome speaks of no file of a run
+abbrev pub IsNotOfRun : Outcome → Type 0
+IsNotOfRun (outcome.ReadFault (role.Trace n)) = ⊥
+IsNotOfRun (outcome.ReadFault (role.Image n)) = ⊥
+IsNotOfRun (outcome.Refused (refusal.Size (role.Trace n))) = ⊥
+IsNotOfRun (outcome.Refused (refusal.Size (role.Image n))) = ⊥
+IsNotOfRun (outcome.Refused (refusal.Trace n fault)) = ⊥
+IsNotOfRun (outcome.Refused (refusal.Image n fault)) = ⊥
+IsNotOfRun _ = Unit {0}
+
 -- the campaign that was read gives this name to the file of this role
 abbrev pub IsNameIn : List ℕ → ShownStore → Role → Option (List ℕ) → Type 0
 IsNameIn campaign store file name = (bytes : List ℕ) × AreRead store campaign bytes

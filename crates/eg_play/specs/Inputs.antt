@@ -13,6 +13,7 @@ use Rattle.eg_outcome.specs.declared.outcome.Outcome.TheVariants as outcome
 use Rattle.eg_outcome.specs.declared.outcome.Refusal.{Refusal}
 use Rattle.eg_outcome.specs.declared.outcome.Refusal.TheVariants as refusal
 use Rattle.eg_outcome.specs.declared.outcome.Role.TheVariants as role
+use Rattle.eg_play.specs.declared.end.End.{End}
 use Rattle.eg_play.specs.Files.{trace_file, image_file}
 
 -- ---- one run ----
@@ -50,6 +51,16 @@ refusal_in (Err fault) = Some (refusal.Campaign fault)
 -- run n is refused where its ticks with those of the runs before it, `sum`, are more than 1,000,000
 abbrev pub too_many : ℕ → ℕ → ℕ → Option Refusal
 too_many sum n count = refusal_in (sum_with sum n count)
+
+-- the same where a sum is kept, and no refusal where none is
+abbrev pub refusing : Option ℕ → ℕ → ℕ → Option Refusal
+refusing (Some sum) n count = too_many sum n count
+refusing None n count = None
+
+-- a result, with the outcome of its end
+abbrev pub outcomes : {X : Type 0} → Result X End → Result X Outcome
+outcomes (Ok x) = Ok x
+outcomes (Err end) = Err end.outcome
 
 -- What comes of the files of the runs from run n on, in their order, where the runs before have `sum` ticks.
 abbrev pub InputsCome : ShownStore → ShownStore → ℕ → ℕ → List RunPlan → Result (List RunInput) Outcome → Type 0

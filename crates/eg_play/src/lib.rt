@@ -8,10 +8,5 @@ mod campaign;
 mod end;
 mod input;
 mod inputs;
-mod lines;
-mod record;
-mod run;
 
 pub use end::End;
-pub use record::record;
-pub use run::run;

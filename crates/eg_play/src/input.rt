@@ -1,0 +1,210 @@
+// The files of one run.
+ghost use Rattle.std.specs.Prelude.{◌≡◌, ◌+◌, ◌≤◌, All, length, Err, IfErr, IfOk, IsOk, None};
+ghost use Rattle.std.specs.Option.{ForSome, MatchOption};
+ghost use Rattle.eg_num.specs.Drive.{IsDrive};
+ghost use Rattle.eg_agree.specs.Replies.{IsAnyFault};
+ghost use Rattle.eg_campaign.specs.Plays.{IsPlayable};
+ghost use Rattle.eg_outcome.specs.Reads.{BytesCome, FileComes};
+ghost use Rattle.eg_outcome.specs.Outcomes.{TellsNoMemory};
+ghost use Rattle.eg_outcome.specs.declared.outcome.Outcome.TheVariants.{Refused};
+ghost use Rattle.eg_outcome.specs.declared.outcome.Role.TheVariants as role;
+ghost use Rattle.eg_play.specs.Files.{trace_file, image_file};
+ghost use Rattle.eg_play.specs.Inputs.{InputComes, ImageComes, refusing, outcomes};
+ghost use Rattle.eg_play.specs.Ends.{IsOf, role_in, name_by};
+
+use crate::End;
+use eg_base::{Items, ReadRefusal, Store};
+use eg_campaign::{RunInput, RunPlan, add_ticks};
+use eg_input::{ImageFault, TraceFault, read_image, read_trace};
+use eg_num::Drive;
+use eg_outcome::{MOST_BYTES, Outcome, Refusal, Role, is_too_long};
+use std::alloc::Global;
+
+/// The input of a run, the first run being 1: its trace is read, and then its image. Where a sum is given, it
+/// is that of the ticks of the runs before, and a sum of more than 1,000,000 with this run's is refused before
+/// the image is read.
+pub(crate) fn input_for<S: Store>(
+    alloc: Global,
+    run: u32,
+    sum: Option<u32>,
+    plan: RunPlan,
+    store: &mut S,
+) -> Result<RunInput, End>
+    requires sum { ForSome sum (λ n. n ≤ 1000000) }
+    requires fault { IsAnyFault plan.fault }
+    ensures comes { InputComes (refusing sum run) (S.shows store.old) (S.shows store.new) run plan
+        (outcomes result) }
+    ensures playable { IfOk result IsPlayable }
+    ensures sum { IfOk result (λ input. ForSome sum (λ n. n + length input.drive ≤ 1000000)) }
+    ensures named { IfErr result (λ end. (end.file ≡ name_by plan (role_in end.outcome))
+        × IsOf run (role_in end.outcome)) }
+    ensures no_memory { IfErr result (λ end. TellsNoMemory end.outcome) }
+    ensures shown { IsOk result → S.shows store.new ≡ S.shows store.old }
+    ensures files { (S.shows store.new).files ≡ (S.shows store.old).files }
+{
+    let drive = match drive_for(alloc, run, plan.trace.as_str(), store) {
+        Ok(drive) => drive,
+        Err(outcome) => return Err(ended(outcome, plan)),
+    };
+    match add(sum, run, &drive) {
+        Ok(()) => with_image(alloc, run, plan, drive, store),
+        Err(outcome) => Err(ended(outcome, plan)),
+    }
+}
+
+/// The input of a run with this drive: its image is read.
+fn with_image<S: Store>(
+    alloc: Global,
+    run: u32,
+    plan: RunPlan,
+    drive: Items<Drive>,
+    store: &mut S,
+) -> Result<RunInput, End>
+    ensures comes { ImageComes (S.shows store.old) (S.shows store.new) run plan drive (outcomes result) }
+    ensures plan { IfOk result (λ input. input.plan ≡ plan) }
+    ensures drive { IfOk result (λ input. input.drive ≡ drive) }
+    ensures image { IfOk result (λ input. length input.image ≤ 1024) }
+    ensures named { IfErr result (λ end. (end.file ≡ name_by plan (role_in end.outcome))
+        × IsOf run (role_in end.outcome)) }
+    ensures no_memory { IfErr result (λ end. TellsNoMemory end.outcome) }
+    ensures shown { IsOk result → S.shows store.new ≡ S.shows store.old }
+    ensures files { (S.shows store.new).files ≡ (S.shows store.old).files }
+{
+    match image_for(alloc, run, plan.image.as_str(), store) {
+        Ok(image) => Ok(RunInput { plan, drive, image }),
+        Err(outcome) => Err(ended(outcome, plan)),
+    }
+}
+
+/// The end of a call that speaks of a file of this run.
+fn ended(outcome: Outcome, plan: RunPlan) -> End
+    ensures outcome { result.outcome ≡ outcome }
+    ensures file { result.file ≡ name_by plan (role_in outcome) }
+{
+    let (trace, image) = (plan.trace, plan.image);
+    let file = match role_of(&outcome) {
+        Some(Role::Trace { .. }) => Some(trace),
+        Some(Role::Image { .. }) => Some(image),
+        _ => None,
+    };
+    End { outcome, file }
+}
+
+/// The role of the file that an outcome speaks of, if it speaks of one.
+fn role_of(outcome: &Outcome) -> Option<Role>
+    ensures { result ≡ role_in outcome.now }
+{
+    match outcome {
+        Outcome::ReadFault { file } | Outcome::Refused(Refusal::Size { file }) => Some(*file),
+        Outcome::Refused(Refusal::Trace { run, .. }) => Some(Role::Trace { run: *run }),
+        Outcome::Refused(Refusal::Image { run, .. }) => Some(Role::Image { run: *run }),
+        _ => None,
+    }
+}
+
+/// Adds the ticks of this drive to a sum, where one is kept; a sum of more than 1,000,000 is refused.
+fn add(sum: Option<u32>, run: u32, drive: &Items<Drive>) -> Result<(), Outcome>
+    requires sum { ForSome sum (λ n. n ≤ 1000000) }
+    requires drive { length drive.now ≤ 20000 }
+    ensures refused { MatchOption (refusing sum run (length drive.now)) (IsOk result)
+        (λ r. result ≡ Err (Refused r)) }
+    ensures added { IsOk result → ForSome sum (λ n. n + length drive.now ≤ 1000000) }
+    ensures role { IfErr result (λ outcome. role_in outcome ≡ None) }
+    ensures no_memory { IfErr result TellsNoMemory }
+{
+    let Some(sum) = sum else {
+        return Ok(());
+    };
+    match add_ticks(sum, run, drive.as_slice().len() as u32) {
+        Ok(_) => Ok(()),
+        Err(fault) => Err(Outcome::Refused(Refusal::Campaign(fault))),
+    }
+}
+
+/// The drive in the trace of that name, or how the call ends without it.
+fn drive_for<S: Store>(
+    alloc: Global,
+    run: u32,
+    file: &str,
+    store: &mut S,
+) -> Result<Items<Drive>, Outcome>
+    ensures comes { FileComes (role.Trace run) (trace_file run) file.now
+        (S.shows store.old) (S.shows store.new) result }
+    ensures drive { IfOk result (λ drive. (1 ≤ length drive) × (length drive ≤ 20000) × All IsDrive drive) }
+    ensures role { IfErr result (λ outcome. IsOf run (role_in outcome)) }
+    ensures no_memory { IfErr result TellsNoMemory }
+    ensures shown { IsOk result → S.shows store.new ≡ S.shows store.old }
+    ensures files { (S.shows store.new).files ≡ (S.shows store.old).files }
+{
+    let mut bytes = Vec::new(alloc);
+    match store.read(file, MOST_BYTES + 1, &mut bytes) {
+        Ok(()) => drive_in(alloc, run, &bytes),
+        Err(ReadRefusal::Failed) => Err(Outcome::ReadFault {
+            file: Role::Trace { run },
+        }),
+        Err(ReadRefusal::Memory) => Err(Outcome::Memory),
+    }
+}
+
+/// The drive that a trace of these bytes says, or how the call ends without it.
+fn drive_in(alloc: Global, run: u32, bytes: &[u8]) -> Result<Items<Drive>, Outcome>
+    ensures comes { BytesCome (trace_file run) bytes.now result }
+    ensures drive { IfOk result (λ drive. (1 ≤ length drive) × (length drive ≤ 20000) × All IsDrive drive) }
+    ensures role { IfErr result (λ outcome. IsOf run (role_in outcome)) }
+    ensures no_memory { IfErr result TellsNoMemory }
+{
+    if is_too_long(bytes) {
+        return Err(Outcome::Refused(Refusal::Size {
+            file: Role::Trace { run },
+        }));
+    }
+    match read_trace(alloc, bytes) {
+        Ok(drive) => Ok(Items::new(drive)),
+        Err(TraceFault::Memory) => Err(Outcome::Memory),
+        Err(fault) => Err(Outcome::Refused(Refusal::Trace { run, fault })),
+    }
+}
+
+/// The words in the image of that name, or how the call ends without them.
+fn image_for<S: Store>(
+    alloc: Global,
+    run: u32,
+    file: &str,
+    store: &mut S,
+) -> Result<Items<u16>, Outcome>
+    ensures comes { FileComes (role.Image run) (image_file run) file.now
+        (S.shows store.old) (S.shows store.new) result }
+    ensures image { IfOk result (λ image. length image ≤ 1024) }
+    ensures role { IfErr result (λ outcome. IsOf run (role_in outcome)) }
+    ensures no_memory { IfErr result TellsNoMemory }
+    ensures shown { IsOk result → S.shows store.new ≡ S.shows store.old }
+    ensures files { (S.shows store.new).files ≡ (S.shows store.old).files }
+{
+    let mut bytes = Vec::new(alloc);
+    match store.read(file, MOST_BYTES + 1, &mut bytes) {
+        Ok(()) => image_in(alloc, run, &bytes),
+        Err(ReadRefusal::Failed) => Err(Outcome::ReadFault {
+            file: Role::Image { run },
+        }),
+        Err(ReadRefusal::Memory) => Err(Outcome::Memory),
+    }
+}
+
+/// The words that an image of these bytes says, or how the call ends without them.
+fn image_in(alloc: Global, run: u32, bytes: &[u8]) -> Result<Items<u16>, Outcome>
+    ensures comes { BytesCome (image_file run) bytes.now result }
+    ensures image { IfOk result (λ image. length image ≤ 1024) }
+    ensures role { IfErr result (λ outcome. IsOf run (role_in outcome)) }
+    ensures no_memory { IfErr result TellsNoMemory }
+{
+    if is_too_long(bytes) {
+        return Err(Outcome::Refused(Refusal::Size {
+            file: Role::Image { run },
+        }));
+    }
+    match read_image(alloc, bytes) {
+        Ok(words) => Ok(Items::new(words)),
+        Err(ImageFault::Memory) => Err(Outcome::Memory),
+        Err(fault) => Err(Outcome::Refused(Refusal::Image { run, fault })),
+    }
+}

@@ -1,0 +1,46 @@
+// The files of all runs of a campaign.
+ghost use Rattle.std.specs.Prelude.{◌≡◌, ◌≤◌, All, length, IfErr, IfOk, IsOk};
+ghost use Rattle.eg_agree.specs.Replies.{IsAnyFault};
+ghost use Rattle.eg_campaign.specs.Plays.{IsPlayable};
+ghost use Rattle.eg_outcome.specs.Outcomes.{TellsNoMemory};
+ghost use Rattle.eg_play.specs.Inputs.{InputsCome, outcomes};
+ghost use Rattle.eg_play.specs.Ends.{role_in, name_for};
+
+use crate::End;
+use crate::input::input_for;
+use eg_base::{Items, Store};
+use eg_campaign::{RunInput, RunPlan};
+use eg_outcome::Outcome;
+use std::alloc::Global;
+
+/// The inputs of all runs of a campaign, in its order.
+pub(crate) fn inputs_for<S: Store>(
+    alloc: Global,
+    plans: Items<RunPlan>,
+    store: &mut S,
+) -> Result<Items<RunInput>, End>
+    requires faults { All (λ plan. IsAnyFault plan.fault) plans }
+    requires most { length plans ≤ 1000 }
+    ensures comes { InputsCome (S.shows store.old) (S.shows store.new) 1 0 plans (outcomes result) }
+    ensures playable { IfOk result (λ inputs. All IsPlayable inputs) }
+    ensures named { IfErr result (λ end. end.file ≡ name_for plans (role_in end.outcome)) }
+    ensures no_memory { IfErr result (λ end. TellsNoMemory end.outcome) }
+    ensures shown { IsOk result → S.shows store.new ≡ S.shows store.old }
+    ensures files { (S.shows store.new).files ≡ (S.shows store.old).files }
+{
+    let mut inputs = Vec::new(alloc);
+    let mut sum = 0;
+    let mut run = 1;
+    for plan in plans.into_vec() {
+        let input = match input_for(alloc, run, Some(sum), plan, store) {
+            Ok(input) => input,
+            Err(end) => return Err(end),
+        };
+        sum += input.drive.as_slice().len() as u32;
+        run += 1;
+        if inputs.push(input).is_err() {
+            return Err(End::of(Outcome::Memory));
+        }
+    }
+    Ok(Items::new(inputs))
+}
