@@ -11,4 +11,6 @@ pub mod MonitorLemmas
 pub mod FlipLemmas
 pub mod StepLemmas
 pub mod ReactionLemmas
+pub mod RunLemmas
+pub mod RunLaws
 mod Worked

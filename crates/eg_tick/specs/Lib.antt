@@ -7,3 +7,4 @@ pub mod Working
 pub mod Judging
 pub mod Advancing
 pub mod Inside
+pub mod Run

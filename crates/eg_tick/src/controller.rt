@@ -228,6 +228,14 @@ impl<E: Engine + Drop, M: Guarded + Drop> Controller<E, M> {
         Ok(row)
     }
 
+    /// The engine. Whoever reads it learns that what is kept of it is what it shows.
+    pub fn engine(&self) -> &E
+        ensures engine { result.now ≡ self.now.engine }
+        ensures shown { self.now.kept.shown ≡ E.shows self.now.engine }
+    {
+        &self.engine
+    }
+
     /// Level 1's trap, with the tick at which it came, if any (docs/CONCEPT.md, "Level 1").
     pub fn trap(&self) -> Option<(Trap, u32)>
         ensures { result ≡ self.now.kept.trap }

@@ -14,11 +14,13 @@ mod monitoring;
 mod paths;
 mod plant;
 mod row;
+mod run;
 mod slices;
 mod ticks;
 mod total;
 mod working;
 
 pub use controller::Controller;
+pub use run::{RunRecord, run_one};
 pub use slices::{SlicePlan, Slices};
 pub use ticks::Ticks;

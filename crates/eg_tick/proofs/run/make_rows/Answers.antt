@@ -1,0 +1,68 @@
+use Rattle.std.proofs.Common.{◌≡◌, ◌∙◌, sym, ap, subst, ◌+◌, ◌<◌, [], ◌∷◌, ◌++◌, length, arith}
+use Rattle.std.specs.Prelude.{reverse}
+use Rattle.std.proofs.lemmas.Grind.{common_steps}
+use Rattle.eg_model.specs.Records.{rows_to}
+use Rattle.eg_tick.specs.Weights.{TickCount}
+use Rattle.eg_tick.specs.Run.{IsAt}
+use Rattle.eg_tick.proofs.RunLemmas.{counted, counted-none, counted-more, rows-suc, no_rows, drive-at, more-mod, on_err}
+use Rattle.eg_tick.proofs.run.make_rows.Goals as goal
+
+pub loop-tick-init : goal.loop-tick-init
+loop-tick-init c = record {
+  ticks = c.requires.none;
+  at = λ r plan drive at. at;
+  rows = λ r plan drive at. c.new-rows.ensures.items ∙ no_rows r;
+  counts = counted-none c.args.steps.now c.new-rows.result.items c.new-rows.ensures.items
+      (let e = c.count.ensures in let l = c.count.type_inv in subst (λ n. n < 18446744073709551616) e l)
+      (let e = c.sum.ensures in let l = c.sum.type_inv in subst (λ n. n < 18446744073709551616) e l);
+}
+
+pub make_row-requires-clause-tick : goal.make_row-requires-clause-tick
+make_row-requires-clause-tick c = c.loop-tick.invariant.ticks
+
+pub make_row-requires-clause-fewer : goal.make_row-requires-clause-fewer
+make_row-requires-clause-fewer c = omega (arith, c.loop-tick.invariant.ticks, c.loop-tick-test.true, c.requires.most)
+
+pub returns-in_err-row-clause-count : goal.returns-in_err-row-clause-count
+returns-in_err-row-clause-count c = on_err _ c.from_residual.result (
+  c.loop-tick.tick + 1,
+  omega (arith, c.loop-tick-test.true),
+  c.in_err-row.ensures.count ∙ more-mod _ c.args.steps.now.count c.loop-tick.tick c.loop-tick.steps.count 1 (ap (λ (k : TickCount). k.count) c.loop-tick.invariant.counts),
+)
+
+pub returns-in_err-push-clause-count : goal.returns-in_err-push-clause-count
+returns-in_err-push-clause-count c = on_err _ c.from_residual-in_err-push.result (
+  c.loop-tick.tick + 1,
+  omega (arith, c.loop-tick-test.true),
+  c.in_ok-row.ensures.count ∙ more-mod _ c.args.steps.now.count c.loop-tick.tick c.loop-tick.steps.count 1 (ap (λ (k : TickCount). k.count) c.loop-tick.invariant.counts),
+)
+
+pub loop-tick-preserved : goal.loop-tick-preserved
+loop-tick-preserved c =
+    let pushed : c.loop-tick.rows.items ++ c.in_ok-row.row ∷ [] ≡ c.push.new.self.items = grind (arith, common_steps) in
+    record {
+      ticks = c.in_ok-row.ensures.ticks;
+      at = λ r plan drive at. c.in_ok-row.ensures.at r plan
+          (drive-at r c.args.drive.now c.loop-tick.tick _ drive c.loop-tick-test.true c.index-drive-tick.is) (c.loop-tick.invariant.at r plan drive at);
+      rows = λ r plan drive at. sym pushed ∙ rows-suc r c.loop-tick.tick c.loop-tick.rows.items c.in_ok-row.row (c.loop-tick.invariant.rows r plan drive at)
+          (c.in_ok-row.ensures.row r plan
+          (drive-at r c.args.drive.now c.loop-tick.tick _ drive c.loop-tick-test.true c.index-drive-tick.is) (c.loop-tick.invariant.at r plan drive at));
+      counts = counted-more c.args.steps.now c.loop-tick.steps c.make_row.new.steps c.loop-tick.tick c.loop-tick.rows.items c.in_ok-row.row
+          c.loop-tick.invariant.counts c.in_ok-row.ensures.count c.in_ok-row.ensures.weight
+          ∙ ap (counted c.args.steps.now (c.loop-tick.tick + 1)) pushed;
+    }
+
+pub returns-clause-at : goal.returns-clause-at
+returns-clause-at c = λ r plan drive at.
+    let end : c.loop-tick.tick ≡ length c.args.drive.now = omega (arith, c.loop-tick-test.false, c.loop-tick.auto.tick-end) in
+    subst (λ n. IsAt r n c.loop-tick.controller) end (c.loop-tick.invariant.at r plan drive at)
+
+pub returns-clause-rows : goal.returns-clause-rows
+returns-clause-rows c = λ r plan drive at.
+    let end : c.loop-tick.tick ≡ length c.args.drive.now = omega (arith, c.loop-tick-test.false, c.loop-tick.auto.tick-end) in
+    c.loop-tick.invariant.rows r plan drive at ∙ ap (λ n. reverse (rows_to r n)) end
+
+pub returns-clause-counted : goal.returns-clause-counted
+returns-clause-counted c =
+    let end : c.loop-tick.tick ≡ length c.args.drive.now = omega (arith, c.loop-tick-test.false, c.loop-tick.auto.tick-end) in
+    c.loop-tick.invariant.counts ∙ ap (λ n. counted c.args.steps.now n c.loop-tick.rows.items) end

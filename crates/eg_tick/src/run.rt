@@ -1,0 +1,214 @@
+// A run of a gasoline engine on the bench.
+ghost use Rattle.std.specs.Prelude.{◌≡◌, ℕ, ◌+◌, ◌%◌, ◌^◌, ◌≤◌, ◌<◌, None, List, map, reverse, length, IfOk, OnOk, OnErr};
+ghost use Rattle.std.specs.Option.{option_copied};
+ghost use Rattle.std.specs.List.{sum};
+ghost use Rattle.eg_num.specs.Drive.{DriveRow};
+ghost use Rattle.eg_answer.specs.Times.{HasLapseBound, reaction_of};
+ghost use Rattle.eg_fault.specs.Faults.{IsListed};
+ghost use Rattle.eg_model.specs.Bench.{Run, drive_at};
+ghost use Rattle.eg_model.specs.Rows.{record_rows, record_trap};
+ghost use Rattle.eg_model.specs.Records.{row_at, rows_to, ReactWithin, CutOneTickAfter};
+ghost use Rattle.eg_model.specs.Lapses.{IsLapse};
+ghost use Rattle.eg_agree.specs.Replies.{IsAnyFault};
+ghost use Rattle.eg_tick.specs.Weights.{weight_of};
+ghost use Rattle.eg_tick.specs.Run.{run_by, IsAt, IsRecordOf, ReactAtOnce, CutLapses, LapsesAreShort};
+
+use crate::{Controller, SlicePlan, Ticks};
+use eg_base::{Items, NoMemory};
+use eg_fault::Fault;
+use eg_guard::FlatMemory;
+use eg_num::Drive;
+use eg_plant::GasolineEngine;
+use eg_record::Row;
+use eg_values::Calibration;
+use eg_word::Trap;
+use std::alloc::Global;
+
+/// The record of a run (docs/CONCEPT.md, "The record of a run").
+#[derive(Drop)]
+pub struct RunRecord {
+    /// Its rows, in the order of time.
+    pub rows: Items<Row>,
+    /// Level 1's trap, with the tick at which it came, if any.
+    pub trap: Option<(Trap, u32)>,
+}
+
+/// Runs a gasoline engine of the calibration's plant from rest on the bench, one tick for each drive row
+/// (docs/CONCEPT.md, "A run, tick by tick" and "The record of a run"). The ticks are counted in `steps`.
+pub fn run_one(
+    alloc: Global,
+    calibration: &Calibration,
+    image: &[u16],
+    plan: &SlicePlan,
+    drive: &[Drive],
+    fault: Option<&Fault>,
+    steps: &mut Ticks,
+) -> Result<RunRecord, NoMemory>
+    requires some { 1 ≤ length drive.now }
+    requires most { length drive.now ≤ 20000 }
+    requires image { length image.now ≤ 1024 }
+    requires fault { IsAnyFault (option_copied fault) }
+    // The record is that of the run in the model.
+    ensures rows { IfOk result (λ made. made.rows ≡ reverse (record_rows
+        (run_by calibration.now image.now (option_copied fault.entry) plan.now drive.now))) }
+    ensures trap { IfOk result (λ made. made.trap ≡ record_trap
+        (run_by calibration.now image.now (option_copied fault.entry) plan.now drive.now)) }
+    // The reaction theorem: after a confirmed torque excess the stages are off in time, and under most faults
+    // at once.
+    ensures reacts { IsListed (option_copied fault.entry) → IfOk result (λ made.
+        ReactWithin (reaction_of calibration.now.times) calibration.now.rules.torque
+        calibration.now.rules.threshold (reverse made.rows)) }
+    ensures at_once { IsListed (option_copied fault.entry) → IfOk result (λ made.
+        ReactAtOnce (option_copied fault.entry) calibration.now.rules.torque
+        calibration.now.rules.threshold (reverse made.rows)) }
+    // Without a fault they are cut off exactly one tick after the full-efficiency excess is confirmed.
+    ensures cuts { option_copied fault.entry ≡ None → IfOk result (λ made.
+        CutOneTickAfter calibration.now.rules.torque calibration.now.rules.kt
+        calibration.now.rules.threshold (reverse made.rows)) }
+    // Lapses are cut, and never let an excess stand for long.
+    ensures lapses { HasLapseBound calibration.now.rules.torque calibration.now.times →
+        IsLapse (option_copied fault.entry) → IfOk result (λ made.
+        CutLapses calibration.now (reverse made.rows)) }
+    ensures short { HasLapseBound calibration.now.rules.torque calibration.now.times →
+        IsLapse (option_copied fault.entry) → IfOk result (λ made.
+        LapsesAreShort calibration.now (reverse made.rows)) }
+    // Each tick is counted, and each row is weighed. Where memory ran out, no more ticks are counted than the
+    // drive has rows.
+    ensures counted { IfOk result (λ made. steps.new ≡ record {
+      count = (steps.old.count + length drive.now) % 2 ^ 64;
+      weights = (steps.old.weights + sum (map weight_of made.rows)) % 2 ^ 64;
+    }) }
+    ensures count { OnErr result
+        ((n : ℕ) × (n ≤ length drive.now) × (steps.new.count ≡ (steps.old.count + n) % 2 ^ 64)) }
+{
+    // Whoever reads it learns that the calibration is an accepted one.
+    let _rules = calibration.rules();
+    record_run(alloc, calibration, image, plan, drive, fault, steps)
+}
+
+/// The run itself.
+fn record_run(
+    alloc: Global,
+    calibration: &Calibration,
+    image: &[u16],
+    plan: &SlicePlan,
+    drive: &[Drive],
+    fault: Option<&Fault>,
+    steps: &mut Ticks,
+) -> Result<RunRecord, NoMemory>
+    requires most { length drive.now ≤ 20000 }
+    requires image { length image.now ≤ 1024 }
+    requires fault { IsAnyFault (option_copied fault) }
+    ensures made { IfOk result (λ made. IsRecordOf
+        (run_by calibration.now image.now (option_copied fault.entry) plan.now drive.now)
+        made.rows made.trap) }
+    ensures counted { IfOk result (λ made. steps.new ≡ record {
+      count = (steps.old.count + length drive.now) % 2 ^ 64;
+      weights = (steps.old.weights + sum (map weight_of made.rows)) % 2 ^ 64;
+    }) }
+    ensures count { OnErr result
+        ((n : ℕ) × (n ≤ length drive.now) × (steps.new.count ≡ (steps.old.count + n) % 2 ^ 64)) }
+{
+    // Whoever reads it learns that the count is a u64.
+    let _count = steps.count();
+    let mut controller = begin(calibration, image, fault)?;
+    let rows = make_rows(alloc, &mut controller, plan, drive, steps)?;
+    Ok(record_of(rows, &controller))
+}
+
+/// The record of these rows and of the trap that a controller tells.
+fn record_of(rows: Vec<Row>, controller: &Controller<GasolineEngine, FlatMemory>) -> RunRecord
+    ensures rows { result.rows ≡ rows.items }
+    ensures trap { result.trap ≡ controller.now.kept.trap }
+{
+    RunRecord {
+        rows: Items::new(rows),
+        trap: controller.trap(),
+    }
+}
+
+/// A controller of an engine at rest, that has made no tick.
+fn begin(
+    calibration: &Calibration,
+    image: &[u16],
+    fault: Option<&Fault>,
+) -> Result<Controller<GasolineEngine, FlatMemory>, NoMemory>
+    requires image { length image.now ≤ 1024 }
+    requires fault { IsAnyFault (option_copied fault) }
+    ensures at { IfOk result (λ controller. (plan : List (List ℕ)) (drive : List DriveRow) →
+        IsAt (run_by calibration.now image.now (option_copied fault.entry) plan drive) 0 controller) }
+    ensures ticks { IfOk result (λ controller. controller.kept.ticks ≡ 0) }
+{
+    let engine = GasolineEngine::new(calibration.plant().copy());
+    let fault = copied(fault);
+    Controller::new(calibration.copy(), image, fault, FlatMemory::new(), engine)
+}
+
+/// An equal fault, if any.
+fn copied(fault: Option<&Fault>) -> Option<Fault>
+    ensures { result ≡ option_copied fault.entry }
+{
+    match fault {
+        Some(fault) => Some(fault.copy()),
+        None => None,
+    }
+}
+
+/// The rows of the ticks of a drive, by a controller that has made no tick.
+fn make_rows(
+    alloc: Global,
+    controller: &mut Controller<GasolineEngine, FlatMemory>,
+    plan: &SlicePlan,
+    drive: &[Drive],
+    steps: &mut Ticks,
+) -> Result<Vec<Row>, NoMemory>
+    requires none { controller.old.kept.ticks ≡ 0 }
+    requires most { length drive.now ≤ 20000 }
+    ensures at { (r : Run) → r.plan ≡ plan.now → r.drive ≡ drive.now → IsAt r 0 controller.old →
+        OnOk result (IsAt r (length drive.now) controller.new) }
+    ensures rows { (r : Run) → r.plan ≡ plan.now → r.drive ≡ drive.now → IsAt r 0 controller.old →
+        IfOk result (λ rows. rows.items ≡ reverse (rows_to r (length drive.now))) }
+    ensures counted { IfOk result (λ rows. steps.new ≡ record {
+      count = (steps.old.count + length drive.now) % 2 ^ 64;
+      weights = (steps.old.weights + sum (map weight_of rows.items)) % 2 ^ 64;
+    }) }
+    ensures count { OnErr result
+        ((n : ℕ) × (n ≤ length drive.now) × (steps.new.count ≡ (steps.old.count + n) % 2 ^ 64)) }
+{
+    // Whoever reads them learns that both numbers are a u64.
+    let _numbers = (steps.count(), steps.sum());
+    let mut rows = Vec::new(alloc);
+    for tick in 0..drive.len() {
+        let row = make_row(controller, plan, &drive[tick], tick as u32, steps)?;
+        rows.push(row)?;
+    }
+    Ok(rows)
+}
+
+/// The row of the next tick of a run, by a controller that has made all before it.
+fn make_row(
+    controller: &mut Controller<GasolineEngine, FlatMemory>,
+    plan: &SlicePlan,
+    drive: &Drive,
+    tick: u32,
+    steps: &mut Ticks,
+) -> Result<Row, NoMemory>
+    requires tick { controller.old.kept.ticks ≡ tick }
+    requires fewer { controller.old.kept.ticks < 20000 }
+    ensures at { (r : Run) → r.plan ≡ plan.now → drive_at r tick ≡ drive.now → IsAt r tick controller.old →
+        OnOk result (IsAt r (tick + 1) controller.new) }
+    ensures row { (r : Run) → r.plan ≡ plan.now → drive_at r tick ≡ drive.now → IsAt r tick controller.old →
+        IfOk result (λ row. row ≡ row_at r tick) }
+    ensures ticks { OnOk result (controller.new.kept.ticks ≡ tick + 1) }
+    ensures count { steps.new.count ≡ (steps.old.count + 1) % 2 ^ 64 }
+    ensures weight { IfOk result (λ row.
+        steps.new.weights ≡ (steps.old.weights + weight_of row) % 2 ^ 64) }
+{
+    let row = controller.tick(drive, plan.row(tick), steps)?;
+    // Whoever reads the engine learns that it shows what the controller keeps of it.
+    let _engine = controller.engine();
+    Ok(row)
+}
+
+#[cfg(test)]
+mod tests;
