@@ -1,5 +1,5 @@
 -- Campaign files worked out by the definitions: each class of faults, and refusals in their order.
-use Rattle.std.proofs.Common.{◌≡◌, ℕ, pos, negsuc, true, false, List, [], ◌∷◌, ◌++◌, map, codes, Option, Some, None, Result, Ok, Err, refl}
+use Rattle.std.proofs.Common.{◌≡◌, ℕ, negsuc, true, false, List, [], ◌∷◌, ◌++◌, map, codes, Some, Result, Ok, Err, refl}
 use Rattle.std.specs.Str.{chars, is_utf8}
 use Rattle.toml.proofs.OnLiterals.{toml_on_literals}
 use Rattle.eg_toml.specs.Documents.{document_of}
