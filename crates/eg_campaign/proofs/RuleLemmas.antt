@@ -104,14 +104,13 @@ not-false true e = absurd (cc)
 not-false false e = refl
 
 passed : (n : ℕ) (earlier : List RunPlan) (ms : Members) → run_refusal n earlier ms ≡ None → Passed n earlier ms
-unfolding run_refusal run_of
+unfolding run_refusal
 passed n earlier ms e =
     let h = each-none (keys_refusal n run_keys ms ∷ faults_refusal n ms ∷ table_refusal n (fault_table ms) ∷ unless_true (Key n key.Unknown) (is_all_known ms)
     ∷ unless_true (Name n) (not (has_name (bytes_of name ms) earlier)) ∷ []) e in
     record { keys = keys-none n ms run_keys h.0; table = h.1.1.0; new = not-false _ (true-of (Name n) _ h.1.1.1.1.0) }
 
 run-keeps : (n : ℕ) (earlier : List RunPlan) (ms : Members) → Passed n earlier ms → IsRun (run_of ms)
-unfolding run_of
 run-keeps n earlier ms p = record {
   name = run_name-held n key.Name ms p.keys.0;
   trace = file_name-held n key.Trace ms p.keys.1.0;

@@ -69,7 +69,7 @@ is_all_known ms = all_names (is_among run_names) ms && table_is_known (fault_tab
 -- ---- a run ----
 
 -- what the table of a run says
-unfoldable pub run_of : Members → RunPlan
+abbrev pub run_of : Members → RunPlan
 run_of ms = record {
   name = bytes_of name ms;
   trace = bytes_of trace ms;
