@@ -14,6 +14,7 @@ abbrev ◌means◌ : List ℕ → ClassName → List ℕ × ClassName
 text means c = (text, c)
 
 infix 4 ◌means◌
+-- the names of the classes
 abbrev pub class_names : List (List ℕ × ClassName)
 class_names =
     (codes "script" means Script) ∷ (codes "offset" means Offset) ∷ (codes "bus" means Bus)
