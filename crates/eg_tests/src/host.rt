@@ -1,6 +1,6 @@
 // Slices over both memories, and every address that level 1 may try to store at.
-use crate::Host;
 use eg_guard::{FlatMemory, Guarded, StingyMemory, Who, access};
+use eg_host::Host;
 use eg_word::{State, Trap};
 use std::process::Abort;
 

@@ -1,8 +1,8 @@
 // Level 2 over both memories: ticks that were worked by hand, and want of memory.
-use crate::{Level2, Step, Watches};
 use eg_answer::{Questions, Rules, TestRow};
 use eg_base::NoMemory;
 use eg_guard::{FlatMemory, Guarded, StingyMemory, Who};
+use eg_level2::{Level2, Step, Watches};
 use eg_num::{Axis, Table2, Weights};
 use eg_sensor::Readings;
 use eg_torque::Permit;

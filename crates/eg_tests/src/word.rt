@@ -1,6 +1,6 @@
 // Every instruction with an example, over a guarded memory.
-use crate::{Instruction, Register, Registers, State, Trap, decode, step};
 use eg_guard::{FlatMemory, Guarded, StingyMemory, Who};
+use eg_word::{Instruction, Register, Registers, State, Trap, decode, step};
 use std::process::Abort;
 
 /// The machine after one step with this word at address 0, from these registers. At 1024 stands 0x5a5a.

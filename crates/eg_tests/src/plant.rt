@@ -2,8 +2,8 @@
 ghost use Rattle.std.specs.Prelude.{◌≡◌};
 ghost use Rattle.eg_plant.specs.Engine.{KeepsLaws};
 
-use crate::{Engine, GasolineEngine, PlantData};
 use eg_num::{Axis, Table1};
+use eg_plant::{Engine, GasolineEngine, PlantData};
 use std::test::Fail;
 
 /// Two steps of any engine, the second with the stages off.

@@ -1,6 +1,9 @@
 // The ranges of each class, and what each does at a few ticks.
-use crate::*;
 use eg_answer::Times;
+use eg_fault::{
+    Class, Fault, Opens, Script, conducts, disturbance, faulty_readings, flip, held, level1_runs,
+    module_runs, modules_run_together, sends, wild,
+};
 use eg_num::Weights;
 use eg_sensor::{Readings, sound};
 use std::test::Fail;

@@ -1,8 +1,11 @@
 // Worked lines and a worked summary, with ample memory.
 ghost use Rattle.std.specs.Prelude.{◌≡◌};
 
-use super::*;
 use eg_num::Weights;
+use eg_record::{
+    AnswerMark, Drive, Row, Verdict, Watches, detections_are_first, off_ticks_are_first,
+    record_header, report_end_text, row_text, summarize, summary_text,
+};
 use eg_word::Trap;
 use std::test::Fail;
 

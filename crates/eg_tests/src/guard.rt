@@ -1,5 +1,5 @@
 // The memory map against its table, and both memories through the trait.
-use crate::{
+use eg_guard::{
     FlatMemory, Guarded, Refused, Region, StingyMemory, StoreRefusal, Who, access, region_of,
 };
 use std::process::Abort;
