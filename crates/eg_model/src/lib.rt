@@ -12,8 +12,8 @@ mod sharp_cut;
 
 pub use examples::{alternating_slices, full_run, raise_is_read};
 pub use faulty_runs::{
-    disturbed_raise, flip_seen_by_level_1, halted_and_held_runs, lapsed_run, latched_run, limited_run,
-    offset_track, path_2_runs, wild_run,
+    disturbed_raise, flip_seen_by_level_1, halted_and_held_runs, lapsed_run, latched_run,
+    limited_run, offset_track, path_2_runs, wild_run,
 };
 pub use lapses::lapses_are_cut;
 pub use reaction::{cuts_from_onset, reacts_in_time};
