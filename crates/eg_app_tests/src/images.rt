@@ -1,5 +1,5 @@
 // Images worked by hand, and that reading succeeds where there is memory, which no clause says.
-use crate::{ImageFault, read_image};
+use eg_input::{ImageFault, read_image};
 use std::alloc::{AllocError, Global};
 use std::test::Fail;
 

@@ -1,5 +1,5 @@
 // What the reader says of broken files: values from the table of docs/FORMATS.md, each beside its limit.
-use crate::{CalFault, CalKey, CalKey as K, read_calibration, reference, reference_is_its_file};
+use eg_cal::{CalFault, CalKey, CalKey as K, read_calibration, reference, reference_is_its_file};
 use std::alloc::Global;
 use std::process::Abort;
 use std::test::Fail;

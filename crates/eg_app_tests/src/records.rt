@@ -1,6 +1,6 @@
 // How the bytes of a file are taken as records and numbers, by examples worked by hand, and that reading
 // succeeds where there is memory, which no clause says.
-use crate::{TraceFault, read_check, read_trace};
+use eg_input::{TraceFault, read_check, read_trace};
 use std::alloc::{AllocError, Global};
 use std::test::Fail;
 

@@ -1,6 +1,6 @@
 // What no clause says: the worked examples, that a call with ample memory never answers Memory, and that a
 // failing note changes no outcome.
-use crate::{Outcome, Refusal, Role, egasim};
+use eg_app::{Outcome, Refusal, Role, egasim};
 use eg_base::{MemorySink, MemoryStore, SureSink, SureStore};
 use eg_cal::CalFault;
 use eg_input::TraceFault;

@@ -1,7 +1,7 @@
 // What no clause says of a call with a calibration: the worked examples, and that it never answers Memory
 // where memory is there.
-use crate::tests::{check_file, repeated, words};
-use crate::{Outcome, Refusal, Role, egasim};
+use crate::calls::{check_file, repeated, words};
+use eg_app::{Outcome, Refusal, Role, egasim};
 use eg_base::{MemorySink, MemoryStore, SureSink, SureStore};
 use eg_cal::{CalFault, CalKey};
 use std::alloc::Global;
