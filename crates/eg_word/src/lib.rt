@@ -15,6 +15,3 @@ pub use instruction::{Instruction, decode};
 pub use machine::step;
 pub use register::Register;
 pub use registers::{Registers, State, Trap};
-
-#[cfg(test)]
-mod tests;
