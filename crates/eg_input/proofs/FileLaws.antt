@@ -5,6 +5,7 @@ use Rattle.std.specs.List.{AllZip}
 use Rattle.std.specs.declared.vec.Vec.{Vec}
 use Rattle.std.specs.declared.alloc.Global.{Global}
 use Rattle.std.proofs.lemmas.List.Elements.{All-nil, All-cons}
+use Rattle.std.proofs.lemmas.Slice.Zip.{AllZip-long}
 use Rattle.std.proofs.lemmas.Bool.{cases_lt}
 use Rattle.std.proofs.lemmas.List.{take_all, length-take, take-append-drop}
 use Rattle.eg_input.specs.Records.{Record, RowRule, is_same_record}
@@ -217,3 +218,14 @@ read-All header row_of P each file (Ok rows) is =
     let h = (rows-law header row_of file rows.items).0 is in
     AllZip-All row_of P each h.below rows.items h.written
 read-All header row_of P each file (Err e) is = tt
+
+-- and there are 1 to 20,000 of them
+pub read-some : {X : Type 0} (header : Record) (row_of : RowRule X) (file : List Record) (result : Result (Vec X Global) TraceFault)
+    → IsRead (rows_of header row_of file) result → IfOk result (λ rows. (1 ≤ length rows.items) × (length rows.items ≤ 20000))
+read-some header row_of file (Ok rows) is =
+    let h = (rows-law header row_of file rows.items).0 is in
+    let same = AllZip-long (λ r row. row_of r ≡ Some row) h.below rows.items h.written in
+    let some = h.some in
+    let most = h.most in
+    (omega arith, omega arith)
+read-some header row_of file (Err e) is = tt

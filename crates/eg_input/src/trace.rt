@@ -1,5 +1,5 @@
 // The files that the simulator reads: check files and drive traces.
-ghost use Rattle.std.specs.Prelude.{◌≡◌, ◌≢◌, ◌↔◌, ℕ, ◌∷◌, [], List, All, IfOk, Ok, Err, Some, slice_get};
+ghost use Rattle.std.specs.Prelude.{◌≡◌, ◌≢◌, ◌↔◌, ℕ, ◌≤◌, ◌∷◌, [], List, All, IfOk, Ok, Err, Some, slice_get, length};
 ghost use Rattle.eg_num.specs.Drive.{DriveRow, IsDrive};
 ghost use Rattle.eg_input.specs.Records.{Record, records_of};
 ghost use Rattle.eg_input.specs.Rows.{IsRead, IsFileOf, HasNoRowAt, IsTooLong};
@@ -27,6 +27,7 @@ pub fn read_check(alloc: Global, bytes: &[u8]) -> Result<Vec<(Drive, u16)>, Trac
 pub fn read_trace(alloc: Global, bytes: &[u8]) -> Result<Vec<Drive>, TraceFault>
     ensures rows { IsRead (drive_rows (records_of bytes.now)) result }
     ensures limits { IfOk result (λ rows. All IsDrive rows.items) }
+    ensures some { IfOk result (λ rows. (1 ≤ length rows.items) × (length rows.items ≤ 20000)) }
 {
     read_rows(alloc, bytes)
 }
