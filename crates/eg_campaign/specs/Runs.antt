@@ -87,8 +87,8 @@ run_of ms = record {
 abbrev pub has_name : List ℕ → List RunPlan → Bool
 has_name text runs = list_any (λ run. bytes_eq run.name text) runs
 
--- the first refusal of run n, where these are the runs before it: of its first keys, of its array of faults, of
--- its fault's keys, of other names, and of its own name where an earlier run has it
+-- the first refusal of run n, where these are the runs before it: of its first keys, of its array of faults,
+-- of its fault's keys, of other names, and of its own name where an earlier run has it
 unfoldable pub run_refusal : ℕ → List RunPlan → Members → Option CampaignFault
 run_refusal n earlier ms = first_of
     (keys_refusal n run_keys ms
