@@ -4,8 +4,8 @@ ghost use Rattle.eg_agree.specs.Agreement.{WordsStand, EachAnswerHolds, EachAnsw
 /// Does nothing when it runs. Its contract is what a run of the eight modules comes to (docs/CONCEPT.md,
 /// "Level 2"), for an accepted calibration. After every history, under any fault, their words stand for it.
 /// Where the history is shorter than 65,535 ticks, every answer that they send is the expected number exactly
-/// where the model calls it good, under any valid fault, lapses too. Between answers the token and the flow rest. The word for the last tick is the last tick at which
-/// module 0 ran, or 65535.
+/// where the model calls it good, under any valid fault, lapses too. Between answers the token and the flow
+/// rest. The word for the last tick is the last tick at which module 0 ran, or 65535.
 pub fn level_2_agrees()
     ensures words { WordsStand }
     ensures answers { EachAnswerHolds }

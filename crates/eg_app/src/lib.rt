@@ -14,8 +14,3 @@ mod outcome;
 
 pub use call::egasim;
 pub use outcome::{Outcome, Refusal, Role};
-
-#[cfg(test)]
-mod calibration_tests;
-#[cfg(test)]
-mod tests;

@@ -7,8 +7,6 @@ mod key;
 mod laws;
 mod question;
 mod reader;
-#[cfg(test)]
-mod tests;
 
 pub use eg_values::{Calibration, reference};
 pub use key::{CalFault, CalKey};

@@ -1,6 +1,6 @@
 -- What stands under the keys of a file without a refusal.
-use Rattle.std.proofs.Common.{◌≡◌, ◌⊎◌, inl, inr, ℕ, ℤ, pos, negsuc, suc, ◌+◌, ◌≤◌, ◌==◌, ◌&&◌, ◌||◌, nat_le, not, Bool, true, false, length, List, [], ◌∷◌, ◌++◌, All, Option, Some, None, option_map, unwrap_or, if◌then◌else◌, subst, refl, sym, ap, ◌∙◌, arith}
-use Rattle.std.specs.List.{sum, list_all}
+use Rattle.std.proofs.Common.{◌≡◌, ◌⊎◌, inl, inr, ℕ, ℤ, pos, negsuc, suc, ◌≤◌, ◌==◌, ◌&&◌, ◌||◌, nat_le, not, Bool, true, false, length, List, [], ◌∷◌, All, Option, Some, None, option_map, unwrap_or, if◌then◌else◌, subst, refl, ap, arith}
+use Rattle.std.specs.List.{list_all}
 use Rattle.std.specs.List.Sorted.{IsStrictlyIncreasing}
 use Rattle.std.proofs.lemmas.Bool.{and_parts}
 use Rattle.std.proofs.lemmas.Bool.Decides.{nat_tests}
@@ -104,7 +104,8 @@ file_name-held n k ms e = text-held IsFileName is_file_name (Key n k) (text_of k
 
 -- ---- arrays
 
-append-one : {X : Type 0} (o : Option X) (rest : Option (List X)) (xs : List X) (n : ℕ) → ((ys : List X) → rest ≡ Some ys → length ys ≡ n) → append_read (option_map (λ x. x ∷ []) o) rest ≡ Some xs → length xs ≡ suc n
+append-one : {X : Type 0} (o : Option X) (rest : Option (List X)) (xs : List X) (n : ℕ) → ((ys : List X) → rest ≡ Some ys → length ys ≡ n)
+    → append_read (option_map (λ x. x ∷ []) o) rest ≡ Some xs → length xs ≡ suc n
 append-one None rest xs n each e = absurd (cc)
 append-one (Some x) None xs n each e = absurd (cc)
 append-one (Some x) (Some ys) xs n each e = let same : x ∷ ys ≡ xs = cc in rw (← same) (ap suc (each ys refl))
@@ -113,7 +114,8 @@ all_read-count : {X : Type 0} (read : Data → Option X) (ds : Items) (xs : List
 all_read-count read no_items xs e = let same : [] ≡ xs = cc in rw (← same) refl
 all_read-count read (item d ds) xs e = append-one (read d) (all_read (one read) ds) xs (count ds) (all_read-count read ds) e
 
-pub array-count : {X : Type 0} (least most : ℕ) (read : Data → Option X) (d : Data) (xs : List X) → array_in least most (one read) d ≡ Some xs → (least ≤ length xs) × (length xs ≤ most)
+pub array-count : {X : Type 0} (least most : ℕ) (read : Data → Option X) (d : Data) (xs : List X) → array_in least most (one read) d ≡ Some xs
+    → (least ≤ length xs) × (length xs ≤ most)
 array-count least most read d xs e =
     let found = bind-some (items_in least most d) (all_read (one read)) xs e in
     let array = bind-some (as_array d) (λ ds. if nat_le least (count ds) && nat_le (count ds) most then Some ds else None) found.0 found.1.0 in
@@ -150,7 +152,8 @@ usual-held : IsSlicePlan usual_slices
 usual-held = record { least = omega arith; most = omega arith; each = All-cons IsSliceRow _ [] (refl, omega arith) (All-nil IsSliceRow) }
 
 -- what is read, or what holds where there is nothing
-read_or-some : {X : Type 0} (P : X → Type 0) (usual : X) (read : Data → Option X) (o : Option Data) (x : X) → P usual → ((d : Data) (y : X) → read d ≡ Some y → P y) → read_or usual read o ≡ Some x → P x
+read_or-some : {X : Type 0} (P : X → Type 0) (usual : X) (read : Data → Option X) (o : Option Data) (x : X) → P usual
+    → ((d : Data) (y : X) → read d ≡ Some y → P y) → read_or usual read o ≡ Some x → P x
 read_or-some P usual read None x p each e = let same : usual ≡ x = cc in subst P same p
 read_or-some P usual read (Some d) x p each e = each d x e
 

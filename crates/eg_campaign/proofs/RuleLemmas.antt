@@ -1,6 +1,6 @@
 -- An accepted campaign keeps the rules.
-use Rattle.std.proofs.Common.{◌≡◌, ℕ, suc, ◌+◌, ◌≤◌, ◌<◌, ◌&&◌, nat_le, not, Bool, true, false, length, List, [], ◌∷◌, ◌++◌, All, bytes_eq, Option, Some, None, option_map, Ok, Err, subst, refl, sym, ap, ◌∙◌, arith}
-use Rattle.std.specs.List.{list_any, AllPairs, AllByRecursion}
+use Rattle.std.proofs.Common.{◌≡◌, ℕ, suc, ◌+◌, ◌≤◌, ◌<◌, nat_le, not, Bool, true, false, length, List, [], ◌∷◌, ◌++◌, All, bytes_eq, Option, Some, None, option_map, Result, Ok, Err, IfOk, subst, refl, sym, ap, ◌∙◌, arith}
+use Rattle.std.specs.List.{AllPairs, AllByRecursion}
 use Rattle.std.proofs.lemmas.Bool.{and_parts, or_parts}
 use Rattle.std.proofs.lemmas.Bool.Decides.{nat_tests}
 use Rattle.std.proofs.lemmas.List.Elements.{All-nil, All-cons, All-weaker}
@@ -14,18 +14,18 @@ use Rattle.eg_agree.specs.Replies.{IsAnyFault}
 use Rattle.eg_campaign.specs.declared.class_name.ClassName.{ClassName}
 use Rattle.eg_campaign.specs.declared.class_name.ClassName.TheVariants.{Script, Offset, Bus, Plate, Skip, Disturb, Flip, Halt, Timing, Wild, Path1Closed, Path2Closed, PathOpen, Lapse}
 use Rattle.eg_campaign.specs.declared.key.CampaignFault.{CampaignFault}
-use Rattle.eg_campaign.specs.declared.key.CampaignFault.TheVariants.{Key, Name, Many, Ticks}
+use Rattle.eg_campaign.specs.declared.key.CampaignFault.TheVariants.{Key, Name, Many}
 use Rattle.eg_campaign.specs.declared.key.RunKey.TheVariants as key
 use Rattle.eg_campaign.specs.declared.run.RunPlan.{RunPlan}
 use Rattle.eg_campaign.specs.Keys.{KeyRule, run_keys, name, onset}
-use Rattle.eg_campaign.specs.Refusals.{or_else, first_of, unless_some, unless_true, unless}
+use Rattle.eg_campaign.specs.Refusals.{or_else, first_of, unless_some, unless_true, unless, IsRead, seen}
 use Rattle.eg_campaign.specs.Contents.{bytes_of}
 use Rattle.eg_campaign.specs.Checks.{key_refusal, keys_refusal}
 use Rattle.eg_campaign.specs.Classes.{class_in, own_keys, class_of}
 use Rattle.eg_campaign.specs.Faults.{class_at, fault_refusal, fault_of}
 use Rattle.eg_campaign.specs.Runs.{all_items, is_table, faults_refusal, fault_table, table_refusal, is_all_known, run_of, has_name, run_refusal}
 use Rattle.eg_campaign.specs.Campaign.{members_in, runs_of, runs_refusal, run_items, are_runs, is_top_known, refusal_of, campaign_of}
-use Rattle.eg_campaign.specs.Rules.{IsRun, AreRuns, AcceptedLaw, NoTicksLaw}
+use Rattle.eg_campaign.specs.Rules.{IsRun, AreRuns, AcceptedLaw}
 use Rattle.eg_campaign.proofs.HeldLemmas.{run_name-held, file_name-held, slices-held, number-held, optional-held, shift-held, words-held, ticks-held, truths-held}
 
 -- no refusal of two is no refusal of either
@@ -104,14 +104,13 @@ not-false true e = absurd (cc)
 not-false false e = refl
 
 passed : (n : ℕ) (earlier : List RunPlan) (ms : Members) → run_refusal n earlier ms ≡ None → Passed n earlier ms
-unfolding run_refusal run_of
+unfolding run_refusal
 passed n earlier ms e =
     let h = each-none (keys_refusal n run_keys ms ∷ faults_refusal n ms ∷ table_refusal n (fault_table ms) ∷ unless_true (Key n key.Unknown) (is_all_known ms)
     ∷ unless_true (Name n) (not (has_name (bytes_of name ms) earlier)) ∷ []) e in
     record { keys = keys-none n ms run_keys h.0; table = h.1.1.0; new = not-false _ (true-of (Name n) _ h.1.1.1.1.0) }
 
 run-keeps : (n : ℕ) (earlier : List RunPlan) (ms : Members) → Passed n earlier ms → IsRun (run_of ms)
-unfolding run_of
 run-keeps n earlier ms p = record {
   name = run_name-held n key.Name ms p.keys.0;
   trace = file_name-held n key.Trace ms p.keys.1.0;
@@ -139,7 +138,8 @@ runs-new n earlier (item d ds) e =
     let (here, rest) = or-none (run_refusal n earlier (members_in d)) _ e in
     let after = runs-new (n + 1) (earlier ++ r ∷ []) ds rest in
     All-cons (λ run. has_name run.name earlier ≡ false) r (runs_of ds) (passed n earlier (members_in d) here).new
-    (All-weaker (λ run. has_name run.name (earlier ++ r ∷ []) ≡ false) (λ run. has_name run.name earlier ≡ false) (λ run h. (fewer run.name earlier (r ∷ []) h).0) (runs_of ds) after)
+    (All-weaker (λ run. has_name run.name (earlier ++ r ∷ []) ≡ false) (λ run. has_name run.name earlier ≡ false)
+    (λ run h. (fewer run.name earlier (r ∷ []) h).0) (runs_of ds) after)
 
 differ : (r run : RunPlan) → has_name run.name (r ∷ []) ≡ false → r.name ≡ run.name → ⊥
 differ r run e same =
@@ -155,7 +155,8 @@ runs-differ n earlier (item d ds) e =
     let (here, rest) = or-none (run_refusal n earlier (members_in d)) _ e in
     let after = runs-new (n + 1) (earlier ++ r ∷ []) ds rest in
     AllPairs-cons (λ a b. ¬ (a.name ≡ b.name)) r (runs_of ds)
-    (All-weaker (λ run. has_name run.name (earlier ++ r ∷ []) ≡ false) (λ run. ¬ (r.name ≡ run.name)) (λ run h. differ r run (fewer run.name earlier (r ∷ []) h).1) (runs_of ds) after)
+    (All-weaker (λ run. has_name run.name (earlier ++ r ∷ []) ≡ false) (λ run. ¬ (r.name ≡ run.name))
+    (λ run h. differ r run (fewer run.name earlier (r ∷ []) h).1) (runs_of ds) after)
     (runs-differ (n + 1) (earlier ++ r ∷ []) ds rest)
 
 runs_of-count : (ds : Items) → length (runs_of ds) ≡ count ds
@@ -186,3 +187,9 @@ accepted_law None runs e = absurd (cc)
 accepted_law (Some ms) runs e =
     let (none, same) = unless-ok (refusal_of ms) (runs_of (run_items ms)) runs e in
     subst AreRuns (sym same) (file-keeps ms none)
+
+-- so what was read keeps them, whatever holds the list of runs
+pub read-keeps : {B : Type 0} (items : B → List RunPlan) (document : Option Members) (result : Result B CampaignFault)
+    → IsRead (campaign_of document) (seen items result) → IfOk result (λ runs. AreRuns (items runs))
+read-keeps items document (Ok runs) e = accepted_law document (items runs) e
+read-keeps items document (Err f) e = tt

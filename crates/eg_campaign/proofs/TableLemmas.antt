@@ -12,7 +12,8 @@ all_items-view passes [] = refl
 all_items-view passes (v ∷ vs) = ap (λ b. passes (view v) && b) (all_items-view passes vs)
 
 -- items that all pass, pass at each place
-pub all_items-at : (passes : Data → Bool) (vs : List Value) (i : ℕ) (v : Value) → i < length vs → v ≡ get_or vs i v → all_items passes (items_view vs) ≡ true → passes (view v) ≡ true
+pub all_items-at : (passes : Data → Bool) (vs : List Value) (i : ℕ) (v : Value) → i < length vs → v ≡ get_or vs i v
+    → all_items passes (items_view vs) ≡ true → passes (view v) ≡ true
 all_items-at passes vs i v below here all = at (passes (view v)) refl
   where
     at : (b : Bool) → passes (view v) ≡ b → passes (view v) ≡ true

@@ -1,9 +1,8 @@
 -- A campaign file is never refused for ticks.
-use Rattle.std.proofs.Common.{◌≡◌, ℕ, ◌+◌, Bool, true, false, not, nat_le, List, [], ◌∷◌, ◌++◌, Option, Some, None, Ok, Err, refl, sym, ap, ◌∙◌}
+use Rattle.std.proofs.Common.{◌≡◌, ℕ, ◌+◌, Bool, true, false, not, nat_le, List, [], ◌∷◌, ◌++◌, Option, Some, None, Err, refl, sym, ap, ◌∙◌}
 use Rattle.toml.specs.Data.{Data, Members, Items, no_items, item, get_member, as_array}
 use Rattle.eg_toml.specs.Values.{number_at}
 use Rattle.eg_toml.specs.Arrays.{count}
-use Rattle.eg_campaign.specs.declared.key.RunKey.{RunKey}
 use Rattle.eg_campaign.specs.declared.key.RunKey.TheVariants as key
 use Rattle.eg_campaign.specs.declared.key.CampaignFault.{CampaignFault}
 use Rattle.eg_campaign.specs.declared.key.CampaignFault.TheVariants.{Key, TwoFaults, Name, Many, Ticks}
@@ -15,7 +14,7 @@ use Rattle.eg_campaign.specs.Checks.{content_refusal, key_refusal, keys_refusal}
 use Rattle.eg_campaign.specs.Classes.{class_in, own_keys}
 use Rattle.eg_campaign.specs.Faults.{class_at, fault_refusal}
 use Rattle.eg_campaign.specs.Runs.{are_tables, is_one_at_most, array_refusal, fault_table, table_refusal, is_all_known, run_of, has_name, run_refusal}
-use Rattle.eg_campaign.specs.Campaign.{members_in, runs_refusal, run_items, are_runs, is_top_known, refusal_of, campaign_of}
+use Rattle.eg_campaign.specs.Campaign.{members_in, runs_refusal, run_items, are_runs, is_top_known, refusal_of}
 use Rattle.eg_campaign.specs.Rules.{NoTicksLaw}
 
 -- a refusal for ticks

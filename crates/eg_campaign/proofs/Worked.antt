@@ -1,5 +1,5 @@
 -- Campaign files worked out by the definitions: each class of faults, and refusals in their order.
-use Rattle.std.proofs.Common.{◌≡◌, ℕ, pos, negsuc, true, false, List, [], ◌∷◌, ◌++◌, map, codes, Option, Some, None, Result, Ok, Err, refl}
+use Rattle.std.proofs.Common.{◌≡◌, ℕ, negsuc, true, false, List, [], ◌∷◌, ◌++◌, map, codes, Some, Result, Ok, Err, refl}
 use Rattle.std.specs.Str.{chars, is_utf8}
 use Rattle.toml.proofs.OnLiterals.{toml_on_literals}
 use Rattle.eg_toml.specs.Documents.{document_of}
@@ -12,7 +12,7 @@ use Rattle.eg_campaign.specs.declared.run.RunPlan.{RunPlan}
 use Rattle.eg_campaign.specs.Contents.{usual_slices}
 use Rattle.eg_campaign.specs.Checks.{keys_refusal}
 use Rattle.eg_campaign.specs.Faults.{fault_refusal, fault_of}
-use Rattle.eg_campaign.specs.Runs.{run_of, run_refusal}
+use Rattle.eg_campaign.specs.Runs.{run_refusal}
 use Rattle.eg_campaign.specs.Campaign.{refusal_of, campaign_of}
 
 -- what the definitions say of a file's bytes
@@ -66,7 +66,7 @@ classes : map read (
     ∷ faulty 13 (class.Lapse (0 ∷ 19999 ∷ []) 0)
     ∷ faulty 14 (class.Lapse (5 ∷ []) 20000)
     ∷ []
-unfolding toml_on_literals chars is_utf8 keys_refusal fault_refusal fault_of run_of run_refusal refusal_of
+unfolding toml_on_literals chars is_utf8 keys_refusal fault_refusal fault_of run_refusal refusal_of
 classes = refl
 
 -- ---- refusals ----
@@ -105,7 +105,7 @@ files : map read (
     ∷ refused (Key 2 key.Unknown)
     ∷ refused (Name 3)
     ∷ []
-unfolding toml_on_literals chars is_utf8 keys_refusal fault_refusal fault_of run_of run_refusal refusal_of
+unfolding toml_on_literals chars is_utf8 keys_refusal fault_refusal fault_of run_refusal refusal_of
 files = refl
 
 faults : map read (
@@ -139,5 +139,5 @@ faults : map read (
     ∷ refused (Key 1 key.Every)
     ∷ refused (Key 1 key.Unknown)
     ∷ []
-unfolding toml_on_literals chars is_utf8 keys_refusal fault_refusal fault_of run_of run_refusal refusal_of
+unfolding toml_on_literals chars is_utf8 keys_refusal fault_refusal fault_of run_refusal refusal_of
 faults = refl

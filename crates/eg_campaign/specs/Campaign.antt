@@ -13,7 +13,7 @@ use Rattle.eg_campaign.specs.Runs.{all_items, is_table, run_of, run_refusal}
 
 -- ---- the array of runs ----
 
--- the members of an item that is a table
+-- the members of an item that is a table (none of another, which is refused)
 abbrev pub members_in : Data → Members
 members_in d = unwrap_or (as_table d) no_members
 
@@ -47,7 +47,7 @@ are_runs ds = all_items is_table ds && nat_le 1 (count ds)
 abbrev pub is_top_known : Members → Bool
 is_top_known ms = all_names (is_among (codes "run" ∷ [])) ms
 
--- the first refusal: of the file as a whole, and then of each run in turn
+-- the first refusal: of `run`, of other names, of the count of runs, and then of each run in turn
 unfoldable pub refusal_of : Members → Option CampaignFault
 refusal_of ms = first_of
     (unless_true (fault.Key 0 key.Run) (are_runs (run_items ms))

@@ -1,5 +1,5 @@
 -- The first key of some that holds something else than it may.
-use Rattle.std.specs.Prelude.{ℕ, List, [], ◌∷◌, Option, Some, None}
+use Rattle.std.specs.Prelude.{ℕ, List, [], ◌∷◌, Option, None}
 use Rattle.toml.specs.Data.{Members}
 use Rattle.eg_toml.specs.Values.{number_at}
 use Rattle.eg_campaign.specs.declared.key.CampaignFault.{CampaignFault}

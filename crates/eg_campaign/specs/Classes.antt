@@ -1,5 +1,5 @@
 -- The table of the classes of faults: the name of each, its own keys, and what they say.
-use Rattle.std.specs.Prelude.{ℕ, List, [], ◌∷◌, codes, bytes_eq, Option, Some, None, unwrap_or, if◌then◌else◌}
+use Rattle.std.specs.Prelude.{ℕ, List, [], ◌∷◌, codes, bytes_eq, Option, Some, None, if◌then◌else◌}
 use Rattle.toml.specs.Data.{Members, get_member, as_str}
 use Rattle.eg_toml.specs.Values.{◌>>=◌}
 use Rattle.eg_fault.specs.declared.class.Class.{Class}
@@ -14,6 +14,7 @@ abbrev ◌means◌ : List ℕ → ClassName → List ℕ × ClassName
 text means c = (text, c)
 
 infix 4 ◌means◌
+-- the names of the classes
 abbrev pub class_names : List (List ℕ × ClassName)
 class_names =
     (codes "script" means Script) ∷ (codes "offset" means Offset) ∷ (codes "bus" means Bus)

@@ -26,21 +26,25 @@ abbrev pub is_file_name : List ℕ → Bool
 is_file_name [] = false
 is_file_name (c ∷ cs) = not (c == 45) && nat_le (length cs) 199
 
+-- what passes a test
 abbrev pub when : {X : Type 0} → (X → Bool) → X → Option X
 when passes x = if passes x then Some x else None
 
+-- the text under a key, where it passes
 abbrev pub text_at : (List ℕ → Bool) → List ℕ → Members → Option (List ℕ)
 text_at passes key ms = get_member key ms >>= as_str >>= when passes
 
 -- ---- slices ----
 
--- at most 1,000 instructions at a tick
+-- at most 1,000 in all
 abbrev pub is_budget : List ℕ → Bool
 is_budget row = nat_le (sum row) 1000
 
+-- nine numbers from 0 to 1000, at most 1,000 in all
 abbrev pub slice_row : Data → Option (List ℕ)
 slice_row d = numbers_in 9 9 1000 d >>= when is_budget
 
+-- an array of 1 to 64 rows
 abbrev pub slices_in : Data → Option (List (List ℕ))
 slices_in d = array_in 1 64 (one slice_row) d
 
@@ -53,11 +57,13 @@ abbrev pub read_or : {X : Type 0} → X → (Data → Option X) → Option Data 
 read_or usual read None = Some usual
 read_or usual read (Some d) = read d
 
+-- the rows under a key
 abbrev pub slices_at : List ℕ → Members → Option (List (List ℕ))
 slices_at key ms = read_or usual_slices slices_in (get_member key ms)
 
 -- ---- numbers and truth values of a fault ----
 
+-- the number under a key, from 0 on, or 0 where the key is absent
 abbrev pub optional_at : ℕ → List ℕ → Members → Option ℕ
 optional_at high key ms = read_or 0 (number_in 0 high) (get_member key ms)
 
@@ -66,29 +72,37 @@ abbrev pub is_shift : ℤ → Bool
 is_shift (pos n) = nat_le 1 n && nat_le n 65535
 is_shift (negsuc n) = nat_le n 65534
 
+-- an integer that is one
 abbrev pub shift_in : Data → Option ℤ
 shift_in d = as_integer d >>= when is_shift
 
+-- the one under a key
 abbrev pub shift_at : List ℕ → Members → Option ℤ
 shift_at key ms = get_member key ms >>= shift_in
 
+-- the 1 to 64 numbers of one word under a key
 abbrev pub words_at : List ℕ → Members → Option (List ℕ)
 words_at key ms = get_member key ms >>= numbers_in 1 64 65535
 
+-- each number is more than the one before it
 abbrev pub is_rising : List ℕ → Bool
 is_rising [] = true
 is_rising (x ∷ []) = true
 is_rising (x ∷ y ∷ ys) = nat_lt x y && is_rising (y ∷ ys)
 
+-- an array of 1 to 64 rising numbers up to 19999
 abbrev pub ticks_in : Data → Option (List ℕ)
 ticks_in d = numbers_in 1 64 19999 d >>= when is_rising
 
+-- the one under a key
 abbrev pub ticks_at : List ℕ → Members → Option (List ℕ)
 ticks_at key ms = get_member key ms >>= ticks_in
 
+-- an array of 1 to 64 truth values
 abbrev pub truths_in : Data → Option (List Bool)
 truths_in d = array_in 1 64 (one as_bool) d
 
+-- the one under a key
 abbrev pub truths_at : List ℕ → Members → Option (List Bool)
 truths_at key ms = get_member key ms >>= truths_in
 

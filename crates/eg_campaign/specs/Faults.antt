@@ -15,7 +15,7 @@ use Rattle.eg_campaign.specs.Contents.{number_of}
 use Rattle.eg_campaign.specs.Checks.{key_refusal, keys_refusal}
 use Rattle.eg_campaign.specs.Classes.{class_in, own_keys, class_of}
 
--- the class of a fault, where its table names one
+-- the class that the table of a fault names (Halt where it names none, which is refused)
 abbrev pub class_at : Members → ClassName
 class_at ms = unwrap_or (class_in ms) Halt
 

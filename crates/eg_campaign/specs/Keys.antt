@@ -45,6 +45,7 @@ pub record KeyRule : Type 0 where
   pub key : RunKey
   pub content : Content
 
+-- how a line of the table is written
 infix 4 ◌holds◌
 abbrev pub ◌holds◌ : RunKey → Content → KeyRule
 k holds c = record { key = k; content = c }
@@ -91,7 +92,7 @@ at = At holds number 0 1000
 abbrev pub any_module : KeyRule
 any_module = Module holds number 0 7
 
--- a module with a result of the test row
+-- a module that has a signal
 abbrev pub signal_module : KeyRule
 signal_module = Module holds number 1 5
 

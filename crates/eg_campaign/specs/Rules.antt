@@ -59,7 +59,8 @@ pub record AreRuns (runs : List RunPlan) : Type 0 where
 
 -- the law: what is accepted keeps these rules
 abbrev pub AcceptedLaw : Type 0
-AcceptedLaw = (document : Option Members) (runs : List RunPlan) → campaign_of document ≡ Ok runs → AreRuns runs
+AcceptedLaw =
+    (document : Option Members) (runs : List RunPlan) → campaign_of document ≡ Ok runs → AreRuns runs
 
 -- and ticks are no reason to refuse a campaign file, since it doesn't say how many a run has
 abbrev pub NoTicksLaw : Type 0

@@ -17,6 +17,7 @@ use Rattle.eg_campaign.specs.Faults.{fault_refusal, fault_of, has_own_names}
 
 -- ---- the array of faults ----
 
+-- each item passes
 abbrev pub all_items : (Data → Bool) → Items → Bool
 all_items passes no_items = true
 all_items passes (item d ds) = passes d && all_items passes ds
@@ -42,6 +43,7 @@ array_refusal n (Some d) = first_of
     ∷ unless_true (fault.TwoFaults n) (is_one_at_most (as_array d))
     ∷ [])
 
+-- the same of the table of run n
 abbrev pub faults_refusal : ℕ → Members → Option CampaignFault
 faults_refusal n ms = array_refusal n (get_member (codes "faults") ms)
 
@@ -49,15 +51,18 @@ faults_refusal n ms = array_refusal n (get_member (codes "faults") ms)
 abbrev pub fault_table : Members → Option Members
 fault_table ms = get_member (codes "faults") ms >>= as_array >>= get_item 0 >>= as_table
 
+-- the first refusal of the keys of that table, if there is one
 abbrev pub table_refusal : ℕ → Option Members → Option CampaignFault
 table_refusal n None = None
 table_refusal n (Some t) = fault_refusal n t
 
 -- ---- the names in the tables of a run ----
 
+-- the names that the table of a run may have
 abbrev pub run_names : List (List ℕ)
 run_names = map (λ rule. text_of rule.key) run_keys ++ codes "faults" ∷ []
 
+-- the table of the fault, if there is one, has no other name than it may
 abbrev pub table_is_known : Option Members → Bool
 table_is_known None = true
 table_is_known (Some t) = has_own_names t
@@ -69,7 +74,7 @@ is_all_known ms = all_names (is_among run_names) ms && table_is_known (fault_tab
 -- ---- a run ----
 
 -- what the table of a run says
-unfoldable pub run_of : Members → RunPlan
+abbrev pub run_of : Members → RunPlan
 run_of ms = record {
   name = bytes_of name ms;
   trace = bytes_of trace ms;
@@ -82,7 +87,8 @@ run_of ms = record {
 abbrev pub has_name : List ℕ → List RunPlan → Bool
 has_name text runs = list_any (λ run. bytes_eq run.name text) runs
 
--- the first refusal of run n, where these are the runs before it
+-- the first refusal of run n, where these are the runs before it: of its first keys, of its array of faults,
+-- of its fault's keys, of other names, and of its own name where an earlier run has it
 unfoldable pub run_refusal : ℕ → List RunPlan → Members → Option CampaignFault
 run_refusal n earlier ms = first_of
     (keys_refusal n run_keys ms

@@ -154,7 +154,8 @@ fn truths_in(value: &Value) -> Option<Opens>
 /// Appends the items, where each is a truth value, and answers false where one isn't.
 fn push_truths(items: &[Value], found: &mut ArrayVec<bool, 64>) -> bool
     requires { array_vec_len found.old + length items.now ≤ 64 }
-    ensures read { HasRead (all_read (one as_bool) (items_view items.now)) found.old.items found.new.items result }
+    ensures read { let read = all_read (one as_bool) (items_view items.now) in
+        HasRead read found.old.items found.new.items result }
     ensures count { result ≡ true → array_vec_len found.new ≡ array_vec_len found.old + length items.now }
 {
     for item in items {

@@ -1,11 +1,12 @@
 // The reader of campaign files.
-ghost use Rattle.std.specs.Prelude.{◌≡◌, ◌≤◌, [], true, nat_le, length, option_map};
+ghost use Rattle.std.specs.Prelude.{◌≡◌, ◌≤◌, [], true, nat_le, length, option_map, IfOk};
 ghost use Rattle.toml.specs.View.{table_view, items_view};
 ghost use Rattle.eg_toml.specs.Documents.{document_of};
 ghost use Rattle.eg_toml.specs.Arrays.{count};
 ghost use Rattle.eg_campaign.specs.Refusals.{IsRead, Reads, seen};
 ghost use Rattle.eg_campaign.specs.Runs.{all_items, is_table};
 ghost use Rattle.eg_campaign.specs.Campaign.{runs_of, runs_refusal, run_array, run_items, are_runs, is_top_known, refusal_of, campaign_of};
+ghost use Rattle.eg_campaign.specs.Rules.{AreRuns};
 
 use crate::run::{RunPlan, are_tables, run_in};
 use crate::{CampaignFault, RunKey};
@@ -15,8 +16,17 @@ use toml::{Table, Value};
 
 /// The runs that a campaign file says (docs/FORMATS.md, "Campaign files"), or the first rule that the file
 /// breaks. The result is exactly that of `campaign_of`, but for want of memory, which it may answer at any
-/// bytes.
+/// bytes. The runs keep the rules: they are 1 to 1,000, no two of one name, each with proper names and slices
+/// and with no fault or a valid one.
 pub fn read_campaign(alloc: Global, bytes: &[u8]) -> Result<Vec<RunPlan>, CampaignFault>
+    ensures read { IsRead (campaign_of (document_of bytes.now)) (seen (λ runs. runs.items) result) }
+    ensures rules { IfOk result (λ runs. AreRuns runs.items) }
+{
+    campaign_of(alloc, bytes)
+}
+
+/// The runs that these bytes say, or the first rule that they break.
+fn campaign_of(alloc: Global, bytes: &[u8]) -> Result<Vec<RunPlan>, CampaignFault>
     ensures { IsRead (campaign_of (document_of bytes.now)) (seen (λ runs. runs.items) result) }
 {
     let root = read_document(alloc, bytes)?;

@@ -38,7 +38,7 @@ pub struct RunPlan {
 }
 
 /// Run number `run`, which a table says and whose name none of the earlier runs has, or its first refusal.
-#[tactic(auto, unfolding(crate::specs::Runs::run_refusal, crate::specs::Runs::run_of, crate::specs::Checks::keys_refusal))]
+#[tactic(auto, unfolding(crate::specs::Runs::run_refusal, crate::specs::Checks::keys_refusal))]
 pub(crate) fn run_in(
     alloc: Global,
     table: &Table,

@@ -269,21 +269,38 @@ fn named(alloc: Global, name: &str, lines: &str) -> Result<String, Fail> {
     Ok(format!(in alloc; "[[run]]\nname = \"{name}\"\ntrace = \"t\"\nimage = \"i\"\n{lines}")?)
 }
 
+/// Asserts that the run with something else at one place is refused for a key.
+fn refuses_runs(rt: &impl Abort, alloc: Global, broken: &[Broken]) -> Result<(), Fail> {
+    for (place, instead, name) in broken {
+        let (before, after) = ONE_RUN.split_once(*place).ok_or("no such place")?;
+        let text = format!(in alloc; "{before}{instead}{after}")?;
+        assert_eq!(rt; refusal(alloc, text.as_str()), key(*name), "{text}");
+    }
+    Ok(())
+}
+
+/// Asserts that a run with this fault is refused for a key.
+fn refuses_faults(rt: &impl Abort, alloc: Global, broken: &[(&str, RunKey)]) -> Result<(), Fail> {
+    for (fault, name) in broken {
+        let faults = format!(in alloc; "[{{ {fault} }}]")?;
+        let text = with_faults(alloc, faults.as_str())?;
+        assert_eq!(rt; refusal(alloc, text.as_str()), key(*name), "{text}");
+    }
+    Ok(())
+}
+
+/// Asserts that a whole file is refused.
+fn refuses_files(rt: &impl Abort, alloc: Global, broken: &[(&str, CampaignFault)]) {
+    for (text, fault) in broken {
+        assert_eq!(rt; refusal(alloc, text), Some(*fault), "{text}");
+    }
+}
+
 #[test]
 fn the_first_rule_that_is_broken_is_named(rt: HostRuntime) -> Result<(), Fail> {
-    for (place, instead, name) in BROKEN_RUNS {
-        let (before, after) = ONE_RUN.split_once(place).ok_or("no such place")?;
-        let text = format!(in rt.alloc(); "{before}{instead}{after}")?;
-        assert_eq!(rt; refusal(rt.alloc(), text.as_str()), key(name), "{text}");
-    }
-    for (fault, name) in BROKEN_FAULTS {
-        let faults = format!(in rt.alloc(); "[{{ {fault} }}]")?;
-        let text = with_faults(rt.alloc(), faults.as_str())?;
-        assert_eq!(rt; refusal(rt.alloc(), text.as_str()), key(name), "{text}");
-    }
-    for (text, fault) in BROKEN_FILES {
-        assert_eq!(rt; refusal(rt.alloc(), text), Some(fault), "{text}");
-    }
+    refuses_runs(&rt, rt.alloc(), &BROKEN_RUNS)?;
+    refuses_faults(&rt, rt.alloc(), &BROKEN_FAULTS)?;
+    refuses_files(&rt, rt.alloc(), &BROKEN_FILES);
     assert_eq!(rt;
         read_campaign(rt.alloc(), &[255]).err(),
         Some(CampaignFault::Text)

@@ -1,5 +1,5 @@
 // How many ticks the runs of a campaign have in all.
-ghost use Rattle.std.specs.Prelude.{◌≡◌, ◌≤◌};
+ghost use Rattle.std.specs.Prelude.{◌≡◌, ◌≤◌, IfOk};
 ghost use Rattle.eg_campaign.specs.Ticks.{sum_with};
 
 use crate::CampaignFault;
@@ -12,7 +12,8 @@ const MOST: u32 = 1_000_000;
 pub fn add_ticks(sum: u32, run: u32, count: u32) -> Result<u32, CampaignFault>
     requires sum { sum ≤ 1000000 }
     requires count { count ≤ 20000 }
-    ensures { result ≡ sum_with sum run count }
+    ensures sum { result ≡ sum_with sum run count }
+    ensures bound { IfOk result (λ total. total ≤ 1000000) }
 {
     let sum = sum + count;
     if sum > MOST {

@@ -13,6 +13,3 @@ pub use effects::{
     modules_run_together, sends, wild,
 };
 pub use script::{Opens, Script};
-
-#[cfg(test)]
-mod tests;

@@ -14,6 +14,3 @@ pub use flat_memory::FlatMemory;
 pub use guarded::{Guarded, Refused, StoreRefusal};
 pub use regions::{Allowed, Region, Who, access, region_of};
 pub use stingy_memory::StingyMemory;
-
-#[cfg(test)]
-mod tests;

@@ -8,6 +8,3 @@
 mod host;
 
 pub use host::Host;
-
-#[cfg(test)]
-mod tests;

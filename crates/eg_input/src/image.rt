@@ -51,6 +51,3 @@ pub fn images_are_their_lines()
     ensures long { (file : List ℕ) → (image_words file ≡ Err fault.Long) ↔ HasTooManyLines file }
     ensures memory { (file : List ℕ) → image_words file ≢ Err fault.Memory }
 {}
-
-#[cfg(test)]
-mod tests;

@@ -11,6 +11,3 @@ mod trace;
 pub use fault::{ImageFault, TraceFault};
 pub use image::{images_are_their_lines, read_image};
 pub use trace::{check_files_are_their_rows, read_check, read_trace, traces_are_their_rows};
-
-#[cfg(test)]
-mod tests;

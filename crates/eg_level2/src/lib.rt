@@ -19,6 +19,3 @@ mod words;
 pub use eg_num::Watches;
 pub use level2::{Level2, one_changed_word_is_found};
 pub use step::Step;
-
-#[cfg(test)]
-mod tests;

@@ -1,8 +1,8 @@
 // Module 7: what comes of a trip, and the answer.
 ghost use Rattle.std.specs.Prelude.{◌≡◌, ◌+◌, ◌*◌, ◌==◌, OnOk, IfOk, if◌then◌else◌, Some, None};
-ghost use Rattle.eg_level2.specs.Words.{words_of, is_set};
+ghost use Rattle.eg_level2.specs.Words.{words_of, word_at, is_set};
 ghost use Rattle.eg_level2.specs.Modules.{marked, closed_flow, answers_now, react_step, answer_of, no_watches};
-ghost use Rattle.eg_level2.specs.Stores.{Keeps};
+ghost use Rattle.eg_level2.specs.Stores.{Keeps, keep};
 
 use crate::Step;
 use crate::step::no_watches;
@@ -31,13 +31,22 @@ pub(crate) fn react<M: Guarded>(memory: &mut M, send: bool) -> Result<Step, NoMe
     let sends = answers_now(memory, send);
     let flow = closed_flow(memory);
     let sign = word(memory, SIGN);
-    keep(memory, TOKEN, 0)?;
+    begin_token(memory)?;
     keep(memory, FLOW, flow_after(sends, flow))?;
     Ok(Step {
         open_path: trip,
         answer: number(sends, flow, sign),
         found: no_watches(),
     })
+}
+
+/// Begins the token anew.
+fn begin_token<M: Guarded>(memory: &mut M) -> Result<(), NoMemory>
+    ensures stored { OnOk result (word_at (M.shows memory.new).words
+        ≡ keep 12 0 (word_at (M.shows memory.old).words)) }
+    ensures keeps { Keeps (M.shows memory.old) (M.shows memory.new) result }
+{
+    keep(memory, TOKEN, 0)
 }
 
 /// The flow of this tick's answer.

@@ -1,5 +1,4 @@
 pub mod WholeModel
-pub mod WorkedRuns
 pub mod WorkedFaults
 pub mod WorkedImages
 pub mod TickLemmas
@@ -16,4 +15,3 @@ pub mod LapseRuns
 pub mod LapseAnswers
 pub mod LapseWeights
 pub mod LapseLaw
-pub mod WorkedLapses

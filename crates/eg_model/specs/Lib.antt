@@ -13,4 +13,3 @@ pub mod Reaction
 pub mod SharpCut
 pub mod Records
 pub mod Lapses
-pub mod WorkedLapses

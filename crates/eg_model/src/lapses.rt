@@ -1,12 +1,5 @@
 // The laws of lapses.
-ghost use Rattle.std.specs.Prelude.{◌≡◌, [], ◌++◌, codes, replicate, true, false, Some, None};
-ghost use Rattle.eg_answer.specs.Times.{lapse_bound_of};
-ghost use Rattle.eg_values.specs.Reference.{reference_parts};
-ghost use Rattle.eg_record.specs.declared.watch.Watch.TheVariants.{Answers};
-ghost use Rattle.eg_model.specs.Rows.{report_of};
-ghost use Rattle.eg_model.specs.Examples.{reported, answers_of, stages_of};
 ghost use Rattle.eg_model.specs.Lapses.{CutsLapses, LapsesAreShort};
-ghost use Rattle.eg_model.specs.WorkedLapses.{lapsing_run, excesses_of};
 
 /// The laws of lapses (docs/CONCEPT.md, "Lapses"): level 2 as a whole doesn't run at some ticks, whichever
 /// they are. For a calibration that has a bound: where `lapse_periods` whole periods lie in a stretch of
@@ -16,15 +9,4 @@ ghost use Rattle.eg_model.specs.WorkedLapses.{lapsing_run, excesses_of};
 pub fn lapses_are_cut()
     ensures cut { CutsLapses }
     ensures short { LapsesAreShort }
-{}
-
-/// A run under lapses that is cut: level 2 runs at one tick of ten, so it feeds too few bits to find the
-/// excess of ticks 5 to 29, and sends no answer; the monitoring module finds that at tick 29, and the
-/// stages are off from tick 30 on. The bound is 50 ticks. It does nothing when it runs.
-pub fn a_run_with_lapses_is_cut()
-    ensures line { report_of (codes "a") lapsing_run ≡ reported (Some (Answers, 29)) (Some 30) None (Some 9) }
-    ensures stretch { excesses_of lapsing_run ≡ replicate 5 false ++ replicate 25 true ++ replicate 30 false }
-    ensures answers { answers_of lapsing_run ≡ [] }
-    ensures stages { stages_of lapsing_run ≡ replicate 30 true ++ replicate 30 false }
-    ensures bound { lapse_bound_of reference_parts.rules.torque reference_parts.times ≡ 50 }
 {}

@@ -8,6 +8,3 @@ mod plant_data;
 pub use engine::Engine;
 pub use gasoline_engine::GasolineEngine;
 pub use plant_data::PlantData;
-
-#[cfg(test)]
-mod tests;

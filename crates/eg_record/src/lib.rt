@@ -17,6 +17,3 @@ pub use row_line::{record_header, row_text};
 pub use summary::{Summary, summarize};
 pub use summary_line::{report_end_text, summary_text};
 pub use watch::Watch;
-
-#[cfg(test)]
-mod tests;

@@ -2,8 +2,8 @@
 //!
 //! Level 1 is code that nobody trusts: any 1,024 words may be its image. A step is the table of instructions,
 //! and reaches memory through `Guarded` alone, so that it changes no word but level 1's own. A step over a
-//! guarded memory is a step of level 1's private world (`specs/World.antt`), which the model of a run is built
-//! on.
+//! guarded memory is a step of level 1's private world (`specs/World.antt`), on which the model of a run is
+//! built.
 #![tactic(auto)]
 
 mod instruction;
@@ -15,6 +15,3 @@ pub use instruction::{Instruction, decode};
 pub use machine::step;
 pub use register::Register;
 pub use registers::{Registers, State, Trap};
-
-#[cfg(test)]
-mod tests;

@@ -7,6 +7,7 @@ use Rattle.eg_campaign.proofs.contents.push_truths.Given as goal
 
 abbrev pub invariant-loop-item : goal.invariant-loop-item
 invariant-loop-item l = record {
-  so_far : with_found l.initial.found.items (all_read (one as_bool) (items_view l.items)) ≡ with_found l.found.items (all_read (one as_bool) (items_view (drop l.item-index l.items)));
+  so_far : with_found l.initial.found.items (all_read (one as_bool) (items_view l.items))
+      ≡ with_found l.found.items (all_read (one as_bool) (items_view (drop l.item-index l.items)));
   as_many : length l.found.items ≡ length l.initial.found.items + l.item-index;
 }

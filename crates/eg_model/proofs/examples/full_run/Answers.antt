@@ -1,4 +1,4 @@
-use Rattle.eg_model.proofs.WorkedRuns.{full_throttle}
+use Rattle.eg_model.proofs.WorkedImages.{full_throttle}
 use Rattle.eg_model.proofs.examples.full_run.Goals as goal
 
 pub returns : goal.returns

@@ -1,8 +1,0 @@
-use Rattle.eg_model.proofs.WorkedImages.{store_is_refused, store_changes_nothing}
-use Rattle.eg_model.proofs.examples.refused_store.Goals as goal
-
-pub returns-clause-report : goal.returns-clause-report
-returns-clause-report c = store_is_refused
-
-pub returns-clause-signals : goal.returns-clause-signals
-returns-clause-signals c = store_changes_nothing

@@ -1,5 +1,0 @@
-use Rattle.eg_model.proofs.WorkedRuns.{three_runs-end}
-use Rattle.eg_model.proofs.examples.three_runs.Goals as goal
-
-pub returns : goal.returns
-returns c = three_runs-end

@@ -1,8 +1,0 @@
-use Rattle.eg_model.proofs.WorkedFaults.{late, in_time}
-use Rattle.eg_model.proofs.faulty_runs.moved_answers_run.Goals as goal
-
-pub returns-clause-late : goal.returns-clause-late
-returns-clause-late c = late
-
-pub returns-clause-in_time : goal.returns-clause-in_time
-returns-clause-in_time c = in_time

@@ -1,8 +1,0 @@
-use Rattle.eg_model.proofs.WorkedFaults.{raised, raised-stages}
-use Rattle.eg_model.proofs.faulty_runs.reaction_is_met.Goals as goal
-
-pub returns-clause-report : goal.returns-clause-report
-returns-clause-report c = raised
-
-pub returns-clause-stages : goal.returns-clause-stages
-returns-clause-stages c = raised-stages

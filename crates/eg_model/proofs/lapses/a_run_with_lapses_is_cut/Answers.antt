@@ -1,5 +1,0 @@
-use Rattle.eg_model.proofs.WorkedLapses.{lapsing, lapsing-excesses, lapsing-answers, lapsing-stages, reference-bound}
-use Rattle.eg_model.proofs.lapses.a_run_with_lapses_is_cut.Goals as goal
-
-pub returns : goal.returns
-returns c = record { line = lapsing; stretch = lapsing-excesses; answers = lapsing-answers; stages = lapsing-stages; bound = reference-bound }

@@ -1,0 +1,4 @@
+pub mod WorkedRuns
+pub mod WorkedFaults
+pub mod WorkedImages
+pub mod WorkedLapses

@@ -1,0 +1,57 @@
+-- Runs of other images, computed from the definitions.
+use Rattle.std.proofs.Common.{◌≡◌, [], ◌∷◌, ◌++◌, map, replicate, take, drop, Some, None, refl}
+use Rattle.std.specs.Prelude.{codes}
+use Rattle.eg_word.specs.declared.registers.Trap.TheVariants.{Fetch, Store}
+use Rattle.eg_model.specs.Rows.{report_of, rows_of, signal_list}
+use Rattle.eg_model.specs.Examples.{idle, storing, probe_run, follow_run, probe_row, looping_run, bench_run, moments_in_time, reported}
+use Rattle.eg_model.proofs.WholeModel.{whole_model}
+
+-- ---- slices lie between the modules ----
+
+pub probed : map (λ m. m.world.throttle) (moments_in_time probe_run) ≡ 100 ∷ 0 ∷ 100 ∷ 65436 ∷ []
+unfolding whole_model
+probed = refl
+
+pub probed-rows : rows_of (moments_in_time probe_run) ≡
+    probe_row 0 0 40 100 100 ∷ probe_row 1 50 40 100 0 ∷ probe_row 2 0 80 200 100 ∷ probe_row 3 50 40 100 65436 ∷ []
+unfolding whole_model
+probed-rows = refl
+
+-- ---- traps ----
+
+pub store_is_refused : report_of (codes "a") (bench_run storing None 30)
+    ≡ reported None None (Some (Store, 0)) None
+unfolding whole_model
+store_is_refused = refl
+
+pub store_changes_nothing : map (λ m. signal_list m.signals) (moments_in_time (bench_run storing None 30))
+    ≡ map (λ m. signal_list m.signals) (moments_in_time (bench_run idle None 30))
+unfolding whole_model
+store_changes_nothing = refl
+
+pub runs_off_the_end : report_of (codes "a") (bench_run [] None 30)
+    ≡ reported None None (Some (Fetch, 1)) None
+unfolding whole_model
+runs_off_the_end = refl
+
+-- ---- a jump to itself ----
+
+pub loops : report_of (codes "a") looping_run ≡ reported None None None None
+unfolding whole_model
+loops = refl
+
+-- ---- the pedal is let go ----
+
+pub followed : report_of (codes "a") follow_run ≡ reported None None None None
+unfolding whole_model
+followed = refl
+
+pub followed-excess : map (λ m. m.signals.excess) (moments_in_time follow_run)
+    ≡ replicate 25 0 ++ 1 ∷ 1 ∷ replicate 13 0
+unfolding whole_model
+followed-excess = refl
+
+pub followed-charge : take 19 (drop 10 (map (λ m. m.entry.shown.load_1) (moments_in_time follow_run)))
+    ≡ replicate 17 170 ++ 130 ∷ 90 ∷ []
+unfolding whole_model
+followed-charge = refl

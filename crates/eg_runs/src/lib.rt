@@ -1,0 +1,18 @@
+//! Runs of the simulated unit that are worked out, tick by tick, from the definitions of a run in `eg_model`.
+//! Nothing here runs: each function carries what a run gives as its contract. They stand apart since they
+//! take long to compute, and `eg_model` is checked often.
+#![tactic(auto)]
+
+mod examples;
+mod faulty_runs;
+mod lapses;
+
+pub use examples::{
+    empty_image, following_run, full_run_in_detail, idle_run, looping_image, probing_run,
+    refused_store, three_runs,
+};
+pub use faulty_runs::{
+    disturbed_run, flipped_run, lost_load_run, moved_answers_run, path_1_closed_run,
+    path_1_closes_run, raised_pedal_run, reaction_is_met, skipped_run,
+};
+pub use lapses::a_run_with_lapses_is_cut;

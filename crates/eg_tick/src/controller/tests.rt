@@ -1,0 +1,84 @@
+// Controllers of the reference calibration over both memories, and want of memory.
+ghost use Rattle.std.specs.Prelude.{◌≡◌, ◌↔◌, ◌<◌, replicate, IsTrue};
+
+use super::Controller;
+use crate::{Slices, Ticks};
+use eg_base::NoMemory;
+use eg_guard::{FlatMemory, Guarded, StingyMemory};
+use eg_num::Drive;
+use eg_plant::GasolineEngine;
+use eg_values::reference;
+use std::process::Abort;
+use std::test::Fail;
+
+/// A controller whose level 1 waits.
+#[tactic(auto, unfolding(eg_agree::specs::Replies::IsAnyFault))]
+fn controller<M: Guarded + Drop>(memory: M) -> Result<Controller<GasolineEngine, M>, NoMemory>
+    requires { (M.shows memory).words ≡ replicate 4096 0 }
+{
+    let calibration = reference();
+    let engine = GasolineEngine::new(calibration.plant().copy());
+    Controller::new(calibration, &[0xf000], None, memory, engine)
+}
+
+/// Whether another tick may be made.
+fn goes_on<M: Guarded + Drop>(controller: &Controller<GasolineEngine, M>) -> bool
+    ensures { IsTrue result ↔ (controller.now.kept.ticks < 20000) }
+{
+    controller.ticks < 20000
+}
+
+/// Makes ticks with the pedal at rest. Of each is told whether it is made, and what `Ticks` shows after it.
+fn ticks_are<M: Guarded + Drop>(
+    rt: &impl Abort,
+    memory: M,
+    wanted: [(bool, u64, u64); 3],
+) -> Result<(), Fail>
+    requires { (M.shows memory).words ≡ replicate 4096 0 }
+{
+    let mut controller = controller(memory).ok().ok_or("no controller")?;
+    let drive = Drive::new(0, 800, 0).ok_or("no drive row")?;
+    let slices = Slices::new([1; 9]).ok_or("no slices")?;
+    let mut steps = Ticks::new();
+    for (made, count, sum) in wanted {
+        assert!(rt; goes_on(&controller));
+        let row = controller.tick(&drive, &slices, &mut steps);
+        assert_eq!(rt;
+            (row.is_ok(), steps.count(), steps.sum()),
+            (made, count, sum)
+        );
+    }
+    Ok(())
+}
+
+#[test]
+fn ticks_are_made_and_weighed(rt: HostRuntime) -> Result<(), Fail> {
+    // Charge 40, permitted torque 200, actual torque 100, and the number of the tick.
+    ticks_are(
+        &rt,
+        FlatMemory::new(),
+        [(true, 1, 340), (true, 2, 681), (true, 3, 1023)],
+    )
+}
+
+#[test]
+fn want_of_memory_is_told_and_stays(rt: HostRuntime) -> Result<(), Fail> {
+    // The image takes 1 store, and the reset of level 2 takes 36.
+    for refused in [0, 1, 36] {
+        assert!(rt;
+            controller(StingyMemory::new(refused)).is_err(),
+            "{refused}"
+        );
+    }
+    // The first store of the first tick, and one of the second.
+    ticks_are(
+        &rt,
+        StingyMemory::new(37),
+        [(false, 1, 0), (false, 2, 0), (false, 3, 0)],
+    )?;
+    ticks_are(
+        &rt,
+        StingyMemory::new(120),
+        [(true, 1, 340), (false, 2, 340), (false, 3, 340)],
+    )
+}
