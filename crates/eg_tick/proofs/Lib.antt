@@ -13,4 +13,5 @@ pub mod StepLemmas
 pub mod ReactionLemmas
 pub mod RunLemmas
 pub mod RunLaws
+pub mod TrapLemmas
 mod Worked

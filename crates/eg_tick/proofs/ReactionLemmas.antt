@@ -14,7 +14,7 @@ use Rattle.eg_model.proofs.LapseLaw.{cuts_lapses, lapses_are_short}
 use Rattle.eg_agree.proofs.ReplyLaws.{length-ticks, ticks_follow}
 use Rattle.eg_tick.specs.Kept.{Kept}
 use Rattle.eg_tick.specs.Stands.{Stands}
-use Rattle.eg_tick.specs.Advancing.{ReactsInTime, ReactsAtOnce, CutsLapses, LapsesAreShort}
+use Rattle.eg_tick.specs.Advancing.{RowReactsInTime, RowReactsAtOnce, RowCutsLapses, HistoryHasShortLapses}
 
 -- ---- the ticks of a history that goes on ----
 
@@ -52,12 +52,12 @@ module _ (s : Setting) (c : Kept) (e : Entry) (accepted : IsAccepted c.cal) wher
   fit h stands = subst IsAccepted stands.cal accepted
 
   module _ (row : Row) (told : (h : List Entry) → Stands s c h → row ≡ row_of (next s e h)) where
-    pub reacts : ReactsInTime s c row
+    pub reacts : RowReactsInTime s c row
     reacts more h stands listed confirmed late =
         ap (λ (r : Row). r.on) (told (more ++ h) stands)
         ∙ off-row s e h more (reaction_of s.cal.times) (reacts_in_time s (fit (more ++ h) stands) listed 0 (ticks s h) confirmed) stands.engine.proper late
 
-    pub at_once : ReactsAtOnce s c row
+    pub at_once : RowReactsAtOnce s c row
     at_once more h stands listed confirmed soon =
         ap (λ (r : Row). r.on) (told (more ++ h) stands)
         ∙ off-row s e h more 1
@@ -65,12 +65,12 @@ module _ (s : Setting) (c : Kept) (e : Entry) (accepted : IsAccepted c.cal) wher
         (subst (λ n. is_at_once s.fault n ≡ true) (let long = length-ticks s h in let same : length h ≡ 0 + length (ticks s h) = omega arith in same) soon) confirmed)
         stands.engine.proper (omega arith)
 
-    pub cuts : CutsLapses s c row
+    pub cuts : RowCutsLapses s c row
     cuts more h periods stands bounded lapse whole exceeds =
         ap (λ (r : Row). r.on) (told (more ++ h) stands)
         ∙ off-row s e h more 1 (cuts_lapses s (fit (more ++ h) stands) bounded lapse 0 periods (ticks s h) (length-ticks s h ∙ whole) exceeds)
         stands.engine.proper (omega arith)
 
-pub short : (s : Setting) (c : Kept) → IsAccepted c.cal → LapsesAreShort s c
+pub short : (s : Setting) (c : Kept) → IsAccepted c.cal → HistoryHasShortLapses s c
 short s c accepted h stands bounded lapse n exceeds =
     lapses_are_short s (subst IsAccepted stands.cal accepted) bounded lapse 0 (ticks s h) (ticks_follow s h) stands.engine.proper n exceeds

@@ -89,6 +89,7 @@ new_stands s c is = record {
     words = subst (λ words. KeepsWords s words []) (sym is.words) (start_law s);
     flow = subst (λ words. KeepsFlow s words []) (sym is.words) (keeps_start s);
     last = ap (λ words. words.last) is.words;
+    rests = λ unflipped whole. (ap (λ words. words.token) is.words, ap (λ words. words.flow) is.words);
   };
   latches = record { path1 = is.open1; path2 = is.open2 };
   monitor = record {

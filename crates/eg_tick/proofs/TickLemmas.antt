@@ -17,10 +17,10 @@ use Rattle.eg_model.specs.Moments.{readings_at, moment, moments_of, ticks, momen
 use Rattle.eg_agree.specs.Doings.{doing_at}
 use Rattle.eg_agree.specs.Standing.{KeepsWords}
 use Rattle.eg_agree.specs.Ticking.{IsTick}
-use Rattle.eg_agree.specs.Replies.{doing_after, KeepsFlow}
+use Rattle.eg_agree.specs.Replies.{doing_after, KeepsFlow, IsAnyFault}
 use Rattle.eg_agree.proofs.TickLemmas.{run_law}
 use Rattle.eg_agree.proofs.ReplySteps.{keeps_tick}
-use Rattle.eg_agree.proofs.ReplyLaws.{length-ticks}
+use Rattle.eg_agree.proofs.ReplyLaws.{length-ticks, ticks_follow, rests}
 use Rattle.eg_tick.specs.Stands.{HoldsLevel1, HoldsLevel2}
 use Rattle.eg_agree.specs.Agreement.{last_check}
 use Rattle.eg_tick.specs.Midway.{Work, view_at, rest_of, IsSet, IsMidway, work_at}
@@ -141,14 +141,16 @@ module _ (s : Setting) (accepted : IsAccepted s.cal) (e : Entry) (h : List Entry
   unfolding last_world moments moments_of ticks next work_at
   level1-next m memory nine is = record { code = is.set.code; world = all-world w 8 m memory nine is ∙ world-is nine }
 
-  pub level2-next : (m : Registers) (memory : List ℕ) → length h < 65535 → KeepsFlow s words (ticks s h) → words.last ≡ last_check (ticks s h)
+  pub level2-next : (m : Registers) (memory : List ℕ) → IsAnyFault s.fault → length h < 65535 → KeepsFlow s words (ticks s h) → words.last ≡ last_check (ticks s h)
       → IsMidway w 9 8 m memory → HoldsLevel2 s memory (e ∷ h)
   unfolding moments moments_of ticks next work_at
-  level2-next m memory short flow last is =
+  level2-next m memory valid short flow last is =
       let made : words_of memory ≡ after_tick d words = all-words w 9 m memory is in
+      let tells : KeepsFlow s (words_of memory) (ticks s (e ∷ h)) = subst (λ now_words. KeepsFlow s now_words (ticks s (e ∷ h))) (sym made) (flow-is short flow) in
       record {
         mirrored = is.mirrored;
         words = subst (λ now_words. KeepsWords s now_words (moments s (e ∷ h))) (sym made) tick.words;
-        flow = subst (λ now_words. KeepsFlow s now_words (ticks s (e ∷ h))) (sym made) (flow-is short flow);
+        flow = tells;
         last = ap (λ (now_words : Words). now_words.last) made ∙ last-is last;
+        rests = rests s valid 0 (words_of memory) (ticks s (e ∷ h)) (ticks_follow s (e ∷ h)) tells;
       }

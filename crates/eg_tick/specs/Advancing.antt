@@ -5,6 +5,7 @@ use Rattle.eg_num.specs.Drive.{DriveRow}
 use Rattle.eg_plant.specs.Engine.{Shown}
 use Rattle.eg_answer.specs.Times.{reaction_of, HasLapseBound, lapse_periods, lapse_bound_of}
 use Rattle.eg_fault.specs.Faults.{IsListed}
+use Rattle.eg_word.specs.World.{World}
 use Rattle.eg_record.specs.declared.row.Row.{Row}
 use Rattle.eg_model.specs.History.{Setting, Entry}
 use Rattle.eg_model.specs.Premises.{IsExcessConfirmed}
@@ -18,33 +19,42 @@ use Rattle.eg_tick.specs.Stands.{Stands}
 unfoldable pub entry_of : DriveRow → List ℕ → Shown → Entry
 entry_of drive slices shown = record { drive = drive; slices = slices; shown = shown }
 
--- ---- what the next row owes, where a controller stood for a history before the tick ----
+-- the outputs of a row are those of this world
+pub record HoldsOutputs (world : World) (row : Row) : Type 0 where
+  pub throttle : row.throttle ≡ world.throttle
+  pub ignition : row.ignition ≡ world.ignition
 
--- The reaction theorem. Where the true excess was confirmed R ticks ago or longer, the stages are off, under
--- each listed fault.
-abbrev pub ReactsInTime : Setting → Kept → Row → Type 0
-ReactsInTime s c row =
+-- ---- the laws of a run, for a row ----
+
+-- The controller c stood for a history before the tick of this row. The history is cut in two: h ends with the
+-- tick by which the true excess is confirmed, and `more` are the ticks since then, newest first. So the tick of
+-- the row comes length more + 1 ticks after that one.
+
+-- The reaction theorem: where that is R ticks or more, the stages are off at the row, under each listed fault.
+abbrev pub RowReactsInTime : Setting → Kept → Row → Type 0
+RowReactsInTime s c row =
     (more h : List Entry) → Stands s c (more ++ h) → IsListed s.fault → IsExcessConfirmed s (ticks s h) →
     reaction_of s.cal.times ≤ length more + 1 → row.on ≡ false
 
 -- Under most faults they are off already at each tick after the one by which it was confirmed.
-abbrev pub ReactsAtOnce : Setting → Kept → Row → Type 0
-ReactsAtOnce s c row =
+abbrev pub RowReactsAtOnce : Setting → Kept → Row → Type 0
+RowReactsAtOnce s c row =
     (more h : List Entry) → Stands s c (more ++ h) → IsListed s.fault → IsExcessConfirmed s (ticks s h) →
     is_at_once s.fault (length h) ≡ true → row.on ≡ false
 
--- A lapse is cut: where there was true excess at each tick of so many whole periods, the stages are off from
--- the next tick on.
-abbrev pub CutsLapses : Setting → Kept → Row → Type 0
-CutsLapses s c row =
+-- A lapse is cut: where h ends with the last tick of a period, and there was true excess at each tick of its
+-- last `lapse_periods` periods, the stages are off at the row.
+abbrev pub RowCutsLapses : Setting → Kept → Row → Type 0
+RowCutsLapses s c row =
     (more h : List Entry) (periods : ℕ) → Stands s c (more ++ h) →
     HasLapseBound s.cal.rules.torque s.cal.times → IsLapse s.fault →
     length h ≡ periods * s.cal.times.period →
     Exceeds s (lapse_periods s.cal.rules.torque s.cal.times * s.cal.times.period) (ticks s h) →
     row.on ≡ false
 
--- And each stretch of ticks in a row with true excess is shorter than the bound for lapses.
-abbrev pub LapsesAreShort : Setting → Kept → Type 0
-LapsesAreShort s c =
+-- And in whichever history a controller stands for, each stretch of ticks in a row with true excess that
+-- reaches to its end is shorter than the bound for lapses.
+abbrev pub HistoryHasShortLapses : Setting → Kept → Type 0
+HistoryHasShortLapses s c =
     (h : List Entry) → Stands s c h → HasLapseBound s.cal.rules.torque s.cal.times → IsLapse s.fault →
     (n : ℕ) → Exceeds s n (ticks s h) → n < lapse_bound_of s.cal.rules.torque s.cal.times

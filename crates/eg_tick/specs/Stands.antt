@@ -1,6 +1,6 @@
 -- What a controller stands for: a history from power-on, newest first, one entry a tick. What the controller
 -- keeps in its memory, latches and counters is what the model says of the ticks of that history.
-use Rattle.std.specs.Prelude.{◌≡◌, ℕ, ◌<◌, Bool, false, is_some, List, [], ◌∷◌, map, take, length, slice_index}
+use Rattle.std.specs.Prelude.{◌≡◌, ℕ, ◌<◌, Bool, true, false, is_some, List, [], ◌∷◌, map, take, length, slice_index}
 use Rattle.std.specs.List.{list_any}
 use Rattle.eg_plant.specs.Engine.{Shown}
 use Rattle.eg_values.specs.Calibration.{IsAccepted}
@@ -11,14 +11,14 @@ use Rattle.eg_guard.specs.Memory.{AreWords}
 use Rattle.eg_level2.specs.Words.{AreMirrored, words_of}
 use Rattle.eg_module.specs.Monitoring.{MonitorParts, HasGiven}
 use Rattle.eg_model.specs.History.{Setting, Entry, Tick, Moment}
-use Rattle.eg_model.specs.Answers.{answers_in, verdicts_in}
+use Rattle.eg_model.specs.Answers.{answers_in, verdicts_in, whole_since_answer}
 use Rattle.eg_model.specs.Paths.{latch1, latch2}
 use Rattle.eg_model.specs.Level1.{last_world}
 use Rattle.eg_model.specs.Premises.{AreProper}
 use Rattle.eg_model.specs.Moments.{ticks, moments}
 use Rattle.eg_model.specs.Rows.{first_trap}
 use Rattle.eg_agree.specs.Standing.{KeepsWords}
-use Rattle.eg_agree.specs.Replies.{KeepsFlow, IsAnyFault}
+use Rattle.eg_agree.specs.Replies.{KeepsFlow, IsAnyFault, is_flipped}
 use Rattle.eg_agree.specs.Agreement.{last_check}
 use Rattle.eg_tick.specs.Kept.{Kept}
 
@@ -31,16 +31,21 @@ pub record HoldsLevel1 (s : Setting) (m : Registers) (memory : List ℕ) (past :
 
 -- ---- level 2 ----
 
--- Each word has its complement. Signals, counters, limited operation and trip are those of the model, and the
--- words of the program flow tell of the ticks.
+-- Each word has its complement. Signals, counters, limited operation and trip are those of the model. What the
+-- words of the program flow tell is that of the ticks: `last` is the last tick at which check ran, or 65535; and
+-- where no word was flipped, and all eight modules ran at each tick since the last answer, the token is 0 and
+-- the flow is unmarked.
 pub record HoldsLevel2 (s : Setting) (memory : List ℕ) (h : List Entry) : Type 0 where
   pub mirrored : AreMirrored memory
   pub words : KeepsWords s (words_of memory) (moments s h)
   pub flow : KeepsFlow s (words_of memory) (ticks s h)
   pub last : (words_of memory).last ≡ last_check (ticks s h)
+  pub rests : is_flipped (ticks s h) ≡ false → whole_since_answer (moments s h) ≡ true →
+      ((words_of memory).token ≡ 0) × ((words_of memory).flow ≡ 0x00ff)
 
 -- ---- latches and the monitoring module ----
 
+-- each latch is open where it was opened at one of the ticks
 pub record HoldsLatches (open1 open2 : Bool) (past : List Moment) : Type 0 where
   pub path1 : open1 ≡ latch1 past
   pub path2 : open2 ≡ latch2 past
@@ -57,8 +62,8 @@ pub record IsOrderly (s : Setting) (monitor : MonitorParts) (h : List Entry) : T
   pub heard : map (marked (expected_number s.cal.times s.cal.questions (length h))) monitor.heard
       ≡ answers_in (take (place_of s.cal.times (length h)) (moments s h))
 
--- The module has the run's times and questions, and has given the verdicts of the model. It is orderly where
--- it was never wild.
+-- The module has the run's times and questions, and has given the verdicts of the model, so that its counter of
+-- wrong verdicts is that of the model. It is orderly where it was never wild.
 pub record HoldsMonitor (s : Setting) (monitor : MonitorParts) (h : List Entry) : Type 0 where
   pub times : monitor.times ≡ s.cal.times
   pub questions : monitor.questions ≡ s.cal.questions
@@ -82,7 +87,7 @@ pub record HoldsEngine (s : Setting) (kt : ℕ) (shown : Shown) (h : List Entry)
 -- ---- the controller ----
 
 -- A controller stands for a history of a run: calibration, fault and the count of ticks are those of the
--- run, and so is all that it holds.
+-- run, and so is all that it holds: a memory of 4,096 words, that hasn't run out.
 pub record Stands (s : Setting) (c : Kept) (h : List Entry) : Type 0 where
   pub cal : c.cal ≡ s.cal
   pub fault : c.fault ≡ s.fault
@@ -96,10 +101,12 @@ pub record Stands (s : Setting) (c : Kept) (h : List Entry) : Type 0 where
   pub trap : c.trap ≡ first_trap (moments s h)
   pub not_lost : c.lost ≡ false
 
--- What a controller always keeps: its calibration is an accepted one; its fault, if any, is a valid one; and
--- unless memory ran out it stands for some history of a run of its calibration and its fault.
+-- What a controller always keeps: its calibration is an accepted one; its fault, if any, is a valid one;
+-- unless memory ran out it stands for some history of a run of its calibration and its fault; and a sure memory
+-- never runs out.
 pub record IsController (c : Kept) : Type 0 where
   pub accepted : IsAccepted c.cal
   pub fault : IsAnyFault c.fault
   pub stands : c.lost ≡ false → (image : List ℕ) × (h : List Entry)
       × Stands (record { cal = c.cal; image = image; fault = c.fault }) c h
+  pub unsure : c.lost ≡ true → c.memory.sure ≡ false

@@ -1,16 +1,16 @@
 // The controller: what it is made of, and how it begins.
 ghost use Rattle.std.specs.Prelude.{◌≡◌, ℕ, ◌+◌, ◌%◌, ◌^◌, ◌≤◌, ◌<◌, ◌||◌, true, false, length, replicate, List, [], ◌∷◌};
-ghost use Rattle.std.specs.Prelude.{IsTrue, IsOk, IsErr, IfOk, OnOk, OnErr};
+ghost use Rattle.std.specs.Prelude.{IsTrue, IsOk, IsErr, IsSome, IfOk, OnOk, OnErr};
 ghost use Rattle.std.specs.Option.{option_or};
 ghost use Rattle.eg_model.specs.History.{Setting, Entry};
 ghost use Rattle.eg_model.specs.Paths.{on_at};
 ghost use Rattle.eg_model.specs.Level1.{last_world};
 ghost use Rattle.eg_model.specs.Moments.{moments, next};
-ghost use Rattle.eg_model.specs.Rows.{row_of, trap_in};
+ghost use Rattle.eg_model.specs.Rows.{row_of, trap_in, first_trap};
 ghost use Rattle.eg_agree.specs.Replies.{IsAnyFault};
 ghost use Rattle.eg_tick.specs.Stands.{Stands, IsController};
 ghost use Rattle.eg_tick.specs.Working.{effects_after};
-ghost use Rattle.eg_tick.specs.Advancing.{entry_of, ReactsInTime, ReactsAtOnce, CutsLapses, LapsesAreShort};
+ghost use Rattle.eg_tick.specs.Advancing.{entry_of, HoldsOutputs, RowReactsInTime, RowReactsAtOnce, RowCutsLapses, HistoryHasShortLapses};
 ghost use Rattle.eg_tick.specs.Weights.{weight_of};
 
 use crate::board::load_image;
@@ -93,8 +93,9 @@ impl<E: Engine, M: Guarded> Model for Controller<E, M> {
 }
 
 impl<E: Engine + Drop, M: Guarded + Drop> Controller<E, M> {
-    /// A controller that has made no tick: with this calibration, the image that level 1 runs, the fault of
-    /// the run, if any, a memory of 0s, and an engine whose `kt` is that of the calibration.
+    /// A controller that has made no tick (docs/CONCEPT.md, "The controller"): with this calibration, the image
+    /// that level 1 runs (at most 1,024 words), the fault of the run, if any, which is a valid one, a memory of
+    /// 0s, and an engine whose `kt` is that of the calibration. NoMemory gives up memory and engine.
     pub fn new(
         calibration: Calibration,
         image: &[u16],
@@ -109,8 +110,12 @@ impl<E: Engine + Drop, M: Guarded + Drop> Controller<E, M> {
         // It stands for the history of this run without a tick.
         ensures stands { IfOk result (λ controller.
             Stands (record { cal = calibration; image = image.now; fault = fault }) controller.kept []) }
+        // The engine is the one handed in, and what is kept of it is what it shows.
         ensures engine { IfOk result (λ controller. controller.engine ≡ engine) }
-        // NoMemory never comes over a sure memory.
+        ensures shows { IfOk result (λ controller. controller.kept.shown ≡ E.shows engine) }
+        // NoMemory never comes over a sure memory, and the controller's is as sure as the one handed in.
+        ensures kept_sure { IfOk result (λ controller.
+            controller.kept.memory.sure ≡ (M.shows memory).sure) }
         ensures sure { IsTrue (M.shows memory).sure → IsOk result }
     {
         let mut memory = memory;
@@ -134,8 +139,9 @@ impl<E: Engine + Drop, M: Guarded + Drop> Controller<E, M> {
         })
     }
 
-    /// One tick of all three levels (docs/CONCEPT.md, "A run, tick by tick"), and its row. It is counted in
-    /// `steps`.
+    /// One tick of all three levels (docs/CONCEPT.md, "A run, tick by tick" and "The controller"), and its row.
+    /// It is counted in `steps`. A controller makes at most 20,000 ticks. After NoMemory every later tick
+    /// answers NoMemory.
     pub fn tick(
         &mut self,
         drive: &Drive,
@@ -152,11 +158,15 @@ impl<E: Engine + Drop, M: Guarded + Drop> Controller<E, M> {
         ensures engine { (s : Setting) (h : List Entry) → Stands s self.old.kept h → OnOk result
             (E.steps self.old.engine (last_world (moments s h)).throttle (last_world (moments s h)).ignition
             (on_at (effects_after s h) (moments s h)) (effects_after s h).held self.new.engine) }
+        ensures shows { self.new.kept.shown ≡ E.shows self.new.engine }
+        // Once it is trapped level 1 changes nothing any more: its outputs hold.
+        ensures trapped { (s : Setting) (h : List Entry) → Stands s self.old.kept h
+            → IsSome self.old.kept.trap → IfOk result (HoldsOutputs (last_world (moments s h))) }
         // The stages are off in time after a confirmed torque excess, and a lapse is cut.
-        ensures reacts { (s : Setting) → IfOk result (ReactsInTime s self.old.kept) }
-        ensures at_once { (s : Setting) → IfOk result (ReactsAtOnce s self.old.kept) }
-        ensures lapses { (s : Setting) → IfOk result (CutsLapses s self.old.kept) }
-        ensures short { (s : Setting) → LapsesAreShort s self.new.kept }
+        ensures reacts { (s : Setting) → IfOk result (RowReactsInTime s self.old.kept) }
+        ensures at_once { (s : Setting) → IfOk result (RowReactsAtOnce s self.old.kept) }
+        ensures lapses { (s : Setting) → IfOk result (RowCutsLapses s self.old.kept) }
+        ensures short { (s : Setting) → HistoryHasShortLapses s self.new.kept }
         // The tick is counted, and its row is weighed.
         ensures count { steps.new.count ≡ (steps.old.count + 1) % 2 ^ 64 }
         ensures weight { IfOk result (λ row.
@@ -166,7 +176,10 @@ impl<E: Engine + Drop, M: Guarded + Drop> Controller<E, M> {
         // After want of memory every later tick answers it. It never comes over a sure memory.
         ensures lost { self.old.kept.lost ≡ true → IsErr result }
         ensures loses { OnErr result (self.new.kept.lost ≡ true) }
-        ensures sure { IsTrue self.old.kept.memory.sure → self.old.kept.lost ≡ false → IsOk result }
+        ensures rests { self.old.kept.lost ≡ true → self.new ≡ self.old }
+        ensures same_ticks { OnErr result (self.new.kept.ticks ≡ self.old.kept.ticks) }
+        ensures same_trap { OnErr result (self.new.kept.trap ≡ self.old.kept.trap) }
+        ensures sure { IsTrue self.old.kept.memory.sure → IsOk result }
         ensures stays_sure { self.new.kept.memory.sure ≡ self.old.kept.memory.sure }
         // It stays a controller of its run.
         ensures fault { self.new.kept.fault ≡ self.old.kept.fault }
@@ -189,13 +202,17 @@ impl<E: Engine + Drop, M: Guarded + Drop> Controller<E, M> {
         ensures engine { (s : Setting) (h : List Entry) → Stands s self.old.kept h → OnOk result
             (E.steps self.old.engine (last_world (moments s h)).throttle (last_world (moments s h)).ignition
             (on_at (effects_after s h) (moments s h)) (effects_after s h).held self.new.engine) }
+        ensures shows { self.new.kept.shown ≡ E.shows self.new.engine }
         ensures ticks { OnOk result (self.new.kept.ticks ≡ self.old.kept.ticks + 1) }
         ensures fault { self.new.kept.fault ≡ self.old.kept.fault }
         ensures cal { self.new.kept.cal ≡ self.old.kept.cal }
         ensures keeps { IsController self.new.kept }
         ensures lost { self.old.kept.lost ≡ true → IsErr result }
         ensures loses { OnErr result (self.new.kept.lost ≡ true) }
-        ensures sure { IsTrue self.old.kept.memory.sure → self.old.kept.lost ≡ false → IsOk result }
+        ensures rests { self.old.kept.lost ≡ true → self.new ≡ self.old }
+        ensures same_ticks { OnErr result (self.new.kept.ticks ≡ self.old.kept.ticks) }
+        ensures same_trap { OnErr result (self.new.kept.trap ≡ self.old.kept.trap) }
+        ensures sure { IsTrue self.old.kept.memory.sure → IsOk result }
         ensures stays_sure { self.new.kept.memory.sure ≡ self.old.kept.memory.sure }
     {
         if self.lost {
@@ -236,9 +253,12 @@ impl<E: Engine + Drop, M: Guarded + Drop> Controller<E, M> {
         &self.engine
     }
 
-    /// Level 1's trap, with the tick at which it came, if any (docs/CONCEPT.md, "Level 1").
+    /// Level 1's trap, with the tick at which it came, or None where it hasn't trapped in the ticks that were
+    /// made (docs/CONCEPT.md, "Level 1").
     pub fn trap(&self) -> Option<(Trap, u32)>
-        ensures { result ≡ self.now.kept.trap }
+        ensures trap { result ≡ self.now.kept.trap }
+        ensures first { (s : Setting) (h : List Entry) → Stands s self.now.kept h
+            → result ≡ first_trap (moments s h) }
     {
         self.trap
     }

@@ -18,7 +18,7 @@ returns-clause-served g c s e h serves =
     let old = (g.M.Guarded.shows c.args.memory.now).words in
     let shown = (g.M.Guarded.shows c.show.new.memory).words in
     let told = c.in_ok-show.ensures in
-    on_ok_both c.run_levels.result (served s e h _ _ _ _ _ old serves _ _) c.run_levels.ensures.nine
+    on_ok_both c.run_levels.result (served s e h _ _ _ _ _ old serves _ _ c.requires.fault) c.run_levels.ensures.nine
     (c.run_levels.ensures.midway (work_at s e h (words_of old)) (due s e h _ _ _ _ _ old serves)
     (midway s e h _ _ _ _ _ old serves shown c.requires.are_words told.are_words told.outside told.readings told.asked))
 

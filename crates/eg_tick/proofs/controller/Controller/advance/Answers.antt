@@ -1,4 +1,4 @@
-use Rattle.std.proofs.Common.{◌≡◌, ◌∙◌, refl, sym, ap, subst, ◌+◌, ◌<◌, ◌||◌, Some, None, List, ◌∷◌, length, slice_index, false}
+use Rattle.std.proofs.Common.{◌≡◌, ◌∙◌, refl, sym, ap, subst, ◌+◌, ◌<◌, ◌||◌, Some, None, List, ◌∷◌, length, slice_index, true, false}
 use Rattle.std.specs.Option.{option_copied}
 use Rattle.eg_answer.specs.declared.rules.Rules.{Rules}
 use Rattle.eg_torque.specs.Permit.{drive_permits}
@@ -137,7 +137,7 @@ stood g c s h stands = goes g c s h (was g c s h stands)
 still : (g : Over) (c : goal.After-self-6-1 g) → IsController (new g c)
 still g c =
     let some = c.self.invariant.keeps.stands c.if-self.false in
-    record { accepted = c.self.invariant.keeps.accepted; fault = c.self.invariant.keeps.fault; stands = λ held. (some.0, entry g c ∷ some.1, goes g c _ some.1 some.2) }
+    record { accepted = c.self.invariant.keeps.accepted; fault = c.self.invariant.keeps.fault; stands = λ held. (some.0, entry g c ∷ some.1, goes g c _ some.1 some.2); unsure = λ gone. absurd (let clash : false ≡ true = gone in cc) }
 
 steps : (g : Over) (c : goal.After-self-6-1 g) → g.E.Engine.steps c.args.self.now.engine (slice_index (g.M.Guarded.shows c.self.inside.memory).words 2064)
     (slice_index (g.M.Guarded.shows c.self.inside.memory).words 2065) c.at.result.on (effects c.self.inside.fault c.self.inside.ticks).held c.step_engine.new.engine

@@ -1,4 +1,4 @@
-use Rattle.std.proofs.Common.{◌∙◌, refl, sym, ap, ap₂, subst, length, replicate, [], false, None}
+use Rattle.std.proofs.Common.{◌∙◌, refl, sym, ap, ap₂, subst, length, replicate, [], true, false, None}
 use Rattle.eg_guard.specs.Memory.{AreWords}
 use Rattle.eg_guard.proofs.WordsLemmas.{zeros_are_words}
 use Rattle.eg_word.specs.World.{world_of}
@@ -63,7 +63,7 @@ made g c =
 pub invariant_of-result : goal.invariant_of-result
 invariant_of-result g c = record {
   parts = c.new-level2.ensures.parts ∙ ap₂ (λ a b. record { rules = a; questions = b }) (c.copy.ensures ∙ c.rules.ensures.rules) (c.copy-2.ensures ∙ c.questions.ensures.questions);
-  keeps = record { accepted = c.rules.ensures.accepted; fault = c.requires.fault; stands = λ held. (c.args.image.now, [], made g c) };
+  keeps = record { accepted = c.rules.ensures.accepted; fault = c.requires.fault; stands = λ held. (c.args.image.now, [], made g c); unsure = λ gone. absurd (let clash : false ≡ true = gone in cc) };
 }
 
 pub returns-clause-stands : goal.returns-clause-stands

@@ -1,5 +1,6 @@
 use Rattle.std.proofs.Common.{subst}
 use Rattle.eg_values.specs.Calibration.{IsAccepted}
+use Rattle.eg_tick.proofs.TrapLemmas.{outputs-hold}
 use Rattle.eg_tick.proofs.ReactionLemmas.{reacts, at_once, cuts, short}
 use Rattle.eg_tick.proofs.controller.Controller.tick.Given.{Over}
 use Rattle.eg_tick.proofs.controller.Controller.tick.Goals as goal
@@ -18,3 +19,7 @@ returns-clause-lapses g c s = cuts s c.args.self.now.kept _ (accepted g c) c.in_
 
 pub returns-clause-short : goal.returns-clause-short
 returns-clause-short g c s = short s _ c.advance.ensures.keeps.accepted
+
+pub returns-clause-trapped : goal.returns-clause-trapped
+returns-clause-trapped g c s h stands trapped =
+    outputs-hold s _ h c.in_ok-row.row (subst IsSome stands.trap trapped) (c.in_ok-row.ensures.row s h stands)
