@@ -19,7 +19,7 @@ use crate::paths::Paths;
 use crate::plant::{readings, step_engine};
 use crate::row::{Beginning, limit, row};
 use crate::working::{Task, work};
-use crate::{Slices, Ticks};
+use crate::Slices;
 use eg_base::NoMemory;
 use eg_fault::{Fault, held, sends};
 use eg_guard::Guarded;
@@ -32,6 +32,10 @@ use eg_record::Row;
 use eg_values::Calibration;
 use eg_word::{State, Trap};
 use std::marker::Model;
+
+mod ticks;
+
+pub use ticks::Ticks;
 
 /// The controller (docs/CONCEPT.md, "A run, tick by tick"): level 1 and level 2 over one guarded memory, the
 /// monitoring module, the latches of the two paths, and the engine. Contracts see its `ControllerParts`.

@@ -16,11 +16,9 @@ mod plant;
 mod row;
 mod run;
 mod slices;
-mod ticks;
 mod total;
 mod working;
 
-pub use controller::Controller;
+pub use controller::{Controller, Ticks};
 pub use run::{RunRecord, run_one};
 pub use slices::{SlicePlan, Slices};
-pub use ticks::Ticks;

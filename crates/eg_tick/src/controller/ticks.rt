@@ -46,14 +46,14 @@ impl Ticks {
     }
 
     /// One tick more.
-    pub(crate) fn raise(&mut self)
+    pub(super) fn raise(&mut self)
         ensures { self.new ≡ record self.old { count = (self.old.count + 1) % 2 ^ 64 } }
     {
         self.count = self.count.wrapping_add(1);
     }
 
     /// The row of that tick.
-    pub(crate) fn add(&mut self, row: &Row)
+    pub(super) fn add(&mut self, row: &Row)
         ensures { self.new
             ≡ record self.old { weights = (self.old.weights + weight_of row.now) % 2 ^ 64 } }
     {
