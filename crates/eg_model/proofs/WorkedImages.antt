@@ -1,9 +1,9 @@
--- Short runs without a fault, and one that a slice reads at once, computed from the definitions.
+-- Short runs of some images, computed from the definitions.
 use Rattle.std.proofs.Common.{◌≡◌, [], ◌∷◌, map, Some, None, refl}
 use Rattle.std.specs.Prelude.{codes}
 use Rattle.eg_record.specs.declared.watch.Watch.TheVariants.{Torque}
-use Rattle.eg_model.specs.Rows.{report_of}
-use Rattle.eg_model.specs.Examples.{full, alternating_run, flipped_probe_run, raise_run, bench_run, moments_in_time, reported}
+use Rattle.eg_model.specs.Rows.{report_of, rows_of}
+use Rattle.eg_model.specs.Examples.{full, probe_run, probe_row, alternating_run, flipped_probe_run, raise_run, bench_run, moments_in_time, reported}
 use Rattle.eg_model.proofs.WholeModel.{whole_model}
 
 -- ---- full throttle, without a fault ----
@@ -12,6 +12,17 @@ pub full_throttle : report_of (codes "a") (bench_run full None 20)
     ≡ reported (Some (Torque, 9)) (Some 10) None (Some 9)
 unfolding whole_model
 full_throttle = refl
+
+-- ---- slices lie between the modules ----
+
+pub probed : map (λ m. m.world.throttle) (moments_in_time probe_run) ≡ 100 ∷ 0 ∷ 100 ∷ 65436 ∷ []
+unfolding whole_model
+probed = refl
+
+pub probed-rows : rows_of (moments_in_time probe_run) ≡
+    probe_row 0 0 40 100 100 ∷ probe_row 1 50 40 100 0 ∷ probe_row 2 0 80 200 100 ∷ probe_row 3 50 40 100 65436 ∷ []
+unfolding whole_model
+probed-rows = refl
 
 -- ---- slice rows in turn, flipped words, and ports ----
 

@@ -10,7 +10,7 @@ mod reaction;
 mod records;
 mod sharp_cut;
 
-pub use examples::{alternating_slices, full_run, raise_is_read};
+pub use examples::{alternating_slices, full_run, probing_run, raise_is_read};
 pub use faulty_runs::{
     disturbed_raise, flip_seen_by_level_1, halted_and_held_runs, lapsed_run, latched_run,
     limited_run, offset_track, path_2_runs, wild_run,

@@ -2,20 +2,9 @@
 use Rattle.std.proofs.Common.{◌≡◌, [], ◌∷◌, ◌++◌, map, replicate, take, drop, Some, None, refl}
 use Rattle.std.specs.Prelude.{codes}
 use Rattle.eg_word.specs.declared.registers.Trap.TheVariants.{Fetch, Store}
-use Rattle.eg_model.specs.Rows.{report_of, rows_of, signal_list}
-use Rattle.eg_model.specs.Examples.{idle, storing, probe_run, follow_run, probe_row, looping_run, bench_run, moments_in_time, reported}
+use Rattle.eg_model.specs.Rows.{report_of, signal_list}
+use Rattle.eg_model.specs.Examples.{idle, storing, follow_run, looping_run, bench_run, moments_in_time, reported}
 use Rattle.eg_model.proofs.WholeModel.{whole_model}
-
--- ---- slices lie between the modules ----
-
-pub probed : map (λ m. m.world.throttle) (moments_in_time probe_run) ≡ 100 ∷ 0 ∷ 100 ∷ 65436 ∷ []
-unfolding whole_model
-probed = refl
-
-pub probed-rows : rows_of (moments_in_time probe_run) ≡
-    probe_row 0 0 40 100 100 ∷ probe_row 1 50 40 100 0 ∷ probe_row 2 0 80 200 100 ∷ probe_row 3 50 40 100 65436 ∷ []
-unfolding whole_model
-probed-rows = refl
 
 -- ---- traps ----
 

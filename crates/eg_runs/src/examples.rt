@@ -7,8 +7,8 @@ ghost use Rattle.eg_fault.specs.declared.class.Class.TheVariants.{Path1Closed};
 ghost use Rattle.eg_record.specs.declared.watch.Watch.TheVariants as found;
 ghost use Rattle.eg_word.specs.declared.registers.Trap.TheVariants as trapped;
 ghost use Rattle.eg_record.specs.Texts.{report_end};
-ghost use Rattle.eg_model.specs.Rows.{report_of, rows_of, signal_list};
-ghost use Rattle.eg_model.specs.Examples.{idle, full, storing, fault_from, bench_run, probe_row, probe_run, follow_run, looping_run, reported, moments_in_time, answers_of, verdicts_of, stages_of};
+ghost use Rattle.eg_model.specs.Rows.{report_of, signal_list};
+ghost use Rattle.eg_model.specs.Examples.{idle, full, storing, fault_from, bench_run, follow_run, looping_run, reported, moments_in_time, answers_of, verdicts_of, stages_of};
 
 /// Level 1 at full throttle, tick by tick: the charge, the stages, and the answers and verdicts of 40 ticks.
 /// After the trip no answer is sent, so wrong answers are found at tick 39.
@@ -38,14 +38,6 @@ pub fn three_runs()
     ensures { report_end (map (report_of (codes "a"))
         (bench_run idle None 60 ∷ bench_run full None 60 ∷ bench_run full (fault_from 0 Path1Closed) 60 ∷ []))
         ≡ codes "runs 3; detected 2; off 2\n" }
-{}
-
-/// In slices 3 and 4 level 1 reads the actual torque before and after its module has run, and gives the
-/// difference to the throttle: the four rows of the record.
-pub fn probing_run()
-    ensures { rows_of (moments_in_time probe_run)
-        ≡ probe_row 0 0 40 100 100 ∷ probe_row 1 50 40 100 0
-        ∷ probe_row 2 0 80 200 100 ∷ probe_row 3 50 40 100 65436 ∷ [] }
 {}
 
 /// The pedal is pressed and let go: the charge follows, and there is an excess at ticks 25 and 26 alone,

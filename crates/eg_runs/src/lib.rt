@@ -8,8 +8,8 @@ mod faulty_runs;
 mod lapses;
 
 pub use examples::{
-    empty_image, following_run, full_run_in_detail, idle_run, looping_image, probing_run,
-    refused_store, three_runs,
+    empty_image, following_run, full_run_in_detail, idle_run, looping_image, refused_store,
+    three_runs,
 };
 pub use faulty_runs::{
     disturbed_run, flipped_run, lost_load_run, moved_answers_run, path_1_closed_run,
