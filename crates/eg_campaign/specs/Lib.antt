@@ -8,3 +8,4 @@ pub mod Runs
 pub mod Campaign
 pub mod Ticks
 pub mod Rules
+pub mod Plays
