@@ -1,4 +1,6 @@
 // How a command that plays runs ends.
+ghost use Rattle.std.specs.Prelude.{◌≡◌};
+
 use eg_base::Text;
 use eg_outcome::Outcome;
 

@@ -6,12 +6,6 @@
 
 mod campaign;
 mod end;
-mod input;
-mod inputs;
 mod lines;
-mod record;
-mod run;
 
 pub use end::End;
-pub use record::record;
-pub use run::run;
