@@ -7,5 +7,6 @@
 mod campaign;
 mod end;
 mod lines;
+mod texts;
 
 pub use end::End;
