@@ -10,7 +10,8 @@ use Rattle.eg_campaign.specs.declared.play.RunInput.{RunInput}
 -- a line for each run in the campaign's order, and a last line
 unfoldable pub report_text : CalibrationParts → List RunInput → List ℕ
 report_text cal inputs =
-    concat (map (λ input. summary_line (report_with cal input)) inputs) ++ report_end (map (report_with cal) inputs)
+    concat (map (λ input. summary_line (report_with cal input)) inputs)
+    ++ report_end (map (report_with cal) inputs)
 
 -- the header, and a line for each row in the order of time
 unfoldable pub record_text : CalibrationParts → RunInput → List ℕ

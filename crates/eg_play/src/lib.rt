@@ -7,6 +7,7 @@
 mod campaign;
 mod end;
 mod lines;
+mod report;
 mod texts;
 
 pub use end::End;
