@@ -1,3 +1,2 @@
-pub mod AppendLemmas
 pub mod ExcessLemmas
 pub mod EndsLemmas

@@ -17,7 +17,7 @@ mod ticks;
 
 pub use key::{CampaignFault, RunKey};
 pub use laws::accepted_files_keep_the_rules;
-pub use play::RunInput;
+pub use play::{RunInput, record_one, run_all};
 pub use reader::read_campaign;
 pub use run::RunPlan;
 pub use ticks::add_ticks;

@@ -53,7 +53,7 @@ records_are_histories r (suc t) =
 -- ---- what comes in on the bench is proper ----
 
 -- the ticks of a run
-pub ticks_to : Run → ℕ → List Tick
+unfoldable pub ticks_to : Run → ℕ → List Tick
 ticks_to r n = ticks r.setting (entries_to r n)
 
 pub moments-are : (r : Run) (n : ℕ) → moments_to r n ≡ moments_of r.setting (ticks_to r n)

@@ -1,2 +1,5 @@
 pub mod InputLemmas
 pub mod InputsLemmas
+pub mod LineLemmas
+pub mod HeadlineLemmas
+pub mod PlayLemmas

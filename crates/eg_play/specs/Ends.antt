@@ -21,7 +21,8 @@ use Rattle.eg_outcome.specs.declared.outcome.Role.TheVariants as role
 use Rattle.eg_play.specs.Files.{campaign_file, trace_file, image_file}
 use Rattle.eg_play.specs.Inputs.{InputComes, InputsCome, too_many}
 use Rattle.eg_play.specs.Headline.{KeepsHeadline}
-use Rattle.eg_play.specs.Texts.{run_with, report_text, record_text, ticks_of, weights_of}
+use Rattle.eg_campaign.specs.Plays.{run_with, ticks_of, weights_of}
+use Rattle.eg_play.specs.Texts.{report_text, record_text}
 
 -- ---- runs are played ----
 

@@ -1,5 +1,6 @@
 // How a command that plays runs ends.
 ghost use Rattle.std.specs.Prelude.{◌≡◌, None};
+
 use eg_base::Text;
 use eg_outcome::Outcome;
 

@@ -8,5 +8,8 @@ mod campaign;
 mod end;
 mod input;
 mod inputs;
+mod lines;
+mod report;
+mod texts;
 
 pub use end::End;

@@ -1,0 +1,136 @@
+-- Runs that are played one after another: their rows, and what their ticks come to.
+use Rattle.std.proofs.Common.{◌≡◌, ◌∙◌, sym, ap, ap₂, subst, ℕ, ◌+◌, ◌%◌, ◌^◌, ◌<◌, ◌≤◌, List, [], ◌∷◌, ◌++◌, map, take, drop, get_or, length, add-one, arith}
+use Rattle.std.specs.Prelude.{reverse, Option, Result, Ok, Err, IfOk, OnOk}
+use Rattle.std.specs.List.{sum}
+use Rattle.std.proofs.Math.Nat.{mod-eq_of_lt}
+use Rattle.std.proofs.Math.Seq.{take-suc}
+use Rattle.std.proofs.lemmas.List.{reverse-reverse, map-append, take-append-drop}
+use Rattle.std.proofs.lemmas.List.Sums.{sum_by-append}
+use Rattle.std.proofs.lemmas.List.Sorted.{sum_by-IsPermutation, IsPermutation-reverse, IsPermutation-map}
+use Rattle.eg_num.specs.Drive.{DriveRow}
+use Rattle.eg_fault.specs.declared.class.Fault.{Fault}
+use Rattle.eg_values.specs.Calibration.{CalibrationParts}
+use Rattle.eg_record.specs.declared.row.Row.{Row}
+use Rattle.eg_record.specs.Rows.{AreRows}
+use Rattle.eg_model.specs.Bench.{Run}
+use Rattle.eg_model.specs.Rows.{record_rows}
+use Rattle.eg_model.specs.Records.{rows_to}
+use Rattle.eg_model.proofs.RecordLaws.{records_are_rows}
+use Rattle.eg_tick.specs.Weights.{TickCount, weight_of}
+use Rattle.eg_tick.specs.Run.{run_by}
+use Rattle.eg_tick.proofs.RunLemmas.{more-mod}
+use Rattle.eg_campaign.specs.Plays.{ticks_of, weights_of, count_after}
+
+-- ---- the rows of a record ----
+
+pub in_time : (r : Run) (rows : List Row) → rows ≡ reverse (record_rows r) → record_rows r ≡ reverse rows
+in_time r rows are = sym (ap reverse are ∙ reverse-reverse (record_rows r))
+
+pub are_rows : (r : Run) (rows : List Row) → rows ≡ reverse (record_rows r) → AreRows (reverse rows)
+are_rows r rows are = subst AreRows (in_time r rows are)
+    (unfold record_rows in (unfold rows_to in (records_are_rows r (length r.drive)).0))
+
+-- runs of equal parts are equal
+pub same_run : (cal : CalibrationParts) (plan : List (List ℕ)) (image image' : List ℕ) (fault fault' : Option Fault)
+    (drive drive' : List DriveRow) → image ≡ image' → fault ≡ fault' → drive ≡ drive' →
+    run_by cal image fault plan drive ≡ run_by cal image' fault' plan drive'
+same_run cal plan image image' fault fault' drive drive' e f g =
+    ap (λ i. run_by cal i fault plan drive) e ∙ ap (λ x. run_by cal image' x plan drive) f ∙ ap (run_by cal image' fault' plan) g
+
+-- ---- sums ----
+
+sum-append : (xs ys : List ℕ) → sum (xs ++ ys) ≡ sum xs + sum ys
+sum-append xs ys = sum_by-append (λ x. x) xs ys
+
+sum-reverse : (f : Row → ℕ) (rows : List Row) → sum (map f (reverse rows)) ≡ sum (map f rows)
+sum-reverse f rows = sum_by-IsPermutation (λ x. x) (map f rows) (map f (reverse rows))
+    (IsPermutation-map f rows (reverse rows) (IsPermutation-reverse rows))
+
+-- ---- the ticks of one run more ----
+
+ticks-append : (xs ys : List Run) → ticks_of (xs ++ ys) ≡ ticks_of xs + ticks_of ys
+unfolding ticks_of
+ticks-append xs ys = ap sum (map-append (λ (r : Run). length r.drive) xs ys)
+    ∙ sum-append (map (λ (r : Run). length r.drive) xs) (map (λ (r : Run). length r.drive) ys)
+
+weights-append : (xs ys : List Run) → weights_of (xs ++ ys) ≡ weights_of xs + weights_of ys
+unfolding weights_of
+weights-append xs ys = ap sum (map-append (λ (r : Run). sum (map weight_of (record_rows r))) xs ys)
+    ∙ sum-append (map (λ (r : Run). sum (map weight_of (record_rows r))) xs) (map (λ (r : Run). sum (map weight_of (record_rows r))) ys)
+
+zero_plus : (n : ℕ) → 0 + n ≡ n
+zero_plus n = omega arith
+
+pub ticks-one : (r : Run) → ticks_of (r ∷ []) ≡ length r.drive
+unfolding ticks_of
+ticks-one r = zero_plus (length r.drive)
+
+weights-one : (r : Run) → weights_of (r ∷ []) ≡ sum (map weight_of (record_rows r))
+unfolding weights_of
+weights-one r = zero_plus (sum (map weight_of (record_rows r)))
+
+counts : ℕ → ℕ → TickCount
+counts n w = record { count = n; weights = w }
+
+-- what a run counts by the rows of its record
+pub counted_one : (was is : TickCount) (r : Run) (rows : List Row) → rows ≡ reverse (record_rows r) →
+    is ≡ record { count = (was.count + length r.drive) % 2 ^ 64; weights = (was.weights + sum (map weight_of rows)) % 2 ^ 64 } →
+    is ≡ count_after was (r ∷ [])
+unfolding counts
+counted_one was is r rows are e = e ∙ ap₂ (λ n w. counts ((was.count + n) % 2 ^ 64) ((was.weights + w) % 2 ^ 64))
+    (sym (ticks-one r)) (ap (λ l. sum (map weight_of l)) are ∙ sum-reverse weight_of (record_rows r) ∙ sym (weights-one r))
+
+-- before the first run
+pub counted-none : (was : TickCount) → was.count < 2 ^ 64 → was.weights < 2 ^ 64 → was ≡ count_after was []
+unfolding ticks_of weights_of counts
+counted-none was count weights = ap₂ counts (low was.count count) (low was.weights weights)
+  where
+    same : (n : ℕ) → n + 0 ≡ n
+    same n = omega arith
+
+    low : (n : ℕ) → n < 2 ^ 64 → n ≡ (n + 0) % 2 ^ 64
+    low n l = sym (ap (λ k. k % 2 ^ 64) (same n) ∙ mod-eq_of_lt l)
+
+-- one run after others
+pub counted-more : (from was is : TickCount) (runs : List Run) (r : Run) → was ≡ count_after from runs →
+    is ≡ count_after was (r ∷ []) → is ≡ count_after from (runs ++ r ∷ [])
+unfolding counts
+counted-more from was is runs r before now = now ∙ ap₂ counts
+    (more-mod (2 ^ 64) from.count (ticks_of runs) was.count (ticks_of (r ∷ [])) (ap (λ (k : TickCount). k.count) before)
+    ∙ ap (λ n. (from.count + n) % 2 ^ 64) (sym (ticks-append runs (r ∷ []))))
+    (more-mod (2 ^ 64) from.weights (weights_of runs) was.weights (weights_of (r ∷ [])) (ap (λ (k : TickCount). k.weights) before)
+    ∙ ap (λ n. (from.weights + n) % 2 ^ 64) (sym (weights-append runs (r ∷ []))))
+
+-- ---- the front of a list ----
+
+-- one item more
+pub map-more : {X Y : Type 0} (f : X → Y) (xs : List X) (i : ℕ) (x : X) → i < length xs → x ≡ get_or xs i x →
+    map f (take (i + 1) xs) ≡ map f (take i xs) ++ f x ∷ []
+map-more f xs i x below is = ap (λ n. map f (take n xs)) (add-one i) ∙ ap (map f) (take-suc xs i x below)
+    ∙ map-append f (take i xs) (get_or xs i x ∷ []) ∙ ap (λ y. map f (take i xs) ++ f y ∷ []) (sym is)
+
+-- a front has no more ticks than the whole
+pub ticks-front : {X : Type 0} (f : X → Run) (xs : List X) (i : ℕ) → ticks_of (map f (take i xs)) ≤ ticks_of (map f xs)
+ticks-front f xs i =
+    let whole : ticks_of (map f xs) ≡ ticks_of (map f (take i xs)) + ticks_of (map f (drop i xs)) =
+    ap (λ l. ticks_of (map f l)) (sym (take-append-drop i xs)) ∙ ap ticks_of (map-append f (take i xs) (drop i xs))
+    ∙ ticks-append (map f (take i xs)) (map f (drop i xs)) in
+    omega (arith, whole)
+
+-- the ticks of a front, with those of the run behind it
+pub ticks-with : {X : Type 0} (f : X → Run) (xs : List X) (i : ℕ) (x : X) → i < length xs → x ≡ get_or xs i x →
+    ticks_of (map f (take i xs)) + length (f x).drive ≤ ticks_of (map f xs)
+ticks-with f xs i x below is =
+    let more : ticks_of (map f (take (i + 1) xs)) ≡ ticks_of (map f (take i xs)) + length (f x).drive =
+    ap ticks_of (map-more f xs i x below is) ∙ ticks-append (map f (take i xs)) (f x ∷ [])
+    ∙ ap (λ n. ticks_of (map f (take i xs)) + n) (ticks-one (f x)) in
+    let front : ticks_of (map f (take (i + 1) xs)) ≤ ticks_of (map f xs) = ticks-front f xs (i + 1) in
+    omega (arith, more, front)
+
+-- ---- results ----
+
+-- a fact by two of what was made
+pub on_ok : {T E : Type 0} (P Q : T → Type 0) (R : Type 0) (result : Result T E) →
+    ((value : T) → P value → Q value → R) → IfOk result P → IfOk result Q → OnOk result R
+on_ok P Q R (Ok value) gives p q = gives value p q
+on_ok P Q R (Err e) gives p q = tt

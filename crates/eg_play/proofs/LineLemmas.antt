@@ -1,0 +1,45 @@
+-- Lines that are made and put one after another.
+use Rattle.std.proofs.Common.{◌≡◌, ◌∙◌, refl, sym, ap, subst, List, ℕ, suc, [], ◌∷◌, ◌++◌, ◌+◌, ◌<◌, map, take, drop, get_or, length}
+use Rattle.std.specs.List.{concat}
+use Rattle.std.proofs.lemmas.List.{map-append}
+use Rattle.std.proofs.lemmas.List.Folds.{concat-append}
+use Rattle.std.proofs.Common.{append-nil}
+use Rattle.eg_base.specs.Outside.{ShownSink, Rose, Appends}
+use Rattle.eg_outcome.specs.Outcomes.{LineEnds}
+use Rattle.eg_outcome.specs.declared.outcome.Outcome.{Outcome}
+use Rattle.eg_outcome.specs.declared.outcome.Outcome.TheVariants as outcome
+use Rattle.eg_outcome.proofs.AppendLemmas.{AppendsPrefix-append, concat-cut, concat-take_more}
+
+-- ---- lines that are made ----
+
+-- one line more
+pub concat-more : {X : Type 0} (f : X → List ℕ) (xs ys : List X) (x : X) → ys ≡ xs ++ x ∷ [] →
+    concat (map f ys) ≡ concat (map f xs) ++ f x
+concat-more f xs ys x is = ap (λ l. concat (map f l)) is ∙ ap concat (map-append f xs (x ∷ []))
+    ∙ concat-append (map f xs) (f x ∷ []) ∙ ap (λ t. concat (map f xs) ++ t) (append-nil (f x))
+
+-- the text of one item more
+pub concat-front : {X : Type 0} (f : X → List ℕ) (xs : List X) (i : ℕ) (x : X) → i < length xs → x ≡ get_or xs i x →
+    concat (map f (take (i + 1) xs)) ≡ concat (map f (take i xs)) ++ f x
+concat-front f xs i x below is = concat-take_more f xs i x below
+    ∙ ap (λ y. concat (map f (take i xs)) ++ f y) (sym is)
+
+-- the texts up to an item, its own, and those behind it
+pub concat-at : {X : Type 0} (f : X → List ℕ) (xs : List X) (i : ℕ) (x : X) → i < length xs → x ≡ get_or xs i x →
+    concat (map f xs) ≡ (concat (map f (take i xs)) ++ f x) ++ concat (map f (drop (suc i) xs))
+concat-at f xs i x below is = concat-cut f xs i x below
+    ∙ ap (λ y. (concat (map f (take i xs)) ++ f y) ++ concat (map f (drop (suc i) xs))) (sym is)
+
+-- ---- lines that are put ----
+
+-- a line is refused after whole ones: so much of all lines was put
+pub LineEnds-within : (before mid now : ShownSink) (whole line rest : List ℕ) (o : Outcome) → (o ≡ outcome.Done → ⊥) →
+    Appends before mid whole → mid.faults ≡ before.faults → LineEnds line mid now o → LineEnds ((whole ++ line) ++ rest) before now o
+LineEnds-within before mid now whole line rest outcome.Done refused put same ends = absurd (refused refl)
+LineEnds-within before mid now whole line rest outcome.WriteFault refused put same ends =
+    (AppendsPrefix-append before mid now whole line rest put ends.0, subst (λ n. Rose n now.faults) same ends.1)
+LineEnds-within before mid now whole line rest outcome.Memory refused put same ends =
+    AppendsPrefix-append before mid now whole line rest put ends
+LineEnds-within before mid now whole line rest outcome.Usage refused put same ends = ends
+LineEnds-within before mid now whole line rest (outcome.ReadFault file) refused put same ends = ends
+LineEnds-within before mid now whole line rest (outcome.Refused why) refused put same ends = ends

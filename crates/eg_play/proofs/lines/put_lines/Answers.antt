@@ -1,0 +1,33 @@
+use Rattle.std.proofs.Common.{◌∙◌, sym, subst, take, drop, map, suc}
+use Rattle.std.specs.Prelude.{string_bytes}
+use Rattle.std.specs.List.{concat}
+use Rattle.eg_outcome.specs.Outcomes.{LineEnds}
+use Rattle.eg_outcome.proofs.AppendLemmas.{Appends-append}
+use Rattle.eg_play.proofs.LineLemmas.{concat-front, concat-at, LineEnds-within}
+use Rattle.eg_play.proofs.lines.put_lines.Goals as goal
+
+pub returns-in_default : goal.returns-in_default
+returns-in_default g c =
+    let shows = g.K.Sink.shows in
+    let lines = c.args.lines.now in
+    let i = c.loop-line.line-index in
+    record {
+      ends = subst (λ text. LineEnds text (shows c.args.out.now) (shows c.put_line.new.out) c.put_line.result)
+          (sym (concat-at string_bytes lines i c.line-item.result c.loop-line-test.true c.line-item.is))
+          (LineEnds-within (shows c.args.out.now) (shows c.loop-line.out) (shows c.put_line.new.out) (concat (map string_bytes (take i lines))) _
+          (concat (map string_bytes (drop (suc i) lines))) c.put_line.result c.in_default.not-Done
+          c.loop-line.invariant.put c.loop-line.invariant.faults c.put_line.ensures.ends);
+      put = c.put_line.ensures.put;
+    }
+
+pub loop-line-preserved : goal.loop-line-preserved
+loop-line-preserved g c =
+    let shows = g.K.Sink.shows in
+    let lines = c.args.lines.now in
+    let i = c.loop-line.line-index in
+    record {
+      put = rw (concat-front string_bytes lines i c.line-item.result c.loop-line-test.true c.line-item.is)
+          (Appends-append (shows c.args.out.now) (shows c.loop-line.out) (shows c.put_line.new.out) (concat (map string_bytes (take i lines))) _
+          c.loop-line.invariant.put c.in-Done.ensures.ends.0);
+      faults = c.in-Done.ensures.ends.1 ∙ c.loop-line.invariant.faults;
+    }

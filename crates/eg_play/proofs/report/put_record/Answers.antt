@@ -1,0 +1,35 @@
+use Rattle.std.proofs.Common.{◌≡◌, ◌∙◌, sym, ap, subst, ◌≤◌, map}
+use Rattle.std.specs.Prelude.{string_bytes}
+use Rattle.std.specs.List.{concat}
+use Rattle.eg_outcome.specs.Outcomes.{LineEnds}
+use Rattle.eg_campaign.specs.Plays.{run_with}
+use Rattle.eg_campaign.proofs.PlayLemmas.{ticks-one}
+use Rattle.eg_play.specs.Texts.{record_text}
+use Rattle.eg_play.proofs.HeadlineLemmas.{keeps_headline_alone}
+use Rattle.eg_play.proofs.PlayLemmas.{no_memory, no_lines, put, record_is}
+use Rattle.eg_play.proofs.report.put_record.Goals as goal
+
+pub returns-in_default : goal.returns-in_default
+returns-in_default g c =
+    let a = c.args in
+    let (n, most, is) = c.in_default.ensures.count in
+    no_memory _ _ (g.K.Sink.shows a.out.now) a.steps.now c.record_one.new.steps n
+    (subst (λ k. n ≤ k) (sym (ticks-one (run_with a.calibration.now a.input.now))) most) is
+    (keeps_headline_alone a.calibration.now c.rules-rules.ensures.accepted a.input.now c.requires)
+
+pub returns-in_default-record_lines : goal.returns-in_default-record_lines
+returns-in_default-record_lines g c =
+    let a = c.args in
+    no_lines _ _ (g.K.Sink.shows a.out.now) a.steps.now c.record_one.new.steps c.in-Ok.ensures.counted
+    (keeps_headline_alone a.calibration.now c.rules-rules.ensures.accepted a.input.now c.requires)
+
+pub returns : goal.returns
+returns g c =
+    let a = c.args in
+    let shows = g.K.Sink.shows in
+    let text : concat (map string_bytes c.deref.result.now) ≡ record_text a.calibration.now a.input.now =
+    ap (λ lines. concat (map string_bytes lines)) c.deref.ensures.value ∙ c.in-Ok-record_lines.ensures
+    ∙ record_is a.calibration.now a.input.now c.as_slice.result.now (c.as_slice.ensures ∙ c.in-Ok.ensures.rows) in
+    put _ _ (shows a.out.now) (shows c.put_lines.new.out) a.steps.now c.record_one.new.steps c.put_lines.result c.in-Ok.ensures.counted
+    (subst (λ t. LineEnds t (shows a.out.now) (shows c.put_lines.new.out) c.put_lines.result) text c.put_lines.ensures.ends)
+    (keeps_headline_alone a.calibration.now c.rules-rules.ensures.accepted a.input.now c.requires)
