@@ -1,3 +1,4 @@
-pub mod AppendLemmas
 pub mod ExcessLemmas
+pub mod FileLemmas
+pub mod PlayLemmas
 pub mod EndsLemmas
