@@ -1,2 +1,4 @@
 pub mod ExcessLemmas
+pub mod FileLemmas
+pub mod PlayLemmas
 pub mod EndsLemmas

@@ -1,15 +1,15 @@
 -- What `check` says of a file: the first tick by which the torque excess of its rows is confirmed.
-use Rattle.std.specs.Prelude.{ℕ, List, ◌++◌, Bool, map, codes, decimal, Option, Some, None, Result, Ok, Err, if◌then◌else◌}
+use Rattle.std.specs.Prelude.{ℕ, List, ◌++◌, Bool, map, codes, decimal, Option, Some, None, Result, Ok, Err}
 use Rattle.eg_torque.specs.Permit.{drive_permits}
 use Rattle.eg_torque.specs.Excess.{is_excess}
 use Rattle.eg_input.specs.CheckFile.{CheckRow, check_rows}
 use Rattle.eg_input.specs.Records.{records_of}
 use Rattle.eg_input.specs.declared.fault.TraceFault.{TraceFault}
 use Rattle.eg_answer.specs.declared.rules.Rules.{Rules}
-use Rattle.eg_app.specs.Files.{is_too_long}
-use Rattle.eg_app.specs.declared.outcome.Refusal.{Refusal}
-use Rattle.eg_app.specs.declared.outcome.Refusal.TheVariants as refusal
-use Rattle.eg_app.specs.declared.outcome.Role.TheVariants as role
+use Rattle.eg_outcome.specs.Reads.{sized}
+use Rattle.eg_outcome.specs.declared.outcome.Refusal.{Refusal}
+use Rattle.eg_outcome.specs.declared.outcome.Refusal.TheVariants as refusal
+use Rattle.eg_outcome.specs.declared.outcome.Role.TheVariants as role
 
 -- the torque of a row exceeds what the drive permits, by more than the threshold
 abbrev pub is_row_excess : Rules → CheckRow → Bool
@@ -31,5 +31,4 @@ refused_rows (Err fault) = Err (refusal.Check fault)
 
 -- the rows of a check file, or its first refusal: of its size, or else of its records
 abbrev pub check_file : List ℕ → Result (List CheckRow) Refusal
-check_file bytes =
-    if is_too_long bytes then Err (refusal.Size role.Check) else refused_rows (check_rows (records_of bytes))
+check_file = sized role.Check (λ bytes. refused_rows (check_rows (records_of bytes)))

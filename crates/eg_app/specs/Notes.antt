@@ -1,39 +1,96 @@
 -- The one line that notes how a call ended. Nothing is noted of one that did its work.
-use Rattle.std.specs.Prelude.{ℕ, List, [], ◌++◌, codes, decimal, Option, Some, unwrap_or, IsTrue}
-use Rattle.eg_base.specs.Outside.{ShownSink, Rose, Appends, AppendsPrefix}
+use Rattle.std.specs.Prelude.{◌≡◌, ℕ, List, [], ◌++◌, codes, decimal, Option, Some, None, unwrap_or, IsTrue}
+use Rattle.eg_base.specs.Outside.{ShownStore, ShownSink, Rose, Appends, AppendsPrefix}
 use Rattle.eg_input.specs.declared.fault.TraceFault.{TraceFault}
 use Rattle.eg_input.specs.declared.fault.TraceFault.TheVariants as trace_fault
+use Rattle.eg_input.specs.declared.fault.ImageFault.{ImageFault}
+use Rattle.eg_input.specs.declared.fault.ImageFault.TheVariants as image_fault
 use Rattle.eg_cal.specs.declared.key.CalFault.{CalFault}
 use Rattle.eg_cal.specs.declared.key.CalFault.TheVariants as cal_fault
 use Rattle.eg_cal.specs.Keys.{text_of}
-use Rattle.eg_app.specs.declared.outcome.Outcome.{Outcome}
-use Rattle.eg_app.specs.declared.outcome.Outcome.TheVariants as outcome
-use Rattle.eg_app.specs.declared.outcome.Refusal.{Refusal}
-use Rattle.eg_app.specs.declared.outcome.Refusal.TheVariants as refusal
-use Rattle.eg_app.specs.declared.outcome.Role.{Role}
-use Rattle.eg_app.specs.declared.outcome.Role.TheVariants as role
-use Rattle.eg_app.specs.Words.{Command, check, bound}
+use Rattle.eg_campaign.specs.declared.key.CampaignFault.{CampaignFault}
+use Rattle.eg_campaign.specs.declared.key.CampaignFault.TheVariants as campaign_fault
+use Rattle.eg_campaign.specs.Keys.{text_of as run_key_text}
+use Rattle.eg_outcome.specs.declared.outcome.Outcome.{Outcome}
+use Rattle.eg_outcome.specs.declared.outcome.Outcome.TheVariants as outcome
+use Rattle.eg_outcome.specs.declared.outcome.Refusal.{Refusal}
+use Rattle.eg_outcome.specs.declared.outcome.Refusal.TheVariants as refusal
+use Rattle.eg_outcome.specs.declared.outcome.Role.{Role}
+use Rattle.eg_outcome.specs.declared.outcome.Role.TheVariants as role
+use Rattle.eg_play.specs.Ends.{role_in, IsNameIn, NamesFile}
+use Rattle.eg_app.specs.Words.{Command, check, bound, run, record_run}
 
 -- ---- the file that an outcome speaks of ----
 
--- the name of a command's file that has this role
-abbrev pub name_of : Command → Role → List ℕ
-name_of (check calibration file) role.Calibration = unwrap_or calibration []
-name_of (check calibration file) role.Check = file
-name_of (bound calibration) role.Calibration = unwrap_or calibration []
-name_of (bound calibration) role.Check = []
+-- the name behind `--cal`, empty where there is none
+abbrev pub calibration_name : Command → List ℕ
+calibration_name (check calibration file) = unwrap_or calibration []
+calibration_name (bound calibration) = unwrap_or calibration []
+calibration_name (run calibration campaign) = unwrap_or calibration []
+calibration_name (record_run calibration campaign name) = unwrap_or calibration []
 
--- the role of the file that a refusal speaks of
-abbrev pub role_of : Refusal → Role
-role_of (refusal.Size file) = file
-role_of (refusal.Calibration _) = role.Calibration
-role_of (refusal.Check _) = role.Check
+-- the name of the check file, empty where there is none
+abbrev pub check_name : Command → List ℕ
+check_name (check calibration file) = file
+check_name _ = []
+
+-- the name of the campaign, empty where there is none
+abbrev pub campaign_name : Command → List ℕ
+campaign_name (run calibration campaign) = campaign
+campaign_name (record_run calibration campaign name) = campaign
+campaign_name _ = []
+
+-- the name in the words of a command's file that has this role; they don't name the files of a run
+abbrev pub name_of : Command → Role → List ℕ
+name_of command role.Calibration = calibration_name command
+name_of command role.Check = check_name command
+name_of command role.Campaign = campaign_name command
+name_of command _ = []
+
+-- the role of the file that a refusal speaks of, if it speaks of one
+abbrev pub role_of : Refusal → Option Role
+role_of (refusal.Size file) = Some file
+role_of (refusal.Calibration _) = Some role.Calibration
+role_of (refusal.Check _) = Some role.Check
+role_of (refusal.Campaign _) = Some role.Campaign
+role_of (refusal.Trace n _) = Some (role.Trace n)
+role_of (refusal.Image n _) = Some (role.Image n)
+role_of refusal.NoRun = None
+
+-- the name in the words of the file that an outcome speaks of, empty where there is none
+abbrev pub name_in_words : Command → Option Role → List ℕ
+name_in_words command (Some file) = name_of command file
+name_in_words command None = []
+
+-- the role of the file that an outcome speaks of, if it speaks of one
+abbrev pub file_role : Outcome → Option Role
+file_role (outcome.ReadFault file) = Some file
+file_role (outcome.Refused r) = role_of r
+file_role _ = None
+
+-- The name of the file of this role: the name in the words. The trace and the image of a run have the name
+-- that the campaign gives, which the store has.
+abbrev pub IsNameOf : Command → ShownStore → Option Role → List ℕ → Type 0
+IsNameOf (run calibration campaign) store (Some (role.Trace n)) name =
+    IsNameIn campaign store (role.Trace n) (Some name)
+IsNameOf (run calibration campaign) store (Some (role.Image n)) name =
+    IsNameIn campaign store (role.Image n) (Some name)
+IsNameOf (record_run calibration campaign played) store (Some (role.Trace n)) name =
+    IsNameIn campaign store (role.Trace n) (Some name)
+IsNameOf (record_run calibration campaign played) store (Some (role.Image n)) name =
+    IsNameIn campaign store (role.Image n) (Some name)
+IsNameOf command store file name = name ≡ name_in_words command file
 
 -- the name of the file that an outcome speaks of, empty where it speaks of none
-abbrev pub file_name : Option Command → Outcome → List ℕ
-file_name (Some command) (outcome.ReadFault file) = name_of command file
-file_name (Some command) (outcome.Refused r) = name_of command (role_of r)
-file_name _ _ = []
+abbrev pub IsFileName : Option Command → ShownStore → Outcome → List ℕ → Type 0
+IsFileName (Some command) store o name = IsNameOf command store (file_role o) name
+IsFileName None store o name = name ≡ []
+
+-- what comes beside the outcome of a command: the name of the trace or the image of a run that it speaks of
+abbrev pub Names : Command → ShownStore → Outcome → Option (List ℕ) → Type 0
+Names (run calibration campaign) store o name = NamesFile campaign store (role_in o) name
+Names (record_run calibration campaign played) store o name = NamesFile campaign store (role_in o) name
+Names command store o name = name ≡ None
 
 -- ---- the line ----
 
@@ -47,26 +104,47 @@ calibration_note (cal_fault.Rising row) = codes ": row " ++ decimal row ++ codes
 calibration_note cal_fault.Window = codes ": answer window\n"
 calibration_note (cal_fault.Answer index) = codes ": answer " ++ decimal index ++ codes "\n"
 
--- what is said of a fault of a check file's records behind the file's name
-abbrev pub check_note : TraceFault → List ℕ
-check_note trace_fault.Memory = codes ": no memory\n"
-check_note trace_fault.Header = codes ": header\n"
-check_note (trace_fault.Row line) = codes ": record " ++ decimal line ++ codes "\n"
-check_note trace_fault.Empty = codes ": no records\n"
-check_note trace_fault.Long = codes ": more than 20000 records\n"
+-- what is said of a fault of the records of a check file or a trace behind the file's name
+abbrev pub trace_note : TraceFault → List ℕ
+trace_note trace_fault.Memory = codes ": no memory\n"
+trace_note trace_fault.Header = codes ": header\n"
+trace_note (trace_fault.Row line) = codes ": record " ++ decimal line ++ codes "\n"
+trace_note trace_fault.Empty = codes ": no records\n"
+trace_note trace_fault.Long = codes ": more than 20000 records\n"
 
--- what is said of a refusal behind the file's name
-abbrev pub refusal_note : Refusal → List ℕ
-refusal_note (refusal.Size _) = codes ": longer than 4194304 bytes\n"
-refusal_note (refusal.Calibration fault) = calibration_note fault
-refusal_note (refusal.Check fault) = check_note fault
+-- what is said of an image's fault behind the file's name
+abbrev pub image_note : ImageFault → List ℕ
+image_note image_fault.Memory = codes ": no memory\n"
+image_note (image_fault.Line line) = codes ": line " ++ decimal line ++ codes "\n"
+image_note image_fault.Long = codes ": more than 1024 lines\n"
+
+-- what is said of a campaign's fault behind the file's name
+abbrev pub campaign_note : CampaignFault → List ℕ
+campaign_note campaign_fault.Memory = codes ": no memory\n"
+campaign_note campaign_fault.Text = codes ": not TOML\n"
+campaign_note (campaign_fault.Key n key) =
+    codes ": run " ++ decimal n ++ codes " key " ++ run_key_text key ++ codes "\n"
+campaign_note (campaign_fault.TwoFaults n) = codes ": run " ++ decimal n ++ codes " has two faults\n"
+campaign_note (campaign_fault.Name n) = codes ": run " ++ decimal n ++ codes " repeats a name\n"
+campaign_note campaign_fault.Many = codes ": more than 1000 runs\n"
+campaign_note (campaign_fault.Ticks n) = codes ": run " ++ decimal n ++ codes " passes 1000000 ticks\n"
+
+-- the line that notes a refusal, for a file of this name
+abbrev pub refusal_note : Refusal → List ℕ → List ℕ
+refusal_note (refusal.Size _) file = file ++ codes ": longer than 4194304 bytes\n"
+refusal_note (refusal.Calibration fault) file = file ++ calibration_note fault
+refusal_note (refusal.Check fault) file = file ++ trace_note fault
+refusal_note (refusal.Campaign fault) file = file ++ campaign_note fault
+refusal_note (refusal.Trace _ fault) file = file ++ trace_note fault
+refusal_note (refusal.Image _ fault) file = file ++ image_note fault
+refusal_note refusal.NoRun file = codes "no such run\n"
 
 -- the line that notes an outcome, for a file of this name
 abbrev pub note_of : Outcome → List ℕ → List ℕ
 note_of outcome.Done file = []
 note_of outcome.Usage file = codes "not a command of egasim\n"
 note_of (outcome.ReadFault _) file = codes "cannot read " ++ file ++ codes "\n"
-note_of (outcome.Refused r) file = file ++ refusal_note r
+note_of (outcome.Refused r) file = refusal_note r file
 note_of outcome.WriteFault file = codes "cannot write\n"
 note_of outcome.Memory file = codes "no memory\n"
 
@@ -77,3 +155,8 @@ note_of outcome.Memory file = codes "no memory\n"
 pub record PutsNote (notes now : ShownSink) (line : List ℕ) : Type 0 where
   pub prefix : AppendsPrefix notes now line
   pub whole : IsTrue notes.sure → ¬ Rose notes.faults now.faults → Appends notes now line
+
+-- the line of an outcome was put so, with the name of the file that it speaks of
+abbrev pub NotesOutcome : Option Command → ShownStore → ShownSink → ShownSink → Outcome → Type 0
+NotesOutcome command store notes now o =
+    (name : List ℕ) × IsFileName command store o name × PutsNote notes now (note_of o name)

@@ -6,16 +6,21 @@ use Rattle.std.specs.declared.alloc.Global.{Global}
 use Rattle.eg_app.specs.declared.command.Command.{Command as Parsed}
 use Rattle.eg_app.specs.declared.command.Command.TheVariants as parsed
 
--- What can be asked for: to check the file of this name, or the reaction time. Each goes by the calibration
--- in the file of the name behind `--cal`, or by the reference calibration where there is none.
+-- What can be asked for: to check the file of this name; the reaction time; to run the campaign of this name;
+-- or the record of its run of that name. Each goes by the calibration in the file of the name behind `--cal`,
+-- or by the reference calibration where there is none.
 pub data Command : Type 0 where
   check : (calibration : Option (List ℕ)) (file : List ℕ) → Command
   bound : (calibration : Option (List ℕ)) → Command
+  run : (calibration : Option (List ℕ)) (campaign : List ℕ) → Command
+  record_run : (calibration : Option (List ℕ)) (campaign : List ℕ) (name : List ℕ) → Command
 
 -- what a command says, without where its text lies in memory
 abbrev pub said : Parsed → Command
 said (parsed.Check calibration file) = check (option_copied calibration) file.now
 said (parsed.Bound calibration) = bound (option_copied calibration)
+said (parsed.Run calibration campaign) = run (option_copied calibration) campaign.now
+said (parsed.Record calibration campaign name) = record_run (option_copied calibration) campaign.now name.now
 
 -- the bytes of the words
 abbrev pub words_of : List (String Global) → List (List ℕ)
@@ -43,10 +48,23 @@ is_check words own =
 abbrev pub is_bound : List (List ℕ) → ℕ → Bool
 is_bound words own = (length words == own) && bytes_eq (word words 0) (codes "bound")
 
+-- likewise: the words are `run CAMPAIGN`
+abbrev pub is_run : List (List ℕ) → ℕ → Bool
+is_run words own =
+    (length words == own + 1) && bytes_eq (word words 0) (codes "run") && is_name (word words own)
+
+-- likewise: the words are `record CAMPAIGN RUN`
+abbrev pub is_record : List (List ℕ) → ℕ → Bool
+is_record words own = (length words == own + 2) && bytes_eq (word words 0) (codes "record")
+    && is_name (word words own) && is_name (word words (own + 1))
+
 -- what the words ask for by this calibration, where the command's own words begin at place `own`
 abbrev pub form_of : List (List ℕ) → Option (List ℕ) → ℕ → Option Command
 form_of words calibration own = if is_check words own then Some (check calibration (word words own))
-    else if is_bound words own then Some (bound calibration) else None
+    else if is_bound words own then Some (bound calibration)
+    else if is_run words own then Some (run calibration (word words own))
+    else if is_record words own then Some (record_run calibration (word words own) (word words (own + 1)))
+    else None
 
 -- what the words ask for, or none where they have no form of a command
 abbrev pub command_of : List (List ℕ) → Option Command

@@ -3,13 +3,12 @@ ghost use Rattle.std.specs.Prelude.{◌≡◌, None, Some, IfOk, string_bytes};
 ghost use Rattle.std.specs.Option.{option_copied};
 ghost use Rattle.eg_app.specs.Words.{bound};
 ghost use Rattle.eg_app.specs.Bound.{bound_line};
-ghost use Rattle.eg_app.specs.Ends.{LineEnds, BoundEnds, TellsMissing, TellsNoMemory, PutsNothing};
+ghost use Rattle.eg_outcome.specs.Outcomes.{LineEnds, TellsNoMemory, PutsNothing};
+ghost use Rattle.eg_app.specs.Ends.{BoundEnds, TellsMissing};
 
-use crate::Outcome;
-use crate::calibration::calibration_for;
-use crate::line::put_line;
 use eg_answer::{Times, reaction};
 use eg_base::{Sink, Store};
+use eg_outcome::{Outcome, calibration_for, put_line};
 use std::alloc::{AllocError, Global};
 
 /// Does `bound [--cal NAME]`, but for its note.

@@ -1,31 +1,37 @@
 // The top call.
-ghost use Rattle.std.specs.Prelude.{◌≡◌, Some};
+ghost use Rattle.std.specs.Prelude.{◌≡◌, None, Some};
 ghost use Rattle.eg_app.specs.Words.{words_of, command_of, said};
-ghost use Rattle.eg_app.specs.Ends.{Ends, ReadsNothing, TellsMissing, TellsNoMemory, Completes, PutsNothing};
-ghost use Rattle.eg_app.specs.Notes.{PutsNote, note_of, file_name};
-ghost use Rattle.eg_app.specs.declared.outcome.Outcome.TheVariants.{Done};
+ghost use Rattle.eg_app.specs.Ends.{Ends, ReadsNothing, CountsNothing, TellsMissing, Completes};
+ghost use Rattle.eg_app.specs.Notes.{NotesOutcome, Names, IsFileName};
+ghost use Rattle.eg_base.specs.Outside.{ShownStore};
+ghost use Rattle.eg_outcome.specs.Outcomes.{TellsNoMemory, PutsNothing};
+ghost use Rattle.eg_outcome.specs.declared.outcome.Outcome.TheVariants.{Done};
 
-use crate::Outcome;
 use crate::bound::bound;
 use crate::check::check;
 use crate::command::Command;
 use crate::note::note;
 use eg_base::{Sink, Store};
+use eg_outcome::Outcome;
+use eg_play::End;
+use eg_tick::Ticks;
 use std::alloc::Global;
 
 /// Does what the words ask for (docs/FORMATS.md, "Commands"): it reads files from `store`, writes its text to
-/// `out`, and notes any outcome but Done with one line in `notes`. The words don't hold the program's name.
-/// What `notes` refuses changes no outcome (shown by tests: no clause on the outcome speaks of it).
+/// `out`, counts in `steps` the ticks that it makes, and notes any outcome but Done with one line in `notes`.
+/// The words don't hold the program's name. What `notes` refuses changes no outcome (shown by tests: no clause
+/// on the outcome speaks of it).
 pub fn egasim<S: Store, K: Sink, N: Sink>(
     alloc: Global,
     words: &[String],
     store: &mut S,
     out: &mut K,
     notes: &mut N,
+    steps: &mut Ticks,
 ) -> Outcome
-    // How it ends, what was written then, and when each outcome comes.
+    // How it ends, what was written then and which ticks were made, and when each outcome comes.
     ensures ends { Ends (command_of (words_of words.now)) (S.shows store.old) (S.shows store.new)
-        (K.shows out.old) (K.shows out.new) result }
+        (K.shows out.old) (K.shows out.new) steps.old steps.new result }
     ensures missing { TellsMissing (command_of (words_of words.now)) (S.shows store.old) result }
     ensures completes { Completes (command_of (words_of words.now)) (S.shows store.old) (S.shows store.new)
         (K.shows out.old) (K.shows out.new) result }
@@ -35,19 +41,33 @@ pub fn egasim<S: Store, K: Sink, N: Sink>(
     ensures nothing_read { ReadsNothing (command_of (words_of words.now)) → store.new ≡ store.old }
     ensures files { (S.shows store.new).files ≡ (S.shows store.old).files }
     ensures nothing_put { PutsNothing result → out.new ≡ out.old }
+    ensures nothing_played { PutsNothing result → steps.new ≡ steps.old }
+    ensures counts_nothing { CountsNothing (command_of (words_of words.now)) → steps.new ≡ steps.old }
 
     // The note of the outcome is put, and none after Done.
-    ensures note { PutsNote (N.shows notes.old) (N.shows notes.new)
-        (note_of result (file_name (command_of (words_of words.now)) result)) }
+    ensures note { NotesOutcome (command_of (words_of words.now)) (S.shows store.old)
+        (N.shows notes.old) (N.shows notes.new) result }
     ensures no_note { result ≡ Done → notes.new ≡ notes.old }
 {
     let Some(command) = Command::of(words) else {
         note(&Outcome::Usage, "", notes);
         return Outcome::Usage;
     };
-    let outcome = run(alloc, command, store, out);
-    note(&outcome, command.file_of(&outcome), notes);
-    outcome
+    let end = run(alloc, command, store, out, steps);
+    let file = file_of(command, &end);
+    note(&end.outcome, file, notes);
+    end.outcome
+}
+
+/// The name of the file that the outcome of a command speaks of, or nothing where it speaks of none.
+fn file_of<'a>(command: Command<'a>, end: &'a End) -> &'a str
+    ensures { (store : ShownStore) → Names (said command.entry) store end.now.outcome end.now.file
+        → IsFileName (Some (said command.entry)) store end.now.outcome result.now }
+{
+    match &end.file {
+        Some(name) => name.as_str(),
+        None => command.file_of(&end.outcome),
+    }
 }
 
 /// Does what a command asks for, but for its note.
@@ -56,18 +76,22 @@ fn run<S: Store, K: Sink>(
     command: Command<'_>,
     store: &mut S,
     out: &mut K,
-) -> Outcome
+    steps: &mut Ticks,
+) -> End
     ensures ends { Ends (Some (said command.entry)) (S.shows store.old) (S.shows store.new)
-        (K.shows out.old) (K.shows out.new) result }
-    ensures missing { TellsMissing (Some (said command.entry)) (S.shows store.old) result }
+        (K.shows out.old) (K.shows out.new) steps.old steps.new result.outcome }
+    ensures names { Names (said command.entry) (S.shows store.old) result.outcome result.file }
+    ensures missing { TellsMissing (Some (said command.entry)) (S.shows store.old) result.outcome }
     ensures completes { Completes (Some (said command.entry)) (S.shows store.old) (S.shows store.new)
-        (K.shows out.old) (K.shows out.new) result }
-    ensures no_memory { TellsNoMemory result }
+        (K.shows out.old) (K.shows out.new) result.outcome }
+    ensures no_memory { TellsNoMemory result.outcome }
     ensures nothing_read { ReadsNothing (Some (said command.entry)) → store.new ≡ store.old }
     ensures files { (S.shows store.new).files ≡ (S.shows store.old).files }
-    ensures nothing_put { PutsNothing result → out.new ≡ out.old }
+    ensures nothing_put { PutsNothing result.outcome → out.new ≡ out.old }
+    ensures nothing_played { PutsNothing result.outcome → steps.new ≡ steps.old }
+    ensures counts_nothing { CountsNothing (Some (said command.entry)) → steps.new ≡ steps.old }
 {
-    work(alloc, command, store, out)
+    work(alloc, command, store, out, steps)
 }
 
 /// The same. That the work is done where nothing hinders it is `run`'s to say.
@@ -76,17 +100,41 @@ fn work<S: Store, K: Sink>(
     command: Command<'_>,
     store: &mut S,
     out: &mut K,
-) -> Outcome
+    steps: &mut Ticks,
+) -> End
     ensures ends { Ends (Some (said command.entry)) (S.shows store.old) (S.shows store.new)
-        (K.shows out.old) (K.shows out.new) result }
-    ensures missing { TellsMissing (Some (said command.entry)) (S.shows store.old) result }
-    ensures no_memory { TellsNoMemory result }
+        (K.shows out.old) (K.shows out.new) steps.old steps.new result.outcome }
+    ensures names { Names (said command.entry) (S.shows store.old) result.outcome result.file }
+    ensures missing { TellsMissing (Some (said command.entry)) (S.shows store.old) result.outcome }
+    ensures no_memory { TellsNoMemory result.outcome }
     ensures nothing_read { ReadsNothing (Some (said command.entry)) → store.new ≡ store.old }
     ensures files { (S.shows store.new).files ≡ (S.shows store.old).files }
-    ensures nothing_put { PutsNothing result → out.new ≡ out.old }
+    ensures nothing_put { PutsNothing result.outcome → out.new ≡ out.old }
+    ensures nothing_played { PutsNothing result.outcome → steps.new ≡ steps.old }
+    ensures counts_nothing { CountsNothing (Some (said command.entry)) → steps.new ≡ steps.old }
 {
     match command {
-        Command::Check { calibration, file } => check(alloc, calibration, file, store, out),
-        Command::Bound { calibration } => bound(alloc, calibration, store, out),
+        Command::Check { calibration, file } => end_of(check(alloc, calibration, file, store, out)),
+        Command::Bound { calibration } => end_of(bound(alloc, calibration, store, out)),
+        Command::Run {
+            calibration,
+            campaign,
+        } => eg_play::run(alloc, calibration, campaign, store, out, steps),
+        Command::Record {
+            calibration,
+            campaign,
+            name,
+        } => eg_play::record(alloc, calibration, campaign, name, store, out, steps),
+    }
+}
+
+/// An end that speaks of no file of a run.
+fn end_of(outcome: Outcome) -> End
+    ensures outcome { result.outcome ≡ outcome }
+    ensures file { result.file ≡ None }
+{
+    End {
+        outcome,
+        file: None,
     }
 }

@@ -1,22 +1,21 @@
 // `check [--cal NAME] FILE`: the first tick by which the torque excess of a file's rows is confirmed.
-ghost use Rattle.std.specs.Prelude.{◌≡◌, ◌↔◌, Some, IfOk, IsTrue, string_bytes};
+ghost use Rattle.std.specs.Prelude.{◌≡◌, ◌≢◌, ◌↔◌, Err, Some, IfErr, IfOk, IsOk, IsTrue, string_bytes};
 ghost use Rattle.std.specs.Option.{option_copied};
 ghost use Rattle.eg_base.specs.Outside.{IsMissing};
 ghost use Rattle.eg_app.specs.Words.{check};
-ghost use Rattle.eg_app.specs.Check.{check_line};
-ghost use Rattle.eg_app.specs.Ends.{LineEnds, RowsEnd, BytesEnd, CheckWorks, CheckEnds, TellsMissing, TellsNoMemory, PutsNothing, IsReadFault};
-ghost use Rattle.eg_app.specs.declared.outcome.Outcome.TheVariants.{ReadFault};
-ghost use Rattle.eg_app.specs.declared.outcome.Role.TheVariants as role;
+ghost use Rattle.eg_app.specs.Check.{check_file, check_line};
+ghost use Rattle.eg_app.specs.Ends.{RowsEnd, CheckWorks, CheckEnds, TellsMissing};
+ghost use Rattle.eg_outcome.specs.Reads.{BytesCome, FileComes};
+ghost use Rattle.eg_outcome.specs.Outcomes.{LineEnds, TellsNoMemory, PutsNothing};
+ghost use Rattle.eg_outcome.specs.declared.outcome.Outcome.TheVariants.{ReadFault};
+ghost use Rattle.eg_outcome.specs.declared.outcome.Role.TheVariants as role;
 
-use crate::calibration::calibration_for;
-use crate::files::{MOST_BYTES, is_too_long};
-use crate::line::put_line;
 use crate::monitoring::first_confirmed;
-use crate::{Outcome, Refusal, Role};
 use eg_answer::Rules;
-use eg_base::{ReadRefusal, Sink, Store};
+use eg_base::{Items, ReadRefusal, Sink, Store};
 use eg_input::{TraceFault, read_check};
 use eg_num::Drive;
+use eg_outcome::{MOST_BYTES, Outcome, Refusal, Role, calibration_for, is_too_long, put_line};
 use std::alloc::{AllocError, Global};
 
 /// Does `check [--cal NAME] FILE`, but for its note. The calibration is read before the file.
@@ -57,28 +56,46 @@ fn check_by<S: Store, K: Sink>(
     ensures files { (S.shows store.new).files ≡ (S.shows store.old).files }
     ensures nothing_put { PutsNothing result → out.new ≡ out.old }
 {
-    let mut bytes = Vec::new(alloc);
-    match store.read(file, MOST_BYTES + 1, &mut bytes) {
-        Ok(()) => check_bytes(alloc, rules, &bytes, out),
-        Err(ReadRefusal::Failed) => Outcome::ReadFault { file: Role::Check },
-        Err(ReadRefusal::Memory) => Outcome::Memory,
+    match rows_of(alloc, file, store) {
+        Ok(rows) => check_rows(alloc, rules, rows.as_slice(), out),
+        Err(outcome) => outcome,
     }
 }
 
-/// Checks a file of these bytes.
-fn check_bytes<K: Sink>(alloc: Global, rules: &Rules, bytes: &[u8], out: &mut K) -> Outcome
-    ensures ends { BytesEnd rules.now bytes.now (K.shows out.old) (K.shows out.new) result }
-    ensures read { IsReadFault result → ⊥ }
-    ensures nothing_put { PutsNothing result → out.new ≡ out.old }
-    ensures no_memory { TellsNoMemory result }
+/// The rows of the file of that name, or how the call ends without them.
+fn rows_of<S: Store>(
+    alloc: Global,
+    file: &str,
+    store: &mut S,
+) -> Result<Items<(Drive, u16)>, Outcome>
+    ensures comes { FileComes role.Check check_file file.now (S.shows store.old) (S.shows store.new) result }
+    ensures missing { IsTrue (S.shows store.old).sure →
+        ((result ≡ Err (ReadFault role.Check)) ↔ IsMissing (S.shows store.old).files file.now) }
+    ensures no_memory { IfErr result TellsNoMemory }
+    ensures shown { IsOk result → S.shows store.new ≡ S.shows store.old }
+    ensures files { (S.shows store.new).files ≡ (S.shows store.old).files }
+{
+    let mut bytes = Vec::new(alloc);
+    match store.read(file, MOST_BYTES + 1, &mut bytes) {
+        Ok(()) => rows_in(alloc, &bytes),
+        Err(ReadRefusal::Failed) => Err(Outcome::ReadFault { file: Role::Check }),
+        Err(ReadRefusal::Memory) => Err(Outcome::Memory),
+    }
+}
+
+/// The rows that a file of these bytes says, or how the call ends without them.
+fn rows_in(alloc: Global, bytes: &[u8]) -> Result<Items<(Drive, u16)>, Outcome>
+    ensures comes { BytesCome check_file bytes.now result }
+    ensures read { result ≢ Err (ReadFault role.Check) }
+    ensures no_memory { IfErr result TellsNoMemory }
 {
     if is_too_long(bytes) {
-        return Outcome::Refused(Refusal::Size { file: Role::Check });
+        return Err(Outcome::Refused(Refusal::Size { file: Role::Check }));
     }
     match read_check(alloc, bytes) {
-        Ok(rows) => check_rows(alloc, rules, &rows, out),
-        Err(TraceFault::Memory) => Outcome::Memory,
-        Err(fault) => Outcome::Refused(Refusal::Check(fault)),
+        Ok(rows) => Ok(Items::new(rows)),
+        Err(TraceFault::Memory) => Err(Outcome::Memory),
+        Err(fault) => Err(Outcome::Refused(Refusal::Check(fault))),
     }
 }
 

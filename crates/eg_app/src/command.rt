@@ -1,10 +1,10 @@
 // The words of the command line.
-ghost use Rattle.std.specs.Prelude.{◌≡◌, ◌≤◌, Some, length, option_map};
+ghost use Rattle.std.specs.Prelude.{◌≡◌, ◌≤◌, [], Some, length, option_map, unwrap_or};
 ghost use Rattle.std.specs.Option.{option_copied};
-ghost use Rattle.eg_app.specs.Notes.{name_of, role_of, file_name};
-ghost use Rattle.eg_app.specs.Words.{words_of, is_name, names_calibration, is_check, is_bound, form_of, command_of, said};
+ghost use Rattle.eg_app.specs.Notes.{calibration_name, check_name, campaign_name, name_of, role_of, file_role, name_in_words};
+ghost use Rattle.eg_app.specs.Words.{words_of, is_name, names_calibration, is_check, is_bound, is_run, is_record, form_of, command_of, said};
 
-use crate::{Outcome, Refusal, Role};
+use eg_outcome::{Outcome, Refusal, Role};
 
 /// What the words of the command line ask for (docs/FORMATS.md, "Commands"). Each command goes by the
 /// calibration in the file behind `--cal`, or by the reference calibration where there is none.
@@ -18,6 +18,17 @@ pub(crate) enum Command<'a> {
     /// `bound [--cal NAME]`.
     Bound {
         calibration: Option<&'a str>,
+    },
+    /// `run [--cal NAME] CAMPAIGN`.
+    Run {
+        calibration: Option<&'a str>,
+        campaign: &'a str,
+    },
+    /// `record [--cal NAME] CAMPAIGN RUN`.
+    Record {
+        calibration: Option<&'a str>,
+        campaign: &'a str,
+        name: &'a str,
     },
 }
 
@@ -48,41 +59,100 @@ impl<'a> Command<'a> {
         if is_bound(words, own) {
             return Some(Command::Bound { calibration });
         }
+        if is_run(words, own) {
+            return Some(Command::Run {
+                calibration,
+                campaign: words[own].as_str(),
+            });
+        }
+        if is_record(words, own) {
+            return Some(Command::Record {
+                calibration,
+                campaign: words[own].as_str(),
+                name: words[own + 1].as_str(),
+            });
+        }
         None
     }
 
-    /// The name of the file that an outcome speaks of, or nothing where it speaks of none.
+    /// The name in the words of the file that an outcome speaks of, or nothing where there is none.
     pub(crate) fn file_of(self, outcome: &Outcome) -> &'a str
-        ensures { result.now ≡ file_name (Some (said self.entry)) outcome.now }
+        ensures { result.now ≡ name_in_words (said self.entry) (file_role outcome.now) }
     {
-        match outcome {
-            Outcome::ReadFault { file } => self.name_of(*file),
-            Outcome::Refused(refusal) => self.name_of(role_of(refusal)),
+        match file_role(outcome) {
+            Some(file) => self.name_of(file),
+            None => "",
+        }
+    }
+
+    /// The name of its file that has this role, or nothing where the words name none.
+    fn name_of(self, file: Role) -> &'a str
+        ensures { result.now ≡ name_of (said self.entry) file }
+    {
+        match file {
+            Role::Calibration => self.calibration().unwrap_or(""),
+            Role::Check => self.check_file(),
+            Role::Campaign => self.campaign(),
+            Role::Trace { .. } | Role::Image { .. } => "",
+        }
+    }
+
+    /// The name behind `--cal`, if there is one.
+    fn calibration(self) -> Option<&'a str>
+        ensures { unwrap_or (option_copied result) [] ≡ calibration_name (said self.entry) }
+    {
+        match self {
+            Command::Check { calibration, .. }
+            | Command::Bound { calibration }
+            | Command::Run { calibration, .. }
+            | Command::Record { calibration, .. } => calibration,
+        }
+    }
+
+    /// The name of the check file, or nothing.
+    fn check_file(self) -> &'a str
+        ensures { result.now ≡ check_name (said self.entry) }
+    {
+        match self {
+            Command::Check { file, .. } => file,
             _ => "",
         }
     }
 
-    /// The name of its file that has this role, or nothing where it has none.
-    fn name_of(self, file: Role) -> &'a str
-        ensures { result.now ≡ name_of (said self.entry) file }
+    /// The name of the campaign, or nothing.
+    fn campaign(self) -> &'a str
+        ensures { result.now ≡ campaign_name (said self.entry) }
     {
-        match (self, file) {
-            (Command::Check { file, .. }, Role::Check) => file,
-            (Command::Check { calibration, .. }, Role::Calibration) => calibration.unwrap_or(""),
-            (Command::Bound { calibration }, Role::Calibration) => calibration.unwrap_or(""),
-            (Command::Bound { .. }, Role::Check) => "",
+        match self {
+            Command::Run { campaign, .. } | Command::Record { campaign, .. } => campaign,
+            _ => "",
         }
     }
 }
 
-/// The role of the file that a refusal speaks of.
-fn role_of(refusal: &Refusal) -> Role
+/// The role of the file that an outcome speaks of, if it speaks of one.
+fn file_role(outcome: &Outcome) -> Option<Role>
+    ensures { result ≡ file_role outcome.now }
+{
+    match outcome {
+        Outcome::ReadFault { file } => Some(*file),
+        Outcome::Refused(refusal) => role_of(refusal),
+        _ => None,
+    }
+}
+
+/// The role of the file that a refusal speaks of, if it speaks of one.
+fn role_of(refusal: &Refusal) -> Option<Role>
     ensures { result ≡ role_of refusal.now }
 {
     match refusal {
-        Refusal::Size { file } => *file,
-        Refusal::Calibration(_) => Role::Calibration,
-        Refusal::Check(_) => Role::Check,
+        Refusal::Size { file } => Some(*file),
+        Refusal::Calibration(_) => Some(Role::Calibration),
+        Refusal::Check(_) => Some(Role::Check),
+        Refusal::Campaign(_) => Some(Role::Campaign),
+        Refusal::Trace { run, .. } => Some(Role::Trace { run: *run }),
+        Refusal::Image { run, .. } => Some(Role::Image { run: *run }),
+        Refusal::NoRun => None,
     }
 }
 
@@ -109,6 +179,27 @@ fn is_bound(words: &[String], own: usize) -> bool
     ensures { result ≡ is_bound (words_of words.now) own }
 {
     words.len() == own && words[0].as_str() == "bound"
+}
+
+/// Whether the words are `run CAMPAIGN`, where the command's own words begin at place `own`.
+fn is_run(words: &[String], own: usize) -> bool
+    requires least { 1 ≤ own }
+    requires most { own ≤ 3 }
+    ensures { result ≡ is_run (words_of words.now) own }
+{
+    words.len() == own + 1 && words[0].as_str() == "run" && is_name(words[own].as_str())
+}
+
+/// Whether the words are `record CAMPAIGN RUN`, where the command's own words begin at place `own`.
+fn is_record(words: &[String], own: usize) -> bool
+    requires least { 1 ≤ own }
+    requires most { own ≤ 3 }
+    ensures { result ≡ is_record (words_of words.now) own }
+{
+    words.len() == own + 2
+        && words[0].as_str() == "record"
+        && is_name(words[own].as_str())
+        && is_name(words[own + 1].as_str())
 }
 
 /// Whether a word is a name: it isn't empty and doesn't begin with `-`.

@@ -1,13 +1,14 @@
 // The line that notes how a call ended.
-ghost use Rattle.std.specs.Prelude.{◌≡◌, ◌++◌, List, map};
+ghost use Rattle.std.specs.Prelude.{◌≡◌, ◌++◌, List, map, codes, decimal};
 ghost use Rattle.std.specs.List.{concat};
-ghost use Rattle.eg_app.specs.Notes.{PutsNote, note_of, refusal_note, calibration_note, check_note};
-ghost use Rattle.eg_app.specs.declared.outcome.Outcome.TheVariants.{Done};
+ghost use Rattle.eg_app.specs.Notes.{PutsNote, note_of, refusal_note, calibration_note, trace_note, image_note, campaign_note};
+ghost use Rattle.eg_outcome.specs.declared.outcome.Outcome.TheVariants.{Done};
 
-use crate::{Outcome, Refusal};
 use eg_base::Sink;
 use eg_cal::CalFault;
-use eg_input::TraceFault;
+use eg_campaign::CampaignFault;
+use eg_input::{ImageFault, TraceFault};
+use eg_outcome::{Outcome, Refusal};
 use itoa::Buffer;
 
 /// Puts the line that notes this outcome, for a file of this name (docs/FORMATS.md, "Notes"). It is put in
@@ -28,12 +29,16 @@ pub(crate) fn note<N: Sink>(outcome: &Outcome, file: &str, notes: &mut N)
 }
 
 fn note_refusal<N: Sink>(refusal: &Refusal, file: &[u8], notes: &mut N)
-    ensures { PutsNote (N.shows notes.old) (N.shows notes.new) (file.now ++ refusal_note refusal.now) }
+    ensures { PutsNote (N.shows notes.old) (N.shows notes.new) (refusal_note refusal.now file.now) }
 {
     match refusal {
         Refusal::Size { .. } => put_pieces(notes, &[file, b": longer than 4194304 bytes\n"]),
         Refusal::Calibration(fault) => note_calibration(fault, file, notes),
-        Refusal::Check(fault) => note_check(fault, file, notes),
+        Refusal::Check(fault) => note_trace(fault, file, notes),
+        Refusal::Campaign(fault) => note_campaign(fault, file, notes),
+        Refusal::Trace { fault, .. } => note_trace(fault, file, notes),
+        Refusal::Image { fault, .. } => note_image(fault, file, notes),
+        Refusal::NoRun => put_pieces(notes, &[b"no such run\n"]),
     }
 }
 
@@ -63,8 +68,8 @@ fn note_calibration<N: Sink>(fault: &CalFault, file: &[u8], notes: &mut N)
     }
 }
 
-fn note_check<N: Sink>(fault: &TraceFault, file: &[u8], notes: &mut N)
-    ensures { PutsNote (N.shows notes.old) (N.shows notes.new) (file.now ++ check_note fault.now) }
+fn note_trace<N: Sink>(fault: &TraceFault, file: &[u8], notes: &mut N)
+    ensures { PutsNote (N.shows notes.old) (N.shows notes.new) (file.now ++ trace_note fault.now) }
 {
     match fault {
         TraceFault::Memory => put_pieces(notes, &[file, b": no memory\n"]),
@@ -77,6 +82,56 @@ fn note_check<N: Sink>(fault: &TraceFault, file: &[u8], notes: &mut N)
         TraceFault::Empty => put_pieces(notes, &[file, b": no records\n"]),
         TraceFault::Long => put_pieces(notes, &[file, b": more than 20000 records\n"]),
     }
+}
+
+fn note_image<N: Sink>(fault: &ImageFault, file: &[u8], notes: &mut N)
+    ensures { PutsNote (N.shows notes.old) (N.shows notes.new) (file.now ++ image_note fault.now) }
+{
+    match fault {
+        ImageFault::Memory => put_pieces(notes, &[file, b": no memory\n"]),
+        ImageFault::Line { line } => {
+            let mut buffer = Buffer::new();
+            let line = buffer.format(*line).as_bytes();
+            put_pieces(notes, &[file, b": line ", line, b"\n"]);
+        }
+        ImageFault::Long => put_pieces(notes, &[file, b": more than 1024 lines\n"]),
+    }
+}
+
+fn note_campaign<N: Sink>(fault: &CampaignFault, file: &[u8], notes: &mut N)
+    ensures { PutsNote (N.shows notes.old) (N.shows notes.new) (file.now ++ campaign_note fault.now) }
+{
+    match fault {
+        CampaignFault::Memory => put_pieces(notes, &[file, b": no memory\n"]),
+        CampaignFault::Text => put_pieces(notes, &[file, b": not TOML\n"]),
+        CampaignFault::Key { run, key } => {
+            note_key(*run, key.text().as_bytes(), file, notes);
+        }
+        CampaignFault::TwoFaults { run } => note_run(*run, b" has two faults\n", file, notes),
+        CampaignFault::Name { run } => note_run(*run, b" repeats a name\n", file, notes),
+        CampaignFault::Many => put_pieces(notes, &[file, b": more than 1000 runs\n"]),
+        CampaignFault::Ticks { run } => note_run(*run, b" passes 1000000 ticks\n", file, notes),
+    }
+}
+
+/// Puts the line that tells a key of a run of the campaign.
+fn note_key<N: Sink>(run: u32, key: &[u8], file: &[u8], notes: &mut N)
+    ensures { PutsNote (N.shows notes.old) (N.shows notes.new)
+        (file.now ++ (codes ": run " ++ decimal run ++ codes " key " ++ key.now ++ codes "\n")) }
+{
+    let mut buffer = Buffer::new();
+    let run = buffer.format(run).as_bytes();
+    put_pieces(notes, &[file, b": run ", run, b" key ", key, b"\n"]);
+}
+
+/// Puts the line that says this of a run of the campaign.
+fn note_run<N: Sink>(run: u32, says: &[u8], file: &[u8], notes: &mut N)
+    ensures { PutsNote (N.shows notes.old) (N.shows notes.new)
+        (file.now ++ (codes ": run " ++ decimal run ++ says.now)) }
+{
+    let mut buffer = Buffer::new();
+    let run = buffer.format(run).as_bytes();
+    put_pieces(notes, &[file, b": run ", run, says]);
 }
 
 /// Puts these pieces, up to the first that is refused.

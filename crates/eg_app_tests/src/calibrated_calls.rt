@@ -4,6 +4,7 @@ use crate::calls::{check_file, repeated, words};
 use eg_app::{Outcome, Refusal, Role, egasim};
 use eg_base::{MemorySink, MemoryStore, SureSink, SureStore};
 use eg_cal::{CalFault, CalKey};
+use eg_tick::Ticks;
 use std::alloc::Global;
 use std::process::Abort;
 use std::test::Fail;
@@ -120,9 +121,10 @@ fn shows(
     let mut store = MemoryStore::new(alloc);
     let mut out = MemorySink::new(alloc);
     let mut notes = MemorySink::new(alloc);
+    let mut steps = Ticks::new();
     store.add("in.csv", file.as_bytes()).expect(rt, "memory");
     store.add("cal.toml", calibration).expect(rt, "memory");
-    let outcome = egasim(alloc, &words, &mut store, &mut out, &mut notes);
+    let outcome = egasim(alloc, &words, &mut store, &mut out, &mut notes, &mut steps);
     assert_eq!(rt; outcome, wanted.outcome, "{line}");
     assert_eq!(rt; out.bytes(), wanted.out, "{line}");
     assert_eq!(rt; notes.bytes(), wanted.note, "{line}");
@@ -292,6 +294,7 @@ fn tells_which_read_failed(rt: HostRuntime) -> Result<(), Fail> {
         let mut store = MemoryStore::new(alloc);
         let mut out = MemorySink::new(alloc);
         let mut notes = MemorySink::new(alloc);
+        let mut steps = Ticks::new();
         store
             .add("cal.toml", REFERENCE.as_bytes())
             .expect(&rt, "memory");
@@ -299,7 +302,7 @@ fn tells_which_read_failed(rt: HostRuntime) -> Result<(), Fail> {
             .add("in.csv", check_file.as_bytes())
             .expect(&rt, "memory");
         store.fail_at(number).expect(&rt, "memory");
-        let outcome = egasim(alloc, &words, &mut store, &mut out, &mut notes);
+        let outcome = egasim(alloc, &words, &mut store, &mut out, &mut notes, &mut steps);
         assert_eq!(rt; outcome, Outcome::ReadFault { file });
         assert!(rt; out.bytes().is_empty());
         assert_eq!(rt; notes.bytes(), note);
@@ -316,7 +319,8 @@ fn works_with_a_calibration_over_a_sure_store(rt: HostRuntime) -> Result<(), Fai
     let mut store = SureStore::new(alloc);
     let mut out = SureSink::new(alloc, 9).expect(&rt, "memory");
     let mut notes = SureSink::new(alloc, 100).expect(&rt, "memory");
-    let missing = egasim(alloc, &words, &mut store, &mut out, &mut notes);
+    let mut steps = Ticks::new();
+    let missing = egasim(alloc, &words, &mut store, &mut out, &mut notes, &mut steps);
     assert_eq!(rt;
         missing,
         Outcome::ReadFault {
@@ -327,7 +331,7 @@ fn works_with_a_calibration_over_a_sure_store(rt: HostRuntime) -> Result<(), Fai
         .add("cal.toml", REFERENCE.as_bytes())
         .expect(&rt, "memory");
     store.add("in.csv", file.as_bytes()).expect(&rt, "memory");
-    let done = egasim(alloc, &words, &mut store, &mut out, &mut notes);
+    let done = egasim(alloc, &words, &mut store, &mut out, &mut notes, &mut steps);
     assert_eq!(rt; done, Outcome::Done);
     assert_eq!(rt; out.bytes(), b"torque 4\n".as_slice());
     assert_eq!(rt; notes.bytes(), b"cannot read cal.toml\n".as_slice());

@@ -4,6 +4,7 @@ use eg_app::{Outcome, Refusal, Role, egasim};
 use eg_base::{MemorySink, MemoryStore, SureSink, SureStore};
 use eg_cal::CalFault;
 use eg_input::TraceFault;
+use eg_tick::Ticks;
 use std::alloc::Global;
 use std::process::Abort;
 use std::test::Fail;
@@ -46,11 +47,12 @@ fn shows(
         let mut store = MemoryStore::new(alloc);
         let mut out = MemorySink::new(alloc);
         let mut notes = MemorySink::new(alloc);
+        let mut steps = Ticks::new();
         store.add("in.csv", file.as_bytes()).expect(rt, "memory");
         if let Some(number) = failing {
             notes.fail_at(number).expect(rt, "memory");
         }
-        let outcome = egasim(alloc, &words, &mut store, &mut out, &mut notes);
+        let outcome = egasim(alloc, &words, &mut store, &mut out, &mut notes, &mut steps);
         assert_eq!(rt; outcome, wanted.outcome, "{line}");
         assert_eq!(rt; outcome.status(), wanted.status, "{line}");
         assert_eq!(rt; out.bytes(), wanted.out, "{line}");
@@ -162,6 +164,14 @@ fn refuses_words_that_are_no_command(rt: HostRuntime) -> Result<(), Fail> {
         "--cal in.csv check in.csv",
         "bound --cal",
         "bound --cal in.csv in.csv",
+        "run -x",
+        "run in.csv in.csv",
+        "run --cal in.csv",
+        "run in.csv --cal in.csv",
+        "record in.csv",
+        "record in.csv -x",
+        "record --cal in.csv in.csv",
+        "record in.csv in.csv in.csv",
     ] {
         shows(&rt, rt.alloc(), line, "0,800,0,1\n", &USAGE)?;
     }
@@ -182,18 +192,19 @@ fn counts_faults_of_the_outside(rt: HostRuntime) -> Result<(), Fail> {
     let mut store = MemoryStore::new(alloc);
     let mut out = MemorySink::new(alloc);
     let mut notes = MemorySink::new(alloc);
+    let mut steps = Ticks::new();
     store.add("in.csv", file.as_bytes()).expect(&rt, "memory");
     store.fail_at(0).expect(&rt, "memory");
     out.fail_at(0).expect(&rt, "memory");
-    let read = egasim(alloc, &words, &mut store, &mut out, &mut notes);
+    let read = egasim(alloc, &words, &mut store, &mut out, &mut notes, &mut steps);
     assert_eq!(rt; read, Outcome::ReadFault { file: Role::Check });
     assert_eq!(rt; out.bytes(), b"".as_slice());
     // The first put fails with half of its line, and the next call is as if nothing had been.
-    let write = egasim(alloc, &words, &mut store, &mut out, &mut notes);
+    let write = egasim(alloc, &words, &mut store, &mut out, &mut notes, &mut steps);
     assert_eq!(rt; write, Outcome::WriteFault);
     assert_eq!(rt; write.status(), 5);
     assert_eq!(rt; out.bytes(), b"no".as_slice());
-    let again = egasim(alloc, &words, &mut store, &mut out, &mut notes);
+    let again = egasim(alloc, &words, &mut store, &mut out, &mut notes, &mut steps);
     assert_eq!(rt; again, Outcome::Done);
     assert_eq!(rt; out.bytes(), b"nonone\n".as_slice());
     assert_eq!(rt;
@@ -212,12 +223,13 @@ fn puts_its_line_at_once(rt: HostRuntime) -> Result<(), Fail> {
     let mut store = MemoryStore::new(alloc);
     let mut out = MemorySink::new(alloc);
     let mut notes = MemorySink::new(alloc);
+    let mut steps = Ticks::new();
     store.add("in.csv", file.as_bytes()).expect(&rt, "memory");
     // The second put fails: that is the line of the second call.
     out.fail_at(1).expect(&rt, "memory");
-    let first = egasim(alloc, &words, &mut store, &mut out, &mut notes);
+    let first = egasim(alloc, &words, &mut store, &mut out, &mut notes, &mut steps);
     assert_eq!(rt; first, Outcome::Done);
-    let second = egasim(alloc, &words, &mut store, &mut out, &mut notes);
+    let second = egasim(alloc, &words, &mut store, &mut out, &mut notes, &mut steps);
     assert_eq!(rt; second, Outcome::WriteFault);
     assert_eq!(rt; out.bytes(), b"none\nno".as_slice());
     Ok(())
@@ -232,13 +244,14 @@ fn works_over_a_sure_store_and_output(rt: HostRuntime) -> Result<(), Fail> {
     let mut store = SureStore::new(alloc);
     let mut out = SureSink::new(alloc, 9).expect(&rt, "memory");
     let mut notes = SureSink::new(alloc, 100).expect(&rt, "memory");
-    let missing = egasim(alloc, &words, &mut store, &mut out, &mut notes);
+    let mut steps = Ticks::new();
+    let missing = egasim(alloc, &words, &mut store, &mut out, &mut notes, &mut steps);
     assert_eq!(rt; missing, Outcome::ReadFault { file: Role::Check });
     store.add("in.csv", file.as_bytes()).expect(&rt, "memory");
-    let done = egasim(alloc, &words, &mut store, &mut out, &mut notes);
+    let done = egasim(alloc, &words, &mut store, &mut out, &mut notes, &mut steps);
     assert_eq!(rt; done, Outcome::Done);
     // The output is full now.
-    let full = egasim(alloc, &words, &mut store, &mut out, &mut notes);
+    let full = egasim(alloc, &words, &mut store, &mut out, &mut notes, &mut steps);
     assert_eq!(rt; full, Outcome::WriteFault);
     assert_eq!(rt; out.bytes(), b"torque 4\n".as_slice());
     assert_eq!(rt;
@@ -268,7 +281,8 @@ fn refuses(
     let words = words(alloc, line)?;
     let mut out = MemorySink::new(alloc);
     let mut notes = MemorySink::new(alloc);
-    let outcome = egasim(alloc, &words, store, &mut out, &mut notes);
+    let mut steps = Ticks::new();
+    let outcome = egasim(alloc, &words, store, &mut out, &mut notes, &mut steps);
     assert_eq!(rt; outcome, Outcome::Refused(refusal), "{line}");
     assert!(rt; out.bytes().is_empty());
     assert!(rt; notes.bytes().starts_with(b"in.csv: "));

@@ -19,7 +19,7 @@ use Rattle.eg_outcome.specs.declared.outcome.Refusal.TheVariants as refusal
 use Rattle.eg_outcome.specs.declared.outcome.Role.{Role}
 use Rattle.eg_outcome.specs.declared.outcome.Role.TheVariants as role
 use Rattle.eg_play.specs.Files.{campaign_file, trace_file, image_file}
-use Rattle.eg_play.specs.Inputs.{InputComes, InputsCome, too_many}
+use Rattle.eg_play.specs.Inputs.{InputComes, InputsCome, FindsInput, AcceptsInput}
 use Rattle.eg_play.specs.Headline.{KeepsHeadline}
 use Rattle.eg_campaign.specs.Plays.{run_with, ticks_of, weights_of}
 use Rattle.eg_play.specs.Texts.{report_text, record_text}
@@ -109,6 +109,14 @@ RecordCommandEnds calibration campaign name store later out now was is o =
     CalibratedEnds calibration store later (NothingPlayed out now was is)
     (λ cal. CampaignEnds campaign store later (NothingPlayed out now was is)
     (λ plans. NamedEnds cal (run_named name 1 plans) store later out now was is)) o
+
+-- ---- when the work is done ----
+
+-- the run is there, its files are found, and whatever reads of them may give is accepted
+abbrev pub AcceptsNamed : ShownStore → ShownStore → Option (ℕ × RunPlan) → Type 0
+AcceptsNamed store later None = ⊥
+AcceptsNamed store later (Some found) =
+    FindsInput store later found.1 × AcceptsInput (λ count. None) store found.0 found.1
 
 -- ---- the name of a file of a run ----
 

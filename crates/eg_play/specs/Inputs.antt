@@ -7,7 +7,7 @@ use Rattle.eg_campaign.specs.declared.key.CampaignFault.{CampaignFault}
 use Rattle.eg_campaign.specs.declared.run.RunPlan.{RunPlan}
 use Rattle.eg_campaign.specs.declared.play.RunInput.{RunInput}
 use Rattle.eg_outcome.specs.Outcomes.{Then}
-use Rattle.eg_outcome.specs.Reads.{FileComes}
+use Rattle.eg_outcome.specs.Reads.{FileComes, ReadComes, Finds, Accepts}
 use Rattle.eg_outcome.specs.declared.outcome.Outcome.{Outcome}
 use Rattle.eg_outcome.specs.declared.outcome.Outcome.TheVariants as outcome
 use Rattle.eg_outcome.specs.declared.outcome.Refusal.{Refusal}
@@ -70,3 +70,27 @@ InputsCome store later n sum (plan ∷ plans) come = (first : Result RunInput Ou
     × Then (λ input made. (rest : Result (List RunInput) Outcome)
     × InputsCome store later (n + 1) (sum + length input.drive) plans rest
     × Then (λ inputs all. all ≡ Ok (input ∷ inputs)) rest made) first come
+
+-- ---- when they are there, and when they are accepted ----
+
+-- the files of a run are found
+abbrev pub FindsInput : ShownStore → ShownStore → RunPlan → Type 0
+FindsInput store later plan = Finds plan.trace store later × Finds plan.image store later
+
+-- whatever reads of the files of run n may give is accepted, and so is each count of ticks
+abbrev pub AcceptsInput : (ℕ → Option Refusal) → ShownStore → ℕ → RunPlan → Type 0
+AcceptsInput refuses store n plan = Accepts (trace_file n) plan.trace store
+    × Accepts (image_file n) plan.image store × ((drive : List DriveRow)
+    → ReadComes (trace_file n) plan.trace store (Ok drive) → refuses (length drive) ≡ None)
+
+-- so of all runs
+abbrev pub FindsRuns : ShownStore → ShownStore → List RunPlan → Type 0
+FindsRuns store later [] = Unit {0}
+FindsRuns store later (plan ∷ plans) = FindsInput store later plan × FindsRuns store later plans
+
+-- so of the runs from run n on, in their order, where the runs before have `sum` ticks
+abbrev pub AcceptsRuns : ShownStore → ℕ → ℕ → List RunPlan → Type 0
+AcceptsRuns store n sum [] = Unit {0}
+AcceptsRuns store n sum (plan ∷ plans) = AcceptsInput (too_many sum n) store n plan
+    × ((drive : List DriveRow) → ReadComes (trace_file n) plan.trace store (Ok drive)
+    → AcceptsRuns store (n + 1) (sum + length drive) plans)

@@ -3,6 +3,7 @@
 
 use eg_app::egasim;
 use eg_base::{FileStore, StdSink};
+use eg_tick::Ticks;
 use std::alloc::{AllocError, Global};
 use std::env::Env;
 use std::process::ExitCode;
@@ -33,6 +34,7 @@ fn main(rt: HostRuntime) -> ExitCode {
     let mut out = StdSink::new(rt.stdout());
     let mut notes = StdSink::new(rt.stderr());
     let mut store = FileStore::new(rt);
-    let outcome = egasim(alloc, &words, &mut store, &mut out, &mut notes);
+    let mut steps = Ticks::new();
+    let outcome = egasim(alloc, &words, &mut store, &mut out, &mut notes, &mut steps);
     ExitCode::from(outcome.status())
 }

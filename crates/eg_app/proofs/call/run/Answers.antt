@@ -9,4 +9,4 @@ returns-clause-completes g c =
     let later = g.S.Store.shows c.work.new.store in
     let out = g.K.Sink.shows c.args.out.now in
     let now = g.K.Sink.shows c.work.new.out in
-    completes (Some (said c.args.command)) store later out now c.work.result c.work.ensures.ends c.work.ensures.missing
+    completes (Some (said c.args.command)) store later out now c.args.steps.now c.work.new.steps c.work.result.outcome c.work.ensures.ends

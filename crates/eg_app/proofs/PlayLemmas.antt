@@ -1,0 +1,119 @@
+-- When runs are played to their end, from how `run` and `record` end.
+use Rattle.std.proofs.Common.{◌≡◌, ◌+◌, ◌∷◌, [], List, ℕ, Option, Some, None, length, refl, sym, ap, subst}
+use Rattle.std.specs.Prelude.{Result, Ok, Err}
+use Rattle.eg_base.specs.Outside.{ShownStore, ShownSink, Rose}
+use Rattle.eg_num.specs.Drive.{DriveRow}
+use Rattle.eg_values.specs.Calibration.{CalibrationParts}
+use Rattle.eg_tick.specs.Weights.{TickCount}
+use Rattle.eg_campaign.specs.declared.run.RunPlan.{RunPlan}
+use Rattle.eg_campaign.specs.declared.play.RunInput.{RunInput}
+use Rattle.eg_outcome.specs.declared.outcome.Outcome.{Outcome}
+use Rattle.eg_outcome.specs.declared.outcome.Refusal.{Refusal}
+use Rattle.eg_outcome.specs.declared.outcome.Role.TheVariants as role
+use Rattle.eg_outcome.specs.Outcomes.{IsDoneOrMemory}
+use Rattle.eg_outcome.specs.Reads.{ReadComes, Finds, Accepts}
+use Rattle.eg_play.specs.Files.{campaign_file, trace_file, image_file}
+use Rattle.eg_play.specs.Inputs.{input_of, TicksCome, InputComes, InputsCome, FindsInput, AcceptsInput, FindsRuns, AcceptsRuns, too_many}
+use Rattle.eg_play.specs.Ends.{NothingPlayed, RunsEnd, NamedEnds, AcceptsNamed, CampaignEnds, run_named}
+use Rattle.eg_app.proofs.FileLemmas.{file_done, line_done}
+
+-- ---- results ----
+
+same_error : {X : Type 0} (come : Result X Outcome) (end e : Outcome) → come ≡ Err end → come ≡ Err e → e ≡ end
+same_error come end e first second = cc
+
+same_value : {X : Type 0} (come : Result X Outcome) (x y : X) → come ≡ Ok x → come ≡ Ok y → x ≡ y
+same_value come x y first second = cc
+
+no_value : {X : Type 0} (x : X) (end : Outcome) → Err end ≡ Ok x → ⊥
+no_value x end same = absurd cc
+
+-- ---- the files of a run ----
+
+-- the drive of an input is what its trace says
+ticks_drive : (refused : Option Refusal) (store later : ShownStore) (n : ℕ) (plan : RunPlan) (drive : List DriveRow) (input : RunInput)
+    → TicksCome refused store later n plan drive (Ok input) → drive ≡ input.drive
+ticks_drive (Some r) store later n plan drive input (come, same) = absurd (no_value input _ (sym come))
+ticks_drive None store later n plan drive input (Err end, comes, come) = absurd (no_value input _ (sym come))
+ticks_drive None store later n plan drive input (Ok words, comes, come) = sym (ap (λ (i : RunInput). i.drive) (same_value (Ok input) input (input_of plan drive words) refl come))
+
+input_drive : (refuses : ℕ → Option Refusal) (store later : ShownStore) (n : ℕ) (plan : RunPlan) (input : RunInput)
+    → InputComes refuses store later n plan (Ok input) → ReadComes (trace_file n) plan.trace store (Ok input.drive)
+input_drive refuses store later n plan input (Err end, comes, come) = absurd (no_value input _ (sym come))
+input_drive refuses store later n plan input (Ok drive, comes, come) =
+    subst (λ (d : List DriveRow). ReadComes (trace_file n) plan.trace store (Ok d)) (ticks_drive (refuses (length drive)) store later n plan drive input come) comes
+
+-- an image that is found and accepted ends a call for want of memory alone
+ticks_done : (refused : Option Refusal) (store later : ShownStore) (n : ℕ) (plan : RunPlan) (drive : List DriveRow) (end : Outcome)
+    → TicksCome refused store later n plan drive (Err end) → refused ≡ None → Finds plan.image store later
+    → Accepts (image_file n) plan.image store → IsDoneOrMemory end
+ticks_done (Some r) store later n plan drive end come none finds accepts = absurd cc
+ticks_done None store later n plan drive end (Ok words, comes, come) none finds accepts = absurd (no_value _ end come)
+ticks_done None store later n plan drive end (Err e, comes, come) none finds accepts =
+    subst IsDoneOrMemory (same_error (Err end) end e refl come) (file_done (role.Image n) (image_file n) plan.image store later e comes finds accepts)
+
+-- so the files of a run
+input_done : (refuses : ℕ → Option Refusal) (store later : ShownStore) (n : ℕ) (plan : RunPlan) (end : Outcome)
+    → InputComes refuses store later n plan (Err end) → FindsInput store later plan
+    → AcceptsInput refuses store n plan → IsDoneOrMemory end
+input_done refuses store later n plan end (Err e, comes, come) finds accepts =
+    subst IsDoneOrMemory (same_error (Err end) end e refl come) (file_done (role.Trace n) (trace_file n) plan.trace store later e comes finds.0 accepts.0)
+input_done refuses store later n plan end (Ok drive, comes, come) finds accepts =
+    ticks_done (refuses (length drive)) store later n plan drive end come (accepts.2 drive comes) finds.1 accepts.1
+
+-- so the files of all runs
+inputs_done : (store later : ShownStore) (n sum : ℕ) (plans : List RunPlan) (end : Outcome)
+    → InputsCome store later n sum plans (Err end) → FindsRuns store later plans
+    → AcceptsRuns store n sum plans → IsDoneOrMemory end
+inputs_done store later n sum [] end come finds accepts = absurd (no_value [] end come)
+inputs_done store later n sum (plan ∷ plans) end (Err e, comes, come) finds accepts =
+    subst IsDoneOrMemory (same_error (Err end) end e refl come) (input_done (too_many sum n) store later n plan e comes finds.0 accepts.0)
+inputs_done store later n sum (plan ∷ plans) end (Ok input, comes, (Ok inputs, rest, come)) finds accepts = absurd (no_value _ end come)
+inputs_done store later n sum (plan ∷ plans) end (Ok input, comes, (Err e, rest, come)) finds accepts =
+    let more = accepts.1 input.drive (input_drive (too_many sum n) store later n plan input comes) in
+    subst IsDoneOrMemory (same_error (Err end) end e refl come) (inputs_done store later (n + 1) (sum + length input.drive) plans e rest finds.1 more)
+
+-- ---- the commands ----
+
+-- the runs of a campaign are played
+runs_done : (cal : CalibrationParts) (plans : List RunPlan) (store later : ShownStore) (out now : ShownSink) (was then : TickCount) (o : Outcome)
+    → RunsEnd cal plans store later out now was then o → FindsRuns store later plans
+    → AcceptsRuns store 1 0 plans → ¬ Rose out.faults now.faults → IsDoneOrMemory o
+runs_done cal plans store later out now was then o (Ok inputs, comes, (same, plays)) finds accepts still = line_done _ out now o plays.written still
+runs_done cal plans store later out now was then o (Err end, comes, (is, nothing)) finds accepts still =
+    subst IsDoneOrMemory (sym is) (inputs_done store later 1 0 plans end comes finds accepts)
+
+-- the named run is played
+named_done : (cal : CalibrationParts) (found : Option (ℕ × RunPlan)) (store later : ShownStore) (out now : ShownSink) (was then : TickCount)
+    (o : Outcome) → NamedEnds cal found store later out now was then o → AcceptsNamed store later found
+    → ¬ Rose out.faults now.faults → IsDoneOrMemory o
+named_done cal None store later out now was then o ends accepts still = absurd accepts
+named_done cal (Some found) store later out now was then o (Ok input, comes, (same, plays)) accepts still = line_done _ out now o plays.written still
+named_done cal (Some found) store later out now was then o (Err end, comes, (is, nothing)) accepts still =
+    subst IsDoneOrMemory (sym is) (input_done (λ count. None) store later found.0 found.1 end comes accepts.0 accepts.1)
+
+-- a campaign that is found and accepted is worked off where its runs are
+pub campaign_done : (campaign : List ℕ) (store later : ShownStore) (nothing : Type 0) (work : List RunPlan → Outcome → Type 0) (o : Outcome)
+    → CampaignEnds campaign store later nothing work o → Finds campaign store later → Accepts campaign_file campaign store
+    → ((plans : List RunPlan) → ReadComes campaign_file campaign store (Ok plans) → work plans o → IsDoneOrMemory o) → IsDoneOrMemory o
+campaign_done campaign store later nothing work o (Ok plans, comes, works) finds accepts done = done plans comes works
+campaign_done campaign store later nothing work o (Err end, comes, (is, same)) finds accepts done =
+    subst IsDoneOrMemory (sym is) (file_done role.Campaign campaign_file campaign store later end comes finds accepts)
+
+pub run_done : (cal : CalibrationParts) (campaign : List ℕ) (store later : ShownStore) (out now : ShownSink) (was then : TickCount) (o : Outcome)
+    → CampaignEnds campaign store later (NothingPlayed out now was then) (λ plans. RunsEnd cal plans store later out now was then) o
+    → Finds campaign store later → Accepts campaign_file campaign store
+    → ((plans : List RunPlan) → ReadComes campaign_file campaign store (Ok plans) → FindsRuns store later plans × AcceptsRuns store 1 0 plans)
+    → ¬ Rose out.faults now.faults → IsDoneOrMemory o
+run_done cal campaign store later out now was then o ends finds accepts files still =
+    campaign_done campaign store later (NothingPlayed out now was then) (λ plans. RunsEnd cal plans store later out now was then) o ends finds accepts
+    (λ plans comes works. runs_done cal plans store later out now was then o works (files plans comes).0 (files plans comes).1 still)
+
+pub record_done : (cal : CalibrationParts) (campaign name : List ℕ) (store later : ShownStore) (out now : ShownSink) (was then : TickCount) (o : Outcome)
+    → CampaignEnds campaign store later (NothingPlayed out now was then) (λ plans. NamedEnds cal (run_named name 1 plans) store later out now was then) o
+    → Finds campaign store later → Accepts campaign_file campaign store
+    → ((plans : List RunPlan) → ReadComes campaign_file campaign store (Ok plans) → AcceptsNamed store later (run_named name 1 plans))
+    → ¬ Rose out.faults now.faults → IsDoneOrMemory o
+record_done cal campaign name store later out now was then o ends finds accepts files still =
+    campaign_done campaign store later (NothingPlayed out now was then) (λ plans. NamedEnds cal (run_named name 1 plans) store later out now was then) o ends
+    finds accepts (λ plans comes works. named_done cal (run_named name 1 plans) store later out now was then o works (files plans comes) still)
