@@ -100,3 +100,12 @@ named before plan rest plans n file parts is of = go file of
     go (Some role.Campaign) of = refl
     go (Some (role.Trace run)) of = sym (ap (λ found. option_map (λ (p : RunPlan). p.trace) found) (here run of))
     go (Some (role.Image run)) of = sym (ap (λ found. option_map (λ (p : RunPlan). p.image) found) (here run of))
+
+-- ---- the runs one after another ----
+
+-- one run more of those that are left
+pub one-behind : {plans before left rest : List RunPlan} {plan : RunPlan} → plans ≡ before ++ left → left ≡ plan ∷ rest → plans ≡ before ++ plan ∷ rest
+one-behind {plans} {before} parts first = parts ∙ ap (λ runs. before ++ runs) first
+
+pub some-sum : (sum x : ℕ) → Some sum ≡ Some x → sum ≤ 1000000 → x ≤ 1000000
+some-sum sum x is within = subst (λ n. n ≤ 1000000) (let same : sum ≡ x = cc in same) within
