@@ -1,6 +1,7 @@
 // The report and the record are written.
 ghost use Rattle.std.specs.Prelude.{All, [], ◌∷◌, map};
 ghost use Rattle.eg_campaign.specs.Plays.{IsPlayable, run_with};
+ghost use Rattle.eg_outcome.specs.Outcomes.{PutsNothing};
 ghost use Rattle.eg_play.specs.Texts.{report_text, record_text};
 ghost use Rattle.eg_play.specs.Ends.{Plays};
 
@@ -23,8 +24,9 @@ pub(crate) fn put_report<K: Sink>(
     steps: &mut Ticks,
 ) -> Outcome
     requires { All IsPlayable inputs.now }
-    ensures { Plays (report_text calibration.now inputs.now) (map (run_with calibration.now) inputs.now)
+    ensures plays { Plays (report_text calibration.now inputs.now) (map (run_with calibration.now) inputs.now)
         (K.shows out.old) (K.shows out.new) steps.old steps.new result }
+    ensures put { PutsNothing result → ⊥ }
 {
     // Whoever reads it learns that the calibration is an accepted one.
     let _rules = calibration.rules();
@@ -47,8 +49,9 @@ pub(crate) fn put_record<K: Sink>(
     steps: &mut Ticks,
 ) -> Outcome
     requires { IsPlayable input.now }
-    ensures { Plays (record_text calibration.now input.now) (run_with calibration.now input.now ∷ [])
+    ensures plays { Plays (record_text calibration.now input.now) (run_with calibration.now input.now ∷ [])
         (K.shows out.old) (K.shows out.new) steps.old steps.new result }
+    ensures put { PutsNothing result → ⊥ }
 {
     // Whoever reads it learns that the calibration is an accepted one.
     let _rules = calibration.rules();

@@ -9,22 +9,22 @@ use Rattle.eg_play.proofs.HeadlineLemmas.{keeps_headline_alone}
 use Rattle.eg_play.proofs.PlayLemmas.{no_memory, no_lines, put, record_is}
 use Rattle.eg_play.proofs.report.put_record.Goals as goal
 
-pub returns-in_default : goal.returns-in_default
-returns-in_default g c =
+pub returns-in_default-clause-plays : goal.returns-in_default-clause-plays
+returns-in_default-clause-plays g c =
     let a = c.args in
     let (n, most, is) = c.in_default.ensures.count in
     no_memory _ _ (g.K.Sink.shows a.out.now) a.steps.now c.record_one.new.steps n
     (subst (λ k. n ≤ k) (sym (ticks-one (run_with a.calibration.now a.input.now))) most) is
     (keeps_headline_alone a.calibration.now c.rules-rules.ensures.accepted a.input.now c.requires)
 
-pub returns-in_default-record_lines : goal.returns-in_default-record_lines
-returns-in_default-record_lines g c =
+pub returns-in_default-record_lines-clause-plays : goal.returns-in_default-record_lines-clause-plays
+returns-in_default-record_lines-clause-plays g c =
     let a = c.args in
     no_lines _ _ (g.K.Sink.shows a.out.now) a.steps.now c.record_one.new.steps c.in-Ok.ensures.counted
     (keeps_headline_alone a.calibration.now c.rules-rules.ensures.accepted a.input.now c.requires)
 
-pub returns : goal.returns
-returns g c =
+pub returns-clause-plays : goal.returns-clause-plays
+returns-clause-plays g c =
     let a = c.args in
     let shows = g.K.Sink.shows in
     let text : concat (map string_bytes c.deref.result.now) ≡ record_text a.calibration.now a.input.now =
