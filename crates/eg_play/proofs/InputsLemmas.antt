@@ -1,14 +1,18 @@
 -- The files of all runs, one run after another.
-use Rattle.std.proofs.Common.{◌≡◌, ◌∙◌, refl, sym, ap, ap₂, subst, ℕ, ◌+◌, ◌-◌, ◌≤◌, ◌<◌, List, [], ◌∷◌, ◌++◌, length, Option, Some, None, Ok, Err, append_assoc, append-nil, length-append, arith}
+use Rattle.std.proofs.Common.{◌≡◌, ◌∙◌, refl, sym, ap, ap₂, subst, ℕ, suc, All, ◌+◌, ◌-◌, ◌≤◌, ◌<◌, List, [], ◌∷◌, ◌++◌, length, Option, Some, None, Ok, Err, append_assoc, append-nil, length-append, arith}
 use Rattle.std.specs.Prelude.{Result, slice_get, option_map}
+use Rattle.std.proofs.lemmas.List.Elements.{All-push}
 use Rattle.eg_base.specs.Outside.{ShownStore}
+use Rattle.eg_num.specs.Drive.{DriveRow}
 use Rattle.eg_campaign.specs.declared.run.RunPlan.{RunPlan}
 use Rattle.eg_campaign.specs.declared.play.RunInput.{RunInput}
+use Rattle.eg_campaign.specs.Plays.{IsPlayable}
 use Rattle.eg_outcome.specs.declared.outcome.Outcome.{Outcome}
 use Rattle.eg_outcome.specs.declared.outcome.Outcome.TheVariants as outcome
+use Rattle.eg_outcome.specs.declared.outcome.Refusal.{Refusal}
 use Rattle.eg_outcome.specs.declared.outcome.Role.{Role}
 use Rattle.eg_outcome.specs.declared.outcome.Role.TheVariants as role
-use Rattle.eg_play.specs.Inputs.{InputComes, InputsCome, too_many}
+use Rattle.eg_play.specs.Inputs.{InputComes, ImageComes, TicksCome, InputsCome, too_many}
 use Rattle.eg_play.specs.Ends.{name_in, name_for, name_by, IsOf}
 
 -- what came of the rest, behind what was made
@@ -104,8 +108,40 @@ named before plan rest plans n file parts is of = go file of
 -- ---- the runs one after another ----
 
 -- one run more of those that are left
-pub one-behind : {plans before left rest : List RunPlan} {plan : RunPlan} → plans ≡ before ++ left → left ≡ plan ∷ rest → plans ≡ before ++ plan ∷ rest
-one-behind {plans} {before} parts first = parts ∙ ap (λ runs. before ++ runs) first
+pub one-behind : (plans before left rest : List RunPlan) (plan : RunPlan) → plans ≡ before ++ left → left ≡ plan ∷ rest → plans ≡ before ++ plan ∷ rest
+one-behind plans before left rest plan parts first = parts ∙ ap (λ runs. before ++ runs) first
 
 pub some-sum : (sum x : ℕ) → Some sum ≡ Some x → sum ≤ 1000000 → x ≤ 1000000
 some-sum sum x is within = subst (λ n. n ≤ 1000000) (let same : sum ≡ x = cc in same) within
+
+pub one-longer : (before : List RunPlan) (plan : RunPlan) → length before + 1 + 1 ≡ length (before ++ plan ∷ []) + 1
+one-longer before plan = let long = length-append before (plan ∷ []) in omega arith
+
+pub all-behind : (inputs : List RunInput) (input : RunInput) → All IsPlayable inputs → IsPlayable input → All IsPlayable (inputs ++ input ∷ [])
+all-behind = All-push IsPlayable
+
+pub nothing-left : (items : List RunPlan) (count : ℕ) → count ≡ length items → count ≡ 0 → items ≡ []
+nothing-left [] count is none = refl
+nothing-left (plan ∷ items) count is none = absurd (let some : suc (length items) ≡ 0 = sym is ∙ none in cc)
+
+-- ---- a run that was read ----
+
+ok-err : {X : Type 0} (x : X) (end : Outcome) → ¬ (Ok x ≡ Err end)
+ok-err x end same = cc
+
+image-later : (store before later : ShownStore) (n : ℕ) (plan : RunPlan) (drive : List DriveRow) (input : RunInput)
+    → ImageComes store before n plan drive (Ok input) → ImageComes store later n plan drive (Ok input)
+image-later store before later n plan drive input (Ok words, comes, made) = (Ok words, comes, made)
+image-later store before later n plan drive input (Err end, comes, made) = absurd (ok-err input end made)
+
+ticks-later : (refusal : Option Refusal) (store before later : ShownStore) (n : ℕ) (plan : RunPlan) (drive : List DriveRow) (input : RunInput)
+    → TicksCome refusal store before n plan drive (Ok input) → TicksCome refusal store later n plan drive (Ok input)
+ticks-later (Some r) store before later n plan drive input (made, same) = absurd (ok-err input (outcome.Refused r) made)
+ticks-later None store before later n plan drive input comes = image-later store before later n plan drive input comes
+
+-- what was read doesn't depend on what the store shows after it
+pub any-later : (refuses : ℕ → Option Refusal) (store before later : ShownStore) (n : ℕ) (plan : RunPlan) (input : RunInput)
+    → InputComes refuses store before n plan (Ok input) → InputComes refuses store later n plan (Ok input)
+any-later refuses store before later n plan input (Ok drive, comes, made) =
+    (Ok drive, comes, ticks-later (refuses (length drive)) store before later n plan drive input made)
+any-later refuses store before later n plan input (Err end, comes, made) = absurd (ok-err input end made)

@@ -1,4 +1,4 @@
-pub mod InputLemmas
+pub mod NameLemmas
 pub mod InputsLemmas
 pub mod LineLemmas
 pub mod HeadlineLemmas

@@ -161,6 +161,12 @@ IsNotOfRun (outcome.Refused (refusal.Trace n fault)) = ⊥
 IsNotOfRun (outcome.Refused (refusal.Image n fault)) = ⊥
 IsNotOfRun _ = Unit {0}
 
+-- there is a name exactly where there is a role and it is of a run
+abbrev pub IsNamedIfOfRun : Option Role → Option (List ℕ) → Type 0
+IsNamedIfOfRun (Some (role.Trace n)) name = IsSome name
+IsNamedIfOfRun (Some (role.Image n)) name = IsSome name
+IsNamedIfOfRun _ name = name ≡ None
+
 -- the campaign that was read gives this name to the file of this role
 abbrev pub IsNameIn : List ℕ → ShownStore → Role → Option (List ℕ) → Type 0
 IsNameIn campaign store file name = (bytes : List ℕ) × AreRead store campaign bytes

@@ -1,7 +1,7 @@
 // The campaign that a command plays.
-ghost use Rattle.std.specs.Prelude.{◌≡◌, ◌≢◌, All, IfErr, IfOk, IsOk};
-ghost use Rattle.eg_agree.specs.Replies.{IsAnyFault};
+ghost use Rattle.std.specs.Prelude.{◌≡◌, IfErr, IfOk, IsOk};
 ghost use Rattle.eg_campaign.specs.Refusals.{IsRead, seen};
+ghost use Rattle.eg_campaign.specs.Rules.{AreRuns};
 ghost use Rattle.eg_outcome.specs.Reads.{BytesCome, FileComes};
 ghost use Rattle.eg_outcome.specs.Outcomes.{TellsNoMemory};
 ghost use Rattle.eg_outcome.specs.declared.outcome.Role.TheVariants as role;
@@ -20,7 +20,7 @@ pub(crate) fn campaign_for<S: Store>(
     store: &mut S,
 ) -> Result<Items<RunPlan>, Outcome>
     ensures comes { FileComes role.Campaign campaign_file file.now (S.shows store.old) (S.shows store.new) result }
-    ensures faults { IfOk result (λ plans. All (λ plan. IsAnyFault plan.fault) plans) }
+    ensures rules { IfOk result AreRuns }
     ensures no_memory { IfErr result TellsNoMemory }
     ensures of_campaign { IfErr result IsNotOfRun }
     ensures shown { IsOk result → S.shows store.new ≡ S.shows store.old }
@@ -39,7 +39,7 @@ pub(crate) fn campaign_for<S: Store>(
 /// The runs that a campaign file of these bytes says, or how the call ends without them.
 fn campaign_in(alloc: Global, bytes: &[u8]) -> Result<Items<RunPlan>, Outcome>
     ensures comes { BytesCome campaign_file bytes.now result }
-    ensures faults { IfOk result (λ plans. All (λ plan. IsAnyFault plan.fault) plans) }
+    ensures rules { IfOk result AreRuns }
     ensures no_memory { IfErr result TellsNoMemory }
     ensures of_campaign { IfErr result IsNotOfRun }
 {
@@ -59,7 +59,7 @@ fn campaign_in(alloc: Global, bytes: &[u8]) -> Result<Items<RunPlan>, Outcome>
 #[tactic(auto, unfolding(crate::specs::Files::campaign_said))]
 fn campaign_said(alloc: Global, bytes: &[u8]) -> Result<Vec<RunPlan>, CampaignFault>
     ensures said { IsRead (campaign_said bytes.now) (seen (λ plans. plans.items) result) }
-    ensures faults { IfOk result (λ plans. All (λ plan. IsAnyFault plan.fault) plans.items) }
+    ensures rules { IfOk result (λ plans. AreRuns plans.items) }
 {
     read_campaign(alloc, bytes)
 }

@@ -1,10 +1,11 @@
 // The files of all runs of a campaign.
-ghost use Rattle.std.specs.Prelude.{◌≡◌, ◌≤◌, All, length, IfErr, IfOk, IsOk};
+ghost use Rattle.std.specs.Prelude.{◌≡◌, ◌≤◌, ◌++◌, ◌∷◌, [], All, None, length, IfErr, IfOk, IsOk, OnOk};
 ghost use Rattle.eg_agree.specs.Replies.{IsAnyFault};
 ghost use Rattle.eg_campaign.specs.Plays.{IsPlayable};
 ghost use Rattle.eg_outcome.specs.Outcomes.{TellsNoMemory};
+ghost use Rattle.eg_outcome.specs.declared.outcome.Outcome.TheVariants.{Memory};
 ghost use Rattle.eg_play.specs.Inputs.{InputsCome, outcomes};
-ghost use Rattle.eg_play.specs.Ends.{role_in, name_for};
+ghost use Rattle.eg_play.specs.Ends.{role_in, name_for, IsNamedIfOfRun};
 
 use crate::End;
 use crate::input::input_for;
@@ -24,6 +25,7 @@ pub(crate) fn inputs_for<S: Store>(
     ensures comes { InputsCome (S.shows store.old) (S.shows store.new) 1 0 plans (outcomes result) }
     ensures playable { IfOk result (λ inputs. All IsPlayable inputs) }
     ensures named { IfErr result (λ end. end.file ≡ name_for plans (role_in end.outcome)) }
+    ensures some { IfErr result (λ end. IsNamedIfOfRun (role_in end.outcome) end.file) }
     ensures no_memory { IfErr result (λ end. TellsNoMemory end.outcome) }
     ensures shown { IsOk result → S.shows store.new ≡ S.shows store.old }
     ensures files { (S.shows store.new).files ≡ (S.shows store.old).files }
@@ -38,9 +40,22 @@ pub(crate) fn inputs_for<S: Store>(
         };
         sum += input.drive.as_slice().len() as u32;
         run += 1;
-        if inputs.push(input).is_err() {
-            return Err(End::of(Outcome::Memory));
+        match push(&mut inputs, input) {
+            Ok(()) => {}
+            Err(end) => return Err(end),
         }
     }
     Ok(Items::new(inputs))
+}
+
+/// Puts an input behind those that were made.
+fn push(inputs: &mut Vec<RunInput>, input: RunInput) -> Result<(), End>
+    ensures pushed { OnOk result (inputs.new.items ≡ inputs.old.items ++ input ∷ []) }
+    ensures memory { IfErr result (λ end. end.outcome ≡ Memory) }
+    ensures file { IfErr result (λ end. end.file ≡ None) }
+{
+    match inputs.push(input) {
+        Ok(()) => Ok(()),
+        Err(_) => Err(End::of(Outcome::Memory)),
+    }
 }

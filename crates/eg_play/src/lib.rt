@@ -9,7 +9,11 @@ mod end;
 mod input;
 mod inputs;
 mod lines;
+mod recording;
 mod report;
+mod running;
 mod texts;
 
 pub use end::End;
+pub use recording::record;
+pub use running::run;

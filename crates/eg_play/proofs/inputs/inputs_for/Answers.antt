@@ -1,9 +1,12 @@
-use Rattle.std.proofs.Common.{◌≡◌, ◌∙◌, refl, sym, ap, subst, Some, ◌+◌, ◌≤◌, ◌++◌, ◌∷◌, [], length, append_assoc, arith}
+use Rattle.std.proofs.Common.{◌≡◌, ◌∙◌, refl, sym, ap, subst, Some, ◌+◌, ◌≤◌, ◌++◌, ◌∷◌, [], length, append_assoc, append-nil, All, arith}
 use Rattle.eg_base.specs.Outside.{ShownStore}
 use Rattle.eg_campaign.specs.declared.run.RunPlan.{RunPlan}
+use Rattle.eg_campaign.specs.Plays.{IsPlayable}
 use Rattle.eg_play.specs.Inputs.{InputComes, InputsCome, too_many}
 use Rattle.std.proofs.Common.{List, Ok, Err}
-use Rattle.eg_play.proofs.InputsLemmas.{Goes, goes-first, goes-on, goes-end, goes-memory, goes-all, named, one-behind, some-sum}
+use Rattle.eg_play.specs.Ends.{IsNamedIfOfRun}
+use Rattle.eg_play.proofs.NameLemmas.{by_plan}
+use Rattle.eg_play.proofs.InputsLemmas.{Goes, goes-first, goes-on, goes-end, goes-memory, goes-all, named, one-behind, some-sum, one-longer, all-behind, nothing-left, any-later}
 use Rattle.eg_play.proofs.inputs.inputs_for.Goals as goal
 
 pub loop-plan-init : goal.loop-plan-init
@@ -24,7 +27,7 @@ returns-in-Err-clause-comes g c =
     let store = g.S.Store.shows c.args.store.now in
     let later = g.S.Store.shows c.input_for.new.store in
     goes-end store later c.loop-plan.run c.loop-plan.sum c.loop-plan.yielded c.loop-plan.inputs.items c.in-Some.plan c.next.new.self.rest.items c.args.plans
-    c.in-Err.end.outcome (one-behind c.loop-plan.invariant.parts c.in-Some.ensures.steps.0)
+    c.in-Err.end.outcome (one-behind _ c.loop-plan.yielded _ _ _ c.loop-plan.invariant.parts c.in-Some.ensures.steps.0)
     (subst (λ shown. InputComes (too_many c.loop-plan.sum c.loop-plan.run) shown later c.loop-plan.run c.in-Some.plan (Err c.in-Err.end.outcome))
     c.loop-plan.invariant.shown c.in-Err.ensures.comes) (c.loop-plan.invariant.goes later)
 
@@ -32,18 +35,48 @@ pub returns-in-Err-clause-named : goal.returns-in-Err-clause-named
 returns-in-Err-clause-named g c =
     c.in-Err.ensures.named.0
     ∙ named c.loop-plan.yielded c.in-Some.plan c.next.new.self.rest.items c.args.plans c.loop-plan.run _
-    (one-behind c.loop-plan.invariant.parts c.in-Some.ensures.steps.0) c.loop-plan.invariant.run c.in-Err.ensures.named.1
+    (one-behind _ c.loop-plan.yielded _ _ _ c.loop-plan.invariant.parts c.in-Some.ensures.steps.0) c.loop-plan.invariant.run c.in-Err.ensures.named.1
 
-pub returns-then-is_err-clause-comes : goal.returns-then-is_err-clause-comes
-returns-then-is_err-clause-comes g c =
+pub returns-in-Err-push-clause-comes : goal.returns-in-Err-push-clause-comes
+returns-in-Err-push-clause-comes g c =
     let store = g.S.Store.shows c.args.store.now in
     let later = g.S.Store.shows c.input_for.new.store in
-    subst (λ o. InputsCome store later 1 0 c.args.plans (Err o)) (sym c.of.ensures.outcome)
+    subst (λ o. InputsCome store later 1 0 c.args.plans (Err o)) (sym c.in-Err-push.ensures.memory)
     (goes-memory store later c.loop-plan.run c.loop-plan.sum c.loop-plan.yielded c.loop-plan.inputs.items c.in-Some.plan c.next.new.self.rest.items c.args.plans
-    (one-behind c.loop-plan.invariant.parts c.in-Some.ensures.steps.0) (c.loop-plan.invariant.goes later))
+    (one-behind _ c.loop-plan.yielded _ _ _ c.loop-plan.invariant.parts c.in-Some.ensures.steps.0) (c.loop-plan.invariant.goes later))
 
 pub loop-plan-preserved : goal.loop-plan-preserved
-loop-plan-preserved g c = ?
+loop-plan-preserved g c =
+    let drive : c.as_slice.result.now ≡ c.in-Ok.input.drive = c.as_slice.ensures in
+    record {
+      parts = one-behind _ c.loop-plan.yielded _ _ _ c.loop-plan.invariant.parts c.in-Some.ensures.steps.0
+          ∙ sym (append_assoc c.loop-plan.yielded (c.in-Some.plan ∷ []) c.next.new.self.rest.items);
+      run = ap (λ n. n + 1) c.loop-plan.invariant.run ∙ one-longer c.loop-plan.yielded c.in-Some.plan;
+      sum = subst (λ rows. c.loop-plan.sum + length rows ≤ 1000000) (sym drive) (c.in-Ok.ensures.sum c.loop-plan.sum refl);
+      shown = c.in-Ok.ensures.shown refl ∙ c.loop-plan.invariant.shown;
+      playable = subst (All IsPlayable) (sym c.in-Ok-push.ensures.pushed) (all-behind c.loop-plan.inputs.items c.in-Ok.input c.loop-plan.invariant.playable c.in-Ok.ensures.playable);
+      goes = λ later.
+          subst (Goes (g.S.Store.shows c.args.store.now) later (c.loop-plan.run + 1) (c.loop-plan.sum + length c.as_slice.result.now) (c.loop-plan.yielded ++ c.in-Some.plan ∷ []))
+          (sym c.in-Ok-push.ensures.pushed)
+          (subst (λ rows. Goes (g.S.Store.shows c.args.store.now) later (c.loop-plan.run + 1) (c.loop-plan.sum + length rows) (c.loop-plan.yielded ++ c.in-Some.plan ∷ [])
+          (c.loop-plan.inputs.items ++ c.in-Ok.input ∷ [])) (sym drive)
+          (goes-on (g.S.Store.shows c.args.store.now) later c.loop-plan.run c.loop-plan.sum c.loop-plan.yielded c.loop-plan.inputs.items c.in-Some.plan c.in-Ok.input
+          (any-later (too_many c.loop-plan.sum c.loop-plan.run) (g.S.Store.shows c.args.store.now) (g.S.Store.shows c.input_for.new.store) later c.loop-plan.run c.in-Some.plan c.in-Ok.input
+          (subst (λ shown. InputComes (too_many c.loop-plan.sum c.loop-plan.run) shown (g.S.Store.shows c.input_for.new.store) c.loop-plan.run c.in-Some.plan (Ok c.in-Ok.input))
+          c.loop-plan.invariant.shown c.in-Ok.ensures.comes))
+          (c.loop-plan.invariant.goes later)));
+    }
 
 pub returns-clause-comes : goal.returns-clause-comes
-returns-clause-comes g c = ?
+returns-clause-comes g c =
+    let store = g.S.Store.shows c.args.store.now in
+    let later = g.S.Store.shows c.loop-plan.store in
+    let all : c.args.plans ≡ c.loop-plan.yielded = c.loop-plan.invariant.parts
+    ∙ ap (λ rest. c.loop-plan.yielded ++ rest) (nothing-left c.loop-plan.plan-iterator.rest.items _ c.loop-plan.plan-iterator.rest.ok.0 c.in-None.ensures.steps.0)
+    ∙ append-nil c.loop-plan.yielded in
+    subst (λ made. InputsCome store later 1 0 c.args.plans (Ok made)) (sym c.new.ensures)
+    (subst (λ plans. InputsCome store later 1 0 plans (Ok c.loop-plan.inputs.items)) (sym all)
+    (goes-all store later c.loop-plan.run c.loop-plan.sum c.loop-plan.yielded c.loop-plan.inputs.items (c.loop-plan.invariant.goes later)))
+
+pub returns-in-Err-clause-some : goal.returns-in-Err-clause-some
+returns-in-Err-clause-some g c = subst (IsNamedIfOfRun _) (sym c.in-Err.ensures.named.0) (by_plan c.in-Some.plan _)

@@ -1,0 +1,126 @@
+// `record [--cal NAME] CAMPAIGN RUN`: the record of one run of a campaign.
+ghost use Rattle.std.specs.Prelude.{◌≡◌, Some};
+ghost use Rattle.std.specs.Option.{option_copied};
+ghost use Rattle.eg_agree.specs.Replies.{IsAnyFault};
+ghost use Rattle.eg_campaign.specs.Rules.{AreRuns};
+ghost use Rattle.eg_outcome.specs.Outcomes.{TellsNoMemory, PutsNothing};
+ghost use Rattle.eg_play.specs.Ends.{NothingPlayed, NamedEnds, CampaignEnds, RecordCommandEnds, run_named, NamesFile, role_in, name_by, name_for, IsOf, IsNamedIfOfRun};
+
+use crate::End;
+use crate::campaign::campaign_for;
+use crate::input::input_for;
+use crate::report::put_record;
+use eg_base::{Items, Sink, Store};
+use eg_campaign::RunPlan;
+use eg_outcome::{Outcome, Refusal, calibration_for};
+use eg_tick::Ticks;
+use eg_values::Calibration;
+use std::alloc::Global;
+
+/// Does `record [--cal NAME] CAMPAIGN RUN`, but for its note (docs/FORMATS.md, "Commands"): reads the campaign
+/// and the files of the run of that name, plays it, and writes its record. Ticks are counted in `steps`.
+pub fn record<S: Store, K: Sink>(
+    alloc: Global,
+    calibration: Option<&str>,
+    campaign: &str,
+    name: &str,
+    store: &mut S,
+    out: &mut K,
+    steps: &mut Ticks,
+) -> End
+    ensures ends { RecordCommandEnds (option_copied calibration.entry) campaign.now name.now
+        (S.shows store.old) (S.shows store.new) (K.shows out.old) (K.shows out.new)
+        steps.old steps.new result.outcome }
+    ensures named { NamesFile campaign.now (S.shows store.old) (role_in result.outcome) result.file }
+    ensures no_memory { TellsNoMemory result.outcome }
+    ensures files { (S.shows store.new).files ≡ (S.shows store.old).files }
+    ensures nothing_put { PutsNothing result.outcome → out.new ≡ out.old }
+    ensures nothing_played { PutsNothing result.outcome → steps.new ≡ steps.old }
+{
+    match calibration_for(alloc, calibration, store) {
+        Ok(calibration) => record_by(alloc, &calibration, campaign, name, store, out, steps),
+        Err(outcome) => End::of(outcome),
+    }
+}
+
+/// Records a run of a campaign by this calibration.
+fn record_by<S: Store, K: Sink>(
+    alloc: Global,
+    calibration: &Calibration,
+    campaign: &str,
+    name: &str,
+    store: &mut S,
+    out: &mut K,
+    steps: &mut Ticks,
+) -> End
+    ensures ends { CampaignEnds campaign.now (S.shows store.old) (S.shows store.new)
+        (NothingPlayed (K.shows out.old) (K.shows out.new) steps.old steps.new)
+        (λ plans. NamedEnds calibration.now (run_named name.now 1 plans) (S.shows store.old)
+        (S.shows store.new) (K.shows out.old) (K.shows out.new) steps.old steps.new) result.outcome }
+    ensures named { NamesFile campaign.now (S.shows store.old) (role_in result.outcome) result.file }
+    ensures no_memory { TellsNoMemory result.outcome }
+    ensures files { (S.shows store.new).files ≡ (S.shows store.old).files }
+    ensures nothing_put { PutsNothing result.outcome → out.new ≡ out.old }
+    ensures nothing_played { PutsNothing result.outcome → steps.new ≡ steps.old }
+{
+    match campaign_for(alloc, campaign, store) {
+        Ok(plans) => record_named(alloc, calibration, plans, name, store, out, steps),
+        Err(outcome) => End::of(outcome),
+    }
+}
+
+/// Records the run of that name.
+fn record_named<S: Store, K: Sink>(
+    alloc: Global,
+    calibration: &Calibration,
+    plans: Items<RunPlan>,
+    name: &str,
+    store: &mut S,
+    out: &mut K,
+    steps: &mut Ticks,
+) -> End
+    requires rules { AreRuns plans }
+    ensures ends { NamedEnds calibration.now (run_named name.now 1 plans) (S.shows store.old)
+        (S.shows store.new) (K.shows out.old) (K.shows out.new) steps.old steps.new result.outcome }
+    ensures named { result.file ≡ name_for plans (role_in result.outcome) }
+    ensures some { IsNamedIfOfRun (role_in result.outcome) result.file }
+    ensures no_memory { TellsNoMemory result.outcome }
+    ensures files { (S.shows store.new).files ≡ (S.shows store.old).files }
+    ensures nothing_put { PutsNothing result.outcome → out.new ≡ out.old }
+    ensures nothing_played { PutsNothing result.outcome → steps.new ≡ steps.old }
+{
+    let mut run = 1;
+    for plan in plans.into_vec() {
+        if plan.name.as_str() == name {
+            return record_plan(alloc, calibration, run, plan, store, out, steps);
+        }
+        run += 1;
+    }
+    End::of(Outcome::Refused(Refusal::NoRun))
+}
+
+/// Records run number `run` of the campaign.
+fn record_plan<S: Store, K: Sink>(
+    alloc: Global,
+    calibration: &Calibration,
+    run: u32,
+    plan: RunPlan,
+    store: &mut S,
+    out: &mut K,
+    steps: &mut Ticks,
+) -> End
+    requires fault { IsAnyFault plan.fault }
+    ensures ends { NamedEnds calibration.now (Some (run, plan)) (S.shows store.old)
+        (S.shows store.new) (K.shows out.old) (K.shows out.new) steps.old steps.new result.outcome }
+    ensures named { result.file ≡ name_by plan (role_in result.outcome) }
+    ensures of_run { IsOf run (role_in result.outcome) }
+    ensures no_memory { TellsNoMemory result.outcome }
+    ensures files { (S.shows store.new).files ≡ (S.shows store.old).files }
+    ensures nothing_put { PutsNothing result.outcome → out.new ≡ out.old }
+    ensures nothing_played { PutsNothing result.outcome → steps.new ≡ steps.old }
+{
+    match input_for(alloc, run, None, plan, store) {
+        Ok(input) => End::of(put_record(alloc, calibration, &input, out, steps)),
+        Err(end) => end,
+    }
+}

@@ -1,0 +1,91 @@
+// `run [--cal NAME] CAMPAIGN`: the report on the runs of a campaign.
+ghost use Rattle.std.specs.Prelude.{◌≡◌};
+ghost use Rattle.std.specs.Option.{option_copied};
+ghost use Rattle.eg_campaign.specs.Rules.{AreRuns};
+ghost use Rattle.eg_outcome.specs.Outcomes.{TellsNoMemory, PutsNothing};
+ghost use Rattle.eg_play.specs.Ends.{NothingPlayed, RunsEnd, CampaignEnds, RunCommandEnds, NamesFile, role_in, name_for, IsNamedIfOfRun};
+
+use crate::End;
+use crate::campaign::campaign_for;
+use crate::inputs::inputs_for;
+use crate::report::put_report;
+use eg_base::{Items, Sink, Store};
+use eg_campaign::RunPlan;
+use eg_outcome::calibration_for;
+use eg_tick::Ticks;
+use eg_values::Calibration;
+use std::alloc::Global;
+
+/// Does `run [--cal NAME] CAMPAIGN`, but for its note (docs/FORMATS.md, "Commands"): reads the campaign and the
+/// files of all its runs, plays the runs, and writes the report. Ticks are counted in `steps`.
+pub fn run<S: Store, K: Sink>(
+    alloc: Global,
+    calibration: Option<&str>,
+    campaign: &str,
+    store: &mut S,
+    out: &mut K,
+    steps: &mut Ticks,
+) -> End
+    ensures ends { RunCommandEnds (option_copied calibration.entry) campaign.now (S.shows store.old)
+        (S.shows store.new) (K.shows out.old) (K.shows out.new) steps.old steps.new result.outcome }
+    ensures named { NamesFile campaign.now (S.shows store.old) (role_in result.outcome) result.file }
+    ensures no_memory { TellsNoMemory result.outcome }
+    ensures files { (S.shows store.new).files ≡ (S.shows store.old).files }
+    ensures nothing_put { PutsNothing result.outcome → out.new ≡ out.old }
+    ensures nothing_played { PutsNothing result.outcome → steps.new ≡ steps.old }
+{
+    match calibration_for(alloc, calibration, store) {
+        Ok(calibration) => run_by(alloc, &calibration, campaign, store, out, steps),
+        Err(outcome) => End::of(outcome),
+    }
+}
+
+/// Plays a campaign by this calibration.
+fn run_by<S: Store, K: Sink>(
+    alloc: Global,
+    calibration: &Calibration,
+    campaign: &str,
+    store: &mut S,
+    out: &mut K,
+    steps: &mut Ticks,
+) -> End
+    ensures ends { CampaignEnds campaign.now (S.shows store.old) (S.shows store.new)
+        (NothingPlayed (K.shows out.old) (K.shows out.new) steps.old steps.new)
+        (λ plans. RunsEnd calibration.now plans (S.shows store.old) (S.shows store.new)
+        (K.shows out.old) (K.shows out.new) steps.old steps.new) result.outcome }
+    ensures named { NamesFile campaign.now (S.shows store.old) (role_in result.outcome) result.file }
+    ensures no_memory { TellsNoMemory result.outcome }
+    ensures files { (S.shows store.new).files ≡ (S.shows store.old).files }
+    ensures nothing_put { PutsNothing result.outcome → out.new ≡ out.old }
+    ensures nothing_played { PutsNothing result.outcome → steps.new ≡ steps.old }
+{
+    match campaign_for(alloc, campaign, store) {
+        Ok(plans) => run_plans(alloc, calibration, plans, store, out, steps),
+        Err(outcome) => End::of(outcome),
+    }
+}
+
+/// Plays these runs.
+fn run_plans<S: Store, K: Sink>(
+    alloc: Global,
+    calibration: &Calibration,
+    plans: Items<RunPlan>,
+    store: &mut S,
+    out: &mut K,
+    steps: &mut Ticks,
+) -> End
+    requires rules { AreRuns plans }
+    ensures ends { RunsEnd calibration.now plans (S.shows store.old) (S.shows store.new)
+        (K.shows out.old) (K.shows out.new) steps.old steps.new result.outcome }
+    ensures named { result.file ≡ name_for plans (role_in result.outcome) }
+    ensures some { IsNamedIfOfRun (role_in result.outcome) result.file }
+    ensures no_memory { TellsNoMemory result.outcome }
+    ensures files { (S.shows store.new).files ≡ (S.shows store.old).files }
+    ensures nothing_put { PutsNothing result.outcome → out.new ≡ out.old }
+    ensures nothing_played { PutsNothing result.outcome → steps.new ≡ steps.old }
+{
+    match inputs_for(alloc, plans, store) {
+        Ok(inputs) => End::of(put_report(alloc, calibration, inputs.as_slice(), out, steps)),
+        Err(end) => end,
+    }
+}
