@@ -188,22 +188,22 @@ module _ (old new : Kept) (drive : DriveRow) (budgets : List ℕ) (made : Level2
 
   -- its row is the model's
   pub row-told : (row : Row) (allowed : ℕ) → allowed ≡ drive_permits old.cal.rules.permit drive → row ≡ record {
-        tick = old.ticks;
-        drive = drive;
-        plate = new.shown.position;
-        charge = new.shown.load_1;
-        torque = new.shown.torque;
-        limit = allowed;
-        path1 = paths.path1;
-        path2 = paths.path2;
-        on = paths.on;
-        signals = signal_list (signals_of (words_of new.memory.words));
-        throttle = slice_index new.memory.words 2064;
-        ignition = slice_index new.memory.words 2065;
-        found = record done.found { answers = judged.answers };
-        answer = judged.mark;
-        verdict = judged.verdict;
-      } → row ≡ row_of (next s e h)
+    tick = old.ticks;
+    drive = drive;
+    plate = new.shown.position;
+    charge = new.shown.load_1;
+    torque = new.shown.torque;
+    limit = allowed;
+    path1 = paths.path1;
+    path2 = paths.path2;
+    on = paths.on;
+    signals = signal_list (signals_of (words_of new.memory.words));
+    throttle = slice_index new.memory.words 2064;
+    ignition = slice_index new.memory.words 2065;
+    found = record done.found { answers = judged.answers };
+    answer = judged.mark;
+    verdict = judged.verdict;
+  } → row ≡ row_of (next s e h)
   unfolding entry_of effects_after
   row-told row allowed permits is =
       let first : paths.path1 ≡ (effects_after s h).conducts 1 old.open1 = advance.path1 ∙ ap (λ t. (effects old.fault t).conducts 1 old.open1) stands.count in

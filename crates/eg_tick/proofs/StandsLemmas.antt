@@ -86,12 +86,15 @@ module _ (s : Setting) (e : Entry) (h : List Entry) (old new : Kept) (step : Ste
   unfolding AreProper ticks IsShown moments effects_after
   engine = record {
     one_kt = makes.kt ∙ stands.engine.one_kt;
-    proper = (record {
-      drive = makes.drive;
-      engine = subst (λ shown. KeepsLaws s.cal.rules.kt shown) (sym makes.shown)
-          (subst (λ kt. KeepsLaws kt new.shown) (makes.kt ∙ stands.engine.one_kt) makes.laws);
-      no_torque = λ off. ap (λ (shown : Shown). shown.torque) makes.shown ∙ makes.off off;
-    }, stands.engine.proper);
+    proper = (
+      record {
+        drive = makes.drive;
+        engine = subst (λ shown. KeepsLaws s.cal.rules.kt shown) (sym makes.shown)
+            (subst (λ kt. KeepsLaws kt new.shown) (makes.kt ∙ stands.engine.one_kt) makes.laws);
+        no_torque = λ off. ap (λ (shown : Shown). shown.torque) makes.shown ∙ makes.off off;
+      },
+      stands.engine.proper,
+    );
     shows = makes.shown;
   }
 
@@ -136,22 +139,22 @@ module _ (s : Setting) (e : Entry) (h : List Entry) (old new : Kept) (step : Ste
   world-is = makes.served.0.world
 
   pub row-is : (row : Row) → row ≡ record {
-        tick = old.ticks;
-        drive = e.drive;
-        plate = new.shown.position;
-        charge = new.shown.load_1;
-        torque = new.shown.torque;
-        limit = drive_permits s.cal.rules.permit e.drive;
-        path1 = (effects_after s h).conducts 1 old.open1;
-        path2 = (effects_after s h).conducts 2 old.open2;
-        on = (effects_after s h).conducts 1 old.open1 && (effects_after s h).conducts 2 old.open2;
-        signals = signal_list (signals_of (words_of new.memory.words));
-        throttle = slice_index new.memory.words 2064;
-        ignition = slice_index new.memory.words 2065;
-        found = record step.found { answers = judgement.answers };
-        answer = judgement.mark;
-        verdict = judgement.verdict;
-      } → row ≡ row_of (next s e h)
+    tick = old.ticks;
+    drive = e.drive;
+    plate = new.shown.position;
+    charge = new.shown.load_1;
+    torque = new.shown.torque;
+    limit = drive_permits s.cal.rules.permit e.drive;
+    path1 = (effects_after s h).conducts 1 old.open1;
+    path2 = (effects_after s h).conducts 2 old.open2;
+    on = (effects_after s h).conducts 1 old.open1 && (effects_after s h).conducts 2 old.open2;
+    signals = signal_list (signals_of (words_of new.memory.words));
+    throttle = slice_index new.memory.words 2064;
+    ignition = slice_index new.memory.words 2065;
+    found = record step.found { answers = judgement.answers };
+    answer = judgement.mark;
+    verdict = judgement.verdict;
+  } → row ≡ row_of (next s e h)
   unfolding row_of world_of next drive_permits moment on_at path1_at
   row-is row is = is ∙ (λ i. record {
     tick = (stands.count ∙ sym (tick-is s e h)) i;

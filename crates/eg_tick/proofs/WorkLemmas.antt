@@ -88,9 +88,10 @@ module _ (s : Setting) (e : Entry) (h : List Entry) (made : Level2Parts) (under 
   pub served : (n : Registers) (new : List ℕ) → IsAnyFault under → length budgets ≡ 9 → IsMidway w 9 8 n new → Served s e h n new
   served n new valid nine is =
       let all : length e.slices ≡ 9 = ap length serves.slices ∙ nine in
-      let short = serves.short in
-      (level1-next s serves.accepted e h words serves.level2.words n new all is,
-       level2-next s serves.accepted e h words serves.level2.words n new (subst IsAnyFault (sym serves.fault) valid) (omega (arith, short)) serves.level2.flow serves.level2.last is)
+      let short = serves.short in (
+        level1-next s serves.accepted e h words serves.level2.words n new all is,
+        level2-next s serves.accepted e h words serves.level2.words n new (subst IsAnyFault (sym serves.fault) valid) (omega (arith, short)) serves.level2.flow serves.level2.last is,
+      )
 
   -- ---- what it orders, finds and answers ----
 

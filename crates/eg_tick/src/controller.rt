@@ -13,13 +13,13 @@ ghost use Rattle.eg_tick.specs.Working.{effects_after};
 ghost use Rattle.eg_tick.specs.Advancing.{entry_of, HoldsOutputs, RowReactsInTime, RowReactsAtOnce, RowCutsLapses, HistoryHasShortLapses};
 ghost use Rattle.eg_tick.specs.Weights.{weight_of};
 
+use crate::Slices;
 use crate::board::load_image;
 use crate::monitoring::{judge, question};
 use crate::paths::Paths;
 use crate::plant::{readings, step_engine};
 use crate::row::{Beginning, limit, row};
 use crate::working::{Task, work};
-use crate::Slices;
 use eg_base::NoMemory;
 use eg_fault::{Fault, held, sends};
 use eg_guard::Guarded;
@@ -235,11 +235,29 @@ impl<E: Engine + Drop, M: Guarded + Drop> Controller<E, M> {
         let task = Task {
             tick: self.ticks as u16,
             sends: sends(fault, self.ticks, self.calibration.times()),
-            asked: question(&self.monitor, self.calibration.questions(), fault, self.ticks),
+            asked: question(
+                &self.monitor,
+                self.calibration.questions(),
+                fault,
+                self.ticks,
+            ),
             readings: readings(&self.engine, drive, fault, self.ticks),
         };
-        let step = work(&self.level2, fault, &task, slices, &mut self.host, &mut self.memory)?;
-        let judged = judge(&mut self.monitor, self.calibration.questions(), fault, self.ticks, step.answer);
+        let step = work(
+            &self.level2,
+            fault,
+            &task,
+            slices,
+            &mut self.host,
+            &mut self.memory,
+        )?;
+        let judged = judge(
+            &mut self.monitor,
+            self.calibration.questions(),
+            fault,
+            self.ticks,
+            step.answer,
+        );
         self.open1 = either(step.open_path, self.open1);
         self.open2 = either(either(judged.answers, judged.opens), self.open2);
         self.trap = trap_after(self.trap, self.host.registers.state, self.ticks);

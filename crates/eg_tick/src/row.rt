@@ -43,11 +43,6 @@ fn word<M: Guarded>(memory: &M, number: u8) -> u16
 }
 
 /// The five signals of level 2, which are its first five words.
-#[tactic(auto, unfolding(
-    eg_model::specs::Rows::signal_list,
-    eg_agree::specs::Standing::signals_of,
-    eg_level2::specs::Words::named
-))]
 fn signals<M: Guarded>(memory: &M) -> [u16; 5]
     ensures { result ≡ signal_list (signals_of (words_of (M.shows memory.now).words)) }
 {

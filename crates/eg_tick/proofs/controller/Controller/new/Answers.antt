@@ -68,4 +68,3 @@ invariant_of-result g c = record {
 
 pub returns-clause-stands : goal.returns-clause-stands
 returns-clause-stands g c = made g c
-
