@@ -11,6 +11,7 @@ use crate::bound::bound;
 use crate::check::check;
 use crate::command::Command;
 use crate::note::note;
+use crate::play::{play_campaign, play_run};
 use eg_base::{Sink, Store};
 use eg_outcome::Outcome;
 use eg_play::End;
@@ -119,12 +120,12 @@ fn work<S: Store, K: Sink>(
         Command::Run {
             calibration,
             campaign,
-        } => eg_play::run(alloc, calibration, campaign, store, out, steps),
+        } => play_campaign(alloc, calibration, campaign, store, out, steps),
         Command::Record {
             calibration,
             campaign,
             name,
-        } => eg_play::record(alloc, calibration, campaign, name, store, out, steps),
+        } => play_run(alloc, calibration, campaign, name, store, out, steps),
     }
 }
 
