@@ -102,8 +102,8 @@ TellsMissingCheck (Some name) file store o = ((o ≡ outcome.ReadFault role.Chec
     × (AcceptsCalibration (Some name) store → ¬ IsMissing store.files name → IsMissing store.files file
     → (o ≡ outcome.ReadFault role.Check) ⊎ (o ≡ outcome.Memory))
 
--- Over a sure store reading the calibration fails only where there is no such file, and there nothing else comes
--- but want of memory.
+-- Over a sure store reading the calibration fails only where there is no such file, and there nothing else
+-- comes but want of memory.
 abbrev pub TellsMissingButMemory : Option (List ℕ) → ShownStore → Outcome → Type 0
 TellsMissingButMemory calibration store o =
     ((o ≡ outcome.ReadFault role.Calibration) → MissesCalibration calibration store)

@@ -20,8 +20,8 @@ use std::alloc::Global;
 
 /// Does what the words ask for (docs/FORMATS.md, "Commands"): it reads files from `store`, writes its text to
 /// `out`, counts in `steps` the ticks that it makes, and notes any outcome but Done with one line in `notes`.
-/// The words don't hold the program's name. What `notes` refuses changes no outcome (shown by tests: no clause
-/// on the outcome speaks of it).
+/// The words don't hold the program's name. What `notes` refuses changes no outcome (shown by tests: no
+/// clause on the outcome speaks of it).
 pub fn egasim<S: Store, K: Sink, N: Sink>(
     alloc: Global,
     words: &[String],

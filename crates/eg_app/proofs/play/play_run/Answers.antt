@@ -8,4 +8,5 @@ returns-clause-missing g c =
     let later = g.S.Store.shows c.record.new.store in
     let out = g.K.Sink.shows c.args.out.now in
     let now = g.K.Sink.shows c.record.new.out in
-    record_missing (option_copied c.args.calibration) c.args.campaign.now c.args.name.now store later out now c.args.steps.now c.record.new.steps c.record.result.outcome c.record.ensures.ends
+    let steps = c.record.new.steps in
+    record_missing (option_copied c.args.calibration) c.args.campaign.now c.args.name.now store later out now c.args.steps.now steps c.record.result.outcome c.record.ensures.ends
