@@ -1,5 +1,5 @@
 -- When the work is done, from how a command ends.
-use Rattle.std.proofs.Common.{◌≡◌, List, ℕ, Option, Some, None, sym, subst}
+use Rattle.std.proofs.Common.{List, ℕ, Option, Some, None, sym, subst}
 use Rattle.std.specs.Prelude.{Ok, Err}
 use Rattle.eg_base.specs.Outside.{ShownStore, ShownSink, Rose}
 use Rattle.eg_answer.specs.declared.rules.Rules.{Rules}

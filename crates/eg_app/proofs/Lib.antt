@@ -1,4 +1,5 @@
 pub mod ExcessLemmas
 pub mod FileLemmas
 pub mod PlayLemmas
+pub mod MissingLemmas
 pub mod EndsLemmas

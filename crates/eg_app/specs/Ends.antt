@@ -102,15 +102,24 @@ TellsMissingCheck (Some name) file store o = ((o ≡ outcome.ReadFault role.Chec
     × (AcceptsCalibration (Some name) store → ¬ IsMissing store.files name → IsMissing store.files file
     → (o ≡ outcome.ReadFault role.Check) ⊎ (o ≡ outcome.Memory))
 
--- Over a sure store a fault of reading comes exactly where there is no such file. Of `run` and `record` their
--- relations say that it comes only there.
+-- Over a sure store reading the calibration fails only where there is no such file, and there nothing else
+-- comes but want of memory.
+abbrev pub TellsMissingButMemory : Option (List ℕ) → ShownStore → Outcome → Type 0
+TellsMissingButMemory calibration store o =
+    ((o ≡ outcome.ReadFault role.Calibration) → MissesCalibration calibration store)
+    × (MissesCalibration calibration store → (o ≡ outcome.ReadFault role.Calibration) ⊎ (o ≡ outcome.Memory))
+
+-- Over a sure store a fault of reading comes exactly where there is no such file. Of the files of a campaign
+-- `Ends` says by their roles which was read, and that it comes only where that is missing.
 abbrev pub TellsMissing : Option Command → ShownStore → Outcome → Type 0
 TellsMissing (Some (check calibration file)) store o = IsTrue store.sure →
     TellsMissingCalibration calibration store o × TellsMissingCheck calibration file store o
 TellsMissing (Some (bound calibration)) store o =
     IsTrue store.sure → TellsMissingCalibration calibration store o
-TellsMissing (Some (run calibration campaign)) store o = Unit {0}
-TellsMissing (Some (record_run calibration campaign name)) store o = Unit {0}
+TellsMissing (Some (run calibration campaign)) store o =
+    IsTrue store.sure → TellsMissingButMemory calibration store o
+TellsMissing (Some (record_run calibration campaign name)) store o =
+    IsTrue store.sure → TellsMissingButMemory calibration store o
 TellsMissing None store o = Unit {0}
 
 -- ---- when the work is done ----

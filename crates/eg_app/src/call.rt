@@ -11,6 +11,7 @@ use crate::bound::bound;
 use crate::check::check;
 use crate::command::Command;
 use crate::note::note;
+use crate::play::{play_campaign, play_run};
 use eg_base::{Sink, Store};
 use eg_outcome::Outcome;
 use eg_play::End;
@@ -19,8 +20,8 @@ use std::alloc::Global;
 
 /// Does what the words ask for (docs/FORMATS.md, "Commands"): it reads files from `store`, writes its text to
 /// `out`, counts in `steps` the ticks that it makes, and notes any outcome but Done with one line in `notes`.
-/// The words don't hold the program's name. What `notes` refuses changes no outcome (shown by tests: no clause
-/// on the outcome speaks of it).
+/// The words don't hold the program's name. What `notes` refuses changes no outcome (shown by tests: no
+/// clause on the outcome speaks of it).
 pub fn egasim<S: Store, K: Sink, N: Sink>(
     alloc: Global,
     words: &[String],
@@ -119,12 +120,12 @@ fn work<S: Store, K: Sink>(
         Command::Run {
             calibration,
             campaign,
-        } => eg_play::run(alloc, calibration, campaign, store, out, steps),
+        } => play_campaign(alloc, calibration, campaign, store, out, steps),
         Command::Record {
             calibration,
             campaign,
             name,
-        } => eg_play::record(alloc, calibration, campaign, name, store, out, steps),
+        } => play_run(alloc, calibration, campaign, name, store, out, steps),
     }
 }
 

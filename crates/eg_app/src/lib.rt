@@ -7,6 +7,7 @@ mod check;
 mod command;
 mod monitoring;
 mod note;
+mod play;
 
 pub use call::egasim;
 pub use eg_outcome::{Outcome, Refusal, Role};

@@ -1,0 +1,141 @@
+-- Which files `run` and `record` say to be missing, from how they end.
+use Rattle.std.proofs.Common.{◌≡◌, ◌∙◌, ◌+◌, ◌∷◌, [], List, ℕ, Option, Some, None, inl, inr, length, refl, sym, ap, subst}
+use Rattle.std.specs.Prelude.{◌⊎◌, Result, Ok, Err, IsTrue, IsNone, IsSomeAnd}
+use Rattle.std.proofs.lemmas.Bool.{false≢true}
+use Rattle.eg_base.specs.Outside.{Files, ShownStore, ShownSink, IsMissing, AreFirstBytes}
+use Rattle.eg_num.specs.Drive.{DriveRow}
+use Rattle.eg_values.specs.Calibration.{CalibrationParts}
+use Rattle.eg_tick.specs.Weights.{TickCount}
+use Rattle.eg_campaign.specs.declared.run.RunPlan.{RunPlan}
+use Rattle.eg_outcome.specs.declared.outcome.Outcome.{Outcome}
+use Rattle.eg_outcome.specs.declared.outcome.Outcome.TheVariants.{Done, Usage, ReadFault, Refused, WriteFault, Memory}
+use Rattle.eg_outcome.specs.declared.outcome.Refusal.{Refusal}
+use Rattle.eg_outcome.specs.declared.outcome.Role.{Role}
+use Rattle.eg_outcome.specs.declared.outcome.Role.TheVariants as role
+use Rattle.eg_outcome.specs.Outcomes.{LineEnds}
+use Rattle.eg_outcome.specs.Reads.{FileComes}
+use Rattle.eg_outcome.specs.Calibrations.{calibration_file, CalibratedEnds}
+use Rattle.eg_play.specs.Files.{campaign_file, trace_file, image_file}
+use Rattle.eg_play.specs.Inputs.{TicksCome, InputComes, InputsCome, too_many}
+use Rattle.eg_play.specs.Ends.{NothingPlayed, RunsEnd, NamedEnds, CampaignEnds, RunCommandEnds, RecordCommandEnds, run_named}
+use Rattle.eg_app.specs.Ends.{TellsMissingButMemory}
+use Rattle.eg_app.proofs.PlayLemmas.{same_error, no_value}
+
+-- ---- the calibration ----
+
+not_there : {X : Type 0} (P : X → Type 0) (found : Option X) → IsSomeAnd found P → IsNone found → ⊥
+not_there P None some none = absurd some
+not_there P (Some x) some none = absurd (false≢true (sym none))
+
+-- a file that was read isn't missing
+not_missing : (files : Option Files) (name : List ℕ) (most : ℕ) (bytes : List ℕ) → AreFirstBytes files name most bytes → IsMissing files name → ⊥
+not_missing None name most bytes read missing = absurd missing
+not_missing (Some m) name most bytes read missing = not_there _ _ read.1 missing
+
+-- where the file behind `--cal` is missing, nothing else comes of it but want of memory
+missed : (name : List ℕ) (store later : ShownStore) (end : Outcome)
+    → FileComes role.Calibration calibration_file name store later (Err end) → IsMissing store.files name
+    → (end ≡ ReadFault role.Calibration) ⊎ (end ≡ Memory)
+missed name store later Done (same, (bytes, read, never)) missing = absurd never
+missed name store later Usage (same, (bytes, read, never)) missing = absurd never
+missed name store later WriteFault (same, (bytes, read, never)) missing = absurd never
+missed name store later Memory comes missing = inr refl
+missed name store later (ReadFault r) comes missing = inl (ap ReadFault comes.0)
+missed name store later (Refused r) (same, (bytes, read, refused)) missing = absurd (not_missing store.files name _ bytes read missing)
+
+calibrated_missing : (calibration : Option (List ℕ)) (store later : ShownStore) (nothing : Type 0) (work : CalibrationParts → Outcome → Type 0) (o : Outcome)
+    → CalibratedEnds calibration store later nothing work o
+    → ((parts : CalibrationParts) → work parts o → o ≡ ReadFault role.Calibration → ⊥)
+    → IsTrue store.sure → TellsMissingButMemory calibration store o
+calibrated_missing None store later nothing work o (Ok parts, is, works) never sure = (λ fault. never parts works fault, λ misses. absurd misses)
+calibrated_missing None store later nothing work o (Err end, is, follows) never sure = absurd cc
+calibrated_missing (Some name) store later nothing work o (Ok parts, (bytes, read, says), works) never sure =
+    (λ fault. absurd (never parts works fault), λ misses. absurd (not_missing store.files name _ bytes read misses))
+calibrated_missing (Some name) store later nothing work o (Err end, comes, (is, same)) never sure = (
+  λ fault. (subst (λ (e : Outcome). FileComes role.Calibration calibration_file name store later (Err e)) (sym is ∙ fault) comes).2 sure,
+  λ misses. subst (λ (e : Outcome). (e ≡ ReadFault role.Calibration) ⊎ (e ≡ Memory)) (sym is) (missed name store later end comes misses),
+)
+
+-- ---- the files of a campaign ----
+
+-- a fault of reading is told of the file that was read
+other_file : {X : Type 0} (file : Role) (says : List ℕ → Result X Refusal) (name : List ℕ) (store later : ShownStore) (end : Outcome)
+    → FileComes file says name store later (Err end) → end ≡ ReadFault role.Calibration → role.Calibration ≡ file
+other_file file says name store later end comes fault =
+    (subst (λ (e : Outcome). FileComes file says name store later (Err e)) fault comes).0
+
+line_other : (line : List ℕ) (out now : ShownSink) (o : Outcome) → LineEnds line out now o → o ≡ ReadFault role.Calibration → ⊥
+line_other line out now o ends fault = subst (λ (e : Outcome). LineEnds line out now e) fault ends
+
+refused_other : (r : Refusal) (o : Outcome) → Refused r ≡ o → o ≡ ReadFault role.Calibration → ⊥
+refused_other r o refused fault = absurd cc
+
+not_campaign : role.Calibration ≡ role.Campaign → ⊥
+not_campaign same = absurd cc
+
+not_trace : (n : ℕ) → role.Calibration ≡ role.Trace n → ⊥
+not_trace n same = absurd cc
+
+not_image : (n : ℕ) → role.Calibration ≡ role.Image n → ⊥
+not_image n same = absurd cc
+
+ticks_other : (refused : Option Refusal) (store later : ShownStore) (n : ℕ) (plan : RunPlan) (drive : List DriveRow) (end : Outcome)
+    → TicksCome refused store later n plan drive (Err end) → end ≡ ReadFault role.Calibration → ⊥
+ticks_other (Some r) store later n plan drive end (come, same) fault = refused_other r end (same_error (Err end) end (Refused r) refl come) fault
+ticks_other None store later n plan drive end (Ok words, comes, come) fault = no_value _ end come
+ticks_other None store later n plan drive end (Err e, comes, come) fault =
+    not_image n (other_file (role.Image n) (image_file n) plan.image store later e comes (same_error (Err end) end e refl come ∙ fault))
+
+input_other : (refuses : ℕ → Option Refusal) (store later : ShownStore) (n : ℕ) (plan : RunPlan) (end : Outcome)
+    → InputComes refuses store later n plan (Err end) → end ≡ ReadFault role.Calibration → ⊥
+input_other refuses store later n plan end (Err e, comes, come) fault =
+    not_trace n (other_file (role.Trace n) (trace_file n) plan.trace store later e comes (same_error (Err end) end e refl come ∙ fault))
+input_other refuses store later n plan end (Ok drive, comes, come) fault = ticks_other (refuses (length drive)) store later n plan drive end come fault
+
+inputs_other : (store later : ShownStore) (n sum : ℕ) (plans : List RunPlan) (end : Outcome)
+    → InputsCome store later n sum plans (Err end) → end ≡ ReadFault role.Calibration → ⊥
+inputs_other store later n sum [] end come fault = no_value [] end come
+inputs_other store later n sum (plan ∷ plans) end (Err e, comes, come) fault =
+    input_other (too_many sum n) store later n plan e comes (same_error (Err end) end e refl come ∙ fault)
+inputs_other store later n sum (plan ∷ plans) end (Ok input, comes, (Ok inputs, rest, come)) fault = no_value _ end come
+inputs_other store later n sum (plan ∷ plans) end (Ok input, comes, (Err e, rest, come)) fault =
+    inputs_other store later (n + 1) (sum + length input.drive) plans e rest (same_error (Err end) end e refl come ∙ fault)
+
+-- ---- the commands ----
+
+runs_other : (cal : CalibrationParts) (plans : List RunPlan) (store later : ShownStore) (out now : ShownSink) (was then : TickCount) (o : Outcome)
+    → RunsEnd cal plans store later out now was then o → o ≡ ReadFault role.Calibration → ⊥
+runs_other cal plans store later out now was then o (Ok inputs, comes, (same, plays)) fault = line_other _ out now o plays.written fault
+runs_other cal plans store later out now was then o (Err end, comes, (is, nothing)) fault = inputs_other store later 1 0 plans end comes (sym is ∙ fault)
+
+named_other : (cal : CalibrationParts) (found : Option (ℕ × RunPlan)) (store later : ShownStore) (out now : ShownSink) (was then : TickCount)
+    (o : Outcome) → NamedEnds cal found store later out now was then o → o ≡ ReadFault role.Calibration → ⊥
+named_other cal None store later out now was then o ends fault = refused_other _ o (sym ends.0) fault
+named_other cal (Some found) store later out now was then o (Ok input, comes, (same, plays)) fault = line_other _ out now o plays.written fault
+named_other cal (Some found) store later out now was then o (Err end, comes, (is, nothing)) fault =
+    input_other (λ count. None) store later found.0 found.1 end comes (sym is ∙ fault)
+
+campaign_other : (campaign : List ℕ) (store later : ShownStore) (nothing : Type 0) (work : List RunPlan → Outcome → Type 0) (o : Outcome)
+    → CampaignEnds campaign store later nothing work o
+    → ((plans : List RunPlan) → work plans o → o ≡ ReadFault role.Calibration → ⊥) → o ≡ ReadFault role.Calibration → ⊥
+campaign_other campaign store later nothing work o (Ok plans, comes, works) never fault = never plans works fault
+campaign_other campaign store later nothing work o (Err end, comes, (is, same)) never fault =
+    not_campaign (other_file role.Campaign campaign_file campaign store later end comes (sym is ∙ fault))
+
+pub run_missing : (calibration : Option (List ℕ)) (campaign : List ℕ) (store later : ShownStore) (out now : ShownSink) (was then : TickCount)
+    (o : Outcome) → RunCommandEnds calibration campaign store later out now was then o → IsTrue store.sure
+    → TellsMissingButMemory calibration store o
+run_missing calibration campaign store later out now was then o ends sure =
+    let nothing = NothingPlayed out now was then in
+    let work = λ (cal : CalibrationParts) (plans : List RunPlan). RunsEnd cal plans store later out now was then in
+    calibrated_missing calibration store later nothing (λ cal. CampaignEnds campaign store later nothing (work cal)) o ends
+    (λ cal works. campaign_other campaign store later nothing (work cal) o works (λ plans. runs_other cal plans store later out now was then o)) sure
+
+pub record_missing : (calibration : Option (List ℕ)) (campaign name : List ℕ) (store later : ShownStore) (out now : ShownSink) (was then : TickCount)
+    (o : Outcome) → RecordCommandEnds calibration campaign name store later out now was then o → IsTrue store.sure
+    → TellsMissingButMemory calibration store o
+record_missing calibration campaign name store later out now was then o ends sure =
+    let nothing = NothingPlayed out now was then in
+    let work = λ (cal : CalibrationParts) (plans : List RunPlan). NamedEnds cal (run_named name 1 plans) store later out now was then in
+    calibrated_missing calibration store later nothing (λ cal. CampaignEnds campaign store later nothing (work cal)) o ends
+    (λ cal works. campaign_other campaign store later nothing (work cal) o works (λ plans. named_other cal (run_named name 1 plans) store later out now was then o)) sure

@@ -1,0 +1,59 @@
+// `run` and `record`: beside eg_play's own clauses, when the calibration is missing.
+ghost use Rattle.std.specs.Prelude.{◌≡◌, Some};
+ghost use Rattle.std.specs.Option.{option_copied};
+ghost use Rattle.eg_outcome.specs.Outcomes.{TellsNoMemory, PutsNothing};
+ghost use Rattle.eg_play.specs.Ends.{RunCommandEnds, RecordCommandEnds, NamesFile, role_in};
+ghost use Rattle.eg_app.specs.Words.{run, record_run};
+ghost use Rattle.eg_app.specs.Ends.{TellsMissing};
+
+use eg_base::{Sink, Store};
+use eg_play::{End, record, run};
+use eg_tick::Ticks;
+use std::alloc::Global;
+
+/// Does `run [--cal NAME] CAMPAIGN`, but for its note (docs/FORMATS.md, "Commands").
+pub(crate) fn play_campaign<S: Store, K: Sink>(
+    alloc: Global,
+    calibration: Option<&str>,
+    campaign: &str,
+    store: &mut S,
+    out: &mut K,
+    steps: &mut Ticks,
+) -> End
+    ensures ends { RunCommandEnds (option_copied calibration.entry) campaign.now
+        (S.shows store.old) (S.shows store.new) (K.shows out.old) (K.shows out.new) steps.old steps.new
+        result.outcome }
+    ensures named { NamesFile campaign.now (S.shows store.old) (role_in result.outcome) result.file }
+    ensures missing { TellsMissing (Some (run (option_copied calibration.entry) campaign.now))
+        (S.shows store.old) result.outcome }
+    ensures no_memory { TellsNoMemory result.outcome }
+    ensures files { (S.shows store.new).files ≡ (S.shows store.old).files }
+    ensures nothing_put { PutsNothing result.outcome → out.new ≡ out.old }
+    ensures nothing_played { PutsNothing result.outcome → steps.new ≡ steps.old }
+{
+    run(alloc, calibration, campaign, store, out, steps)
+}
+
+/// Does `record [--cal NAME] CAMPAIGN RUN`, but for its note (docs/FORMATS.md, "Commands").
+pub(crate) fn play_run<S: Store, K: Sink>(
+    alloc: Global,
+    calibration: Option<&str>,
+    campaign: &str,
+    name: &str,
+    store: &mut S,
+    out: &mut K,
+    steps: &mut Ticks,
+) -> End
+    ensures ends { RecordCommandEnds (option_copied calibration.entry) campaign.now name.now
+        (S.shows store.old) (S.shows store.new) (K.shows out.old) (K.shows out.new) steps.old steps.new
+        result.outcome }
+    ensures named { NamesFile campaign.now (S.shows store.old) (role_in result.outcome) result.file }
+    ensures missing { TellsMissing (Some (record_run (option_copied calibration.entry) campaign.now name.now))
+        (S.shows store.old) result.outcome }
+    ensures no_memory { TellsNoMemory result.outcome }
+    ensures files { (S.shows store.new).files ≡ (S.shows store.old).files }
+    ensures nothing_put { PutsNothing result.outcome → out.new ≡ out.old }
+    ensures nothing_played { PutsNothing result.outcome → steps.new ≡ steps.old }
+{
+    record(alloc, calibration, campaign, name, store, out, steps)
+}
