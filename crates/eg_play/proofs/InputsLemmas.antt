@@ -1,5 +1,5 @@
 -- The files of all runs, one run after another.
-use Rattle.std.proofs.Common.{◌≡◌, ◌∙◌, refl, sym, ap, ap₂, subst, ℕ, suc, All, ◌+◌, ◌-◌, ◌≤◌, ◌<◌, List, [], ◌∷◌, ◌++◌, length, Option, Some, None, Ok, Err, append_assoc, append-nil, length-append, arith}
+use Rattle.std.proofs.Common.{◌≡◌, ◌∙◌, refl, sym, ap, ap₂, subst, ℕ, suc, All, ◌+◌, ◌-◌, ◌≤◌, List, [], ◌∷◌, ◌++◌, length, Option, Some, None, Ok, Err, append_assoc, append-nil, length-append, arith}
 use Rattle.std.specs.Prelude.{Result, slice_get, option_map}
 use Rattle.std.proofs.lemmas.List.Elements.{All-push}
 use Rattle.eg_base.specs.Outside.{ShownStore}
@@ -13,7 +13,7 @@ use Rattle.eg_outcome.specs.declared.outcome.Refusal.{Refusal}
 use Rattle.eg_outcome.specs.declared.outcome.Role.{Role}
 use Rattle.eg_outcome.specs.declared.outcome.Role.TheVariants as role
 use Rattle.eg_play.specs.Inputs.{InputComes, ImageComes, TicksCome, InputsCome, too_many}
-use Rattle.eg_play.specs.Ends.{name_in, name_for, name_by, IsOf}
+use Rattle.eg_play.specs.Ends.{name_for, name_by, IsOf}
 
 -- what came of the rest, behind what was made
 unfoldable pub behind : List RunInput → Result (List RunInput) Outcome → Result (List RunInput) Outcome

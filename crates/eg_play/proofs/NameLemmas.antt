@@ -1,15 +1,15 @@
 -- The names of the files of runs.
-use Rattle.std.proofs.Common.{◌≡◌, refl, sym, subst, ℕ, List, Option, Some, None, Ok, Err}
-use Rattle.std.specs.Prelude.{All}
+use Rattle.std.proofs.Common.{◌≡◌, refl, ap, ℕ, ◌+◌, List, ◌∷◌, true, Option, Some, None, Ok}
+use Rattle.std.specs.Prelude.{All, bytes_eq, if◌then◌else◌}
 use Rattle.eg_base.specs.Outside.{ShownStore}
 use Rattle.eg_agree.specs.Replies.{IsAnyFault}
-use Rattle.eg_campaign.specs.Rules.{AreRuns, IsRun}
+use Rattle.eg_campaign.specs.Rules.{AreRuns}
 use Rattle.eg_campaign.specs.declared.run.RunPlan.{RunPlan}
 use Rattle.eg_outcome.specs.Reads.{ReadComes}
 use Rattle.eg_outcome.specs.declared.outcome.Role.{Role}
 use Rattle.eg_outcome.specs.declared.outcome.Role.TheVariants as role
 use Rattle.eg_play.specs.Files.{campaign_file}
-use Rattle.eg_play.specs.Ends.{name_by, name_for, IsNamedIfOfRun, NamesFile}
+use Rattle.eg_play.specs.Ends.{name_by, name_for, IsNamedIfOfRun, NamesFile, run_named}
 
 -- the plan of a run has a name for each of its files, and for no other
 pub by_plan : (plan : RunPlan) (file : Option Role) → IsNamedIfOfRun file (name_by plan file)
@@ -33,3 +33,7 @@ names-file campaign store plans (Some (role.Image n)) name (bytes, read, says) i
 -- the faults of an accepted campaign are valid
 pub valid_faults : (plans : List RunPlan) → AreRuns plans → All (λ plan. IsAnyFault plan.fault) plans
 valid_faults plans rules = λ k d within. (rules.each k d within).fault
+
+-- the first run of the list has the name
+pub found-now : (name : List ℕ) (n : ℕ) (plan : RunPlan) (rest : List RunPlan) → bytes_eq plan.name name ≡ true → run_named name n (plan ∷ rest) ≡ Some (n, plan)
+found-now name n plan rest same = ap (λ test. if test then Some (n, plan) else run_named name (n + 1) rest) same

@@ -1,24 +1,23 @@
 -- How `run` and `record` end: by cases on the outcome, nested from the outside in, as `check` and `bound` are.
 -- `store`, `out` and `was` are what the store, the output and the count of ticks show before the call, `later`,
 -- `now` and `is` what they show after it.
-use Rattle.std.specs.Prelude.{◌≡◌, ℕ, ◌+◌, ◌-◌, ◌%◌, ◌^◌, ◌≤◌, List, [], ◌∷◌, map, All, length, Bool, Option, Some, None, option_map, Result, Ok, Err, IsOk, IsSome, IsTrue, slice_get, bytes_eq, if◌then◌else◌}
-use Rattle.eg_base.specs.Outside.{ShownStore, ShownSink, Rose}
+use Rattle.std.specs.Prelude.{◌≡◌, ℕ, ◌+◌, ◌-◌, ◌%◌, ◌^◌, ◌≤◌, List, [], ◌∷◌, map, All, Option, Some, None, option_map, Result, Ok, IsSome, slice_get, bytes_eq, if◌then◌else◌}
+use Rattle.eg_base.specs.Outside.{ShownStore, ShownSink}
 use Rattle.eg_values.specs.Calibration.{CalibrationParts}
 use Rattle.eg_model.specs.Bench.{Run}
 use Rattle.eg_tick.specs.Weights.{TickCount}
 use Rattle.eg_campaign.specs.declared.run.RunPlan.{RunPlan}
 use Rattle.eg_campaign.specs.declared.play.RunInput.{RunInput}
 use Rattle.eg_outcome.specs.Files.{AreRead}
-use Rattle.eg_outcome.specs.Outcomes.{LineEnds, Follows, IsDoneOrMemory}
-use Rattle.eg_outcome.specs.Reads.{FileComes, Finds, Accepts}
-use Rattle.eg_outcome.specs.Calibrations.{CalibratedEnds, FindsCalibration, AcceptsCalibration}
+use Rattle.eg_outcome.specs.Outcomes.{LineEnds, Follows}
+use Rattle.eg_outcome.specs.Reads.{FileComes}
+use Rattle.eg_outcome.specs.Calibrations.{CalibratedEnds}
 use Rattle.eg_outcome.specs.declared.outcome.Outcome.{Outcome}
 use Rattle.eg_outcome.specs.declared.outcome.Outcome.TheVariants as outcome
-use Rattle.eg_outcome.specs.declared.outcome.Refusal.{Refusal}
 use Rattle.eg_outcome.specs.declared.outcome.Refusal.TheVariants as refusal
 use Rattle.eg_outcome.specs.declared.outcome.Role.{Role}
 use Rattle.eg_outcome.specs.declared.outcome.Role.TheVariants as role
-use Rattle.eg_play.specs.Files.{campaign_file, trace_file, image_file}
+use Rattle.eg_play.specs.Files.{campaign_file}
 use Rattle.eg_play.specs.Inputs.{InputComes, InputsCome, FindsInput, AcceptsInput}
 use Rattle.eg_play.specs.Headline.{KeepsHeadline}
 use Rattle.eg_campaign.specs.Plays.{run_with, ticks_of, weights_of}

@@ -5,8 +5,6 @@ use Rattle.eg_toml.specs.Documents.{document_of}
 use Rattle.eg_input.specs.Records.{records_of}
 use Rattle.eg_input.specs.DriveTrace.{drive_rows}
 use Rattle.eg_input.specs.Images.{image_words}
-use Rattle.eg_input.specs.declared.fault.TraceFault.{TraceFault}
-use Rattle.eg_input.specs.declared.fault.ImageFault.{ImageFault}
 use Rattle.eg_campaign.specs.Campaign.{campaign_of}
 use Rattle.eg_campaign.specs.declared.key.CampaignFault.{CampaignFault}
 use Rattle.eg_campaign.specs.declared.run.RunPlan.{RunPlan}

@@ -1,5 +1,5 @@
 // `record [--cal NAME] CAMPAIGN RUN`: the record of one run of a campaign.
-ghost use Rattle.std.specs.Prelude.{◌≡◌, Some};
+ghost use Rattle.std.specs.Prelude.{◌≡◌, Some, bytes_eq};
 ghost use Rattle.std.specs.Option.{option_copied};
 ghost use Rattle.eg_agree.specs.Replies.{IsAnyFault};
 ghost use Rattle.eg_campaign.specs.Rules.{AreRuns};
@@ -91,12 +91,19 @@ fn record_named<S: Store, K: Sink>(
 {
     let mut run = 1;
     for plan in plans.into_vec() {
-        if plan.name.as_str() == name {
+        if has_name(&plan, name) {
             return record_plan(alloc, calibration, run, plan, store, out, steps);
         }
         run += 1;
     }
     End::of(Outcome::Refused(Refusal::NoRun))
+}
+
+/// Whether a run has this name.
+fn has_name(plan: &RunPlan, name: &str) -> bool
+    ensures { result ≡ bytes_eq plan.now.name name.now }
+{
+    plan.name.as_str() == name
 }
 
 /// Records run number `run` of the campaign.

@@ -1,9 +1,7 @@
-use Rattle.std.proofs.Common.{◌≡◌, ◌∙◌, refl, sym, ap, subst, Some, ◌+◌, ◌≤◌, ◌++◌, ◌∷◌, [], length, append_assoc, append-nil, All, arith}
-use Rattle.eg_base.specs.Outside.{ShownStore}
-use Rattle.eg_campaign.specs.declared.run.RunPlan.{RunPlan}
+use Rattle.std.proofs.Common.{◌≡◌, ◌∙◌, refl, sym, ap, subst, ◌+◌, ◌≤◌, ◌++◌, ◌∷◌, [], length, append_assoc, append-nil, All, arith}
 use Rattle.eg_campaign.specs.Plays.{IsPlayable}
 use Rattle.eg_play.specs.Inputs.{InputComes, InputsCome, too_many}
-use Rattle.std.proofs.Common.{List, Ok, Err}
+use Rattle.std.proofs.Common.{Ok, Err}
 use Rattle.eg_play.specs.Ends.{IsNamedIfOfRun}
 use Rattle.eg_play.proofs.NameLemmas.{by_plan}
 use Rattle.eg_play.proofs.InputsLemmas.{Goes, goes-first, goes-on, goes-end, goes-memory, goes-all, named, one-behind, some-sum, one-longer, all-behind, nothing-left, any-later}
