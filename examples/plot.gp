@@ -4,12 +4,12 @@
 set terminal pngcairo size 720,420 font "Sans,10"
 set output ARG2
 set datafile separator ","
-set key top right opaque
+set key at 38,1100 opaque
 set xlabel "tick"
-set ylabel "tenths of Nm"
+set ylabel "torque, tenths of Nm"
 set y2label "power stages"
-set yrange [0:3200]
-set y2range [0:8]
+set yrange [0:3500]
+set y2range [-10:2]
 set ytics nomirror
 set y2tics ("off" 0, "on" 1)
 set grid xtics ytics lc rgb "#dddddd"
