@@ -1,0 +1,1 @@
+./egasim record examples/levels.toml unheard-of

@@ -1,0 +1,1 @@
+./egasim run examples/unknown_key.toml
