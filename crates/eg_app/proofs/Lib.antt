@@ -3,3 +3,4 @@ pub mod FileLemmas
 pub mod PlayLemmas
 pub mod MissingLemmas
 pub mod EndsLemmas
+pub mod HeadlineLemmas

@@ -22,7 +22,7 @@ use Rattle.eg_app.proofs.FileLemmas.{file_done, line_done}
 pub same_error : {X : Type 0} (come : Result X Outcome) (end e : Outcome) → come ≡ Err end → come ≡ Err e → e ≡ end
 same_error come end e first second = cc
 
-same_value : {X : Type 0} (come : Result X Outcome) (x y : X) → come ≡ Ok x → come ≡ Ok y → x ≡ y
+pub same_value : {X : Type 0} (come : Result X Outcome) (x y : X) → come ≡ Ok x → come ≡ Ok y → x ≡ y
 same_value come x y first second = cc
 
 pub no_value : {X : Type 0} (x : X) (end : Outcome) → Err end ≡ Ok x → ⊥

@@ -1,9 +1,9 @@
 -- How a call ends: one relation for each command, by cases on the outcome, inside what comes of its
 -- calibration. It speaks of what the store and the output show before the call (`store`, `out`) and after it
 -- (`later`, `now`). A fault that is met is counted, and each case says whose count rose and whose stayed. So
--- the cases exclude one another (but where a count stands at the last value of a u64), and each outcome comes
--- exactly where its case says; want of memory alone may come at any place. Where a call reads two files, the
--- count doesn't tell which of the two reads met a fault: over a sure store `TellsMissing` does, else a test.
+-- each outcome comes exactly where its case says (but where a count stands at the last value of a u64); want of
+-- memory alone may come at any place. Where a call reads several files, the count doesn't tell which of the
+-- reads met a fault: over a sure store `FileComes` and `TellsMissing` do, else a test.
 use Rattle.std.specs.Prelude.{◌≡◌, ◌⊎◌, ◌↔◌, ℕ, List, Option, Some, None, Result, Ok, IsTrue}
 use Rattle.eg_num.specs.Places.{IsFirst}
 use Rattle.eg_base.specs.Outside.{ShownStore, ShownSink, Rose, IsMissing}
@@ -109,8 +109,8 @@ TellsMissingButMemory calibration store o =
     ((o ≡ outcome.ReadFault role.Calibration) → MissesCalibration calibration store)
     × (MissesCalibration calibration store → (o ≡ outcome.ReadFault role.Calibration) ⊎ (o ≡ outcome.Memory))
 
--- Over a sure store a fault of reading comes exactly where there is no such file. Of the files of a campaign
--- `Ends` says by their roles which was read, and that it comes only where that is missing.
+-- Over a sure store, how missing files are told. Of the files of a campaign `Ends` says by their roles which
+-- was read, and that a fault of reading comes only where that is missing.
 abbrev pub TellsMissing : Option Command → ShownStore → Outcome → Type 0
 TellsMissing (Some (check calibration file)) store o = IsTrue store.sure →
     TellsMissingCalibration calibration store o × TellsMissingCheck calibration file store o

@@ -3,3 +3,4 @@ pub mod Check
 pub mod Bound
 pub mod Notes
 pub mod Ends
+pub mod Headline

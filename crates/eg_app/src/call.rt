@@ -2,6 +2,7 @@
 ghost use Rattle.std.specs.Prelude.{◌≡◌, None, Some};
 ghost use Rattle.eg_app.specs.Words.{words_of, command_of, said};
 ghost use Rattle.eg_app.specs.Ends.{Ends, ReadsNothing, CountsNothing, TellsMissing, Completes};
+ghost use Rattle.eg_app.specs.Headline.{TellsHeadline};
 ghost use Rattle.eg_app.specs.Notes.{NotesOutcome, Names, IsFileName};
 ghost use Rattle.eg_base.specs.Outside.{ShownStore};
 ghost use Rattle.eg_outcome.specs.Outcomes.{TellsNoMemory, PutsNothing};
@@ -30,6 +31,11 @@ pub fn egasim<S: Store, K: Sink, N: Sink>(
     notes: &mut N,
     steps: &mut Ticks,
 ) -> Outcome
+    // The headline: whatever the files hold, the report written is that of the runs that they say, and each of
+    // these runs keeps it.
+    ensures headline { result ≡ Done → TellsHeadline (command_of (words_of words.now)) (S.shows store.old)
+        (K.shows out.old) (K.shows out.new) }
+
     // How it ends, what was written then and which ticks were made, and when each outcome comes.
     ensures ends { Ends (command_of (words_of words.now)) (S.shows store.old) (S.shows store.new)
         (K.shows out.old) (K.shows out.new) steps.old steps.new result }
@@ -81,6 +87,8 @@ fn run<S: Store, K: Sink>(
 ) -> End
     ensures ends { Ends (Some (said command.entry)) (S.shows store.old) (S.shows store.new)
         (K.shows out.old) (K.shows out.new) steps.old steps.new result.outcome }
+    ensures headline { result.outcome ≡ Done → TellsHeadline (Some (said command.entry)) (S.shows store.old)
+        (K.shows out.old) (K.shows out.new) }
     ensures names { Names (said command.entry) (S.shows store.old) result.outcome result.file }
     ensures missing { TellsMissing (Some (said command.entry)) (S.shows store.old) result.outcome }
     ensures completes { Completes (Some (said command.entry)) (S.shows store.old) (S.shows store.new)

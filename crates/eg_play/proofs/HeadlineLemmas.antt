@@ -8,12 +8,15 @@ use Rattle.eg_fault.specs.Faults.{effects, does}
 use Rattle.eg_fault.specs.declared.class.Class.TheVariants.{Lapse}
 use Rattle.eg_fault.specs.declared.class.Fault.{Fault}
 use Rattle.eg_record.specs.Detection.{first_detection, IsFirstDetection}
-use Rattle.eg_record.proofs.LawLemmas.{detection_law}
+use Rattle.eg_record.specs.Rows.{AreRows}
+use Rattle.eg_record.specs.Stages.{IsFirstOff, first_off}
+use Rattle.eg_record.specs.Summaries.{summary_of}
+use Rattle.eg_record.proofs.LawLemmas.{detection_law, off_law}
 use Rattle.eg_model.specs.Bench.{Run, entries_to}
 use Rattle.eg_model.specs.Moments.{ticks}
 use Rattle.eg_model.specs.Premises.{AreProper}
 use Rattle.eg_model.specs.Lapses.{IsLapse}
-use Rattle.eg_model.specs.Rows.{record_rows, record_trap}
+use Rattle.eg_model.specs.Rows.{record_rows, record_trap, report_of}
 use Rattle.eg_model.specs.Records.{IsRun, rows_to}
 use Rattle.eg_model.proofs.ClassLemmas.{of_effects}
 use Rattle.eg_model.proofs.RecordLaws.{ticks_to, proper_to, IsHeldWithin, records_are_rows, records_react, records_cut_sharply}
@@ -50,9 +53,16 @@ recorded r run lapse = record { rows_are = refl; trap_is = refl; proper = proper
 
 -- ---- the headline ----
 
-detects : (r : Run) → IsFirstDetection (record_rows r) (first_detection (record_rows r))
-detects r = (detection_law (record_rows r) (unfold record_rows in (unfold rows_to in (records_are_rows r (length r.drive)).0))
-    (first_detection (record_rows r))).1 refl
+are_rows : (r : Run) → AreRows (record_rows r)
+are_rows r = unfold record_rows in (unfold rows_to in (records_are_rows r (length r.drive)).0)
+
+detects : (r : Run) (name : List ℕ) → IsFirstDetection (record_rows r) (report_of name r).first
+unfolding report_of summary_of
+detects r name = (detection_law (record_rows r) (are_rows r) (first_detection (record_rows r))).1 refl
+
+tells_off : (r : Run) (name : List ℕ) → IsFirstOff (record_rows r) (report_of name r).off
+unfolding report_of summary_of
+tells_off r name = (off_law (record_rows r) (are_rows r) (first_off (record_rows r))).1 refl
 
 headline : (r : Run) → IsRun r → KeepsHeadline r
 headline r run = record {
@@ -62,6 +72,7 @@ headline r run = record {
   lapses = λ bound lapse. cut_lapses r _ _ run.accepted (recorded r run lapse) bound lapse;
   short = λ bound lapse. short_lapses r _ _ run.accepted (recorded r run lapse) bound lapse;
   detects = detects r;
+  tells_off = tells_off r;
 }
 
 -- the run of a playable input keeps it

@@ -1,10 +1,12 @@
--- The headline, for the record of one run. Its rows stand newest first.
-use Rattle.std.specs.Prelude.{◌≡◌, None}
+-- The headline, for the record of one run, whose rows stand newest first. That no image changes a protected
+-- word is said of each slice, by the clause `outside` of `eg_host::Host::slice`.
+use Rattle.std.specs.Prelude.{◌≡◌, ℕ, List, None}
 use Rattle.eg_answer.specs.Times.{reaction_of, HasLapseBound}
 use Rattle.eg_fault.specs.Faults.{IsListed}
-use Rattle.eg_record.specs.Detection.{first_detection, IsFirstDetection}
+use Rattle.eg_record.specs.Detection.{IsFirstDetection}
+use Rattle.eg_record.specs.Stages.{IsFirstOff}
 use Rattle.eg_model.specs.Bench.{Run}
-use Rattle.eg_model.specs.Rows.{record_rows}
+use Rattle.eg_model.specs.Rows.{record_rows, report_of}
 use Rattle.eg_model.specs.Records.{ReactWithin, CutOneTickAfter}
 use Rattle.eg_model.specs.Lapses.{IsLapse}
 use Rattle.eg_tick.specs.Run.{ReactAtOnce, CutLapses, LapsesAreShort}
@@ -24,5 +26,7 @@ pub record KeepsHeadline (r : Run) : Type 0 where
       CutLapses r.setting.cal (record_rows r)
   pub short : HasLapseBound r.setting.cal.rules.torque r.setting.cal.times → IsLapse r.setting.fault →
       LapsesAreShort r.setting.cal (record_rows r)
-  -- What the report names is the first detecting monitor and its tick.
-  pub detects : IsFirstDetection (record_rows r) (first_detection (record_rows r))
+  -- The report, whatever name it gives the run, names the first detecting monitor and its tick, and the first
+  -- tick at which the stages are off.
+  pub detects : (name : List ℕ) → IsFirstDetection (record_rows r) (report_of name r).first
+  pub tells_off : (name : List ℕ) → IsFirstOff (record_rows r) (report_of name r).off

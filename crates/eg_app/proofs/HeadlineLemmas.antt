@@ -1,0 +1,161 @@
+-- The headline, from how `run` and `record` end.
+use Rattle.std.proofs.Common.{◌≡◌, ◌∙◌, ◌+◌, ◌∷◌, [], List, ℕ, Option, Some, None, length, refl, sym, subst}
+use Rattle.std.specs.Prelude.{Result, Ok, Err}
+use Rattle.std.proofs.lemmas.List.Elements.{All-head}
+use Rattle.eg_base.specs.Outside.{ShownStore, ShownSink}
+use Rattle.eg_num.specs.Drive.{DriveRow}
+use Rattle.eg_values.specs.Calibration.{CalibrationParts}
+use Rattle.eg_values.specs.Reference.{reference_parts}
+use Rattle.eg_tick.specs.Weights.{TickCount}
+use Rattle.eg_campaign.specs.declared.run.RunPlan.{RunPlan}
+use Rattle.eg_campaign.specs.declared.play.RunInput.{RunInput}
+use Rattle.eg_outcome.specs.declared.outcome.Outcome.{Outcome}
+use Rattle.eg_outcome.specs.declared.outcome.Outcome.TheVariants.{Done, Usage, ReadFault, Refused, WriteFault, Memory}
+use Rattle.eg_outcome.specs.declared.outcome.Refusal.{Refusal}
+use Rattle.eg_outcome.specs.declared.outcome.Refusal.TheVariants as refusal
+use Rattle.eg_outcome.specs.declared.outcome.Role.{Role}
+use Rattle.eg_outcome.specs.declared.outcome.Role.TheVariants as role
+use Rattle.eg_outcome.specs.Reads.{ReadComes, FileComes}
+use Rattle.eg_outcome.specs.Calibrations.{CalibrationComes, calibration_file}
+use Rattle.eg_play.specs.Files.{campaign_file, trace_file, image_file}
+use Rattle.eg_play.specs.Headline.{KeepsHeadline}
+use Rattle.eg_play.specs.Inputs.{input_of, TicksCome, InputComes, InputsCome, too_many}
+use Rattle.eg_play.specs.Ends.{RunsEnd, NamedEnds, run_named}
+use Rattle.eg_app.specs.Words.{Command, check, bound, run, record_run}
+use Rattle.eg_app.specs.Ends.{Ends}
+use Rattle.eg_app.specs.Headline.{GoesBy, IsInput, AreInputs, TellsRuns, TellsRecord, TellsHeadline}
+use Rattle.eg_app.proofs.PlayLemmas.{same_error, same_value, no_value}
+
+-- ---- no call is done without its files ----
+
+never_done : {X : Type 0} (file : Role) (says : List ℕ → Result X Refusal) (name : List ℕ) (store later : ShownStore) (end : Outcome)
+    → FileComes file says name store later (Err end) → end ≡ Done → ⊥
+never_done file says name store later Done (same, (bytes, read, never)) done = absurd never
+never_done file says name store later Usage comes done = absurd cc
+never_done file says name store later (ReadFault r) comes done = absurd cc
+never_done file says name store later (Refused r) comes done = absurd cc
+never_done file says name store later WriteFault comes done = absurd cc
+never_done file says name store later Memory comes done = absurd cc
+
+calibration_never : (calibration : Option (List ℕ)) (store later : ShownStore) (end : Outcome)
+    → CalibrationComes calibration store later (Err end) → end ≡ Done → ⊥
+calibration_never None store later end comes done = absurd cc
+calibration_never (Some name) store later end comes done = never_done role.Calibration calibration_file name store later end comes done
+
+refused_never : (r : Refusal) (end : Outcome) → Refused r ≡ end → end ≡ Done → ⊥
+refused_never r end refused done = absurd cc
+
+ticks_never : (refused : Option Refusal) (store later : ShownStore) (n : ℕ) (plan : RunPlan) (drive : List DriveRow) (end : Outcome)
+    → TicksCome refused store later n plan drive (Err end) → end ≡ Done → ⊥
+ticks_never (Some r) store later n plan drive end (come, same) done = refused_never r end (same_error (Err end) end (Refused r) refl come) done
+ticks_never None store later n plan drive end (Ok words, comes, come) done = no_value _ end come
+ticks_never None store later n plan drive end (Err e, comes, come) done =
+    never_done (role.Image n) (image_file n) plan.image store later e comes (same_error (Err end) end e refl come ∙ done)
+
+input_never : (refuses : ℕ → Option Refusal) (store later : ShownStore) (n : ℕ) (plan : RunPlan) (end : Outcome)
+    → InputComes refuses store later n plan (Err end) → end ≡ Done → ⊥
+input_never refuses store later n plan end (Err e, comes, come) done =
+    never_done (role.Trace n) (trace_file n) plan.trace store later e comes (same_error (Err end) end e refl come ∙ done)
+input_never refuses store later n plan end (Ok drive, comes, come) done = ticks_never (refuses (length drive)) store later n plan drive end come done
+
+inputs_never : (store later : ShownStore) (n sum : ℕ) (plans : List RunPlan) (end : Outcome)
+    → InputsCome store later n sum plans (Err end) → end ≡ Done → ⊥
+inputs_never store later n sum [] end come done = no_value [] end come
+inputs_never store later n sum (plan ∷ plans) end (Err e, comes, come) done =
+    input_never (too_many sum n) store later n plan e comes (same_error (Err end) end e refl come ∙ done)
+inputs_never store later n sum (plan ∷ plans) end (Ok input, comes, (Ok inputs, rest, come)) done = no_value _ end come
+inputs_never store later n sum (plan ∷ plans) end (Ok input, comes, (Err e, rest, come)) done =
+    inputs_never store later (n + 1) (sum + length input.drive) plans e rest (same_error (Err end) end e refl come ∙ done)
+
+-- ---- what the files say ----
+
+goes_by : (calibration : Option (List ℕ)) (store later : ShownStore) (cal : CalibrationParts)
+    → CalibrationComes calibration store later (Ok cal) → GoesBy calibration store cal
+goes_by None store later cal comes = same_value (Ok cal) cal reference_parts refl comes
+goes_by (Some name) store later cal comes = comes
+
+ticks_tell : (refused : Option Refusal) (store later : ShownStore) (n : ℕ) (plan : RunPlan) (drive : List DriveRow) (input : RunInput)
+    → ReadComes (trace_file n) plan.trace store (Ok drive) → TicksCome refused store later n plan drive (Ok input) → IsInput store n plan input
+ticks_tell (Some r) store later n plan drive input trace (come, same) = absurd (no_value input _ (sym come))
+ticks_tell None store later n plan drive input trace (Err end, comes, come) = absurd (no_value input _ (sym come))
+ticks_tell None store later n plan drive input trace (Ok words, comes, come) =
+    subst (λ (i : RunInput). IsInput store n plan i) (sym (same_value (Ok input) input (input_of plan drive words) refl come))
+    (record { planned = refl; driven = trace; loaded = comes })
+
+input_tells : (refuses : ℕ → Option Refusal) (store later : ShownStore) (n : ℕ) (plan : RunPlan) (input : RunInput)
+    → InputComes refuses store later n plan (Ok input) → IsInput store n plan input
+input_tells refuses store later n plan input (Err end, comes, come) = absurd (no_value input _ (sym come))
+input_tells refuses store later n plan input (Ok drive, comes, come) = ticks_tell (refuses (length drive)) store later n plan drive input comes come
+
+inputs_tell : (store later : ShownStore) (n sum : ℕ) (plans : List RunPlan) (inputs : List RunInput)
+    → InputsCome store later n sum plans (Ok inputs) → AreInputs store n plans inputs
+inputs_tell store later n sum [] inputs come =
+    subst (λ (all : List RunInput). AreInputs store n [] all) (sym (same_value (Ok inputs) inputs [] refl come)) tt
+inputs_tell store later n sum (plan ∷ plans) inputs (Err e, comes, come) = absurd (no_value inputs _ (sym come))
+inputs_tell store later n sum (plan ∷ plans) inputs (Ok input, comes, (Err e, rest, come)) = absurd (no_value inputs _ (sym come))
+inputs_tell store later n sum (plan ∷ plans) inputs (Ok input, comes, (Ok more, rest, come)) =
+    subst (λ (all : List RunInput). AreInputs store n (plan ∷ plans) all) (sym (same_value (Ok inputs) inputs (input ∷ more) refl come))
+    (input_tells (too_many sum n) store later n plan input comes, inputs_tell store later (n + 1) (sum + length input.drive) plans more rest)
+
+-- ---- the commands ----
+
+runs_tell : (calibration : Option (List ℕ)) (campaign : List ℕ) (cal : CalibrationParts) (plans : List RunPlan) (store later : ShownStore)
+    (out now : ShownSink) (was then : TickCount) → GoesBy calibration store cal → ReadComes campaign_file campaign store (Ok plans)
+    → RunsEnd cal plans store later out now was then Done → TellsRuns calibration campaign store out now
+runs_tell calibration campaign cal plans store later out now was then by says (Err end, comes, (is, nothing)) =
+    absurd (inputs_never store later 1 0 plans end comes (sym is))
+runs_tell calibration campaign cal plans store later out now was then by says (Ok inputs, comes, (same, plays)) = record {
+  cal = cal;
+  plans = plans;
+  inputs = inputs;
+  goes_by = by;
+  campaign_says = says;
+  files_say = inputs_tell store later 1 0 plans inputs comes;
+  written = plays.written.0;
+  headline = plays.headline;
+}
+
+named_tells : (calibration : Option (List ℕ)) (campaign name : List ℕ) (cal : CalibrationParts) (plans : List RunPlan) (store later : ShownStore)
+    (out now : ShownSink) (was then : TickCount) (found : Option (ℕ × RunPlan)) → GoesBy calibration store cal
+    → ReadComes campaign_file campaign store (Ok plans) → run_named name 1 plans ≡ found
+    → NamedEnds cal found store later out now was then Done → TellsRecord calibration campaign name store out now
+named_tells calibration campaign name cal plans store later out now was then None by says named ends = absurd (refused_never refusal.NoRun Done (sym ends.0) refl)
+named_tells calibration campaign name cal plans store later out now was then (Some found) by says named (Err end, comes, (is, nothing)) =
+    absurd (input_never (λ count. None) store later found.0 found.1 end comes (sym is))
+named_tells calibration campaign name cal plans store later out now was then (Some found) by says named (Ok input, comes, (same, plays)) = record {
+  cal = cal;
+  plans = plans;
+  n = found.0;
+  plan = found.1;
+  input = input;
+  goes_by = by;
+  campaign_says = says;
+  is_named = named;
+  files_say = input_tells (λ count. None) store later found.0 found.1 input comes;
+  written = plays.written.0;
+  headline = All-head KeepsHeadline _ [] plays.headline;
+}
+
+done_tells : (command : Option Command) (store later : ShownStore) (out now : ShownSink) (was then : TickCount)
+    → Ends command store later out now was then Done → TellsHeadline command store out now
+done_tells None store later out now was then ends = tt
+done_tells (Some (check calibration file)) store later out now was then ends = tt
+done_tells (Some (bound calibration)) store later out now was then ends = tt
+done_tells (Some (run calibration campaign)) store later out now was then (Err end, comes, (is, nothing)) =
+    absurd (calibration_never calibration store later end comes (sym is))
+done_tells (Some (run calibration campaign)) store later out now was then (Ok cal, comes, (Err end, read, (is, nothing))) =
+    absurd (never_done role.Campaign campaign_file campaign store later end read (sym is))
+done_tells (Some (run calibration campaign)) store later out now was then (Ok cal, comes, (Ok plans, read, ends)) =
+    runs_tell calibration campaign cal plans store later out now was then (goes_by calibration store later cal comes) read ends
+done_tells (Some (record_run calibration campaign name)) store later out now was then (Err end, comes, (is, nothing)) =
+    absurd (calibration_never calibration store later end comes (sym is))
+done_tells (Some (record_run calibration campaign name)) store later out now was then (Ok cal, comes, (Err end, read, (is, nothing))) =
+    absurd (never_done role.Campaign campaign_file campaign store later end read (sym is))
+done_tells (Some (record_run calibration campaign name)) store later out now was then (Ok cal, comes, (Ok plans, read, ends)) =
+    named_tells calibration campaign name cal plans store later out now was then _ (goes_by calibration store later cal comes) read refl ends
+
+-- a call that ends Done tells the headline
+pub tells_headline : (command : Option Command) (store later : ShownStore) (out now : ShownSink) (was then : TickCount) (o : Outcome)
+    → Ends command store later out now was then o → o ≡ Done → TellsHeadline command store out now
+tells_headline command store later out now was then o ends done =
+    done_tells command store later out now was then (subst (λ (e : Outcome). Ends command store later out now was then e) done ends)

@@ -1,0 +1,68 @@
+-- The headline, over the files that a call reads and the text that it writes.
+use Rattle.std.specs.Prelude.{◌≡◌, ℕ, ◌+◌, List, [], ◌∷◌, map, All, Option, Some, None, Ok}
+use Rattle.eg_base.specs.Outside.{ShownStore, ShownSink, Appends}
+use Rattle.eg_values.specs.Calibration.{CalibrationParts}
+use Rattle.eg_values.specs.Reference.{reference_parts}
+use Rattle.eg_campaign.specs.Plays.{run_with}
+use Rattle.eg_campaign.specs.declared.run.RunPlan.{RunPlan}
+use Rattle.eg_campaign.specs.declared.play.RunInput.{RunInput}
+use Rattle.eg_outcome.specs.Reads.{ReadComes}
+use Rattle.eg_outcome.specs.Calibrations.{calibration_file}
+use Rattle.eg_play.specs.Files.{campaign_file, trace_file, image_file}
+use Rattle.eg_play.specs.Texts.{report_text, record_text}
+use Rattle.eg_play.specs.Headline.{KeepsHeadline}
+use Rattle.eg_play.specs.Ends.{run_named}
+use Rattle.eg_app.specs.Words.{Command, run, record_run}
+
+-- this is the calibration that the command goes by: that of the file behind `--cal`, or the reference
+abbrev pub GoesBy : Option (List ℕ) → ShownStore → CalibrationParts → Type 0
+GoesBy (Some name) store cal = ReadComes calibration_file name store (Ok cal)
+GoesBy None store cal = cal ≡ reference_parts
+
+-- this is the input of run n: its plan, the drive that its trace tells, and the words of its image
+pub record IsInput (store : ShownStore) (n : ℕ) (plan : RunPlan) (input : RunInput) : Type 0 where
+  pub planned : input.plan ≡ plan
+  pub driven : ReadComes (trace_file n) plan.trace store (Ok input.drive)
+  pub loaded : ReadComes (image_file n) plan.image store (Ok input.image)
+
+-- these are the inputs of the runs from run n on, in their order
+abbrev pub AreInputs : ShownStore → ℕ → List RunPlan → List RunInput → Type 0
+AreInputs store n [] [] = Unit {0}
+AreInputs store n (plan ∷ plans) (input ∷ inputs) =
+    IsInput store n plan input × AreInputs store (n + 1) plans inputs
+AreInputs store n _ _ = ⊥
+
+-- Of the runs of a campaign: the files say what the runs are, the report of these runs was written, and each
+-- of them keeps the headline.
+pub record TellsRuns (calibration : Option (List ℕ)) (campaign : List ℕ) (store : ShownStore)
+    (out now : ShownSink) : Type 0 where
+  pub cal : CalibrationParts
+  pub plans : List RunPlan
+  pub inputs : List RunInput
+  pub goes_by : GoesBy calibration store cal
+  pub campaign_says : ReadComes campaign_file campaign store (Ok plans)
+  pub files_say : AreInputs store 1 plans inputs
+  pub written : Appends out now (report_text cal inputs)
+  pub headline : All KeepsHeadline (map (run_with cal) inputs)
+
+-- Of one run of a campaign, the first of its name: so its record.
+pub record TellsRecord (calibration : Option (List ℕ)) (campaign name : List ℕ) (store : ShownStore)
+    (out now : ShownSink) : Type 0 where
+  pub cal : CalibrationParts
+  pub plans : List RunPlan
+  pub n : ℕ
+  pub plan : RunPlan
+  pub input : RunInput
+  pub goes_by : GoesBy calibration store cal
+  pub campaign_says : ReadComes campaign_file campaign store (Ok plans)
+  pub is_named : run_named name 1 plans ≡ Some (n, plan)
+  pub files_say : IsInput store n plan input
+  pub written : Appends out now (record_text cal input)
+  pub headline : KeepsHeadline (run_with cal input)
+
+-- What a command that plays runs has told where its work is done.
+abbrev pub TellsHeadline : Option Command → ShownStore → ShownSink → ShownSink → Type 0
+TellsHeadline (Some (run calibration campaign)) store out now = TellsRuns calibration campaign store out now
+TellsHeadline (Some (record_run calibration campaign name)) store out now =
+    TellsRecord calibration campaign name store out now
+TellsHeadline _ store out now = Unit {0}
