@@ -22,7 +22,7 @@ const PROBE: &str = "1210\n2220\n1a10\n2a10\nb442\nf000\nb642\n58d0\nc940\nf000\
 /// What stands in the store, but for the trace: the end of the campaign and the image of its run; and the
 /// number of the read and of the put that fails, if one does.
 #[derive(Clone, Copy)]
-struct Given {
+struct Case {
     end: &'static str,
     image: &'static str,
     read: Option<u32>,
@@ -39,8 +39,8 @@ struct Wanted {
 }
 
 /// Nothing fails.
-const fn given(end: &'static str, image: &'static str) -> Given {
-    Given {
+const fn given(end: &'static str, image: &'static str) -> Case {
+    Case {
         end,
         image,
         read: None,
@@ -71,11 +71,11 @@ fn shows(
     alloc: Global,
     line: &str,
     trace: &str,
-    given: &Given,
+    case: &Case,
     wanted: &Wanted,
 ) -> Result<Ticks, Fail> {
     let words = words(alloc, line)?;
-    let end = given.end;
+    let end = case.end;
     let campaign = format!(in alloc; "{RUN}{end}")?;
     let mut store = MemoryStore::new(alloc);
     let mut out = MemorySink::new(alloc);
@@ -86,12 +86,12 @@ fn shows(
         .expect(rt, "memory");
     store.add("idle.csv", trace.as_bytes()).expect(rt, "memory");
     store
-        .add("full.hex", given.image.as_bytes())
+        .add("full.hex", case.image.as_bytes())
         .expect(rt, "memory");
-    if let Some(number) = given.read {
+    if let Some(number) = case.read {
         store.fail_at(number).expect(rt, "memory");
     }
-    if let Some(number) = given.put {
+    if let Some(number) = case.put {
         out.fail_at(number).expect(rt, "memory");
     }
     let outcome = egasim(alloc, &words, &mut store, &mut out, &mut notes, &mut steps);
@@ -117,7 +117,7 @@ fn reports_on_a_run(rt: HostRuntime) -> Result<(), Fail> {
     assert_eq!(rt; steps.count(), 12);
 
     // The second put fails with half of its line.
-    let full = Given {
+    let full = Case {
         put: Some(1),
         ..whole
     };
@@ -164,7 +164,7 @@ const TWO: &str = "faults = [{ class = \"halt\", onset = 0 }, { class = \"halt\"
 fn plays_nothing_that_is_refused(rt: HostRuntime) -> Result<(), Fail> {
     let alloc = rt.alloc();
     let whole = given("", FULL);
-    let unread = Given {
+    let unread = Case {
         read: Some(2),
         ..whole
     };
@@ -186,7 +186,7 @@ fn plays_nothing_that_is_refused(rt: HostRuntime) -> Result<(), Fail> {
         run: 1,
         fault: ImageFault::Line { line: 1 },
     };
-    let rows: [(&str, &str, Given, Wanted); 6] = [
+    let rows: [(&str, &str, Case, Wanted); 6] = [
         ("run c.toml", "", unread, missing),
         ("record c.toml a", "", unread, missing),
         ("record c.toml b", "", whole, no_run),
@@ -209,9 +209,9 @@ fn plays_nothing_that_is_refused(rt: HostRuntime) -> Result<(), Fail> {
             refused(line, b"full.hex: line 1\n"),
         ),
     ];
-    for (line, end, given, wanted) in rows {
+    for (line, end, case, wanted) in rows {
         let trace = idle(alloc, 1, end)?;
-        let steps = shows(&rt, alloc, line, trace.as_str(), &given, &wanted)?;
+        let steps = shows(&rt, alloc, line, trace.as_str(), &case, &wanted)?;
         assert_eq!(rt; steps.count(), 0, "{line}");
     }
     Ok(())
