@@ -11,4 +11,6 @@ mod calls;
 #[cfg(test)]
 mod images;
 #[cfg(test)]
+mod plays;
+#[cfg(test)]
 mod records;
