@@ -1,0 +1,1 @@
+./egasim record examples/worked.toml raised
