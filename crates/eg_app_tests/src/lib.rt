@@ -9,6 +9,8 @@ mod calibrations;
 #[cfg(test)]
 mod calls;
 #[cfg(test)]
+mod campaigns;
+#[cfg(test)]
 mod images;
 #[cfg(test)]
 mod plays;
