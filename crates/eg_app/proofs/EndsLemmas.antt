@@ -9,7 +9,7 @@ use Rattle.eg_outcome.specs.declared.outcome.Role.TheVariants as role
 use Rattle.eg_outcome.specs.Outcomes.{IsDoneOrMemory}
 use Rattle.eg_outcome.specs.Reads.{Finds, Accepts}
 use Rattle.eg_outcome.specs.Calibrations.{calibration_file, CalibrationComes, FindsCalibration, AcceptsCalibration}
-use Rattle.eg_app.specs.Words.{Command, check, bound, run, record_run}
+use Rattle.eg_app.specs.Words.{Command, check, bound, run, record_run, soak}
 use Rattle.eg_app.specs.Check.{check_file}
 use Rattle.eg_app.specs.Ends.{CheckWorks, Ends, Completes}
 use Rattle.eg_app.proofs.FileLemmas.{file_done, line_done}
@@ -35,6 +35,7 @@ check_done rules file store later out now o (Err end, comes, (is, same)) finds a
 pub completes : (command : Option Command) (store later : ShownStore) (out now : ShownSink) (was then : TickCount) (o : Outcome)
     → Ends command store later out now was then o → Completes command store later out now o
 completes None store later out now was then o ends = tt
+completes (Some (soak seed runs)) store later out now was then o plays = λ still. line_done _ out now o plays.written still
 completes (Some (check calibration file)) store later out now was then o (Ok parts, comes, works) = λ finds accepts finds_check accepts_check still.
     check_done parts.rules file store later out now o works finds_check accepts_check still
 completes (Some (check calibration file)) store later out now was then o (Err end, comes, (is, same)) = λ finds accepts finds_check accepts_check still.

@@ -21,7 +21,7 @@ use Rattle.eg_play.specs.Files.{campaign_file, trace_file, image_file}
 use Rattle.eg_play.specs.Headline.{KeepsHeadline}
 use Rattle.eg_play.specs.Inputs.{input_of, TicksCome, InputComes, InputsCome, too_many}
 use Rattle.eg_play.specs.Ends.{RunsEnd, NamedEnds, run_named}
-use Rattle.eg_app.specs.Words.{Command, check, bound, run, record_run}
+use Rattle.eg_app.specs.Words.{Command, check, bound, run, record_run, soak}
 use Rattle.eg_app.specs.Ends.{Ends}
 use Rattle.eg_app.specs.Headline.{GoesBy, IsInput, AreInputs, TellsRuns, TellsRecord, TellsHeadline}
 use Rattle.eg_app.proofs.PlayLemmas.{same_error, same_value, no_value}
@@ -141,6 +141,8 @@ done_tells : (command : Option Command) (store later : ShownStore) (out now : Sh
 done_tells None store later out now was then ends = tt
 done_tells (Some (check calibration file)) store later out now was then ends = tt
 done_tells (Some (bound calibration)) store later out now was then ends = tt
+done_tells (Some (soak seed runs)) store later out now was then plays =
+    record { written = plays.written.0; headline = plays.headline }
 done_tells (Some (run calibration campaign)) store later out now was then (Err end, comes, (is, nothing)) =
     absurd (calibration_never calibration store later end comes (sym is))
 done_tells (Some (run calibration campaign)) store later out now was then (Ok cal, comes, (Err end, read, (is, nothing))) =

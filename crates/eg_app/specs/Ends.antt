@@ -20,8 +20,10 @@ use Rattle.eg_outcome.specs.Reads.{FileComes, ReadComes, Finds, Accepts}
 use Rattle.eg_outcome.specs.Calibrations.{CalibratedEnds, MissesCalibration, FindsCalibration, AcceptsCalibration}
 use Rattle.eg_play.specs.Files.{campaign_file}
 use Rattle.eg_play.specs.Inputs.{FindsRuns, AcceptsRuns}
-use Rattle.eg_play.specs.Ends.{RunCommandEnds, RecordCommandEnds, AcceptsNamed, run_named}
-use Rattle.eg_app.specs.Words.{Command, check, bound, run, record_run}
+use Rattle.eg_play.specs.Ends.{Plays, RunCommandEnds, RecordCommandEnds, AcceptsNamed, run_named}
+use Rattle.eg_soak.specs.Soak.{drawn_runs, soak_of}
+use Rattle.eg_soak.specs.Texts.{soak_text}
+use Rattle.eg_app.specs.Words.{Command, check, bound, run, record_run, soak}
 use Rattle.eg_app.specs.Check.{excesses, check_line, check_file}
 use Rattle.eg_app.specs.Bound.{bound_line}
 
@@ -55,6 +57,13 @@ abbrev pub BoundEnds : Option (List ℕ) → ShownStore → ShownStore → Shown
 BoundEnds calibration store later out now o = CalibratedEnds calibration store later (now ≡ out)
     (λ parts. BoundWorks parts.times store later out now) o
 
+-- ---- `soak SEED RUNS` ----
+
+-- the runs that are drawn from the seed were played, and their summary was written; no file was read
+abbrev pub SoakEnds : (seed runs : ℕ) → ShownSink → ShownSink → TickCount → TickCount → Outcome → Type 0
+SoakEnds seed runs out now was is o =
+    Plays (soak_text (soak_of (drawn_runs runs seed))) (drawn_runs runs seed) out now was is o
+
 -- ---- each call ----
 
 -- By what the words ask for; where they ask for nothing, the outcome is Usage and nothing is put. `was` and
@@ -68,6 +77,7 @@ Ends (Some (run calibration campaign)) store later out now was is o =
     RunCommandEnds calibration campaign store later out now was is o
 Ends (Some (record_run calibration campaign name)) store later out now was is o =
     RecordCommandEnds calibration campaign name store later out now was is o
+Ends (Some (soak seed runs)) store later out now was is o = SoakEnds seed runs out now was is o
 Ends None store later out now was is o = (o ≡ outcome.Usage) × (now ≡ out)
 
 -- no tick is made
@@ -76,6 +86,7 @@ CountsNothing (Some (check calibration file)) = Unit {0}
 CountsNothing (Some (bound calibration)) = Unit {0}
 CountsNothing (Some (run calibration campaign)) = ⊥
 CountsNothing (Some (record_run calibration campaign name)) = ⊥
+CountsNothing (Some (soak seed runs)) = ⊥
 CountsNothing None = Unit {0}
 
 -- no file is read
@@ -85,6 +96,7 @@ ReadsNothing (Some (bound (Some name))) = ⊥
 ReadsNothing (Some (bound None)) = Unit {0}
 ReadsNothing (Some (run calibration campaign)) = ⊥
 ReadsNothing (Some (record_run calibration campaign name)) = ⊥
+ReadsNothing (Some (soak seed runs)) = Unit {0}
 ReadsNothing None = Unit {0}
 
 -- ---- when a file is missing ----
@@ -120,6 +132,7 @@ TellsMissing (Some (run calibration campaign)) store o =
     IsTrue store.sure → TellsMissingButMemory calibration store o
 TellsMissing (Some (record_run calibration campaign name)) store o =
     IsTrue store.sure → TellsMissingButMemory calibration store o
+TellsMissing (Some (soak seed runs)) store o = Unit {0}
 TellsMissing None store o = Unit {0}
 
 -- ---- when the work is done ----
@@ -145,4 +158,5 @@ Completes (Some (record_run calibration campaign name)) store later out now o =
     ((plans : List RunPlan) → ReadComes campaign_file campaign store (Ok plans)
     → AcceptsNamed store later (run_named name 1 plans)) →
     ¬ Rose out.faults now.faults → IsDoneOrMemory o
+Completes (Some (soak seed runs)) store later out now o = ¬ Rose out.faults now.faults → IsDoneOrMemory o
 Completes None store later out now o = Unit {0}

@@ -12,7 +12,9 @@ use Rattle.eg_play.specs.Files.{campaign_file, trace_file, image_file}
 use Rattle.eg_play.specs.Texts.{report_text, record_text}
 use Rattle.eg_play.specs.Headline.{KeepsHeadline}
 use Rattle.eg_play.specs.Ends.{run_named}
-use Rattle.eg_app.specs.Words.{Command, run, record_run}
+use Rattle.eg_soak.specs.Soak.{drawn_runs, soak_of}
+use Rattle.eg_soak.specs.Texts.{soak_text}
+use Rattle.eg_app.specs.Words.{Command, run, record_run, soak}
 
 -- this is the calibration that the command goes by: that of the file behind `--cal`, or the reference
 abbrev pub GoesBy : Option (List ℕ) → ShownStore → CalibrationParts → Type 0
@@ -60,9 +62,15 @@ pub record TellsRecord (calibration : Option (List ℕ)) (campaign name : List �
   pub written : Appends out now (record_text cal input)
   pub headline : KeepsHeadline (run_with cal input)
 
+-- Of so many runs that are drawn from a seed: their summary was written, and each of them keeps the headline.
+pub record TellsSoak (seed count : ℕ) (out now : ShownSink) : Type 0 where
+  pub written : Appends out now (soak_text (soak_of (drawn_runs count seed)))
+  pub headline : All KeepsHeadline (drawn_runs count seed)
+
 -- What a command that plays runs has told where its work is done.
 abbrev pub TellsHeadline : Option Command → ShownStore → ShownSink → ShownSink → Type 0
 TellsHeadline (Some (run calibration campaign)) store out now = TellsRuns calibration campaign store out now
 TellsHeadline (Some (record_run calibration campaign name)) store out now =
     TellsRecord calibration campaign name store out now
+TellsHeadline (Some (soak seed runs)) store out now = TellsSoak seed runs out now
 TellsHeadline _ store out now = Unit {0}

@@ -18,7 +18,7 @@ use Rattle.eg_outcome.specs.declared.outcome.Refusal.TheVariants as refusal
 use Rattle.eg_outcome.specs.declared.outcome.Role.{Role}
 use Rattle.eg_outcome.specs.declared.outcome.Role.TheVariants as role
 use Rattle.eg_play.specs.Ends.{role_in, IsNameIn, NamesFile}
-use Rattle.eg_app.specs.Words.{Command, check, bound, run, record_run}
+use Rattle.eg_app.specs.Words.{Command, check, bound, run, record_run, soak}
 
 -- ---- the file that an outcome speaks of ----
 
@@ -28,6 +28,7 @@ calibration_name (check calibration file) = unwrap_or calibration []
 calibration_name (bound calibration) = unwrap_or calibration []
 calibration_name (run calibration campaign) = unwrap_or calibration []
 calibration_name (record_run calibration campaign name) = unwrap_or calibration []
+calibration_name (soak seed runs) = []
 
 -- the name of the check file, empty where there is none
 abbrev pub check_name : Command → List ℕ

@@ -1,19 +1,23 @@
 -- What the words of the command line ask for. A word is the list of its bytes.
-use Rattle.std.specs.Prelude.{ℕ, ◌+◌, List, [], map, codes, length, Option, Some, None, Bool, ◌&&◌, ◌==◌, not, nat_le, nat_lt, if◌then◌else◌, bytes_eq, string_bytes, slice_index_or, slice_index}
+use Rattle.std.specs.Prelude.{ℕ, ◌+◌, ◌≤◌, List, [], map, codes, length, Option, Some, None, Bool, ◌&&◌, ◌==◌, not, nat_le, nat_lt, if◌then◌else◌, bytes_eq, string_bytes, slice_index_or, slice_index}
 use Rattle.std.specs.Option.{option_copied}
+use Rattle.std.specs.Char.{is_ascii_digit}
+use Rattle.std.specs.List.{list_all}
 use Rattle.std.specs.declared.string.String.{String}
 use Rattle.std.specs.declared.alloc.Global.{Global}
+use Rattle.eg_input.specs.Fields.{decimal_value}
 use Rattle.eg_app.specs.declared.command.Command.{Command as Parsed}
 use Rattle.eg_app.specs.declared.command.Command.TheVariants as parsed
 
 -- What can be asked for: to check the file of this name; the reaction time; to run the campaign of this name;
--- or the record of its run of that name. Each goes by the calibration in the file of the name behind `--cal`,
--- or by the reference calibration where there is none.
+-- or the record of its run of that name. Each of these goes by the calibration in the file of the name behind
+-- `--cal`, or by the reference calibration where there is none. Or so many runs that are drawn from a number.
 pub data Command : Type 0 where
   check : (calibration : Option (List ℕ)) (file : List ℕ) → Command
   bound : (calibration : Option (List ℕ)) → Command
   run : (calibration : Option (List ℕ)) (campaign : List ℕ) → Command
   record_run : (calibration : Option (List ℕ)) (campaign : List ℕ) (name : List ℕ) → Command
+  soak : (seed runs : ℕ) → Command
 
 -- what a command says, without where its text lies in memory
 abbrev pub said : Parsed → Command
@@ -21,6 +25,7 @@ said (parsed.Check calibration file) = check (option_copied calibration) file.no
 said (parsed.Bound calibration) = bound (option_copied calibration)
 said (parsed.Run calibration campaign) = run (option_copied calibration) campaign.now
 said (parsed.Record calibration campaign name) = record_run (option_copied calibration) campaign.now name.now
+said (parsed.Soak seed runs) = soak seed runs
 
 -- the bytes of the words
 abbrev pub words_of : List (String Global) → List (List ℕ)
@@ -66,7 +71,39 @@ form_of words calibration own = if is_check words own then Some (check calibrati
     else if is_record words own then Some (record_run calibration (word words own) (word words (own + 1)))
     else None
 
+-- one to ten decimal digits
+abbrev pub is_numeral : List ℕ → Bool
+is_numeral word = nat_le 1 (length word) && nat_le (length word) 10 && list_all is_ascii_digit word
+
+-- the number that a word writes, where it is one from .. to ..
+abbrev pub number_in : (least most : ℕ) → List ℕ → Option ℕ
+number_in least most word =
+    if is_numeral word && nat_le least (decimal_value word) && nat_le (decimal_value word) most
+    then Some (decimal_value word) else None
+
+-- a seed is any word of 32 bits; there are 1 to 500 runs
+abbrev pub seed_in : List ℕ → Option ℕ
+seed_in word = number_in 0 4294967295 word
+
+abbrev pub runs_in : List ℕ → Option ℕ
+runs_in word = number_in 1 500 word
+
+-- to play so many runs from this seed, where both are numbers
+abbrev pub soak_by : (seed runs : Option ℕ) → Option Command
+soak_by (Some seed) (Some runs) = Some (soak seed runs)
+soak_by _ _ = None
+
+-- what the words ask for, where the first is `soak`: they are `soak SEED RUNS`
+abbrev pub soak_of : List (List ℕ) → Option Command
+soak_of words = if length words == 3 then soak_by (seed_in (word words 1)) (runs_in (word words 2)) else None
+
 -- what the words ask for, or none where they have no form of a command
 abbrev pub command_of : List (List ℕ) → Option Command
-command_of words = if names_calibration words then form_of words (Some (word words 2)) 3
+command_of words = if bytes_eq (word words 0) (codes "soak") then soak_of words
+    else if names_calibration words then form_of words (Some (word words 2)) 3
     else form_of words None 1
+
+-- a command that draws runs asks for 1 to 500 of them
+abbrev pub DrawsFew : Command → Type 0
+DrawsFew (soak seed runs) = (1 ≤ runs) × (runs ≤ 500)
+DrawsFew _ = Unit {0}

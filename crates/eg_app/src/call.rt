@@ -1,6 +1,6 @@
 // The top call.
 ghost use Rattle.std.specs.Prelude.{◌≡◌, None, Some};
-ghost use Rattle.eg_app.specs.Words.{words_of, command_of, said};
+ghost use Rattle.eg_app.specs.Words.{words_of, command_of, said, DrawsFew};
 ghost use Rattle.eg_app.specs.Ends.{Ends, ReadsNothing, CountsNothing, TellsMissing, Completes};
 ghost use Rattle.eg_app.specs.Headline.{TellsHeadline};
 ghost use Rattle.eg_app.specs.Notes.{NotesOutcome, Names, IsFileName};
@@ -13,6 +13,7 @@ use crate::check::check;
 use crate::command::Command;
 use crate::note::note;
 use crate::play::{play_campaign, play_run};
+use crate::soak::play_drawn;
 use eg_base::{Sink, Store};
 use eg_outcome::Outcome;
 use eg_play::End;
@@ -85,6 +86,7 @@ fn run<S: Store, K: Sink>(
     out: &mut K,
     steps: &mut Ticks,
 ) -> End
+    requires few { DrawsFew (said command) }
     ensures ends { Ends (Some (said command.entry)) (S.shows store.old) (S.shows store.new)
         (K.shows out.old) (K.shows out.new) steps.old steps.new result.outcome }
     ensures headline { result.outcome ≡ Done → TellsHeadline (Some (said command.entry)) (S.shows store.old)
@@ -111,6 +113,7 @@ fn work<S: Store, K: Sink>(
     out: &mut K,
     steps: &mut Ticks,
 ) -> End
+    requires few { DrawsFew (said command) }
     ensures ends { Ends (Some (said command.entry)) (S.shows store.old) (S.shows store.new)
         (K.shows out.old) (K.shows out.new) steps.old steps.new result.outcome }
     ensures names { Names (said command.entry) (S.shows store.old) result.outcome result.file }
@@ -134,6 +137,7 @@ fn work<S: Store, K: Sink>(
             campaign,
             name,
         } => play_run(alloc, calibration, campaign, name, store, out, steps),
+        Command::Soak { seed, runs } => end_of(play_drawn(alloc, seed, runs, out, steps)),
     }
 }
 

@@ -1,13 +1,14 @@
 // The words of the command line.
-ghost use Rattle.std.specs.Prelude.{◌≡◌, ◌≤◌, [], Some, length, option_map, unwrap_or};
+ghost use Rattle.std.specs.Prelude.{◌≡◌, ◌≤◌, [], Some, length, option_map, unwrap_or, slice_index_or, IfSome};
 ghost use Rattle.std.specs.Option.{option_copied};
 ghost use Rattle.eg_app.specs.Notes.{calibration_name, check_name, campaign_name, name_of, role_of, file_role, name_in_words};
-ghost use Rattle.eg_app.specs.Words.{words_of, is_name, names_calibration, is_check, is_bound, is_run, is_record, form_of, command_of, said};
+ghost use Rattle.eg_app.specs.Words.{words_of, is_name, names_calibration, is_check, is_bound, is_run, is_record, form_of, soak_of, command_of, said, DrawsFew};
 
+use crate::number::number_in;
 use eg_outcome::{Outcome, Refusal, Role};
 
-/// What the words of the command line ask for (docs/FORMATS.md, "Commands"). Each command goes by the
-/// calibration in the file behind `--cal`, or by the reference calibration where there is none.
+/// What the words of the command line ask for (docs/FORMATS.md, "Commands"). Each command but `soak` goes by
+/// the calibration in the file behind `--cal`, or by the reference calibration where there is none.
 #[derive(Clone, Copy)]
 pub(crate) enum Command<'a> {
     /// `check [--cal NAME] FILE`.
@@ -30,17 +31,39 @@ pub(crate) enum Command<'a> {
         campaign: &'a str,
         name: &'a str,
     },
+    /// `soak SEED RUNS`: so many runs, 1 to 500, that are drawn from the seed.
+    Soak {
+        seed: u32,
+        runs: u32,
+    },
 }
 
 impl<'a> Command<'a> {
     /// What the words ask for, or None where they have no form of a command.
     pub(crate) fn of(words: &'a [String]) -> Option<Command<'a>>
-        ensures { option_map said result ≡ command_of (words_of words.now) }
+        ensures command { option_map said result ≡ command_of (words_of words.now) }
+        ensures few { IfSome result (λ command. DrawsFew (said command)) }
     {
+        if words.len() >= 1 && words[0].as_str() == "soak" {
+            return Command::of_soak(words);
+        }
         if names_calibration(words) {
             return Command::of_form(words, Some(words[2].as_str()), 3);
         }
         Command::of_form(words, None, 1)
+    }
+
+    /// What the words ask for, the first of which is `soak`.
+    fn of_soak(words: &'a [String]) -> Option<Command<'a>>
+        ensures command { option_map said result ≡ soak_of (words_of words.now) }
+        ensures few { IfSome result (λ command. DrawsFew (said command)) }
+    {
+        if words.len() != 3 {
+            return None;
+        }
+        let seed = number_in(words[1].as_bytes(), 0, u32::MAX)?;
+        let runs = number_in(words[2].as_bytes(), 1, 500)?;
+        Some(Command::Soak { seed, runs })
     }
 
     /// What the words ask for by this calibration, where the command's own words begin at place `own`.
@@ -106,6 +129,7 @@ impl<'a> Command<'a> {
             | Command::Bound { calibration }
             | Command::Run { calibration, .. }
             | Command::Record { calibration, .. } => calibration,
+            Command::Soak { .. } => None,
         }
     }
 

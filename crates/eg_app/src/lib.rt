@@ -7,7 +7,9 @@ mod check;
 mod command;
 mod monitoring;
 mod note;
+mod number;
 mod play;
+mod soak;
 
 pub use call::egasim;
 pub use eg_outcome::{Outcome, Refusal, Role};

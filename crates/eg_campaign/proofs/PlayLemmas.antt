@@ -48,7 +48,7 @@ sum-reverse f rows = sum_by-IsPermutation (λ x. x) (map f rows) (map f (reverse
 
 -- ---- the ticks of one run more ----
 
-ticks-append : (xs ys : List Run) → ticks_of (xs ++ ys) ≡ ticks_of xs + ticks_of ys
+pub ticks-append : (xs ys : List Run) → ticks_of (xs ++ ys) ≡ ticks_of xs + ticks_of ys
 unfolding ticks_of
 ticks-append xs ys = ap sum (map-append (λ (r : Run). length r.drive) xs ys)
     ∙ sum-append (map (λ (r : Run). length r.drive) xs) (map (λ (r : Run). length r.drive) ys)

@@ -20,4 +20,5 @@ pub use laws::accepted_files_keep_the_rules;
 pub use play::{RunInput, record_one, run_all};
 pub use reader::read_campaign;
 pub use run::RunPlan;
+pub use slices::usual_slices;
 pub use ticks::add_ticks;

@@ -26,8 +26,9 @@ pub(crate) fn slices(table: &Table, run: u32, key: RunKey) -> Result<SlicePlan, 
     slices_in(value).ok_or(CampaignFault::Key { run, key })
 }
 
-/// One row of nine slices, each of 100 instructions.
-fn usual_slices() -> SlicePlan
+/// The slices of a run that names none: at each tick nine of 100 instructions (docs/FORMATS.md, "Campaign
+/// files"). It takes no memory.
+pub fn usual_slices() -> SlicePlan
     ensures { result ≡ usual_slices }
 {
     let Some(row) = Slices::new([100; 9]) else {

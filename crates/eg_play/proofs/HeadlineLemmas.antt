@@ -64,7 +64,8 @@ tells_off : (r : Run) (name : List ℕ) → IsFirstOff (record_rows r) (report_o
 unfolding report_of summary_of
 tells_off r name = (off_law (record_rows r) (are_rows r) (first_off (record_rows r))).1 refl
 
-headline : (r : Run) → IsRun r → KeepsHeadline r
+-- a run by an accepted calibration, over a drive within its limits, keeps it
+pub headline : (r : Run) → IsRun r → KeepsHeadline r
 headline r run = record {
   reacts = λ listed. records_react r run listed;
   at_once = λ listed. at_once r run listed;

@@ -15,5 +15,6 @@ mod running;
 mod texts;
 
 pub use end::End;
+pub use lines::put_lines;
 pub use recording::record;
 pub use running::run;

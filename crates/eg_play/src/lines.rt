@@ -8,7 +8,7 @@ use eg_outcome::{Outcome, put_line};
 
 /// Puts the lines of a command to its output, one after another, up to the first that is refused
 /// (docs/FORMATS.md, "Outcomes").
-pub(crate) fn put_lines<K: Sink>(lines: &[String], out: &mut K) -> Outcome
+pub fn put_lines<K: Sink>(lines: &[String], out: &mut K) -> Outcome
     ensures ends { LineEnds (concat (map string_bytes lines.now)) (K.shows out.old) (K.shows out.new) result }
     ensures put { PutsNothing result → ⊥ }
 {

@@ -1,0 +1,38 @@
+// `soak SEED RUNS`: the summary of runs that are drawn from a number.
+ghost use Rattle.std.specs.Prelude.{◌≤◌};
+ghost use Rattle.eg_outcome.specs.Outcomes.{PutsNothing};
+ghost use Rattle.eg_app.specs.Ends.{SoakEnds};
+
+use eg_base::Sink;
+use eg_outcome::Outcome;
+use eg_play::put_lines;
+use eg_soak::{soak, soak_lines};
+use eg_tick::Ticks;
+use eg_values::reference;
+use std::alloc::Global;
+
+/// Does `soak SEED RUNS`, but for its note: plays so many runs (1 to 500) that are drawn from the seed, and
+/// writes the summary of them (docs/FORMATS.md, "The summary of `soak`"). Ticks are counted in `steps`.
+pub(crate) fn play_drawn<K: Sink>(
+    alloc: Global,
+    seed: u32,
+    runs: u32,
+    out: &mut K,
+    steps: &mut Ticks,
+) -> Outcome
+    requires least { 1 ≤ runs }
+    requires most { runs ≤ 500 }
+    ensures ends { SoakEnds seed runs (K.shows out.old) (K.shows out.new) steps.old steps.new result }
+    ensures put { PutsNothing result → ⊥ }
+{
+    // Whoever reads them learns that the reference calibration is an accepted one.
+    let calibration = reference();
+    let _rules = calibration.rules();
+    let Ok(summary) = soak(alloc, seed, runs, steps) else {
+        return Outcome::Memory;
+    };
+    let Ok(lines) = soak_lines(alloc, &summary) else {
+        return Outcome::Memory;
+    };
+    put_lines(&lines, out)
+}

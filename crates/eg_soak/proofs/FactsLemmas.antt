@@ -1,0 +1,52 @@
+-- The ticks at which the stages are on, row by row; the run that is played; and what counts of it.
+use Rattle.std.proofs.Common.{◌≡◌, ◌∙◌, refl, sym, ap, ap₂, ℕ, ◌+◌, ◌<◌, ◌≤◌, List, [], ◌∷◌, get_or, length, arith}
+use Rattle.std.specs.Prelude.{Option, Some, None, IfSome, if◌then◌else◌, reverse}
+use Rattle.std.proofs.lemmas.List.{length-reverse}
+use Rattle.eg_num.specs.Drive.{DriveRow}
+use Rattle.eg_values.specs.Calibration.{CalibrationParts}
+use Rattle.eg_fault.specs.Faults.{IsValid}
+use Rattle.eg_fault.specs.declared.class.Fault.{Fault}
+use Rattle.eg_agree.specs.Replies.{IsAnyFault}
+use Rattle.eg_record.specs.declared.row.Row.{Row}
+use Rattle.eg_record.specs.declared.summary.Summary.{Summary}
+use Rattle.eg_record.proofs.RowsLemmas.{so_far, so_far-more, length-so_far}
+use Rattle.eg_model.specs.Bench.{Run}
+use Rattle.eg_model.specs.Rows.{record_rows, report_of}
+use Rattle.eg_model.specs.Records.{rows_to}
+use Rattle.eg_model.proofs.RecordLaws.{records_are_rows}
+use Rattle.eg_tick.specs.Run.{run_by}
+use Rattle.eg_campaign.proofs.PlayLemmas.{in_time}
+use Rattle.eg_soak.specs.Facts.{on_until, facts_in, facts_of}
+
+-- ---- rows ----
+
+-- one row more
+pub on_until-more : (rows : List Row) (i : ℕ) (row : Row) → row ≡ get_or rows i row → i < length rows →
+    on_until (so_far rows (i + 1)) ≡ (if row.on then i + 1 else on_until (so_far rows i))
+unfolding on_until
+on_until-more rows i row stands below = ap on_until (so_far-more rows i row stands below)
+    ∙ ap (λ n. if row.on then n + 1 else on_until (so_far rows i)) (length-so_far rows i (omega arith))
+
+-- a run has as many rows as its drive
+pub length-rows : (r : Run) (rows : List Row) → rows ≡ reverse (record_rows r) → length rows ≡ length r.drive
+length-rows r rows are = ap length are ∙ length-reverse (record_rows r)
+    ∙ (unfold record_rows in (unfold rows_to in (records_are_rows r (length r.drive)).1))
+
+-- ---- runs ----
+
+pub any_fault : (fault : Option Fault) → IfSome fault IsValid → IsAnyFault fault
+unfolding IsAnyFault
+any_fault None valid = tt
+any_fault (Some fault) valid = valid
+
+-- runs of equal parts are equal
+pub same_run : (cal cal' : CalibrationParts) (image image' : List ℕ) (fault fault' : Option Fault)
+    (plan plan' : List (List ℕ)) (drive drive' : List DriveRow) → cal ≡ cal' → image ≡ image' → fault ≡ fault' →
+    plan ≡ plan' → drive ≡ drive' → run_by cal image fault plan drive ≡ run_by cal' image' fault' plan' drive'
+same_run cal cal' image image' fault fault' plan plan' drive drive' a b c d e = cc
+
+-- what counts of a run by the report on it
+pub facts_told : (r : Run) (rows : List Row) (report : Summary) → rows ≡ reverse (record_rows r) →
+    report ≡ report_of [] r → facts_in report (reverse rows) ≡ facts_of r
+unfolding facts_of
+facts_told r rows report are told = ap₂ facts_in told (sym (in_time r rows are))

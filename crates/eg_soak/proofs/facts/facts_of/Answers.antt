@@ -1,0 +1,14 @@
+use Rattle.std.proofs.Common.{◌≡◌, ◌∙◌, length, arith}
+use Rattle.eg_soak.specs.Soak.{run_drawn}
+use Rattle.eg_soak.proofs.FactsLemmas.{length-rows, facts_told}
+use Rattle.eg_soak.proofs.facts.facts_of.Goals as goal
+
+pub facts_in-requires : goal.facts_in-requires
+facts_in-requires c =
+    let rows = length-rows (run_drawn c.args.drawn.now) _ (c.as_slice.ensures ∙ c.requires.rows) in
+    let drive = c.requires.drawn.rows in
+    omega (arith, rows, drive)
+
+pub returns : goal.returns
+returns c = c.facts_in.ensures
+    ∙ facts_told (run_drawn c.args.drawn.now) _ _ (c.as_slice.ensures ∙ c.requires.rows) c.in_ok-report.ensures

@@ -1,0 +1,15 @@
+use Rattle.std.proofs.Common.{◌≡◌, ◌≤◌, map, length}
+use Rattle.eg_values.specs.Reference.{reference_parts}
+use Rattle.eg_campaign.specs.Plays.{count_after}
+use Rattle.eg_soak.specs.Facts.{facts_of}
+use Rattle.eg_soak.specs.Soak.{drawn_runs}
+use Rattle.eg_soak.proofs.RunsLemmas.{state_of}
+use Rattle.eg_soak.proofs.playing.play_all.Given as goal
+
+-- the runs so far are told and counted, and the generator stands where the next begins
+abbrev pub invariant-loop-done : goal.invariant-loop-done
+invariant-loop-done l = record {
+  state : l.generator ≡ state_of l._done l.fn.seed;
+  told : l.all.items ≡ map facts_of (drawn_runs l._done l.fn.seed);
+  counts : l.steps ≡ count_after l.fn.steps (drawn_runs l._done l.fn.seed);
+}

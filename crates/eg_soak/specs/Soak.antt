@@ -1,0 +1,38 @@
+-- The runs that `soak` plays, and its summary of them.
+use Rattle.std.specs.Prelude.{ℕ, zero, suc, Bool, not, is_some, max, List, [], ◌∷◌, map, length, count_by}
+use Rattle.std.specs.List.{fold}
+use Rattle.eg_values.specs.Reference.{reference_parts}
+use Rattle.eg_record.specs.Detection.{watches}
+use Rattle.eg_model.specs.Bench.{Run}
+use Rattle.eg_tick.specs.Run.{run_by}
+use Rattle.eg_campaign.specs.Contents.{usual_slices}
+use Rattle.eg_draw.specs.declared.runs.DrawnRun.{DrawnRun}
+use Rattle.eg_draw.specs.Runs.{drawn_run, state_after}
+use Rattle.eg_soak.specs.declared.facts.RunFacts.{RunFacts}
+use Rattle.eg_soak.specs.declared.summary.SoakSummary.{SoakSummary}
+use Rattle.eg_soak.specs.Facts.{facts_of, is_first}
+
+-- the run of what was drawn: by the reference calibration, with 100 instructions in each slice
+abbrev pub run_drawn : DrawnRun → Run
+run_drawn drawn = run_by reference_parts drawn.image drawn.fault usual_slices drawn.drive
+
+-- So many runs in their order, the first of them drawn in state x. The draws of each go on from where those of
+-- the one before it ended.
+unfoldable pub drawn_runs : (count x : ℕ) → List Run
+drawn_runs zero x = []
+drawn_runs (suc count) x = run_drawn (drawn_run x) ∷ drawn_runs count (state_after x)
+
+-- the summary of runs of which this counts
+unfoldable pub summary_of : List RunFacts → SoakSummary
+summary_of all = record {
+  runs = length all;
+  none = count_by (λ facts. not (is_some facts.first)) all;
+  by_watch = map (λ watch. count_by (is_first watch) all) watches;
+  trapped = count_by (λ facts. facts.is_trapped) all;
+  off = count_by (λ facts. facts.goes_off) all;
+  longest = fold (λ most facts. max most facts.reaction) 0 all;
+}
+
+-- the summary of runs
+unfoldable pub soak_of : List Run → SoakSummary
+soak_of runs = summary_of (map facts_of runs)

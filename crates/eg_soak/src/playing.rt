@@ -1,0 +1,56 @@
+// Runs that are drawn from a number, played one after another.
+ghost use Rattle.std.specs.Prelude.{◌≡◌, ℕ, ◌+◌, ◌%◌, ◌^◌, ◌≤◌, ◌*◌, length, map, IfOk, OnOk, OnErr};
+ghost use Rattle.eg_campaign.specs.Plays.{count_after, ticks_of};
+ghost use Rattle.eg_soak.specs.Facts.{facts_of};
+ghost use Rattle.eg_soak.specs.Soak.{drawn_runs, soak_of};
+
+use crate::facts::play;
+use crate::{RunFacts, SoakSummary};
+use eg_base::NoMemory;
+use eg_draw::Generator;
+use eg_tick::Ticks;
+use eg_values::reference;
+use std::alloc::Global;
+
+/// Plays so many runs (1 to 500), of 2,000 ticks each, that are drawn from a number one after another
+/// (docs/CONCEPT.md, "`soak`"), and tells the summary of them. The ticks are counted in `steps`.
+#[tactic(auto, unfolding(crate::specs::Soak::soak_of))]
+pub fn soak(alloc: Global, seed: u32, runs: u32, steps: &mut Ticks) -> Result<SoakSummary, NoMemory>
+    requires least { 1 ≤ runs }
+    requires most { runs ≤ 500 }
+    ensures summary { IfOk result (λ summary. summary ≡ soak_of (drawn_runs runs seed)) }
+    // The ticks of all runs are counted. Where memory ran out, no more than these are.
+    ensures counted { OnOk result (steps.new ≡ count_after steps.old (drawn_runs runs seed)) }
+    ensures count { OnErr result ((n : ℕ) × (n ≤ ticks_of (drawn_runs runs seed))
+        × (steps.new.count ≡ (steps.old.count + n) % 2 ^ 64)) }
+{
+    let all = play_all(alloc, seed, runs, steps)?;
+    Ok(SoakSummary::of(&all))
+}
+
+/// Plays the runs, and tells of each what counts.
+fn play_all(
+    alloc: Global,
+    seed: u32,
+    runs: u32,
+    steps: &mut Ticks,
+) -> Result<Vec<RunFacts>, NoMemory>
+    requires { runs ≤ 500 }
+    ensures facts { IfOk result (λ all. all.items ≡ map facts_of (drawn_runs runs seed)) }
+    ensures length { IfOk result (λ all. length all.items ≡ runs) }
+    ensures counted { OnOk result (steps.new ≡ count_after steps.old (drawn_runs runs seed)) }
+    ensures count { OnErr result ((n : ℕ) × (n ≤ ticks_of (drawn_runs runs seed))
+        × (steps.new.count ≡ (steps.old.count + n) % 2 ^ 64)) }
+{
+    // Whoever reads them learns that both numbers are a u64.
+    let _numbers = (steps.count(), steps.sum());
+    let calibration = reference();
+    let mut generator = Generator::new(seed);
+    let mut all = Vec::new(alloc);
+    for _done in 0..runs {
+        let drawn = generator.run(alloc)?;
+        let facts = play(alloc, &calibration, &drawn, steps)?;
+        all.push(facts)?;
+    }
+    Ok(all)
+}
