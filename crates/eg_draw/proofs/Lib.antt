@@ -1,0 +1,4 @@
+pub mod DrawLemmas
+pub mod StretchLemmas
+pub mod ProperLemmas
+pub mod WholeDraw

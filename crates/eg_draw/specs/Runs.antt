@@ -1,0 +1,135 @@
+-- The run that is drawn in a state: an image of level 1, a drive of 2,000 ticks, and a fault or none. Beside
+-- what each part gives stands how many draws it takes.
+use Rattle.std.specs.Prelude.{ℕ, zero, suc, ◌≡◌, ◌+◌, ◌%◌, ◌≤◌, ◌==◌, pos, false, List, [], ◌∷◌, ◌++◌, map, replicate, take, slice_index, slice_set, length, All, Option, Some, None, IfSome, if◌then◌else◌}
+use Rattle.eg_num.specs.Drive.{DriveRow, IsDrive}
+use Rattle.eg_fault.specs.Faults.{IsValid}
+use Rattle.eg_fault.specs.declared.class.Class.{Class}
+use Rattle.eg_fault.specs.declared.class.Class.TheVariants.{Script, Offset, Bus, Plate, Skip, Disturb, Flip, Halt, Timing, Wild, Path1Closed, Path2Closed, PathOpen, Lapse}
+use Rattle.eg_fault.specs.declared.class.Fault.{Fault}
+use Rattle.eg_draw.specs.Draws.{next, draw, after, draws}
+use Rattle.eg_draw.specs.declared.runs.DrawnRun.{DrawnRun}
+
+-- ---- the image ----
+
+-- waits for ever
+abbrev pub idle : List ℕ
+idle = 0xf000 ∷ 0xd1fe ∷ []
+
+-- sets both outputs to 1000, and waits
+abbrev pub full : List ℕ
+full = 0x1210 ∷ 0x2210 ∷ 0x1407 ∷ 0x2468 ∷ 0xc440 ∷ 0xc441 ∷ 0xf000 ∷ 0xd1fe ∷ []
+
+-- the same with the two words drawn that load the number which it sets the outputs to
+unfoldable pub full_with : ℕ → List ℕ
+full_with x = slice_set (slice_set full 2 (0x1400 + draw x % 8)) 3 (0x2400 + draw (next x) % 128)
+
+-- the image of a kind, 0 to 3
+unfoldable pub image_of : ℕ → ℕ → List ℕ
+image_of kind x =
+    if kind == 0 then idle else if kind == 1 then full else if kind == 2 then draws 256 x else full_with x
+
+-- how many draws it takes
+abbrev pub image_draws : ℕ → ℕ
+image_draws kind = if kind == 2 then 256 else if kind == 3 then 2 else 0
+
+-- ---- the drive ----
+
+-- a row of it: 0 to 1000 per mille, 800 to 6000 rpm, 0 to 499 tenths of Nm
+unfoldable pub stretch_row : ℕ → DriveRow
+stretch_row x = record {
+  pedal = draw x % 1001;
+  speed = 800 + draw (next x) % 5201;
+  raise = draw (next (next x)) % 500;
+}
+
+-- so many stretches of a hundred equal rows, each with three draws of its own
+unfoldable pub stretches : ℕ → ℕ → List DriveRow
+stretches zero x = []
+stretches (suc n) x = replicate 100 (stretch_row x) ++ stretches n (after 3 x)
+
+-- the drive of a run: 60 draws
+unfoldable pub trace_of : ℕ → List DriveRow
+trace_of x = stretches 20 x
+
+-- ---- the fault ----
+
+-- a number from 1 to n
+unfoldable pub one_of : ℕ → ℕ → ℕ
+one_of n x = 1 + draw x % n
+
+-- bits of a word, at least one of them: 1 to 65,535
+unfoldable pub drawn_mask : ℕ → ℕ
+drawn_mask x = one_of 65535 x
+
+-- four values, each 0 to 1000
+unfoldable pub four_values : ℕ → List ℕ
+four_values x = map (λ d. d % 1001) (draws 4 x)
+
+-- the first 1 to 8 ticks: 0, 1 and so on
+unfoldable pub first_ticks : ℕ → List ℕ
+first_ticks x = take (one_of 8 x) (0 ∷ 1 ∷ 2 ∷ 3 ∷ 4 ∷ 5 ∷ 6 ∷ 7 ∷ [])
+
+-- the class of a number, 0 to 13, in the order of `Class`
+unfoldable pub class_of : ℕ → ℕ → Class
+class_of class x =
+    if class == 0 then Script (draw x % 8) (four_values (next x))
+    else if class == 1 then Offset (draw x % 8) (pos (one_of 500 (next x)))
+    else if class == 2 then Bus (drawn_mask x)
+    else if class == 3 then Plate (draw x % 1001)
+    else if class == 4 then Skip (draw x % 8)
+    else if class == 5 then Disturb (one_of 5 x) (drawn_mask (next x))
+    else if class == 6 then Flip (draw x % 32) (drawn_mask (next x))
+    else if class == 7 then Halt
+    else if class == 8 then Timing (draw x % 10)
+    else if class == 9 then Wild (draws 2 x) (false ∷ [])
+    else if class == 10 then Path1Closed
+    else if class == 11 then Path2Closed
+    else if class == 12 then PathOpen (one_of 2 x)
+    else Lapse (first_ticks x) 0
+
+-- how many draws the numbers of each class take, in the same order
+abbrev pub class_draws : ℕ → ℕ
+class_draws class =
+    slice_index (5 ∷ 2 ∷ 1 ∷ 1 ∷ 1 ∷ 2 ∷ 2 ∷ 0 ∷ 1 ∷ 2 ∷ 0 ∷ 0 ∷ 1 ∷ 1 ∷ []) class
+
+-- the fault of a class, with an onset of 0 to 1999; 14 is none. The state is the one after the class's draw.
+unfoldable pub fault_of : ℕ → ℕ → Option Fault
+fault_of class x =
+    if class == 14 then None
+    else Some (record { onset = draw x % 2000; class = class_of class (next x) })
+
+-- how many draws its onset and its class take
+unfoldable pub fault_draws : ℕ → ℕ
+fault_draws class = if class == 14 then 0 else 1 + class_draws class
+
+-- ---- the run ----
+
+-- the state after the draws of the image's kind, of the image and of the drive
+abbrev pub before_fault : ℕ → ℕ
+before_fault x = after 60 (after (image_draws (draw x % 4)) (next x))
+
+-- the run that is drawn: first the image, then the drive, then the fault
+unfoldable pub drawn_run : ℕ → DrawnRun
+drawn_run x =
+    let kind = draw x % 4 in
+    let last = before_fault x in
+    record {
+      image = image_of kind (next x);
+      drive = trace_of (after (image_draws kind) (next x));
+      fault = fault_of (draw last % 15) (next last);
+    }
+
+-- the state after it, in which the next run is drawn
+unfoldable pub state_after : ℕ → ℕ
+state_after x =
+    let last = before_fault x in
+    after (fault_draws (draw last % 15)) (next last)
+
+-- ---- what each drawn run keeps ----
+
+-- an image of at most 256 words, a drive of 2,000 rows within their limits, and no fault or a valid one
+pub record IsDrawn (run : DrawnRun) : Type 0 where
+  pub short : length run.image ≤ 256
+  pub rows : length run.drive ≡ 2000
+  pub within : All IsDrive run.drive
+  pub valid : IfSome run.fault IsValid
