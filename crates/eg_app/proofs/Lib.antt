@@ -4,3 +4,4 @@ pub mod PlayLemmas
 pub mod MissingLemmas
 pub mod EndsLemmas
 pub mod HeadlineLemmas
+pub mod SoakLemmas

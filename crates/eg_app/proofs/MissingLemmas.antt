@@ -1,60 +1,35 @@
 -- Which files `run` and `record` say to be missing, from how they end.
-use Rattle.std.proofs.Common.{◌≡◌, ◌∙◌, ◌+◌, ◌∷◌, [], List, ℕ, Option, Some, None, inl, inr, length, refl, sym, ap, subst}
-use Rattle.std.specs.Prelude.{◌⊎◌, Result, Ok, Err, IsTrue, IsNone, IsSomeAnd}
-use Rattle.std.proofs.lemmas.Bool.{false≢true}
-use Rattle.eg_base.specs.Outside.{Files, ShownStore, ShownSink, IsMissing, AreFirstBytes}
+use Rattle.std.proofs.Common.{◌≡◌, ◌∙◌, ◌+◌, ◌∷◌, [], List, ℕ, Option, Some, None, length, refl, sym, ap, subst}
+use Rattle.std.specs.Prelude.{Result, Ok, Err, IsTrue}
+use Rattle.eg_base.specs.Outside.{ShownStore, ShownSink}
 use Rattle.eg_num.specs.Drive.{DriveRow}
 use Rattle.eg_values.specs.Calibration.{CalibrationParts}
 use Rattle.eg_tick.specs.Weights.{TickCount}
 use Rattle.eg_campaign.specs.declared.run.RunPlan.{RunPlan}
 use Rattle.eg_outcome.specs.declared.outcome.Outcome.{Outcome}
-use Rattle.eg_outcome.specs.declared.outcome.Outcome.TheVariants.{Done, Usage, ReadFault, Refused, WriteFault, Memory}
+use Rattle.eg_outcome.specs.declared.outcome.Outcome.TheVariants.{ReadFault, Refused}
 use Rattle.eg_outcome.specs.declared.outcome.Refusal.{Refusal}
 use Rattle.eg_outcome.specs.declared.outcome.Role.{Role}
 use Rattle.eg_outcome.specs.declared.outcome.Role.TheVariants as role
 use Rattle.eg_outcome.specs.Outcomes.{LineEnds}
 use Rattle.eg_outcome.specs.Reads.{FileComes}
-use Rattle.eg_outcome.specs.Calibrations.{calibration_file, CalibratedEnds}
+use Rattle.eg_outcome.specs.Calibrations.{calibration_file, CalibratedEnds, MissesCalibration}
 use Rattle.eg_play.specs.Files.{campaign_file, trace_file, image_file}
 use Rattle.eg_play.specs.Inputs.{TicksCome, InputComes, InputsCome, too_many}
 use Rattle.eg_play.specs.Ends.{NothingPlayed, RunsEnd, NamedEnds, CampaignEnds, RunCommandEnds, RecordCommandEnds, run_named}
-use Rattle.eg_app.specs.Ends.{TellsMissingButMemory}
 use Rattle.eg_app.proofs.PlayLemmas.{same_error, no_value}
 
 -- ---- the calibration ----
 
-not_there : {X : Type 0} (P : X → Type 0) (found : Option X) → IsSomeAnd found P → IsNone found → ⊥
-not_there P None some none = absurd some
-not_there P (Some x) some none = absurd (false≢true (sym none))
-
--- a file that was read isn't missing
-not_missing : (files : Option Files) (name : List ℕ) (most : ℕ) (bytes : List ℕ) → AreFirstBytes files name most bytes → IsMissing files name → ⊥
-not_missing None name most bytes read missing = absurd missing
-not_missing (Some m) name most bytes read missing = not_there _ _ read.1 missing
-
--- where the file behind `--cal` is missing, nothing else comes of it but want of memory
-missed : (name : List ℕ) (store later : ShownStore) (end : Outcome)
-    → FileComes role.Calibration calibration_file name store later (Err end) → IsMissing store.files name
-    → (end ≡ ReadFault role.Calibration) ⊎ (end ≡ Memory)
-missed name store later Done (same, (bytes, read, never)) missing = absurd never
-missed name store later Usage (same, (bytes, read, never)) missing = absurd never
-missed name store later WriteFault (same, (bytes, read, never)) missing = absurd never
-missed name store later Memory comes missing = inr refl
-missed name store later (ReadFault r) comes missing = inl (ap ReadFault comes.0)
-missed name store later (Refused r) (same, (bytes, read, refused)) missing = absurd (not_missing store.files name _ bytes read missing)
-
+-- a fault of reading the calibration is met only where it is missing
 calibrated_missing : (calibration : Option (List ℕ)) (store later : ShownStore) (nothing : Type 0) (work : CalibrationParts → Outcome → Type 0) (o : Outcome)
     → CalibratedEnds calibration store later nothing work o
     → ((parts : CalibrationParts) → work parts o → o ≡ ReadFault role.Calibration → ⊥)
-    → IsTrue store.sure → TellsMissingButMemory calibration store o
-calibrated_missing None store later nothing work o (Ok parts, is, works) never sure = (λ fault. never parts works fault, λ misses. absurd misses)
-calibrated_missing None store later nothing work o (Err end, is, follows) never sure = absurd cc
-calibrated_missing (Some name) store later nothing work o (Ok parts, (bytes, read, says), works) never sure =
-    (λ fault. absurd (never parts works fault), λ misses. absurd (not_missing store.files name _ bytes read misses))
-calibrated_missing (Some name) store later nothing work o (Err end, comes, (is, same)) never sure = (
-  λ fault. (subst (λ (e : Outcome). FileComes role.Calibration calibration_file name store later (Err e)) (sym is ∙ fault) comes).2 sure,
-  λ misses. subst (λ (e : Outcome). (e ≡ ReadFault role.Calibration) ⊎ (e ≡ Memory)) (sym is) (missed name store later end comes misses),
-)
+    → IsTrue store.sure → o ≡ ReadFault role.Calibration → MissesCalibration calibration store
+calibrated_missing calibration store later nothing work o (Ok parts, comes, works) never sure fault = absurd (never parts works fault)
+calibrated_missing None store later nothing work o (Err end, is, follows) never sure fault = absurd cc
+calibrated_missing (Some name) store later nothing work o (Err end, comes, (is, same)) never sure fault =
+    (subst (λ (e : Outcome). FileComes role.Calibration calibration_file name store later (Err e)) (sym is ∙ fault) comes).2 sure
 
 -- ---- the files of a campaign ----
 
@@ -124,7 +99,7 @@ campaign_other campaign store later nothing work o (Err end, comes, (is, same)) 
 
 pub run_missing : (calibration : Option (List ℕ)) (campaign : List ℕ) (store later : ShownStore) (out now : ShownSink) (was then : TickCount)
     (o : Outcome) → RunCommandEnds calibration campaign store later out now was then o → IsTrue store.sure
-    → TellsMissingButMemory calibration store o
+    → o ≡ ReadFault role.Calibration → MissesCalibration calibration store
 run_missing calibration campaign store later out now was then o ends sure =
     let nothing = NothingPlayed out now was then in
     let work = λ (cal : CalibrationParts) (plans : List RunPlan). RunsEnd cal plans store later out now was then in
@@ -133,7 +108,7 @@ run_missing calibration campaign store later out now was then o ends sure =
 
 pub record_missing : (calibration : Option (List ℕ)) (campaign name : List ℕ) (store later : ShownStore) (out now : ShownSink) (was then : TickCount)
     (o : Outcome) → RecordCommandEnds calibration campaign name store later out now was then o → IsTrue store.sure
-    → TellsMissingButMemory calibration store o
+    → o ≡ ReadFault role.Calibration → MissesCalibration calibration store
 record_missing calibration campaign name store later out now was then o ends sure =
     let nothing = NothingPlayed out now was then in
     let work = λ (cal : CalibrationParts) (plans : List RunPlan). NamedEnds cal (run_named name 1 plans) store later out now was then in

@@ -114,13 +114,6 @@ TellsMissingCheck (Some name) file store o = ((o ≡ outcome.ReadFault role.Chec
     × (AcceptsCalibration (Some name) store → ¬ IsMissing store.files name → IsMissing store.files file
     → (o ≡ outcome.ReadFault role.Check) ⊎ (o ≡ outcome.Memory))
 
--- Over a sure store reading the calibration fails only where there is no such file, and there nothing else
--- comes but want of memory.
-abbrev pub TellsMissingButMemory : Option (List ℕ) → ShownStore → Outcome → Type 0
-TellsMissingButMemory calibration store o =
-    ((o ≡ outcome.ReadFault role.Calibration) → MissesCalibration calibration store)
-    × (MissesCalibration calibration store → (o ≡ outcome.ReadFault role.Calibration) ⊎ (o ≡ outcome.Memory))
-
 -- Over a sure store, how missing files are told. Of the files of a campaign `Ends` says by their roles which
 -- was read, and that a fault of reading comes only where that is missing.
 abbrev pub TellsMissing : Option Command → ShownStore → Outcome → Type 0
@@ -129,9 +122,9 @@ TellsMissing (Some (check calibration file)) store o = IsTrue store.sure →
 TellsMissing (Some (bound calibration)) store o =
     IsTrue store.sure → TellsMissingCalibration calibration store o
 TellsMissing (Some (run calibration campaign)) store o =
-    IsTrue store.sure → TellsMissingButMemory calibration store o
+    IsTrue store.sure → TellsMissingCalibration calibration store o
 TellsMissing (Some (record_run calibration campaign name)) store o =
-    IsTrue store.sure → TellsMissingButMemory calibration store o
+    IsTrue store.sure → TellsMissingCalibration calibration store o
 TellsMissing (Some (soak seed runs)) store o = Unit {0}
 TellsMissing None store o = Unit {0}
 

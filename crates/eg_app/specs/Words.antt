@@ -88,6 +88,10 @@ seed_in word = number_in 0 4294967295 word
 abbrev pub runs_in : List ℕ → Option ℕ
 runs_in word = number_in 1 500 word
 
+-- the first word is `soak`
+abbrev pub is_soak : List (List ℕ) → Bool
+is_soak words = bytes_eq (word words 0) (codes "soak")
+
 -- to play so many runs from this seed, where both are numbers
 abbrev pub soak_by : (seed runs : Option ℕ) → Option Command
 soak_by (Some seed) (Some runs) = Some (soak seed runs)
@@ -97,11 +101,14 @@ soak_by _ _ = None
 abbrev pub soak_of : List (List ℕ) → Option Command
 soak_of words = if length words == 3 then soak_by (seed_in (word words 1)) (runs_in (word words 2)) else None
 
+-- what they ask for, where the first is another: by the calibration behind `--cal`, or by none
+abbrev pub calibrated_of : List (List ℕ) → Option Command
+calibrated_of words = if names_calibration words then form_of words (Some (word words 2)) 3
+    else form_of words None 1
+
 -- what the words ask for, or none where they have no form of a command
 abbrev pub command_of : List (List ℕ) → Option Command
-command_of words = if bytes_eq (word words 0) (codes "soak") then soak_of words
-    else if names_calibration words then form_of words (Some (word words 2)) 3
-    else form_of words None 1
+command_of words = if is_soak words then soak_of words else calibrated_of words
 
 -- a command that draws runs asks for 1 to 500 of them
 abbrev pub DrawsFew : Command → Type 0

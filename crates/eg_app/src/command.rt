@@ -2,7 +2,7 @@
 ghost use Rattle.std.specs.Prelude.{◌≡◌, ◌≤◌, [], Some, length, option_map, unwrap_or, slice_index_or, IfSome};
 ghost use Rattle.std.specs.Option.{option_copied};
 ghost use Rattle.eg_app.specs.Notes.{calibration_name, check_name, campaign_name, name_of, role_of, file_role, name_in_words};
-ghost use Rattle.eg_app.specs.Words.{words_of, is_name, names_calibration, is_check, is_bound, is_run, is_record, form_of, soak_of, command_of, said, DrawsFew};
+ghost use Rattle.eg_app.specs.Words.{words_of, is_name, names_calibration, is_check, is_bound, is_run, is_record, form_of, is_soak, soak_of, calibrated_of, command_of, said, DrawsFew};
 
 use crate::number::number_in;
 use eg_outcome::{Outcome, Refusal, Role};
@@ -44,9 +44,17 @@ impl<'a> Command<'a> {
         ensures command { option_map said result ≡ command_of (words_of words.now) }
         ensures few { IfSome result (λ command. DrawsFew (said command)) }
     {
-        if words.len() >= 1 && words[0].as_str() == "soak" {
+        if is_soak(words) {
             return Command::of_soak(words);
         }
+        Command::of_calibrated(words)
+    }
+
+    /// What the words ask for, the first of which isn't `soak`.
+    fn of_calibrated(words: &'a [String]) -> Option<Command<'a>>
+        ensures command { option_map said result ≡ calibrated_of (words_of words.now) }
+        ensures few { IfSome result (λ command. DrawsFew (said command)) }
+    {
         if names_calibration(words) {
             return Command::of_form(words, Some(words[2].as_str()), 3);
         }
@@ -185,6 +193,13 @@ fn names_calibration(words: &[String]) -> bool
     ensures { result ≡ names_calibration (words_of words.now) }
 {
     words.len() >= 3 && words[1].as_str() == "--cal" && is_name(words[2].as_str())
+}
+
+/// Whether the first word is `soak`.
+fn is_soak(words: &[String]) -> bool
+    ensures { result ≡ is_soak (words_of words.now) }
+{
+    !words.is_empty() && words[0].as_str() == "soak"
 }
 
 /// Whether the words are `check FILE`, where the command's own words begin at place `own`.

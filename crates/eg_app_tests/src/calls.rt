@@ -172,6 +172,15 @@ fn refuses_words_that_are_no_command(rt: HostRuntime) -> Result<(), Fail> {
         "record in.csv -x",
         "record --cal in.csv in.csv",
         "record in.csv in.csv in.csv",
+        "soak",
+        "soak 1",
+        "soak 1 0",
+        "soak 1 501",
+        "soak 4294967296 1",
+        "soak 00000000001 1",
+        "soak +1 1",
+        "soak 1 1 1",
+        "soak --cal in.csv 1 1",
     ] {
         shows(&rt, rt.alloc(), line, "0,800,0,1\n", &USAGE)?;
     }

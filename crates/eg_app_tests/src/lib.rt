@@ -16,3 +16,5 @@ mod images;
 mod plays;
 #[cfg(test)]
 mod records;
+#[cfg(test)]
+mod soaks;

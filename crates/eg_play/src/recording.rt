@@ -1,9 +1,12 @@
 // `record [--cal NAME] CAMPAIGN RUN`: the record of one run of a campaign.
-ghost use Rattle.std.specs.Prelude.{◌≡◌, Some, bytes_eq};
+ghost use Rattle.std.specs.Prelude.{◌≡◌, IsTrue, Some, bytes_eq};
 ghost use Rattle.std.specs.Option.{option_copied};
 ghost use Rattle.eg_agree.specs.Replies.{IsAnyFault};
 ghost use Rattle.eg_campaign.specs.Rules.{AreRuns};
+ghost use Rattle.eg_outcome.specs.Calibrations.{MissesCalibration};
 ghost use Rattle.eg_outcome.specs.Outcomes.{TellsNoMemory, PutsNothing};
+ghost use Rattle.eg_outcome.specs.declared.outcome.Outcome.TheVariants.{ReadFault};
+ghost use Rattle.eg_outcome.specs.declared.outcome.Role.TheVariants as role;
 ghost use Rattle.eg_play.specs.Ends.{NothingPlayed, NamedEnds, CampaignEnds, RecordCommandEnds, run_named, NamesFile, role_in, name_by, name_for, IsOf, IsNamedIfOfRun};
 
 use crate::End;
@@ -32,6 +35,10 @@ pub fn record<S: Store, K: Sink>(
         (S.shows store.old) (S.shows store.new) (K.shows out.old) (K.shows out.new)
         steps.old steps.new result.outcome }
     ensures named { NamesFile campaign.now (S.shows store.old) (role_in result.outcome) result.file }
+    // Over a sure store a missing calibration is told.
+    ensures missing { IsTrue (S.shows store.old).sure
+        → MissesCalibration (option_copied calibration.entry) (S.shows store.old)
+        → result.outcome ≡ ReadFault role.Calibration }
     ensures no_memory { TellsNoMemory result.outcome }
     ensures files { (S.shows store.new).files ≡ (S.shows store.old).files }
     ensures nothing_put { PutsNothing result.outcome → out.new ≡ out.old }

@@ -1,8 +1,11 @@
 // `run [--cal NAME] CAMPAIGN`: the report on the runs of a campaign.
-ghost use Rattle.std.specs.Prelude.{◌≡◌};
+ghost use Rattle.std.specs.Prelude.{◌≡◌, IsTrue};
 ghost use Rattle.std.specs.Option.{option_copied};
 ghost use Rattle.eg_campaign.specs.Rules.{AreRuns};
+ghost use Rattle.eg_outcome.specs.Calibrations.{MissesCalibration};
 ghost use Rattle.eg_outcome.specs.Outcomes.{TellsNoMemory, PutsNothing};
+ghost use Rattle.eg_outcome.specs.declared.outcome.Outcome.TheVariants.{ReadFault};
+ghost use Rattle.eg_outcome.specs.declared.outcome.Role.TheVariants as role;
 ghost use Rattle.eg_play.specs.Ends.{NothingPlayed, RunsEnd, CampaignEnds, RunCommandEnds, NamesFile, role_in, name_for, IsNamedIfOfRun};
 
 use crate::End;
@@ -29,6 +32,10 @@ pub fn run<S: Store, K: Sink>(
     ensures ends { RunCommandEnds (option_copied calibration.entry) campaign.now (S.shows store.old)
         (S.shows store.new) (K.shows out.old) (K.shows out.new) steps.old steps.new result.outcome }
     ensures named { NamesFile campaign.now (S.shows store.old) (role_in result.outcome) result.file }
+    // Over a sure store a missing calibration is told.
+    ensures missing { IsTrue (S.shows store.old).sure
+        → MissesCalibration (option_copied calibration.entry) (S.shows store.old)
+        → result.outcome ≡ ReadFault role.Calibration }
     ensures no_memory { TellsNoMemory result.outcome }
     ensures files { (S.shows store.new).files ≡ (S.shows store.old).files }
     ensures nothing_put { PutsNothing result.outcome → out.new ≡ out.old }

@@ -1,0 +1,19 @@
+-- The headline, for runs that are drawn.
+use Rattle.std.proofs.Common.{ℕ, zero, suc, [], ◌∷◌, All}
+use Rattle.std.proofs.lemmas.List.Elements.{All-cons, All-nil}
+use Rattle.eg_values.specs.Calibration.{IsAccepted}
+use Rattle.eg_values.specs.Reference.{reference_parts}
+use Rattle.eg_draw.specs.Runs.{drawn_run, state_after}
+use Rattle.eg_draw.proofs.ProperLemmas.{drawn_proper}
+use Rattle.eg_soak.specs.Soak.{run_drawn, drawn_runs}
+use Rattle.eg_play.specs.Headline.{KeepsHeadline}
+use Rattle.eg_play.proofs.HeadlineLemmas.{headline}
+
+pub drawn_keep_headline : IsAccepted reference_parts → (count seed : ℕ) → All KeepsHeadline (drawn_runs count seed)
+unfolding drawn_runs
+drawn_keep_headline accepted zero x = All-nil KeepsHeadline
+drawn_keep_headline accepted (suc count) x =
+    let run = run_drawn (drawn_run x) in
+    All-cons KeepsHeadline run (drawn_runs count (state_after x))
+    (headline run (record { accepted = accepted; drive = (drawn_proper x).within }))
+    (drawn_keep_headline accepted count (state_after x))
