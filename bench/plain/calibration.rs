@@ -1,0 +1,242 @@
+//! The rules of levels 2 and 3 and of the engine, and the numbers that they go by.
+
+/// Strictly rising points, with a value at each.
+pub struct Table {
+    points: Vec<u16>,
+    values: Vec<u16>,
+}
+
+/// Torques by pedal (rows) and speed (columns).
+pub struct Permit {
+    pedal: Vec<u16>,
+    speed: Vec<u16>,
+    rows: Vec<Vec<u16>>,
+}
+
+#[derive(Clone, Copy)]
+pub struct Weights {
+    up: u16,
+    down: u16,
+    pub limit: u16,
+}
+
+/// The eight tracks, the raise and its check word.
+#[derive(Clone, Copy)]
+pub struct Readings {
+    pub pedal: [u16; 2],
+    pub plate: [u16; 2],
+    pub load: [u16; 2],
+    pub speed: [u16; 2],
+    pub raise: u16,
+    pub check: u16,
+}
+
+/// A test row, and the answer to it.
+pub struct Question {
+    pub seed: u16,
+    pub readings: Readings,
+    pub used: u16,
+    pub estimate: u16,
+    pub allowed: u16,
+    pub answer: u16,
+}
+
+/// When answers are asked for, heard and sent, in ticks.
+pub struct Times {
+    pub period: u32,
+    pub first: u32,
+    pub last: u32,
+    pub send: u32,
+    pub weights: Weights,
+}
+
+pub struct Calibration {
+    pub permit: Permit,
+    pub threshold: u16,
+    pub kt: u16,
+    pub torque: Weights,
+    /// Of pedal, plate, load and speed.
+    pub tolerances: [u16; 4],
+    pub pairs: Weights,
+    pub slew: u16,
+    pub fill: u16,
+    pub charge: Table,
+    pub times: Times,
+    pub questions: Vec<Question>,
+}
+
+/// A row of a trace.
+#[derive(Clone, Copy)]
+pub struct Drive {
+    pub pedal: u16,
+    pub speed: u16,
+    pub raise: u16,
+}
+
+fn question(seed: u16, pairs: [[u16; 2]; 4], raise: [u16; 2], test: [u16; 3], answer: u16) -> Question {
+    let [pedal, plate, load, speed] = pairs;
+    let readings = Readings { pedal, plate, load, speed, raise: raise[0], check: raise[1] };
+    Question { seed, readings, used: test[0], estimate: test[1], allowed: test[2], answer }
+}
+
+fn questions() -> Vec<Question> {
+    let pairs = [
+        [[500, 500], [200, 800], [300, 300], [800, 800]],
+        [[1000, 0], [0, 1000], [40, 120], [3000, 3000]],
+        [[250, 700], [100, 960], [500, 490], [1900, 1900]],
+        [[1000, 200], [1000, 0], [0, 0], [800, 6000]],
+    ];
+    vec![
+        question(4660, pairs[0], [0, 65535], [500, 1400, 1000], 8842),
+        question(42435, pairs[1], [0, 65535], [1000, 400, 200], 55753),
+        question(3855, pairs[2], [600, 64935], [0, 65535, 65334], 44807),
+        question(32769, pairs[3], [300, 300], [750, 0, 0], 19505),
+    ]
+}
+
+/// The reference calibration.
+pub fn reference() -> Calibration {
+    Calibration {
+        permit: Permit {
+            pedal: vec![0, 500, 1000],
+            speed: vec![800, 3000, 6000],
+            rows: vec![vec![200, 100, 0], vec![1000, 1200, 900], vec![2000, 2400, 1800]],
+        },
+        threshold: 200,
+        kt: 2500,
+        torque: Weights { up: 1, down: 1, limit: 5 },
+        tolerances: [50; 4],
+        pairs: Weights { up: 2, down: 1, limit: 10 },
+        slew: 50,
+        fill: 40,
+        charge: Table { points: vec![0, 200, 1000], values: vec![40, 300, 1000] },
+        times: Times {
+            period: 10,
+            first: 4,
+            last: 7,
+            send: 5,
+            weights: Weights { up: 3, down: 1, limit: 9 },
+        },
+        questions: questions(),
+    }
+}
+
+impl Times {
+    /// The reaction time.
+    pub fn reaction(&self) -> u32 {
+        let confirm = u32::from(self.weights.limit).div_ceil(u32::from(self.weights.up));
+        (confirm + 1) * self.period - self.send - 1
+    }
+}
+
+/// The place of an axis at which its interval of `x` ends; 0 where `x` isn't above the first point, and the
+/// count of points where it is above the last.
+#[inline(always)]
+fn place(points: &[u16], x: u16) -> usize {
+    let mut at = 0;
+    while at < points.len() && points[at] < x {
+        at += 1;
+    }
+    at
+}
+
+/// The value at `x` on the interval that ends at a place.
+#[inline(always)]
+fn between(points: &[u16], at: usize, x: u16, value: impl Fn(usize) -> u16) -> u16 {
+    if at == 0 {
+        return value(0);
+    }
+    if at == points.len() {
+        return value(at - 1);
+    }
+    let [x0, x1, x] = [points[at - 1], points[at], x].map(u32::from);
+    let [y0, y1] = [value(at - 1), value(at)].map(u32::from);
+    ((y0 * (x1 - x) + y1 * (x - x0)) / (x1 - x0)) as u16
+}
+
+impl Table {
+    pub fn at(&self, x: u16) -> u16 {
+        between(&self.points, place(&self.points, x), x, |k| self.values[k])
+    }
+}
+
+impl Permit {
+    /// The torque at a pedal, its place, and a speed.
+    #[inline(always)]
+    fn at(&self, row: usize, pedal: u16, speed: u16) -> u16 {
+        let column = place(&self.speed, speed);
+        between(&self.pedal, row, pedal, |k| {
+            let values = &self.rows[k];
+            between(&self.speed, column, speed, |j| values[j])
+        })
+    }
+
+    /// The torque that a pedal and the lower of two speeds' values permit, or the raise.
+    pub fn permitted(&self, pedal: u16, speeds: [u16; 2], raise: u16) -> u16 {
+        let row = place(&self.pedal, pedal);
+        let first = self.at(row, pedal, speeds[0]);
+        let lower = if speeds[0] == speeds[1] { first } else { first.min(self.at(row, pedal, speeds[1])) };
+        lower.max(raise)
+    }
+
+    /// The torque that a drive row permits.
+    pub fn limit(&self, drive: &Drive) -> u16 {
+        self.at(place(&self.pedal, drive.pedal), drive.pedal, drive.speed).max(drive.raise)
+    }
+}
+
+pub fn moved_toward(from: u16, target: u16, reach: u16) -> u16 {
+    if from <= target {
+        from + (target - from).min(reach)
+    } else {
+        from - (from - target).min(reach)
+    }
+}
+
+pub fn estimate(load: u16, kt: u16) -> u16 {
+    (u32::from(load) * u32::from(kt)).div_ceil(1000).min(65535) as u16
+}
+
+pub fn exceeds(torque: u16, permitted: u16, threshold: u16) -> bool {
+    u32::from(torque) > u32::from(permitted) + u32::from(threshold)
+}
+
+impl Weights {
+    /// A counter after one feed. At the limit it stays.
+    #[inline(always)]
+    pub fn feed(&self, value: u16, bad: bool) -> u16 {
+        if value >= self.limit {
+            value
+        } else if bad {
+            (value + self.up).min(self.limit)
+        } else {
+            value.saturating_sub(self.down)
+        }
+    }
+}
+
+fn falling(reading: u16) -> u16 {
+    1000u16.saturating_sub(reading)
+}
+
+/// The lower of the two pedal values.
+pub fn lower_pedal(pedal: [u16; 2]) -> u16 {
+    pedal[0].min(falling(pedal[1]))
+}
+
+pub fn checked_raise(raise: u16, check: u16) -> u16 {
+    if raise == !check { raise } else { 0 }
+}
+
+fn disagree(first: u16, second: u16, tolerance: u16) -> u16 {
+    u16::from(first.abs_diff(second) > tolerance)
+}
+
+/// The bits of the pairs that disagree.
+#[inline(always)]
+pub fn pair_bits(read: &Readings, tolerances: &[u16; 4]) -> u16 {
+    disagree(read.pedal[0], falling(read.pedal[1]), tolerances[0])
+        | disagree(read.plate[0], falling(read.plate[1]), tolerances[1]) << 1
+        | disagree(read.load[0], read.load[1], tolerances[2]) << 2
+        | disagree(read.speed[0], read.speed[1], tolerances[3]) << 3
+}
