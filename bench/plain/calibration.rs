@@ -31,13 +31,20 @@ pub struct Readings {
     pub check: u16,
 }
 
-/// A test row, and the answer to it.
+/// A test row.
+struct TestRow {
+    seed: u16,
+    readings: Readings,
+    used: u16,
+    estimate: u16,
+    allowed: u16,
+}
+
+/// A question: the seed of its row, and what level 2 is to compute of the row. The results are those of modules
+/// 1 to 5, which are the same each time.
 pub struct Question {
     pub seed: u16,
-    pub readings: Readings,
-    pub used: u16,
-    pub estimate: u16,
-    pub allowed: u16,
+    pub results: [u16; 5],
     pub answer: u16,
 }
 
@@ -73,30 +80,30 @@ pub struct Drive {
     pub raise: u16,
 }
 
-fn question(seed: u16, pairs: [[u16; 2]; 4], raise: [u16; 2], test: [u16; 3], answer: u16) -> Question {
+fn row(seed: u16, pairs: [[u16; 2]; 4], raise: [u16; 2], test: [u16; 3]) -> TestRow {
     let [pedal, plate, load, speed] = pairs;
     let readings = Readings { pedal, plate, load, speed, raise: raise[0], check: raise[1] };
-    Question { seed, readings, used: test[0], estimate: test[1], allowed: test[2], answer }
+    TestRow { seed, readings, used: test[0], estimate: test[1], allowed: test[2] }
 }
 
-fn questions() -> Vec<Question> {
+fn rows() -> [TestRow; 4] {
     let pairs = [
         [[500, 500], [200, 800], [300, 300], [800, 800]],
         [[1000, 0], [0, 1000], [40, 120], [3000, 3000]],
         [[250, 700], [100, 960], [500, 490], [1900, 1900]],
         [[1000, 200], [1000, 0], [0, 0], [800, 6000]],
     ];
-    vec![
-        question(4660, pairs[0], [0, 65535], [500, 1400, 1000], 8842),
-        question(42435, pairs[1], [0, 65535], [1000, 400, 200], 55753),
-        question(3855, pairs[2], [600, 64935], [0, 65535, 65334], 44807),
-        question(32769, pairs[3], [300, 300], [750, 0, 0], 19505),
+    [
+        row(4660, pairs[0], [0, 65535], [500, 1400, 1000]),
+        row(42435, pairs[1], [0, 65535], [1000, 400, 200]),
+        row(3855, pairs[2], [600, 64935], [0, 65535, 65334]),
+        row(32769, pairs[3], [300, 300], [750, 0, 0]),
     ]
 }
 
 /// The reference calibration.
 pub fn reference() -> Calibration {
-    Calibration {
+    let mut calibration = Calibration {
         permit: Permit {
             pedal: vec![0, 500, 1000],
             speed: vec![800, 3000, 6000],
@@ -117,8 +124,33 @@ pub fn reference() -> Calibration {
             send: 5,
             weights: Weights { up: 3, down: 1, limit: 9 },
         },
-        questions: questions(),
+        questions: Vec::new(),
+    };
+    calibration.questions = rows().iter().map(|row| calibration.question(row)).collect();
+    calibration
+}
+
+impl Calibration {
+    /// The question that a test row is.
+    fn question(&self, row: &TestRow) -> Question {
+        let read = &row.readings;
+        let raise = checked_raise(read.raise, read.check);
+        let results = [
+            lower_pedal(read.pedal),
+            self.permit.permitted(row.used, read.speed, raise),
+            estimate(read.load[0].max(read.load[1]), self.kt),
+            u16::from(exceeds(row.estimate, row.allowed, self.threshold)),
+            pair_bits(read, &self.tolerances),
+        ];
+        let answer = results.iter().fold(row.seed, |sign, result| folded(sign, *result));
+        Question { seed: row.seed, results, answer }
     }
+}
+
+/// A fold with one result more.
+#[inline(always)]
+pub fn folded(sign: u16, result: u16) -> u16 {
+    sign.rotate_left(3) ^ result
 }
 
 impl Times {
@@ -174,23 +206,23 @@ impl Permit {
     /// The torque that a pedal and the lower of two speeds' values permit, or the raise.
     pub fn permitted(&self, pedal: u16, speeds: [u16; 2], raise: u16) -> u16 {
         let row = place(&self.pedal, pedal);
-        let first = self.at(row, pedal, speeds[0]);
-        let lower = if speeds[0] == speeds[1] { first } else { first.min(self.at(row, pedal, speeds[1])) };
-        lower.max(raise)
+        let [first, second] = speeds.map(|speed| self.at(row, pedal, speed));
+        first.min(second).max(raise)
+    }
+
+    /// What the table gives for a drive row.
+    pub fn table(&self, drive: &Drive) -> u16 {
+        self.at(place(&self.pedal, drive.pedal), drive.pedal, drive.speed)
     }
 
     /// The torque that a drive row permits.
     pub fn limit(&self, drive: &Drive) -> u16 {
-        self.at(place(&self.pedal, drive.pedal), drive.pedal, drive.speed).max(drive.raise)
+        self.table(drive).max(drive.raise)
     }
 }
 
 pub fn moved_toward(from: u16, target: u16, reach: u16) -> u16 {
-    if from <= target {
-        from + (target - from).min(reach)
-    } else {
-        from - (from - target).min(reach)
-    }
+    if from <= target { from + (target - from).min(reach) } else { from - (from - target).min(reach) }
 }
 
 pub fn estimate(load: u16, kt: u16) -> u16 {

@@ -128,7 +128,9 @@ impl Keys {
             "flip" => Class::Flip { word: self.place("word", 0..=31)?, mask: self.mask()? },
             "halt" => Class::Halt,
             "timing" => Class::Timing { offset: self.number("offset", 0..=99)? as u32 },
-            "wild" => Class::Wild { questions: self.words("questions")?, opens: self.entries("opens", truth)? },
+            "wild" => {
+                Class::Wild { questions: self.words("questions")?, opens: self.entries("opens", truth)? }
+            }
             "path1-closed" => Class::Path1Closed,
             "path2-closed" => Class::Path2Closed,
             "path-open" => Class::PathOpen { path: self.number("path", 1..=2)? as u32 },

@@ -19,9 +19,65 @@ pub enum State {
 }
 
 pub struct Machine {
-    registers: [u16; 8],
-    pc: u16,
+    code: [Instruction; CODE],
+    /// The first eight are there; as many as a byte can name, so that no place needs a test.
+    registers: [u16; 256],
+    pc: usize,
     pub state: State,
+}
+
+const CODE: usize = 1024;
+
+/// An instruction, as it was decoded when the run began: no code changes in a run.
+#[derive(Clone, Copy)]
+enum Instruction {
+    Nothing,
+    Set { a: u8, number: u16 },
+    Extend { a: u8, number: u16 },
+    Move { a: u8, b: u8 },
+    Add { a: u8, b: u8, c: u8 },
+    Subtract { a: u8, b: u8, c: u8 },
+    And { a: u8, b: u8, c: u8 },
+    Or { a: u8, b: u8, c: u8 },
+    ExclusiveOr { a: u8, b: u8, c: u8 },
+    ShiftRight { a: u8, b: u8, count: u16 },
+    Multiply { a: u8, b: u8, c: u8 },
+    Load { a: u8, b: u8, number: u16 },
+    Store { a: u8, b: u8, number: u16 },
+    JumpZero { a: u8, target: u16 },
+    JumpLess { a: u8, b: u8, target: u16 },
+    Wait,
+    Jump { a: u8 },
+    Illegal,
+}
+
+/// The instruction of a word, whose next one stands at an address.
+fn decode(word: u16, next: u16) -> Instruction {
+    use Instruction::*;
+    let [a, b, c] = [9, 6, 3].map(|place| (word >> place & 7) as u8);
+    let number = word & 63;
+    match word >> 12 {
+        0 => Nothing,
+        1 => Set { a, number: word & 511 },
+        2 => Extend { a, number: word & 127 },
+        3 => Move { a, b },
+        4 => Add { a, b, c },
+        5 => Subtract { a, b, c },
+        6 => And { a, b, c },
+        7 => Or { a, b, c },
+        8 => ExclusiveOr { a, b, c },
+        9 => ShiftRight { a, b, count: word & 15 },
+        10 => Multiply { a, b, c },
+        11 => Load { a, b, number },
+        12 => Store { a, b, number },
+        13 => JumpZero { a, target: next.wrapping_add_signed((word << 7) as i16 >> 7) },
+        14 => JumpLess { a, b, target: next.wrapping_add_signed((word << 10) as i16 >> 10) },
+        _ => match word & 511 {
+            0 => Wait,
+            1 => Jump { a },
+            _ => Illegal,
+        },
+    }
 }
 
 #[inline(always)]
@@ -34,40 +90,13 @@ fn may_store(at: u16) -> bool {
     (1024..2048).contains(&at) || (2064..=2065).contains(&at)
 }
 
-// The fields of an instruction, taken where they are needed.
-#[inline(always)]
-fn a(word: u16) -> usize {
-    usize::from(word >> 9 & 7)
-}
-
-#[inline(always)]
-fn b(word: u16) -> usize {
-    usize::from(word >> 6 & 7)
-}
-
-#[inline(always)]
-fn c(word: u16) -> usize {
-    usize::from(word >> 3 & 7)
-}
-
-#[inline(always)]
-fn n9(word: u16) -> u16 {
-    word & 511
-}
-
-#[inline(always)]
-fn s9(word: u16) -> i16 {
-    ((word << 7) as i16) >> 7
-}
-
-#[inline(always)]
-fn s6(word: u16) -> i16 {
-    ((word << 10) as i16) >> 10
-}
-
 impl Machine {
-    pub fn new() -> Machine {
-        Machine { registers: [0; 8], pc: 0, state: State::Running }
+    pub fn new(image: &[u16]) -> Machine {
+        let mut code = [Instruction::Nothing; CODE];
+        for ((place, next), word) in code.iter_mut().zip(1..).zip(image) {
+            *place = decode(*word, next);
+        }
+        Machine { code, registers: [0; 256], pc: 0, state: State::Running }
     }
 
     /// Wakes a machine that waits, and does at most so many instructions.
@@ -78,15 +107,14 @@ impl Machine {
         self.state = State::Running;
         let mut pc = self.pc;
         for _ in 0..budget {
-            if pc >= 1024 {
+            let Some(instruction) = self.code.get(pc) else {
                 self.state = State::Trapped(Trap::Fetch);
                 break;
-            }
-            let word = words[usize::from(pc)];
-            match step(&mut self.registers, words, word, pc + 1) {
+            };
+            match step(&mut self.registers, words, instruction, pc + 1) {
                 Ok(next) => pc = next,
                 Err(state) => {
-                    pc += u16::from(state == State::Waiting);
+                    pc += usize::from(state == State::Waiting);
                     self.state = state;
                     break;
                 }
@@ -98,28 +126,37 @@ impl Machine {
 
 /// One instruction: where the next one stands, or the state that ends the slice.
 #[inline(always)]
-fn step(r: &mut [u16; 8], words: &mut Words, word: u16, next: u16) -> Result<u16, State> {
-    match word >> 12 {
-        0 => {}
-        1 => r[a(word)] = n9(word),
-        2 => r[a(word)] = (r[a(word)] << 7).wrapping_add(word & 127),
-        3 => r[a(word)] = r[b(word)],
-        4 => r[a(word)] = r[b(word)].wrapping_add(r[c(word)]),
-        5 => r[a(word)] = r[b(word)].wrapping_sub(r[c(word)]),
-        6 => r[a(word)] = r[b(word)] & r[c(word)],
-        7 => r[a(word)] = r[b(word)] | r[c(word)],
-        8 => r[a(word)] = r[b(word)] ^ r[c(word)],
-        9 => r[a(word)] = r[b(word)] >> (word & 15),
-        10 => r[a(word)] = r[b(word)].wrapping_mul(r[c(word)]),
-        11 => r[a(word)] = load(words, r[b(word)].wrapping_add(word & 63))?,
-        12 => store(words, r[b(word)].wrapping_add(word & 63), r[a(word)])?,
-        13 if r[a(word)] == 0 => return Ok(next.wrapping_add_signed(s9(word))),
-        14 if r[a(word)] < r[b(word)] => return Ok(next.wrapping_add_signed(s6(word))),
-        13 | 14 => {}
-        _ if n9(word) == 0 => return Err(State::Waiting),
-        _ if n9(word) == 1 => return Ok(r[a(word)]),
-        _ => return Err(State::Trapped(Trap::Illegal)),
-    }
+fn step(
+    registers: &mut [u16; 256],
+    words: &mut Words,
+    instruction: &Instruction,
+    next: usize,
+) -> Result<usize, State> {
+    let r = |register: u8| registers[usize::from(register)];
+    let (a, value) = match *instruction {
+        Instruction::Nothing => return Ok(next),
+        Instruction::Set { a, number } => (a, number),
+        Instruction::Extend { a, number } => (a, (r(a) << 7).wrapping_add(number)),
+        Instruction::Move { a, b } => (a, r(b)),
+        Instruction::Add { a, b, c } => (a, r(b).wrapping_add(r(c))),
+        Instruction::Subtract { a, b, c } => (a, r(b).wrapping_sub(r(c))),
+        Instruction::And { a, b, c } => (a, r(b) & r(c)),
+        Instruction::Or { a, b, c } => (a, r(b) | r(c)),
+        Instruction::ExclusiveOr { a, b, c } => (a, r(b) ^ r(c)),
+        Instruction::ShiftRight { a, b, count } => (a, r(b) >> count),
+        Instruction::Multiply { a, b, c } => (a, r(b).wrapping_mul(r(c))),
+        Instruction::Load { a, b, number } => (a, load(words, r(b).wrapping_add(number))?),
+        Instruction::Store { a, b, number } => {
+            store(words, r(b).wrapping_add(number), r(a))?;
+            return Ok(next);
+        }
+        Instruction::JumpZero { a, target } => return Ok(if r(a) == 0 { target.into() } else { next }),
+        Instruction::JumpLess { a, b, target } => return Ok(if r(a) < r(b) { target.into() } else { next }),
+        Instruction::Wait => return Err(State::Waiting),
+        Instruction::Jump { a } => return Ok(r(a).into()),
+        Instruction::Illegal => return Err(State::Trapped(Trap::Illegal)),
+    };
+    registers[usize::from(a)] = value;
     Ok(next)
 }
 

@@ -1,7 +1,7 @@
 //! Level 2: eight modules over mirrored words.
 
 use crate::calibration::{
-    Calibration, Question, Readings, checked_raise, estimate, exceeds, lower_pedal, pair_bits,
+    Calibration, Drive, Question, Readings, checked_raise, estimate, exceeds, folded, lower_pedal, pair_bits,
 };
 use crate::level1::Words;
 
@@ -81,7 +81,7 @@ pub fn flip(words: &mut Words, word: usize, mask: u16) {
 }
 
 #[inline(always)]
-fn next_token(token: u16, module: u16) -> u16 {
+fn next_token(token: u16, module: usize) -> u16 {
     if token == (1 << module) - 1 { (2 << module) - 1 } else { BROKEN }
 }
 
@@ -94,6 +94,9 @@ fn pair(words: &Words, number: usize) -> [u16; 2] {
 pub struct Rules<'a> {
     pub cal: &'a Calibration,
     pub asked: &'a Question,
+    pub drive: &'a Drive,
+    /// What the permit table gives for the drive row: mostly that is asked for again.
+    pub table: u16,
 }
 
 impl Rules<'_> {
@@ -112,38 +115,42 @@ impl Rules<'_> {
         false
     }
 
+    /// Writes the signal of module 1 to 5, and folds the result of the test row.
+    #[inline(always)]
+    fn write(&self, words: &mut Words, module: usize, signal: u16, disturbance: u16) {
+        let value = if words[TRIP] != 0 { 0 } else { signal ^ disturbance };
+        let result = self.asked.results[module - 1] ^ disturbance;
+        keep(words, SIGNALS + module - 1, value);
+        keep(words, TOKEN, next_token(words[TOKEN], module));
+        keep(words, SIGN, folded(words[SIGN], result));
+    }
+
     #[inline(always)]
     pub fn pedal(&self, words: &mut Words, disturbance: u16) {
         let signal = if words[LIMP] != 0 { 0 } else { lower_pedal(pair(words, 0)) };
-        let test = lower_pedal(self.asked.readings.pedal);
-        write(words, 1, signal, test, disturbance);
+        self.write(words, 1, signal, disturbance);
     }
 
     #[inline(always)]
     pub fn permitted(&self, words: &mut Words, disturbance: u16) {
-        let permit = &self.cal.permit;
+        let (pedal, speeds) = (words[USED], pair(words, 6));
         let raise = checked_raise(words[PORTS + 8], words[PORTS + 9]);
-        let signal = permit.permitted(words[USED], pair(words, 6), raise);
-        let row = &self.asked.readings;
-        let test = permit.permitted(self.asked.used, row.speed, checked_raise(row.raise, row.check));
-        write(words, 2, signal, test, disturbance);
+        let is_known = pedal == self.drive.pedal && speeds == [self.drive.speed; 2];
+        let signal =
+            if is_known { self.table.max(raise) } else { self.cal.permit.permitted(pedal, speeds, raise) };
+        self.write(words, 2, signal, disturbance);
     }
 
     #[inline(always)]
     pub fn actual(&self, words: &mut Words, disturbance: u16) {
-        let kt = self.cal.kt;
         let [first, second] = pair(words, 4);
-        let test = self.asked.readings.load;
-        let signal = estimate(first.max(second), kt);
-        write(words, 3, signal, estimate(test[0].max(test[1]), kt), disturbance);
+        self.write(words, 3, estimate(first.max(second), self.cal.kt), disturbance);
     }
 
     #[inline(always)]
     pub fn excess(&self, words: &mut Words, disturbance: u16) {
-        let threshold = self.cal.threshold;
-        let signal = exceeds(words[ACTUAL], words[PERMITTED], threshold);
-        let test = exceeds(self.asked.estimate, self.asked.allowed, threshold);
-        write(words, 4, u16::from(signal), u16::from(test), disturbance);
+        let signal = exceeds(words[ACTUAL], words[PERMITTED], self.cal.threshold);
+        self.write(words, 4, u16::from(signal), disturbance);
     }
 
     #[inline(always)]
@@ -156,9 +163,7 @@ impl Rules<'_> {
             raise: 0,
             check: 0,
         };
-        let tolerances = &self.cal.tolerances;
-        let test = pair_bits(&self.asked.readings, tolerances);
-        write(words, 5, pair_bits(&read, tolerances), test, disturbance);
+        self.write(words, 5, pair_bits(&read, &self.cal.tolerances), disturbance);
     }
 
     /// Module 6. Answers what is found.
@@ -194,15 +199,6 @@ fn give_up(words: &mut Words, tick: u16) {
     keep(words, TOKEN, 1);
     keep(words, FLOW, WHOLE | BROKEN);
     keep(words, LAST, tick);
-}
-
-/// Writes a signal of module 1 to 5, and folds the result of the test row.
-#[inline(always)]
-fn write(words: &mut Words, module: u16, signal: u16, test: u16, disturbance: u16) {
-    let value = if words[TRIP] != 0 { 0 } else { signal ^ disturbance };
-    keep(words, SIGNALS + usize::from(module) - 1, value);
-    keep(words, TOKEN, next_token(words[TOKEN], module));
-    keep(words, SIGN, words[SIGN].rotate_left(3) ^ test ^ disturbance);
 }
 
 /// Module 7. Answers whether path 1 is ordered open, and the answer.

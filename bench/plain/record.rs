@@ -32,15 +32,9 @@ impl Line {
     /// A number of at most five digits, and a comma.
     #[inline(always)]
     fn number(&mut self, number: u32) {
-        let more = [10, 100, 1000, 10000].map(|power| usize::from(number >= power));
-        let digits = 1 + more[0] + more[1] + more[2] + more[3];
-        let place = &mut self.bytes[self.length..self.length + 6];
-        let mut rest = number;
-        for at in (0..digits).rev() {
-            place[at] = b'0' + (rest % 10) as u8;
-            rest /= 10;
-        }
-        place[digits] = b',';
+        let (text, digits) = if number < 10 { (u64::from(number) + 0x30, 1) } else { digits(number) };
+        let comma = u64::from(b',') << (8 * digits);
+        self.bytes[self.length..self.length + 8].copy_from_slice(&(text | comma).to_le_bytes());
         self.length += digits + 1;
     }
 
@@ -93,6 +87,21 @@ impl Line {
         });
         &self.bytes[..self.length]
     }
+}
+
+/// The digits of a number below 10^7, one a byte, the first one lowest, and their count. All are found together:
+/// the number is cut into fours, pairs and single digits, side by side.
+#[inline(always)]
+fn digits(number: u32) -> (u64, usize) {
+    let fours = u64::from(number / 10_000) | u64::from(number % 10_000) << 32;
+    // For numbers below 10,000, and below 100, these are their quotients by 100 and by 10.
+    let hundreds = ((fours * 5243) >> 19) & 0x0000_007f_0000_007f;
+    let pairs = hundreds | (fours - 100 * hundreds) << 16;
+    let tens = ((pairs * 103) >> 10) & 0x000f_000f_000f_000f;
+    let ones = tens | (pairs - 10 * tens) << 8;
+    // Leading zeros; of 0 itself the last digit stays.
+    let zeros = (ones | 1 << 63).trailing_zeros() as usize / 8;
+    ((ones | 0x3030_3030_3030_3030) >> (8 * zeros), 8 - zeros)
 }
 
 /// The watches that are found in a row, in their order.

@@ -56,7 +56,8 @@ impl Summary {
 
     /// The line of the run, with its line feed.
     pub fn line(&self, name: &str, cal: &Calibration) -> String {
-        let first = self.first.map_or("none".to_string(), |(watch, tick)| format!("{} at {tick}", WATCHES[watch]));
+        let first =
+            self.first.map_or("none".to_string(), |(watch, tick)| format!("{} at {tick}", WATCHES[watch]));
         format!(
             "{name}: first {first}; off {}; trap {}; excess {}; bound {}\n",
             at(self.off, "never"),

@@ -24,7 +24,7 @@ pub struct Drawn {
 
 impl Draws {
     fn draw(&mut self) -> u32 {
-        self.state = self.state.wrapping_mul(1664525).wrapping_add(1013904223);
+        self.state = self.state.wrapping_mul(1_664_525).wrapping_add(1_013_904_223);
         self.state >> 16
     }
 

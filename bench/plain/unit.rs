@@ -92,7 +92,7 @@ impl<'a> Unit<'a> {
         Unit {
             cal,
             words,
-            machine: Machine::new(),
+            machine: Machine::new(image),
             engine: Engine { plate: 0, charge: cal.charge.at(0), torque: 0 },
             monitor: Monitor::default(),
             ticks: 0,
@@ -114,7 +114,9 @@ impl<'a> Unit<'a> {
         self.engine.step(self.cal, commands, on, effects.held);
         self.words[PORTS..PORTS + 10].copy_from_slice(&self.engine.ports(drive, effects));
         let asked = self.asked(effects);
-        let orders = self.levels(budget, asked, effects);
+        let table = self.cal.permit.table(drive);
+        let rules = Rules { cal: self.cal, asked, drive, table };
+        let orders = self.levels(budget, &rules, effects);
         self.open1 |= orders.opens;
         let mark = level3::mark(asked, orders.answer);
         let judged = self.judge(mark, effects);
@@ -124,7 +126,7 @@ impl<'a> Unit<'a> {
         }
         let mut found = orders.found;
         found[6] = judged.found;
-        let row = self.row(drive, [path1, path2, on], found, &judged);
+        let row = self.row(drive, table.max(drive.raise), [path1, path2, on], found, &judged);
         self.advance();
         row
     }
@@ -150,9 +152,8 @@ impl<'a> Unit<'a> {
 
     /// Nine slices of level 1, and the eight modules of level 2 between them.
     #[inline(always)]
-    fn levels(&mut self, budget: &[u16; 9], asked: &Question, effects: &Effects) -> Orders {
+    fn levels(&mut self, budget: &[u16; 9], rules: &Rules, effects: &Effects) -> Orders {
         let send = self.phase == effects.send.unwrap_or(self.cal.times.send);
-        let rules = Rules { cal: self.cal, asked };
         let mut orders = Orders { found: [false; 7], opens: false, answer: None };
         let mut mirror = false;
         for module in 0..8 {
@@ -190,7 +191,7 @@ impl<'a> Unit<'a> {
 
     /// The row; the paths are path 1, path 2 and both.
     #[inline(always)]
-    fn row(&self, drive: &Drive, paths: [bool; 3], found: Watches, judged: &Judgement) -> Row {
+    fn row(&self, drive: &Drive, limit: u16, paths: [bool; 3], found: Watches, judged: &Judgement) -> Row {
         let words = &self.words;
         let mut signals = [0; 5];
         signals.copy_from_slice(&words[SIGNALS..SIGNALS + 5]);
@@ -200,7 +201,7 @@ impl<'a> Unit<'a> {
             plate: self.engine.plate,
             charge: self.engine.charge,
             torque: self.engine.torque,
-            limit: self.cal.permit.limit(drive),
+            limit,
             path1: paths[0],
             path2: paths[1],
             on: paths[2],
