@@ -166,10 +166,9 @@ impl Rules<'_> {
         self.write(words, 5, pair_bits(&read, &self.cal.tolerances), disturbance);
     }
 
-    /// Module 6. Answers what is found.
+    /// Module 6. Marks what is found.
     #[inline(always)]
-    pub fn debounce(&self, words: &mut Words) -> Watches {
-        let mut found = [false; 7];
+    pub fn debounce(&self, words: &mut Words, found: &mut Watches) {
         if words[TRIP] == 0 {
             let bits = words[PAIRS] & 15 | (words[EXCESS] & 1) << 4;
             for k in 0..5 {
@@ -187,7 +186,6 @@ impl Rules<'_> {
             }
         }
         keep(words, TOKEN, next_token(words[TOKEN], 6));
-        found
     }
 }
 

@@ -116,7 +116,7 @@ impl<'a> Unit<'a> {
         let asked = self.asked(effects);
         let table = self.cal.permit.table(drive);
         let rules = Rules { cal: self.cal, asked, drive, table };
-        let orders = self.levels(budget, &rules, effects);
+        let mut orders = self.levels(budget, &rules, effects);
         self.open1 |= orders.opens;
         let mark = level3::mark(asked, orders.answer);
         let judged = self.judge(mark, effects);
@@ -124,9 +124,8 @@ impl<'a> Unit<'a> {
         if let (None, State::Trapped(kind)) = (self.trap, self.machine.state) {
             self.trap = Some((kind, self.ticks));
         }
-        let mut found = orders.found;
-        found[6] = judged.found;
-        let row = self.row(drive, table.max(drive.raise), [path1, path2, on], found, &judged);
+        orders.found[6] = judged.found;
+        let row = self.row(drive, table.max(drive.raise), [path1, path2, on], orders.found, &judged);
         self.advance();
         row
     }
@@ -153,32 +152,18 @@ impl<'a> Unit<'a> {
     /// Nine slices of level 1, and the eight modules of level 2 between them.
     #[inline(always)]
     fn levels(&mut self, budget: &[u16; 9], rules: &Rules, effects: &Effects) -> Orders {
-        let send = self.phase == effects.send.unwrap_or(self.cal.times.send);
         let mut orders = Orders { found: [false; 7], opens: false, answer: None };
-        let mut mirror = false;
-        for module in 0..8 {
-            self.slice(budget[module], effects);
-            let words = &mut self.words;
-            let disturbance = effects.disturbances[module];
+        let [before @ .., after] = budget;
+        for (module, steps) in before.iter().enumerate() {
+            self.slice(*steps, effects);
             if let (0, Some((word, mask))) = (module, effects.flip) {
-                level2::flip(words, word, mask);
+                level2::flip(&mut self.words, word, mask);
             }
-            if !effects.modules_run[module] {
-                continue;
-            }
-            match module {
-                0 => mirror = rules.check(words, self.ticks as u16),
-                1 => rules.pedal(words, disturbance),
-                2 => rules.permitted(words, disturbance),
-                3 => rules.actual(words, disturbance),
-                4 => rules.excess(words, disturbance),
-                5 => rules.pairs(words, disturbance),
-                6 => orders.found = rules.debounce(words),
-                _ => (orders.opens, orders.answer) = level2::react(words, send),
+            if effects.modules_run[module] {
+                self.module(module, rules, effects, &mut orders);
             }
         }
-        self.slice(budget[8], effects);
-        orders.found[0] = mirror;
+        self.slice(*after, effects);
         orders
     }
 
@@ -186,6 +171,26 @@ impl<'a> Unit<'a> {
     fn slice(&mut self, budget: u16, effects: &Effects) {
         if effects.level1_runs {
             self.machine.slice(&mut self.words, budget);
+        }
+    }
+
+    /// One module of level 2.
+    #[inline(always)]
+    fn module(&mut self, module: usize, rules: &Rules, effects: &Effects, orders: &mut Orders) {
+        let words = &mut self.words;
+        let disturbance = effects.disturbances[module];
+        match module {
+            0 => orders.found[0] = rules.check(words, self.ticks as u16),
+            1 => rules.pedal(words, disturbance),
+            2 => rules.permitted(words, disturbance),
+            3 => rules.actual(words, disturbance),
+            4 => rules.excess(words, disturbance),
+            5 => rules.pairs(words, disturbance),
+            6 => rules.debounce(words, &mut orders.found),
+            _ => {
+                let send = self.phase == effects.send.unwrap_or(self.cal.times.send);
+                (orders.opens, orders.answer) = level2::react(words, send);
+            }
         }
     }
 
