@@ -153,17 +153,18 @@ impl<'a> Unit<'a> {
     #[inline(always)]
     fn levels(&mut self, budget: &[u16; 9], rules: &Rules, effects: &Effects) -> Orders {
         let mut orders = Orders { found: [false; 7], opens: false, answer: None };
-        let [before @ .., after] = budget;
-        for (module, steps) in before.iter().enumerate() {
-            self.slice(*steps, effects);
-            if let (0, Some((word, mask))) = (module, effects.flip) {
-                level2::flip(&mut self.words, word, mask);
-            }
-            if effects.modules_run[module] {
-                self.module(module, rules, effects, &mut orders);
-            }
+        self.slice(budget[0], effects);
+        if let Some((word, mask)) = effects.flip {
+            level2::flip(&mut self.words, word, mask);
         }
-        self.slice(*after, effects);
+        self.module::<0>(budget, rules, effects, &mut orders);
+        self.module::<1>(budget, rules, effects, &mut orders);
+        self.module::<2>(budget, rules, effects, &mut orders);
+        self.module::<3>(budget, rules, effects, &mut orders);
+        self.module::<4>(budget, rules, effects, &mut orders);
+        self.module::<5>(budget, rules, effects, &mut orders);
+        self.module::<6>(budget, rules, effects, &mut orders);
+        self.module::<7>(budget, rules, effects, &mut orders);
         orders
     }
 
@@ -174,24 +175,33 @@ impl<'a> Unit<'a> {
         }
     }
 
-    /// One module of level 2.
+    /// One module of level 2, and the slice of level 1 after it.
     #[inline(always)]
-    fn module(&mut self, module: usize, rules: &Rules, effects: &Effects, orders: &mut Orders) {
-        let words = &mut self.words;
-        let disturbance = effects.disturbances[module];
-        match module {
-            0 => orders.found[0] = rules.check(words, self.ticks as u16),
-            1 => rules.pedal(words, disturbance),
-            2 => rules.permitted(words, disturbance),
-            3 => rules.actual(words, disturbance),
-            4 => rules.excess(words, disturbance),
-            5 => rules.pairs(words, disturbance),
-            6 => rules.debounce(words, &mut orders.found),
-            _ => {
-                let send = self.phase == effects.send.unwrap_or(self.cal.times.send);
-                (orders.opens, orders.answer) = level2::react(words, send);
+    fn module<const MODULE: usize>(
+        &mut self,
+        budget: &[u16; 9],
+        rules: &Rules,
+        effects: &Effects,
+        orders: &mut Orders,
+    ) {
+        if effects.modules_run[MODULE] {
+            let words = &mut self.words;
+            let disturbance = effects.disturbances[MODULE];
+            match MODULE {
+                0 => orders.found[0] = rules.check(words, self.ticks as u16),
+                1 => rules.pedal(words, disturbance),
+                2 => rules.permitted(words, disturbance),
+                3 => rules.actual(words, disturbance),
+                4 => rules.excess(words, disturbance),
+                5 => rules.pairs(words, disturbance),
+                6 => rules.debounce(words, &mut orders.found),
+                _ => {
+                    let send = self.phase == effects.send.unwrap_or(self.cal.times.send);
+                    (orders.opens, orders.answer) = level2::react(words, send);
+                }
             }
         }
+        self.slice(budget[MODULE + 1], effects);
     }
 
     /// The row; the paths are path 1, path 2 and both.
