@@ -6,12 +6,14 @@ pub struct Table {
     values: Vec<u16>,
 }
 
-/// Torques by pedal (rows) and speed (columns).
+/// Torques by pedal (rows) and speed (columns), with zeros behind those that are there.
 pub struct Permit {
     pedal: Vec<u16>,
     speed: Vec<u16>,
-    rows: Vec<Vec<u16>>,
+    rows: [[u16; MOST_POINTS]; MOST_POINTS],
 }
+
+const MOST_POINTS: usize = 16;
 
 #[derive(Clone, Copy)]
 pub struct Weights {
@@ -101,13 +103,21 @@ fn rows() -> [TestRow; 4] {
     ]
 }
 
+fn torques<const COLUMNS: usize>(rows: &[[u16; COLUMNS]]) -> [[u16; MOST_POINTS]; MOST_POINTS] {
+    let mut all = [[0; MOST_POINTS]; MOST_POINTS];
+    for (place, row) in all.iter_mut().zip(rows) {
+        place[..COLUMNS].copy_from_slice(row);
+    }
+    all
+}
+
 /// The reference calibration.
 pub fn reference() -> Calibration {
     let mut calibration = Calibration {
         permit: Permit {
             pedal: vec![0, 500, 1000],
             speed: vec![800, 3000, 6000],
-            rows: vec![vec![200, 100, 0], vec![1000, 1200, 900], vec![2000, 2400, 1800]],
+            rows: torques(&[[200, 100, 0], [1000, 1200, 900], [2000, 2400, 1800]]),
         },
         threshold: 200,
         kt: 2500,
@@ -161,61 +171,73 @@ impl Times {
     }
 }
 
-/// The place of an axis at which its interval of `x` ends; 0 where `x` isn't above the first point, and the
-/// count of points where it is above the last.
-#[inline(always)]
-fn place(points: &[u16], x: u16) -> usize {
-    let mut at = 0;
-    while at < points.len() && points[at] < x {
-        at += 1;
-    }
-    at
+/// Where a number lies on an axis: between two points, with its distances from them, or at one of the ends.
+#[derive(Clone, Copy)]
+struct Spot {
+    low: usize,
+    high: usize,
+    above_low: u32,
+    below_high: u32,
 }
 
-/// The value at `x` on the interval that ends at a place.
-#[inline(always)]
-fn between(points: &[u16], at: usize, x: u16, value: impl Fn(usize) -> u16) -> u16 {
-    if at == 0 {
-        return value(0);
+impl Spot {
+    #[inline(always)]
+    fn of(points: &[u16], x: u16) -> Spot {
+        let mut high = 0;
+        while high < points.len() && points[high] < x {
+            high += 1;
+        }
+        if high == 0 || high == points.len() {
+            let end = high.saturating_sub(1);
+            return Spot { low: end, high: end, above_low: 0, below_high: 1 };
+        }
+        let low = high - 1;
+        Spot { low, high, above_low: u32::from(x - points[low]), below_high: u32::from(points[high] - x) }
     }
-    if at == points.len() {
-        return value(at - 1);
+
+    /// What lies there of two values.
+    #[inline(always)]
+    fn between(&self, low: u16, high: u16) -> u16 {
+        let sum = u32::from(low) * self.below_high + u32::from(high) * self.above_low;
+        (sum / (self.below_high + self.above_low)) as u16
     }
-    let [x0, x1, x] = [points[at - 1], points[at], x].map(u32::from);
-    let [y0, y1] = [value(at - 1), value(at)].map(u32::from);
-    ((y0 * (x1 - x) + y1 * (x - x0)) / (x1 - x0)) as u16
+
+    #[inline(always)]
+    fn of_values(&self, values: &[u16]) -> u16 {
+        self.between(values[self.low], values[self.high])
+    }
 }
 
 impl Table {
+    #[inline(always)]
     pub fn at(&self, x: u16) -> u16 {
-        between(&self.points, place(&self.points, x), x, |k| self.values[k])
+        Spot::of(&self.points, x).of_values(&self.values)
     }
 }
 
 impl Permit {
-    /// The torque at a pedal, its place, and a speed.
+    /// The torque at a pedal and a speed.
     #[inline(always)]
-    fn at(&self, row: usize, pedal: u16, speed: u16) -> u16 {
-        let column = place(&self.speed, speed);
-        between(&self.pedal, row, pedal, |k| {
-            let values = &self.rows[k];
-            between(&self.speed, column, speed, |j| values[j])
-        })
+    fn at(&self, pedal: Spot, speed: u16) -> u16 {
+        let speed = Spot::of(&self.speed, speed);
+        pedal.between(speed.of_values(&self.rows[pedal.low]), speed.of_values(&self.rows[pedal.high]))
     }
 
     /// The torque that a pedal and the lower of two speeds' values permit, or the raise.
     pub fn permitted(&self, pedal: u16, speeds: [u16; 2], raise: u16) -> u16 {
-        let row = place(&self.pedal, pedal);
-        let [first, second] = speeds.map(|speed| self.at(row, pedal, speed));
+        let pedal = Spot::of(&self.pedal, pedal);
+        let [first, second] = speeds.map(|speed| self.at(pedal, speed));
         first.min(second).max(raise)
     }
 
     /// What the table gives for a drive row.
+    #[inline(always)]
     pub fn table(&self, drive: &Drive) -> u16 {
-        self.at(place(&self.pedal, drive.pedal), drive.pedal, drive.speed)
+        self.at(Spot::of(&self.pedal, drive.pedal), drive.speed)
     }
 
     /// The torque that a drive row permits.
+    #[inline(always)]
     pub fn limit(&self, drive: &Drive) -> u16 {
         self.table(drive).max(drive.raise)
     }

@@ -18,8 +18,10 @@ mod toml;
 mod unit;
 
 use std::env;
+use std::fs::File;
 use std::hint::black_box;
-use std::io::{self, Write};
+use std::io::{self, BufWriter, Write};
+use std::os::fd::AsFd;
 use std::process::exit;
 
 use calibration::{Calibration, Drive, exceeds, reference};
@@ -35,8 +37,17 @@ pub enum End {
     Write = 5,
 }
 
+impl From<io::Error> for End {
+    /// Only writing asks for it.
+    fn from(_: io::Error) -> End {
+        End::Write
+    }
+}
+
+type Output = BufWriter<File>;
+
 /// The first tick by which the excess of a file's rows is confirmed.
-fn check(cal: &Calibration, file: &str) -> Result<Vec<u8>, End> {
+fn check(cal: &Calibration, file: &str, out: &mut Output) -> Result<(), End> {
     let (mut tick, mut counter, mut confirmed) = (0, 0, None);
     let bytes = files::bytes(file)?;
     let show = |drive: &Drive, torque| {
@@ -47,7 +58,11 @@ fn check(cal: &Calibration, file: &str) -> Result<Vec<u8>, End> {
         tick += 1;
     };
     files::check(&bytes, show).ok_or(End::Refused)?;
-    Ok(confirmed.map_or("none\n".to_string(), |tick| format!("torque {tick}\n")).into_bytes())
+    match confirmed {
+        None => writeln!(out, "none")?,
+        Some(tick) => writeln!(out, "torque {tick}")?,
+    }
+    Ok(())
 }
 
 fn campaign(file: &str) -> Result<Vec<Plan>, End> {
@@ -69,7 +84,7 @@ fn run_of<'a>(plan: &'a Plan, drives: &'a [Drive], image: &'a [u16]) -> Run<'a> 
 const MOST_TICKS: usize = 1_000_000;
 
 /// The report on the runs of a campaign.
-fn run(cal: &Calibration, file: &str) -> Result<Vec<u8>, End> {
+fn run(cal: &Calibration, file: &str, out: &mut Output) -> Result<(), End> {
     let plans = campaign(file)?;
     let mut text = String::new();
     let (mut ticks, mut detected, mut off) = (0, 0, 0);
@@ -85,20 +100,24 @@ fn run(cal: &Calibration, file: &str) -> Result<Vec<u8>, End> {
         off += u32::from(summary.off.is_some());
         text += &summary.line(&plan.name, cal);
     }
-    text += &format!("runs {}; detected {detected}; off {off}\n", plans.len());
-    Ok(text.into_bytes())
+    writeln!(out, "{text}runs {}; detected {detected}; off {off}", plans.len())?;
+    Ok(())
 }
 
 /// The record of a run of a campaign.
-fn record(cal: &Calibration, file: &str, name: &str) -> Result<Vec<u8>, End> {
+fn record(cal: &Calibration, file: &str, name: &str, out: &mut Output) -> Result<(), End> {
     let plans = campaign(file)?;
     let plan = plans.iter().find(|plan| plan.name == name).ok_or(End::Refused)?;
     let (drives, image) = (drives(plan)?, image(plan)?);
-    let mut text = Vec::with_capacity(record::HEADER.len() + 80 * drives.len());
-    text.extend_from_slice(record::HEADER.as_bytes());
+    out.write_all(record::HEADER.as_bytes())?;
     let mut line = record::Line::new();
-    play(cal, &run_of(plan, &drives, &image), |row| text.extend_from_slice(line.row(row)));
-    Ok(text)
+    let mut written = Ok(());
+    play(cal, &run_of(plan, &drives, &image), |row| {
+        if written.is_ok() {
+            written = out.write_all(line.row(row));
+        }
+    });
+    Ok(written?)
 }
 
 fn number(word: &str) -> Result<u32, End> {
@@ -106,32 +125,33 @@ fn number(word: &str) -> Result<u32, End> {
     if digits { word.parse().map_err(|_| End::Usage) } else { Err(End::Usage) }
 }
 
-fn soak(cal: &Calibration, seed: &str, runs: &str) -> Result<Vec<u8>, End> {
+fn soak(cal: &Calibration, seed: &str, runs: &str, out: &mut Output) -> Result<(), End> {
     let (seed, runs) = (number(seed)?, number(runs)?);
     if !(1..=500).contains(&runs) {
         return Err(End::Usage);
     }
-    Ok(soak::soak(cal, seed, runs).into_bytes())
+    Ok(out.write_all(soak::soak(cal, seed, runs).as_bytes())?)
 }
 
-/// What the command of these words writes.
-fn command(words: &[&str]) -> Result<Vec<u8>, End> {
+/// Does the command of these words.
+fn command(words: &[&str]) -> Result<(), End> {
     // The compiler is not to know the numbers of the calibration: the proved program takes any.
     let cal = black_box(reference());
+    let out = &mut BufWriter::with_capacity(1 << 16, File::from(io::stdout().as_fd().try_clone_to_owned()?));
     match *words {
-        ["check", file] => check(&cal, file),
-        ["run", file] => run(&cal, file),
-        ["record", file, name] => record(&cal, file, name),
-        ["soak", seed, runs] => soak(&cal, seed, runs),
+        ["check", file] => check(&cal, file, out),
+        ["run", file] => run(&cal, file, out),
+        ["record", file, name] => record(&cal, file, name, out),
+        ["soak", seed, runs] => soak(&cal, seed, runs, out),
         _ => Err(End::Usage),
-    }
+    }?;
+    Ok(out.flush()?)
 }
 
 fn main() {
     let words: Vec<String> = env::args().skip(1).collect();
     let words: Vec<&str> = words.iter().map(String::as_str).collect();
-    let written = command(&words).and_then(|text| io::stdout().write_all(&text).map_err(|_| End::Write));
-    if let Err(end) = written {
+    if let Err(end) = command(&words) {
         exit(end as i32);
     }
 }
