@@ -30,7 +30,7 @@ const COMPLEMENTS: usize = 2107;
 pub const WHOLE: u16 = 0x00ff;
 const BROKEN: u16 = 0x8000;
 
-/// The watches, in their order. That a list has a place for each.
+/// The watches, in their order; `Watches` has a place for each.
 pub const WATCHES: [&str; 7] = ["mirror", "pedal", "plate", "load", "speed", "torque", "answers"];
 pub type Watches = [bool; 7];
 
