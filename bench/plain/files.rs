@@ -4,6 +4,7 @@ use std::fs;
 
 use crate::End;
 use crate::calibration::Drive;
+use crate::quotes;
 
 const MOST_BYTES: usize = 4_194_304;
 const MOST_ROWS: usize = 20_000;
@@ -14,6 +15,15 @@ pub fn bytes(name: &str) -> Result<Vec<u8>, End> {
     if bytes.len() > MOST_BYTES { Err(End::Refused) } else { Ok(bytes) }
 }
 
+/// A file of records without its byte order mark and without the quotes around fields.
+pub fn records(name: &str) -> Result<Vec<u8>, End> {
+    let mut bytes = bytes(name)?;
+    if bytes.starts_with(b"\xef\xbb\xbf") {
+        bytes.drain(..3);
+    }
+    Ok(if bytes.contains(&b'"') { quotes::taken_off(&bytes) } else { bytes })
+}
+
 /// The rest of a file of records of numbers.
 struct Records<'a> {
     rest: &'a [u8],
@@ -21,9 +31,9 @@ struct Records<'a> {
 }
 
 impl<'a> Records<'a> {
-    /// The records below a header, which has a comma at its end in place of a line's end.
-    fn below(bytes: &'a [u8], header: &str) -> Option<Records<'a>> {
-        let mut records = Records { rest: bytes.strip_prefix(b"\xef\xbb\xbf").unwrap_or(bytes), rows: 0 };
+    /// The records below a header.
+    fn below(rest: &'a [u8], header: &str) -> Option<Records<'a>> {
+        let mut records = Records { rest, rows: 0 };
         records.skip_ends();
         records.rest = records.rest.strip_prefix(header.as_bytes())?;
         records.end()?;
@@ -59,9 +69,6 @@ impl<'a> Records<'a> {
     /// A field of one to five digits.
     #[inline(always)]
     fn number(&mut self, most: u32) -> Option<u16> {
-        if let [b'"', ..] = self.rest {
-            return self.quoted(most);
-        }
         let mut number = 0;
         let mut digits = 0;
         while let [digit @ b'0'..=b'9', rest @ ..] = self.rest {
@@ -73,15 +80,6 @@ impl<'a> Records<'a> {
             }
         }
         (digits > 0 && number <= most).then_some(number as u16)
-    }
-
-    /// Such a field in quotes.
-    #[cold]
-    fn quoted(&mut self, most: u32) -> Option<u16> {
-        self.rest = self.rest.strip_prefix(b"\"")?;
-        let number = self.number(most)?;
-        self.rest = self.rest.strip_prefix(b"\"")?;
-        Some(number)
     }
 
     #[inline(always)]

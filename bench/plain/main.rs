@@ -11,6 +11,7 @@ mod files;
 mod level1;
 mod level2;
 mod level3;
+mod quotes;
 mod record;
 mod report;
 mod soak;
@@ -49,7 +50,7 @@ type Output = BufWriter<File>;
 /// The first tick by which the excess of a file's rows is confirmed.
 fn check(cal: &Calibration, file: &str, out: &mut Output) -> Result<(), End> {
     let (mut tick, mut counter, mut confirmed) = (0, 0, None);
-    let bytes = files::bytes(file)?;
+    let bytes = files::records(file)?;
     let show = |drive: &Drive, torque| {
         counter = cal.torque.feed(counter, exceeds(torque, cal.permit.limit(drive), cal.threshold));
         if confirmed.is_none() && counter >= cal.torque.limit {
@@ -70,7 +71,7 @@ fn campaign(file: &str) -> Result<Vec<Plan>, End> {
 }
 
 fn drives(plan: &Plan) -> Result<Vec<Drive>, End> {
-    files::trace(&files::bytes(&plan.trace)?).ok_or(End::Refused)
+    files::trace(&files::records(&plan.trace)?).ok_or(End::Refused)
 }
 
 fn image(plan: &Plan) -> Result<Vec<u16>, End> {
