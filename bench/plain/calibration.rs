@@ -1,0 +1,296 @@
+//! The rules of levels 2 and 3 and of the engine, and the numbers that they go by.
+
+/// Strictly rising points, with a value at each.
+pub struct Table {
+    points: Vec<u16>,
+    values: Vec<u16>,
+}
+
+/// Torques by pedal (rows) and speed (columns), with zeros behind those that are there.
+pub struct Permit {
+    pedal: Vec<u16>,
+    speed: Vec<u16>,
+    rows: [[u16; MOST_POINTS]; MOST_POINTS],
+}
+
+const MOST_POINTS: usize = 16;
+
+#[derive(Clone, Copy)]
+pub struct Weights {
+    up: u16,
+    down: u16,
+    pub limit: u16,
+}
+
+/// The eight tracks, the raise and its check word.
+#[derive(Clone, Copy)]
+pub struct Readings {
+    pub pedal: [u16; 2],
+    pub plate: [u16; 2],
+    pub load: [u16; 2],
+    pub speed: [u16; 2],
+    pub raise: u16,
+    pub check: u16,
+}
+
+/// A test row.
+struct TestRow {
+    seed: u16,
+    readings: Readings,
+    used: u16,
+    estimate: u16,
+    allowed: u16,
+}
+
+/// A question: the seed of its row, and what level 2 is to compute of the row. The results are those of modules
+/// 1 to 5, which are the same each time.
+pub struct Question {
+    pub seed: u16,
+    pub results: [u16; 5],
+    pub answer: u16,
+}
+
+/// When answers are asked for, heard and sent, in ticks.
+pub struct Times {
+    pub period: u32,
+    pub first: u32,
+    pub last: u32,
+    pub send: u32,
+    pub weights: Weights,
+}
+
+pub struct Calibration {
+    pub permit: Permit,
+    pub threshold: u16,
+    pub kt: u16,
+    pub torque: Weights,
+    /// Of pedal, plate, load and speed.
+    pub tolerances: [u16; 4],
+    pub pairs: Weights,
+    pub slew: u16,
+    pub fill: u16,
+    pub charge: Table,
+    pub times: Times,
+    pub questions: Vec<Question>,
+}
+
+/// A row of a trace.
+#[derive(Clone, Copy)]
+pub struct Drive {
+    pub pedal: u16,
+    pub speed: u16,
+    pub raise: u16,
+}
+
+fn row(seed: u16, pairs: [[u16; 2]; 4], raise: [u16; 2], test: [u16; 3]) -> TestRow {
+    let [pedal, plate, load, speed] = pairs;
+    let readings = Readings { pedal, plate, load, speed, raise: raise[0], check: raise[1] };
+    TestRow { seed, readings, used: test[0], estimate: test[1], allowed: test[2] }
+}
+
+fn rows() -> [TestRow; 4] {
+    let pairs = [
+        [[500, 500], [200, 800], [300, 300], [800, 800]],
+        [[1000, 0], [0, 1000], [40, 120], [3000, 3000]],
+        [[250, 700], [100, 960], [500, 490], [1900, 1900]],
+        [[1000, 200], [1000, 0], [0, 0], [800, 6000]],
+    ];
+    [
+        row(4660, pairs[0], [0, 65535], [500, 1400, 1000]),
+        row(42435, pairs[1], [0, 65535], [1000, 400, 200]),
+        row(3855, pairs[2], [600, 64935], [0, 65535, 65334]),
+        row(32769, pairs[3], [300, 300], [750, 0, 0]),
+    ]
+}
+
+fn torques<const COLUMNS: usize>(rows: &[[u16; COLUMNS]]) -> [[u16; MOST_POINTS]; MOST_POINTS] {
+    let mut all = [[0; MOST_POINTS]; MOST_POINTS];
+    for (place, row) in all.iter_mut().zip(rows) {
+        place[..COLUMNS].copy_from_slice(row);
+    }
+    all
+}
+
+/// The reference calibration.
+pub fn reference() -> Calibration {
+    let mut calibration = Calibration {
+        permit: Permit {
+            pedal: vec![0, 500, 1000],
+            speed: vec![800, 3000, 6000],
+            rows: torques(&[[200, 100, 0], [1000, 1200, 900], [2000, 2400, 1800]]),
+        },
+        threshold: 200,
+        kt: 2500,
+        torque: Weights { up: 1, down: 1, limit: 5 },
+        tolerances: [50; 4],
+        pairs: Weights { up: 2, down: 1, limit: 10 },
+        slew: 50,
+        fill: 40,
+        charge: Table { points: vec![0, 200, 1000], values: vec![40, 300, 1000] },
+        times: Times {
+            period: 10,
+            first: 4,
+            last: 7,
+            send: 5,
+            weights: Weights { up: 3, down: 1, limit: 9 },
+        },
+        questions: Vec::new(),
+    };
+    calibration.questions = rows().iter().map(|row| calibration.question(row)).collect();
+    calibration
+}
+
+impl Calibration {
+    /// The question that a test row is.
+    fn question(&self, row: &TestRow) -> Question {
+        let read = &row.readings;
+        let raise = checked_raise(read.raise, read.check);
+        let results = [
+            lower_pedal(read.pedal),
+            self.permit.permitted(row.used, read.speed, raise),
+            estimate(read.load[0].max(read.load[1]), self.kt),
+            u16::from(exceeds(row.estimate, row.allowed, self.threshold)),
+            pair_bits(read, &self.tolerances),
+        ];
+        let answer = results.iter().fold(row.seed, |sign, result| folded(sign, *result));
+        Question { seed: row.seed, results, answer }
+    }
+}
+
+/// A fold with one result more.
+#[inline(always)]
+pub fn folded(sign: u16, result: u16) -> u16 {
+    sign.rotate_left(3) ^ result
+}
+
+impl Times {
+    /// The reaction time.
+    pub fn reaction(&self) -> u32 {
+        let confirm = u32::from(self.weights.limit).div_ceil(u32::from(self.weights.up));
+        (confirm + 1) * self.period - self.send - 1
+    }
+}
+
+/// Where a number lies on an axis: between two points, with its distances from them, or at one of the ends.
+#[derive(Clone, Copy)]
+struct Spot {
+    low: usize,
+    high: usize,
+    above_low: u32,
+    below_high: u32,
+}
+
+impl Spot {
+    #[inline(always)]
+    fn of(points: &[u16], x: u16) -> Spot {
+        let mut high = 0;
+        while high < points.len() && points[high] < x {
+            high += 1;
+        }
+        if high == 0 || high == points.len() {
+            let end = high.saturating_sub(1);
+            return Spot { low: end, high: end, above_low: 0, below_high: 1 };
+        }
+        let low = high - 1;
+        Spot { low, high, above_low: u32::from(x - points[low]), below_high: u32::from(points[high] - x) }
+    }
+
+    /// What lies there of two values.
+    #[inline(always)]
+    fn between(&self, low: u16, high: u16) -> u16 {
+        let sum = u32::from(low) * self.below_high + u32::from(high) * self.above_low;
+        (sum / (self.below_high + self.above_low)) as u16
+    }
+
+    #[inline(always)]
+    fn of_values(&self, values: &[u16]) -> u16 {
+        self.between(values[self.low], values[self.high])
+    }
+}
+
+impl Table {
+    #[inline(always)]
+    pub fn at(&self, x: u16) -> u16 {
+        Spot::of(&self.points, x).of_values(&self.values)
+    }
+}
+
+impl Permit {
+    /// The torque at a pedal and a speed.
+    #[inline(always)]
+    fn at(&self, pedal: Spot, speed: u16) -> u16 {
+        let speed = Spot::of(&self.speed, speed);
+        pedal.between(speed.of_values(&self.rows[pedal.low]), speed.of_values(&self.rows[pedal.high]))
+    }
+
+    /// The torque that a pedal and the lower of two speeds' values permit, or the raise.
+    pub fn permitted(&self, pedal: u16, speeds: [u16; 2], raise: u16) -> u16 {
+        let pedal = Spot::of(&self.pedal, pedal);
+        let [first, second] = speeds.map(|speed| self.at(pedal, speed));
+        first.min(second).max(raise)
+    }
+
+    /// What the table gives for a drive row.
+    #[inline(always)]
+    pub fn table(&self, drive: &Drive) -> u16 {
+        self.at(Spot::of(&self.pedal, drive.pedal), drive.speed)
+    }
+
+    /// The torque that a drive row permits.
+    #[inline(always)]
+    pub fn limit(&self, drive: &Drive) -> u16 {
+        self.table(drive).max(drive.raise)
+    }
+}
+
+pub fn moved_toward(from: u16, target: u16, reach: u16) -> u16 {
+    if from <= target { from + (target - from).min(reach) } else { from - (from - target).min(reach) }
+}
+
+pub fn estimate(load: u16, kt: u16) -> u16 {
+    (u32::from(load) * u32::from(kt)).div_ceil(1000).min(65535) as u16
+}
+
+pub fn exceeds(torque: u16, permitted: u16, threshold: u16) -> bool {
+    u32::from(torque) > u32::from(permitted) + u32::from(threshold)
+}
+
+impl Weights {
+    /// A counter after one feed. At the limit it stays.
+    #[inline(always)]
+    pub fn feed(&self, value: u16, bad: bool) -> u16 {
+        if value >= self.limit {
+            value
+        } else if bad {
+            (value + self.up).min(self.limit)
+        } else {
+            value.saturating_sub(self.down)
+        }
+    }
+}
+
+fn falling(reading: u16) -> u16 {
+    1000u16.saturating_sub(reading)
+}
+
+/// The lower of the two pedal values.
+pub fn lower_pedal(pedal: [u16; 2]) -> u16 {
+    pedal[0].min(falling(pedal[1]))
+}
+
+pub fn checked_raise(raise: u16, check: u16) -> u16 {
+    if raise == !check { raise } else { 0 }
+}
+
+fn disagree(first: u16, second: u16, tolerance: u16) -> u16 {
+    u16::from(first.abs_diff(second) > tolerance)
+}
+
+/// The bits of the pairs that disagree.
+#[inline(always)]
+pub fn pair_bits(read: &Readings, tolerances: &[u16; 4]) -> u16 {
+    disagree(read.pedal[0], falling(read.pedal[1]), tolerances[0])
+        | disagree(read.plate[0], falling(read.plate[1]), tolerances[1]) << 1
+        | disagree(read.load[0], read.load[1], tolerances[2]) << 2
+        | disagree(read.speed[0], read.speed[1], tolerances[3]) << 3
+}

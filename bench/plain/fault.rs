@@ -1,0 +1,113 @@
+//! Faults outside level 1, and what is out of order at a tick.
+
+/// What a fault does, with its numbers.
+pub enum Class {
+    Script { track: usize, values: Vec<u16> },
+    Offset { track: usize, add: i32 },
+    Bus { mask: u16 },
+    Plate { at: u16 },
+    Skip { module: usize },
+    Disturb { module: usize, mask: u16 },
+    Flip { word: usize, mask: u16 },
+    Halt,
+    Timing { offset: u32 },
+    Wild { questions: Vec<u16>, opens: Vec<bool> },
+    Path1Closed,
+    Path2Closed,
+    PathOpen { path: u32 },
+    Lapse { after: Vec<u32>, every: u32 },
+}
+
+pub struct Fault {
+    pub onset: u32,
+    pub class: Class,
+}
+
+/// What a faulty track reads.
+#[derive(Clone, Copy)]
+pub enum Reading {
+    Value(u16),
+    Offset(i32),
+}
+
+/// What is out of order at a tick.
+#[derive(Clone, Copy)]
+pub struct Effects {
+    pub track: Option<(usize, Reading)>,
+    pub raise: u16,
+    pub held: Option<u16>,
+    pub level1_runs: bool,
+    pub modules_run: [bool; 8],
+    pub disturbances: [u16; 8],
+    pub flip: Option<(usize, u16)>,
+    /// The tick of the period at which answers are sent, where it is another.
+    pub send: Option<u32>,
+    /// What a wild monitoring module asks, and whether it orders path 2 open.
+    pub wild: Option<(u16, bool)>,
+    /// Whether a path conducts, where its latch doesn't decide.
+    pub path1: Option<bool>,
+    pub path2: Option<bool>,
+}
+
+impl Effects {
+    pub const NONE: Effects = Effects {
+        track: None,
+        raise: 0,
+        held: None,
+        level1_runs: true,
+        modules_run: [true; 8],
+        disturbances: [0; 8],
+        flip: None,
+        send: None,
+        wild: None,
+        path1: None,
+        path2: None,
+    };
+}
+
+impl Fault {
+    pub fn effects(&self, tick: u32) -> Effects {
+        tick.checked_sub(self.onset).map_or(Effects::NONE, |since| self.class.effects(since))
+    }
+}
+
+impl Class {
+    /// What is out of order so many ticks after the onset.
+    fn effects(&self, since: u32) -> Effects {
+        let mut effects = Effects::NONE;
+        match self {
+            Class::Script { track, values } => {
+                effects.track = Some((*track, Reading::Value(in_turn(values, since))));
+            }
+            Class::Offset { track, add } => effects.track = Some((*track, Reading::Offset(*add))),
+            Class::Bus { mask } => effects.raise = *mask,
+            Class::Plate { at } => effects.held = Some(*at),
+            Class::Skip { module } => effects.modules_run[*module] = false,
+            Class::Disturb { module, mask } => effects.disturbances[*module] = *mask,
+            Class::Flip { word, mask } => effects.flip = (since == 0).then_some((*word, *mask)),
+            Class::Halt => {
+                effects.level1_runs = false;
+                effects.modules_run = [false; 8];
+            }
+            Class::Timing { offset } => effects.send = Some(*offset),
+            Class::Wild { questions, opens } => {
+                effects.wild = Some((in_turn(questions, since), in_turn(opens, since)));
+            }
+            Class::Path1Closed => effects.path1 = Some(true),
+            Class::Path2Closed => effects.path2 = Some(true),
+            Class::PathOpen { path: 1 } => effects.path1 = Some(false),
+            Class::PathOpen { .. } => effects.path2 = Some(false),
+            Class::Lapse { after, every } => effects.modules_run = [!lapses(after, *every, since); 8],
+        }
+        effects
+    }
+}
+
+/// The entry of a list that is used from its first again after its last.
+fn in_turn<T: Copy>(entries: &[T], since: u32) -> T {
+    entries[since as usize % entries.len()]
+}
+
+fn lapses(after: &[u32], every: u32, since: u32) -> bool {
+    after.contains(&if every == 0 { since } else { since % every })
+}

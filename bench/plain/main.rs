@@ -1,0 +1,158 @@
+//! The whole program as plain Rust, written to be fast: one array of words for all three levels, plain structs,
+//! and no allocation in a tick. It takes the words and files that `egasim` takes, by the reference
+//! calibration, and writes what it writes; notes it has none. It was written from docs/ and is measured beside
+//! the proved program by `bench/unit` and `bench/all`. Nothing of it is proved.
+//! Usage: check FILE, run CAMPAIGN, record CAMPAIGN RUN, soak SEED RUNS
+
+mod calibration;
+mod campaign;
+mod fault;
+mod files;
+mod level1;
+mod level2;
+mod level3;
+mod quotes;
+mod record;
+mod report;
+mod soak;
+mod toml;
+mod unit;
+
+use std::env;
+use std::fs::File;
+use std::hint::black_box;
+use std::io::{self, BufWriter, Write};
+use std::os::fd::AsFd;
+use std::process::exit;
+
+use calibration::{Calibration, Drive, exceeds, reference};
+use campaign::Plan;
+use unit::{Run, play};
+
+/// Why nothing was done, by its status.
+#[derive(Clone, Copy)]
+pub enum End {
+    Usage = 2,
+    Read = 3,
+    Refused = 4,
+    Write = 5,
+}
+
+impl From<io::Error> for End {
+    /// Only writing asks for it.
+    fn from(_: io::Error) -> End {
+        End::Write
+    }
+}
+
+type Output = BufWriter<File>;
+
+/// The first tick by which the excess of a file's rows is confirmed.
+fn check(cal: &Calibration, file: &str, out: &mut Output) -> Result<(), End> {
+    let (mut tick, mut counter, mut confirmed) = (0, 0, None);
+    let bytes = files::records(file)?;
+    let show = |drive: &Drive, torque| {
+        counter = cal.torque.feed(counter, exceeds(torque, cal.permit.limit(drive), cal.threshold));
+        if confirmed.is_none() && counter >= cal.torque.limit {
+            confirmed = Some(tick);
+        }
+        tick += 1;
+    };
+    files::check(&bytes, show).ok_or(End::Refused)?;
+    match confirmed {
+        None => writeln!(out, "none")?,
+        Some(tick) => writeln!(out, "torque {tick}")?,
+    }
+    Ok(())
+}
+
+fn campaign(file: &str) -> Result<Vec<Plan>, End> {
+    campaign::campaign(&files::bytes(file)?).ok_or(End::Refused)
+}
+
+fn drives(plan: &Plan) -> Result<Vec<Drive>, End> {
+    files::trace(&files::records(&plan.trace)?).ok_or(End::Refused)
+}
+
+fn image(plan: &Plan) -> Result<Vec<u16>, End> {
+    files::image(&files::bytes(&plan.image)?).ok_or(End::Refused)
+}
+
+fn run_of<'a>(plan: &'a Plan, drives: &'a [Drive], image: &'a [u16]) -> Run<'a> {
+    Run { image, drives, plan: &plan.slices, fault: plan.fault.as_ref() }
+}
+
+const MOST_TICKS: usize = 1_000_000;
+
+/// The report on the runs of a campaign.
+fn run(cal: &Calibration, file: &str, out: &mut Output) -> Result<(), End> {
+    let plans = campaign(file)?;
+    let mut text = String::new();
+    let (mut ticks, mut detected, mut off) = (0, 0, 0);
+    for plan in &plans {
+        let drives = drives(plan)?;
+        ticks += drives.len();
+        if ticks > MOST_TICKS {
+            return Err(End::Refused);
+        }
+        let image = image(plan)?;
+        let summary = report::summary(cal, &run_of(plan, &drives, &image));
+        detected += u32::from(summary.first.is_some());
+        off += u32::from(summary.off.is_some());
+        text += &summary.line(&plan.name, cal);
+    }
+    writeln!(out, "{text}runs {}; detected {detected}; off {off}", plans.len())?;
+    Ok(())
+}
+
+/// The record of a run of a campaign.
+fn record(cal: &Calibration, file: &str, name: &str, out: &mut Output) -> Result<(), End> {
+    let plans = campaign(file)?;
+    let plan = plans.iter().find(|plan| plan.name == name).ok_or(End::Refused)?;
+    let (drives, image) = (drives(plan)?, image(plan)?);
+    out.write_all(record::HEADER.as_bytes())?;
+    let mut line = record::Line::new();
+    let mut written = Ok(());
+    play(cal, &run_of(plan, &drives, &image), |row| {
+        if written.is_ok() {
+            written = out.write_all(line.row(row));
+        }
+    });
+    Ok(written?)
+}
+
+fn number(word: &str) -> Result<u32, End> {
+    let digits = (1..=10).contains(&word.len()) && word.bytes().all(|byte| byte.is_ascii_digit());
+    if digits { word.parse().map_err(|_| End::Usage) } else { Err(End::Usage) }
+}
+
+fn soak(cal: &Calibration, seed: &str, runs: &str, out: &mut Output) -> Result<(), End> {
+    let (seed, runs) = (number(seed)?, number(runs)?);
+    if !(1..=500).contains(&runs) {
+        return Err(End::Usage);
+    }
+    Ok(out.write_all(soak::soak(cal, seed, runs).as_bytes())?)
+}
+
+/// Does the command of these words.
+fn command(words: &[&str]) -> Result<(), End> {
+    // The compiler is not to know the numbers of the calibration: the proved program takes any.
+    let cal = black_box(reference());
+    let out = &mut BufWriter::with_capacity(1 << 16, File::from(io::stdout().as_fd().try_clone_to_owned()?));
+    match *words {
+        ["check", file] => check(&cal, file, out),
+        ["run", file] => run(&cal, file, out),
+        ["record", file, name] => record(&cal, file, name, out),
+        ["soak", seed, runs] => soak(&cal, seed, runs, out),
+        _ => Err(End::Usage),
+    }?;
+    Ok(out.flush()?)
+}
+
+fn main() {
+    let words: Vec<String> = env::args().skip(1).collect();
+    let words: Vec<&str> = words.iter().map(String::as_str).collect();
+    if let Err(end) = command(&words) {
+        exit(end as i32);
+    }
+}

@@ -1,0 +1,274 @@
+//! The unit: a tick of all three levels and the engine.
+
+use crate::calibration::{Calibration, Drive, Question, moved_toward};
+use crate::fault::{Effects, Fault, Reading};
+use crate::level1::{Machine, State, Trap, Words};
+use crate::level2::{self, IGNITION, PORTS, Rules, SIGNALS, THROTTLE, Watches};
+use crate::level3::{self, Judgement, Mark, Monitor};
+
+struct Engine {
+    plate: u16,
+    charge: u16,
+    torque: u16,
+}
+
+impl Engine {
+    /// One step; a plate that is held has that angle.
+    #[inline(always)]
+    fn step(&mut self, cal: &Calibration, commands: [u16; 2], on: bool, held: Option<u16>) {
+        let [throttle, ignition] = commands.map(|command| command.min(1000));
+        let filled = cal.charge.at(self.plate);
+        let target = if on { throttle } else { 0 };
+        self.plate = held.unwrap_or(moved_toward(self.plate, target, cal.slew));
+        self.charge = moved_toward(self.charge, filled, cal.fill);
+        let full = u64::from(self.charge) * u64::from(cal.kt);
+        self.torque = if on { (full * u64::from(ignition) / 1_000_000) as u16 } else { 0 };
+    }
+
+    /// The ten input ports: the tracks, the raise and its check word.
+    #[inline(always)]
+    fn ports(&self, drive: &Drive, effects: &Effects) -> [u16; 10] {
+        let (pedal, plate, load, speed) = (drive.pedal, self.plate, self.charge, drive.speed);
+        let raise = drive.raise ^ effects.raise;
+        let mut ports =
+            [pedal, 1000 - pedal, plate, 1000 - plate, load, load, speed, speed, raise, !drive.raise];
+        match effects.track {
+            None => {}
+            Some((track, Reading::Value(value))) => ports[track] = value,
+            Some((track, Reading::Offset(add))) => {
+                ports[track] = (i32::from(ports[track]) + add).clamp(0, 65535) as u16;
+            }
+        }
+        ports
+    }
+}
+
+/// A row of the record.
+pub struct Row {
+    pub tick: u32,
+    pub drive: Drive,
+    pub plate: u16,
+    pub charge: u16,
+    pub torque: u16,
+    pub limit: u16,
+    pub path1: bool,
+    pub path2: bool,
+    pub on: bool,
+    pub signals: [u16; 5],
+    pub throttle: u16,
+    pub ignition: u16,
+    pub found: Watches,
+    pub answer: Mark,
+    pub verdict: Option<bool>,
+}
+
+/// What level 2 says of a tick.
+struct Orders {
+    found: Watches,
+    opens: bool,
+    answer: Option<u32>,
+}
+
+pub struct Unit<'a> {
+    cal: &'a Calibration,
+    words: Words,
+    machine: Machine,
+    engine: Engine,
+    monitor: Monitor,
+    ticks: u32,
+    /// The tick of the period, and the number of the period's question.
+    phase: u32,
+    question: usize,
+    open1: bool,
+    open2: bool,
+    trap: Option<(Trap, u32)>,
+}
+
+impl<'a> Unit<'a> {
+    fn new(cal: &'a Calibration, image: &[u16]) -> Unit<'a> {
+        let mut words = [0; 4096];
+        words[..image.len()].copy_from_slice(image);
+        level2::reset(&mut words);
+        Unit {
+            cal,
+            words,
+            machine: Machine::new(image),
+            engine: Engine { plate: 0, charge: cal.charge.at(0), torque: 0 },
+            monitor: Monitor::default(),
+            ticks: 0,
+            phase: 0,
+            question: 0,
+            open1: false,
+            open2: false,
+            trap: None,
+        }
+    }
+
+    /// One tick of all three levels, and its row.
+    #[inline(always)]
+    fn tick(&mut self, drive: &Drive, budget: &[u16; 9], effects: &Effects) -> Row {
+        let path1 = effects.path1.unwrap_or(!self.open1);
+        let path2 = effects.path2.unwrap_or(!self.open2);
+        let on = path1 && path2;
+        let commands = [self.words[THROTTLE], self.words[IGNITION]];
+        self.engine.step(self.cal, commands, on, effects.held);
+        self.words[PORTS..PORTS + 10].copy_from_slice(&self.engine.ports(drive, effects));
+        let asked = self.asked(effects);
+        let table = self.cal.permit.table(drive);
+        let rules = Rules { cal: self.cal, asked, drive, table };
+        let mut orders = self.levels(budget, &rules, effects);
+        self.open1 |= orders.opens;
+        let mark = level3::mark(asked, orders.answer);
+        let judged = self.judge(mark, effects);
+        self.open2 |= judged.found || effects.wild.is_some_and(|wild| wild.1);
+        if let (None, State::Trapped(kind)) = (self.trap, self.machine.state) {
+            self.trap = Some((kind, self.ticks));
+        }
+        orders.found[6] = judged.found;
+        let row = self.row(drive, table.max(drive.raise), [path1, path2, on], orders.found, &judged);
+        self.advance();
+        row
+    }
+
+    /// The question that is asked at this tick.
+    #[inline(always)]
+    fn asked(&self, effects: &Effects) -> &'a Question {
+        let questions = &self.cal.questions;
+        match effects.wild {
+            None => &questions[self.question],
+            Some((number, _)) => &questions[usize::from(number) % questions.len()],
+        }
+    }
+
+    /// What the monitoring module says. A wild one gives no verdicts.
+    #[inline(always)]
+    fn judge(&mut self, mark: Mark, effects: &Effects) -> Judgement {
+        if effects.wild.is_some() {
+            return Judgement { mark, verdict: None, found: false };
+        }
+        self.monitor.judge(&self.cal.times, mark, self.phase)
+    }
+
+    /// Nine slices of level 1, and the eight modules of level 2 between them.
+    #[inline(always)]
+    fn levels(&mut self, budget: &[u16; 9], rules: &Rules, effects: &Effects) -> Orders {
+        let mut orders = Orders { found: [false; 7], opens: false, answer: None };
+        self.slice(budget[0], effects);
+        if let Some((word, mask)) = effects.flip {
+            level2::flip(&mut self.words, word, mask);
+        }
+        self.module::<0>(budget, rules, effects, &mut orders);
+        self.module::<1>(budget, rules, effects, &mut orders);
+        self.module::<2>(budget, rules, effects, &mut orders);
+        self.module::<3>(budget, rules, effects, &mut orders);
+        self.module::<4>(budget, rules, effects, &mut orders);
+        self.module::<5>(budget, rules, effects, &mut orders);
+        self.module::<6>(budget, rules, effects, &mut orders);
+        self.module::<7>(budget, rules, effects, &mut orders);
+        orders
+    }
+
+    #[inline(always)]
+    fn slice(&mut self, budget: u16, effects: &Effects) {
+        if effects.level1_runs {
+            self.machine.slice(&mut self.words, budget);
+        }
+    }
+
+    /// One module of level 2, and the slice of level 1 after it.
+    #[inline(always)]
+    fn module<const MODULE: usize>(
+        &mut self,
+        budget: &[u16; 9],
+        rules: &Rules,
+        effects: &Effects,
+        orders: &mut Orders,
+    ) {
+        if effects.modules_run[MODULE] {
+            let words = &mut self.words;
+            let disturbance = effects.disturbances[MODULE];
+            match MODULE {
+                0 => orders.found[0] = rules.check(words, self.ticks as u16),
+                1 => rules.pedal(words, disturbance),
+                2 => rules.permitted(words, disturbance),
+                3 => rules.actual(words, disturbance),
+                4 => rules.excess(words, disturbance),
+                5 => rules.pairs(words, disturbance),
+                6 => rules.debounce(words, &mut orders.found),
+                _ => {
+                    let send = self.phase == effects.send.unwrap_or(self.cal.times.send);
+                    (orders.opens, orders.answer) = level2::react(words, send);
+                }
+            }
+        }
+        self.slice(budget[MODULE + 1], effects);
+    }
+
+    /// The row; the paths are path 1, path 2 and both.
+    #[inline(always)]
+    fn row(&self, drive: &Drive, limit: u16, paths: [bool; 3], found: Watches, judged: &Judgement) -> Row {
+        let words = &self.words;
+        let mut signals = [0; 5];
+        signals.copy_from_slice(&words[SIGNALS..SIGNALS + 5]);
+        Row {
+            tick: self.ticks,
+            drive: *drive,
+            plate: self.engine.plate,
+            charge: self.engine.charge,
+            torque: self.engine.torque,
+            limit,
+            path1: paths[0],
+            path2: paths[1],
+            on: paths[2],
+            signals,
+            throttle: words[THROTTLE],
+            ignition: words[IGNITION],
+            found,
+            answer: judged.mark,
+            verdict: judged.verdict,
+        }
+    }
+
+    /// Goes on to the next tick, and at a period's end to the next question.
+    #[inline(always)]
+    fn advance(&mut self) {
+        self.ticks += 1;
+        self.phase += 1;
+        if self.phase == self.cal.times.period {
+            self.phase = 0;
+            self.question += 1;
+            if self.question == self.cal.questions.len() {
+                self.question = 0;
+            }
+        }
+    }
+}
+
+/// What a run is made of.
+pub struct Run<'a> {
+    pub image: &'a [u16],
+    pub drives: &'a [Drive],
+    /// The slices, used in turn.
+    pub plan: &'a [[u16; 9]],
+    pub fault: Option<&'a Fault>,
+}
+
+/// Plays a run, and shows each row. Answers level 1's trap and its tick.
+pub fn play(cal: &Calibration, run: &Run, mut show: impl FnMut(&Row)) -> Option<(Trap, u32)> {
+    let mut unit = Unit::new(cal, run.image);
+    let budgets = run.plan.iter().cycle();
+    match run.fault {
+        None => {
+            for (drive, budget) in run.drives.iter().zip(budgets) {
+                show(&unit.tick(drive, budget, &Effects::NONE));
+            }
+        }
+        Some(fault) => {
+            for (drive, budget) in run.drives.iter().zip(budgets) {
+                let effects = fault.effects(unit.ticks);
+                show(&unit.tick(drive, budget, &effects));
+            }
+        }
+    }
+    unit.trap
+}
