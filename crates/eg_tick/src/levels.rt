@@ -19,6 +19,7 @@ use eg_host::Host;
 use eg_level2::{Level2, Step, Watches};
 
 /// A slice of level 1, where it runs at this tick (docs/CONCEPT.md, "Level 1").
+#[inline(always)]
 fn slice<M: Guarded>(
     runs: bool,
     host: &mut Host,
