@@ -15,6 +15,7 @@ use eg_guard::Guarded;
 
 /// Module 0: compares each word with its complement, and begins the token and the fold of this tick
 /// (docs/CONCEPT.md, "Level 2").
+#[inline(always)]
 #[tactic(auto, unfolding(crate::specs::Modules::no_watches, crate::specs::Modules::mirror_alone))]
 pub(crate) fn check<M: Guarded>(memory: &mut M, tick: u16, seed: u16) -> Result<Step, NoMemory>
     ensures words { AreMirrored (M.shows memory.old).words

@@ -86,6 +86,7 @@ impl Level2 {
     /// says whether the answer is sent at it. What disturbs the run is mixed in by exclusive or; 0 disturbs
     /// nothing. After NoMemory, what was stored stays; a test shows that, and the clauses that no other word
     /// has changed.
+    #[inline(always)]
     #[tactic(auto, using(crate::proofs::StoreLemmas::outsides))]
     pub fn module<M: Guarded>(
         &self,
@@ -142,6 +143,7 @@ impl Level2 {
     }
 
     /// Runs a module other than the first.
+    #[inline(always)]
     fn run<M: Guarded>(
         &self,
         number: u8,

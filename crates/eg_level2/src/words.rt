@@ -143,8 +143,7 @@ pub(crate) fn is_mirrored<M: Guarded>(memory: &M) -> bool
     ensures { IsTrue result ↔ AreMirrored (M.shows memory.now).words }
 {
     for number in 0..WORDS {
-        let sum = u32::from(word(memory, number)) + u32::from(word(memory, number + WORDS));
-        if sum != 65535 {
+        if word(memory, number + WORDS) != u16::MAX - word(memory, number) {
             return false;
         }
     }

@@ -1,6 +1,6 @@
 // Tables of two axes.
 ghost use Rattle.std.specs.Prelude.{◌≡◌, ◌*◌, ◌+◌, ◌^◌, ◌<◌, All, length, SomeIff};
-ghost use Rattle.eg_num.specs.Interpolation.{Grid, IsGrid, IsGridValueAt, cell, grid_at, row_at};
+ghost use Rattle.eg_num.specs.Interpolation.{Grid, IsGrid, IsGridValueAt, IsLocated, cell, grid_at, row_at};
 
 use crate::Axis;
 use arrayvec::ArrayVec;
@@ -87,8 +87,9 @@ impl Table2 {
         ensures neighbours { IsGridValueAt self.now row column result }
     {
         let i = self.rows.locate(row);
-        let low = self.along(i, column);
-        let high = self.along(i + 1, column);
+        let j = self.columns.locate(column);
+        let low = self.along(i, j, column);
+        let high = self.along(i + 1, j, column);
         self.rows.between(i, low, high, row)
     }
 
@@ -107,12 +108,15 @@ impl Table2 {
         }
     }
 
-    /// The value of row `i` at a place of the columns.
-    fn along(&self, i: usize, column: u16) -> u16
-        requires { i < length self.now.rows }
+    /// The value of row `i` at a place of the columns, which lies between columns `j` and `j + 1`, or past an
+    /// end.
+    fn along(&self, i: usize, j: usize, column: u16) -> u16
+        requires row { i < length self.now.rows }
+        requires located { IsLocated self.now.columns column j }
         ensures { result ≡ row_at self.now column i }
     {
-        let j = self.columns.locate(column);
+        // There are at most 16 columns, so j + 1 is a number.
+        let _width = self.width();
         let low = self.value(i, j);
         let high = self.value(i, j + 1);
         self.columns.between(j, low, high, column)

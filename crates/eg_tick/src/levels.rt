@@ -19,6 +19,7 @@ use eg_host::Host;
 use eg_level2::{Level2, Step, Watches};
 
 /// A slice of level 1, where it runs at this tick (docs/CONCEPT.md, "Level 1").
+#[inline(always)]
 fn slice<M: Guarded>(
     runs: bool,
     host: &mut Host,
@@ -42,6 +43,7 @@ fn slice<M: Guarded>(
 }
 
 /// A run of a module of level 2, where it runs at this tick (docs/CONCEPT.md, "Level 2").
+#[inline(always)]
 fn module<M: Guarded>(
     level2: &Level2,
     fault: Option<&Fault>,
@@ -75,6 +77,7 @@ fn module<M: Guarded>(
 }
 
 /// The run of module 0. A scheduled flip comes as it begins (docs/CONCEPT.md, "A run, tick by tick").
+#[inline(always)]
 fn first_module<M: Guarded>(
     level2: &Level2,
     fault: Option<&Fault>,
@@ -119,6 +122,7 @@ fn scheduled_flip(fault: Option<&Fault>, tick: u16) -> Option<(u8, u16)>
 
 /// The slice of level 1 of that number, and then the module of level 2 of the same number (docs/CONCEPT.md,
 /// "A run, tick by tick").
+#[inline(always)]
 fn turn<M: Guarded>(
     level2: &Level2,
     fault: Option<&Fault>,
@@ -147,7 +151,7 @@ fn turn<M: Guarded>(
     ensures stays_sure { (M.shows memory.new).sure ≡ (M.shows memory.old).sure }
     ensures are_words { AreWords (M.shows memory.old).words → AreWords (M.shows memory.new).words }
 {
-    let budget = slices.budget()[usize::from(number)];
+    let budget = slices.budget_of(number);
     slice(level1_runs(fault, u32::from(tick)), host, memory, budget)?;
     if number == 0 {
         return first_module(level2, fault, tick, send, memory);
@@ -157,7 +161,7 @@ fn turn<M: Guarded>(
 
 /// The nine slices of level 1 and the eight modules of level 2 of a tick, in turn: after each slice but the
 /// last comes the module of its number (docs/CONCEPT.md, "A run, tick by tick"). Answers what the modules
-/// order, answer and find.
+/// order, answer and find. The turns are written out, so that each is compiled for its own number.
 pub(crate) fn run_levels<M: Guarded>(
     level2: &Level2,
     fault: Option<&Fault>,
@@ -183,12 +187,24 @@ pub(crate) fn run_levels<M: Guarded>(
     ensures stays_sure { (M.shows memory.new).sure ≡ (M.shows memory.old).sure }
     ensures are_words { AreWords (M.shows memory.old).words → AreWords (M.shows memory.new).words }
 {
-    let mut whole = quiet();
-    for number in 0..8 {
-        let step = turn(level2, fault, tick, send, slices, number, host, memory)?;
-        whole = joined(&whole, &step);
-    }
-    let last = slices.budget()[8];
+    let whole = quiet();
+    let step = turn(level2, fault, tick, send, slices, 0, host, memory)?;
+    let whole = joined(&whole, &step);
+    let step = turn(level2, fault, tick, send, slices, 1, host, memory)?;
+    let whole = joined(&whole, &step);
+    let step = turn(level2, fault, tick, send, slices, 2, host, memory)?;
+    let whole = joined(&whole, &step);
+    let step = turn(level2, fault, tick, send, slices, 3, host, memory)?;
+    let whole = joined(&whole, &step);
+    let step = turn(level2, fault, tick, send, slices, 4, host, memory)?;
+    let whole = joined(&whole, &step);
+    let step = turn(level2, fault, tick, send, slices, 5, host, memory)?;
+    let whole = joined(&whole, &step);
+    let step = turn(level2, fault, tick, send, slices, 6, host, memory)?;
+    let whole = joined(&whole, &step);
+    let step = turn(level2, fault, tick, send, slices, 7, host, memory)?;
+    let whole = joined(&whole, &step);
+    let last = slices.budget_of(8);
     slice(level1_runs(fault, u32::from(tick)), host, memory, last)?;
     Ok(whole)
 }

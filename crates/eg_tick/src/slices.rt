@@ -1,5 +1,5 @@
 // How many instructions level 1 may do at each tick.
-ghost use Rattle.std.specs.Prelude.{◌≡◌, ℕ, ◌%◌, ◌≤◌, [], length, slice_index_or, SomeIff};
+ghost use Rattle.std.specs.Prelude.{◌≡◌, ℕ, ◌%◌, ◌≤◌, ◌<◌, [], length, slice_index, slice_index_or, SomeIff};
 ghost use Rattle.std.specs.List.{sum};
 
 use crate::total::total;
@@ -58,6 +58,15 @@ impl Slices {
         ensures most { sum self.now ≤ 1000 }
     {
         self.budget
+    }
+
+    /// The instructions of one slice, 0 to 8.
+    pub fn budget_of(&self, slice: u8) -> u16
+        requires { slice < 9 }
+        ensures budget { result ≡ slice_index self.now slice }
+        ensures nine { length self.now ≡ 9 }
+    {
+        self.budget[usize::from(slice)]
     }
 
     /// Equal slices.

@@ -1,6 +1,6 @@
 // The permit table.
 ghost use Rattle.std.specs.Prelude.{◌≡◌, ◌↔◌, ℕ, ◌≤◌, ◌<◌, length, IsTrue, IsOk, IfOk, IfErr};
-ghost use Rattle.eg_num.specs.Interpolation.{IsGrid};
+ghost use Rattle.eg_num.specs.Interpolation.{IsGrid, grid_at};
 ghost use Rattle.eg_torque.specs.Permit.{DoesNotFall, FallsAt, IsFirstFall, PermitRises, permitted};
 
 use eg_num::Table2;
@@ -61,8 +61,20 @@ impl Permit {
         ensures grid { IsGrid self.now }
     {
         let first = self.table.at(pedal, speed_a);
-        let second = self.table.at(pedal, speed_b);
+        let second = self.second(pedal, speed_a, first, speed_b);
         first.min(second).max(raise)
+    }
+
+    /// The table's value at a pedal and a second speed, where the value at the first speed is known. Mostly
+    /// the two speeds are equal, and so are the values.
+    fn second(&self, pedal: u16, speed_a: u16, first: u16, speed_b: u16) -> u16
+        requires { first ≡ grid_at self.now pedal speed_a }
+        ensures { result ≡ grid_at self.now pedal speed_b }
+    {
+        if speed_b == speed_a {
+            return first;
+        }
+        self.table.at(pedal, speed_b)
     }
 
     /// An equal permit table. It takes no memory.
