@@ -1,22 +1,11 @@
-use Rattle.std.proofs.Common.{◌≡◌, arith, ap, rules}
-use Rattle.eg_word.specs.declared.registers.State.TheVariants.{Running}
-use Rattle.eg_host.proofs.RunLemmas.{run-begin, run-more, run-idle}
+use Rattle.eg_host.proofs.RunLemmas.{ended-after, trapped-after, trapped_words-after}
 use Rattle.eg_host.proofs.host.Host.slice.Goals as goal
 
-pub loop-done-init : goal.loop-done-init
-loop-done-init g c = record { run = rw c.wake-self.ensures (run-begin _ _); sure = search rules }
+pub returns-clause-ended : goal.returns-clause-ended
+returns-clause-ended g c = λ view shows. ended-after _ _ _ _ view _ _ c.wake-registers.ensures (c.run-done.ensures.ended view shows)
 
-pub loop-done-preserved : goal.loop-done-preserved
-loop-done-preserved g c = record {
-  run =
-      run-more _ _ _ _ _ _ _ c.loop-done.invariant.run (search rules)
-      c.in_ok-step.ensures.outside
-      c.in_ok-step.ensures.are_words
-      c.in_ok-step.ensures.world;
-  sure = search rules;
-}
+pub returns-clause-trapped : goal.returns-clause-trapped
+returns-clause-trapped g c = λ trap is. trapped-after _ _ _ trap c.wake-registers.ensures c.run-done.ensures.idle is
 
-pub returns-then-not-is_running-clause-world : goal.returns-then-not-is_running-clause-world
-returns-then-not-is_running-clause-world g c =
-    let idle : c.loop-done.self.registers.state ≡ Running → ⊥ = search rules in
-    (run-idle _ _ _ _ _ _ c.loop-done.invariant.run idle (omega arith)).world
+pub returns-clause-trapped_words : goal.returns-clause-trapped_words
+returns-clause-trapped_words g c = λ trap is. trapped_words-after c.args.self.now.registers _ _ _ trap c.wake-registers.ensures c.run-done.ensures.idle_words is
