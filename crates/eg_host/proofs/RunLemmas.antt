@@ -1,5 +1,5 @@
 -- What level 1 has done after so many steps of a slice.
-use Rattle.std.proofs.Common.{Result, Ok, Err, OnErr, ◌<◌, ◌≡◌, ◌∙◌, refl, sym, ap, ℕ, zero, suc, ◌+◌, ◌-◌, ◌≤◌, List, arith}
+use Rattle.std.proofs.Common.{◌≡◌, ◌∙◌, refl, sym, ap, ℕ, zero, suc, ◌+◌, ◌-◌, ◌≤◌, List, slice_index, arith, add-one}
 use Rattle.eg_guard.specs.Memory.{AreWords, SameOutside}
 use Rattle.eg_word.specs.declared.registers.Trap.{Trap}
 use Rattle.eg_word.specs.declared.registers.State.{State}
@@ -8,7 +8,7 @@ use Rattle.eg_word.specs.declared.registers.Registers.{Registers}
 use Rattle.eg_word.specs.Memory.{is_level1_own}
 use Rattle.eg_word.specs.World.{View, World, Shows, world_of, world_step}
 use Rattle.eg_word.proofs.WorldLemmas.{shows-outside, world_step-idle}
-use Rattle.eg_host.specs.Slices.{wake, steps, world_slice}
+use Rattle.eg_host.specs.Slices.{wake, slice_start, steps, world_slice}
 
 -- ---- steps ----
 
@@ -32,30 +32,34 @@ steps-add (suc first) rest view world =
     let sum : suc first + rest ≡ suc (first + rest) = omega arith in
     ap (λ n. steps n view world) sum ∙ steps-add first rest view (world_step view world)
 
--- ---- steps so far ----
+-- ---- a slice so far ----
 
--- a run that began with this machine and these words has led to that machine and those words, after so many steps
+-- a slice that began with this machine and these words has led to that machine and those words, after so many steps
 pub record HasRun (count : ℕ) (m : Registers) (old : List ℕ) (now : Registers) (new : List ℕ) : Type 0 where
   pub outside : SameOutside is_level1_own old new
   pub are_words : AreWords old → AreWords new
-  pub world : (view : View) → Shows old view → world_of now new ≡ steps count view (world_of m old)
-  pub idle : (m.state ≡ Running → ⊥) → now ≡ m
-  pub idle_words : (m.state ≡ Running → ⊥) → new ≡ old
+  pub world : (view : View) → Shows old view → world_of now new ≡ world_slice view count (world_of m old)
+  pub trapped : (trap : Trap) → m.state ≡ Trapped trap → now ≡ m
+  pub trapped_words : (trap : Trap) → m.state ≡ Trapped trap → new ≡ old
 
--- as a run begins nothing is done
-pub run-begin : (m : Registers) (old : List ℕ) → HasRun 0 m old m old
-unfolding steps
+-- as a slice begins the machine is woken
+pub run-begin : (m : Registers) (old : List ℕ) → HasRun 0 m old (slice_start m) old
+unfolding steps wake world_of
 run-begin m old = record {
   outside = λ address inside. refl;
   are_words = λ are. are;
   world = λ view shows. refl;
-  idle = λ idle. refl;
-  idle_words = λ idle. refl;
+  trapped = λ trap is. ap (λ state. record m { state = wake state }) is ∙ ap (λ state. record m { state = state }) (sym is);
+  trapped_words = λ trap is. refl;
 }
 
--- a machine that runs now ran at the beginning
-never : (m now : Registers) → now ≡ m → now.state ≡ Running → (m.state ≡ Running → ⊥) → ⊥
-never m now same running idle = idle (sym (ap (λ r. r.state) same) ∙ running)
+-- as a slice has begun, where the machine's state is told by an equation
+pub run-begun : (m : Registers) (state : State) (old : List ℕ) → state ≡ wake m.state → HasRun 0 m old (record m { state = state }) old
+run-begun m state old is = rw is (run-begin m old)
+
+-- a trapped machine doesn't run
+never : (m now : Registers) (trap : Trap) → now ≡ m → now.state ≡ Running → m.state ≡ Trapped trap → ⊥
+never m now trap same running is = cc
 
 -- a step more, of a machine that runs
 pub run-more : (count : ℕ) (m now next : Registers) (old new newer : List ℕ) → HasRun count m old now new → now.state ≡ Running
@@ -69,9 +73,9 @@ run-more count m now next old new newer run running outside are world = record {
       let one_more : suc count ≡ count + 1 = omega arith in
       world view (shows-outside view old new run.outside (run.are_words shows.are_words) shows)
       ∙ ap (world_step view) (run.world view shows) ∙ sym (steps-suc count view _)
-      ∙ ap (λ n. steps n view (world_of m old)) one_more;
-  idle = λ idle. absurd (never m now (run.idle idle) running idle);
-  idle_words = λ idle. absurd (never m now (run.idle idle) running idle);
+      ∙ ap (λ n. world_slice view n (world_of m old)) one_more;
+  trapped = λ trap is. absurd (never m now trap (run.trapped trap is) running is);
+  trapped_words = λ trap is. absurd (never m now trap (run.trapped trap is) running is);
 }
 
 -- a machine that doesn't run has done all further steps
@@ -85,43 +89,7 @@ run-idle count budget m now old new run idle within = record {
       let all : count + (budget - count) ≡ budget = omega arith in
       sym (steps-idle (budget - count) view (world_of now new) idle)
       ∙ ap (steps (budget - count) view) (run.world view shows) ∙ sym (steps-add count (budget - count) view _)
-      ∙ ap (λ n. steps n view (world_of m old)) all;
-  idle = run.idle;
-  idle_words = run.idle_words;
+      ∙ ap (λ n. world_slice view n (world_of m old)) all;
+  trapped = run.trapped;
+  trapped_words = run.trapped_words;
 }
-
--- ---- a slice ----
-
--- steps of the woken machine are a slice
-pub sliced : (m : Registers) (state : State) (words : List ℕ) (view : View) (count : ℕ) (end : World) → state ≡ wake m.state
-    → end ≡ steps count view (world_of (record m { state = state }) words) → end ≡ world_slice view count (world_of m words)
-unfolding world_of
-sliced m state words view count end is done = done ∙ ap (λ s. steps count view (world_of (record m { state = s }) words)) is
-
--- and so they are where want of memory ended them
-pub ended-after : {E : Type 0} (result : Result (Unit {0}) E) (m : Registers) (state : State) (words : List ℕ) (view : View) (budget : ℕ)
-    (end : World) → state ≡ wake m.state
-    → OnErr result ((count : ℕ) × (count < budget) × (end ≡ steps count view (world_of (record m { state = state }) words)))
-    → OnErr result ((count : ℕ) × (count < budget) × (end ≡ world_slice view count (world_of m words)))
-ended-after (Ok _) m state words view budget end is done = tt
-ended-after (Err _) m state words view budget end is done = (done.0, done.1, sliced m state words view done.0 end is done.2)
-
--- a machine that was trapped is trapped when it is woken
-trapped-woken : (m : Registers) (state : State) (trap : Trap) → state ≡ wake m.state → m.state ≡ Trapped trap → state ≡ Trapped trap
-unfolding wake
-trapped-woken m state trap woken is = woken ∙ ap wake is
-
-trapped-idle : (state : State) (trap : Trap) → state ≡ Trapped trap → state ≡ Running → ⊥
-trapped-idle state trap is running = cc
-
--- it stays as it is
-pub trapped-after : (m now : Registers) (state : State) (trap : Trap) → state ≡ wake m.state
-    → ((state ≡ Running → ⊥) → now ≡ record m { state = state }) → m.state ≡ Trapped trap → now ≡ m
-trapped-after m now state trap woken idle is =
-    let stays : state ≡ Trapped trap = trapped-woken m state trap woken is in
-    idle (trapped-idle state trap stays) ∙ ap (λ s. record m { state = s }) (stays ∙ sym is)
-
--- and so do the words
-pub trapped_words-after : (m : Registers) (old new : List ℕ) (state : State) (trap : Trap) → state ≡ wake m.state
-    → ((state ≡ Running → ⊥) → new ≡ old) → m.state ≡ Trapped trap → new ≡ old
-trapped_words-after m old new state trap woken idle is = idle (trapped-idle state trap (trapped-woken m state trap woken is))

@@ -1,5 +1,5 @@
 // Level 1's machine, and the slices in which it runs.
-ghost use Rattle.std.specs.Prelude.{◌≡◌, ◌≢◌, ◌↔◌, ℕ, ◌<◌, IsTrue, IsOk, OnOk, OnErr};
+ghost use Rattle.std.specs.Prelude.{◌≡◌, ◌↔◌, ℕ, ◌<◌, IsTrue, IsOk, OnOk, OnErr};
 ghost use Rattle.eg_guard.specs.Memory.{AreWords, SameOutside};
 ghost use Rattle.eg_word.specs.declared.registers.Trap.{Trap};
 ghost use Rattle.eg_word.specs.declared.registers.State.TheVariants.{Running, Trapped};
@@ -9,7 +9,7 @@ ghost use Rattle.eg_host.specs.Slices;
 
 use eg_base::NoMemory;
 use eg_guard::Guarded;
-use eg_word::{Registers, State, step};
+use eg_word::{Registers, State, step_on};
 
 /// Level 1, which runs in slices (docs/CONCEPT.md, "Level 1").
 #[derive(Clone, Copy, Debug, PartialEq, Eq)]
@@ -29,7 +29,7 @@ impl Host {
     }
 
     /// Wakes a machine that waits, and then does at most as many steps as the budget says.
-    #[tactic(auto, using(crate::proofs::RunLemmas::sliced))]
+    #[inline(never)]
     pub fn slice<M: Guarded>(&mut self, memory: &mut M, budget: u16) -> Result<(), NoMemory>
         // Over a memory that shows a view it is a slice of level 1's private world with that view.
         ensures world { (view : View) → Shows (M.shows memory.old).words view
@@ -54,43 +54,17 @@ impl Host {
         ensures trapped_words { (trap : Trap) → self.old.registers.state ≡ Trapped trap
             → (M.shows memory.new).words ≡ (M.shows memory.old).words }
     {
-        let mut registers = self.registers;
-        registers.state = wake(registers.state);
-        let done = run(&mut registers, memory, budget);
-        self.registers = registers;
-        done
-    }
-}
-
-/// Does at most as many steps as the budget says. A slice hands over a copy of its machine: a store to the
-/// memory can't touch that, so that the compiler needn't read `pc` and the state again at each step.
-#[inline]
-fn run<M: Guarded>(registers: &mut Registers, memory: &mut M, budget: u16) -> Result<(), NoMemory>
-    // Over a memory that shows a view these are steps of level 1's private world with that view.
-    ensures world { (view : View) → Shows (M.shows memory.old).words view
-        → OnOk result (world_of registers.new (M.shows memory.new).words
-        ≡ Slices.steps budget view (world_of registers.old (M.shows memory.old).words)) }
-    ensures ended { (view : View) → Shows (M.shows memory.old).words view
-        → OnErr result ((count : ℕ) × (count < budget)
-        × (world_of registers.new (M.shows memory.new).words
-        ≡ Slices.steps count view (world_of registers.old (M.shows memory.old).words))) }
-    ensures sure { IsTrue (M.shows memory.old).sure → IsOk result }
-    ensures stays_sure { (M.shows memory.new).sure ≡ (M.shows memory.old).sure }
-    ensures outside { SameOutside is_level1_own (M.shows memory.old).words (M.shows memory.new).words }
-    ensures are_words { AreWords (M.shows memory.old).words → AreWords (M.shows memory.new).words }
-
-    // A machine that doesn't run stays as it is, and changes nothing.
-    ensures idle { registers.old.state ≢ Running → registers.new ≡ registers.old }
-    ensures idle_words { registers.old.state ≢ Running
-        → (M.shows memory.new).words ≡ (M.shows memory.old).words }
-{
-    for _done in 0..budget {
-        if !is_running(registers.state) {
-            break;
+        self.registers.state = wake(self.registers.state);
+        if !is_running(self.registers.state) {
+            return Ok(());
         }
-        step(registers, memory)?;
+        for _done in 0..budget {
+            if !step_on(&mut self.registers, memory)? {
+                break;
+            }
+        }
+        Ok(())
     }
-    Ok(())
 }
 
 /// The state in which a slice begins.
