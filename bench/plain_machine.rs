@@ -1,6 +1,6 @@
-// Level 1's machine as plain Rust, written to be fast: an array of words, one match on the operation, and the guard
-// as comparisons. It is measured beside the proved one by `bench/run`, and prints the same registers, state and sum
-// over memory.
+// Level 1's machine as plain Rust, written to be fast: an array of words, one match on the operation, fields that are
+// read where they are needed, `pc` in a local, and the guard as comparisons. It is the machine of plain_unit.rs, is
+// measured beside the proved one by `bench/run`, and prints the same registers, state and sum over memory.
 // Usage: plain_machine SLICES, each of 1,000 steps of a busy image.
 
 /// A loop of 15 instructions that loads, stores, computes and jumps.
@@ -32,79 +32,102 @@ fn may_store(at: u16) -> bool {
     (1024..2048).contains(&at) || (2064..=2065).contains(&at)
 }
 
+// The fields of an instruction, taken where they are needed.
+#[inline(always)]
+fn a(word: u16) -> usize {
+    usize::from(word >> 9 & 7)
+}
+
+#[inline(always)]
+fn b(word: u16) -> usize {
+    usize::from(word >> 6 & 7)
+}
+
+#[inline(always)]
+fn c(word: u16) -> usize {
+    usize::from(word >> 3 & 7)
+}
+
+#[inline(always)]
+fn n9(word: u16) -> u16 {
+    word & 511
+}
+
+#[inline(always)]
+fn s9(word: u16) -> i16 {
+    ((word << 7) as i16) >> 7
+}
+
+#[inline(always)]
+fn s6(word: u16) -> i16 {
+    ((word << 10) as i16) >> 10
+}
+
+/// Wakes a machine that waits, and does at most so many instructions.
 #[inline(never)]
 fn slice(m: &mut Machine, memory: &mut [u16; 4096], budget: u16) {
-    if m.state == State::Waiting {
-        m.state = State::Running;
+    if m.state == State::Trapped {
+        return;
     }
+    m.state = State::Running;
+    let mut pc = m.pc;
     for _ in 0..budget {
-        if m.state != State::Running {
-            return;
-        }
-        if m.pc >= 1024 {
+        if pc >= 1024 {
             m.state = State::Trapped;
-            return;
+            break;
         }
-        let word = memory[usize::from(m.pc)];
-        let a = usize::from(word >> 9 & 7);
-        let b = usize::from(word >> 6 & 7);
-        let c = usize::from(word >> 3 & 7);
-        let n6 = word & 63;
-        let n9 = word & 511;
-        let here = m.pc;
-        let next = here.wrapping_add(1);
-        m.pc = next;
-        match word >> 12 {
-            0 => {}
-            1 => m.r[a] = n9,
-            2 => m.r[a] = (m.r[a] << 7).wrapping_add(n9 & 127),
-            3 => m.r[a] = m.r[b],
-            4 => m.r[a] = m.r[b].wrapping_add(m.r[c]),
-            5 => m.r[a] = m.r[b].wrapping_sub(m.r[c]),
-            6 => m.r[a] = m.r[b] & m.r[c],
-            7 => m.r[a] = m.r[b] | m.r[c],
-            8 => m.r[a] = m.r[b] ^ m.r[c],
-            9 => m.r[a] = m.r[b] >> (n6 & 15),
-            10 => m.r[a] = m.r[b].wrapping_mul(m.r[c]),
-            11 => {
-                let at = m.r[b].wrapping_add(n6);
-                if !may_load(at) {
-                    m.pc = here;
-                    m.state = State::Trapped;
-                    return;
-                }
-                m.r[a] = memory[usize::from(at)];
+        let word = memory[usize::from(pc)];
+        match step(&mut m.r, memory, word, pc + 1) {
+            Ok(next) => pc = next,
+            Err(state) => {
+                pc += u16::from(state == State::Waiting);
+                m.state = state;
+                break;
             }
-            12 => {
-                let at = m.r[b].wrapping_add(n6);
-                if !may_store(at) {
-                    m.pc = here;
-                    m.state = State::Trapped;
-                    return;
-                }
-                memory[usize::from(at)] = m.r[a];
-            }
-            13 => {
-                if m.r[a] == 0 {
-                    m.pc = next.wrapping_add_signed(((n9 << 7) as i16) >> 7);
-                }
-            }
-            14 => {
-                if m.r[a] < m.r[b] {
-                    m.pc = next.wrapping_add_signed(((n6 << 10) as i16) >> 10);
-                }
-            }
-            _ => match n9 {
-                0 => m.state = State::Waiting,
-                1 => m.pc = m.r[a],
-                _ => {
-                    m.pc = here;
-                    m.state = State::Trapped;
-                    return;
-                }
-            },
         }
     }
+    m.pc = pc;
+}
+
+/// One instruction: where the next one stands, or the state that ends the slice.
+#[inline(always)]
+fn step(r: &mut [u16; 8], memory: &mut [u16; 4096], word: u16, next: u16) -> Result<u16, State> {
+    match word >> 12 {
+        0 => {}
+        1 => r[a(word)] = n9(word),
+        2 => r[a(word)] = (r[a(word)] << 7).wrapping_add(word & 127),
+        3 => r[a(word)] = r[b(word)],
+        4 => r[a(word)] = r[b(word)].wrapping_add(r[c(word)]),
+        5 => r[a(word)] = r[b(word)].wrapping_sub(r[c(word)]),
+        6 => r[a(word)] = r[b(word)] & r[c(word)],
+        7 => r[a(word)] = r[b(word)] | r[c(word)],
+        8 => r[a(word)] = r[b(word)] ^ r[c(word)],
+        9 => r[a(word)] = r[b(word)] >> (word & 15),
+        10 => r[a(word)] = r[b(word)].wrapping_mul(r[c(word)]),
+        11 => r[a(word)] = load(memory, r[b(word)].wrapping_add(word & 63))?,
+        12 => store(memory, r[b(word)].wrapping_add(word & 63), r[a(word)])?,
+        13 if r[a(word)] == 0 => return Ok(next.wrapping_add_signed(s9(word))),
+        14 if r[a(word)] < r[b(word)] => return Ok(next.wrapping_add_signed(s6(word))),
+        13 | 14 => {}
+        _ if n9(word) == 0 => return Err(State::Waiting),
+        _ if n9(word) == 1 => return Ok(r[a(word)]),
+        _ => return Err(State::Trapped),
+    }
+    Ok(next)
+}
+
+#[inline(always)]
+fn load(memory: &[u16; 4096], at: u16) -> Result<u16, State> {
+    if may_load(at) { Ok(memory[usize::from(at)]) } else { Err(State::Trapped) }
+}
+
+#[inline(always)]
+fn store(memory: &mut [u16; 4096], at: u16, word: u16) -> Result<(), State> {
+    if !may_store(at) {
+        return Err(State::Trapped);
+    }
+    memory[usize::from(at)] = word;
+    Ok(())
 }
 
 fn main() {

@@ -1,5 +1,5 @@
 // The memory map: which words there are, and who may load and store them.
-ghost use Rattle.std.specs.Prelude.{◌≡◌};
+ghost use Rattle.std.specs.Prelude.{◌≡◌, ◌≤◌};
 ghost use Rattle.eg_guard.specs.Regions;
 
 /// Who asks for a word (docs/CONCEPT.md, "Guarded memory").
@@ -92,10 +92,24 @@ impl Region {
 pub fn region_of(address: u16) -> Region
     ensures { result ≡ Regions.region_of address }
 {
+    match address / 1024 {
+        0 => Region::Code,
+        1 => Region::Data,
+        _ => port_of(address),
+    }
+}
+
+/// The region of an address past the data. (Code and data are apart, since they are asked for most often.)
+#[inline]
+#[tactic(auto, unfolding(crate::specs::Regions::region_of))]
+fn port_of(address: u16) -> Region
+    requires { 2048 ≤ address }
+    ensures { result ≡ Regions.region_of address }
+{
+    if address < 2058 {
+        return Region::InPorts;
+    }
     match address {
-        0..=1023 => Region::Code,
-        1024..=2047 => Region::Data,
-        2048..=2057 => Region::InPorts,
         2064..=2065 => Region::OutPorts,
         2080..=2084 => Region::Results,
         2096..=2122 => Region::Protected,

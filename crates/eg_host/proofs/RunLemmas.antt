@@ -2,6 +2,7 @@
 use Rattle.std.proofs.Common.{◌≡◌, ◌∙◌, refl, sym, ap, ℕ, zero, suc, ◌+◌, ◌-◌, ◌≤◌, List, slice_index, arith, add-one}
 use Rattle.eg_guard.specs.Memory.{AreWords, SameOutside}
 use Rattle.eg_word.specs.declared.registers.Trap.{Trap}
+use Rattle.eg_word.specs.declared.registers.State.{State}
 use Rattle.eg_word.specs.declared.registers.State.TheVariants.{Running, Trapped}
 use Rattle.eg_word.specs.declared.registers.Registers.{Registers}
 use Rattle.eg_word.specs.Memory.{is_level1_own}
@@ -51,6 +52,10 @@ run-begin m old = record {
   trapped = λ trap is. ap (λ state. record m { state = wake state }) is ∙ ap (λ state. record m { state = state }) (sym is);
   trapped_words = λ trap is. refl;
 }
+
+-- as a slice has begun, where the machine's state is told by an equation
+pub run-begun : (m : Registers) (state : State) (old : List ℕ) → state ≡ wake m.state → HasRun 0 m old (record m { state = state }) old
+run-begun m state old is = rw is (run-begin m old)
 
 -- a trapped machine doesn't run
 never : (m now : Registers) (trap : Trap) → now ≡ m → now.state ≡ Running → m.state ≡ Trapped trap → ⊥

@@ -9,7 +9,7 @@ ghost use Rattle.eg_host.specs.Slices;
 
 use eg_base::NoMemory;
 use eg_guard::Guarded;
-use eg_word::{Registers, State, step};
+use eg_word::{Registers, State, step_on};
 
 /// Level 1, which runs in slices (docs/CONCEPT.md, "Level 1").
 #[derive(Clone, Copy, Debug, PartialEq, Eq)]
@@ -29,6 +29,7 @@ impl Host {
     }
 
     /// Wakes a machine that waits, and then does at most as many steps as the budget says.
+    #[inline(never)]
     pub fn slice<M: Guarded>(&mut self, memory: &mut M, budget: u16) -> Result<(), NoMemory>
         // Over a memory that shows a view it is a slice of level 1's private world with that view.
         ensures world { (view : View) → Shows (M.shows memory.old).words view
@@ -54,11 +55,13 @@ impl Host {
             → (M.shows memory.new).words ≡ (M.shows memory.old).words }
     {
         self.registers.state = wake(self.registers.state);
+        if !is_running(self.registers.state) {
+            return Ok(());
+        }
         for _done in 0..budget {
-            if !is_running(self.registers.state) {
+            if !step_on(&mut self.registers, memory)? {
                 break;
             }
-            step(&mut self.registers, memory)?;
         }
         Ok(())
     }

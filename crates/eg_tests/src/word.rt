@@ -1,6 +1,6 @@
 // Every instruction with an example, over a guarded memory.
 use eg_guard::{FlatMemory, Guarded, StingyMemory, Who};
-use eg_word::{Instruction, Register, Registers, State, Trap, decode, step};
+use eg_word::{Instruction, Register, Registers, State, Trap, decode, step, step_on};
 use std::process::Abort;
 
 /// The machine after one step with this word at address 0, from these registers. At 1024 stands 0x5a5a.
@@ -54,6 +54,25 @@ fn each_instruction_that_makes_a_word(rt: HostRuntime) {
     makes(&rt, 0xa650, 300, 300, 24464);
     makes(&rt, 0xb642, 1022, 0, 0x5a5a);
     makes(&rt, 0xb641, 65535, 0, 0xb641);
+}
+
+/// Whether a machine runs on after one step with this word at address 0.
+fn runs_on(rt: &impl Abort, word: u16) -> Option<bool> {
+    let mut memory = FlatMemory::new();
+    assert_eq!(rt; memory.store(Who::Board, 0, word), Ok(()));
+    let mut registers = Registers {
+        r: [0; 8],
+        pc: 0,
+        state: State::Running,
+    };
+    step_on(&mut registers, &mut memory).ok()
+}
+
+#[test]
+fn a_step_tells_whether_the_machine_runs_on(rt: HostRuntime) {
+    assert_eq!(rt; runs_on(&rt, 0), Some(true));
+    assert_eq!(rt; runs_on(&rt, 0xf000), Some(false));
+    assert_eq!(rt; runs_on(&rt, 0xf002), Some(false));
 }
 
 #[test]

@@ -103,43 +103,73 @@ pub enum Instruction {
     Illegal,
 }
 
+// An instruction of three registers, read from a word.
+macro_rules! three_registers {
+    ($name:ident, $word:ident) => {
+        Instruction::$name {
+            a: register($word / 512),
+            b: register($word / 64),
+            c: register($word / 8),
+        }
+    };
+}
+
+// An instruction of two registers and a number, read from a word.
+macro_rules! two_registers {
+    ($name:ident, $word:ident) => {
+        Instruction::$name {
+            a: register($word / 512),
+            b: register($word / 64),
+            n: $word % 64,
+        }
+    };
+}
+
 /// The instruction that a word is (docs/FORMATS.md, "Instructions"). Bits that it doesn't use are ignored.
+///
+/// A field is read where an instruction has it, and not before: the machine decodes a word at each step.
 #[inline]
 #[tactic(auto, unfolding(crate::specs::Instructions::instruction_with))]
 pub fn decode(word: u16) -> Instruction
     ensures { result ≡ instruction_of word }
 {
-    let a = register(word / 512);
-    let b = register(word / 64);
-    let c = register(word / 8);
-    let n6 = word % 64;
-    let n9 = word % 512;
     match word / 4096 {
         0 => Instruction::Nop,
-        1 => Instruction::Ldi { a, n: n9 },
-        2 => Instruction::Ldx { a, n: n9 },
-        3 => Instruction::Mov { a, b },
-        4 => Instruction::Add { a, b, c },
-        5 => Instruction::Sub { a, b, c },
-        6 => Instruction::And { a, b, c },
-        7 => Instruction::Or { a, b, c },
-        8 => Instruction::Xor { a, b, c },
-        9 => Instruction::Shr { a, b, n: n6 },
-        10 => Instruction::Mul { a, b, c },
-        11 => Instruction::Ld { a, b, n: n6 },
-        12 => Instruction::St { a, b, n: n6 },
+        1 => Instruction::Ldi {
+            a: register(word / 512),
+            n: word % 512,
+        },
+        2 => Instruction::Ldx {
+            a: register(word / 512),
+            n: word % 512,
+        },
+        3 => Instruction::Mov {
+            a: register(word / 512),
+            b: register(word / 64),
+        },
+        4 => three_registers!(Add, word),
+        5 => three_registers!(Sub, word),
+        6 => three_registers!(And, word),
+        7 => three_registers!(Or, word),
+        8 => three_registers!(Xor, word),
+        9 => two_registers!(Shr, word),
+        10 => three_registers!(Mul, word),
+        11 => two_registers!(Ld, word),
+        12 => two_registers!(St, word),
         13 => Instruction::Jz {
-            a,
-            d: signed(n9, 256),
+            a: register(word / 512),
+            d: signed(word % 512, 256),
         },
         14 => Instruction::Jlt {
-            a,
-            b,
-            d: signed(n6, 32),
+            a: register(word / 512),
+            b: register(word / 64),
+            d: signed(word % 64, 32),
         },
-        _ => match n9 {
+        _ => match word % 512 {
             0 => Instruction::Wait,
-            1 => Instruction::Jr { a },
+            1 => Instruction::Jr {
+                a: register(word / 512),
+            },
             _ => Instruction::Illegal,
         },
     }

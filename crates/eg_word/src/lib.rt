@@ -12,6 +12,6 @@ mod register;
 mod registers;
 
 pub use instruction::{Instruction, decode};
-pub use machine::step;
+pub use machine::{step, step_on};
 pub use register::Register;
 pub use registers::{Registers, State, Trap};

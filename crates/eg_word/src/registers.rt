@@ -1,5 +1,5 @@
 // The registers and the state of level 1's machine.
-ghost use Rattle.std.specs.Prelude.{◌≡◌, slice_set, if◌then◌else◌};
+ghost use Rattle.std.specs.Prelude.{◌≡◌, true, false, slice_set, if◌then◌else◌};
 ghost use Rattle.eg_word.specs.declared.registers.State.TheVariants.{Waiting, Trapped};
 ghost use Rattle.eg_word.specs.Machine.{reg, next, beyond};
 ghost use Rattle.eg_word.specs.World.{new_registers};
@@ -81,28 +81,35 @@ impl Registers {
         self.next().wrapping_add_signed(distance)
     }
 
-    /// Puts a word into a register, and goes to the next instruction.
+    /// Puts a word into a register, and goes to the next instruction. Like the functions below it tells
+    /// whether the machine runs on.
     #[inline]
     #[tactic(auto, unfolding(crate::specs::Machine::next))]
-    pub(crate) fn set(&mut self, register: Register, word: u16)
-        ensures { self.new ≡ record self.old { r = slice_set self.old.r register word; pc = next self.old } }
+    pub(crate) fn set(&mut self, register: Register, word: u16) -> bool
+        ensures runs { result ≡ true }
+        ensures set { self.new
+            ≡ record self.old { r = slice_set self.old.r register word; pc = next self.old } }
     {
         self.r[register.index()] = word;
         self.pc = self.next();
+        true
     }
 
     /// Goes to the instruction at this address.
     #[inline]
-    pub(crate) fn jump(&mut self, address: u16)
-        ensures { self.new ≡ record self.old { pc = address } }
+    pub(crate) fn jump(&mut self, address: u16) -> bool
+        ensures runs { result ≡ true }
+        ensures jumps { self.new ≡ record self.old { pc = address } }
     {
         self.pc = address;
+        true
     }
 
     /// Goes so far beyond the next instruction where the condition holds, else to the next one.
     #[inline]
-    pub(crate) fn jump_if(&mut self, condition: bool, distance: i16)
-        ensures { self.new
+    pub(crate) fn jump_if(&mut self, condition: bool, distance: i16) -> bool
+        ensures runs { result ≡ true }
+        ensures jumps { self.new
             ≡ record self.old { pc = if condition then beyond self.old distance else next self.old } }
     {
         self.pc = if condition {
@@ -110,23 +117,28 @@ impl Registers {
         } else {
             self.next()
         };
+        true
     }
 
     /// Waits for the next slice, at the next instruction.
     #[inline]
     #[tactic(auto, unfolding(crate::specs::Machine::next))]
-    pub(crate) fn wait(&mut self)
-        ensures { self.new ≡ record self.old { state = Waiting; pc = next self.old } }
+    pub(crate) fn wait(&mut self) -> bool
+        ensures ends { result ≡ false }
+        ensures waits { self.new ≡ record self.old { state = Waiting; pc = next self.old } }
     {
         self.state = State::Waiting;
         self.pc = self.next();
+        false
     }
 
     /// Stops the machine; registers and `pc` stay.
     #[inline]
-    pub(crate) fn trap(&mut self, trap: Trap)
-        ensures { self.new ≡ record self.old { state = Trapped trap } }
+    pub(crate) fn trap(&mut self, trap: Trap) -> bool
+        ensures ends { result ≡ false }
+        ensures traps { self.new ≡ record self.old { state = Trapped trap } }
     {
         self.state = State::Trapped(trap);
+        false
     }
 }
