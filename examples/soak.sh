@@ -1,0 +1,1 @@
+./egasim soak 1 100
