@@ -1,9 +1,11 @@
 // The campaign that a command plays.
-ghost use Rattle.std.specs.Prelude.{◌≡◌, IfErr, IfOk, IsOk};
+ghost use Rattle.std.specs.Prelude.{◌≡◌, ◌≢◌, ◌↔◌, Err, IfErr, IfOk, IsOk, IsTrue};
+ghost use Rattle.eg_base.specs.Outside.{IsMissing};
 ghost use Rattle.eg_campaign.specs.Refusals.{IsRead, seen};
 ghost use Rattle.eg_campaign.specs.Rules.{AreRuns};
 ghost use Rattle.eg_outcome.specs.Reads.{BytesCome, FileComes};
 ghost use Rattle.eg_outcome.specs.Outcomes.{TellsNoMemory};
+ghost use Rattle.eg_outcome.specs.declared.outcome.Outcome.TheVariants.{ReadFault};
 ghost use Rattle.eg_outcome.specs.declared.outcome.Role.TheVariants as role;
 ghost use Rattle.eg_play.specs.Files.{campaign_said, campaign_file};
 ghost use Rattle.eg_play.specs.Ends.{IsNotOfRun};
@@ -20,6 +22,8 @@ pub(crate) fn campaign_for<S: Store>(
     store: &mut S,
 ) -> Result<Items<RunPlan>, Outcome>
     ensures comes { FileComes role.Campaign campaign_file file.now (S.shows store.old) (S.shows store.new) result }
+    ensures missing { IsTrue (S.shows store.old).sure →
+        ((result ≡ Err (ReadFault role.Campaign)) ↔ IsMissing (S.shows store.old).files file.now) }
     ensures rules { IfOk result AreRuns }
     ensures no_memory { IfErr result TellsNoMemory }
     ensures of_campaign { IfErr result IsNotOfRun }
@@ -39,6 +43,7 @@ pub(crate) fn campaign_for<S: Store>(
 /// The runs that a campaign file of these bytes says, or how the call ends without them.
 fn campaign_in(alloc: Global, bytes: &[u8]) -> Result<Items<RunPlan>, Outcome>
     ensures comes { BytesCome campaign_file bytes.now result }
+    ensures read { result ≢ Err (ReadFault role.Campaign) }
     ensures rules { IfOk result AreRuns }
     ensures no_memory { IfErr result TellsNoMemory }
     ensures of_campaign { IfErr result IsNotOfRun }

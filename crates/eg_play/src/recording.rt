@@ -1,6 +1,7 @@
 // `record [--cal NAME] CAMPAIGN RUN`: the record of one run of a campaign.
-ghost use Rattle.std.specs.Prelude.{◌≡◌, IsTrue, Some, bytes_eq};
+ghost use Rattle.std.specs.Prelude.{◌≡◌, IsTrue, Some, None, bytes_eq};
 ghost use Rattle.std.specs.Option.{option_copied};
+ghost use Rattle.eg_base.specs.Outside.{IsMissing};
 ghost use Rattle.eg_agree.specs.Replies.{IsAnyFault};
 ghost use Rattle.eg_campaign.specs.Rules.{AreRuns};
 ghost use Rattle.eg_outcome.specs.Calibrations.{MissesCalibration};
@@ -35,10 +36,12 @@ pub fn record<S: Store, K: Sink>(
         (S.shows store.old) (S.shows store.new) (K.shows out.old) (K.shows out.new)
         steps.old steps.new result.outcome }
     ensures named { NamesFile campaign.now (S.shows store.old) (role_in result.outcome) result.file }
-    // Over a sure store a missing calibration is told.
+    // Over a sure store a missing calibration is told, and so is a missing campaign that is read first.
     ensures missing { IsTrue (S.shows store.old).sure
         → MissesCalibration (option_copied calibration.entry) (S.shows store.old)
         → result.outcome ≡ ReadFault role.Calibration }
+    ensures missing_campaign { IsTrue (S.shows store.old).sure → option_copied calibration.entry ≡ None
+        → IsMissing (S.shows store.old).files campaign.now → result.outcome ≡ ReadFault role.Campaign }
     ensures no_memory { TellsNoMemory result.outcome }
     ensures files { (S.shows store.new).files ≡ (S.shows store.old).files }
     ensures nothing_put { PutsNothing result.outcome → out.new ≡ out.old }
@@ -64,6 +67,8 @@ fn record_by<S: Store, K: Sink>(
         (NothingPlayed (K.shows out.old) (K.shows out.new) steps.old steps.new)
         (λ plans. NamedEnds calibration.now (run_named name.now 1 plans) (S.shows store.old)
         (S.shows store.new) (K.shows out.old) (K.shows out.new) steps.old steps.new) result.outcome }
+    ensures missing_campaign { IsTrue (S.shows store.old).sure
+        → IsMissing (S.shows store.old).files campaign.now → result.outcome ≡ ReadFault role.Campaign }
     ensures named { NamesFile campaign.now (S.shows store.old) (role_in result.outcome) result.file }
     ensures no_memory { TellsNoMemory result.outcome }
     ensures files { (S.shows store.new).files ≡ (S.shows store.old).files }

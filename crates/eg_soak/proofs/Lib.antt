@@ -1,3 +1,4 @@
 pub mod RunsLemmas
 pub mod FactsLemmas
 pub mod TextLemmas
+pub mod SumLemmas

@@ -32,10 +32,11 @@ facts_in report rows = record {
 unfoldable pub facts_of : Run → RunFacts
 facts_of r = facts_in (report_of [] r) (record_rows r)
 
+-- a watch, if any, is this one
+unfoldable pub is_watch : Watch → Option Watch → Bool
+is_watch watch None = false
+is_watch watch (Some other) = rank other == rank watch
+
 -- this watch is the first that was detected
 unfoldable pub is_first : Watch → RunFacts → Bool
-is_first watch facts = has_rank (rank watch) facts.first
-  where
-    has_rank : ℕ → Option Watch → Bool
-    has_rank n None = false
-    has_rank n (Some first) = rank first == n
+is_first watch facts = is_watch watch facts.first

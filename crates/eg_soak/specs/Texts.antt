@@ -17,9 +17,9 @@ numbers s =
     ∷ (codes "answers", slice_index s.by_watch 6) ∷ (codes "trapped", s.trapped) ∷ (codes "off", s.off)
     ∷ (codes "longest", s.longest) ∷ []
 
--- a line for each
-unfoldable pub lines_text : List (List ℕ × ℕ) → List ℕ
-lines_text named = concat (map soak_line named)
+-- a line for each of some numbers
+unfoldable pub lines_of : List (List ℕ × ℕ) → List (List ℕ)
+lines_of named = map soak_line named
 
 unfoldable pub soak_text : SoakSummary → List ℕ
-soak_text s = lines_text (numbers s)
+soak_text s = concat (lines_of (numbers s))

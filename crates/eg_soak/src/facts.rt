@@ -18,7 +18,7 @@ use std::alloc::Global;
 
 /// What `soak` counts of a run (docs/CONCEPT.md, "`soak`").
 #[derive(Clone, Copy, Debug, PartialEq, Eq)]
-pub struct RunFacts {
+pub(crate) struct RunFacts {
     /// The first watch that is found, if any.
     pub first: Option<Watch>,
     /// Whether level 1 trapped.
@@ -32,8 +32,8 @@ pub struct RunFacts {
 
 impl RunFacts {
     /// Whether this watch is the first that was found.
-    #[tactic(auto, unfolding(crate::specs::Facts::is_first, eg_record::specs::Detection::rank))]
-    pub fn is_first(&self, watch: Watch) -> bool
+    #[tactic(auto, unfolding(crate::specs::Facts::is_first, crate::specs::Facts::is_watch, eg_record::specs::Detection::rank))]
+    pub(crate) fn is_first(&self, watch: Watch) -> bool
         ensures { result ≡ is_first watch self.now }
     {
         self.first == Some(watch)

@@ -10,7 +10,6 @@ mod playing;
 mod summary;
 mod texts;
 
-pub use facts::RunFacts;
 pub use playing::soak;
 pub use summary::SoakSummary;
 pub use texts::soak_lines;

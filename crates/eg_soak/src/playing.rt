@@ -1,11 +1,12 @@
 // Runs that are drawn from a number, played one after another.
 ghost use Rattle.std.specs.Prelude.{◌≡◌, ℕ, ◌+◌, ◌%◌, ◌^◌, ◌≤◌, ◌*◌, length, map, IfOk, OnOk, OnErr};
+ghost use Rattle.std.specs.List.{sum};
 ghost use Rattle.eg_campaign.specs.Plays.{count_after, ticks_of};
 ghost use Rattle.eg_soak.specs.Facts.{facts_of};
 ghost use Rattle.eg_soak.specs.Soak.{drawn_runs, soak_of};
 
-use crate::facts::play;
-use crate::{RunFacts, SoakSummary};
+use crate::SoakSummary;
+use crate::facts::{RunFacts, play};
 use eg_base::NoMemory;
 use eg_draw::Generator;
 use eg_tick::Ticks;
@@ -19,8 +20,12 @@ pub fn soak(alloc: Global, seed: u32, runs: u32, steps: &mut Ticks) -> Result<So
     requires least { 1 ≤ runs }
     requires most { runs ≤ 500 }
     ensures summary { IfOk result (λ summary. summary ≡ soak_of (drawn_runs runs seed)) }
+    // Each run is counted once: by its first watch, or among those in which none was found.
+    ensures runs { IfOk result (λ summary. summary.runs ≡ runs) }
+    ensures sums { IfOk result (λ summary. summary.none + sum summary.by_watch ≡ runs) }
     // The ticks of all runs are counted. Where memory ran out, no more than these are.
     ensures counted { OnOk result (steps.new ≡ count_after steps.old (drawn_runs runs seed)) }
+    ensures ticks { ticks_of (drawn_runs runs seed) ≡ runs * 2000 }
     ensures count { OnErr result ((n : ℕ) × (n ≤ ticks_of (drawn_runs runs seed))
         × (steps.new.count ≡ (steps.old.count + n) % 2 ^ 64)) }
 {

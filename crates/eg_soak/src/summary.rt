@@ -4,7 +4,7 @@ ghost use Rattle.std.specs.List.{fold};
 ghost use Rattle.eg_soak.specs.Facts.{is_first};
 ghost use Rattle.eg_soak.specs.Soak.{summary_of};
 
-use crate::RunFacts;
+use crate::facts::RunFacts;
 use eg_record::Watch;
 
 /// What `soak` tells of its runs (docs/CONCEPT.md, "`soak`").

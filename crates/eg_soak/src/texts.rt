@@ -1,7 +1,6 @@
 // The lines of the summary of `soak`.
 ghost use Rattle.std.specs.Prelude.{◌≡◌, ◌++◌, ◌∷◌, [], ℕ, List, map, string_bytes, IfOk, OnOk};
-ghost use Rattle.std.specs.List.{concat};
-ghost use Rattle.eg_soak.specs.Texts.{lines_text, soak_text};
+ghost use Rattle.eg_soak.specs.Texts.{lines_of, numbers};
 
 use crate::SoakSummary;
 use eg_base::NoMemory;
@@ -9,9 +8,8 @@ use std::alloc::Global;
 
 /// The lines of a summary, one for each of its numbers, each with its LF (docs/FORMATS.md, "The summary of
 /// `soak`").
-#[tactic(auto, unfolding(crate::specs::Texts::soak_text, crate::specs::Texts::numbers))]
 pub fn soak_lines(alloc: Global, summary: &SoakSummary) -> Result<Vec<String>, NoMemory>
-    ensures { IfOk result (λ lines. concat (map string_bytes lines.items) ≡ soak_text summary.now) }
+    ensures { IfOk result (λ lines. map string_bytes lines.items ≡ lines_of (numbers summary.now)) }
 {
     let mut lines = Vec::new(alloc);
     push(alloc, &mut lines, "runs", summary.runs)?;
@@ -32,9 +30,8 @@ pub fn soak_lines(alloc: Global, summary: &SoakSummary) -> Result<Vec<String>, N
 
 /// Appends the line of a number.
 fn push(alloc: Global, lines: &mut Vec<String>, name: &str, number: u32) -> Result<(), NoMemory>
-    ensures { (before : List (List ℕ × ℕ)) → concat (map string_bytes lines.old.items) ≡ lines_text before
-        → OnOk result (concat (map string_bytes lines.new.items)
-        ≡ lines_text (before ++ (name.now, number) ∷ [])) }
+    ensures { (before : List (List ℕ × ℕ)) → map string_bytes lines.old.items ≡ lines_of before
+        → OnOk result (map string_bytes lines.new.items ≡ lines_of (before ++ (name.now, number) ∷ [])) }
 {
     let line = format!(in alloc; "{name} {number}\n")?;
     lines.push(line)?;

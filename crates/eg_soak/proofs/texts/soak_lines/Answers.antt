@@ -1,14 +1,13 @@
 use Rattle.std.proofs.Common.{◌≡◌, ap, [], map}
 use Rattle.std.specs.Prelude.{string_bytes}
-use Rattle.std.specs.List.{concat}
-use Rattle.eg_soak.specs.Texts.{lines_text, numbers, soak_text}
+use Rattle.eg_soak.specs.Texts.{lines_of, numbers}
 use Rattle.eg_soak.proofs.texts.soak_lines.Goals as goal
 
 pub returns : goal.returns
-unfolding numbers soak_text
+unfolding numbers
 returns c =
-    let none : concat (map string_bytes c.new-lines.result.items) ≡ lines_text [] =
-    unfold lines_text in (ap (λ l. concat (map string_bytes l)) c.new-lines.ensures.items) in
+    let none : map string_bytes c.new-lines.result.items ≡ lines_of [] =
+    unfold lines_of in (ap (map string_bytes) c.new-lines.ensures.items) in
     let runs = c.in_ok-push.ensures _ none in
     let undetected = c.in_ok-push-2.ensures _ runs in
     let mirror = c.in_ok-push-3.ensures _ undetected in

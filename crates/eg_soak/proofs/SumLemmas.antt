@@ -1,0 +1,67 @@
+-- Each run is counted once.
+use Rattle.std.proofs.Common.{◌≡◌, ◌∙◌, refl, ap, ℕ, suc, ◌+◌, Bool, not, is_some, List, [], ◌∷◌, map, length, arith}
+use Rattle.std.specs.Prelude.{Option, Some, None, count_by, if◌then◌else◌}
+use Rattle.std.specs.List.{sum}
+use Rattle.eg_record.specs.declared.watch.Watch.{Watch}
+use Rattle.eg_record.specs.declared.watch.Watch.TheVariants.{Mirror, Pedal, Plate, Load, Speed, Torque, Answers}
+use Rattle.eg_record.specs.Detection.{watches, rank}
+use Rattle.eg_model.proofs.LapseRuns.{count-cons}
+use Rattle.eg_soak.specs.declared.facts.RunFacts.{RunFacts}
+use Rattle.eg_soak.specs.Facts.{is_first, is_watch}
+use Rattle.eg_soak.specs.Soak.{summary_of}
+
+-- no watch was found
+unfoldable is_none : RunFacts → Bool
+is_none facts = not (is_some facts.first)
+
+-- the count of a watch with one run more, whose first watch is this, if any
+unfoldable counted : Watch → Option Watch → ℕ → ℕ
+counted watch o n = if is_watch watch o then suc n else n
+
+unfoldable undetected : Option Watch → ℕ → ℕ
+undetected o n = if not (is_some o) then suc n else n
+
+step : (o : Option Watch) (none mirror pedal plate load speed torque answers all : ℕ) → none + (((((((0 + mirror) + pedal) + plate) + load) + speed) + torque) + answers) ≡ all →
+    undetected o none + (((((((0 + counted Mirror o mirror) + counted Pedal o pedal) + counted Plate o plate) + counted Load o load) + counted Speed o speed) + counted Torque o torque) + counted Answers o answers) ≡ suc all
+unfolding counted undetected is_watch rank
+step None none mirror pedal plate load speed torque answers all e = omega (arith, e)
+step (Some Mirror) none mirror pedal plate load speed torque answers all e = omega (arith, e)
+step (Some Pedal) none mirror pedal plate load speed torque answers all e = omega (arith, e)
+step (Some Plate) none mirror pedal plate load speed torque answers all e = omega (arith, e)
+step (Some Load) none mirror pedal plate load speed torque answers all e = omega (arith, e)
+step (Some Speed) none mirror pedal plate load speed torque answers all e = omega (arith, e)
+step (Some Torque) none mirror pedal plate load speed torque answers all e = omega (arith, e)
+step (Some Answers) none mirror pedal plate load speed torque answers all e = omega (arith, e)
+
+watch-cons : (watch : Watch) (f : RunFacts) (all : List RunFacts) →
+    count_by (is_first watch) (f ∷ all) ≡ counted watch f.first (count_by (is_first watch) all)
+unfolding counted is_first
+watch-cons watch f all = count-cons (is_first watch) f all
+
+none-cons : (f : RunFacts) (all : List RunFacts) →
+    count_by is_none (f ∷ all) ≡ undetected f.first (count_by is_none all)
+unfolding undetected is_none
+none-cons f all = count-cons is_none f all
+
+each : (all : List RunFacts) → count_by is_none all + (((((((0 + count_by (is_first Mirror) all) + count_by (is_first Pedal) all) + count_by (is_first Plate) all) + count_by (is_first Load) all) + count_by (is_first Speed) all) + count_by (is_first Torque) all) + count_by (is_first Answers) all) ≡ length all
+each [] = refl
+each (f ∷ all) =
+    let before = each all in
+    let next = step f.first (count_by is_none all) (count_by (is_first Mirror) all) (count_by (is_first Pedal) all) (count_by (is_first Plate) all) (count_by (is_first Load) all) (count_by (is_first Speed) all) (count_by (is_first Torque) all) (count_by (is_first Answers) all) (length all) before in
+    let none = none-cons f all in
+    let mirror = watch-cons Mirror f all in
+    let pedal = watch-cons Pedal f all in
+    let plate = watch-cons Plate f all in
+    let load = watch-cons Load f all in
+    let speed = watch-cons Speed f all in
+    let torque = watch-cons Torque f all in
+    let answers = watch-cons Answers f all in
+    omega (arith, next, none, mirror, pedal, plate, load, speed, torque, answers)
+
+pub sums_up : (all : List RunFacts) → (summary_of all).none + sum (summary_of all).by_watch ≡ length all
+unfolding summary_of is_none
+sums_up all = each all
+
+pub runs_counted : (all : List RunFacts) → (summary_of all).runs ≡ length all
+unfolding summary_of
+runs_counted all = refl

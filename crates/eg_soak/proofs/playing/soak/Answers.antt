@@ -1,0 +1,20 @@
+use Rattle.std.proofs.Common.{◌∙◌, ap, ◌+◌, length}
+use Rattle.std.specs.List.{sum}
+use Rattle.eg_soak.specs.declared.summary.SoakSummary.{SoakSummary}
+use Rattle.eg_soak.proofs.RunsLemmas.{runs-ticks}
+use Rattle.eg_soak.proofs.SumLemmas.{sums_up, runs_counted}
+use Rattle.eg_soak.proofs.playing.soak.Goals as goal
+
+pub returns-in_err-all-clause-ticks : goal.returns-in_err-all-clause-ticks
+returns-in_err-all-clause-ticks c = runs-ticks c.args.runs c.args.seed
+
+pub returns-clause-runs : goal.returns-clause-runs
+returns-clause-runs c = ap (λ (s : SoakSummary). s.runs) c.of.ensures ∙ runs_counted c.deref.result.now
+    ∙ ap length c.deref.ensures.value ∙ c.in_ok-all.ensures.length
+
+pub returns-clause-sums : goal.returns-clause-sums
+returns-clause-sums c = ap (λ (s : SoakSummary). s.none + sum s.by_watch) c.of.ensures ∙ sums_up c.deref.result.now
+    ∙ ap length c.deref.ensures.value ∙ c.in_ok-all.ensures.length
+
+pub returns-clause-ticks : goal.returns-clause-ticks
+returns-clause-ticks c = runs-ticks c.args.runs c.args.seed
