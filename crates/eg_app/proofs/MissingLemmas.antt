@@ -1,5 +1,5 @@
 -- Which files `run` and `record` say to be missing, from how they end.
-use Rattle.std.proofs.Common.{◌≡◌, ◌∙◌, ◌+◌, ◌∷◌, [], List, ℕ, Option, Some, None, length, refl, sym, ap, subst}
+use Rattle.std.proofs.Common.{◌≡◌, ◌∙◌, ◌+◌, ◌∷◌, [], List, ℕ, Option, Some, None, length, refl, sym, subst}
 use Rattle.std.specs.Prelude.{Result, Ok, Err, IsTrue}
 use Rattle.eg_base.specs.Outside.{ShownStore, ShownSink}
 use Rattle.eg_num.specs.Drive.{DriveRow}

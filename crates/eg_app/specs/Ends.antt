@@ -59,7 +59,7 @@ BoundEnds calibration store later out now o = CalibratedEnds calibration store l
 
 -- ---- `soak SEED RUNS` ----
 
--- the runs that are drawn from the seed were played, and their summary was written; no file was read
+-- the runs that are drawn from the seed were played, and the summary on them was written: on Done all of it
 abbrev pub SoakEnds : (seed runs : ℕ) → ShownSink → ShownSink → TickCount → TickCount → Outcome → Type 0
 SoakEnds seed runs out now was is o =
     Plays (soak_text (soak_of (drawn_runs runs seed))) (drawn_runs runs seed) out now was is o
@@ -114,6 +114,13 @@ TellsMissingCheck (Some name) file store o = ((o ≡ outcome.ReadFault role.Chec
     × (AcceptsCalibration (Some name) store → ¬ IsMissing store.files name → IsMissing store.files file
     → (o ≡ outcome.ReadFault role.Check) ⊎ (o ≡ outcome.Memory))
 
+-- Over a sure store a missing calibration is told, and so is a missing campaign where no calibration is read
+-- before it. (That ReadFault of the campaign comes only where it is missing stands in `Ends`: `FileComes`.)
+pub record TellsMissingToPlay (calibration : Option (List ℕ)) (campaign : List ℕ) (store : ShownStore)
+    (o : Outcome) : Type 0 where
+  pub of_calibration : TellsMissingCalibration calibration store o
+  pub of_campaign : calibration ≡ None → IsMissing store.files campaign → o ≡ outcome.ReadFault role.Campaign
+
 -- Over a sure store, how missing files are told. Of the files of a campaign `Ends` says by their roles which
 -- was read, and that a fault of reading comes only where that is missing.
 abbrev pub TellsMissing : Option Command → ShownStore → Outcome → Type 0
@@ -122,9 +129,9 @@ TellsMissing (Some (check calibration file)) store o = IsTrue store.sure →
 TellsMissing (Some (bound calibration)) store o =
     IsTrue store.sure → TellsMissingCalibration calibration store o
 TellsMissing (Some (run calibration campaign)) store o =
-    IsTrue store.sure → TellsMissingCalibration calibration store o
+    IsTrue store.sure → TellsMissingToPlay calibration campaign store o
 TellsMissing (Some (record_run calibration campaign name)) store o =
-    IsTrue store.sure → TellsMissingCalibration calibration store o
+    IsTrue store.sure → TellsMissingToPlay calibration campaign store o
 TellsMissing (Some (soak seed runs)) store o = Unit {0}
 TellsMissing None store o = Unit {0}
 

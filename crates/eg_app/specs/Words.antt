@@ -98,8 +98,8 @@ soak_by (Some seed) (Some runs) = Some (soak seed runs)
 soak_by _ _ = None
 
 -- what the words ask for, where the first is `soak`: they are `soak SEED RUNS`
-abbrev pub soak_of : List (List ℕ) → Option Command
-soak_of words = if length words == 3 then soak_by (seed_in (word words 1)) (runs_in (word words 2)) else None
+abbrev pub soak_form : List (List ℕ) → Option Command
+soak_form words = if length words == 3 then soak_by (seed_in (word words 1)) (runs_in (word words 2)) else None
 
 -- what they ask for, where the first is another: by the calibration behind `--cal`, or by none
 abbrev pub calibrated_of : List (List ℕ) → Option Command
@@ -108,7 +108,7 @@ calibrated_of words = if names_calibration words then form_of words (Some (word 
 
 -- what the words ask for, or none where they have no form of a command
 abbrev pub command_of : List (List ℕ) → Option Command
-command_of words = if is_soak words then soak_of words else calibrated_of words
+command_of words = if is_soak words then soak_form words else calibrated_of words
 
 -- a command that draws runs asks for 1 to 500 of them
 abbrev pub DrawsFew : Command → Type 0

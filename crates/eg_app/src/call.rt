@@ -33,7 +33,7 @@ pub fn egasim<S: Store, K: Sink, N: Sink>(
     steps: &mut Ticks,
 ) -> Outcome
     // The headline: whatever the files hold, the report written is that of the runs that they say, and each of
-    // these runs keeps it.
+    // these runs keeps it; so does each run that is drawn.
     ensures headline { result ≡ Done → TellsHeadline (command_of (words_of words.now)) (S.shows store.old)
         (K.shows out.old) (K.shows out.new) }
 
@@ -105,7 +105,7 @@ fn run<S: Store, K: Sink>(
     work(alloc, command, store, out, steps)
 }
 
-/// The same. That the work is done where nothing hinders it is `run`'s to say.
+/// The same. The headline, and that the work is done where nothing hinders it, are `run`'s to say.
 fn work<S: Store, K: Sink>(
     alloc: Global,
     command: Command<'_>,

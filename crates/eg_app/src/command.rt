@@ -2,7 +2,7 @@
 ghost use Rattle.std.specs.Prelude.{◌≡◌, ◌≤◌, [], Some, length, option_map, unwrap_or, slice_index_or, IfSome};
 ghost use Rattle.std.specs.Option.{option_copied};
 ghost use Rattle.eg_app.specs.Notes.{calibration_name, check_name, campaign_name, name_of, role_of, file_role, name_in_words};
-ghost use Rattle.eg_app.specs.Words.{words_of, is_name, names_calibration, is_check, is_bound, is_run, is_record, form_of, is_soak, soak_of, calibrated_of, command_of, said, DrawsFew};
+ghost use Rattle.eg_app.specs.Words.{words_of, is_name, names_calibration, is_check, is_bound, is_run, is_record, form_of, is_soak, soak_form, calibrated_of, command_of, said, DrawsFew};
 
 use crate::number::number_in;
 use eg_outcome::{Outcome, Refusal, Role};
@@ -63,7 +63,7 @@ impl<'a> Command<'a> {
 
     /// What the words ask for, the first of which is `soak`.
     fn of_soak(words: &'a [String]) -> Option<Command<'a>>
-        ensures command { option_map said result ≡ soak_of (words_of words.now) }
+        ensures command { option_map said result ≡ soak_form (words_of words.now) }
         ensures few { IfSome result (λ command. DrawsFew (said command)) }
     {
         if words.len() != 3 {

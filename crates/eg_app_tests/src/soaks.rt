@@ -1,5 +1,5 @@
 // What no clause tells of `soak`: that it does its work where memory is there, and that each put holds a whole
-// line.
+// line. And what its numbers are, over many runs.
 use crate::calls::words;
 use eg_app::{Outcome, egasim};
 use eg_base::{MemorySink, MemoryStore};
@@ -42,6 +42,43 @@ fn sums_up_a_run_that_it_draws(rt: HostRuntime) -> Result<(), Fail> {
         assert!(rt; SUMMARY.starts_with(out.bytes()), "put {number}");
         assert_eq!(rt; out.bytes().len(), length, "put {number}");
         assert_eq!(rt; steps.count(), 2000);
+    }
+    Ok(())
+}
+
+const HUNDRED: &[u8] = b"runs 100
+none 27
+mirror 2
+pedal 5
+plate 3
+load 1
+speed 3
+torque 46
+answers 13
+trapped 24
+off 76
+longest 1
+";
+
+#[test]
+fn sums_up_the_same_runs_again(rt: HostRuntime) -> Result<(), Fail> {
+    let alloc = rt.alloc();
+    let lines: [(&str, &[u8], u64); 4] = [
+        ("soak 1 100", HUNDRED, 200_000),
+        ("soak 1 100", HUNDRED, 200_000),
+        ("soak 0000000001 0000000001", SUMMARY, 2000),
+        ("soak 4294967295 1", b"runs 1\nnone 0\n", 2000),
+    ];
+    for (line, begins, ticks) in lines {
+        let words = words(alloc, line)?;
+        let mut store = MemoryStore::new(alloc);
+        let mut out = MemorySink::new(alloc);
+        let mut notes = MemorySink::new(alloc);
+        let mut steps = Ticks::new();
+        let outcome = egasim(alloc, &words, &mut store, &mut out, &mut notes, &mut steps);
+        assert_eq!(rt; outcome, Outcome::Done, "{line}");
+        assert!(rt; out.bytes().starts_with(begins), "{line}");
+        assert_eq!(rt; steps.count(), ticks, "{line}");
     }
     Ok(())
 }

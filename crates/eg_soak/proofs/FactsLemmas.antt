@@ -1,5 +1,5 @@
 -- The ticks at which the stages are on, row by row; the run that is played; and what counts of it.
-use Rattle.std.proofs.Common.{◌≡◌, ◌∙◌, refl, sym, ap, ap₂, ℕ, ◌+◌, ◌<◌, ◌≤◌, List, [], ◌∷◌, get_or, length, arith}
+use Rattle.std.proofs.Common.{◌≡◌, ◌∙◌, sym, ap, ap₂, ℕ, ◌+◌, ◌<◌, List, [], get_or, length, arith}
 use Rattle.std.specs.Prelude.{Option, Some, None, IfSome, if◌then◌else◌, reverse}
 use Rattle.std.proofs.lemmas.List.{length-reverse}
 use Rattle.eg_num.specs.Drive.{DriveRow}

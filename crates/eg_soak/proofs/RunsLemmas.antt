@@ -1,11 +1,9 @@
 -- One run more of those that are drawn.
-use Rattle.std.proofs.Common.{◌≡◌, ◌∙◌, refl, sym, ap, subst, ℕ, zero, suc, ◌+◌, ◌*◌, ◌<◌, ◌≤◌, List, [], ◌∷◌, ◌++◌, map, length, add-one, arith}
-use Rattle.std.specs.List.{sum}
+use Rattle.std.proofs.Common.{◌≡◌, ◌∙◌, refl, sym, ap, ℕ, zero, suc, ◌+◌, ◌*◌, ◌<◌, ◌≤◌, [], ◌∷◌, ◌++◌, map, length, add-one, arith}
 use Rattle.std.proofs.lemmas.List.{map-append}
-use Rattle.eg_model.specs.Bench.{Run}
 use Rattle.eg_campaign.specs.Plays.{ticks_of}
 use Rattle.eg_campaign.proofs.PlayLemmas.{ticks-append, ticks-one}
-use Rattle.eg_draw.specs.Runs.{drawn_run, state_after, IsDrawn}
+use Rattle.eg_draw.specs.Runs.{drawn_run, state_after}
 use Rattle.eg_draw.proofs.ProperLemmas.{drawn_proper}
 use Rattle.eg_soak.specs.Facts.{facts_of}
 use Rattle.eg_soak.specs.Soak.{run_drawn, drawn_runs}

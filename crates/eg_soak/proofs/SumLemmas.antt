@@ -1,10 +1,10 @@
 -- Each run is counted once.
-use Rattle.std.proofs.Common.{◌≡◌, ◌∙◌, refl, ap, ℕ, suc, ◌+◌, Bool, not, is_some, List, [], ◌∷◌, map, length, arith}
+use Rattle.std.proofs.Common.{◌≡◌, refl, ℕ, suc, ◌+◌, Bool, not, is_some, List, [], ◌∷◌, length, arith}
 use Rattle.std.specs.Prelude.{Option, Some, None, count_by, if◌then◌else◌}
 use Rattle.std.specs.List.{sum}
 use Rattle.eg_record.specs.declared.watch.Watch.{Watch}
 use Rattle.eg_record.specs.declared.watch.Watch.TheVariants.{Mirror, Pedal, Plate, Load, Speed, Torque, Answers}
-use Rattle.eg_record.specs.Detection.{watches, rank}
+use Rattle.eg_record.specs.Detection.{rank}
 use Rattle.eg_model.proofs.LapseRuns.{count-cons}
 use Rattle.eg_soak.specs.declared.facts.RunFacts.{RunFacts}
 use Rattle.eg_soak.specs.Facts.{is_first, is_watch}

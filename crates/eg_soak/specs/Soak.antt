@@ -1,5 +1,5 @@
 -- The runs that `soak` plays, and its summary of them.
-use Rattle.std.specs.Prelude.{ℕ, zero, suc, Bool, not, is_some, max, List, [], ◌∷◌, map, length, count_by}
+use Rattle.std.specs.Prelude.{ℕ, zero, suc, not, is_some, max, List, [], ◌∷◌, map, length, count_by}
 use Rattle.std.specs.List.{fold}
 use Rattle.eg_values.specs.Reference.{reference_parts}
 use Rattle.eg_record.specs.Detection.{watches}

@@ -75,7 +75,11 @@ fn record_drawn(
         × (steps.new.count ≡ (steps.old.count + n) % 2 ^ 64)) }
 {
     let plan = usual_slices();
-    let (image, drive, fault) = (drawn.image.as_slice(), drawn.drive.as_slice(), drawn.fault.as_ref());
+    let (image, drive, fault) = (
+        drawn.image.as_slice(),
+        drawn.drive.as_slice(),
+        drawn.fault.as_ref(),
+    );
     run_one(alloc, calibration, image, &plan, drive, fault, steps)
 }
 
@@ -111,7 +115,15 @@ fn report_on(
 {
     let (rules, bound) = (calibration.rules(), reaction_time(calibration.times()));
     let rows = made.rows.as_slice();
-    summarize(alloc, "", rows, made.trap, rules.threshold, &rules.torque, bound)
+    summarize(
+        alloc,
+        "",
+        rows,
+        made.trap,
+        rules.threshold,
+        &rules.torque,
+        bound,
+    )
 }
 
 /// What counts of a run of these rows, which stand in the order of time, and of which a report says this.

@@ -8,7 +8,10 @@ returns-clause-missing g c =
     let later = g.S.Store.shows c.run.new.store in
     let out = g.K.Sink.shows c.args.out.now in
     let now = g.K.Sink.shows c.run.new.out in
-    λ sure. (
-      run_missing (option_copied c.args.calibration) c.args.campaign.now store later out now c.args.steps.now c.run.new.steps c.run.result.outcome c.run.ensures.ends sure,
-      c.run.ensures.missing sure,
-    )
+    λ sure. record {
+      of_calibration = (
+        run_missing (option_copied c.args.calibration) c.args.campaign.now store later out now c.args.steps.now c.run.new.steps c.run.result.outcome c.run.ensures.ends sure,
+        c.run.ensures.missing sure,
+      );
+      of_campaign = c.run.ensures.missing_campaign sure;
+    }

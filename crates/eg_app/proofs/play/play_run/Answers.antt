@@ -9,7 +9,10 @@ returns-clause-missing g c =
     let out = g.K.Sink.shows c.args.out.now in
     let now = g.K.Sink.shows c.record.new.out in
     let steps = c.record.new.steps in
-    λ sure. (
-      record_missing (option_copied c.args.calibration) c.args.campaign.now c.args.name.now store later out now c.args.steps.now steps c.record.result.outcome c.record.ensures.ends sure,
-      c.record.ensures.missing sure,
-    )
+    λ sure. record {
+      of_calibration = (
+        record_missing (option_copied c.args.calibration) c.args.campaign.now c.args.name.now store later out now c.args.steps.now steps c.record.result.outcome c.record.ensures.ends sure,
+        c.record.ensures.missing sure,
+      );
+      of_campaign = c.record.ensures.missing_campaign sure;
+    }

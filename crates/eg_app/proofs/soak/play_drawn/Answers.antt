@@ -7,7 +7,7 @@ use Rattle.eg_outcome.specs.Outcomes.{LineEnds}
 use Rattle.eg_play.proofs.PlayLemmas.{no_memory, no_lines, put}
 use Rattle.eg_soak.specs.Soak.{drawn_runs, soak_of}
 use Rattle.eg_soak.specs.Texts.{soak_text}
-use Rattle.eg_app.proofs.SoakLemmas.{drawn_keep_headline}
+use Rattle.eg_app.proofs.SoakLemmas.{text_of, drawn_keep_headline}
 use Rattle.eg_app.proofs.soak.play_drawn.Goals as goal
 
 pub returns-in_default-clause-ends : goal.returns-in_default-clause-ends
@@ -29,8 +29,8 @@ returns-clause-ends g c =
     let shows = g.K.Sink.shows in
     let accepted : IsAccepted reference_parts = subst IsAccepted c.reference-calibration.ensures c.rules-rules.ensures.accepted in
     let text : concat (map string_bytes c.deref.result.now) ≡ soak_text (soak_of (drawn_runs a.runs a.seed)) =
-    ap (λ lines. concat (map string_bytes lines)) c.deref.ensures.value ∙ c.in-Ok-soak_lines.ensures
-    ∙ ap soak_text c.in-Ok.ensures.summary in
+    ap (λ lines. concat (map string_bytes lines)) c.deref.ensures.value ∙ ap concat c.in-Ok-soak_lines.ensures
+    ∙ text_of c.in-Ok.summary ∙ ap soak_text c.in-Ok.ensures.summary in
     put _ _ (shows a.out.now) (shows c.put_lines.new.out) a.steps.now c.soak.new.steps c.put_lines.result c.in-Ok.ensures.counted
     (subst (λ t. LineEnds t (shows a.out.now) (shows c.put_lines.new.out) c.put_lines.result) text c.put_lines.ensures.ends)
     (drawn_keep_headline accepted a.runs a.seed)

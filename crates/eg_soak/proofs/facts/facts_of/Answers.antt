@@ -1,4 +1,4 @@
-use Rattle.std.proofs.Common.{◌≡◌, ◌∙◌, length, arith}
+use Rattle.std.proofs.Common.{◌∙◌, arith}
 use Rattle.eg_soak.specs.Soak.{run_drawn}
 use Rattle.eg_soak.proofs.FactsLemmas.{length-rows, facts_told}
 use Rattle.eg_soak.proofs.facts.facts_of.Goals as goal

@@ -1,4 +1,4 @@
-use Rattle.std.proofs.Common.{◌≡◌, ◌∙◌, ◌+◌, refl, sym, ap}
+use Rattle.std.proofs.Common.{◌∙◌, ◌+◌, refl, sym, ap}
 use Rattle.std.specs.Prelude.{if◌then◌else◌}
 use Rattle.eg_soak.specs.Facts.{on_until}
 use Rattle.eg_record.proofs.RowsLemmas.{so_far, so_far-all}

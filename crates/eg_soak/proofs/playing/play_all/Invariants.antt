@@ -1,5 +1,4 @@
-use Rattle.std.proofs.Common.{◌≡◌, ◌≤◌, map, length}
-use Rattle.eg_values.specs.Reference.{reference_parts}
+use Rattle.std.proofs.Common.{◌≡◌, map}
 use Rattle.eg_campaign.specs.Plays.{count_after}
 use Rattle.eg_soak.specs.Facts.{facts_of}
 use Rattle.eg_soak.specs.Soak.{drawn_runs}
