@@ -4,6 +4,8 @@ use crate::calls::words;
 use eg_app::{Outcome, egasim};
 use eg_base::{MemorySink, MemoryStore};
 use eg_tick::Ticks;
+use std::alloc::Global;
+use std::process::Abort;
 use std::test::Fail;
 
 const SUMMARY: &[u8] = b"runs 1
@@ -46,39 +48,29 @@ fn sums_up_a_run_that_it_draws(rt: HostRuntime) -> Result<(), Fail> {
     Ok(())
 }
 
-const HUNDRED: &[u8] = b"runs 100
-none 27
-mirror 2
-pedal 5
-plate 3
-load 1
-speed 3
-torque 46
-answers 13
-trapped 24
-off 76
-longest 1
-";
+/// What a call with these words writes; it is done, and has made so many ticks.
+fn written(rt: &impl Abort, alloc: Global, line: &str, ticks: u64) -> Result<MemorySink, Fail> {
+    let words = words(alloc, line)?;
+    let mut store = MemoryStore::new(alloc);
+    let mut out = MemorySink::new(alloc);
+    let mut notes = MemorySink::new(alloc);
+    let mut steps = Ticks::new();
+    let outcome = egasim(alloc, &words, &mut store, &mut out, &mut notes, &mut steps);
+    assert_eq!(rt; outcome, Outcome::Done, "{line}");
+    assert_eq!(rt; steps.count(), ticks, "{line}");
+    Ok(out)
+}
 
 #[test]
 fn sums_up_the_same_runs_again(rt: HostRuntime) -> Result<(), Fail> {
     let alloc = rt.alloc();
-    let lines: [(&str, &[u8], u64); 4] = [
-        ("soak 1 100", HUNDRED, 200_000),
-        ("soak 1 100", HUNDRED, 200_000),
-        ("soak 0000000001 0000000001", SUMMARY, 2000),
-        ("soak 4294967295 1", b"runs 1\nnone 0\n", 2000),
-    ];
-    for (line, begins, ticks) in lines {
-        let words = words(alloc, line)?;
-        let mut store = MemoryStore::new(alloc);
-        let mut out = MemorySink::new(alloc);
-        let mut notes = MemorySink::new(alloc);
-        let mut steps = Ticks::new();
-        let outcome = egasim(alloc, &words, &mut store, &mut out, &mut notes, &mut steps);
-        assert_eq!(rt; outcome, Outcome::Done, "{line}");
-        assert!(rt; out.bytes().starts_with(begins), "{line}");
-        assert_eq!(rt; steps.count(), ticks, "{line}");
-    }
+    let first = written(&rt, alloc, "soak 1 100", 200_000)?;
+    let again = written(&rt, alloc, "soak 1 100", 200_000)?;
+    assert_eq!(rt; first.bytes(), again.bytes());
+    assert!(rt; first.bytes().starts_with(b"runs 100\nnone 27\n"));
+    let padded = written(&rt, alloc, "soak 0000000001 0000000001", 2000)?;
+    assert_eq!(rt; padded.bytes(), SUMMARY);
+    let greatest = written(&rt, alloc, "soak 4294967295 1", 2000)?;
+    assert!(rt; greatest.bytes().starts_with(b"runs 1\nnone 0\n"));
     Ok(())
 }
