@@ -1,6 +1,6 @@
 -- What a store of a word and its complement makes of the words, and what it keeps.
-use Rattle.std.proofs.Common.{◌≡◌, ◌∙◌, refl, sym, ap, subst, ℕ, suc, ◌+◌, ◌-◌, ◌<◌, inl, inr, Bool, true, false, List, slice_index, arith}
-use Rattle.std.specs.Prelude.{Result, Ok, Err, OnOk, if◌then◌else◌}
+use Rattle.std.proofs.Common.{◌≡◌, ◌∙◌, refl, sym, ap, subst, ℕ, suc, ◌+◌, ◌-◌, ◌<◌, ◌≤◌, ◌↔◌, inl, inr, Bool, true, false, IsTrue, List, slice_index, arith}
+use Rattle.std.specs.Prelude.{Result, Ok, Err, OnOk, if◌then◌else◌, ◌&&◌, ◌==◌}
 use Rattle.eg_guard.specs.Regions.{region_of}
 use Rattle.std.proofs.lemmas.Bool.Decides.{eqb_tells}
 use Rattle.std.proofs.lemmas.Bool.{eq-eqb, ne_eqb}
@@ -36,7 +36,7 @@ kept_mirrored old new g number value e p within fits are = record {
 }
 
 -- all words are mirrored where each of them was looked at
-pub mirrored_all : (memory : List ℕ) → ((k : ℕ) → k < 16 → word_at memory k + word_at memory (k + 16) ≡ 65535) → AreMirrored memory
+mirrored_all : (memory : List ℕ) → ((k : ℕ) → k < 16 → word_at memory k + word_at memory (k + 16) ≡ 65535) → AreMirrored memory
 mirrored_all memory sums = record { sums = sums }
 
 pub kept_on : {T E : Type 0} (result : Result T E) (f g h : ℕ → ℕ) (number value : ℕ) → OnOk result (h ≡ put (number + 16) (65535 - value) g) → g ≡ put number value f
@@ -67,7 +67,34 @@ mirror-more g h count within e m = subst (MirrorBelow (count + 1)) (sym e) below
 
 pub ruleset stores = (kept_on, kept_mirrored)
 
-pub ruleset mirrors = (mirrored_all)
+-- ---- one word after another is compared with its complement ----
+
+-- the next word and its complement, told whether they differ
+told-more : (f : ℕ → ℕ) (n c w : ℕ) → MirrorBelow n f → c ≡ f (n + 16) → w ≡ f n → w < 65536 →
+    IsTrue (c == 65535 - w) ↔ MirrorBelow (n + 1) f
+told-more f n c w before ec ew fits = elim (eqb_tells c (65535 - w)) [
+  | inl same ↦ (λ is. next same.1, λ all. same.0)
+  | inr other ↦ (λ is. absurd (let clash : false ≡ true = sym other.0 ∙ is in cc), λ all. absurd (other.1 (let sum = all n (omega arith) in omega arith)))
+]
+  where
+    next : c ≡ 65535 - w → MirrorBelow (n + 1) f
+    next is k h = elim (eqb_tells k n) [
+      | inl same ↦ subst (λ j. f j + f (j + 16) ≡ 65535) (sym same.1) (omega arith)
+      | inr other ↦ before k (let apart = other.1 in grind arith)
+    ]
+
+pub compared-more : (f : ℕ → ℕ) (n c w : ℕ) (same : Bool) → IsTrue same ↔ MirrorBelow n f → c ≡ f (n + 16) → w ≡ f n → w < 65536 →
+    IsTrue (same && (c == 65535 - w)) ↔ MirrorBelow (n + 1) f
+compared-more f n c w false before ec ew fits = (λ no. absurd (let clash : false ≡ true = no in cc), λ all. before.1 (λ k h. all k (omega arith)))
+compared-more f n c w true before ec ew fits = told-more f n c w (before.0 refl) ec ew fits
+
+-- all sixteen
+pub compared_all : (memory : List ℕ) (same : Bool) (n : ℕ) → 16 ≤ n → n ≤ 16 → IsTrue same ↔ MirrorBelow n (word_at memory) →
+    IsTrue same ↔ AreMirrored memory
+compared_all memory same n least most are = (
+  λ is. mirrored_all memory (λ k h. are.0 is k (omega arith)),
+  λ mirrored. are.1 (λ k h. mirrored.sums k (omega arith)),
+)
 
 -- ---- what is left ----
 

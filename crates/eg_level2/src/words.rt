@@ -138,16 +138,14 @@ pub(crate) fn clear<M: Guarded>(memory: &mut M) -> Result<(), NoMemory>
 }
 
 /// Whether every word and its complement add up to 65535.
-#[tactic(auto, using(crate::proofs::StoreLemmas::mirrors))]
 pub(crate) fn is_mirrored<M: Guarded>(memory: &M) -> bool
     ensures { IsTrue result ↔ AreMirrored (M.shows memory.now).words }
 {
+    let mut same = true;
     for number in 0..WORDS {
-        if word(memory, number + WORDS) != u16::MAX - word(memory, number) {
-            return false;
-        }
+        same &= word(memory, number + WORDS) == u16::MAX - word(memory, number);
     }
-    true
+    same
 }
 
 /// Whether a word that is 1 or 0 is set.

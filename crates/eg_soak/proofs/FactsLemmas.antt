@@ -2,8 +2,6 @@
 use Rattle.std.proofs.Common.{◌≡◌, ◌∙◌, sym, ap, ap₂, ℕ, ◌+◌, ◌<◌, List, [], get_or, length, arith}
 use Rattle.std.specs.Prelude.{Option, Some, None, IfSome, if◌then◌else◌, reverse}
 use Rattle.std.proofs.lemmas.List.{length-reverse}
-use Rattle.eg_num.specs.Drive.{DriveRow}
-use Rattle.eg_values.specs.Calibration.{CalibrationParts}
 use Rattle.eg_fault.specs.Faults.{IsValid}
 use Rattle.eg_fault.specs.declared.class.Fault.{Fault}
 use Rattle.eg_agree.specs.Replies.{IsAnyFault}
@@ -14,7 +12,6 @@ use Rattle.eg_model.specs.Bench.{Run}
 use Rattle.eg_model.specs.Rows.{record_rows, report_of}
 use Rattle.eg_model.specs.Records.{rows_to}
 use Rattle.eg_model.proofs.RecordLaws.{records_are_rows}
-use Rattle.eg_tick.specs.Run.{run_by}
 use Rattle.eg_campaign.proofs.PlayLemmas.{in_time}
 use Rattle.eg_soak.specs.Facts.{on_until, facts_in, facts_of}
 
@@ -38,12 +35,6 @@ pub any_fault : (fault : Option Fault) → IfSome fault IsValid → IsAnyFault f
 unfolding IsAnyFault
 any_fault None valid = tt
 any_fault (Some fault) valid = valid
-
--- runs of equal parts are equal
-pub same_run : (cal cal' : CalibrationParts) (image image' : List ℕ) (fault fault' : Option Fault)
-    (plan plan' : List (List ℕ)) (drive drive' : List DriveRow) → cal ≡ cal' → image ≡ image' → fault ≡ fault' →
-    plan ≡ plan' → drive ≡ drive' → run_by cal image fault plan drive ≡ run_by cal' image' fault' plan' drive'
-same_run cal cal' image image' fault fault' plan plan' drive drive' a b c d e = cc
 
 -- what counts of a run by the report on it
 pub facts_told : (r : Run) (rows : List Row) (report : Summary) → rows ≡ reverse (record_rows r) →
