@@ -3,5 +3,6 @@ pub mod StoreLemmas
 pub mod PortLemmas
 pub mod ModuleLemmas
 pub mod DebounceLemmas
+pub mod ResultLemmas
 pub mod StepLemmas
 mod Worked

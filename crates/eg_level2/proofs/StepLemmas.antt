@@ -26,10 +26,10 @@ same_rules one other e = ap (λ (parts : Level2Parts). parts.rules) e
 
 -- ---- the words ----
 
-pub checks : (parts : Level2Parts) (memory : List ℕ) (tick : ℕ) (sends : Bool) (d n : ℕ) (row : TestRow) (words : Words) → n ≡ 0
-    → row ≡ row_of parts.questions (asked_of memory) → check_step row.seed tick words ≡ module_step (inputs_of parts memory tick sends d) n words
+pub checks : (parts : Level2Parts) (memory : List ℕ) (tick : ℕ) (sends : Bool) (d n seed : ℕ) (words : Words) → n ≡ 0
+    → seed ≡ (row_of parts.questions (asked_of memory)).seed → check_step seed tick words ≡ module_step (inputs_of parts memory tick sends d) n words
 unfolding module_step inputs_of
-checks parts memory tick sends d n row words en er = rw (en, er) refl
+checks parts memory tick sends d n seed words en es = rw (en, es) refl
 
 pub pedals : (parts : Level2Parts) (memory : List ℕ) (tick : ℕ) (sends : Bool) (d n : ℕ) (row : TestRow) (words : Words) → n ≡ 1
     → row ≡ row_of parts.questions (asked_of memory) → pedal_step (readings_of memory) row d words ≡ module_step (inputs_of parts memory tick sends d) n words

@@ -1,10 +1,14 @@
 -- What goes into one run of a module beside level 2's words.
-use Rattle.std.specs.Prelude.{◌≤◌, ℕ, ◌%◌, Bool, List, [], ◌∷◌, length, slice_index}
+use Rattle.std.specs.Prelude.{◌≡◌, ◌≤◌, ℕ, ◌%◌, Bool, List, [], ◌∷◌, length, slice_index}
 use Rattle.eg_sensor.specs.declared.readings.Readings.{Readings}
 use Rattle.eg_answer.specs.declared.rules.Rules.{Rules}
 use Rattle.eg_answer.specs.declared.rules.TestRow.{TestRow}
 use Rattle.eg_answer.specs.declared.questions.Question.{Question}
 use Rattle.eg_answer.specs.Questions.{question_at}
+use Rattle.eg_answer.specs.Answers.{results_of}
+use Rattle.eg_num.specs.Interpolation.{grid_at}
+use Rattle.eg_level2.specs.declared.results.RowResults.{RowResults}
+use Rattle.eg_level2.specs.declared.lookup.Lookup.{Lookup}
 
 -- what level 2 is made of: the rules that it goes by, and the questions that it answers
 pub record Level2Parts : Type 0 where
@@ -52,6 +56,14 @@ inputs_of parts memory tick sends disturbance = record {
   sends = sends;
   disturbance = disturbance;
 }
+
+-- the seed of a test row and its five results
+unfoldable pub results_by : Rules → TestRow → RowResults
+results_by rules row = record { seed = row.seed; results = results_of rules row }
+
+-- the permit table has this torque at the pedal and the speed that were looked up
+abbrev pub IsLookup : Rules → Lookup → Type 0
+IsLookup rules lookup = lookup.torque ≡ grid_at rules.permit lookup.pedal lookup.speed
 
 -- the test row of the question that is asked, its number taken modulo the count of questions
 unfoldable pub row_of : List Question → ℕ → TestRow

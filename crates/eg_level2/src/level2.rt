@@ -2,18 +2,20 @@
 ghost use Rattle.std.specs.Prelude.{◌≡◌, ◌↔◌, ℕ, ◌<◌, ◌≤◌, length, IsTrue, IsOk, OnOk, IfOk};
 ghost use Rattle.eg_guard.specs.Memory.{AreWords, SameOutside};
 ghost use Rattle.eg_level2.specs.Words.{ChangeLaw, words_of, AreMirrored, AreWithin, is_level2_own, start};
-ghost use Rattle.eg_level2.specs.Inputs.{AreParts, inputs_of, asked_of, row_of};
+ghost use Rattle.eg_level2.specs.Inputs.{AreParts, IsLookup, inputs_of, asked_of, results_by, row_of};
 ghost use Rattle.eg_level2.specs.Modules.{given_up, module_step, step_of, answer_after, order_after, mirror_alone, found_by};
 ghost use Rattle.eg_level2.specs.Stores.{Keeps};
 
-use crate::Step;
 use crate::check::check;
 use crate::debounce::debounce;
 use crate::ports::asked;
 use crate::react::react;
+use crate::results::{RowResults, results_of_all};
 use crate::signals::{actual, excess, pairs, pedal, permitted};
 use crate::words::{FLOW, LAST, WHOLE_FLOW, clear, keep};
-use eg_answer::{Questions, Rules, TestRow};
+use crate::{Lookup, Step};
+use arrayvec::ArrayVec;
+use eg_answer::{Questions, Rules};
 use eg_base::NoMemory;
 use eg_guard::Guarded;
 use std::marker::Model;
@@ -25,16 +27,19 @@ use std::marker::Model;
 pub struct Level2 {
     rules: Rules,
     questions: Questions,
+    tests: ArrayVec<RowResults, 64>,
 }
 
 impl Model for Level2 {
-    ghost use Rattle.eg_level2.specs.Inputs.{Level2Parts, AreParts};
+    ghost use Rattle.std.specs.Prelude.{◌≡◌, map};
+    ghost use Rattle.eg_level2.specs.Inputs.{Level2Parts, AreParts, results_by};
 
     ghost Value = { Level2Parts };
 
     ghost view = { λ l. record { rules = l.rules; questions = l.questions } };
 
-    ghost invariant = { λ l. AreParts (record { rules = l.rules; questions = l.questions }) };
+    ghost invariant = { λ l. AreParts (record { rules = l.rules; questions = l.questions })
+        × (l.tests.items ≡ map (λ question. results_by l.rules question.row) l.questions) };
 }
 
 impl Level2 {
@@ -44,7 +49,12 @@ impl Level2 {
         ensures parts { result ≡ record { rules = rules; questions = questions } }
         ensures keeps { AreParts result }
     {
-        Level2 { rules, questions }
+        let tests = results_of_all(&rules, &questions);
+        Level2 {
+            rules,
+            questions,
+            tests,
+        }
     }
 
     /// The rules that it goes by.
@@ -84,7 +94,7 @@ impl Level2 {
     /// Runs the module of this number, 0 to 7, over the memory (docs/CONCEPT.md, "Level 2"). The readings and
     /// the number of the question stand at the input ports and at the link. `tick` is this tick, and `send`
     /// says whether the answer is sent at it. What disturbs the run is mixed in by exclusive or; 0 disturbs
-    /// nothing. After NoMemory, what was stored stays; a test shows that, and the clauses that no other word
+    /// nothing. The permit table isn't asked again for what was looked up already. After NoMemory, what was stored stays; a test shows that, and the clauses that no other word
     /// has changed.
     #[inline(always)]
     #[tactic(auto, using(crate::proofs::StoreLemmas::outsides))]
@@ -95,8 +105,10 @@ impl Level2 {
         tick: u16,
         send: bool,
         disturbance: u16,
+        lookup: &Lookup,
     ) -> Result<Step, NoMemory>
         requires number { number < 8 }
+        requires lookup { IsLookup self.now.rules lookup.now }
         // Module 0 takes any words. The others rely on what it has checked.
         requires mirrored { 0 < number → AreMirrored (M.shows memory.old).words }
         requires within { 0 < number → AreWithin self.now.rules (words_of (M.shows memory.old).words) }
@@ -137,9 +149,9 @@ impl Level2 {
         ensures are_words { AreWords (M.shows memory.old).words → AreWords (M.shows memory.new).words }
     {
         if number == 0 {
-            return check(memory, tick, self.row(memory).seed);
+            return check(memory, tick, self.test(memory).seed);
         }
-        self.run(number, memory, send, disturbance)
+        self.run(number, memory, send, disturbance, lookup)
     }
 
     /// Runs a module other than the first.
@@ -150,9 +162,11 @@ impl Level2 {
         memory: &mut M,
         send: bool,
         disturbance: u16,
+        lookup: &Lookup,
     ) -> Result<Step, NoMemory>
         requires first { 0 < number }
         requires last { number < 8 }
+        requires lookup { IsLookup self.now.rules lookup.now }
         requires within { AreWithin self.now.rules (words_of (M.shows memory.old).words) }
         ensures words { (tick : ℕ) → OnOk result (words_of (M.shows memory.new).words
             ≡ module_step (inputs_of self.now (M.shows memory.old).words tick send disturbance) number
@@ -162,25 +176,24 @@ impl Level2 {
             (words_of (M.shows memory.old).words)) }
         ensures keeps { Keeps (M.shows memory.old) (M.shows memory.new) result }
     {
-        let row = self.row(memory);
+        let results = self.test(memory).results;
         match number {
-            1 => pedal(memory, row, disturbance),
-            2 => permitted(memory, &self.rules, row, disturbance),
-            3 => actual(memory, &self.rules, row, disturbance),
-            4 => excess(memory, &self.rules, row, disturbance),
-            5 => pairs(memory, &self.rules, row, disturbance),
+            1 => pedal(memory, results[0], disturbance),
+            2 => permitted(memory, &self.rules, lookup, results[1], disturbance),
+            3 => actual(memory, &self.rules, results[2], disturbance),
+            4 => excess(memory, &self.rules, results[3], disturbance),
+            5 => pairs(memory, &self.rules, results[4], disturbance),
             6 => debounce(memory, &self.rules),
             _ => react(memory, send),
         }
     }
 
-    /// The test row of the question whose number stands at the link.
-    #[tactic(auto, unfolding(crate::specs::Inputs::row_of))]
-    fn row<M: Guarded>(&self, memory: &M) -> &TestRow
-        ensures { result.now ≡ row_of self.now.questions (asked_of (M.shows memory.now).words) }
+    /// The results of the test row of the question whose number stands at the link.
+    fn test<M: Guarded>(&self, memory: &M) -> &RowResults
+        ensures { result.now ≡ results_by self.now.rules
+            (row_of self.now.questions (asked_of (M.shows memory.now).words)) }
     {
-        self.questions
-            .row(usize::from(asked(memory)) % self.questions.len())
+        &self.tests[usize::from(asked(memory)) % self.tests.len()]
     }
 }
 

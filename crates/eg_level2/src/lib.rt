@@ -10,12 +10,15 @@
 mod check;
 mod debounce;
 mod level2;
+mod lookup;
 mod ports;
 mod react;
+mod results;
 mod signals;
 mod step;
 mod words;
 
 pub use eg_num::Watches;
 pub use level2::{Level2, one_changed_word_is_found};
+pub use lookup::Lookup;
 pub use step::Step;

@@ -3,17 +3,19 @@ ghost use Rattle.std.specs.Prelude.{◌≡◌, ◌≤◌, OnOk, IfOk, bit_xor, i
 ghost use Rattle.eg_torque.specs.Permit.{permitted as permitted_of};
 ghost use Rattle.eg_torque.specs.Excess.{is_excess};
 ghost use Rattle.eg_sensor.specs.Readings.{checked_raise as raise_of, bit};
+ghost use Rattle.eg_answer.specs.declared.rules.TestRow.{TestRow};
+ghost use Rattle.eg_answer.specs.Answers.{pedal_result, permitted_result, estimate_result, excess_result, pairs_result};
 ghost use Rattle.eg_answer.specs.Folds.{mixed};
 ghost use Rattle.eg_level2.specs.Words.{word_at, words_of};
-ghost use Rattle.eg_level2.specs.Inputs.{readings_of};
+ghost use Rattle.eg_level2.specs.Inputs.{IsLookup, readings_of};
 ghost use Rattle.eg_level2.specs.Signals.{actual_signal};
 ghost use Rattle.eg_level2.specs.Modules.{pedal_step, permitted_step, actual_step, excess_step, pairs_step, quiet_step};
 ghost use Rattle.eg_level2.specs.Stores.{Keeps, signalled};
 
-use crate::Step;
 use crate::ports::readings;
 use crate::words::{ACTUAL, LIMP, PEDAL, PERMITTED, SIGN, TOKEN, TRIP, is_set, keep, word};
-use eg_answer::{Rules, TestRow, next_token};
+use crate::{Lookup, Step};
+use eg_answer::{Rules, next_token};
 use eg_base::NoMemory;
 use eg_guard::Guarded;
 use eg_sensor::{Readings, checked_raise, pair_bits, used};
@@ -23,18 +25,18 @@ use eg_torque as torque;
 #[tactic(auto, using(crate::proofs::ModuleLemmas::signal_laws))]
 pub(crate) fn pedal<M: Guarded>(
     memory: &mut M,
-    row: &TestRow,
+    test: u16,
     disturbance: u16,
 ) -> Result<Step, NoMemory>
-    ensures words { OnOk result (words_of (M.shows memory.new).words
-        ≡ pedal_step (readings_of (M.shows memory.old).words) row.now disturbance
+    ensures words { (row : TestRow) → test ≡ pedal_result row
+        → OnOk result (words_of (M.shows memory.new).words
+        ≡ pedal_step (readings_of (M.shows memory.old).words) row disturbance
         (words_of (M.shows memory.old).words)) }
     ensures step { IfOk result (λ step. step ≡ quiet_step) }
     ensures keeps { Keeps (M.shows memory.old) (M.shows memory.new) result }
 {
     let read = readings(memory);
     let signal = used(read.pedal, is_set(word(memory, LIMP)));
-    let test = used(row.readings.pedal, false);
     write(memory, 1, signal, test, disturbance)?;
     Ok(Step::quiet())
 }
@@ -44,17 +46,19 @@ pub(crate) fn pedal<M: Guarded>(
 pub(crate) fn permitted<M: Guarded>(
     memory: &mut M,
     rules: &Rules,
-    row: &TestRow,
+    lookup: &Lookup,
+    test: u16,
     disturbance: u16,
 ) -> Result<Step, NoMemory>
-    ensures words { OnOk result (words_of (M.shows memory.new).words
-        ≡ permitted_step rules.now (readings_of (M.shows memory.old).words) row.now disturbance
+    requires lookup { IsLookup rules.now lookup.now }
+    ensures words { (row : TestRow) → test ≡ permitted_result rules.now row
+        → OnOk result (words_of (M.shows memory.new).words
+        ≡ permitted_step rules.now (readings_of (M.shows memory.old).words) row disturbance
         (words_of (M.shows memory.old).words)) }
     ensures step { IfOk result (λ step. step ≡ quiet_step) }
     ensures keeps { Keeps (M.shows memory.old) (M.shows memory.new) result }
 {
-    let signal = permit(rules, word(memory, PEDAL), &readings(memory));
-    let test = permit(rules, row.used, &row.readings);
+    let signal = permit(rules, lookup, word(memory, PEDAL), &readings(memory));
     write(memory, 2, signal, test, disturbance)?;
     Ok(Step::quiet())
 }
@@ -64,17 +68,17 @@ pub(crate) fn permitted<M: Guarded>(
 pub(crate) fn actual<M: Guarded>(
     memory: &mut M,
     rules: &Rules,
-    row: &TestRow,
+    test: u16,
     disturbance: u16,
 ) -> Result<Step, NoMemory>
-    ensures words { OnOk result (words_of (M.shows memory.new).words
-        ≡ actual_step rules.now (readings_of (M.shows memory.old).words) row.now disturbance
+    ensures words { (row : TestRow) → test ≡ estimate_result rules.now row
+        → OnOk result (words_of (M.shows memory.new).words
+        ≡ actual_step rules.now (readings_of (M.shows memory.old).words) row disturbance
         (words_of (M.shows memory.old).words)) }
     ensures step { IfOk result (λ step. step ≡ quiet_step) }
     ensures keeps { Keeps (M.shows memory.old) (M.shows memory.new) result }
 {
     let signal = estimate(rules, &readings(memory));
-    let test = estimate(rules, &row.readings);
     write(memory, 3, signal, test, disturbance)?;
     Ok(Step::quiet())
 }
@@ -85,16 +89,16 @@ pub(crate) fn actual<M: Guarded>(
 pub(crate) fn excess<M: Guarded>(
     memory: &mut M,
     rules: &Rules,
-    row: &TestRow,
+    test: u16,
     disturbance: u16,
 ) -> Result<Step, NoMemory>
-    ensures words { OnOk result (words_of (M.shows memory.new).words
-        ≡ excess_step rules.now row.now disturbance (words_of (M.shows memory.old).words)) }
+    ensures words { (row : TestRow) → test ≡ excess_result rules.now row
+        → OnOk result (words_of (M.shows memory.new).words
+        ≡ excess_step rules.now row disturbance (words_of (M.shows memory.old).words)) }
     ensures step { IfOk result (λ step. step ≡ quiet_step) }
     ensures keeps { Keeps (M.shows memory.old) (M.shows memory.new) result }
 {
     let signal = exceeds(rules, word(memory, ACTUAL), word(memory, PERMITTED));
-    let test = exceeds(rules, row.estimate, row.allowed);
     write(memory, 4, signal, test, disturbance)?;
     Ok(Step::quiet())
 }
@@ -104,28 +108,34 @@ pub(crate) fn excess<M: Guarded>(
 pub(crate) fn pairs<M: Guarded>(
     memory: &mut M,
     rules: &Rules,
-    row: &TestRow,
+    test: u16,
     disturbance: u16,
 ) -> Result<Step, NoMemory>
-    ensures words { OnOk result (words_of (M.shows memory.new).words
-        ≡ pairs_step rules.now (readings_of (M.shows memory.old).words) row.now disturbance
+    ensures words { (row : TestRow) → test ≡ pairs_result rules.now row
+        → OnOk result (words_of (M.shows memory.new).words
+        ≡ pairs_step rules.now (readings_of (M.shows memory.old).words) row disturbance
         (words_of (M.shows memory.old).words)) }
     ensures step { IfOk result (λ step. step ≡ quiet_step) }
     ensures keeps { Keeps (M.shows memory.old) (M.shows memory.new) result }
 {
     let signal = pair_bits(&readings(memory), &rules.tolerances);
-    let test = pair_bits(&row.readings, &rules.tolerances);
     write(memory, 5, signal, test, disturbance)?;
     Ok(Step::quiet())
 }
 
 /// The permitted torque at a pedal (per mille), and at the speeds and the raise that are read.
-fn permit(rules: &Rules, pedal: u16, read: &Readings) -> u16
+#[tactic(auto, using(crate::proofs::ModuleLemmas::looked_up))]
+fn permit(rules: &Rules, lookup: &Lookup, pedal: u16, read: &Readings) -> u16
+    requires { IsLookup rules.now lookup.now }
     ensures { result ≡ permitted_of rules.now.permit pedal (slice_index read.now.speed 0)
         (slice_index read.now.speed 1) (raise_of read.now.raise read.now.raise_check) }
 {
     let raise = checked_raise(read.raise, read.raise_check);
-    rules.permit.at(pedal, read.speed[0], read.speed[1], raise)
+    let [first, second] = read.speed;
+    if first == second && lookup.is_at(pedal, first) {
+        return lookup.torque.max(raise);
+    }
+    rules.permit.at(pedal, first, second, raise)
 }
 
 /// The torque estimate of the higher of the two loads.

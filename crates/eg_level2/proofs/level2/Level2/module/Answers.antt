@@ -1,6 +1,7 @@
 use Rattle.std.proofs.Common.{◌≢◌, ◌∙◌, ◌<◌, sym, subst, ℕ, arith}
 use Rattle.eg_level2.specs.Words.{AreWithin}
 use Rattle.eg_level2.proofs.StoreLemmas.{on_ok}
+use Rattle.eg_level2.proofs.ResultLemmas.{seed-kept}
 use Rattle.eg_level2.proofs.StepLemmas.{if_ok, checks, first-answer, first-order, first-found, step-answer, step-order, step-found, step-mirror, step-within}
 use Rattle.eg_level2.proofs.level2.Level2.module.Goals as goal
 
@@ -9,7 +10,7 @@ later n apart = omega arith
 
 pub returns-then-number-eq0-clause-words : goal.returns-then-number-eq0-clause-words
 returns-then-number-eq0-clause-words g c = λ are. on_ok c.check.result
-    (λ e. e ∙ checks c.args.self.now _ c.args.tick c.args.send c.args.disturbance _ _ _ c.if-number-eq0.true c.row.ensures) (c.check.ensures.words are)
+    (λ e. e ∙ checks c.args.self.now _ c.args.tick c.args.send c.args.disturbance _ _ _ c.if-number-eq0.true (seed-kept _ _ _ c.test.ensures)) (c.check.ensures.words are)
 
 pub returns-then-number-eq0-clause-answer : goal.returns-then-number-eq0-clause-answer
 returns-then-number-eq0-clause-answer g c = if_ok c.check.result (λ step e. e ∙ first-answer _ _ _ c.if-number-eq0.true) c.check.ensures.answer

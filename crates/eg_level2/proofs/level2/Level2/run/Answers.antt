@@ -1,44 +1,45 @@
 use Rattle.std.proofs.Common.{◌∙◌, refl, arith}
 use Rattle.eg_level2.proofs.StoreLemmas.{on_ok}
+use Rattle.eg_level2.proofs.ResultLemmas.{pedal-kept, permitted-kept, estimate-kept, excess-kept, pairs-kept}
 use Rattle.eg_level2.proofs.StepLemmas.{if_ok, if_ok_all, same_rules, pedals, permits, actuals, excesses, pairings, debounces, reacts, quiet, debounces-step, reacts-step}
 use Rattle.eg_level2.proofs.level2.Level2.run.Goals as goal
 
 pub returns-in-1-clause-words : goal.returns-in-1-clause-words
 returns-in-1-clause-words g c = λ tick. on_ok c.pedal.result
-    (λ e. e ∙ pedals c.args.self.now _ tick c.args.send c.args.disturbance _ _ _ c.in-1.is c.row-row.ensures)
-    c.pedal.ensures.words
+    (λ e. e ∙ pedals c.args.self.now _ tick c.args.send c.args.disturbance _ _ _ c.in-1.is refl)
+    (c.pedal.ensures.words _ (pedal-kept _ _ _ c.test.ensures))
 
 pub returns-in-1-clause-step : goal.returns-in-1-clause-step
 returns-in-1-clause-step g c = λ tick. if_ok c.pedal.result (λ step e. e ∙ quiet _ _ 1 _ c.in-1.is refl refl) c.pedal.ensures.step
 
 pub returns-in-2-clause-words : goal.returns-in-2-clause-words
 returns-in-2-clause-words g c = λ tick. on_ok c.permitted.result
-    (λ e. e ∙ permits c.args.self.now _ tick c.args.send c.args.disturbance _ _ _ _ c.in-2.is (same_rules _ _ c.self.view_is) c.row-row.ensures)
-    c.permitted.ensures.words
+    (λ e. e ∙ permits c.args.self.now _ tick c.args.send c.args.disturbance _ _ _ _ c.in-2.is (same_rules _ _ c.self.view_is) refl)
+    (c.permitted.ensures.words _ (permitted-kept _ _ _ _ (same_rules _ _ c.self.view_is) c.test.ensures))
 
 pub returns-in-2-clause-step : goal.returns-in-2-clause-step
 returns-in-2-clause-step g c = λ tick. if_ok c.permitted.result (λ step e. e ∙ quiet _ _ 2 _ c.in-2.is refl refl) c.permitted.ensures.step
 
 pub returns-in-3-clause-words : goal.returns-in-3-clause-words
 returns-in-3-clause-words g c = λ tick. on_ok c.actual.result
-    (λ e. e ∙ actuals c.args.self.now _ tick c.args.send c.args.disturbance _ _ _ _ c.in-3.is (same_rules _ _ c.self.view_is) c.row-row.ensures)
-    c.actual.ensures.words
+    (λ e. e ∙ actuals c.args.self.now _ tick c.args.send c.args.disturbance _ _ _ _ c.in-3.is (same_rules _ _ c.self.view_is) refl)
+    (c.actual.ensures.words _ (estimate-kept _ _ _ _ (same_rules _ _ c.self.view_is) c.test.ensures))
 
 pub returns-in-3-clause-step : goal.returns-in-3-clause-step
 returns-in-3-clause-step g c = λ tick. if_ok c.actual.result (λ step e. e ∙ quiet _ _ 3 _ c.in-3.is refl refl) c.actual.ensures.step
 
 pub returns-in-4-clause-words : goal.returns-in-4-clause-words
 returns-in-4-clause-words g c = λ tick. on_ok c.excess.result
-    (λ e. e ∙ excesses c.args.self.now _ tick c.args.send c.args.disturbance _ _ _ _ c.in-4.is (same_rules _ _ c.self.view_is) c.row-row.ensures)
-    c.excess.ensures.words
+    (λ e. e ∙ excesses c.args.self.now _ tick c.args.send c.args.disturbance _ _ _ _ c.in-4.is (same_rules _ _ c.self.view_is) refl)
+    (c.excess.ensures.words _ (excess-kept _ _ _ _ (same_rules _ _ c.self.view_is) c.test.ensures))
 
 pub returns-in-4-clause-step : goal.returns-in-4-clause-step
 returns-in-4-clause-step g c = λ tick. if_ok c.excess.result (λ step e. e ∙ quiet _ _ 4 _ c.in-4.is refl refl) c.excess.ensures.step
 
 pub returns-in-5-clause-words : goal.returns-in-5-clause-words
 returns-in-5-clause-words g c = λ tick. on_ok c.pairs.result
-    (λ e. e ∙ pairings c.args.self.now _ tick c.args.send c.args.disturbance _ _ _ _ c.in-5.is (same_rules _ _ c.self.view_is) c.row-row.ensures)
-    c.pairs.ensures.words
+    (λ e. e ∙ pairings c.args.self.now _ tick c.args.send c.args.disturbance _ _ _ _ c.in-5.is (same_rules _ _ c.self.view_is) refl)
+    (c.pairs.ensures.words _ (pairs-kept _ _ _ _ (same_rules _ _ c.self.view_is) c.test.ensures))
 
 pub returns-in-5-clause-step : goal.returns-in-5-clause-step
 returns-in-5-clause-step g c = λ tick. if_ok c.pairs.result (λ step e. e ∙ quiet _ _ 5 _ c.in-5.is refl refl) c.pairs.ensures.step

@@ -1,0 +1,67 @@
+-- The results of the test rows, which are kept.
+use Rattle.std.proofs.Common.{◌≡◌, ◌∙◌, sym, ap, ap₂, ℕ, suc, ◌+◌, ◌%◌, ◌<◌, ◌≤◌, List, [], ◌∷◌, ◌++◌, map, take, length, get_or, arith}
+use Rattle.std.specs.Prelude.{slice_index}
+use Rattle.std.proofs.Math.Nat.{mod-lt}
+use Rattle.std.proofs.Math.Seq.{take-suc, take-length}
+use Rattle.std.proofs.lemmas.List.{length-map, map-append, get_or-map}
+use Rattle.eg_answer.specs.declared.rules.Rules.{Rules}
+use Rattle.eg_answer.specs.declared.rules.TestRow.{TestRow}
+use Rattle.eg_answer.specs.declared.questions.Question.{Question}
+use Rattle.eg_answer.specs.Questions.{no_question, question_at}
+use Rattle.eg_answer.specs.Answers.{pedal_result, permitted_result, estimate_result, excess_result, pairs_result, results_of}
+use Rattle.eg_level2.specs.declared.results.RowResults.{RowResults}
+use Rattle.eg_level2.specs.Inputs.{results_by, row_of}
+
+-- one question more
+pub kept-more : (rules : Rules) (questions : List Question) (all new : List RowResults) (i : ℕ) (made : RowResults) (row : TestRow) →
+    all ≡ map (λ (q : Question). results_by rules q.row) (take i questions) → new ≡ all ++ made ∷ [] → made ≡ results_by rules row →
+    row ≡ (question_at questions i).row → i < length questions → new ≡ map (λ (q : Question). results_by rules q.row) (take (i + 1) questions)
+kept-more rules questions all new i made row are is by at below =
+    let f = λ (q : Question). results_by rules q.row in
+    let next : suc i ≡ i + 1 = omega arith in
+    is ∙ ap₂ (λ (xs : List RowResults) x. xs ++ x ∷ []) are (by ∙ ap (results_by rules) at)
+    ∙ sym (map-append f (take i questions) (get_or questions i no_question ∷ []))
+    ∙ ap (map f) (sym (take-suc questions i no_question below)) ∙ ap (λ n. map f (take n questions)) next
+
+-- all questions
+pub kept-all : (rules : Rules) (questions : List Question) (all : List RowResults) (i n : ℕ) →
+    all ≡ map (λ (q : Question). results_by rules q.row) (take i questions) → n ≡ length questions → n ≤ i → i ≤ n →
+    all ≡ map (λ (q : Question). results_by rules q.row) questions
+kept-all rules questions all i n are count past within =
+    are ∙ ap (map (λ (q : Question). results_by rules q.row)) (ap (λ n. take n questions) (let ends : i ≡ length questions = omega arith in ends) ∙ take-length questions)
+
+-- the results of the row of the question that is asked, among those of all questions
+pub asked-kept : (rules : Rules) (questions : List Question) (all : List RowResults) (asked a n : ℕ) (d : RowResults) →
+    all ≡ map (λ (q : Question). results_by rules q.row) questions → 2 ≤ length questions → a ≡ asked → n ≡ length all →
+    get_or all (a % n) d ≡ results_by rules (row_of questions asked)
+unfolding row_of
+asked-kept rules questions all asked a n d are some is count =
+    let f = λ (q : Question). results_by rules q.row in
+    let size : n ≡ length questions = count ∙ ap length are ∙ length-map questions f in
+    let any : 0 < length questions = omega arith in
+    ap₂ (λ m k. get_or all (m % k) d) is size ∙ ap (λ (xs : List RowResults). get_or xs (asked % length questions) d) are
+    ∙ get_or-map f questions (asked % length questions) no_question d (mod-lt asked any)
+
+pub seed-kept : (rules : Rules) (row : TestRow) (test : RowResults) → test ≡ results_by rules row → test.seed ≡ row.seed
+unfolding results_by
+seed-kept rules row test e = ap (λ (t : RowResults). t.seed) e
+
+pub pedal-kept : (rules : Rules) (row : TestRow) (test : RowResults) → test ≡ results_by rules row → slice_index test.results 0 ≡ pedal_result row
+unfolding results_by results_of
+pedal-kept rules row test e = ap (λ (t : RowResults). slice_index t.results 0) e
+
+pub permitted-kept : (given rules : Rules) (row : TestRow) (test : RowResults) → given ≡ rules → test ≡ results_by rules row → slice_index test.results 1 ≡ permitted_result given row
+unfolding results_by results_of
+permitted-kept given rules row test same e = ap (λ (t : RowResults). slice_index t.results 1) e ∙ ap (λ (r : Rules). permitted_result r row) (sym same)
+
+pub estimate-kept : (given rules : Rules) (row : TestRow) (test : RowResults) → given ≡ rules → test ≡ results_by rules row → slice_index test.results 2 ≡ estimate_result given row
+unfolding results_by results_of
+estimate-kept given rules row test same e = ap (λ (t : RowResults). slice_index t.results 2) e ∙ ap (λ (r : Rules). estimate_result r row) (sym same)
+
+pub excess-kept : (given rules : Rules) (row : TestRow) (test : RowResults) → given ≡ rules → test ≡ results_by rules row → slice_index test.results 3 ≡ excess_result given row
+unfolding results_by results_of
+excess-kept given rules row test same e = ap (λ (t : RowResults). slice_index t.results 3) e ∙ ap (λ (r : Rules). excess_result r row) (sym same)
+
+pub pairs-kept : (given rules : Rules) (row : TestRow) (test : RowResults) → given ≡ rules → test ≡ results_by rules row → slice_index test.results 4 ≡ pairs_result given row
+unfolding results_by results_of
+pairs-kept given rules row test same e = ap (λ (t : RowResults). slice_index t.results 4) e ∙ ap (λ (r : Rules). pairs_result r row) (sym same)

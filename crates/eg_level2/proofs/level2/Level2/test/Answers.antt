@@ -1,0 +1,13 @@
+use Rattle.std.proofs.Common.{[], ◌≡◌, ◌∙◌, ◌%◌, sym, ap, subst, length, get_or}
+use Rattle.eg_level2.specs.Inputs.{Level2Parts, asked_of, results_by, row_of}
+use Rattle.eg_level2.specs.declared.results.RowResults.{RowResults}
+use Rattle.eg_level2.proofs.ResultLemmas.{asked-kept}
+use Rattle.eg_level2.proofs.level2.Level2.test.Goals as goal
+
+pub returns : goal.returns
+returns g c =
+    let none : RowResults = record { seed = 0; results = [] } in
+    let asked = asked_of (g.M.Guarded.shows c.args.memory.now).words in
+    subst (λ (p : Level2Parts). get_or c.deref.result.now (c.from.result % c.len.result) none ≡ results_by p.rules (row_of p.questions asked)) c.self.view_is
+    (asked-kept c.self.inside.rules c.self.inside.questions c.deref.result.now asked c.from.result c.len.result none (c.deref.ensures.0 ∙ c.self.invariant.1)
+    c.self.invariant.0 (c.from.ensures ∙ c.asked.ensures) (c.len.ensures.value ∙ ap length (sym c.deref.ensures.0)))

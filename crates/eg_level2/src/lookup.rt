@@ -1,0 +1,23 @@
+// A value of the permit table that was looked up already.
+ghost use Rattle.std.specs.Prelude.{◌≡◌, ◌↔◌, IsTrue};
+
+/// The permit table's value at a pedal and a speed, looked up already (docs/CONCEPT.md, "Torque"). Mostly
+/// level 2 reads the pedal and the speed of the drive row, for which the unit knows it.
+#[derive(Clone, Copy, Debug, PartialEq, Eq)]
+pub struct Lookup {
+    /// The pedal, in per mille.
+    pub pedal: u16,
+    /// The speed, in rpm.
+    pub speed: u16,
+    /// The torque, in tenths of Nm.
+    pub torque: u16,
+}
+
+impl Lookup {
+    /// Whether it was looked up at this pedal and this speed.
+    pub(crate) fn is_at(&self, pedal: u16, speed: u16) -> bool
+        ensures { IsTrue result ↔ ((self.now.pedal ≡ pedal) × (self.now.speed ≡ speed)) }
+    {
+        self.pedal == pedal && self.speed == speed
+    }
+}

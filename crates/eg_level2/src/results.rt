@@ -1,0 +1,37 @@
+// What level 2 is to compute of the test rows.
+ghost use Rattle.std.specs.Prelude.{◌≡◌, map};
+ghost use Rattle.eg_level2.specs.Inputs.{results_by};
+
+use arrayvec::ArrayVec;
+use eg_answer::{Questions, Rules, TestRow, results};
+
+/// The seed of a test row, and its five results.
+#[derive(Clone, Copy, Default)]
+pub(crate) struct RowResults {
+    pub(crate) seed: u16,
+    pub(crate) results: [u16; 5],
+}
+
+impl RowResults {
+    /// Those of a row.
+    #[tactic(auto, unfolding(crate::specs::Inputs::results_by))]
+    fn of(rules: &Rules, row: &TestRow) -> RowResults
+        ensures { result ≡ results_by rules.now row.now }
+    {
+        RowResults {
+            seed: row.seed,
+            results: results(rules, row),
+        }
+    }
+}
+
+/// Those of the rows of all questions, in their order.
+pub(crate) fn results_of_all(rules: &Rules, questions: &Questions) -> ArrayVec<RowResults, 64>
+    ensures { result.items ≡ map (λ question. results_by rules.now question.row) questions.now }
+{
+    let mut all = ArrayVec::new();
+    for i in 0..questions.len() {
+        all.push(RowResults::of(rules, questions.row(i)));
+    }
+    all
+}
