@@ -9,9 +9,9 @@ use Rattle.eg_word.specs.Machine.{step_in}
 use Rattle.eg_word.specs.World.{View, World, world_step, after_step, after_store, sight}
 use Rattle.eg_host.specs.Slices.{wake, steps, slice_start, world_slice}
 use Rattle.eg_fault.specs.Faults.{effects}
-use Rattle.eg_model.specs.History.{Setting, Entry, Moment}
-use Rattle.eg_model.specs.Level1.{last_world, slices_from, world_at, view_in}
-use Rattle.eg_model.specs.Moments.{moment, moments, moments_of, ticks, next, readings_at}
+use Rattle.eg_model.specs.History.{Setting, Entry}
+use Rattle.eg_model.specs.Level1.{last_world, slices_from, world_at}
+use Rattle.eg_model.specs.Moments.{moment, moments, moments_of, ticks, next}
 use Rattle.eg_record.specs.declared.row.Row.{Row}
 use Rattle.eg_model.specs.Rows.{first_trap, trap_in, row_of}
 use Rattle.eg_tick.specs.Advancing.{HoldsOutputs}

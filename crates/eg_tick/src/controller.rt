@@ -18,7 +18,7 @@ use crate::board::load_image;
 use crate::monitoring::{judge, question};
 use crate::paths::Paths;
 use crate::plant::{readings, step_engine};
-use crate::row::{Beginning, limit, row};
+use crate::row::{Beginning, limit, look_up, row};
 use crate::working::{Task, work};
 use eg_base::NoMemory;
 use eg_fault::{Fault, held, sends};
@@ -224,10 +224,11 @@ impl<E: Engine + Drop, M: Guarded + Drop> Controller<E, M> {
         }
         self.lost = true;
         let fault = self.fault.as_ref();
+        let lookup = look_up(&self.calibration.rules().permit, drive);
         let begins = Beginning {
             tick: self.ticks,
             drive: *drive,
-            limit: limit(&self.calibration.rules().permit, drive),
+            limit: limit(&lookup, drive),
             paths: Paths::at(fault, self.ticks, self.open1, self.open2),
         };
         let held = held(fault, self.ticks);
@@ -242,6 +243,7 @@ impl<E: Engine + Drop, M: Guarded + Drop> Controller<E, M> {
                 self.ticks,
             ),
             readings: readings(&self.engine, drive, fault, self.ticks),
+            lookup,
         };
         let step = work(
             &self.level2,

@@ -5,6 +5,7 @@ ghost use Rattle.eg_guard.specs.Memory.{AreWords};
 ghost use Rattle.eg_word.specs.declared.registers.Registers.{Registers};
 ghost use Rattle.eg_fault.specs.Faults.{effects};
 ghost use Rattle.eg_level2.specs.Words.{words_of, AreMirrored, AreWithin};
+ghost use Rattle.eg_level2.specs.Inputs.{IsLookup};
 ghost use Rattle.eg_level2.specs.Modules.{quiet_step};
 ghost use Rattle.eg_agree.specs.Replies.{IsAnyFault};
 ghost use Rattle.eg_tick.specs.Midway;
@@ -16,7 +17,7 @@ use eg_base::NoMemory;
 use eg_fault::{Fault, disturbance, level1_runs, module_runs};
 use eg_guard::Guarded;
 use eg_host::Host;
-use eg_level2::{Level2, Step, Watches};
+use eg_level2::{Level2, Lookup, Step, Watches};
 
 /// A slice of level 1, where it runs at this tick (docs/CONCEPT.md, "Level 1").
 #[inline(always)]
@@ -50,9 +51,11 @@ fn module<M: Guarded>(
     tick: u16,
     send: bool,
     number: u8,
+    lookup: &Lookup,
     memory: &mut M,
 ) -> Result<Step, NoMemory>
     requires number { number < 8 }
+    requires lookup { IsLookup level2.now.rules lookup.now }
     requires mirrored { AreMirrored (M.shows memory.old).words }
     requires within { AreWithin level2.now.rules (words_of (M.shows memory.old).words) }
     ensures midway { (w : Work) (i : ℕ) (m : Registers)
@@ -73,7 +76,7 @@ fn module<M: Guarded>(
         return Ok(quiet());
     }
     let disturbance = disturbance(fault, u32::from(tick), number);
-    level2.module(number, memory, tick, send, disturbance)
+    level2.module(number, memory, tick, send, disturbance, lookup)
 }
 
 /// The run of module 0. A scheduled flip comes as it begins (docs/CONCEPT.md, "A run, tick by tick").
@@ -83,9 +86,11 @@ fn first_module<M: Guarded>(
     fault: Option<&Fault>,
     tick: u16,
     send: bool,
+    lookup: &Lookup,
     memory: &mut M,
 ) -> Result<Step, NoMemory>
     requires fault { IsAnyFault (option_copied fault) }
+    requires lookup { IsLookup level2.now.rules lookup.now }
     requires mirrored { AreMirrored (M.shows memory.old).words }
     requires within { AreWithin level2.now.rules (words_of (M.shows memory.old).words) }
     ensures midway { (w : Work) (i : ℕ) (m : Registers)
@@ -103,11 +108,11 @@ fn first_module<M: Guarded>(
     ensures are_words { AreWords (M.shows memory.old).words → AreWords (M.shows memory.new).words }
 {
     let Some((word, mask)) = scheduled_flip(fault, tick) else {
-        return module(level2, fault, tick, send, 0, memory);
+        return module(level2, fault, tick, send, 0, lookup, memory);
     };
     flip(memory, word, mask)?;
     // No fault that flips a word leaves module 0 out, or disturbs it.
-    level2.module(0, memory, tick, send, 0)
+    level2.module(0, memory, tick, send, 0, lookup)
 }
 
 /// The word of level 2 that is flipped at a tick, and its bits.
@@ -128,6 +133,7 @@ fn turn<M: Guarded>(
     fault: Option<&Fault>,
     tick: u16,
     send: bool,
+    lookup: &Lookup,
     slices: &Slices,
     number: u8,
     host: &mut Host,
@@ -135,6 +141,7 @@ fn turn<M: Guarded>(
 ) -> Result<Step, NoMemory>
     requires number { number < 8 }
     requires fault { IsAnyFault (option_copied fault) }
+    requires lookup { IsLookup level2.now.rules lookup.now }
     requires mirrored { AreMirrored (M.shows memory.old).words }
     requires within { AreWithin level2.now.rules (words_of (M.shows memory.old).words) }
     ensures midway { (w : Work)
@@ -154,24 +161,27 @@ fn turn<M: Guarded>(
     let budget = slices.budget_of(number);
     slice(level1_runs(fault, u32::from(tick)), host, memory, budget)?;
     if number == 0 {
-        return first_module(level2, fault, tick, send, memory);
+        return first_module(level2, fault, tick, send, lookup, memory);
     }
-    module(level2, fault, tick, send, number, memory)
+    module(level2, fault, tick, send, number, lookup, memory)
 }
 
 /// The nine slices of level 1 and the eight modules of level 2 of a tick, in turn: after each slice but the
 /// last comes the module of its number (docs/CONCEPT.md, "A run, tick by tick"). Answers what the modules
 /// order, answer and find. The turns are written out, so that each is compiled for its own number.
-pub(crate) fn run_levels<M: Guarded>(
+#[inline(always)]
+fn run_turns<M: Guarded>(
     level2: &Level2,
     fault: Option<&Fault>,
     tick: u16,
     send: bool,
+    lookup: &Lookup,
     slices: &Slices,
     host: &mut Host,
     memory: &mut M,
 ) -> Result<Step, NoMemory>
     requires fault { IsAnyFault (option_copied fault) }
+    requires lookup { IsLookup level2.now.rules lookup.now }
     requires mirrored { AreMirrored (M.shows memory.old).words }
     requires within { AreWithin level2.now.rules (words_of (M.shows memory.old).words) }
     ensures midway { (w : Work)
@@ -188,25 +198,59 @@ pub(crate) fn run_levels<M: Guarded>(
     ensures are_words { AreWords (M.shows memory.old).words → AreWords (M.shows memory.new).words }
 {
     let whole = quiet();
-    let step = turn(level2, fault, tick, send, slices, 0, host, memory)?;
+    let step = turn(level2, fault, tick, send, lookup, slices, 0, host, memory)?;
     let whole = joined(&whole, &step);
-    let step = turn(level2, fault, tick, send, slices, 1, host, memory)?;
+    let step = turn(level2, fault, tick, send, lookup, slices, 1, host, memory)?;
     let whole = joined(&whole, &step);
-    let step = turn(level2, fault, tick, send, slices, 2, host, memory)?;
+    let step = turn(level2, fault, tick, send, lookup, slices, 2, host, memory)?;
     let whole = joined(&whole, &step);
-    let step = turn(level2, fault, tick, send, slices, 3, host, memory)?;
+    let step = turn(level2, fault, tick, send, lookup, slices, 3, host, memory)?;
     let whole = joined(&whole, &step);
-    let step = turn(level2, fault, tick, send, slices, 4, host, memory)?;
+    let step = turn(level2, fault, tick, send, lookup, slices, 4, host, memory)?;
     let whole = joined(&whole, &step);
-    let step = turn(level2, fault, tick, send, slices, 5, host, memory)?;
+    let step = turn(level2, fault, tick, send, lookup, slices, 5, host, memory)?;
     let whole = joined(&whole, &step);
-    let step = turn(level2, fault, tick, send, slices, 6, host, memory)?;
+    let step = turn(level2, fault, tick, send, lookup, slices, 6, host, memory)?;
     let whole = joined(&whole, &step);
-    let step = turn(level2, fault, tick, send, slices, 7, host, memory)?;
+    let step = turn(level2, fault, tick, send, lookup, slices, 7, host, memory)?;
     let whole = joined(&whole, &step);
     let last = slices.budget_of(8);
     slice(level1_runs(fault, u32::from(tick)), host, memory, last)?;
     Ok(whole)
+}
+
+/// The nine slices and the eight modules of a tick, as above. Ticks without a fault are compiled apart.
+pub(crate) fn run_levels<M: Guarded>(
+    level2: &Level2,
+    fault: Option<&Fault>,
+    tick: u16,
+    send: bool,
+    lookup: &Lookup,
+    slices: &Slices,
+    host: &mut Host,
+    memory: &mut M,
+) -> Result<Step, NoMemory>
+    requires fault { IsAnyFault (option_copied fault) }
+    requires lookup { IsLookup level2.now.rules lookup.now }
+    requires mirrored { AreMirrored (M.shows memory.old).words }
+    requires within { AreWithin level2.now.rules (words_of (M.shows memory.old).words) }
+    ensures midway { (w : Work)
+        → IsDue level2.now (effects (option_copied fault.entry) tick) tick send slices.now w
+        → IsMidway w 0 0 host.old.registers (M.shows memory.old).words
+        → OnOk result (IsMidway w 9 8 host.new.registers (M.shows memory.new).words) }
+    ensures step { (w : Work)
+        → IsDue level2.now (effects (option_copied fault.entry) tick) tick send slices.now w
+        → IsMidway w 0 0 host.old.registers (M.shows memory.old).words
+        → IfOk result (λ step. step ≡ tick_step w.doing w.words) }
+    ensures nine { OnOk result (length slices.now ≡ 9) }
+    ensures sure { IsTrue (M.shows memory.old).sure → IsOk result }
+    ensures stays_sure { (M.shows memory.new).sure ≡ (M.shows memory.old).sure }
+    ensures are_words { AreWords (M.shows memory.old).words → AreWords (M.shows memory.new).words }
+{
+    match fault {
+        None => run_turns(level2, None, tick, send, lookup, slices, host, memory),
+        Some(_) => run_turns(level2, fault, tick, send, lookup, slices, host, memory),
+    }
 }
 
 /// What is ordered, answered and found by a step and by the next.

@@ -1,6 +1,7 @@
 // The row of a tick.
 ghost use Rattle.std.specs.Prelude.{◌≡◌, ◌<◌, slice_index};
 ghost use Rattle.eg_num.specs.Drive.{IsDrive};
+ghost use Rattle.eg_num.specs.Interpolation.{Grid, grid_at};
 ghost use Rattle.eg_torque.specs.Permit.{drive_permits};
 ghost use Rattle.eg_level2.specs.Words.{word_at, words_of};
 ghost use Rattle.eg_model.specs.Rows.{signal_list};
@@ -11,6 +12,7 @@ use crate::monitoring::Judgement;
 use crate::paths::Paths;
 use crate::plant::Commands;
 use eg_guard::Guarded;
+use eg_level2::Lookup;
 use eg_num::{Drive, Watches};
 use eg_plant::Engine;
 use eg_record::Row;
@@ -25,12 +27,32 @@ pub(crate) struct Beginning {
     pub(crate) paths: Paths,
 }
 
-/// The torque that a drive row permits, in tenths of Nm (docs/CONCEPT.md, "Torque").
-pub(crate) fn limit(permit: &Permit, drive: &Drive) -> u16
-    ensures limit { result ≡ drive_permits permit.now drive.now }
+/// What the permit table says of a drive row.
+pub(crate) fn look_up(permit: &Permit, drive: &Drive) -> Lookup
+    ensures pedal { result.pedal ≡ drive.now.pedal }
+    ensures speed { result.speed ≡ drive.now.speed }
+    ensures torque { result.torque ≡ grid_at permit.now result.pedal result.speed }
     ensures drive { IsDrive drive.now }
 {
-    permit.at(drive.pedal(), drive.speed(), drive.speed(), drive.raise())
+    let (pedal, speed) = (drive.pedal(), drive.speed());
+    let torque = permit.table().at(pedal, speed);
+    Lookup {
+        pedal,
+        speed,
+        torque,
+    }
+}
+
+/// The torque that a drive row permits, in tenths of Nm (docs/CONCEPT.md, "Torque"), by what the permit table
+/// says of it.
+#[tactic(auto, unfolding(eg_torque::specs::Permit::drive_permits))]
+pub(crate) fn limit(lookup: &Lookup, drive: &Drive) -> u16
+    requires pedal { lookup.now.pedal ≡ drive.now.pedal }
+    requires speed { lookup.now.speed ≡ drive.now.speed }
+    ensures limit { (permit : Grid) → lookup.now.torque ≡ grid_at permit lookup.now.pedal lookup.now.speed
+        → result ≡ drive_permits permit drive.now }
+{
+    lookup.torque.max(drive.raise())
 }
 
 /// A word of level 2, as it stands in the memory.

@@ -3,6 +3,7 @@ ghost use Rattle.std.specs.Prelude.{◌≡◌, ℕ, List, IsTrue, IsOk, OnOk, If
 ghost use Rattle.std.specs.Option.{option_copied};
 ghost use Rattle.eg_guard.specs.Memory.{AreWords};
 ghost use Rattle.eg_level2.specs.Words.{words_of, AreMirrored, AreWithin};
+ghost use Rattle.eg_level2.specs.Inputs.{IsLookup};
 ghost use Rattle.eg_model.specs.History.{Setting, Entry};
 ghost use Rattle.eg_agree.specs.Replies.{IsAnyFault};
 ghost use Rattle.eg_tick.specs.Working.{Serves, Served, IsStep};
@@ -14,17 +15,18 @@ use eg_base::NoMemory;
 use eg_fault::Fault;
 use eg_guard::Guarded;
 use eg_host::Host;
-use eg_level2::{Level2, Step};
+use eg_level2::{Level2, Lookup, Step};
 use eg_sensor::Readings;
 
 /// What level 1 and level 2 are handed at a tick: its number, whether the answer is sent at it, the number of
-/// the question, and the readings.
+/// the question, the readings, and what the permit table says of the drive row.
 #[derive(Clone, Copy)]
 pub(crate) struct Task {
     pub(crate) tick: u16,
     pub(crate) sends: bool,
     pub(crate) asked: u16,
     pub(crate) readings: Readings,
+    pub(crate) lookup: Lookup,
 }
 
 /// Writes the readings to the input ports and the number of the question to the link; then slices of level 1
@@ -41,6 +43,7 @@ pub(crate) fn work<M: Guarded>(
     requires within { AreWithin level2.now.rules (words_of (M.shows memory.old).words) }
     requires are_words { AreWords (M.shows memory.old).words }
     requires fault { IsAnyFault (option_copied fault) }
+    requires lookup { IsLookup level2.now.rules task.now.lookup }
     ensures served { (s : Setting) (e : Entry) (h : List Entry)
         → Serves s e h level2.now (option_copied fault.entry) task.now slices.now host.old.registers
         (M.shows memory.old).words
@@ -54,5 +57,14 @@ pub(crate) fn work<M: Guarded>(
     ensures are_words { AreWords (M.shows memory.new).words }
 {
     show(memory, &task.readings, task.asked)?;
-    run_levels(level2, fault, task.tick, task.sends, slices, host, memory)
+    run_levels(
+        level2,
+        fault,
+        task.tick,
+        task.sends,
+        &task.lookup,
+        slices,
+        host,
+        memory,
+    )
 }

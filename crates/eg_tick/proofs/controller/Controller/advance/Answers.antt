@@ -83,6 +83,7 @@ task g c = record {
   sends = c.sends.result;
   asked = c.question.result;
   readings = c.readings.result;
+  lookup = c.look_up-lookup.result;
 }
 
 advance : (g : Over) (c : goal.After-self-6-1 g) → Advance (old g c) (new g c) c.args.drive.now c.args.slices.now c.self.inside.fault c.self.inside.level2
@@ -94,7 +95,7 @@ advance g c =
       accepted = c.times.ensures.accepted;
       parts = c.self.invariant.parts;
       few = subst (λ v. v < 20000) (sym (ap (λ v. v.kept.ticks) c.self.view_is)) c.requires.fewer;
-      is_drive = c.limit.ensures.drive;
+      is_drive = c.look_up-lookup.ensures.drive;
       path1 = c.at.ensures.path1;
       path2 = c.at.ensures.path2;
       on = c.at.ensures.on;
@@ -161,7 +162,7 @@ pub returns-clause-row : goal.returns-clause-row
 returns-clause-row g c s h stands =
     of_setting (λ t. c.row-row.result ≡ row_of (next t (entry g c) h)) (old g c) h
     (λ image so. row-told (old g c) (new g c) _ _ _ _ (task g c) _ _ (advance g c) image h so c.row-row.result c.limit.result
-    (c.limit.ensures.limit ∙ ap (λ (rules : Rules). drive_permits rules.permit c.args.drive.now) c.rules.ensures.rules) c.row-row.ensures)
+    (c.limit.ensures.limit _ c.look_up-lookup.ensures.torque ∙ ap (λ (rules : Rules). drive_permits rules.permit c.args.drive.now) c.rules.ensures.rules) c.row-row.ensures)
     s (was g c s h stands)
 
 pub returns-clause-engine : goal.returns-clause-engine

@@ -1,4 +1,4 @@
-use Rattle.std.proofs.Common.{◌≡◌, sym, ap, subst}
+use Rattle.std.proofs.Common.{subst}
 use Rattle.std.specs.Option.{IsSome}
 use Rattle.eg_values.specs.Calibration.{IsAccepted}
 use Rattle.eg_tick.proofs.TrapLemmas.{outputs-hold}
