@@ -62,7 +62,7 @@ pub enum Instruction {
     Shr {
         a: Register,
         b: Register,
-        n: u16,
+        n: u8,
     },
     /// `r[a] = r[b] * r[c]`
     Mul {
@@ -74,13 +74,13 @@ pub enum Instruction {
     Ld {
         a: Register,
         b: Register,
-        n: u16,
+        n: u8,
     },
     /// the word at the address `r[b] + n` is `r[a]`
     St {
         a: Register,
         b: Register,
-        n: u16,
+        n: u8,
     },
     /// goes on at the distance `d` where `r[a]` is 0
     Jz {
@@ -91,7 +91,7 @@ pub enum Instruction {
     Jlt {
         a: Register,
         b: Register,
-        d: i16,
+        d: i8,
     },
     /// waits for the next slice
     Wait,
@@ -120,7 +120,7 @@ macro_rules! two_registers {
         Instruction::$name {
             a: register($word / 512),
             b: register($word / 64),
-            n: $word % 64,
+            n: ($word % 64) as u8,
         }
     };
 }
@@ -163,7 +163,7 @@ pub fn decode(word: u16) -> Instruction
         14 => Instruction::Jlt {
             a: register(word / 512),
             b: register(word / 64),
-            d: signed(word % 64, 32),
+            d: short(word % 64),
         },
         _ => match word % 512 {
             0 => Instruction::Wait,
@@ -193,5 +193,18 @@ fn signed(n: u16, half: u16) -> i16
         n as i16
     } else {
         n as i16 - 2 * half as i16
+    }
+}
+
+/// A number of six bits read as two's complement.
+#[tactic(auto, using(std::proofs::lemmas::Int::ints), unfolding(crate::specs::Instructions::signed))]
+fn short(n: u16) -> i8
+    requires within { n < 64 }
+    ensures { result ≡ Instructions.signed 32 n }
+{
+    if n < 32 {
+        n as i8
+    } else {
+        n as i8 - 64
     }
 }
