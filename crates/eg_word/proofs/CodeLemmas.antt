@@ -2,8 +2,9 @@
 use Rattle.std.proofs.Common.{◌≡◌, ◌≢◌, ◌∙◌, refl, sym, ap, subst, ℕ, zero, suc, ◌<◌, ◌≤◌, IsTrue, List, length, slice_index, slice_set, replicate, arith, inl, inr}
 use Rattle.std.specs.Prelude.{slice_index_or, Some}
 use Rattle.std.proofs.lemmas.List.{length-set, length-replicate, get_or-set_same, get_or-set_other}
-use Rattle.std.proofs.lemmas.Bool.{cases_eq}
-use Rattle.eg_guard.specs.declared.regions.Who.TheVariants.{Level1}
+use Rattle.std.proofs.lemmas.Bool.{cases_eq, cases_lt}
+use Rattle.eg_guard.specs.declared.regions.Who.{Who}
+use Rattle.eg_guard.specs.declared.regions.Who.TheVariants.{Level1, Level2, Board}
 use Rattle.eg_guard.specs.Regions.{allows, access}
 use Rattle.eg_guard.specs.Memory.{AreWords}
 use Rattle.eg_guard.proofs.AccessLemmas.{code-is}
@@ -54,8 +55,11 @@ set-each words code address word k past is within place =
     elim (cases_eq k address) [
       | inl here ↦ let some : address < length code = omega (arith, is.count) in
           let inside : address < length words = omega (arith, is.are_words.count) in
-          rw (here, get_or-set_same, get_or-set_same) refl
-      | inr other ↦ rw (get_or-set_other, get_or-set_other) (is.each k past place)
+          ap (λ i. slice_index_or (slice_set code address (instruction_of word)) i past) here
+          ∙ get_or-set_same code address (instruction_of word) past some
+          ∙ ap instruction_of (sym (ap (λ i. slice_index (slice_set words address word) i) here ∙ get_or-set_same words address word 0 inside))
+      | inr other ↦ get_or-set_other code address k (instruction_of word) past other ∙ is.each k past place
+          ∙ ap instruction_of (sym (get_or-set_other words address k word 0 other))
     ]
 
 set-decoded : (words : List ℕ) (code : List Instruction) (address word : ℕ) → IsDecoded words code
@@ -76,15 +80,32 @@ decoded-code old new code made address word is stored are within decoded =
     (subst (λ m. IsDecoded (slice_set old address word) m) (sym decoded)
     (set-decoded old code address word is (subst AreWords stored are) within))
 
--- the code stays where another word was stored
-pub decoded-other : (old new : List ℕ) (code : List Instruction) (address word : ℕ) → IsDecoded old code
+-- a word past the code was stored
+decoded-past : (old new : List ℕ) (code : List Instruction) (address word : ℕ) → IsDecoded old code
     → new ≡ slice_set old address word → AreWords new → 1024 ≤ address → IsDecoded new code
-decoded-other old new code address word is stored are past = record {
+decoded-past old new code address word is stored are past = record {
   are_words = are;
   count = is.count;
   each = λ k default place. let other : k ≢ address = λ same. absurd (omega arith) in
       is.each k default place ∙ ap instruction_of (sym (ap (λ w. slice_index w k) stored ∙ get_or-set_other old address k word 0 other));
 }
+
+-- nobody but the board may store to the code
+code-boards : (who : Who) (address : ℕ) → address < 1024 → IsTrue (access who address).store → who ≡ Board
+unfolding access allows
+code-boards Level1 address within may = let is : _ ≡ _ = ap (λ r. (allows r Level1).store) (code-is address within) in cc
+code-boards Level2 address within may = let is : _ ≡ _ = ap (λ r. (allows r Level2).store) (code-is address within) in cc
+code-boards Board address within may = refl
+
+-- the code stays where the board didn't store to it
+pub decoded-other : (old new : List ℕ) (code : List Instruction) (who : Who) (address word : ℕ) → IsDecoded old code
+    → new ≡ slice_set old address word → AreWords new → IsTrue (access who address).store → (who ≡ Board → 1024 ≤ address)
+    → IsDecoded new code
+decoded-other old new code who address word is stored are may past =
+    elim (cases_lt address 1024) [
+      | inl within ↦ absurd (let from : 1024 ≤ address = past (code-boards who address within may) in omega arith)
+      | inr beyond ↦ decoded-past old new code address word is stored are beyond
+    ]
 
 -- what a store makes of decoded code
 pub ruleset stored = (decoded-code, decoded-other)

@@ -8,10 +8,11 @@ use crate::{CodeMemory, Instruction, decode};
 use eg_guard::{FlatMemory, Guarded, Refused, StoreRefusal, Who};
 use std::marker::Model;
 
-/// A memory as `FlatMemory`, but each word of the code is decoded where it is stored, and not where it is
-/// done: level 1 can't change its code, so that a step needs no decoding. It is sure.
+/// A memory as `FlatMemory` that keeps its code decoded beside its words (docs/CONCEPT.md, "Level 1"). It is
+/// sure.
 ///
-/// Contracts see the list of its words.
+/// Nobody but the board can change the code, so a word of it is decoded where the board stores it, and not at
+/// each step. Contracts see the list of its words.
 #[derive(Drop)]
 pub struct DecodedMemory {
     memory: FlatMemory,
@@ -57,7 +58,7 @@ impl Guarded for DecodedMemory {
     #[tactic(auto, using(crate::proofs::CodeLemmas::stored))]
     fn store(&mut self, who: Who, address: u16, word: u16) -> Result<(), StoreRefusal> {
         self.memory.store(who, address, word)?;
-        if address < CODE_END {
+        if who == Who::Board && address < CODE_END {
             decode_into(&mut self.code, address, word);
         }
         Ok(())
