@@ -8,8 +8,7 @@ ghost use Rattle.eg_word.specs.World.{View, Shows, world_of, new_registers};
 ghost use Rattle.eg_host.specs.Slices;
 
 use eg_base::NoMemory;
-use eg_guard::Guarded;
-use eg_word::{Registers, State, step_on};
+use eg_word::{CodeMemory, Registers, State, step_on};
 
 /// Level 1, which runs in slices (docs/CONCEPT.md, "Level 1").
 #[derive(Clone, Copy, Debug, PartialEq, Eq)]
@@ -30,7 +29,7 @@ impl Host {
 
     /// Wakes a machine that waits, and then does at most as many steps as the budget says.
     #[inline(never)]
-    pub fn slice<M: Guarded>(&mut self, memory: &mut M, budget: u16) -> Result<(), NoMemory>
+    pub fn slice<M: CodeMemory>(&mut self, memory: &mut M, budget: u16) -> Result<(), NoMemory>
         // Over a memory that shows a view it is a slice of level 1's private world with that view.
         ensures world { (view : View) → Shows (M.shows memory.old).words view
             → OnOk result (world_of self.new.registers (M.shows memory.new).words

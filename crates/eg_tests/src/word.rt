@@ -1,6 +1,8 @@
 // Every instruction with an example, over a guarded memory.
-use eg_guard::{FlatMemory, Guarded, StingyMemory, Who};
-use eg_word::{Instruction, Register, Registers, State, Trap, decode, step, step_on};
+use eg_guard::{FlatMemory, Guarded, StingyMemory, StoreRefusal, Who};
+use eg_word::{
+    CodeMemory, DecodedMemory, Instruction, Register, Registers, State, Trap, decode, step, step_on,
+};
 use std::process::Abort;
 
 /// The machine after one step with this word at address 0, from these registers. At 1024 stands 0x5a5a.
@@ -156,4 +158,42 @@ fn words_are_decoded(rt: HostRuntime) {
             state: State::Running
         }
     );
+}
+
+/// The machine after two steps, the second of them of a word that the board stores after the first.
+fn after_a_change<M: CodeMemory>(rt: &impl Abort, memory: &mut M) -> Registers {
+    let mut registers = Registers::new();
+    assert_eq!(rt; memory.store(Who::Board, 0, 0x1205), Ok(()));
+    assert_eq!(rt; memory.store(Who::Board, 1, 0x1206), Ok(()));
+    assert!(rt; step(&mut registers, memory).is_ok());
+    assert_eq!(rt; memory.store(Who::Board, 1, 0x1407), Ok(()));
+    assert!(rt; step(&mut registers, memory).is_ok());
+    registers
+}
+
+#[test]
+fn the_code_that_stands_there_is_done(rt: HostRuntime) {
+    let want = Registers {
+        pc: 2,
+        state: State::Running,
+        r: [0, 5, 7, 0, 0, 0, 0, 0],
+    };
+    assert_eq!(rt; after_a_change(&rt, &mut FlatMemory::new()), want);
+    assert_eq!(rt; after_a_change(&rt, &mut StingyMemory::new(9)), want);
+    assert_eq!(rt; after_a_change(&rt, &mut DecodedMemory::new()), want);
+}
+
+#[test]
+fn decoded_code_ends_where_code_ends(rt: HostRuntime) {
+    let mut memory = DecodedMemory::new();
+    assert_eq!(rt; memory.store(Who::Board, 1023, 0xf000), Ok(()));
+    assert_eq!(rt; memory.store(Who::Level1, 1024, 0xf000), Ok(()));
+    assert_eq!(rt;
+        memory.store(Who::Level1, 1022, 0xf000),
+        Err(StoreRefusal::Refused)
+    );
+    assert_eq!(rt; memory.instruction(1022), Ok(Instruction::Nop));
+    assert_eq!(rt; memory.instruction(1023), Ok(Instruction::Wait));
+    assert!(rt; memory.instruction(1024).is_err());
+    assert_eq!(rt; memory.load(Who::Level1, 1024), Ok(0xf000));
 }

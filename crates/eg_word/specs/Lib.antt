@@ -2,3 +2,4 @@ pub mod Instructions
 pub mod Machine
 pub mod Memory
 pub mod World
+pub mod Decoded

@@ -8,7 +8,8 @@ use crate::Register;
 /// An instruction of level 1's machine (docs/FORMATS.md, "Instructions").
 ///
 /// `r[a]` is the word in register `a`, and sums and products wrap. Where nothing else is said the next
-/// instruction follows. Distances `d` count from the next instruction.
+/// instruction follows. Distances `d` count from the next instruction. Numbers are as narrow as they can be, so
+/// that an instruction takes four bytes.
 #[derive(Clone, Copy, Debug, PartialEq, Eq)]
 pub enum Instruction {
     /// Does nothing.
@@ -62,7 +63,7 @@ pub enum Instruction {
     Shr {
         a: Register,
         b: Register,
-        n: u16,
+        n: u8,
     },
     /// `r[a] = r[b] * r[c]`
     Mul {
@@ -74,13 +75,13 @@ pub enum Instruction {
     Ld {
         a: Register,
         b: Register,
-        n: u16,
+        n: u8,
     },
     /// the word at the address `r[b] + n` is `r[a]`
     St {
         a: Register,
         b: Register,
-        n: u16,
+        n: u8,
     },
     /// goes on at the distance `d` where `r[a]` is 0
     Jz {
@@ -91,7 +92,7 @@ pub enum Instruction {
     Jlt {
         a: Register,
         b: Register,
-        d: i16,
+        d: i8,
     },
     /// waits for the next slice
     Wait,
@@ -120,14 +121,12 @@ macro_rules! two_registers {
         Instruction::$name {
             a: register($word / 512),
             b: register($word / 64),
-            n: $word % 64,
+            n: ($word % 64) as u8,
         }
     };
 }
 
 /// The instruction that a word is (docs/FORMATS.md, "Instructions"). Bits that it doesn't use are ignored.
-///
-/// A field is read where an instruction has it, and not before: the machine decodes a word at each step.
 #[inline]
 #[tactic(auto, unfolding(crate::specs::Instructions::instruction_with))]
 pub fn decode(word: u16) -> Instruction
@@ -158,12 +157,12 @@ pub fn decode(word: u16) -> Instruction
         12 => two_registers!(St, word),
         13 => Instruction::Jz {
             a: register(word / 512),
-            d: signed(word % 512, 256),
+            d: signed_nine(word % 512),
         },
         14 => Instruction::Jlt {
             a: register(word / 512),
             b: register(word / 64),
-            d: signed(word % 64, 32),
+            d: signed_six(word % 64),
         },
         _ => match word % 512 {
             0 => Instruction::Wait,
@@ -182,16 +181,20 @@ fn register(bits: u16) -> Register
     Register::new((bits % 8) as u8)
 }
 
-/// A number below twice `half` read as two's complement.
+/// A number of nine bits read as two's complement.
 #[tactic(auto, using(std::proofs::lemmas::Int::ints), unfolding(crate::specs::Instructions::signed))]
-fn signed(n: u16, half: u16) -> i16
-    requires small { half < 2 ^ 14 }
-    requires within { n < 2 * half }
-    ensures { result ≡ Instructions.signed half n }
+fn signed_nine(n: u16) -> i16
+    requires within { n < 512 }
+    ensures { result ≡ Instructions.signed 256 n }
 {
-    if n < half {
-        n as i16
-    } else {
-        n as i16 - 2 * half as i16
-    }
+    if n < 256 { n as i16 } else { n as i16 - 512 }
+}
+
+/// A number of six bits read as two's complement.
+#[tactic(auto, using(std::proofs::lemmas::Int::ints), unfolding(crate::specs::Instructions::signed))]
+fn signed_six(n: u16) -> i8
+    requires within { n < 64 }
+    ensures { result ≡ Instructions.signed 32 n }
+{
+    if n < 32 { n as i8 } else { n as i8 - 64 }
 }

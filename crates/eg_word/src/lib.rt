@@ -6,11 +6,15 @@
 //! built.
 #![tactic(auto)]
 
+mod code;
+mod decoded_memory;
 mod instruction;
 mod machine;
 mod register;
 mod registers;
 
+pub use code::CodeMemory;
+pub use decoded_memory::DecodedMemory;
 pub use instruction::{Instruction, decode};
 pub use machine::{step, step_on};
 pub use register::Register;

@@ -6,17 +6,14 @@ ghost use Rattle.eg_word.specs.Machine.{effect, load_into, store_at};
 ghost use Rattle.eg_word.specs.Memory.{load_from, put, registers_after, words_after, is_level1_own};
 ghost use Rattle.eg_word.specs.World.{View, Shows, world_of, world_step};
 
-use crate::{Instruction, Register, Registers, State, Trap, decode};
+use crate::{CodeMemory, Instruction, Register, Registers, State, Trap};
 use eg_base::NoMemory;
 use eg_guard::{Guarded, StoreRefusal, Who};
-
-/// The first address past the code.
-const CODE_END: u16 = 1024;
 
 /// One step of level 1's machine over a guarded memory: the instruction at `pc` is done
 /// (docs/CONCEPT.md, "Level 1").
 #[tactic(auto, using(crate::proofs::StepLaws::step_laws))]
-pub fn step<M: Guarded>(registers: &mut Registers, memory: &mut M) -> Result<(), NoMemory>
+pub fn step<M: CodeMemory>(registers: &mut Registers, memory: &mut M) -> Result<(), NoMemory>
     // The step is the table of instructions.
     ensures registers { OnOk result
         (registers.new ≡ registers_after (M.shows memory.old).words registers.old) }
@@ -57,7 +54,7 @@ pub fn step<M: Guarded>(registers: &mut Registers, memory: &mut M) -> Result<(),
 /// Who makes many steps needn't look at the state before each of them.
 #[inline]
 #[tactic(auto, using(crate::proofs::StepLaws::step_laws))]
-pub fn step_on<M: Guarded>(registers: &mut Registers, memory: &mut M) -> Result<bool, NoMemory>
+pub fn step_on<M: CodeMemory>(registers: &mut Registers, memory: &mut M) -> Result<bool, NoMemory>
     requires running { registers.old.state ≡ Running }
 
     // The step is the table of instructions.
@@ -91,7 +88,7 @@ pub fn step_on<M: Guarded>(registers: &mut Registers, memory: &mut M) -> Result<
 /// A step by its table alone: does the instruction at `pc`, where the machine runs.
 #[inline]
 #[tactic(auto, unfolding(crate::specs::Machine::step_in, crate::specs::Memory::load_from))]
-fn advance<M: Guarded>(registers: &mut Registers, memory: &mut M) -> Result<(), NoMemory>
+fn advance<M: CodeMemory>(registers: &mut Registers, memory: &mut M) -> Result<(), NoMemory>
     ensures registers { OnOk result
         (registers.new ≡ registers_after (M.shows memory.old).words registers.old) }
     ensures words { OnOk result
@@ -111,8 +108,8 @@ fn advance<M: Guarded>(registers: &mut Registers, memory: &mut M) -> Result<(), 
 
 /// Does the instruction at `pc`, and tells whether the machine runs on.
 #[inline]
-#[tactic(auto, unfolding(crate::specs::Machine::step_in, crate::specs::Memory::load_from))]
-fn fetch<M: Guarded>(registers: &mut Registers, memory: &mut M) -> Result<bool, NoMemory>
+#[tactic(auto, using(crate::proofs::CodeLemmas::code_loaded), unfolding(crate::specs::Machine::step_in))]
+fn fetch<M: CodeMemory>(registers: &mut Registers, memory: &mut M) -> Result<bool, NoMemory>
     requires running { registers.old.state ≡ Running }
     ensures registers { OnOk result
         (registers.new ≡ registers_after (M.shows memory.old).words registers.old) }
@@ -126,13 +123,10 @@ fn fetch<M: Guarded>(registers: &mut Registers, memory: &mut M) -> Result<bool, 
     ensures stays_sure { (M.shows memory.new).sure ≡ (M.shows memory.old).sure }
     ensures are_words { AreWords (M.shows memory.old).words → AreWords (M.shows memory.new).words }
 {
-    if registers.pc >= CODE_END {
-        return Ok(registers.trap(Trap::Fetch));
-    }
-    let Ok(word) = memory.load(Who::Level1, registers.pc) else {
+    let Ok(instruction) = memory.instruction(registers.pc) else {
         return Ok(registers.trap(Trap::Fetch));
     };
-    execute(decode(word), registers, memory)
+    execute(instruction, registers, memory)
 }
 
 /// Does an instruction, and tells whether the machine runs on.
@@ -177,13 +171,23 @@ fn execute<M: Guarded>(
         Instruction::Mul { a, b, c } => {
             registers.set(a, registers.get(b).wrapping_mul(registers.get(c)))
         }
-        Instruction::Ld { a, b, n } => load(registers, memory, a, registers.get(b).wrapping_add(n)),
+        Instruction::Ld { a, b, n } => {
+            load(
+                registers,
+                memory,
+                a,
+                registers.get(b).wrapping_add(u16::from(n)),
+            )
+        }
         Instruction::St { a, b, n } => {
-            let address = registers.get(b).wrapping_add(n);
+            let address = registers.get(b).wrapping_add(u16::from(n));
             return store(registers, memory, address, registers.get(a));
         }
         Instruction::Jz { a, d } => registers.jump_if(registers.get(a) == 0, d),
-        Instruction::Jlt { a, b, d } => registers.jump_if(registers.get(a) < registers.get(b), d),
+        Instruction::Jlt { a, b, d } => registers.jump_if(
+            registers.get(a) < registers.get(b),
+            i16::from(d),
+        ),
         Instruction::Wait => registers.wait(),
         Instruction::Jr { a } => registers.jump(registers.get(a)),
         Instruction::Illegal => registers.trap(Trap::Illegal),

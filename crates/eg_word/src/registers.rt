@@ -33,12 +33,13 @@ pub enum State {
 /// The machine that runs level 1 (docs/CONCEPT.md, "Level 1"). Its memory is outside of it.
 #[derive(Clone, Copy, Debug, PartialEq, Eq)]
 pub struct Registers {
-    /// The eight registers.
-    pub r: [u16; 8],
-    /// The address of the next instruction.
+    /// The address of the next instruction. It stands before the registers, so that the compiler sees that
+    /// writing to one doesn't change it.
     pub pc: u16,
     /// Whether it runs.
     pub state: State,
+    /// The eight registers.
+    pub r: [u16; 8],
 }
 
 impl Registers {
@@ -48,9 +49,9 @@ impl Registers {
         ensures { result ≡ new_registers }
     {
         Registers {
-            r: [0; 8],
             pc: 0,
             state: State::Running,
+            r: [0; 8],
         }
     }
 
