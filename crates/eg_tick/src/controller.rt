@@ -30,7 +30,7 @@ use eg_num::Drive;
 use eg_plant::Engine;
 use eg_record::Row;
 use eg_values::Calibration;
-use eg_word::{State, Trap};
+use eg_word::{CodeMemory, State, Trap};
 use std::marker::Model;
 
 mod ticks;
@@ -96,7 +96,7 @@ impl<E: Engine, M: Guarded> Model for Controller<E, M> {
     }) };
 }
 
-impl<E: Engine + Drop, M: Guarded + Drop> Controller<E, M> {
+impl<E: Engine + Drop, M: CodeMemory + Drop> Controller<E, M> {
     /// A controller that has made no tick (docs/CONCEPT.md, "The controller"): with this calibration, the image
     /// that level 1 runs (at most 1,024 words), the fault of the run, if any, which is a valid one, a memory of
     /// 0s, and an engine whose `kt` is that of the calibration. NoMemory gives up memory and engine.

@@ -18,10 +18,11 @@ use eg_fault::{Fault, disturbance, level1_runs, module_runs};
 use eg_guard::Guarded;
 use eg_host::Host;
 use eg_level2::{Level2, Lookup, Step, Watches};
+use eg_word::CodeMemory;
 
 /// A slice of level 1, where it runs at this tick (docs/CONCEPT.md, "Level 1").
 #[inline(always)]
-fn slice<M: Guarded>(
+fn slice<M: CodeMemory>(
     runs: bool,
     host: &mut Host,
     memory: &mut M,
@@ -128,7 +129,7 @@ fn scheduled_flip(fault: Option<&Fault>, tick: u16) -> Option<(u8, u16)>
 /// The slice of level 1 of that number, and then the module of level 2 of the same number (docs/CONCEPT.md,
 /// "A run, tick by tick").
 #[inline(always)]
-fn turn<M: Guarded>(
+fn turn<M: CodeMemory>(
     level2: &Level2,
     fault: Option<&Fault>,
     tick: u16,
@@ -170,7 +171,7 @@ fn turn<M: Guarded>(
 /// last comes the module of its number (docs/CONCEPT.md, "A run, tick by tick"). Answers what the modules
 /// order, answer and find. The turns are written out, so that each is compiled for its own number.
 #[inline(always)]
-fn run_turns<M: Guarded>(
+fn run_turns<M: CodeMemory>(
     level2: &Level2,
     fault: Option<&Fault>,
     tick: u16,
@@ -220,7 +221,7 @@ fn run_turns<M: Guarded>(
 }
 
 /// The nine slices and the eight modules of a tick, as above. Ticks without a fault are compiled apart.
-pub(crate) fn run_levels<M: Guarded>(
+pub(crate) fn run_levels<M: CodeMemory>(
     level2: &Level2,
     fault: Option<&Fault>,
     tick: u16,

@@ -16,12 +16,11 @@ ghost use Rattle.eg_tick.specs.Run.{run_by, IsAt, IsRecordOf, ReactAtOnce, CutLa
 use crate::{Controller, SlicePlan, Ticks};
 use eg_base::{Items, NoMemory};
 use eg_fault::Fault;
-use eg_guard::FlatMemory;
 use eg_num::Drive;
 use eg_plant::GasolineEngine;
 use eg_record::Row;
 use eg_values::Calibration;
-use eg_word::Trap;
+use eg_word::{DecodedMemory, Trap};
 use std::alloc::Global;
 
 /// The record of a run (docs/CONCEPT.md, "The record of a run").
@@ -117,7 +116,7 @@ fn record_run(
 }
 
 /// The record of these rows and of the trap that a controller tells.
-fn record_of(rows: Vec<Row>, controller: &Controller<GasolineEngine, FlatMemory>) -> RunRecord
+fn record_of(rows: Vec<Row>, controller: &Controller<GasolineEngine, DecodedMemory>) -> RunRecord
     ensures rows { result.rows ≡ rows.items }
     ensures trap { result.trap ≡ controller.now.kept.trap }
 {
@@ -132,7 +131,7 @@ fn begin(
     calibration: &Calibration,
     image: &[u16],
     fault: Option<&Fault>,
-) -> Result<Controller<GasolineEngine, FlatMemory>, NoMemory>
+) -> Result<Controller<GasolineEngine, DecodedMemory>, NoMemory>
     requires image { length image.now ≤ 1024 }
     requires fault { IsAnyFault (option_copied fault) }
     ensures at { IfOk result (λ controller. (plan : List (List ℕ)) (drive : List DriveRow) →
@@ -141,7 +140,7 @@ fn begin(
 {
     let engine = GasolineEngine::new(calibration.plant().copy());
     let fault = copied(fault);
-    Controller::new(calibration.copy(), image, fault, FlatMemory::new(), engine)
+    Controller::new(calibration.copy(), image, fault, DecodedMemory::new(), engine)
 }
 
 /// An equal fault, if any.
@@ -157,7 +156,7 @@ fn copied(fault: Option<&Fault>) -> Option<Fault>
 /// The rows of the ticks of a drive, by a controller that has made no tick.
 fn make_rows(
     alloc: Global,
-    controller: &mut Controller<GasolineEngine, FlatMemory>,
+    controller: &mut Controller<GasolineEngine, DecodedMemory>,
     plan: &SlicePlan,
     drive: &[Drive],
     steps: &mut Ticks,
@@ -187,7 +186,7 @@ fn make_rows(
 
 /// The row of the next tick of a run, by a controller that has made all before it.
 fn make_row(
-    controller: &mut Controller<GasolineEngine, FlatMemory>,
+    controller: &mut Controller<GasolineEngine, DecodedMemory>,
     plan: &SlicePlan,
     drive: &Drive,
     tick: u32,

@@ -13,10 +13,10 @@ use crate::board::show;
 use crate::levels::run_levels;
 use eg_base::NoMemory;
 use eg_fault::Fault;
-use eg_guard::Guarded;
 use eg_host::Host;
 use eg_level2::{Level2, Lookup, Step};
 use eg_sensor::Readings;
+use eg_word::CodeMemory;
 
 /// What level 1 and level 2 are handed at a tick: its number, whether the answer is sent at it, the number of
 /// the question, the readings, and what the permit table says of the drive row.
@@ -31,7 +31,7 @@ pub(crate) struct Task {
 
 /// Writes the readings to the input ports and the number of the question to the link; then slices of level 1
 /// and modules of level 2 run in turn (docs/CONCEPT.md, "A run, tick by tick").
-pub(crate) fn work<M: Guarded>(
+pub(crate) fn work<M: CodeMemory>(
     level2: &Level2,
     fault: Option<&Fault>,
     task: &Task,

@@ -13,7 +13,7 @@ use std::test::Fail;
 
 /// A controller whose level 1 waits.
 #[tactic(auto, unfolding(eg_agree::specs::Replies::IsAnyFault))]
-fn controller<M: Guarded + Drop>(memory: M) -> Result<Controller<GasolineEngine, M>, NoMemory>
+fn controller<M: CodeMemory + Drop>(memory: M) -> Result<Controller<GasolineEngine, M>, NoMemory>
     requires { (M.shows memory).words ≡ replicate 4096 0 }
 {
     let calibration = reference();
@@ -22,14 +22,14 @@ fn controller<M: Guarded + Drop>(memory: M) -> Result<Controller<GasolineEngine,
 }
 
 /// Whether another tick may be made.
-fn goes_on<M: Guarded + Drop>(controller: &Controller<GasolineEngine, M>) -> bool
+fn goes_on<M: CodeMemory + Drop>(controller: &Controller<GasolineEngine, M>) -> bool
     ensures { IsTrue result ↔ (controller.now.kept.ticks < 20000) }
 {
     controller.ticks < 20000
 }
 
 /// Makes ticks with the pedal at rest. Of each is told whether it is made, and what `Ticks` shows after it.
-fn ticks_are<M: Guarded + Drop>(
+fn ticks_are<M: CodeMemory + Drop>(
     rt: &impl Abort,
     memory: M,
     wanted: [(bool, u64, u64); 3],
