@@ -99,7 +99,8 @@ soak_by _ _ = None
 
 -- what the words ask for, where the first is `soak`: they are `soak SEED RUNS`
 abbrev pub soak_form : List (List ℕ) → Option Command
-soak_form words = if length words == 3 then soak_by (seed_in (word words 1)) (runs_in (word words 2)) else None
+soak_form words =
+    if length words == 3 then soak_by (seed_in (word words 1)) (runs_in (word words 2)) else None
 
 -- what they ask for, where the first is another: by the calibration behind `--cal`, or by none
 abbrev pub calibrated_of : List (List ℕ) → Option Command

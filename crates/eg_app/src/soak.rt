@@ -4,8 +4,7 @@ ghost use Rattle.eg_outcome.specs.Outcomes.{PutsNothing};
 ghost use Rattle.eg_app.specs.Ends.{SoakEnds};
 
 use eg_base::Sink;
-use eg_outcome::Outcome;
-use eg_play::put_lines;
+use eg_outcome::{Outcome, put_lines};
 use eg_soak::{soak, soak_lines};
 use eg_tick::Ticks;
 use eg_values::reference;

@@ -31,11 +31,10 @@ are_rows r rows are = subst AreRows (in_time r rows are)
     (unfold record_rows in (unfold rows_to in (records_are_rows r (length r.drive)).0))
 
 -- runs of equal parts are equal
-pub same_run : (cal : CalibrationParts) (plan : List (List ℕ)) (image image' : List ℕ) (fault fault' : Option Fault)
-    (drive drive' : List DriveRow) → image ≡ image' → fault ≡ fault' → drive ≡ drive' →
-    run_by cal image fault plan drive ≡ run_by cal image' fault' plan drive'
-same_run cal plan image image' fault fault' drive drive' e f g =
-    ap (λ i. run_by cal i fault plan drive) e ∙ ap (λ x. run_by cal image' x plan drive) f ∙ ap (run_by cal image' fault' plan) g
+pub same_run : (cal cal' : CalibrationParts) (image image' : List ℕ) (fault fault' : Option Fault)
+    (plan plan' : List (List ℕ)) (drive drive' : List DriveRow) → cal ≡ cal' → image ≡ image' → fault ≡ fault' →
+    plan ≡ plan' → drive ≡ drive' → run_by cal image fault plan drive ≡ run_by cal' image' fault' plan' drive'
+same_run cal cal' image image' fault fault' plan plan' drive drive' a b c d e = cc
 
 -- ---- sums ----
 

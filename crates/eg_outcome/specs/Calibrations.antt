@@ -30,7 +30,8 @@ calibration_file = sized role.Calibration (λ bytes. refused_calibration (calibr
 -- file is named it is the reference calibration.
 abbrev pub CalibrationComes : Option (List ℕ) → ShownStore → ShownStore → Result CalibrationParts Outcome
     → Type 0
-CalibrationComes (Some name) store later come = FileComes role.Calibration calibration_file name store later come
+CalibrationComes (Some name) store later come =
+    FileComes role.Calibration calibration_file name store later come
 CalibrationComes None store later come = come ≡ Ok reference_parts
 
 -- something comes of the calibration, and the work follows

@@ -24,7 +24,8 @@ Follows work nothing (Ok x) o = work x o
 Follows work nothing (Err end) o = (o ≡ end) × nothing
 
 -- Something came, and more comes of it; or nothing more comes.
-abbrev pub Then : {X Y : Type 0} → (X → Result Y Outcome → Type 0) → Result X Outcome → Result Y Outcome → Type 0
+abbrev pub Then :
+    {X Y : Type 0} → (X → Result Y Outcome → Type 0) → Result X Outcome → Result Y Outcome → Type 0
 Then more (Ok x) come = more x come
 Then more (Err end) come = come ≡ Err end
 

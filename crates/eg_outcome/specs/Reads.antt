@@ -1,5 +1,5 @@
--- What comes of reading a file: its value, or how the call ends without it. `says` is what the bytes of such a
--- file say: a value, or the first refusal.
+-- What comes of reading a file: its value, or how the call ends without it. `says` is what the bytes of such
+-- a file say: a value, or the first refusal.
 use Rattle.std.specs.Prelude.{◌≡◌, ◌⊎◌, ℕ, List, IsTrue, IsOk, Result, Ok, Err, if◌then◌else◌}
 use Rattle.eg_base.specs.Outside.{ShownStore, Rose, IsMissing}
 use Rattle.eg_outcome.specs.Files.{AreRead, is_too_long}

@@ -46,7 +46,8 @@ fn calibration_of<S: Store>(
     file: &str,
     store: &mut S,
 ) -> Result<Calibration, Outcome>
-    ensures comes { FileComes role.Calibration calibration_file file.now (S.shows store.old) (S.shows store.new) result }
+    ensures comes { FileComes role.Calibration calibration_file file.now
+        (S.shows store.old) (S.shows store.new) result }
     ensures missing { IsTrue (S.shows store.old).sure →
         ((result ≡ Err (ReadFault role.Calibration)) ↔ IsMissing (S.shows store.old).files file.now) }
     ensures no_memory { IfErr result TellsNoMemory }

@@ -7,9 +7,11 @@
 mod calibration;
 mod files;
 mod line;
+mod lines;
 mod outcome;
 
 pub use calibration::calibration_for;
 pub use files::{MOST_BYTES, is_too_long};
 pub use line::put_line;
+pub use lines::put_lines;
 pub use outcome::{Outcome, Refusal, Role};

@@ -5,8 +5,8 @@ ghost use Rattle.eg_outcome.specs.Outcomes.{LineEnds, PutsNothing};
 use crate::Outcome;
 use eg_base::{PutRefusal, Sink};
 
-/// Puts the one line of a command to its output (docs/FORMATS.md, "Outcomes"): WriteFault where the output counts
-/// a fault, Memory where memory runs out.
+/// Puts the one line of a command to its output (docs/FORMATS.md, "Outcomes"): WriteFault where the output
+/// counts a fault, Memory where memory runs out.
 pub fn put_line<K: Sink>(line: &String, out: &mut K) -> Outcome
     ensures ends { LineEnds (string_bytes line.now) (K.shows out.old) (K.shows out.new) result }
     ensures put { PutsNothing result → ⊥ }

@@ -1,6 +1,6 @@
--- How `run` and `record` end: by cases on the outcome, nested from the outside in, as `check` and `bound` are.
--- `store`, `out` and `was` are what the store, the output and the count of ticks show before the call, `later`,
--- `now` and `is` what they show after it.
+-- How `run` and `record` end: by cases on the outcome, nested from the outside in, as `check` and `bound`
+-- are. `store`, `out` and `was` are what the store, the output and the count of ticks show before the call,
+-- `later`, `now` and `is` what they show after it.
 use Rattle.std.specs.Prelude.{◌≡◌, ℕ, ◌+◌, ◌-◌, ◌%◌, ◌^◌, ◌≤◌, List, [], ◌∷◌, map, All, Option, Some, None, option_map, Result, Ok, IsSome, slice_get, bytes_eq, if◌then◌else◌}
 use Rattle.eg_base.specs.Outside.{ShownStore, ShownSink}
 use Rattle.eg_values.specs.Calibration.{CalibrationParts}
@@ -60,8 +60,8 @@ abbrev pub RunsEnd : CalibrationParts → List RunPlan → ShownStore → ShownS
     → TickCount → TickCount → Outcome → Type 0
 RunsEnd cal plans store later out now was is o = (come : Result (List RunInput) Outcome)
     × InputsCome store later 1 0 plans come
-    × Follows (λ inputs end. ReportEnds cal inputs store later out now was is end) (NothingPlayed out now was is)
-    come o
+    × Follows (λ inputs end. ReportEnds cal inputs store later out now was is end)
+    (NothingPlayed out now was is) come o
 
 -- ---- `record [--cal NAME] CAMPAIGN RUN` ----
 
@@ -84,8 +84,8 @@ NamedEnds cal None store later out now was is o = (o ≡ outcome.Refused refusal
     × (later.faults ≡ store.faults) × NothingPlayed out now was is
 NamedEnds cal (Some found) store later out now was is o = (come : Result RunInput Outcome)
     × InputComes (λ count. None) store later found.0 found.1 come
-    × Follows (λ input end. RecordEnds cal input store later out now was is end) (NothingPlayed out now was is)
-    come o
+    × Follows (λ input end. RecordEnds cal input store later out now was is end)
+    (NothingPlayed out now was is) come o
 
 -- ---- both ----
 

@@ -22,7 +22,8 @@ abbrev pub input_of : RunPlan → List DriveRow → List ℕ → RunInput
 input_of plan drive words = record { plan = plan; drive = drive; image = words }
 
 -- the image of run n is read, where its drive is known
-abbrev pub ImageComes : ShownStore → ShownStore → ℕ → RunPlan → List DriveRow → Result RunInput Outcome → Type 0
+abbrev pub ImageComes :
+    ShownStore → ShownStore → ℕ → RunPlan → List DriveRow → Result RunInput Outcome → Type 0
 ImageComes store later n plan drive come = (image : Result (List ℕ) Outcome)
     × FileComes (role.Image n) (image_file n) plan.image store later image
     × Then (λ words made. made ≡ Ok (input_of plan drive words)) image come
@@ -34,8 +35,8 @@ TicksCome (Some r) store later n plan drive come =
     (come ≡ Err (outcome.Refused r)) × (later.faults ≡ store.faults)
 TicksCome None store later n plan drive come = ImageComes store later n plan drive come
 
--- What comes of the files of run n: first its trace, then its image. `refuses` tells which counts of ticks are
--- refused.
+-- What comes of the files of run n: first its trace, then its image. `refuses` tells which counts of ticks
+-- are refused.
 abbrev pub InputComes : (ℕ → Option Refusal) → ShownStore → ShownStore → ℕ → RunPlan → Result RunInput Outcome
     → Type 0
 InputComes refuses store later n plan come = (trace : Result (List DriveRow) Outcome)
@@ -63,7 +64,8 @@ outcomes (Ok x) = Ok x
 outcomes (Err end) = Err end.outcome
 
 -- What comes of the files of the runs from run n on, in their order, where the runs before have `sum` ticks.
-abbrev pub InputsCome : ShownStore → ShownStore → ℕ → ℕ → List RunPlan → Result (List RunInput) Outcome → Type 0
+abbrev pub InputsCome :
+    ShownStore → ShownStore → ℕ → ℕ → List RunPlan → Result (List RunInput) Outcome → Type 0
 InputsCome store later n sum [] come = come ≡ Ok []
 InputsCome store later n sum (plan ∷ plans) come = (first : Result RunInput Outcome)
     × InputComes (too_many sum n) store later n plan first

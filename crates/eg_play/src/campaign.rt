@@ -21,7 +21,8 @@ pub(crate) fn campaign_for<S: Store>(
     file: &str,
     store: &mut S,
 ) -> Result<Items<RunPlan>, Outcome>
-    ensures comes { FileComes role.Campaign campaign_file file.now (S.shows store.old) (S.shows store.new) result }
+    ensures comes { FileComes role.Campaign campaign_file file.now
+        (S.shows store.old) (S.shows store.new) result }
     ensures missing { IsTrue (S.shows store.old).sure →
         ((result ≡ Err (ReadFault role.Campaign)) ↔ IsMissing (S.shows store.old).files file.now) }
     ensures rules { IfOk result AreRuns }

@@ -21,8 +21,8 @@ use eg_outcome::{MOST_BYTES, Outcome, Refusal, Role, is_too_long};
 use std::alloc::Global;
 
 /// The input of a run, the first run being 1: its trace is read, and then its image. Where a sum is given, it
-/// is that of the ticks of the runs before, and a sum of more than 1,000,000 with this run's is refused before
-/// the image is read.
+/// is that of the ticks of the runs before, and a sum of more than 1,000,000 with this run's is refused
+/// before the image is read.
 pub(crate) fn input_for<S: Store>(
     alloc: Global,
     run: u32,

@@ -8,13 +8,11 @@ mod campaign;
 mod end;
 mod input;
 mod inputs;
-mod lines;
 mod recording;
 mod report;
 mod running;
 mod texts;
 
 pub use end::End;
-pub use lines::put_lines;
 pub use recording::record;
 pub use running::run;

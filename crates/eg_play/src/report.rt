@@ -5,11 +5,10 @@ ghost use Rattle.eg_outcome.specs.Outcomes.{PutsNothing};
 ghost use Rattle.eg_play.specs.Texts.{report_text, record_text};
 ghost use Rattle.eg_play.specs.Ends.{Plays};
 
-use crate::lines::put_lines;
 use crate::texts::{record_lines, report_lines};
 use eg_base::Sink;
 use eg_campaign::{RunInput, record_one, run_all};
-use eg_outcome::Outcome;
+use eg_outcome::{Outcome, put_lines};
 use eg_tick::Ticks;
 use eg_values::Calibration;
 use std::alloc::Global;

@@ -20,8 +20,8 @@ use eg_tick::Ticks;
 use eg_values::Calibration;
 use std::alloc::Global;
 
-/// Does `run [--cal NAME] CAMPAIGN`, but for its note (docs/FORMATS.md, "Commands"): reads the campaign and the
-/// files of all its runs, plays the runs, and writes the report. Ticks are counted in `steps`.
+/// Does `run [--cal NAME] CAMPAIGN`, but for its note (docs/FORMATS.md, "Commands"): reads the campaign and
+/// the files of all its runs, plays the runs, and writes the report. Ticks are counted in `steps`.
 pub fn run<S: Store, K: Sink>(
     alloc: Global,
     calibration: Option<&str>,

@@ -39,12 +39,6 @@ unfolding IsAnyFault
 any_fault None valid = tt
 any_fault (Some fault) valid = valid
 
--- runs of equal parts are equal
-pub same_run : (cal cal' : CalibrationParts) (image image' : List ℕ) (fault fault' : Option Fault)
-    (plan plan' : List (List ℕ)) (drive drive' : List DriveRow) → cal ≡ cal' → image ≡ image' → fault ≡ fault' →
-    plan ≡ plan' → drive ≡ drive' → run_by cal image fault plan drive ≡ run_by cal' image' fault' plan' drive'
-same_run cal cal' image image' fault fault' plan plan' drive drive' a b c d e = cc
-
 -- what counts of a run by the report on it
 pub facts_told : (r : Run) (rows : List Row) (report : Summary) → rows ≡ reverse (record_rows r) →
     report ≡ report_of [] r → facts_in report (reverse rows) ≡ facts_of r

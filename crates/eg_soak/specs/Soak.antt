@@ -16,8 +16,8 @@ use Rattle.eg_soak.specs.Facts.{facts_of, is_first}
 abbrev pub run_drawn : DrawnRun → Run
 run_drawn drawn = run_by reference_parts drawn.image drawn.fault usual_slices drawn.drive
 
--- So many runs in their order, the first of them drawn in state x. The draws of each go on from where those of
--- the one before it ended.
+-- So many runs in their order, the first of them drawn in state x. The draws of each go on from where those
+-- of the one before it ended.
 unfoldable pub drawn_runs : (count x : ℕ) → List Run
 drawn_runs zero x = []
 drawn_runs (suc count) x = run_drawn (drawn_run x) ∷ drawn_runs count (state_after x)

@@ -40,8 +40,8 @@ impl RunFacts {
     }
 }
 
-/// Plays a run that was drawn, by the reference calibration, and tells what counts of it. Its ticks are counted
-/// in `steps`.
+/// Plays a run that was drawn, by the reference calibration, and tells what counts of it. Its ticks are
+/// counted in `steps`.
 pub(crate) fn play(
     alloc: Global,
     calibration: &Calibration,

@@ -1,4 +1,4 @@
-use Rattle.std.proofs.Common.{◌∙◌, ap, [], ◌∷◌}
+use Rattle.std.proofs.Common.{◌∙◌, ap, refl, [], ◌∷◌}
 use Rattle.std.specs.Option.{option_copied}
 use Rattle.eg_model.specs.Bench.{Run}
 use Rattle.eg_tick.specs.Run.{run_by}
@@ -13,5 +13,5 @@ returns-clause-counted c =
     on_ok _ _ _ c.run_one.result (λ made are counted.
     counted_one a.steps.now c.run_one.new.steps r made.rows are counted
     ∙ ap (λ q. count_after a.steps.now (q ∷ []))
-    (same_run a.calibration.now a.input.now.plan.plan _ _ _ _ _ _ c.as_slice-image.ensures c.as_ref-fault.ensures.value c.as_slice-drive.ensures))
+    (same_run _ _ _ _ _ _ _ _ _ _ refl c.as_slice-image.ensures c.as_ref-fault.ensures.value refl c.as_slice-drive.ensures))
     c.run_one.ensures.rows c.run_one.ensures.counted

@@ -3,7 +3,7 @@ use Rattle.std.specs.Prelude.{string_bytes}
 use Rattle.std.specs.List.{concat}
 use Rattle.std.proofs.lemmas.Grind.{common_steps}
 use Rattle.eg_record.specs.Texts.{row_line}
-use Rattle.eg_play.proofs.LineLemmas.{concat-more, concat-front}
+use Rattle.eg_outcome.proofs.LineLemmas.{concat-more, concat-front}
 use Rattle.eg_play.proofs.texts.push_rows.Goals as goal
 
 pub loop-row-preserved : goal.loop-row-preserved

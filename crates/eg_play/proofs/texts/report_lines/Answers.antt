@@ -1,7 +1,7 @@
 use Rattle.std.proofs.Common.{◌≡◌, ◌∙◌, ap₂, [], ◌∷◌, ◌++◌, arith}
 use Rattle.std.specs.Prelude.{string_bytes}
 use Rattle.std.proofs.lemmas.Grind.{common_steps}
-use Rattle.eg_play.proofs.LineLemmas.{concat-more}
+use Rattle.eg_outcome.proofs.LineLemmas.{concat-more}
 use Rattle.eg_play.proofs.texts.report_lines.Goals as goal
 
 pub returns : goal.returns

@@ -2,7 +2,7 @@ use Rattle.std.proofs.Common.{◌≡◌, ◌∙◌, sym, ap₂, [], ◌∷◌, �
 use Rattle.std.specs.Prelude.{string_bytes}
 use Rattle.std.proofs.lemmas.Grind.{common_steps}
 use Rattle.eg_record.specs.Texts.{summary_line}
-use Rattle.eg_play.proofs.LineLemmas.{concat-more, concat-front}
+use Rattle.eg_outcome.proofs.LineLemmas.{concat-more, concat-front}
 use Rattle.eg_play.proofs.texts.summary_lines.Goals as goal
 
 pub loop-summary-preserved : goal.loop-summary-preserved

@@ -4,8 +4,8 @@ use Rattle.eg_agree.specs.Replies.{IsAnyFault}
 use Rattle.eg_model.specs.Bench.{Run}
 use Rattle.eg_tick.specs.Run.{run_by}
 use Rattle.eg_campaign.specs.Plays.{count_after}
-use Rattle.eg_campaign.proofs.PlayLemmas.{counted_one, on_ok}
-use Rattle.eg_soak.proofs.FactsLemmas.{any_fault, same_run}
+use Rattle.eg_campaign.proofs.PlayLemmas.{counted_one, on_ok, same_run}
+use Rattle.eg_soak.proofs.FactsLemmas.{any_fault}
 use Rattle.eg_soak.proofs.facts.record_drawn.Goals as goal
 
 pub run_one-requires-clause-fault : goal.run_one-requires-clause-fault

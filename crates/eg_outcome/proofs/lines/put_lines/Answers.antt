@@ -3,8 +3,8 @@ use Rattle.std.specs.Prelude.{string_bytes}
 use Rattle.std.specs.List.{concat}
 use Rattle.eg_outcome.specs.Outcomes.{LineEnds}
 use Rattle.eg_outcome.proofs.AppendLemmas.{Appends-append}
-use Rattle.eg_play.proofs.LineLemmas.{concat-front, concat-at, LineEnds-within}
-use Rattle.eg_play.proofs.lines.put_lines.Goals as goal
+use Rattle.eg_outcome.proofs.LineLemmas.{concat-front, concat-at, LineEnds-within}
+use Rattle.eg_outcome.proofs.lines.put_lines.Goals as goal
 
 pub returns-in_default : goal.returns-in_default
 returns-in_default g c =

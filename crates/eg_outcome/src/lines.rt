@@ -3,8 +3,9 @@ ghost use Rattle.std.specs.Prelude.{map, string_bytes};
 ghost use Rattle.std.specs.List.{concat};
 ghost use Rattle.eg_outcome.specs.Outcomes.{LineEnds, PutsNothing};
 
+use crate::Outcome;
+use crate::line::put_line;
 use eg_base::Sink;
-use eg_outcome::{Outcome, put_line};
 
 /// Puts the lines of a command to its output, one after another, up to the first that is refused
 /// (docs/FORMATS.md, "Outcomes").
