@@ -1,5 +1,5 @@
 // The line of a row.
-ghost use Rattle.std.specs.Prelude.{◌≡◌, ◌++◌, ◌∷◌, [], codes, string_bytes, IfOk, OnOk, if◌then◌else◌};
+ghost use Rattle.std.specs.Prelude.{◌≡◌, ◌++◌, ◌∷◌, [], codes, decimal, string_bytes, IfOk, OnOk, if◌then◌else◌};
 ghost use Rattle.std.specs.List.{join_with_byte};
 ghost use Rattle.eg_record.specs.Texts.{comma, plus, bit, watch_name, found_text, answer_text, verdict_text};
 ghost use Rattle.eg_record.specs.Texts.{drive_columns, engine_columns, path_columns, signal_columns};
@@ -7,7 +7,11 @@ ghost use Rattle.eg_record.specs.Texts.{command_columns, event_columns, row_line
 
 use crate::{AnswerMark, Row, Verdict, Watch, Watches};
 use eg_base::NoMemory;
+use itoa::Buffer;
 use std::alloc::{AllocError, Global};
+
+/// Room for a line, in bytes, so that it seldom takes memory twice.
+const ROOM: usize = 160;
 
 /// The line above the rows of a record, with its LF (docs/FORMATS.md, "The record").
 #[tactic(auto, unfolding(crate::specs::Texts::record_header))]
@@ -22,7 +26,7 @@ pub fn record_header() -> &'static str
 pub fn row_text(alloc: Global, row: &Row) -> Result<String, NoMemory>
     ensures { IfOk result (λ line. string_bytes line ≡ row_line row.now) }
 {
-    let mut line = String::new(alloc);
+    let mut line = String::with_capacity(alloc, ROOM)?;
     push_drive(&mut line, row)?;
     push_engine(&mut line, row)?;
     push_paths(&mut line, row)?;
@@ -32,16 +36,26 @@ pub fn row_text(alloc: Global, row: &Row) -> Result<String, NoMemory>
     Ok(line)
 }
 
+/// Appends a number, and a comma.
+fn push_number(line: &mut String, number: u32) -> Result<(), AllocError>
+    ensures { OnOk result (string_bytes line.new ≡
+        string_bytes line.old ++ decimal number ++ codes ",") }
+{
+    let mut buffer = Buffer::new();
+    line.push_str(buffer.format(number))?;
+    line.push(',')
+}
+
 /// Appends the columns of the tick and of its drive row.
 #[tactic(auto, unfolding(crate::specs::Texts::drive_columns))]
 fn push_drive(line: &mut String, row: &Row) -> Result<(), AllocError>
     ensures { OnOk result (string_bytes line.new ≡
         string_bytes line.old ++ join_with_byte comma (drive_columns row.now) ++ codes ",") }
 {
-    let drive = &row.drive;
-    let (pedal, speed, raise) = (drive.pedal(), drive.speed(), drive.raise());
-    write!(line, "{},{pedal},{speed},{raise},", row.tick)?;
-    Ok(())
+    push_number(line, row.tick)?;
+    push_number(line, u32::from(row.drive.pedal()))?;
+    push_number(line, u32::from(row.drive.speed()))?;
+    push_number(line, u32::from(row.drive.raise()))
 }
 
 /// Appends the columns of the engine.
@@ -50,12 +64,10 @@ fn push_engine(line: &mut String, row: &Row) -> Result<(), AllocError>
     ensures { OnOk result (string_bytes line.new ≡
         string_bytes line.old ++ join_with_byte comma (engine_columns row.now) ++ codes ",") }
 {
-    write!(
-        line,
-        "{},{},{},{},",
-        row.plate, row.charge, row.torque, row.limit
-    )?;
-    Ok(())
+    push_number(line, u32::from(row.plate))?;
+    push_number(line, u32::from(row.charge))?;
+    push_number(line, u32::from(row.torque))?;
+    push_number(line, u32::from(row.limit))
 }
 
 /// Appends the columns of the paths.
@@ -64,9 +76,9 @@ fn push_paths(line: &mut String, row: &Row) -> Result<(), AllocError>
     ensures { OnOk result (string_bytes line.new ≡
         string_bytes line.old ++ join_with_byte comma (path_columns row.now) ++ codes ",") }
 {
-    let (path1, path2, on) = (bit(row.path1), bit(row.path2), bit(row.on));
-    write!(line, "{path1},{path2},{on},")?;
-    Ok(())
+    line.push_str(bit(row.path1))?;
+    line.push_str(bit(row.path2))?;
+    line.push_str(bit(row.on))
 }
 
 /// Appends the columns of level 2.
@@ -76,7 +88,11 @@ fn push_signals(line: &mut String, row: &Row) -> Result<(), AllocError>
         string_bytes line.old ++ join_with_byte comma (signal_columns row.now) ++ codes ",") }
 {
     let [used, permitted, actual, excess, pairs] = row.signals;
-    write!(line, "{used},{permitted},{actual},{excess},{pairs},")?;
+    push_number(line, u32::from(used))?;
+    push_number(line, u32::from(permitted))?;
+    push_number(line, u32::from(actual))?;
+    push_number(line, u32::from(excess))?;
+    push_number(line, u32::from(pairs))?;
     Ok(())
 }
 
@@ -86,8 +102,8 @@ fn push_commands(line: &mut String, row: &Row) -> Result<(), AllocError>
     ensures { OnOk result (string_bytes line.new ≡
         string_bytes line.old ++ join_with_byte comma (command_columns row.now) ++ codes ",") }
 {
-    write!(line, "{},{},", row.throttle, row.ignition)?;
-    Ok(())
+    push_number(line, u32::from(row.throttle))?;
+    push_number(line, u32::from(row.ignition))
 }
 
 /// Appends the names of the watches that are found, or `-`.
@@ -125,17 +141,19 @@ fn push_events(line: &mut String, row: &Row) -> Result<(), AllocError>
         string_bytes line.old ++ join_with_byte comma (event_columns row.now) ++ codes "\n") }
 {
     push_found(line, &row.found)?;
-    let (answer, verdict) = (answer_text(row.answer), verdict_text(row.verdict));
-    write!(line, ",{answer},{verdict}\n")?;
-    Ok(())
+    line.push(',')?;
+    line.push_str(answer_text(row.answer))?;
+    line.push(',')?;
+    line.push_str(verdict_text(row.verdict))?;
+    line.push('\n')
 }
 
-/// A truth value.
+/// A truth value, and a comma.
 #[tactic(auto, unfolding(crate::specs::Texts::bit))]
 fn bit(value: bool) -> &'static str
-    ensures { result.now ≡ bit value }
+    ensures { result.now ≡ bit value ++ codes "," }
 {
-    if value { "1" } else { "0" }
+    if value { "1," } else { "0," }
 }
 
 /// The mark of a tick.

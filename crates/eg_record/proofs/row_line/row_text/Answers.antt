@@ -25,4 +25,4 @@ groups row empty a b p s o v none drive engine paths signals commands events =
     (columns-more comma a b (drive_columns row) (engine_columns row) (codes ",") refl refl first engine) paths) signals) commands) events
 
 pub returns : goal.returns
-returns c = groups c.args.row.now _ _ _ _ _ _ _ c.new-line.ensures.bytes c.in_ok-push_drive.ensures c.in_ok-push_engine.ensures c.in_ok-push_paths.ensures c.in_ok-push_signals.ensures c.in_ok-push_commands.ensures c.in_ok-push_events.ensures
+returns c = groups c.args.row.now _ _ _ _ _ _ _ c.in_ok-line.ensures.bytes c.in_ok-push_drive.ensures c.in_ok-push_engine.ensures c.in_ok-push_paths.ensures c.in_ok-push_signals.ensures c.in_ok-push_commands.ensures c.in_ok-push_events.ensures
