@@ -15,8 +15,9 @@ pub enum Verdict {
 pub enum AnswerMark {
     /// No answer was sent.
     Absent,
-    /// An answer was sent, and nothing of level 2 was left out or disturbed since the one before.
+    /// An answer was sent, all eight modules of level 2 ran at each tick since the one before, and none is
+    /// disturbed at this tick.
     Good,
-    /// An answer was sent, and something was left out or disturbed.
+    /// An answer was sent, and that isn't so.
     Bad,
 }

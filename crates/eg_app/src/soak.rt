@@ -24,9 +24,8 @@ pub(crate) fn play_drawn<K: Sink>(
     ensures ends { SoakEnds seed runs (K.shows out.old) (K.shows out.new) steps.old steps.new result }
     ensures put { PutsNothing result → ⊥ }
 {
-    // Whoever reads them learns that the reference calibration is an accepted one.
-    let calibration = reference();
-    let _rules = calibration.rules();
+    // Whoever makes it learns that the reference calibration is an accepted one.
+    let _calibration = reference();
     let Ok(summary) = soak(alloc, seed, runs, steps) else {
         return Outcome::Memory;
     };

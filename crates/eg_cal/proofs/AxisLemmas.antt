@@ -1,5 +1,5 @@
 -- Axes that rise, and those that don't.
-use Rattle.std.proofs.Common.{◌≡◌, ℕ, zero, suc, ◌<◌, ◌≤◌, nat_lt, Bool, true, false, length, List, [], ◌∷◌, Option, Some, None, unwrap_or, refl, arith}
+use Rattle.std.proofs.Common.{◌≡◌, ℕ, zero, suc, ◌<◌, ◌≤◌, nat_lt, nat_le, Bool, true, false, length, List, [], ◌∷◌, Option, Some, None, unwrap_or, refl, arith}
 use Rattle.std.proofs.lemmas.Bool.{and_parts}
 use Rattle.std.proofs.lemmas.Bool.Decides.{nat_tests}
 use Rattle.std.specs.List.Sorted.{IsStrictlyIncreasing}
@@ -14,6 +14,12 @@ lt-true x y h = grind (arith, nat_tests)
 
 pub true-lt : (x y : ℕ) → nat_lt x y ≡ true → x < y
 true-lt x y h = grind (arith, nat_tests)
+
+pub le-true : (x y : ℕ) → x ≤ y → nat_le x y ≡ true
+le-true x y h = grind (arith, nat_tests)
+
+pub true-le : (x y : ℕ) → nat_le x y ≡ true → x ≤ y
+true-le x y h = grind (arith, nat_tests)
 
 -- the test says that the points strictly rise
 pub rising-true : (xs : List ℕ) → IsStrictlyIncreasing xs → is_rising xs ≡ true

@@ -1,7 +1,6 @@
 -- A key without a fault holds what it may, and a key that holds what it may has no fault.
 use Rattle.std.proofs.Common.{◌≡◌, ℕ, suc, ℤ, pos, negsuc, ◌≤◌, nat_le, Bool, true, false, ◌&&◌, length, List, [], ◌∷◌, ◌++◌, All, Option, Some, None, IsSome, option_map, if◌then◌else◌, refl, sym, ap, ap₂, ◌∙◌, arith}
 use Rattle.std.proofs.lemmas.Bool.{and_parts}
-use Rattle.std.proofs.lemmas.Bool.Decides.{nat_tests}
 use Rattle.std.proofs.lemmas.List.Elements.{All-nil, All-cons, All-head, All-tail}
 use Rattle.toml.specs.Data.{Data, string, integer, float, boolean, datetime, array, table, Members, Items, no_items, item, as_integer, as_array}
 use Rattle.eg_toml.specs.Values.{natural_in, number_in, ◌>>=◌}
@@ -14,13 +13,7 @@ use Rattle.eg_cal.specs.Faults.{unless_some}
 use Rattle.eg_cal.specs.Contents.{value_of, point_count, read_questions}
 use Rattle.eg_cal.specs.Checks.{is_rising, axis_fault, content_fault}
 use Rattle.eg_cal.specs.Held.{number_items, row_items, AreNumbers, IsNumber, IsAxisArray, IsNumberArray, IsRowArray, Holds}
-use Rattle.eg_cal.proofs.AxisLemmas.{rising-true, true-rising}
-
-le-true : (x y : ℕ) → x ≤ y → nat_le x y ≡ true
-le-true x y h = grind (arith, nat_tests)
-
-true-le : (x y : ℕ) → nat_le x y ≡ true → x ≤ y
-true-le x y h = grind (arith, nat_tests)
+use Rattle.eg_cal.proofs.AxisLemmas.{le-true, true-le, rising-true, true-rising}
 
 -- ---- integers
 

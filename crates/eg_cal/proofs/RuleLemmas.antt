@@ -1,5 +1,5 @@
 -- A document is accepted exactly where it keeps the rules.
-use Rattle.std.proofs.Common.{◌≡◌, ℕ, ◌+◌, ◌-◌, ◌<◌, ◌≤◌, ◌==◌, nat_lt, nat_le, not, is_some, Bool, true, false, ◌&&◌, length, List, [], ◌∷◌, All, Option, Some, None, option_map, Ok, refl, sym, ap, arith}
+use Rattle.std.proofs.Common.{◌≡◌, ℕ, ◌+◌, ◌-◌, ◌<◌, ◌≤◌, nat_lt, nat_le, is_some, Bool, true, false, ◌&&◌, length, List, [], ◌∷◌, All, Option, Some, None, option_map, Ok, refl, sym, ap, arith}
 use Rattle.std.specs.List.{AllByRecursion}
 use Rattle.std.proofs.lemmas.Bool.{and_parts}
 use Rattle.std.proofs.lemmas.Bool.Decides.{nat_tests}
@@ -23,7 +23,7 @@ use Rattle.eg_cal.specs.Checks.{fault_at, first_fault, keys_fault}
 use Rattle.eg_cal.specs.Calibration.{falls, falling_row, is_window, is_wrong, wrong_answer, rising_fault, window_fault, answer_fault, parts_fault, unknown_fault, refusal_of, permit_of, times_of, rules_of, parts_of}
 use Rattle.eg_cal.specs.Rules.{IsWindow, KeepsRules, AcceptedLaw}
 use Rattle.eg_cal.proofs.HeldLemmas.{if-none, content-held, held-content}
-use Rattle.eg_cal.proofs.TogetherLemmas.{none-first_from, first_from-none, falling_row-none, wrong_answer-none}
+use Rattle.eg_cal.proofs.TogetherLemmas.{none-first_from, first_from-none, falling_row-none, wrong_answer-none, equal}
 
 -- no fault of two is no fault of either
 or-none : (a b : Option CalFault) → or_else a b ≡ None → (a ≡ None) × (b ≡ None)
@@ -134,9 +134,6 @@ window-true t w =
     let to = w.to_last in
     let inside = w.inside in
     three (nat_le t.first t.send) (nat_le t.send t.last) (nat_lt t.last t.period) (grind (arith, nat_tests)) (grind (arith, nat_tests)) (grind (arith, nat_tests))
-
-equal : (a b : ℕ) → a ≡ b → not (a == b) ≡ false
-equal a b h = grind (arith, nat_tests)
 
 none-wrong : (rules : Rules) (asked : List QuestionParts) → All (λ question. question.answer ≡ expected_of rules question.row) asked → wrong_answer rules asked ≡ None
 none-wrong rules asked all =

@@ -11,7 +11,7 @@ use Rattle.eg_answer.specs.Questions.{question_at, no_question}
 use Rattle.eg_answer.specs.declared.rules.Rules.{Rules}
 use Rattle.eg_answer.specs.declared.questions.Question.{Question}
 use Rattle.eg_cal.specs.declared.key.CalFault.TheVariants as fault
-use Rattle.eg_cal.proofs.AxisLemmas.{lt-true, true-lt, not-true}
+use Rattle.eg_cal.proofs.AxisLemmas.{lt-true, true-lt, le-true, true-le, not-true}
 use Rattle.eg_cal.specs.Calibration.{first_from, falls, falling_row, is_window, window_fault, is_wrong, wrong_answer}
 
 -- ---- a search for the first number that passes
@@ -121,12 +121,6 @@ falling_row-none g rises =
 
 -- ---- the answer window
 
-le-true : (x y : ℕ) → x ≤ y → nat_le x y ≡ true
-le-true x y h = grind (arith, nat_tests)
-
-true-le : (x y : ℕ) → nat_le x y ≡ true → x ≤ y
-true-le x y h = grind (arith, nat_tests)
-
 -- times that go together have no fault
 pub window-none : (t : TimeParts) → AreTimes t → window_fault t ≡ None
 window-none t are = rw (le-true _ _ are.from_first, le-true _ _ are.to_last, lt-true _ _ are.inside) refl
@@ -144,7 +138,7 @@ window-some t shortest longest fails =
 right : (a b : ℕ) → not (a == b) ≡ false → a ≡ b
 right a b h = grind (arith, nat_tests)
 
-equal : (a b : ℕ) → a ≡ b → not (a == b) ≡ false
+pub equal : (a b : ℕ) → a ≡ b → not (a == b) ≡ false
 equal a b h = grind (arith, nat_tests)
 
 differs : (a b : ℕ) → (a ≡ b → ⊥) → not (a == b) ≡ true

@@ -22,6 +22,7 @@ use Rattle.eg_cal.specs.Names.{is_all_known}
 
 -- ---- the values under the keys
 
+-- the weights under three keys
 abbrev pub weights_of : Members → CalKey → CalKey → CalKey → WeightParts
 weights_of ms up down limit = record {
   up = number_of ms up;
@@ -29,6 +30,7 @@ weights_of ms up down limit = record {
   limit = number_of ms limit;
 }
 
+-- the permit table
 abbrev pub permit_of : Members → Grid
 permit_of ms = record {
   rows = points_of ms PermitPedal;
@@ -36,16 +38,20 @@ permit_of ms = record {
   values = values_of ms PermitTable;
 }
 
+-- the weights of the torque
 abbrev pub torque_weights_of : Members → WeightParts
 torque_weights_of ms = weights_of ms TorqueUp TorqueDown TorqueLimit
 
+-- the tolerances of pedal, plate, load and speed, in this order
 abbrev pub tolerances_of : Members → List ℕ
 tolerances_of ms =
     number_of ms PairsPedal ∷ number_of ms PairsPlate ∷ number_of ms PairsLoad ∷ number_of ms PairsSpeed ∷ []
 
+-- the weights of the pairs
 abbrev pub pair_weights_of : Members → WeightParts
 pair_weights_of ms = weights_of ms PairsUp PairsDown PairsLimit
 
+-- what the plant goes by, with this torque of a load of 1000
 abbrev pub plant_of : Members → ℕ → PlantParts
 plant_of ms kt = record {
   slew = number_of ms PlantSlew;
@@ -54,6 +60,7 @@ plant_of ms kt = record {
   kt = kt;
 }
 
+-- the times of the answers, and the weights of the verdicts
 abbrev pub times_of : Members → TimeParts
 times_of ms = record {
   period = number_of ms AnswersPeriod;
@@ -63,6 +70,7 @@ times_of ms = record {
   weights = weights_of ms AnswersUp AnswersDown AnswersLimit;
 }
 
+-- the rules of level 2
 abbrev pub rules_of : Members → Rules
 rules_of ms = record {
   permit = permit_of ms;
@@ -73,6 +81,7 @@ rules_of ms = record {
   torque = torque_weights_of ms;
 }
 
+-- the whole calibration: plant and rules have one torque of a load of 1000
 abbrev pub parts_of : Members → CalibrationParts
 parts_of ms = record {
   rules = rules_of ms;
@@ -108,21 +117,26 @@ is_wrong rules asked i = not ((question_at asked i).answer == expected_of rules 
 abbrev pub wrong_answer : Rules → List QuestionParts → Option ℕ
 wrong_answer rules asked = first_from (is_wrong rules asked) (length asked) 0
 
+-- the refusal of a permit table with a row that falls
 abbrev pub rising_fault : Grid → Option CalFault
 rising_fault g = option_map fault.Rising (falling_row g)
 
+-- the refusal of times whose window is out of order
 abbrev pub window_fault : TimeParts → Option CalFault
 window_fault t = if is_window t then None else Some fault.Window
 
+-- the refusal of questions one of which has a wrong answer
 abbrev pub answer_fault : Rules → List QuestionParts → Option CalFault
 answer_fault rules asked = option_map fault.Answer (wrong_answer rules asked)
 
+-- the first refusal of these: the permit table, then the times, then the answers
 abbrev pub parts_fault : CalibrationParts → Option CalFault
 parts_fault p =
     or_else (rising_fault p.rules.permit) (or_else (window_fault p.times) (answer_fault p.rules p.questions))
 
 -- ---- the file
 
+-- the refusal of a file with another name at the top or in a table
 abbrev pub unknown_fault : Members → Option CalFault
 unknown_fault ms = if is_all_known ms then None else Some (fault.Key Unknown)
 

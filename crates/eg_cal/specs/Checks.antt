@@ -8,6 +8,7 @@ use Rattle.eg_cal.specs.Keys.{Content, number, axis, values, grid, questions, no
 use Rattle.eg_cal.specs.Faults.{or_else, unless_some}
 use Rattle.eg_cal.specs.Contents.{read_number, read_numbers, read_rows, read_questions, point_count}
 
+-- each number is less than the next one
 abbrev pub is_rising : List ℕ → Bool
 is_rising [] = true
 is_rising (x ∷ []) = true
@@ -18,6 +19,7 @@ abbrev pub axis_fault : CalKey → Option (List ℕ) → Option CalFault
 axis_fault key (Some points) = if is_rising points then None else Some (Axis key)
 axis_fault key None = Some (Key key)
 
+-- the fault of a key that may hold this, if it has one
 abbrev pub content_fault : Content → Members → CalKey → Option CalFault
 content_fault (number low high) ms key = unless_some (Key key) (read_number low high ms key)
 content_fault (axis high) ms key = axis_fault key (read_numbers 2 16 high ms key)

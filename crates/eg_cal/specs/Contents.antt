@@ -19,31 +19,39 @@ value_of ms key = members_of (table_of key) ms >>= get_member (name_of key)
 
 -- ---- what it is, where it is of that form
 
+-- a number from low to high
 abbrev pub read_number : ℕ → ℕ → Members → CalKey → Option ℕ
 read_number low high ms key = value_of ms key >>= number_in low high
 
+-- an array of least to most numbers from 0 to high
 abbrev pub read_numbers : ℕ → ℕ → ℕ → Members → CalKey → Option (List ℕ)
 read_numbers least most high ms key = value_of ms key >>= numbers_in least most high
 
+-- an array of so many rows, each of so many numbers from 0 to high, row by row
 abbrev pub read_rows : ℕ → ℕ → ℕ → Members → CalKey → Option (List ℕ)
 read_rows tall wide high ms key = value_of ms key >>= rows_in tall wide high
 
+-- an array of questions
 abbrev pub read_questions : Members → CalKey → Option (List QuestionParts)
 read_questions ms key = value_of ms key >>= questions_in
 
 -- ---- what a document without a fault holds there
 
+-- the number of a key that may hold this, and 0 for other keys
 abbrev number_as : Content → Members → CalKey → ℕ
 number_as (number low high) ms key = unwrap_or (read_number low high ms key) 0
 number_as _ ms key = 0
 
+-- the number under a key
 abbrev pub number_of : Members → CalKey → ℕ
 number_of ms key = number_as (content_of key) ms key
 
+-- the points of a key that may hold this, and none for other keys
 abbrev points_as : Content → Members → CalKey → List ℕ
 points_as (axis high) ms key = unwrap_or (read_numbers 2 16 high ms key) []
 points_as _ ms key = []
 
+-- the points of the axis under a key
 abbrev pub points_of : Members → CalKey → List ℕ
 points_of ms key = points_as (content_of key) ms key
 
@@ -51,6 +59,7 @@ points_of ms key = points_as (content_of key) ms key
 abbrev pub point_count : Members → CalKey → ℕ
 point_count ms key = length (points_of ms key)
 
+-- the values of a key that may hold this, and none for other keys
 abbrev values_as : Content → Members → CalKey → List ℕ
 values_as (values along high) ms key =
     unwrap_or (read_numbers (point_count ms along) (point_count ms along) high ms key) []
@@ -62,5 +71,6 @@ values_as _ ms key = []
 abbrev pub values_of : Members → CalKey → List ℕ
 values_of ms key = values_as (content_of key) ms key
 
+-- the questions under a key
 abbrev pub questions_of : Members → CalKey → List QuestionParts
 questions_of ms key = unwrap_or (read_questions ms key) []

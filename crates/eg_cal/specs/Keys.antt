@@ -21,12 +21,14 @@ pub record Entry : Type 0 where
   pub name : List ℕ
   pub content : Content
 
+-- a key at the top, and one in a table
 abbrev at_top : List ℕ → Content → Entry
 at_top name content = record { table = []; name = name; content = content }
 
 abbrev in_table : List ℕ → List ℕ → Content → Entry
 in_table table name content = record { table = table; name = name; content = content }
 
+-- the table of keys (docs/FORMATS.md, "Calibration files")
 abbrev pub entry_of : CalKey → Entry
 entry_of Version = at_top (codes "version") (number 1 1)
 entry_of PermitPedal = in_table (codes "permit") (codes "pedal") (axis 1000)
@@ -81,10 +83,12 @@ answers_keys =
 abbrev pub question_keys : List CalKey
 question_keys = Question ∷ []
 
+-- all keys, table after table
 abbrev pub all_keys : List (List CalKey)
 all_keys =
     version_keys ∷ permit_keys ∷ torque_keys ∷ pairs_keys ∷ plant_keys ∷ answers_keys ∷ question_keys ∷ []
 
+-- the columns of the table of keys
 abbrev pub table_of : CalKey → List ℕ
 table_of key = (entry_of key).table
 
@@ -99,5 +103,6 @@ abbrev dotted : List ℕ → List ℕ → List ℕ
 dotted [] name = name
 dotted (c ∷ cs) name = (c ∷ cs) ++ codes "." ++ name
 
+-- the text of a key
 abbrev pub text_of : CalKey → List ℕ
 text_of key = dotted (table_of key) (name_of key)

@@ -67,6 +67,7 @@ asked_in ms = do
 abbrev pub question_in : Members → Option Question
 question_in ms = if all_names (is_among question_names) ms then asked_in ms else None
 
+-- a value that is such a table
 abbrev pub question_of : Data → Option Question
 question_of d = as_table d >>= question_in
 

@@ -1,6 +1,7 @@
 -- The text of the reference file.
 use Rattle.std.specs.Prelude.{ℕ, List, ◌++◌, codes}
 
+-- its bytes, those of examples/reference.toml
 abbrev pub reference_text : List ℕ
 reference_text =
     codes "version = 1\n"

@@ -12,7 +12,7 @@ pub enum CalKey {
     Version,
     /// `permit.pedal`: the permit table's points of the pedal, in per mille.
     PermitPedal,
-    /// `permit.speed`: its points of the speed, in turns per minute.
+    /// `permit.speed`: its points of the speed, in rpm.
     PermitSpeed,
     /// `permit.table`: its values, in tenths of Nm, a row for each point of the pedal.
     PermitTable,
@@ -32,7 +32,7 @@ pub enum CalKey {
     PairsPlate,
     /// `pairs.load`: the same of the load, in per mille.
     PairsLoad,
-    /// `pairs.speed`: the same of the speed, in turns per minute.
+    /// `pairs.speed`: the same of the speed, in rpm.
     PairsSpeed,
     /// `pairs.up`: what a bad feed adds in the debouncers of the pairs.
     PairsUp,

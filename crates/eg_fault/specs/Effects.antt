@@ -5,6 +5,7 @@ use Rattle.eg_sensor.specs.declared.readings.Readings.{Readings}
 use Rattle.eg_answer.specs.Times.{TimeParts}
 use Rattle.eg_answer.specs.Periods.{asked, is_send_tick, place_of}
 
+-- what is out of order at a tick
 pub record Effects : Type 0 where
   -- what track i reads where a sound one reads x
   pub track : ℕ → ℕ → ℕ
@@ -56,18 +57,21 @@ readings_under x truth = record {
   raise_check = truth.raise_check;
 }
 
--- whether a tick is one at which answers are sent
+-- whether a tick is one at which answers are sent: at the usual tick of each period, or at another
 unfoldable pub sends_in : Option ℕ → TimeParts → ℕ → Bool
 sends_in None times tick = is_send_tick times tick
 sends_in (Some moved) times tick = place_of times tick == moved
 
+-- the same under what is out of order at it
 unfoldable pub sends_at : Effects → TimeParts → ℕ → Bool
 sends_at x times tick = sends_in x.send times tick
 
--- the number of the question that is asked at a tick, of so many questions
+-- the number of the question that is asked at a tick, of so many questions: that of its period, or what a
+-- wild module asks
 unfoldable pub asked_in : Option ℕ → TimeParts → ℕ → ℕ → ℕ
 asked_in None times count tick = asked times count tick
 asked_in (Some question) times count tick = question % count
 
+-- the same under what is out of order at it
 unfoldable pub asked_at : Effects → TimeParts → ℕ → ℕ → ℕ
 asked_at x times count tick = asked_in x.wild times count tick

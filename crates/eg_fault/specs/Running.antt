@@ -5,7 +5,7 @@ use Rattle.eg_fault.specs.Effects.{Effects}
 use Rattle.eg_fault.specs.Faults.{effects}
 use Rattle.eg_fault.specs.declared.class.Fault.{Fault}
 
--- which modules run at a tick
+-- which modules run at a tick: all of them; none; or all but one
 abbrev pub AllRun : Effects → Type 0
 AllRun x = (i : ℕ) → x.ran i ≡ true
 

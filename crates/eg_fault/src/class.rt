@@ -31,7 +31,8 @@ pub enum Class {
     /// A module of level 2 (1 to 5) has these bits (1 to 65,535) mixed into its signal and into its result of
     /// the test row.
     Disturb { module: u8, mask: u16 },
-    /// At the onset alone these bits (1 to 65,535) of a word of level 2 (0 to 31) are flipped.
+    /// At the onset alone these bits (1 to 65,535) are flipped in a word of level 2 (0 to 15), or in the
+    /// complement of one (16 to 31).
     Flip { word: u8, mask: u16 },
     /// Neither level 1 nor level 2 runs.
     Halt,

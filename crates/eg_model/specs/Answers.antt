@@ -25,6 +25,7 @@ is_whole x = list_all (λ i. x.ran i) modules
 unfoldable pub is_undisturbed : Effects → Bool
 is_undisturbed x = list_all (λ i. x.disturbance i == 0) modules
 
+-- an answer was sent
 unfoldable pub is_answer : AnswerMark → Bool
 is_answer Absent = false
 is_answer Good = true

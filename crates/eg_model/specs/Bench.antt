@@ -34,6 +34,7 @@ pub record Run : Type 0 where
   pub plan : List (List ℕ)
   pub drive : List DriveRow
 
+-- the drive row past the end of the drive
 unfoldable pub no_drive : DriveRow
 no_drive = record { pedal = 0; speed = 0; raise = 0 }
 

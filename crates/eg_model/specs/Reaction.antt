@@ -36,10 +36,12 @@ reacts_at_once (Disturb index mask) onset tick = nat_le tick onset
 reacts_at_once Halt onset tick = nat_le tick onset
 reacts_at_once _ onset tick = true
 
+-- so it is under this fault, and always without one
 unfoldable pub is_at_once : Option Fault → ℕ → Bool
 is_at_once None tick = true
 is_at_once (Some fault) tick = reacts_at_once fault.class fault.onset tick
 
+-- the theorem for those faults
 abbrev pub ReactsAtOnce : Type 0
 ReactsAtOnce =
     (s : Setting) → IsAccepted s.cal → IsListed s.fault →

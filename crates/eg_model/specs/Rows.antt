@@ -11,6 +11,7 @@ use Rattle.eg_record.specs.Summaries.{summary_of}
 use Rattle.eg_model.specs.History.{Signals, Moment}
 use Rattle.eg_model.specs.Bench.{Run, moments_to}
 
+-- the five signals in their order
 unfoldable pub signal_list : Signals → List ℕ
 signal_list s = s.pedal ∷ s.permitted ∷ s.actual ∷ s.excess ∷ s.pairs ∷ []
 

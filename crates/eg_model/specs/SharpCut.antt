@@ -13,6 +13,7 @@ pub record IsPlain (x : Tick) : Type 0 where
   pub effects : x.effects ≡ no_effects
   pub loads : x.entry.shown.load_2 ≡ x.entry.shown.load_1
 
+-- so it is at each tick of a history
 unfoldable pub ArePlain : List Tick → Type 0
 ArePlain [] = Unit {0}
 ArePlain (x ∷ before) = IsPlain x × ArePlain before

@@ -18,6 +18,7 @@ tripped past = list_any (λ m. m.trip) past
 unfoldable pub is_limited : List Moment → Bool
 is_limited past = list_any (λ m. m.found.pedal) past
 
+-- all five are 0
 unfoldable pub no_signals : Signals
 no_signals = record { pedal = 0; permitted = 0; actual = 0; excess = 0; pairs = 0 }
 

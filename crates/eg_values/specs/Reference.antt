@@ -15,6 +15,8 @@ reference_permit = record {
   values = 200 ∷ 100 ∷ 0 ∷ 1000 ∷ 1200 ∷ 900 ∷ 2000 ∷ 2400 ∷ 1800 ∷ [];
 }
 
+-- the rules of level 2: permit table, `kt`, threshold, the tolerances of pedal, plate, load and speed, and
+-- the weights of the pairs and of the torque
 abbrev pub reference_rules : Rules
 reference_rules = record {
   permit = reference_permit;
@@ -25,6 +27,7 @@ reference_rules = record {
   torque = record { up = 1; down = 1; limit = 5 };
 }
 
+-- what the plant goes by
 abbrev pub reference_plant : PlantParts
 reference_plant = record {
   slew = 50;
@@ -33,6 +36,7 @@ reference_plant = record {
   kt = 2500;
 }
 
+-- the times of the answers, in ticks, and their weights
 abbrev pub reference_times : TimeParts
 reference_times = record {
   period = 10;
@@ -46,6 +50,7 @@ reference_times = record {
 abbrev pub pair : ℕ → ℕ → List ℕ
 pair first second = first ∷ second ∷ []
 
+-- the four questions with their answers, in the order in which they are asked
 abbrev pub question_0 : Question
 question_0 = record {
   row = record {
@@ -125,6 +130,7 @@ question_3 = record {
 abbrev pub reference_questions : List Question
 reference_questions = question_0 ∷ question_1 ∷ question_2 ∷ question_3 ∷ []
 
+-- all of it
 abbrev pub reference_parts : CalibrationParts
 reference_parts = record {
   rules = reference_rules;

@@ -2,6 +2,7 @@
 ghost use Rattle.std.specs.Prelude.{◌≡◌, ◌<◌, ◌++◌, ◌∷◌, [], length};
 ghost use Rattle.std.specs.List.Sorted.{IsStrictlyIncreasing};
 ghost use Rattle.eg_num.specs.Windows.{AreWeights};
+ghost use Rattle.eg_values.specs.Calibration.{IsAccepted};
 ghost use Rattle.eg_values.specs.Reference.{reference_permit, reference_rules, reference_plant, reference_times, reference_questions, reference_parts};
 
 use crate::Calibration;
@@ -11,9 +12,10 @@ use eg_plant::PlantData;
 use eg_sensor::Readings;
 use eg_torque::Permit;
 
-/// The reference calibration (docs/CONCEPT.md, "Calibration"). It takes no memory.
+/// The reference calibration (docs/CONCEPT.md, "Calibration"), which is an accepted one. It takes no memory.
 pub fn reference() -> Calibration
-    ensures { result ≡ reference_parts }
+    ensures parts { result ≡ reference_parts }
+    ensures accepted { IsAccepted result }
 {
     let calibration = Calibration::new(rules(), plant(), times(), questions());
     let Some(calibration) = calibration else {

@@ -13,21 +13,21 @@ use Rattle.eg_app.proofs.soak.play_drawn.Goals as goal
 pub returns-in_default-clause-ends : goal.returns-in_default-clause-ends
 returns-in_default-clause-ends g c =
     let a = c.args in
-    let accepted : IsAccepted reference_parts = subst IsAccepted c.reference-calibration.ensures c.rules-rules.ensures.accepted in
+    let accepted : IsAccepted reference_parts = subst IsAccepted c.reference-calibration.ensures.parts c.reference-calibration.ensures.accepted in
     let (n, most, is) = c.in_default.ensures.count in
     no_memory _ _ (g.K.Sink.shows a.out.now) a.steps.now c.soak.new.steps n most is (drawn_keep_headline accepted a.runs a.seed)
 
 pub returns-in_default-soak_lines-clause-ends : goal.returns-in_default-soak_lines-clause-ends
 returns-in_default-soak_lines-clause-ends g c =
     let a = c.args in
-    let accepted : IsAccepted reference_parts = subst IsAccepted c.reference-calibration.ensures c.rules-rules.ensures.accepted in
+    let accepted : IsAccepted reference_parts = subst IsAccepted c.reference-calibration.ensures.parts c.reference-calibration.ensures.accepted in
     no_lines _ _ (g.K.Sink.shows a.out.now) a.steps.now c.soak.new.steps c.in-Ok.ensures.counted (drawn_keep_headline accepted a.runs a.seed)
 
 pub returns-clause-ends : goal.returns-clause-ends
 returns-clause-ends g c =
     let a = c.args in
     let shows = g.K.Sink.shows in
-    let accepted : IsAccepted reference_parts = subst IsAccepted c.reference-calibration.ensures c.rules-rules.ensures.accepted in
+    let accepted : IsAccepted reference_parts = subst IsAccepted c.reference-calibration.ensures.parts c.reference-calibration.ensures.accepted in
     let text : concat (map string_bytes c.deref.result.now) ≡ soak_text (soak_of (drawn_runs a.runs a.seed)) =
     ap (λ lines. concat (map string_bytes lines)) c.deref.ensures.value ∙ ap concat c.in-Ok-soak_lines.ensures
     ∙ text_of c.in-Ok.summary ∙ ap soak_text c.in-Ok.ensures.summary in
