@@ -3,6 +3,8 @@ pub mod FieldLemmas
 pub mod RowsLemmas
 pub mod FileLaws
 pub mod Seen
+pub mod PlainLemmas
+pub mod LineOfNumbers
 pub mod LineLemmas
 pub mod WordLemmas
 pub mod WritesLemmas

@@ -98,7 +98,7 @@ records_from-turns (suc n) (suc m) s text b h k = at_next (records_from-turns n 
         ap (λ (rs : List Record). p.0 ∷ rs) (again p.1 p.2 t.between (omega arith) (omega arith))
 
 -- a record that is read stands first among the records
-records_after-some : (s : State) (text : List ℕ) (p : Read) → ends_at_end s ≡ false → next_record default_config s [] [] text ≡ Some p
+pub records_after-some : (s : State) (text : List ℕ) (p : Read) → ends_at_end s ≡ false → next_record default_config s [] [] text ≡ Some p
     → records_after s text ≡ p.0 ∷ records_after p.1 p.2
 unfolding records_from
 records_after-some s text p b e =
@@ -107,7 +107,7 @@ records_after-some s text p b e =
     rw (add-one (length text), e) (ap (λ (rs : List Record). p.0 ∷ rs) (records_from-turns (length text) (length p.2 + 1) p.1 p.2 t.between (omega arith) (omega arith)))
 
 -- where none is read there are no records
-records_after-none : (s : State) (text : List ℕ) → next_record default_config s [] [] text ≡ None → records_after s text ≡ []
+pub records_after-none : (s : State) (text : List ℕ) → next_record default_config s [] [] text ≡ None → records_after s text ≡ []
 unfolding records_from
 records_after-none s text e = rw (add-one (length text), e) refl
 

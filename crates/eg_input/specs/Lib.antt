@@ -4,4 +4,5 @@ pub mod Rows
 pub mod CheckFile
 pub mod DriveTrace
 pub mod Unread
+pub mod Plain
 pub mod Images

@@ -4,6 +4,7 @@
 mod fault;
 mod field;
 mod image;
+mod plain;
 mod reader;
 mod row;
 mod trace;

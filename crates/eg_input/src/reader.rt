@@ -8,15 +8,26 @@ ghost use Rattle.eg_input.specs.Unread.{HasUnread};
 ghost use Rattle.eg_input.specs.declared.fault.TraceFault.TheVariants as fault;
 
 use crate::TraceFault;
+use crate::plain::read_plain;
 use crate::row::FileRow;
 use csv::{ByteRecord, Reader, ReaderBuilder};
 use std::alloc::Global;
 
 /// How many records may stand below the header.
-const MOST_ROWS: u32 = 20_000;
+pub(crate) const MOST_ROWS: u32 = 20_000;
 
-/// The rows of a file.
+/// The rows of a file. Plain files, the usual ones, are read without csv.
 pub(crate) fn read_rows<R: FileRow>(alloc: Global, bytes: &[u8]) -> Result<Vec<R>, TraceFault>
+    ensures { IsRead (rows_of R.header R.row_of (records_of bytes.now)) result }
+{
+    match read_plain(alloc, bytes) {
+        Some(read) => read,
+        None => read_records(alloc, bytes),
+    }
+}
+
+/// The rows of any file.
+fn read_records<R: FileRow>(alloc: Global, bytes: &[u8]) -> Result<Vec<R>, TraceFault>
     ensures { IsRead (rows_of R.header R.row_of (records_of bytes.now)) result }
 {
     let mut reader = reader_of(alloc, bytes);
@@ -91,7 +102,7 @@ fn read_below<R: FileRow>(
 }
 
 /// These rows, or the fault Empty where there is none.
-fn unless_empty<R: Drop>(rows: Vec<R>) -> Result<Vec<R>, TraceFault>
+pub(crate) fn unless_empty<R: Drop>(rows: Vec<R>) -> Result<Vec<R>, TraceFault>
     ensures { result ≡ (if nat_lt 0 (length rows.items) then Ok rows else Err fault.Empty) }
 {
     if rows.is_empty() {

@@ -1,12 +1,14 @@
 // The rows that the records of a file write.
-ghost use Rattle.std.specs.Prelude.{◌≡◌, Option, if◌then◌else◌};
+ghost use Rattle.std.specs.Prelude.{◌≡◌, Option, IfSome, if◌then◌else◌};
 ghost use Rattle.csv.specs.Records.{fields_of};
 ghost use Rattle.eg_num.specs.Drive.{DriveRow};
 ghost use Rattle.eg_input.specs.Records.{Record, is_same_record};
 ghost use Rattle.eg_input.specs.DriveTrace.{drive_at, drive_of, trace_header};
 ghost use Rattle.eg_input.specs.CheckFile.{check_header, check_row_of};
+ghost use Rattle.eg_input.specs.Plain.{BeginsWithHeader, BeginsWithRow};
 
 use crate::field::{has_fields, number_at};
+use crate::plain::{drive, number};
 use csv::ByteRecord;
 use eg_num::Drive;
 
@@ -25,6 +27,14 @@ pub(crate) trait FileRow: Drop {
     /// The row that a record writes, or None where it writes none.
     fn from_record(entry: &ByteRecord) -> Option<Self>
         ensures { result ≡ row_of (fields_of entry.now) };
+
+    /// What comes behind the line of the header, where the bytes begin with that.
+    fn below_header(bytes: &[u8]) -> Option<&[u8]>
+        ensures { IfSome result (λ rest. BeginsWithHeader header bytes.now rest.now) };
+
+    /// The row of the line at the front, and what comes behind it, where that is a line of plain numbers.
+    fn from_line(bytes: &[u8]) -> Option<(Self, &[u8])>
+        ensures { IfSome result (λ found. BeginsWithRow row_of bytes.now found.0 found.1.now) };
 }
 
 /// The row of a drive trace.
@@ -46,6 +56,14 @@ impl FileRow for Drive {
             None
         }
     }
+
+    fn below_header(bytes: &[u8]) -> Option<&[u8]> {
+        bytes.strip_prefix(b"pedal,speed,raise\n")
+    }
+
+    fn from_line(bytes: &[u8]) -> Option<(Drive, &[u8])> {
+        drive(bytes, b'\n')
+    }
 }
 
 /// The row of a check file: a drive row, and the torque that was measured.
@@ -66,6 +84,18 @@ impl FileRow for (Drive, u16) {
         } else {
             None
         }
+    }
+
+    fn below_header(bytes: &[u8]) -> Option<&[u8]> {
+        bytes.strip_prefix(b"pedal,speed,raise,torque\n")
+    }
+
+    fn from_line(bytes: &[u8]) -> Option<((Drive, u16), &[u8])> {
+        let Some((drive, rest)) = drive(bytes, b',') else {
+            return None;
+        };
+        let (torque, rest) = number(rest, 65_535, b'\n')?;
+        Some(((drive, torque), rest))
     }
 }
 

@@ -1,0 +1,9 @@
+use Rattle.std.proofs.Common.{rules}
+use Rattle.eg_input.specs.Plain.{BeginsWithHeader}
+use Rattle.eg_input.proofs.LineOfNumbers.{below-header}
+use Rattle.eg_input.proofs.plain.read_plain.Goals as goal
+
+pub returns : goal.returns
+returns g c =
+    let b : BeginsWithHeader g.R.FileRow.header c.args.bytes.now c.in_ok-below_header.field-0.now = search rules in
+    search (rules, below-header)

@@ -1,0 +1,74 @@
+// Plain files of rows, which nearly all are: the header's line, and below it lines of numbers and nothing else.
+ghost use Rattle.std.specs.Prelude.{IfSome};
+ghost use Rattle.eg_input.specs.Records.{records_of};
+ghost use Rattle.eg_input.specs.Rows.{IsRead, rows_below, rows_of};
+ghost use Rattle.eg_input.specs.Plain.{BeginsWithNumber, BeginsWithDrive, records_below};
+
+use crate::TraceFault;
+use crate::reader::{MOST_ROWS, unless_empty};
+use crate::row::FileRow;
+use eg_num::Drive;
+use std::alloc::Global;
+
+/// The rows of a plain file, or None where the file is another.
+pub(crate) fn read_plain<R: FileRow>(
+    alloc: Global,
+    bytes: &[u8],
+) -> Option<Result<Vec<R>, TraceFault>>
+    ensures { IfSome result (λ read. IsRead (rows_of R.header R.row_of (records_of bytes.now)) read) }
+{
+    read_lines(alloc, R::below_header(bytes)?)
+}
+
+/// The rows of the lines below the header, where each is plain and there are no more than so many.
+fn read_lines<R: FileRow>(alloc: Global, bytes: &[u8]) -> Option<Result<Vec<R>, TraceFault>>
+    ensures { IfSome result (λ read. IsRead (rows_below 20000 R.row_of (records_below bytes.now)) read) }
+{
+    let mut rows = Vec::new(alloc);
+    let mut rest = bytes;
+    for count in 0..MOST_ROWS {
+        if rest.is_empty() {
+            return Some(unless_empty(rows));
+        }
+        let Some((row, after)) = R::from_line(rest) else {
+            return None;
+        };
+        if rows.push(row).is_err() {
+            return Some(Err(TraceFault::Memory));
+        }
+        rest = after;
+    }
+    if rest.is_empty() {
+        return Some(unless_empty(rows));
+    }
+    None
+}
+
+/// The drive row of the three numbers at the front, and what comes behind the byte that ends them.
+pub(crate) fn drive(bytes: &[u8], ending: u8) -> Option<(Drive, &[u8])>
+    ensures { IfSome result (λ found. BeginsWithDrive ending bytes.now found.0 found.1.now) }
+{
+    let (pedal, rest) = number(bytes, 1000, b',')?;
+    let (speed, rest) = number(rest, 8000, b',')?;
+    let (raise, rest) = number(rest, 10_000, ending)?;
+    Some((Drive::new(pedal, speed, raise)?, rest))
+}
+
+/// The number that one to five digits at the front write, and what comes behind the byte that ends them. None
+/// where they end with another, and where the number is above `most`.
+pub(crate) fn number(bytes: &[u8], most: u16, ending: u8) -> Option<(u16, &[u8])>
+    ensures { IfSome result (λ found. BeginsWithNumber most ending bytes.now found.0 found.1.now) }
+{
+    let mut value = 0u32;
+    for count in 0..6 {
+        let byte = *bytes.get(count)?;
+        if !byte.is_ascii_digit() {
+            if count == 0 || value > u32::from(most) || byte != ending {
+                return None;
+            }
+            return Some((value as u16, &bytes[count + 1..]));
+        }
+        value = 10 * value + u32::from(byte - b'0');
+    }
+    None
+}
