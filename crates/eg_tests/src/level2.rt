@@ -1,8 +1,10 @@
 // Level 2 over both memories: ticks that were worked by hand, and want of memory.
+ghost use Rattle.eg_level2.specs.Inputs.{IsLookup};
+
 use eg_answer::{Questions, Rules, TestRow};
 use eg_base::NoMemory;
 use eg_guard::{FlatMemory, Guarded, StingyMemory, Who};
-use eg_level2::{Level2, Step, Watches};
+use eg_level2::{Level2, Lookup, Step, Watches};
 use eg_num::{Axis, Table2, Weights};
 use eg_sensor::Readings;
 use eg_torque::Permit;
@@ -60,17 +62,29 @@ fn put_readings<M: Guarded>(rt: &impl Abort, memory: &mut M) {
     }
 }
 
+/// What the permit table says of the pedal at rest and 800 rpm.
+fn lookup(level2: &Level2) -> Lookup
+    ensures { IsLookup level2.now.rules result }
+{
+    Lookup {
+        pedal: 0,
+        speed: 800,
+        torque: level2.rules().permit.table().at(0, 800),
+    }
+}
+
 /// All modules at tick 0, from the start on.
 fn tick<M: Guarded>(level2: &Level2, memory: &mut M, send: bool) -> Result<Step, NoMemory> {
+    let known = lookup(level2);
     level2.reset(memory)?;
-    level2.module(0, memory, 0, false, 0)?;
-    level2.module(1, memory, 0, false, 0)?;
-    level2.module(2, memory, 0, false, 0)?;
-    level2.module(3, memory, 0, false, 0)?;
-    level2.module(4, memory, 0, false, 0)?;
-    level2.module(5, memory, 0, false, 0)?;
-    level2.module(6, memory, 0, false, 0)?;
-    level2.module(7, memory, 0, send, 0)
+    level2.module(0, memory, 0, false, 0, &known)?;
+    level2.module(1, memory, 0, false, 0, &known)?;
+    level2.module(2, memory, 0, false, 0, &known)?;
+    level2.module(3, memory, 0, false, 0, &known)?;
+    level2.module(4, memory, 0, false, 0, &known)?;
+    level2.module(5, memory, 0, false, 0, &known)?;
+    level2.module(6, memory, 0, false, 0, &known)?;
+    level2.module(7, memory, 0, send, 0, &known)
 }
 
 /// Whether these are level 2's words, and each has its complement.
@@ -103,7 +117,7 @@ fn a_tick_and_a_flip_are_as_worked(rt: HostRuntime) -> Result<(), Fail> {
     }
     assert_eq!(rt; memory.store(Who::Board, 2083, 1), Ok(()));
     let step = level2
-        .module(0, &mut memory, 0, false, 0)
+        .module(0, &mut memory, 0, false, 0, &lookup(&level2))
         .ok()
         .ok_or("no memory")?;
     let found = Watches {
@@ -146,8 +160,9 @@ fn want_of_memory_is_told(rt: HostRuntime) -> Result<(), Fail> {
     let mut memory = StingyMemory::new(46);
     put_readings(&rt, &mut memory);
     assert!(rt; level2.reset(&mut memory).is_ok());
-    assert!(rt; level2.module(0, &mut memory, 0, false, 0).is_err());
-    assert!(rt; level2.module(0, &mut memory, 0, false, 0).is_ok());
+    let known = lookup(&level2);
+    assert!(rt; level2.module(0, &mut memory, 0, false, 0, &known).is_err());
+    assert!(rt; level2.module(0, &mut memory, 0, false, 0, &known).is_ok());
     assert_eq!(rt; level2.rules().kt, 2500);
     assert_eq!(rt; level2.questions().len(), 2);
     Ok(())

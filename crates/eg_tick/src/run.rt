@@ -140,7 +140,13 @@ fn begin(
 {
     let engine = GasolineEngine::new(calibration.plant().copy());
     let fault = copied(fault);
-    Controller::new(calibration.copy(), image, fault, DecodedMemory::new(), engine)
+    Controller::new(
+        calibration.copy(),
+        image,
+        fault,
+        DecodedMemory::new(),
+        engine,
+    )
 }
 
 /// An equal fault, if any.

@@ -4,10 +4,11 @@ ghost use Rattle.std.specs.Prelude.{◌≡◌, ◌↔◌, ◌<◌, replicate, Is
 use super::Controller;
 use crate::{Slices, Ticks};
 use eg_base::NoMemory;
-use eg_guard::{FlatMemory, Guarded, StingyMemory};
+use eg_guard::StingyMemory;
 use eg_num::Drive;
 use eg_plant::GasolineEngine;
 use eg_values::reference;
+use eg_word::{CodeMemory, DecodedMemory};
 use std::process::Abort;
 use std::test::Fail;
 
@@ -56,7 +57,7 @@ fn ticks_are_made_and_weighed(rt: HostRuntime) -> Result<(), Fail> {
     // Charge 40, permitted torque 200, actual torque 100, and the number of the tick.
     ticks_are(
         &rt,
-        FlatMemory::new(),
+        DecodedMemory::new(),
         [(true, 1, 340), (true, 2, 681), (true, 3, 1023)],
     )
 }
