@@ -17,7 +17,8 @@ pub(crate) fn read_plain<R: FileRow>(
 ) -> Option<Result<Vec<R>, TraceFault>>
     ensures { IfSome result (λ read. IsRead (rows_of R.header R.row_of (records_of bytes.now)) read) }
 {
-    read_lines(alloc, R::below_header(bytes)?)
+    let below = R::below_header(bytes)?;
+    read_lines(alloc, below)
 }
 
 /// The rows of the lines below the header, where each is plain and there are no more than so many.
@@ -38,10 +39,10 @@ fn read_lines<R: FileRow>(alloc: Global, bytes: &[u8]) -> Option<Result<Vec<R>, 
         }
         rest = after;
     }
-    if rest.is_empty() {
-        return Some(unless_empty(rows));
+    if !rest.is_empty() {
+        return None;
     }
-    None
+    Some(unless_empty(rows))
 }
 
 /// The drive row of the three numbers at the front, and what comes behind the byte that ends them.
