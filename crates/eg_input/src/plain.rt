@@ -1,4 +1,4 @@
-// Plain files of rows, which nearly all are: the header's line, and below it lines of numbers and nothing else.
+// Plain files of rows, as nearly all are: the header's line, and lines of numbers below it.
 ghost use Rattle.std.specs.Prelude.{IfSome};
 ghost use Rattle.eg_input.specs.Records.{records_of};
 ghost use Rattle.eg_input.specs.Rows.{IsRead, rows_below, rows_of};
@@ -10,7 +10,7 @@ use crate::row::FileRow;
 use eg_num::Drive;
 use std::alloc::Global;
 
-/// The rows of a plain file, or None where the file is another.
+/// The rows of a plain file, or None where the file is not plain all through.
 pub(crate) fn read_plain<R: FileRow>(
     alloc: Global,
     bytes: &[u8],
@@ -21,7 +21,7 @@ pub(crate) fn read_plain<R: FileRow>(
     read_lines(alloc, below)
 }
 
-/// The rows of the lines below the header, where each is plain and there are no more than so many.
+/// The rows of the lines below the header, or None where one isn't plain or there are too many.
 fn read_lines<R: FileRow>(alloc: Global, bytes: &[u8]) -> Option<Result<Vec<R>, TraceFault>>
     ensures { IfSome result (λ read. IsRead (rows_below 20000 R.row_of (records_below bytes.now)) read) }
 {
