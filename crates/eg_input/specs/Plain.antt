@@ -1,5 +1,6 @@
 -- A plain file: the header's line, and below it lines of numbers, each line ended by one line feed.
 use Rattle.std.specs.Prelude.{◌≡◌, ℕ, List, ◌∷◌, ◌++◌, Some}
+use Rattle.std.specs.Str.{byte}
 use Rattle.csv.specs.declared.parser.State.TheVariants as state
 use Rattle.eg_num.specs.Drive.{DriveRow}
 use Rattle.eg_input.specs.Records.{Record, RowRule, records_of}
@@ -17,7 +18,8 @@ pub record BeginsWithNumber (most ending : ℕ) (text : List ℕ) (number : ℕ)
   pub written : number_of most digits ≡ Some number
 
 -- the first of the text's records writes this row, and the others are those of the rest
-pub record BeginsWithRow {X : Type 0} (row_of : RowRule X) (text : List ℕ) (row : X) (rest : List ℕ) : Type 0 where
+pub record BeginsWithRow {X : Type 0} (row_of : RowRule X) (text : List ℕ) (row : X)
+    (rest : List ℕ) : Type 0 where
   pub fields : Record
   pub parts : records_below text ≡ fields ∷ records_below rest
   pub written : row_of fields ≡ Some row
@@ -30,6 +32,6 @@ BeginsWithHeader header text rest = records_of text ≡ header ∷ records_below
 pub record BeginsWithDrive (ending : ℕ) (text : List ℕ) (row : DriveRow) (rest : List ℕ) : Type 0 where
   pub after_pedal : List ℕ
   pub after_speed : List ℕ
-  pub pedal : BeginsWithNumber 1000 44 text row.pedal after_pedal
-  pub speed : BeginsWithNumber 8000 44 after_pedal row.speed after_speed
+  pub pedal : BeginsWithNumber 1000 (byte ",") text row.pedal after_pedal
+  pub speed : BeginsWithNumber 8000 (byte ",") after_pedal row.speed after_speed
   pub raise : BeginsWithNumber 10000 ending after_speed row.raise rest

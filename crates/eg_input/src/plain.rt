@@ -1,4 +1,4 @@
-// Plain files of rows, which nearly all are: the header's line, and below it lines of numbers and nothing else.
+// Plain files of rows, as nearly all are: the header's line, and lines of numbers below it.
 ghost use Rattle.std.specs.Prelude.{IfSome};
 ghost use Rattle.eg_input.specs.Records.{records_of};
 ghost use Rattle.eg_input.specs.Rows.{IsRead, rows_below, rows_of};
@@ -10,17 +10,18 @@ use crate::row::FileRow;
 use eg_num::Drive;
 use std::alloc::Global;
 
-/// The rows of a plain file, or None where the file is another.
+/// The rows of a plain file, or None where the file is not plain all through.
 pub(crate) fn read_plain<R: FileRow>(
     alloc: Global,
     bytes: &[u8],
 ) -> Option<Result<Vec<R>, TraceFault>>
     ensures { IfSome result (λ read. IsRead (rows_of R.header R.row_of (records_of bytes.now)) read) }
 {
-    read_lines(alloc, R::below_header(bytes)?)
+    let below = R::below_header(bytes)?;
+    read_lines(alloc, below)
 }
 
-/// The rows of the lines below the header, where each is plain and there are no more than so many.
+/// The rows of the lines below the header, or None where one isn't plain or there are too many.
 fn read_lines<R: FileRow>(alloc: Global, bytes: &[u8]) -> Option<Result<Vec<R>, TraceFault>>
     ensures { IfSome result (λ read. IsRead (rows_below 20000 R.row_of (records_below bytes.now)) read) }
 {
@@ -38,10 +39,10 @@ fn read_lines<R: FileRow>(alloc: Global, bytes: &[u8]) -> Option<Result<Vec<R>, 
         }
         rest = after;
     }
-    if rest.is_empty() {
-        return Some(unless_empty(rows));
+    if !rest.is_empty() {
+        return None;
     }
-    None
+    Some(unless_empty(rows))
 }
 
 /// The drive row of the three numbers at the front, and what comes behind the byte that ends them.

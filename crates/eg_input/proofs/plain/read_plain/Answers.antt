@@ -5,5 +5,5 @@ use Rattle.eg_input.proofs.plain.read_plain.Goals as goal
 
 pub returns : goal.returns
 returns g c =
-    let b : BeginsWithHeader g.R.FileRow.header c.args.bytes.now c.in_ok-below_header.field-0.now = search rules in
+    let b : BeginsWithHeader g.R.FileRow.header c.args.bytes.now c.in_ok-below.below.now = search rules in
     search (rules, below-header)
