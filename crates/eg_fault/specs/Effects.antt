@@ -66,8 +66,8 @@ sends_in (Some moved) times tick = place_of times tick == moved
 unfoldable pub sends_at : Effects → TimeParts → ℕ → Bool
 sends_at x times tick = sends_in x.send times tick
 
--- the number of the question that is asked at a tick, of so many questions: that of its period, or what a wild
--- module asks
+-- the number of the question that is asked at a tick, of so many questions: that of its period, or what a
+-- wild module asks
 unfoldable pub asked_in : Option ℕ → TimeParts → ℕ → ℕ → ℕ
 asked_in None times count tick = asked times count tick
 asked_in (Some question) times count tick = question % count

@@ -42,10 +42,9 @@ fn row(seed: u16, read: [u16; 10], used: u16, estimate: u16, allowed: u16) -> Te
     }
 }
 
-#[test]
-fn the_four_questions_have_these_results_and_folds(rt: HostRuntime) -> Result<(), Fail> {
-    let rules = rules().ok_or("no rules")?.copy();
-    let rows = [
+/// The rows of the four questions.
+fn rows() -> [TestRow; 4] {
+    [
         row(
             0x1234,
             [500, 500, 200, 800, 300, 300, 800, 800, 0, 65535],
@@ -74,27 +73,35 @@ fn the_four_questions_have_these_results_and_folds(rt: HostRuntime) -> Result<()
             0,
             0,
         ),
-    ];
-    let wanted = [
-        (
-            [500, 1000, 750, 1, 0],
-            [0x9054, 0x814c, 0x088a, 0x4451, 0x228a],
-        ),
-        (
-            [1000, 2400, 300, 0, 4],
-            [0x2df5, 0x66c9, 0x3767, 0xbb39, 0xd9c9],
-        ),
-        (
-            [250, 600, 1250, 1, 2],
-            [0x7882, 0xc64b, 0x36bc, 0xb5e0, 0xaf07],
-        ),
-        (
-            [800, 1350, 0, 0, 9],
-            [0x032c, 0x1c26, 0xe130, 0x0987, 0x4c31],
-        ),
-    ];
+    ]
+}
+
+/// The results of each row, and the fold after each result.
+const WANTED: [([u16; 5], [u16; 5]); 4] = [
+    (
+        [500, 1000, 750, 1, 0],
+        [0x9054, 0x814c, 0x088a, 0x4451, 0x228a],
+    ),
+    (
+        [1000, 2400, 300, 0, 4],
+        [0x2df5, 0x66c9, 0x3767, 0xbb39, 0xd9c9],
+    ),
+    (
+        [250, 600, 1250, 1, 2],
+        [0x7882, 0xc64b, 0x36bc, 0xb5e0, 0xaf07],
+    ),
+    (
+        [800, 1350, 0, 0, 9],
+        [0x032c, 0x1c26, 0xe130, 0x0987, 0x4c31],
+    ),
+];
+
+#[test]
+fn the_four_questions_have_these_results_and_folds(rt: HostRuntime) -> Result<(), Fail> {
+    let rules = rules().ok_or("no rules")?.copy();
+    let rows = rows();
     let mut questions = Questions::new();
-    for (row, (wanted, folds)) in rows.iter().zip(wanted.iter()) {
+    for (row, (wanted, folds)) in rows.iter().zip(WANTED.iter()) {
         let results = results(&rules, &row.copy());
         assert_eq!(rt; results, *wanted);
         let mut bits = row.seed;

@@ -31,6 +31,32 @@ fn answer_at(answers: &[(u32, u32)], tick: u32) -> Option<u32> {
     None
 }
 
+/// The answers of eight periods, with their ticks: right; too early; at the window's last tick; too late; two
+/// answers; at its first tick; the answer to another question; and right again.
+const ANSWERS: [(u32, u32); 9] = [
+    (5, 0x00ff_228a),
+    (13, 0x00ff_d9c9),
+    (27, 0x00ff_af07),
+    (38, 0x00ff_4c31),
+    (44, 0x00ff_228a),
+    (45, 0x00ff_228a),
+    (54, 0x00ff_d9c9),
+    (65, 0x00ff_228a),
+    (75, 0x00ff_4c31),
+];
+
+/// The verdict of each period, and whether wrong ones are confirmed by then.
+const VERDICTS: [(Verdict, bool); 8] = [
+    (Verdict::Right, false),
+    (Verdict::Wrong, false),
+    (Verdict::Right, false),
+    (Verdict::Wrong, false),
+    (Verdict::Wrong, false),
+    (Verdict::Right, false),
+    (Verdict::Wrong, true),
+    (Verdict::Right, true),
+];
+
 #[test]
 fn verdicts_of_eight_periods(rt: HostRuntime) -> Result<(), Fail> {
     let weights = Weights::new(3, 1, 9).ok_or("no weights")?;
@@ -41,34 +67,10 @@ fn verdicts_of_eight_periods(rt: HostRuntime) -> Result<(), Fail> {
     }
     assert!(rt; questions.len() == 4);
     let mut monitor = Monitor::new(times, questions);
-
-    // Right; too early; at the window's last tick; too late; two answers; at its first tick; the answer to
-    // another question; and right again.
-    let answers = [
-        (5, 0x00ff_228a),
-        (13, 0x00ff_d9c9),
-        (27, 0x00ff_af07),
-        (38, 0x00ff_4c31),
-        (44, 0x00ff_228a),
-        (45, 0x00ff_228a),
-        (54, 0x00ff_d9c9),
-        (65, 0x00ff_228a),
-        (75, 0x00ff_4c31),
-    ];
-    let rows = [
-        (Verdict::Right, false),
-        (Verdict::Wrong, false),
-        (Verdict::Right, false),
-        (Verdict::Wrong, false),
-        (Verdict::Wrong, false),
-        (Verdict::Right, false),
-        (Verdict::Wrong, true),
-        (Verdict::Right, true),
-    ];
     for tick in 0..80u32 {
         let question = monitor.question(tick);
-        let verdict = step(&mut monitor, tick, answer_at(&answers, tick));
-        let (expected, confirmed) = rows[(tick / 10) as usize];
+        let verdict = step(&mut monitor, tick, answer_at(&ANSWERS, tick));
+        let (expected, confirmed) = VERDICTS[(tick / 10) as usize];
         assert_eq!(rt;
             u32::from(question),
             tick / 10 % 4,
