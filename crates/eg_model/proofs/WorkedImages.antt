@@ -1,6 +1,6 @@
 -- Short runs of some images, computed from the definitions.
-use Rattle.std.proofs.Common.{◌≡◌, [], ◌∷◌, map, Some, None, refl}
-use Rattle.std.specs.Prelude.{codes}
+use Rattle.std.proofs.Common.{◌≡◌, [], ◌∷◌, ◌++◌, map, Some, None, refl}
+use Rattle.std.specs.Prelude.{codes, replicate}
 use Rattle.eg_record.specs.declared.watch.Watch.TheVariants.{Torque}
 use Rattle.eg_model.specs.Rows.{report_of, rows_of}
 use Rattle.eg_model.specs.Examples.{full, probe_run, probe_row, alternating_run, flipped_probe_run, raise_run, bench_run, moments_in_time, reported}
@@ -12,6 +12,10 @@ pub full_throttle : report_of (codes "a") (bench_run full None 20)
     ≡ reported (Some (Torque, 9)) (Some 10) None (Some 9)
 unfolding whole_model
 full_throttle = refl
+
+pub full_throttle-permitted : map (λ m. m.signals.permitted) (moments_in_time (bench_run full None 20)) ≡ replicate 10 200 ++ replicate 10 0
+unfolding whole_model
+full_throttle-permitted = refl
 
 -- ---- slices lie between the modules ----
 

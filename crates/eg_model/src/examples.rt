@@ -1,15 +1,17 @@
 // Runs on the bench without a fault, worked out from the definitions. None of these functions does anything
 // when it runs.
-ghost use Rattle.std.specs.Prelude.{◌≡◌, [], ◌∷◌, map, Some, None, codes};
+ghost use Rattle.std.specs.Prelude.{◌≡◌, [], ◌∷◌, ◌++◌, map, replicate, Some, None, codes};
 ghost use Rattle.eg_record.specs.declared.watch.Watch.TheVariants as found;
 ghost use Rattle.eg_model.specs.Rows.{report_of, rows_of};
 ghost use Rattle.eg_model.specs.Examples.{full, bench_run, probe_row, probe_run, alternating_run, raise_run, reported, moments_in_time};
 
 /// Level 1 at full throttle, for 20 ticks: the torque is found at tick 9, where the excess is confirmed,
-/// and the stages go off at tick 10.
+/// and the stages go off at tick 10. From that tick on the signals are 0, as the permitted torque is.
 pub fn full_run()
-    ensures { report_of (codes "a") (bench_run full None 20)
+    ensures report { report_of (codes "a") (bench_run full None 20)
         ≡ reported (Some (found.Torque, 9)) (Some 10) None (Some 9) }
+    ensures permitted { map (λ m. m.signals.permitted) (moments_in_time (bench_run full None 20))
+        ≡ replicate 10 200 ++ replicate 10 0 }
 {}
 
 /// The rows of a slice plan come in turn: level 1 does nothing in the first tick, and sets its outputs in
