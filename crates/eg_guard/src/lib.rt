@@ -1,7 +1,7 @@
 //! The memory of the simulated unit: 4,096 words of 16 bits, and who may load and store which of them.
 //!
 //! Level 1 is code that nobody trusts. What it can reach is decided here, by who asks and by the address
-//! alone: each load and each store of the unit goes through `Guarded`. A program runs over `FlatMemory`;
+//! alone: each load and each store of the unit goes through `Guarded`. `FlatMemory` is one array of words;
 //! `StingyMemory` is for tests of what comes of want of memory.
 #![tactic(auto)]
 

@@ -22,6 +22,7 @@ use eg_sensor::{Readings, checked_raise, pair_bits, used};
 use eg_torque as torque;
 
 /// Module 1: the pedal that level 2 uses, in per mille (docs/CONCEPT.md, "Level 2").
+#[inline(always)]
 #[tactic(auto, using(crate::proofs::ModuleLemmas::signal_laws))]
 pub(crate) fn pedal<M: Guarded>(
     memory: &mut M,
@@ -42,6 +43,7 @@ pub(crate) fn pedal<M: Guarded>(
 }
 
 /// Module 2: the permitted torque, in tenths of Nm (docs/CONCEPT.md, "Level 2").
+#[inline(always)]
 #[tactic(auto, using(crate::proofs::ModuleLemmas::signal_laws))]
 pub(crate) fn permitted<M: Guarded>(
     memory: &mut M,
@@ -64,6 +66,7 @@ pub(crate) fn permitted<M: Guarded>(
 }
 
 /// Module 3: the actual torque, in tenths of Nm (docs/CONCEPT.md, "Level 2").
+#[inline(always)]
 #[tactic(auto, using(crate::proofs::ModuleLemmas::signal_laws))]
 pub(crate) fn actual<M: Guarded>(
     memory: &mut M,
@@ -85,6 +88,7 @@ pub(crate) fn actual<M: Guarded>(
 
 /// Module 4: 1 where the actual torque is an excess over the permitted torque, else 0 (docs/CONCEPT.md,
 /// "Level 2").
+#[inline(always)]
 #[tactic(auto, using(crate::proofs::ModuleLemmas::signal_laws))]
 pub(crate) fn excess<M: Guarded>(
     memory: &mut M,
@@ -104,6 +108,7 @@ pub(crate) fn excess<M: Guarded>(
 }
 
 /// Module 5: the bits of the pairs that disagree (docs/CONCEPT.md, "Level 2").
+#[inline(always)]
 #[tactic(auto, using(crate::proofs::ModuleLemmas::signal_laws))]
 pub(crate) fn pairs<M: Guarded>(
     memory: &mut M,

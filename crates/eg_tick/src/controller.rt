@@ -258,6 +258,7 @@ impl<E: Engine + Drop, M: CodeMemory + Drop> Controller<E, M> {
             self.calibration.questions(),
             fault,
             self.ticks,
+            task.asked,
             step.answer,
         );
         self.open1 = either(step.open_path, self.open1);

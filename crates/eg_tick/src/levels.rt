@@ -170,8 +170,7 @@ fn turn<M: CodeMemory>(
 /// The nine slices of level 1 and the eight modules of level 2 of a tick, in turn: after each slice but the
 /// last comes the module of its number (docs/CONCEPT.md, "A run, tick by tick"). Answers what the modules
 /// order, answer and find. The turns are written out, so that each is compiled for its own number.
-#[inline(always)]
-fn run_turns<M: CodeMemory>(
+pub(crate) fn run_levels<M: CodeMemory>(
     level2: &Level2,
     fault: Option<&Fault>,
     tick: u16,
@@ -218,40 +217,6 @@ fn run_turns<M: CodeMemory>(
     let last = slices.budget_of(8);
     slice(level1_runs(fault, u32::from(tick)), host, memory, last)?;
     Ok(whole)
-}
-
-/// The nine slices and the eight modules of a tick, as above. Ticks without a fault are compiled apart.
-pub(crate) fn run_levels<M: CodeMemory>(
-    level2: &Level2,
-    fault: Option<&Fault>,
-    tick: u16,
-    send: bool,
-    lookup: &Lookup,
-    slices: &Slices,
-    host: &mut Host,
-    memory: &mut M,
-) -> Result<Step, NoMemory>
-    requires fault { IsAnyFault (option_copied fault) }
-    requires lookup { IsLookup level2.now.rules lookup.now }
-    requires mirrored { AreMirrored (M.shows memory.old).words }
-    requires within { AreWithin level2.now.rules (words_of (M.shows memory.old).words) }
-    ensures midway { (w : Work)
-        → IsDue level2.now (effects (option_copied fault.entry) tick) tick send slices.now w
-        → IsMidway w 0 0 host.old.registers (M.shows memory.old).words
-        → OnOk result (IsMidway w 9 8 host.new.registers (M.shows memory.new).words) }
-    ensures step { (w : Work)
-        → IsDue level2.now (effects (option_copied fault.entry) tick) tick send slices.now w
-        → IsMidway w 0 0 host.old.registers (M.shows memory.old).words
-        → IfOk result (λ step. step ≡ tick_step w.doing w.words) }
-    ensures nine { OnOk result (length slices.now ≡ 9) }
-    ensures sure { IsTrue (M.shows memory.old).sure → IsOk result }
-    ensures stays_sure { (M.shows memory.new).sure ≡ (M.shows memory.old).sure }
-    ensures are_words { AreWords (M.shows memory.old).words → AreWords (M.shows memory.new).words }
-{
-    match fault {
-        None => run_turns(level2, None, tick, send, lookup, slices, host, memory),
-        Some(_) => run_turns(level2, fault, tick, send, lookup, slices, host, memory),
-    }
 }
 
 /// What is ordered, answered and found by a step and by the next.

@@ -52,7 +52,7 @@ pub(crate) fn question(
     }
 }
 
-/// Judges a tick at which level 2 sends this answer, or none (docs/CONCEPT.md, "Questions and answers" and "A
+/// Judges a tick at which this question was asked, and level 2 sends this answer, or none (docs/CONCEPT.md, "Questions and answers" and "A
 /// run, tick by tick"). The monitoring module hears the answer, and gives its verdict at the last tick of a
 /// period. A wild one hears nothing, gives no verdict, and may order path 2 open.
 pub(crate) fn judge(
@@ -60,9 +60,13 @@ pub(crate) fn judge(
     questions: &Questions,
     fault: Option<&Fault>,
     tick: u32,
+    asked: u16,
     answer: Option<u32>,
 ) -> Judgement
     requires questions { monitor.old.questions ≡ questions.now }
+    requires asked { asked ≡ asked_at (effects (option_copied fault) tick) monitor.old.times
+        (length questions.now) tick }
+    requires within { asked < length questions.now }
     requires period { (effects (option_copied fault) tick).wild ≡ None
         → monitor.old.verdicts ≡ period_of monitor.old.times tick }
     requires later { (effects (option_copied fault) tick).wild ≡ None
@@ -75,7 +79,6 @@ pub(crate) fn judge(
         → ComesNext s (option_copied fault.entry) tick answer monitor.old e h → Tells result (next s e h) }
     ensures opens { result.opens ≡ (effects (option_copied fault.entry) tick).opens }
 {
-    let asked = question(monitor, questions, fault, tick);
     let mark = mark(number(questions, asked), answer);
     let before = monitor.confirmed();
     let verdict = verdict(monitor, fault, tick, answer);

@@ -8,7 +8,7 @@ pub returns-clause-tells : goal.returns-clause-tells
 returns-clause-tells c s e h comes =
     let both = judged s e h _ _ _ _ comes _ _ (record { wild = c.verdict-verdict.ensures.wild; orderly = c.verdict-verdict.ensures.orderly }) in
     record {
-      mark = judged-mark s e h _ _ _ _ comes _ _ _ _ c.requires.questions c.mark-mark.ensures c.number.ensures c.question-asked.ensures.number;
+      mark = judged-mark s e h _ _ _ _ comes _ _ _ _ c.requires.questions c.mark-mark.ensures c.number.ensures c.requires.asked;
       verdict = both.0;
       answers = judged-answers s e h _ _ _ _ comes _ _ _ _ both.1 c.is_first.ensures c.confirmed-before.ensures.verdicts c.confirmed.ensures.verdicts;
       opens = judged-opens s e h _ _ _ _ comes _ c.opens.ensures;

@@ -1,6 +1,6 @@
 use Rattle.std.proofs.Common.{◌∙◌}
 use Rattle.eg_tick.proofs.StepLemmas.{steps-begin, steps-more, steps-all}
-use Rattle.eg_tick.proofs.levels.run_turns.Goals as goal
+use Rattle.eg_tick.proofs.levels.run_levels.Goals as goal
 
 pub returns-clause-step : goal.returns-clause-step
 returns-clause-step g c w due is =
