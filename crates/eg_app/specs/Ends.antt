@@ -2,8 +2,8 @@
 -- calibration. It speaks of what the store and the output show before the call (`store`, `out`) and after it
 -- (`later`, `now`). A fault that is met is counted, and each case says whose count rose and whose stayed. So
 -- each outcome comes exactly where its case says (but where a count stands at the last value of a u64); want
--- of memory alone may come at any place. Where a call reads several files, the count doesn't tell which of the
--- reads met a fault: over a sure store `FileComes` and `TellsMissing` do, else a test.
+-- of memory alone may come at any place. Where a call reads several files, the count doesn't tell which of
+-- the reads met a fault: over a sure store `FileComes` and `TellsMissing` do, else a test.
 use Rattle.std.specs.Prelude.{◌≡◌, ◌⊎◌, ◌↔◌, ℕ, List, Option, Some, None, Result, Ok, IsTrue}
 use Rattle.eg_num.specs.Places.{IsFirst}
 use Rattle.eg_base.specs.Outside.{ShownStore, ShownSink, Rose, IsMissing}

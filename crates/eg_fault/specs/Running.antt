@@ -1,8 +1,10 @@
 -- Which modules of level 2 run under a fault. At each tick all of them run, or none does, or all but one; and
 -- where one is left out, it is the same one at each tick from the onset on.
-use Rattle.std.specs.Prelude.{ℕ, ◌≡◌, ◌==◌, ◌≤◌, ◌<◌, ◌⊎◌, true, false, not, Option, Some, None}
+use Rattle.std.specs.Prelude.{ℕ, ◌≡◌, ◌==◌, ◌≤◌, ◌<◌, ◌⊎◌, Bool, true, false, not, Option, Some, None}
 use Rattle.eg_fault.specs.Effects.{Effects}
 use Rattle.eg_fault.specs.Faults.{effects}
+use Rattle.eg_fault.specs.declared.class.Class.{Class}
+use Rattle.eg_fault.specs.declared.class.Class.TheVariants.{Skip, Disturb, Flip, Halt, Lapse}
 use Rattle.eg_fault.specs.declared.class.Fault.{Fault}
 
 -- which modules run at a tick: all of them; none; or all but one
@@ -28,3 +30,19 @@ RunsWhole fault = (tick : ℕ) → AllRun (effects fault tick) ⊎ NoneRuns (eff
 -- is left out from the onset on
 abbrev pub RunningLaw : Type 0
 RunningLaw = RunsWhole None × ((fault : Fault) → RunsWhole (Some fault) ⊎ ((one : ℕ) × LeavesOut fault one))
+
+-- level 1 and level 2 do the same: whether they run, what is mixed in, and which word is flipped
+pub record DoSame (x y : Effects) : Type 0 where
+  pub level1 : x.level1 ≡ y.level1
+  pub ran : x.ran ≡ y.ran
+  pub disturbance : x.disturbance ≡ y.disturbance
+  pub flip : x.flip ≡ y.flip
+
+-- the classes under which they may do otherwise than without a fault
+unfoldable pub may_change_levels : Class → Bool
+may_change_levels (Skip index) = true
+may_change_levels (Disturb index mask) = true
+may_change_levels (Flip word mask) = true
+may_change_levels Halt = true
+may_change_levels (Lapse after every) = true
+may_change_levels _ = false

@@ -3,6 +3,7 @@ ghost use Rattle.std.specs.Prelude.{◌≡◌, ◌<◌, false, option_map, lengt
 ghost use Rattle.std.specs.Option.{option_map_or};
 ghost use Rattle.eg_fault.specs.Faults;
 ghost use Rattle.eg_fault.specs.Faults.{does};
+ghost use Rattle.eg_fault.specs.Running.{may_change_levels};
 
 use crate::{Class, Opens, Script};
 
@@ -47,6 +48,21 @@ impl Class {
         ensures { result ≡ (does self.now after).level1 }
     {
         !matches!(self, Class::Halt)
+    }
+
+    /// Whether it may change what level 1 and level 2 do.
+    #[tactic(auto, unfolding(crate::specs::Running::may_change_levels))]
+    pub(crate) fn may_change_levels(&self) -> bool
+        ensures { result ≡ may_change_levels self.now }
+    {
+        matches!(
+            self,
+            Class::Skip { .. }
+                | Class::Disturb { .. }
+                | Class::Flip { .. }
+                | Class::Halt
+                | Class::Lapse { .. }
+        )
     }
 
     /// Whether a module of level 2 runs.

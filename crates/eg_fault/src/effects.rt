@@ -1,11 +1,11 @@
 // What a fault does at a tick.
-ghost use Rattle.std.specs.Prelude.{◌≡◌, false, option_map};
+ghost use Rattle.std.specs.Prelude.{◌≡◌, false, option_map, Some, IfSome};
 ghost use Rattle.std.specs.Option.{option_copied, option_map_or};
 ghost use Rattle.eg_answer.specs.Periods;
 ghost use Rattle.eg_fault.specs.Effects;
 ghost use Rattle.eg_fault.specs.Effects.{no_effects, readings_under, sends_at};
 ghost use Rattle.eg_fault.specs.Faults.{effects, does};
-ghost use Rattle.eg_fault.specs.Running.{RunningLaw};
+ghost use Rattle.eg_fault.specs.Running.{RunningLaw, DoSame};
 
 use crate::{Class, Fault};
 use eg_answer::Times;
@@ -89,6 +89,22 @@ pub fn flip(fault: Option<&Fault>, tick: u32) -> Option<(u8, u16)>
 {
     let (class, after) = acting(fault, tick)?;
     class.flip(after)
+}
+
+/// The fault, where it may change at a tick what level 1 and level 2 do, else None (docs/CONCEPT.md,
+/// "Faults"). Under None they do as they do without a fault.
+pub fn fault_of_levels(fault: Option<&Fault>, tick: u32) -> Option<&Fault>
+    ensures fault { IfSome (option_copied result) (λ found. option_copied fault.entry ≡ Some found) }
+    ensures same { DoSame (effects (option_copied result) tick) (effects (option_copied fault.entry) tick) }
+{
+    let fault = fault?;
+    if tick < fault.onset {
+        return None;
+    }
+    if !fault.class.may_change_levels() {
+        return None;
+    }
+    Some(fault)
 }
 
 /// Whether a tick is one at which level 2 sends its answer (docs/CONCEPT.md, "Faults").

@@ -9,7 +9,7 @@ mod script;
 
 pub use class::{Class, Fault};
 pub use effects::{
-    conducts, disturbance, faulty_readings, flip, held, level1_runs, module_runs,
+    conducts, disturbance, fault_of_levels, faulty_readings, flip, held, level1_runs, module_runs,
     modules_run_together, sends, wild,
 };
 pub use script::{Opens, Script};

@@ -10,7 +10,7 @@ use crate::row::FileRow;
 use eg_num::Drive;
 use std::alloc::Global;
 
-/// The rows of a plain file, or None where the file is not plain all through.
+/// The rows of a plain file. None may come for any file, and comes where one is not plain all through.
 pub(crate) fn read_plain<R: FileRow>(
     alloc: Global,
     bytes: &[u8],
@@ -21,7 +21,8 @@ pub(crate) fn read_plain<R: FileRow>(
     read_lines(alloc, below)
 }
 
-/// The rows of the lines below the header, or None where one isn't plain or there are too many.
+/// The rows of the lines below the header. None may come for any, and comes where a line isn't plain and where
+/// there are too many.
 fn read_lines<R: FileRow>(alloc: Global, bytes: &[u8]) -> Option<Result<Vec<R>, TraceFault>>
     ensures { IfSome result (λ read. IsRead (rows_below 20000 R.row_of (records_below bytes.now)) read) }
 {
@@ -45,7 +46,8 @@ fn read_lines<R: FileRow>(alloc: Global, bytes: &[u8]) -> Option<Result<Vec<R>, 
     Some(unless_empty(rows))
 }
 
-/// The drive row of the three numbers at the front, and what comes behind the byte that ends them.
+/// The drive row of the three numbers at the front, and what comes behind the byte that ends them. None may
+/// come for any bytes.
 pub(crate) fn drive(bytes: &[u8], ending: u8) -> Option<(Drive, &[u8])>
     ensures { IfSome result (λ found. BeginsWithDrive ending bytes.now found.0 found.1.now) }
 {
@@ -56,7 +58,7 @@ pub(crate) fn drive(bytes: &[u8], ending: u8) -> Option<(Drive, &[u8])>
 }
 
 /// The number that one to five digits at the front write, and what comes behind the byte that ends them. None
-/// where they end with another, and where the number is above `most`.
+/// may come for any bytes, and comes where another byte ends them and where the number is above `most`.
 pub(crate) fn number(bytes: &[u8], most: u16, ending: u8) -> Option<(u16, &[u8])>
     ensures { IfSome result (λ found. BeginsWithNumber most ending bytes.now found.0 found.1.now) }
 {

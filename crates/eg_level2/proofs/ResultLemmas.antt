@@ -31,15 +31,15 @@ kept-all rules questions all i n are count past within =
     are ∙ ap (map (λ (q : Question). results_by rules q.row)) (ap (λ n. take n questions) (let ends : i ≡ length questions = omega arith in ends) ∙ take-length questions)
 
 -- the results of the row of the question that is asked, among those of all questions
-pub asked-kept : (rules : Rules) (questions : List Question) (all : List RowResults) (asked a n : ℕ) (d : RowResults) →
-    all ≡ map (λ (q : Question). results_by rules q.row) questions → 2 ≤ length questions → a ≡ asked → n ≡ length all →
-    get_or all (a % n) d ≡ results_by rules (row_of questions asked)
+pub asked-kept : (rules : Rules) (questions : List Question) (all : List RowResults) (asked n : ℕ) (d : RowResults) →
+    all ≡ map (λ (q : Question). results_by rules q.row) questions → 2 ≤ length questions → n ≡ length all →
+    get_or all (asked % n) d ≡ results_by rules (row_of questions asked)
 unfolding row_of
-asked-kept rules questions all asked a n d are some is count =
+asked-kept rules questions all asked n d are some count =
     let f = λ (q : Question). results_by rules q.row in
     let size : n ≡ length questions = count ∙ ap length are ∙ length-map questions f in
     let any : 0 < length questions = omega arith in
-    ap₂ (λ m k. get_or all (m % k) d) is size ∙ ap (λ (xs : List RowResults). get_or xs (asked % length questions) d) are
+    ap (λ k. get_or all (asked % k) d) size ∙ ap (λ (xs : List RowResults). get_or xs (asked % length questions) d) are
     ∙ get_or-map f questions (asked % length questions) no_question d (mod-lt asked any)
 
 pub seed-kept : (rules : Rules) (row : TestRow) (test : RowResults) → test ≡ results_by rules row → test.seed ≡ row.seed

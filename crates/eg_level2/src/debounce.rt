@@ -34,6 +34,7 @@ struct Feeds {
 
 /// Module 6: debounces the pairs and the excess, where no trip stands. A pedal that is found limits the
 /// operation; any other watch that is found trips (docs/CONCEPT.md, "Level 2").
+#[inline(always)]
 #[tactic(auto, using(crate::proofs::DebounceLemmas::debounce_laws))]
 pub(crate) fn debounce<M: Guarded>(memory: &mut M, rules: &Rules) -> Result<Step, NoMemory>
     requires { AreWithin rules.now (words_of (M.shows memory.old).words) }
@@ -87,6 +88,7 @@ fn has_bit(size: u16, word: u16) -> bool
 }
 
 /// Feeds the counters with the bits of the pairs and of the excess.
+#[inline(always)]
 fn feed_all<M: Guarded>(memory: &M, rules: &Rules) -> Feeds
     requires { AreWithin rules.now (words_of (M.shows memory.now).words) }
     ensures { result ≡ feeds_of rules.now (words_of (M.shows memory.now).words) }
@@ -107,6 +109,7 @@ fn feed_all<M: Guarded>(memory: &M, rules: &Rules) -> Feeds
 }
 
 /// Stores the counters.
+#[inline(always)]
 #[tactic(auto, using(crate::proofs::DebounceLemmas::counter_laws))]
 fn keep_counters<M: Guarded>(memory: &mut M, feeds: &Feeds) -> Result<(), NoMemory>
     ensures stored { OnOk result (word_at (M.shows memory.new).words

@@ -1,5 +1,5 @@
 // Level 2 as a whole: its eight modules by their numbers, and its reset.
-ghost use Rattle.std.specs.Prelude.{◌≡◌, ◌↔◌, ℕ, ◌<◌, ◌≤◌, length, IsTrue, IsOk, OnOk, IfOk};
+ghost use Rattle.std.specs.Prelude.{◌≡◌, ◌↔◌, ℕ, ◌%◌, ◌<◌, ◌≤◌, length, IsTrue, IsOk, OnOk, IfOk};
 ghost use Rattle.eg_guard.specs.Memory.{AreWords, SameOutside};
 ghost use Rattle.eg_level2.specs.Words.{ChangeLaw, words_of, AreMirrored, AreWithin, is_level2_own, start};
 ghost use Rattle.eg_level2.specs.Inputs.{AreParts, IsLookup, inputs_of, asked_of, results_by, row_of};
@@ -94,8 +94,8 @@ impl Level2 {
     /// Runs the module of this number, 0 to 7, over the memory (docs/CONCEPT.md, "Level 2"). The readings and
     /// the number of the question stand at the input ports and at the link. `tick` is this tick, and `send`
     /// says whether the answer is sent at it. What disturbs the run is mixed in by exclusive or; 0 disturbs
-    /// nothing. The permit table isn't asked again for what was looked up already. After NoMemory, what was stored stays; a test shows that, and the clauses that no other word
-    /// has changed.
+    /// nothing. The permit table isn't asked again for what was looked up already. After NoMemory, what was
+    /// stored stays; a test shows that, and the clauses that no other word has changed.
     #[inline(always)]
     #[tactic(auto, using(crate::proofs::StoreLemmas::outsides))]
     pub fn module<M: Guarded>(
@@ -193,8 +193,19 @@ impl Level2 {
         ensures { result.now ≡ results_by self.now.rules
             (row_of self.now.questions (asked_of (M.shows memory.now).words)) }
     {
-        &self.tests[usize::from(asked(memory)) % self.tests.len()]
+        &self.tests[place(asked(memory), self.tests.len())]
     }
+}
+
+/// The place of a question among so many: its number modulo their count.
+#[inline(always)]
+fn place(asked: u16, count: usize) -> usize
+    requires { 1 ≤ count }
+    ensures place { result ≡ asked % count }
+    ensures within { result < count }
+{
+    let asked = usize::from(asked);
+    if asked < count { asked } else { asked % count }
 }
 
 /// Does nothing when it runs. Its contract is a law: where of mirrored words one word alone changes, or one

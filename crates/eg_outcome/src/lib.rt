@@ -12,6 +12,6 @@ mod outcome;
 
 pub use calibration::calibration_for;
 pub use files::{MOST_BYTES, is_too_long};
-pub use line::put_line;
+pub use line::{put_line, put_text};
 pub use lines::put_lines;
 pub use outcome::{Outcome, Refusal, Role};

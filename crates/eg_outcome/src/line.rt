@@ -1,4 +1,4 @@
-// The one line that a command writes.
+// The one line, or the one text, that a command writes.
 ghost use Rattle.std.specs.Prelude.{string_bytes};
 ghost use Rattle.eg_outcome.specs.Outcomes.{LineEnds, PutsNothing};
 
@@ -11,7 +11,16 @@ pub fn put_line<K: Sink>(line: &String, out: &mut K) -> Outcome
     ensures ends { LineEnds (string_bytes line.now) (K.shows out.old) (K.shows out.new) result }
     ensures put { PutsNothing result → ⊥ }
 {
-    match out.put(line.as_bytes()) {
+    put_text(line.as_bytes(), out)
+}
+
+/// Puts the whole text of a command to its output, in one piece (docs/FORMATS.md, "Outcomes"): WriteFault
+/// where the output counts a fault, Memory where memory runs out.
+pub fn put_text<K: Sink>(text: &[u8], out: &mut K) -> Outcome
+    ensures ends { LineEnds text.now (K.shows out.old) (K.shows out.new) result }
+    ensures put { PutsNothing result → ⊥ }
+{
+    match out.put(text) {
         Ok(()) => Outcome::Done,
         Err(PutRefusal::Failed) => Outcome::WriteFault,
         Err(PutRefusal::Memory) => Outcome::Memory,

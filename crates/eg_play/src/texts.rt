@@ -1,10 +1,10 @@
-// The lines of the report and of the record.
-ghost use Rattle.std.specs.Prelude.{◌≡◌, ◌++◌, map, string_bytes, IfOk, OnOk};
+// The lines of the report, and the text of the record.
+ghost use Rattle.std.specs.Prelude.{◌≡◌, ◌++◌, map, string_bytes, IfOk};
 ghost use Rattle.std.specs.List.{concat};
 ghost use Rattle.eg_record.specs.Texts.{summary_line, report_end, record_header, row_line};
 
 use eg_base::NoMemory;
-use eg_record::{Row, Summary, record_header, report_end_text, row_text, summary_text};
+use eg_record::{Row, Summary, push_row, record_header, report_end_text, summary_text};
 use std::alloc::Global;
 
 /// The lines of the report on these runs, in their order, and its last line (docs/FORMATS.md, "The report").
@@ -31,27 +31,14 @@ fn summary_lines(alloc: Global, summaries: &[Summary]) -> Result<Vec<String>, No
     Ok(lines)
 }
 
-/// The lines of a record: the header, and a line for each of these rows, in their order (docs/FORMATS.md,
+/// The text of a record: the header, and a line for each of these rows, in their order (docs/FORMATS.md,
 /// "The record").
-pub(crate) fn record_lines(alloc: Global, rows: &[Row]) -> Result<Vec<String>, NoMemory>
-    ensures { IfOk result (λ lines. concat (map string_bytes lines.items)
-        ≡ record_header ++ concat (map row_line rows.now)) }
+pub(crate) fn record_text(alloc: Global, rows: &[Row]) -> Result<Vec<u8>, NoMemory>
+    ensures { IfOk result (λ text. text.items ≡ record_header ++ concat (map row_line rows.now)) }
 {
-    let header = String::from_str(alloc, record_header())?;
-    let mut lines = Vec::new(alloc);
-    lines.push(header)?;
-    push_rows(alloc, rows, &mut lines)?;
-    Ok(lines)
-}
-
-/// Appends a line for each row.
-fn push_rows(alloc: Global, rows: &[Row], lines: &mut Vec<String>) -> Result<(), NoMemory>
-    ensures { OnOk result (concat (map string_bytes lines.new.items)
-        ≡ concat (map string_bytes lines.old.items) ++ concat (map row_line rows.now)) }
-{
+    let mut text = Vec::from_slice(alloc, record_header().as_bytes())?;
     for row in rows {
-        let line = row_text(alloc, row)?;
-        lines.push(line)?;
+        push_row(&mut text, row)?;
     }
-    Ok(())
+    Ok(text)
 }

@@ -18,13 +18,13 @@ use Rattle.eg_record.specs.Excess.{true_excess, full_excess, first_confirmed}
 use Rattle.eg_record.specs.Detection.{is_found, first_watch, detected_at, first_detection}
 use Rattle.eg_record.specs.Stages.{off_at, first_off}
 use Rattle.eg_record.specs.Summaries.{summary_of}
-use Rattle.eg_record.specs.Texts.{comma, bit, watch_name, names, found_text, answer_text, verdict_text, drive_columns, engine_columns, path_columns, signal_columns, command_columns, event_columns, columns, row_line, record_header, at_text, first_text, trap_name, trap_text, summary_line, report_end}
+use Rattle.eg_record.specs.Texts.{comma, bit, watch_name, names, found_text, answer_text, verdict_text, drive_columns, engine_columns, path_columns, signal_columns, command_columns, value_columns, event_columns, columns, row_line, record_header, at_text, first_text, trap_name, trap_text, summary_line, report_end}
 
 -- every definition that these need
 unfoldable recording : ℕ
 unfolding weight windows is_reached is_confirmed is_first first_place is_excess first_given true_excess full_excess first_confirmed
     is_found first_watch detected_at first_detection off_at first_off summary_of bit watch_name names found_text answer_text
-    verdict_text drive_columns engine_columns path_columns signal_columns command_columns event_columns columns row_line
+    verdict_text drive_columns engine_columns path_columns signal_columns command_columns value_columns event_columns columns row_line
     record_header at_text first_text trap_name trap_text summary_line report_end digits
 recording = 0
 

@@ -83,10 +83,13 @@ command_columns row = decimal row.throttle ∷ decimal row.ignition ∷ []
 unfoldable pub event_columns : Row → List (List ℕ)
 event_columns row = found_text row.found ∷ answer_text row.answer ∷ verdict_text row.verdict ∷ []
 
-unfoldable pub columns : Row → List (List ℕ)
-columns row =
+-- all but the last group are numbers and truth values
+unfoldable pub value_columns : Row → List (List ℕ)
+value_columns row =
     drive_columns row ++ engine_columns row ++ path_columns row ++ signal_columns row ++ command_columns row
-    ++ event_columns row
+
+unfoldable pub columns : Row → List (List ℕ)
+columns row = value_columns row ++ event_columns row
 
 -- the line of a row: its columns, joined by commas
 unfoldable pub row_line : Row → List ℕ

@@ -4,7 +4,7 @@ ghost use Rattle.std.specs.Prelude.{◌≡◌};
 use eg_num::Weights;
 use eg_record::{
     AnswerMark, Drive, Row, Verdict, Watches, detections_are_first, off_ticks_are_first,
-    record_header, report_end_text, row_text, summarize, summary_text,
+    push_row, record_header, report_end_text, summarize, summary_text,
 };
 use eg_word::Trap;
 use std::test::Fail;
@@ -46,20 +46,18 @@ fn quiet(drive: Drive, tick: u32, torque: u16, on: bool) -> Row
 fn rows_are_printed(rt: HostRuntime) -> Result<(), Fail> {
     let alloc = rt.alloc();
     let drive = Drive::new(0, 800, 0).ok_or("no drive")?;
-    let line = row_text(alloc, &quiet(drive, 3, 0, true))?;
-    assert_eq!(rt;
-        line.as_str(),
-        "3,0,800,0,50,40,0,200,1,1,1,0,200,100,0,0,65436,0,-,-,-\n"
-    );
+    let mut text = Vec::new(alloc);
+    push_row(&mut text, &quiet(drive, 3, 0, true))?;
     let mut busy = quiet(drive, 19, 0, false);
     busy.found.mirror = true;
     busy.found.answers = true;
     busy.answer = AnswerMark::Bad;
     busy.verdict = Some(Verdict::Wrong);
-    let line = row_text(alloc, &busy)?;
+    push_row(&mut text, &busy)?;
     assert_eq!(rt;
-        line.as_str(),
-        "19,0,800,0,50,40,0,200,1,0,0,0,200,100,0,0,65436,0,mirror+answers,bad,wrong\n"
+        std::str::from_utf8(&text),
+        Ok("3,0,800,0,50,40,0,200,1,1,1,0,200,100,0,0,65436,0,-,-,-\n\
+            19,0,800,0,50,40,0,200,1,0,0,0,200,100,0,0,65436,0,mirror+answers,bad,wrong\n")
     );
     assert!(rt; record_header().starts_with("tick,pedal,"));
     Ok(())

@@ -26,11 +26,12 @@ pub record HoldsOutputs (world : World) (row : Row) : Type 0 where
 
 -- ---- the laws of a run, for a row ----
 
--- The controller c stood for a history before the tick of this row. The history is cut in two: h ends with the
--- tick by which the true excess is confirmed, and `more` are the ticks since then, newest first. So the tick of
--- the row comes length more + 1 ticks after that one.
+-- The controller c stood for a history before the tick of this row. The history is cut in two: h ends with
+-- the tick by which the true excess is confirmed, and `more` are the ticks since then, newest first. So the
+-- tick of the row comes length more + 1 ticks after that one.
 
--- The reaction theorem: where that is R ticks or more, the stages are off at the row, under each listed fault.
+-- The reaction theorem: where that is R ticks or more, the stages are off at the row, under each listed
+-- fault.
 abbrev pub RowReactsInTime : Setting → Kept → Row → Type 0
 RowReactsInTime s c row =
     (more h : List Entry) → Stands s c (more ++ h) → IsListed s.fault → IsExcessConfirmed s (ticks s h) →

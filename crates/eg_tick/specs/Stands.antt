@@ -31,10 +31,10 @@ pub record HoldsLevel1 (s : Setting) (m : Registers) (memory : List ℕ) (past :
 
 -- ---- level 2 ----
 
--- Each word has its complement. Signals, counters, limited operation and trip are those of the model. What the
--- words of the program flow tell is that of the ticks: `last` is the last tick at which check ran, or 65535; and
--- where no word was flipped, and all eight modules ran at each tick since the last answer, the token is 0 and
--- the flow is unmarked.
+-- Each word has its complement. Signals, counters, limited operation and trip are those of the model. What
+-- the words of the program flow tell is that of the ticks: `last` is the last tick at which check ran, or
+-- 65535; and where no word was flipped, and all eight modules ran at each tick since the last answer, the
+-- token is 0 and the flow is unmarked.
 pub record HoldsLevel2 (s : Setting) (memory : List ℕ) (h : List Entry) : Type 0 where
   pub mirrored : AreMirrored memory
   pub words : KeepsWords s (words_of memory) (moments s h)
@@ -62,8 +62,8 @@ pub record IsOrderly (s : Setting) (monitor : MonitorParts) (h : List Entry) : T
   pub heard : map (marked (expected_number s.cal.times s.cal.questions (length h))) monitor.heard
       ≡ answers_in (take (place_of s.cal.times (length h)) (moments s h))
 
--- The module has the run's times and questions, and has given the verdicts of the model, so that its counter of
--- wrong verdicts is that of the model. It is orderly where it was never wild.
+-- The module has the run's times and questions, and has given the verdicts of the model, so that its counter
+-- of wrong verdicts is that of the model. It is orderly where it was never wild.
 pub record HoldsMonitor (s : Setting) (monitor : MonitorParts) (h : List Entry) : Type 0 where
   pub times : monitor.times ≡ s.cal.times
   pub questions : monitor.questions ≡ s.cal.questions
@@ -102,8 +102,8 @@ pub record Stands (s : Setting) (c : Kept) (h : List Entry) : Type 0 where
   pub not_lost : c.lost ≡ false
 
 -- What a controller always keeps: its calibration is an accepted one; its fault, if any, is a valid one;
--- unless memory ran out it stands for some history of a run of its calibration and its fault; and a sure memory
--- never runs out.
+-- unless memory ran out it stands for some history of a run of its calibration and its fault; and a sure
+-- memory never runs out.
 pub record IsController (c : Kept) : Type 0 where
   pub accepted : IsAccepted c.cal
   pub fault : IsAnyFault c.fault

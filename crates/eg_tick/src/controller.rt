@@ -97,9 +97,9 @@ impl<E: Engine, M: Guarded> Model for Controller<E, M> {
 }
 
 impl<E: Engine + Drop, M: CodeMemory + Drop> Controller<E, M> {
-    /// A controller that has made no tick (docs/CONCEPT.md, "The controller"): with this calibration, the image
-    /// that level 1 runs (at most 1,024 words), the fault of the run, if any, which is a valid one, a memory of
-    /// 0s, and an engine whose `kt` is that of the calibration. NoMemory gives up memory and engine.
+    /// A controller that has made no tick (docs/CONCEPT.md, "The controller"): with this calibration, the
+    /// image that level 1 runs (at most 1,024 words), the fault of the run, if any, which is a valid one, a
+    /// memory of 0s, and an engine whose `kt` is that of the calibration. NoMemory gives up memory and engine.
     pub fn new(
         calibration: Calibration,
         image: &[u16],
@@ -143,8 +143,8 @@ impl<E: Engine + Drop, M: CodeMemory + Drop> Controller<E, M> {
         })
     }
 
-    /// One tick of all three levels (docs/CONCEPT.md, "A run, tick by tick" and "The controller"), and its row.
-    /// It is counted in `steps`. A controller makes at most 20,000 ticks. After NoMemory every later tick
+    /// One tick of all three levels (docs/CONCEPT.md, "A run, tick by tick" and "The controller"), and its
+    /// row. It is counted in `steps`. A controller makes at most 20,000 ticks. After NoMemory every later tick
     /// answers NoMemory.
     pub fn tick(
         &mut self,
@@ -223,47 +223,31 @@ impl<E: Engine + Drop, M: CodeMemory + Drop> Controller<E, M> {
             return Err(NoMemory);
         }
         self.lost = true;
-        let fault = self.fault.as_ref();
+        let (tick, fault) = (self.ticks, self.fault.as_ref());
+        let questions = self.calibration.questions();
         let lookup = look_up(&self.calibration.rules().permit, drive);
         let begins = Beginning {
-            tick: self.ticks,
+            tick,
             drive: *drive,
             limit: limit(&lookup, drive),
-            paths: Paths::at(fault, self.ticks, self.open1, self.open2),
+            paths: Paths::at(fault, tick, self.open1, self.open2),
         };
-        let held = held(fault, self.ticks);
+        let held = held(fault, tick);
         step_engine(&mut self.engine, &self.memory, begins.paths.on, held);
         let task = Task {
-            tick: self.ticks as u16,
-            sends: sends(fault, self.ticks, self.calibration.times()),
-            asked: question(
-                &self.monitor,
-                self.calibration.questions(),
-                fault,
-                self.ticks,
-            ),
-            readings: readings(&self.engine, drive, fault, self.ticks),
+            tick: tick as u16,
+            sends: sends(fault, tick, self.calibration.times()),
+            asked: question(&self.monitor, questions, fault, tick),
+            readings: readings(&self.engine, drive, fault, tick),
             lookup,
         };
-        let step = work(
-            &self.level2,
-            fault,
-            &task,
-            slices,
-            &mut self.host,
-            &mut self.memory,
-        )?;
-        let judged = judge(
-            &mut self.monitor,
-            self.calibration.questions(),
-            fault,
-            self.ticks,
-            task.asked,
-            step.answer,
-        );
+        let (level2, host, memory) = (&self.level2, &mut self.host, &mut self.memory);
+        let step = work(level2, fault, &task, slices, host, memory)?;
+        let monitor = &mut self.monitor;
+        let judged = judge(monitor, questions, fault, tick, task.asked, step.answer);
         self.open1 = either(step.open_path, self.open1);
         self.open2 = either(either(judged.answers, judged.opens), self.open2);
-        self.trap = trap_after(self.trap, self.host.registers.state, self.ticks);
+        note_trap(&mut self.trap, self.host.registers.state, tick);
         let row = row(begins, &self.engine, &self.memory, step.found, judged);
         self.ticks += 1;
         self.lost = false;
@@ -296,14 +280,16 @@ fn either(first: bool, second: bool) -> bool
     first || second
 }
 
-/// Level 1's trap after a tick, by the trap before it and by the state of its machine.
+/// Notes level 1's trap after a tick, by the state of its machine, where there was none before.
 #[tactic(auto, unfolding(eg_model::specs::Rows::trap_in))]
-fn trap_after(before: Option<(Trap, u32)>, state: State, tick: u32) -> Option<(Trap, u32)>
-    ensures { result ≡ option_or before (trap_in state tick) }
+fn note_trap(trap: &mut Option<(Trap, u32)>, state: State, tick: u32)
+    ensures { trap.new ≡ option_or trap.old (trap_in state tick) }
 {
-    match (before, state) {
-        (None, State::Trapped(kind)) => Some((kind, tick)),
-        _ => before,
+    if trap.is_some() {
+        return;
+    }
+    if let State::Trapped(kind) = state {
+        *trap = Some((kind, tick));
     }
 }
 

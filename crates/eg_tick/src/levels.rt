@@ -1,5 +1,5 @@
 // The slices of level 1 and the modules of level 2, in turn over one memory.
-ghost use Rattle.std.specs.Prelude.{◌≡◌, ℕ, ◌+◌, ◌<◌, ◌==◌, ◌&&◌, ◌≤◌, length, slice_index, false, IsTrue, IsOk, OnOk, IfOk, IfSome};
+ghost use Rattle.std.specs.Prelude.{◌≡◌, ℕ, ◌+◌, ◌<◌, ◌==◌, ◌&&◌, ◌≤◌, length, slice_index, false, IsTrue, IsFalse, IsOk, OnOk, IfOk, IfSome, None};
 ghost use Rattle.std.specs.Option.{option_copied};
 ghost use Rattle.eg_guard.specs.Memory.{AreWords};
 ghost use Rattle.eg_word.specs.declared.registers.Registers.{Registers};
@@ -14,7 +14,7 @@ ghost use Rattle.eg_tick.specs.Midway.{Work, IsMidway, Meets, IsDue, step_at, ti
 use crate::Slices;
 use crate::board::flip;
 use eg_base::NoMemory;
-use eg_fault::{Fault, disturbance, level1_runs, module_runs};
+use eg_fault::{Fault, disturbance, fault_of_levels, level1_runs, module_runs};
 use eg_guard::Guarded;
 use eg_host::Host;
 use eg_level2::{Level2, Lookup, Step, Watches};
@@ -169,7 +169,8 @@ fn turn<M: CodeMemory>(
 
 /// The nine slices of level 1 and the eight modules of level 2 of a tick, in turn: after each slice but the
 /// last comes the module of its number (docs/CONCEPT.md, "A run, tick by tick"). Answers what the modules
-/// order, answer and find. The turns are written out, so that each is compiled for its own number.
+/// order, answer and find. Ticks at which no fault may change that have a shorter form.
+#[tactic(auto, unfolding(eg_agree::specs::Replies::IsAnyFault))]
 pub(crate) fn run_levels<M: CodeMemory>(
     level2: &Level2,
     fault: Option<&Fault>,
@@ -197,6 +198,43 @@ pub(crate) fn run_levels<M: CodeMemory>(
     ensures stays_sure { (M.shows memory.new).sure ≡ (M.shows memory.old).sure }
     ensures are_words { AreWords (M.shows memory.old).words → AreWords (M.shows memory.new).words }
 {
+    match fault_of_levels(fault, u32::from(tick)) {
+        None => run_turns::<M, false>(level2, None, tick, send, lookup, slices, host, memory),
+        some => run_turns::<M, true>(level2, some, tick, send, lookup, slices, host, memory),
+    }
+}
+
+/// The same in one of its two forms: compiled with what is asked of a fault at each turn, or without. The
+/// turns are written out, so that each is compiled for its own number.
+fn run_turns<M: CodeMemory, const FAULTY: bool>(
+    level2: &Level2,
+    fault: Option<&Fault>,
+    tick: u16,
+    send: bool,
+    lookup: &Lookup,
+    slices: &Slices,
+    host: &mut Host,
+    memory: &mut M,
+) -> Result<Step, NoMemory>
+    requires fault { IsAnyFault (option_copied fault) }
+    requires quiet { IsFalse FAULTY → option_copied fault ≡ None }
+    requires lookup { IsLookup level2.now.rules lookup.now }
+    requires mirrored { AreMirrored (M.shows memory.old).words }
+    requires within { AreWithin level2.now.rules (words_of (M.shows memory.old).words) }
+    ensures midway { (w : Work)
+        → IsDue level2.now (effects (option_copied fault.entry) tick) tick send slices.now w
+        → IsMidway w 0 0 host.old.registers (M.shows memory.old).words
+        → OnOk result (IsMidway w 9 8 host.new.registers (M.shows memory.new).words) }
+    ensures step { (w : Work)
+        → IsDue level2.now (effects (option_copied fault.entry) tick) tick send slices.now w
+        → IsMidway w 0 0 host.old.registers (M.shows memory.old).words
+        → IfOk result (λ step. step ≡ tick_step w.doing w.words) }
+    ensures nine { OnOk result (length slices.now ≡ 9) }
+    ensures sure { IsTrue (M.shows memory.old).sure → IsOk result }
+    ensures stays_sure { (M.shows memory.new).sure ≡ (M.shows memory.old).sure }
+    ensures are_words { AreWords (M.shows memory.old).words → AreWords (M.shows memory.new).words }
+{
+    let fault = acting::<FAULTY>(fault);
     let whole = quiet();
     let step = turn(level2, fault, tick, send, lookup, slices, 0, host, memory)?;
     let whole = joined(&whole, &step);
@@ -217,6 +255,15 @@ pub(crate) fn run_levels<M: CodeMemory>(
     let last = slices.budget_of(8);
     slice(level1_runs(fault, u32::from(tick)), host, memory, last)?;
     Ok(whole)
+}
+
+/// The fault that may act, in the form with a fault; in the other there is none.
+#[inline(always)]
+fn acting<const FAULTY: bool>(fault: Option<&Fault>) -> Option<&Fault>
+    requires { IsFalse FAULTY → option_copied fault ≡ None }
+    ensures { option_copied result ≡ option_copied fault.entry }
+{
+    if FAULTY { fault } else { None }
 }
 
 /// What is ordered, answered and found by a step and by the next.

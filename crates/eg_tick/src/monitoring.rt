@@ -52,9 +52,10 @@ pub(crate) fn question(
     }
 }
 
-/// Judges a tick at which this question was asked, and level 2 sends this answer, or none (docs/CONCEPT.md, "Questions and answers" and "A
-/// run, tick by tick"). The monitoring module hears the answer, and gives its verdict at the last tick of a
-/// period. A wild one hears nothing, gives no verdict, and may order path 2 open.
+/// Judges a tick at which this question was asked, and level 2 sends this answer, or none (docs/CONCEPT.md,
+/// "Questions and answers" and "A run, tick by tick"). The monitoring module hears the answer, and gives its
+/// verdict at the last tick of a period. A wild one hears nothing, gives no verdict, and may order path 2
+/// open.
 pub(crate) fn judge(
     monitor: &mut Monitor,
     questions: &Questions,

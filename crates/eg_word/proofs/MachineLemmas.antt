@@ -1,12 +1,11 @@
 -- What a step stores, and which words it leaves.
-use Rattle.std.proofs.Common.{◌≡◌, ◌≢◌, refl, sym, ap, ℕ, Bool, true, false, nat_lt, IsTrue, IsFalse, List, slice_index, arith}
+use Rattle.std.proofs.Common.{◌≡◌, ◌≢◌, refl, ap, ℕ, Bool, true, false, nat_lt, IsTrue, List}
 use Rattle.std.specs.Prelude.{Option, Some, None}
 use Rattle.std.proofs.lemmas.List.{get_or-set_other}
 use Rattle.eg_guard.specs.declared.regions.Who.TheVariants.{Level1}
 use Rattle.eg_guard.specs.declared.regions.Region.{Region}
 use Rattle.eg_guard.specs.declared.regions.Region.TheVariants.{Code, Data, InPorts, OutPorts, Results, Protected, Link, None as NoRegion}
-use Rattle.eg_guard.specs.declared.regions.Allowed.{Allowed}
-use Rattle.eg_guard.specs.Regions.{nothing, load_only, both, row, allows, access, region_of}
+use Rattle.eg_guard.specs.Regions.{allows, access, region_of}
 use Rattle.eg_guard.specs.Memory.{SameOutside}
 use Rattle.eg_word.specs.declared.registers.Trap.{Trap}
 use Rattle.eg_word.specs.declared.registers.State.{State}
@@ -14,7 +13,7 @@ use Rattle.eg_word.specs.declared.registers.State.TheVariants.{Running, Waiting,
 use Rattle.eg_word.specs.declared.registers.Registers.{Registers}
 use Rattle.eg_word.specs.declared.instruction.Instruction.{Instruction}
 use Rattle.eg_word.specs.declared.instruction.Instruction.TheVariants.{Nop, Ldi, Ldx, Mov, Add, Sub, And, Or, Xor, Shr, Mul, Ld, St, Jz, Jlt, Wait, Jr, Illegal}
-use Rattle.eg_word.specs.Machine.{Step, no_store, set, jump, trap, load_into, store_at, effect, fetch, step_in, step}
+use Rattle.eg_word.specs.Machine.{Step, no_store, trap, load_into, store_at, effect, fetch, step_in, step}
 use Rattle.eg_word.specs.Memory.{load_from, put, registers_after, words_after, is_level1_own}
 
 -- a load stores nothing

@@ -1,7 +1,6 @@
 -- What a step by the table keeps, as the contract of a step says it.
-use Rattle.std.proofs.Common.{Result, Ok, Err, OnOk, OnErr, ◌≡◌, ◌∙◌, sym, ap, ℕ, ◌+◌, ◌<◌, List, slice_index}
-use Rattle.eg_guard.specs.Regions.{region_of}
-use Rattle.eg_guard.specs.Memory.{AreWords, SameOutside}
+use Rattle.std.proofs.Common.{Result, Ok, Err, OnOk, OnErr, ◌≡◌, ◌∙◌, sym, ap, ℕ, List, slice_index}
+use Rattle.eg_guard.specs.Memory.{SameOutside}
 use Rattle.eg_word.specs.declared.registers.Trap.{Trap}
 use Rattle.eg_word.specs.declared.registers.State.TheVariants.{Running, Trapped}
 use Rattle.eg_word.specs.declared.registers.Registers.{Registers}

@@ -1,21 +1,21 @@
 -- A step over a guarded memory is a step of level 1's private world.
-use Rattle.std.proofs.Common.{◌≡◌, ◌≢◌, ◌⊎◌, ◌∙◌, refl, sym, ap, inl, inr, ℕ, ◌+◌, ◌-◌, ◌<◌, ◌≤◌, ◌==◌, if◌then◌else◌, Bool, true, false, IsTrue, List, take, drop, replicate, length, slice_index, slice_set, arith}
+use Rattle.std.proofs.Common.{◌≡◌, ◌⊎◌, ◌∙◌, refl, sym, ap, inl, inr, ℕ, ◌+◌, ◌-◌, ◌<◌, ◌≤◌, ◌==◌, if◌then◌else◌, true, List, take, drop, replicate, length, slice_index, slice_set, arith}
 use Rattle.std.specs.Prelude.{Option, Some, None}
 use Rattle.std.specs.List.{slice_range}
 use Rattle.std.proofs.Math.Path.{fun_ext}
 use Rattle.std.proofs.Math.Seq.{take-set-lt}
 use Rattle.std.proofs.lemmas.Grind.{same_number_lists}
-use Rattle.std.proofs.lemmas.List.{length-take, length-drop, get_or-set_same, get_or-set_other, get_or-take, get_or-drop, drop-set-add, drop-set-lt, take-set-le}
+use Rattle.std.proofs.lemmas.List.{length-take, length-drop, get_or-set_same, get_or-set_other, get_or-take, get_or-drop, drop-set-add, take-set-le}
 use Rattle.eg_guard.specs.declared.regions.Who.TheVariants.{Level1}
 use Rattle.eg_guard.specs.declared.regions.Region.{Region}
 use Rattle.eg_guard.specs.declared.regions.Region.TheVariants.{Code, Data, InPorts, OutPorts, Results, Protected, Link, None as NoRegion}
-use Rattle.eg_guard.specs.Regions.{nothing, load_only, both, row, allows, access, region_of}
+use Rattle.eg_guard.specs.Regions.{allows, access, region_of}
 use Rattle.eg_guard.specs.Memory.{AreWords, SameOutside}
 use Rattle.eg_guard.proofs.AccessLemmas.{code-span, data-span, in_ports-span, out_ports-span, results-span, code-is, data-is, in_ports-is, out_ports-is, results-is}
 use Rattle.eg_word.specs.declared.registers.Registers.{Registers}
 use Rattle.eg_word.specs.declared.registers.State.{State}
 use Rattle.eg_word.specs.declared.registers.State.TheVariants.{Running, Waiting, Trapped}
-use Rattle.eg_word.specs.Machine.{Step, step_in, step}
+use Rattle.eg_word.specs.Machine.{step_in, step}
 use Rattle.eg_word.specs.Memory.{load_from, put, registers_after, words_after, is_level1_own}
 use Rattle.eg_word.specs.World.{World, View, Shows, sight_in, sight, after_store_in, after_store, after_step, new_registers, new_world, world_of, world_step}
 use Rattle.eg_word.proofs.MachineLemmas.{IsAllowed, step-allowed}

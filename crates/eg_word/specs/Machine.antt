@@ -1,8 +1,7 @@
 -- What one step makes of level 1's machine: the table of instructions.
-use Rattle.std.specs.Prelude.{ℕ, ◌+◌, ◌-◌, ◌*◌, ◌/◌, ◌%◌, ◌^◌, ℤ, Bool, if◌then◌else◌, ◌==◌, nat_lt, slice_index, slice_set, bit_and, bit_or, bit_xor, Option, Some, None}
+use Rattle.std.specs.Prelude.{ℕ, ◌+◌, ◌-◌, ◌*◌, ◌/◌, ◌%◌, ◌^◌, ℤ, if◌then◌else◌, ◌==◌, nat_lt, slice_index, slice_set, bit_and, bit_or, bit_xor, Option, Some, None}
 use Rattle.std.specs.Int.{w16, cast_unsigned}
 use Rattle.eg_guard.specs.declared.regions.Who.TheVariants.{Level1}
-use Rattle.eg_guard.specs.declared.regions.Allowed.{Allowed}
 use Rattle.eg_guard.specs.Regions.{access}
 use Rattle.eg_word.specs.declared.registers.Trap.{Trap}
 use Rattle.eg_word.specs.declared.registers.Trap.TheVariants.{Fetch, Load, Store, Illegal as NoInstruction}

@@ -3,10 +3,9 @@ use Rattle.std.specs.Prelude.{ℕ, Bool, true, false, if◌then◌else◌, List,
 use Rattle.eg_guard.specs.declared.regions.Who.TheVariants.{Level1}
 use Rattle.eg_guard.specs.declared.regions.Region.{Region}
 use Rattle.eg_guard.specs.declared.regions.Region.TheVariants.{Data, OutPorts}
-use Rattle.eg_guard.specs.declared.regions.Allowed.{Allowed}
 use Rattle.eg_guard.specs.Regions.{access}
 use Rattle.eg_word.specs.declared.registers.Registers.{Registers}
-use Rattle.eg_word.specs.Machine.{Step, step}
+use Rattle.eg_word.specs.Machine.{step}
 
 -- the word that level 1 loads at an address, where it may
 unfoldable pub load_from : List ℕ → ℕ → Option ℕ

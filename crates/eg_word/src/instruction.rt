@@ -8,8 +8,8 @@ use crate::Register;
 /// An instruction of level 1's machine (docs/FORMATS.md, "Instructions").
 ///
 /// `r[a]` is the word in register `a`, and sums and products wrap. Where nothing else is said the next
-/// instruction follows. Distances `d` count from the next instruction. Numbers are as narrow as they can be, so
-/// that an instruction takes four bytes.
+/// instruction follows. Distances `d` count from the next instruction. Numbers are as narrow as they can be,
+/// so that an instruction takes four bytes.
 #[derive(Clone, Copy, Debug, PartialEq, Eq)]
 pub enum Instruction {
     /// Does nothing.

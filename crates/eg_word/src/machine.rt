@@ -164,20 +164,13 @@ fn execute<M: Guarded>(
         Instruction::And { a, b, c } => registers.set(a, registers.get(b) & registers.get(c)),
         Instruction::Or { a, b, c } => registers.set(a, registers.get(b) | registers.get(c)),
         Instruction::Xor { a, b, c } => registers.set(a, registers.get(b) ^ registers.get(c)),
-        Instruction::Shr { a, b, n } => registers.set(
-            a,
-            registers.get(b).wrapping_shr(u32::from(n)),
-        ),
+        Instruction::Shr { a, b, n } => registers.set(a, registers.get(b).wrapping_shr(n.into())),
         Instruction::Mul { a, b, c } => {
             registers.set(a, registers.get(b).wrapping_mul(registers.get(c)))
         }
         Instruction::Ld { a, b, n } => {
-            load(
-                registers,
-                memory,
-                a,
-                registers.get(b).wrapping_add(u16::from(n)),
-            )
+            let address = registers.get(b).wrapping_add(u16::from(n));
+            load(registers, memory, a, address)
         }
         Instruction::St { a, b, n } => {
             let address = registers.get(b).wrapping_add(u16::from(n));

@@ -17,8 +17,8 @@ returns-in_default-clause-plays g c =
     (subst (λ k. n ≤ k) (sym (ticks-one (run_with a.calibration.now a.input.now))) most) is
     (keeps_headline_alone a.calibration.now c.rules-rules.ensures.accepted a.input.now c.requires)
 
-pub returns-in_default-record_lines-clause-plays : goal.returns-in_default-record_lines-clause-plays
-returns-in_default-record_lines-clause-plays g c =
+pub returns-in_default-record_text-clause-plays : goal.returns-in_default-record_text-clause-plays
+returns-in_default-record_text-clause-plays g c =
     let a = c.args in
     no_lines _ _ (g.K.Sink.shows a.out.now) a.steps.now c.record_one.new.steps c.in-Ok.ensures.counted
     (keeps_headline_alone a.calibration.now c.rules-rules.ensures.accepted a.input.now c.requires)
@@ -27,9 +27,9 @@ pub returns-clause-plays : goal.returns-clause-plays
 returns-clause-plays g c =
     let a = c.args in
     let shows = g.K.Sink.shows in
-    let text : concat (map string_bytes c.deref.result.now) ≡ record_text a.calibration.now a.input.now =
-    ap (λ lines. concat (map string_bytes lines)) c.deref.ensures.value ∙ c.in-Ok-record_lines.ensures
+    let text : c.deref.result.now ≡ record_text a.calibration.now a.input.now =
+    c.deref.ensures.value ∙ c.in-Ok-record_text.ensures
     ∙ record_is a.calibration.now a.input.now c.as_slice.result.now (c.as_slice.ensures ∙ c.in-Ok.ensures.rows) in
-    put _ _ (shows a.out.now) (shows c.put_lines.new.out) a.steps.now c.record_one.new.steps c.put_lines.result c.in-Ok.ensures.counted
-    (subst (λ t. LineEnds t (shows a.out.now) (shows c.put_lines.new.out) c.put_lines.result) text c.put_lines.ensures.ends)
+    put _ _ (shows a.out.now) (shows c.put_text.new.out) a.steps.now c.record_one.new.steps c.put_text.result c.in-Ok.ensures.counted
+    (subst (λ t. LineEnds t (shows a.out.now) (shows c.put_text.new.out) c.put_text.result) text c.put_text.ensures.ends)
     (keeps_headline_alone a.calibration.now c.rules-rules.ensures.accepted a.input.now c.requires)

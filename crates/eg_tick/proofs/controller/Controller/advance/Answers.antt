@@ -45,7 +45,7 @@ judge-judged-requires-clause-later g c tame =
 
 -- ---- the tick that was made ----
 
-abbrev old : (g : Over) → goal.After-self-6-1 g → Kept
+abbrev old : (g : Over) → goal.After-self-5-1 g → Kept
 old g c = record {
   cal = c.self.inside.calibration;
   fault = c.self.inside.fault;
@@ -61,7 +61,7 @@ old g c = record {
   lost = c.self.inside.lost;
 }
 
-abbrev new : (g : Over) → goal.After-self-6-1 g → Kept
+abbrev new : (g : Over) → goal.After-self-5-1 g → Kept
 new g c = record {
   cal = c.self.inside.calibration;
   fault = c.self.inside.fault;
@@ -71,13 +71,13 @@ new g c = record {
   monitor = c.judge-judged.new.monitor;
   open1 = c.either-self-inside.result;
   open2 = c.either-self-inside-2.result;
-  trap = c.trap_after-self-inside.result;
+  trap = c.note_trap.new.trap;
   kt = g.E.Engine.kt c.step_engine.new.engine;
   shown = g.E.Engine.shows c.step_engine.new.engine;
   lost = false;
 }
 
-abbrev task : (g : Over) → goal.After-self-6-1 g → Task
+abbrev task : (g : Over) → goal.After-self-5-1 g → Task
 task g c = record {
   tick = c.self.inside.ticks;
   sends = c.sends.result;
@@ -86,7 +86,7 @@ task g c = record {
   lookup = c.look_up-lookup.result;
 }
 
-advance : (g : Over) (c : goal.After-self-6-1 g) → Advance (old g c) (new g c) c.args.drive.now c.args.slices.now c.self.inside.fault c.self.inside.level2
+advance : (g : Over) (c : goal.After-self-5-1 g) → Advance (old g c) (new g c) c.args.drive.now c.args.slices.now c.self.inside.fault c.self.inside.level2
     c.at.result (task g c) c.in_ok-step.step c.judge-judged.result
 advance g c =
     subst (λ under. Advance (old g c) (new g c) c.args.drive.now c.args.slices.now under c.self.inside.level2 c.at.result (task g c) c.in_ok-step.step c.judge-judged.result)
@@ -102,7 +102,7 @@ advance g c =
       tick = refl;
       sends = c.sends.ensures ∙ ap (λ times. sends_at (effects (option_copied c.as_ref-fault.result) c.self.inside.ticks) times c.self.inside.ticks) c.times.ensures.times;
       asked = c.question.ensures.number
-          ∙ ap (λ questions. asked_at (effects (option_copied c.as_ref-fault.result) c.self.inside.ticks) c.self.inside.monitor.times (length questions) c.self.inside.ticks) c.questions.ensures.questions;
+          ∙ ap (λ questions. asked_at (effects (option_copied c.as_ref-fault.result) c.self.inside.ticks) c.self.inside.monitor.times (length questions) c.self.inside.ticks) c.questions-questions.ensures.questions;
       readings = c.readings.ensures;
       served = c.in_ok-step.ensures.served;
       step = c.in_ok-step.ensures.step;
@@ -117,30 +117,30 @@ advance g c =
       kt = c.step_engine.ensures.kt;
       laws = c.step_engine.ensures.laws;
       off = c.step_engine.ensures.off;
-      trap = c.trap_after-self-inside.ensures;
+      trap = c.note_trap.ensures;
       not_lost = refl;
     })
 
-abbrev entry : (g : Over) → goal.After-self-6-1 g → Entry
+abbrev entry : (g : Over) → goal.After-self-5-1 g → Entry
 entry g c = entry_of c.args.drive.now c.args.slices.now (g.E.Engine.shows c.step_engine.new.engine)
 
 -- what the controller stood for, by its parts
-was : (g : Over) (c : goal.After-self-6-1 g) (s : Setting) (h : List Entry) → Stands s c.args.self.now.kept h → Stands s (old g c) h
+was : (g : Over) (c : goal.After-self-5-1 g) (s : Setting) (h : List Entry) → Stands s c.args.self.now.kept h → Stands s (old g c) h
 was g c s h = subst (λ v. Stands s v h) (sym (ap (λ v. v.kept) c.self.view_is))
 
-goes : (g : Over) (c : goal.After-self-6-1 g) (s : Setting) (h : List Entry) → Stands s (old g c) h → Stands s (new g c) (entry g c ∷ h)
+goes : (g : Over) (c : goal.After-self-5-1 g) (s : Setting) (h : List Entry) → Stands s (old g c) h → Stands s (new g c) (entry g c ∷ h)
 goes g c = λ s h. of_setting (λ t. Stands t (new g c) (entry g c ∷ h)) (old g c) h
     (λ image so. next_stands _ (entry g c) h (old g c) (new g c) _ _ so (makes (old g c) (new g c) _ _ _ _ (task g c) _ _ (advance g c) image h so)) s
 
-stood : (g : Over) (c : goal.After-self-6-1 g) (s : Setting) (h : List Entry) → Stands s c.args.self.now.kept h → Stands s (new g c) (entry g c ∷ h)
+stood : (g : Over) (c : goal.After-self-5-1 g) (s : Setting) (h : List Entry) → Stands s c.args.self.now.kept h → Stands s (new g c) (entry g c ∷ h)
 stood g c s h stands = goes g c s h (was g c s h stands)
 
-still : (g : Over) (c : goal.After-self-6-1 g) → IsController (new g c)
+still : (g : Over) (c : goal.After-self-5-1 g) → IsController (new g c)
 still g c =
     let some = c.self.invariant.keeps.stands c.if-self.false in
     record { accepted = c.self.invariant.keeps.accepted; fault = c.self.invariant.keeps.fault; stands = λ held. (some.0, entry g c ∷ some.1, goes g c _ some.1 some.2); unsure = λ gone. absurd (let clash : false ≡ true = gone in cc) }
 
-steps : (g : Over) (c : goal.After-self-6-1 g) → g.E.Engine.steps c.args.self.now.engine (slice_index (g.M.Guarded.shows c.self.inside.memory).words 2064)
+steps : (g : Over) (c : goal.After-self-5-1 g) → g.E.Engine.steps c.args.self.now.engine (slice_index (g.M.Guarded.shows c.self.inside.memory).words 2064)
     (slice_index (g.M.Guarded.shows c.self.inside.memory).words 2065) c.at.result.on (effects c.self.inside.fault c.self.inside.ticks).held c.step_engine.new.engine
 steps g c =
     let words = (g.M.Guarded.shows c.self.inside.memory).words in

@@ -1,9 +1,12 @@
-use Rattle.std.proofs.Common.{◌∙◌}
+use Rattle.std.proofs.Common.{◌∙◌, sym, subst}
+use Rattle.eg_fault.specs.Faults.{effects}
+use Rattle.eg_tick.specs.Midway.{IsDue}
 use Rattle.eg_tick.proofs.StepLemmas.{steps-begin, steps-more, steps-all}
-use Rattle.eg_tick.proofs.levels.run_levels.Goals as goal
+use Rattle.eg_tick.proofs.levels.run_turns.Goals as goal
 
 pub returns-clause-step : goal.returns-clause-step
-returns-clause-step g c w due is =
+returns-clause-step g c w told is =
+    let due = subst (λ f. IsDue c.args.level2.now (effects f c.args.tick) c.args.tick c.args.send c.args.slices.now w) (sym c.acting-fault.ensures) told in
     let begun = c.quiet-whole.ensures ∙ steps-begin w.doing w.words in
     let steps-1 = c.joined-whole.ensures ∙ steps-more w.doing w.words 0 _ _ begun (c.in_ok-step.ensures.step w due is) in
     let midway-1 = c.in_ok-step.ensures.midway w due is in

@@ -1,0 +1,7 @@
+use Rattle.std.proofs.Common.{append_assoc}
+use Rattle.eg_record.specs.Texts.{command_columns}
+use Rattle.eg_record.proofs.row_line.put_commands.Goals as goal
+
+pub returns-clause-put : goal.returns-clause-put
+unfolding command_columns
+returns-clause-put c = simp (c.put_number.ensures.put, c.put_number-start.ensures.put, c.from-2.ensures, c.from.ensures, append_assoc)

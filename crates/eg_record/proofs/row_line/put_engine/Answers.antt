@@ -1,0 +1,17 @@
+use Rattle.std.proofs.Common.{append_assoc}
+use Rattle.eg_record.specs.Texts.{engine_columns}
+use Rattle.eg_record.proofs.row_line.put_engine.Goals as goal
+
+pub returns-clause-put : goal.returns-clause-put
+unfolding engine_columns
+returns-clause-put c = simp (
+  c.put_number.ensures.put,
+  c.put_number-start-3.ensures.put,
+  c.put_number-start-2.ensures.put,
+  c.put_number-start.ensures.put,
+  c.from-4.ensures,
+  c.from-3.ensures,
+  c.from-2.ensures,
+  c.from.ensures,
+  append_assoc,
+)
