@@ -1,5 +1,5 @@
 -- The number that is sent has the mark of the model's tick, under every fault.
-use Rattle.std.proofs.Common.{◌≡◌, ℕ, suc, ◌+◌, ◌≤◌, ◌<◌, ◌⊎◌, inl, inr, Bool, true, false, not, ◌&&◌, ◌||◌, List, [], ◌∷◌, length, refl, sym, ap, subst, ◌∙◌, arith, Option, Some, None, is_some}
+use Rattle.std.proofs.Common.{◌≡◌, ℕ, ◌+◌, ◌≤◌, ◌<◌, ◌⊎◌, inl, inr, Bool, true, false, not, ◌&&◌, ◌||◌, List, [], ◌∷◌, length, refl, sym, ap, subst, ◌∙◌, arith, Option, Some, None, is_some}
 use Rattle.std.specs.Prelude.{if◌then◌else◌, ◌==◌}
 use Rattle.std.proofs.lemmas.Bool.{and_parts, or_parts, or_from, not-true, cases_lt, eq-eqb, ne_eqb, eqb-true, and_left}
 use Rattle.std.proofs.Math.Nat.{mod-lt, mod-eq_of_lt}
@@ -29,6 +29,7 @@ use Rattle.eg_model.specs.Premises.{Follows}
 use Rattle.eg_model.proofs.TickLemmas.{tripped-cons, moment-whole}
 use Rattle.eg_agree.specs.Doings.{doing_at}
 use Rattle.eg_agree.specs.Replies.{doing_after, words_over, answer_from_power_on, TellTrips, IsReady, FlowMarks, AnswersHold, AnswersHoldFromPowerOn, RestsBetweenAnswers, moment_after, number_expected, mark_of, IsAnyFault, is_flipped, RanTogether, ReactRan, has_just_answered, KeepsFlow}
+use Rattle.eg_agree.proofs.TickLemmas.{length-ticks}
 use Rattle.eg_agree.proofs.ReplyShapes.{shape, LeavesOneOut, few_are_disturbed}
 use Rattle.eg_agree.proofs.ReplySteps.{whole_same, undisturbed_same, sent_same, mark-is, keeps_next, keeps_start}
 
@@ -312,11 +313,6 @@ answers_hold s accepted fault start x h follows small told =
     })
 
 -- a history from power-on has its own faults' effects
-pub length-ticks : (s : Setting) (h : List Entry) → length (ticks s h) ≡ length h
-unfolding ticks
-length-ticks s [] = refl
-length-ticks s (e ∷ h) = ap suc (length-ticks s h)
-
 pub ticks_follow : (s : Setting) (h : List Entry) → Follows s.fault 0 (ticks s h)
 unfolding ticks Follows
 ticks_follow s [] = tt

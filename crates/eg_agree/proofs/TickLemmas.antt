@@ -337,7 +337,7 @@ tick_law s accepted h x e checks w keeps =
     at-number s x e w past (length h) (length-moments s h)
     (is_tick s accepted x e past (mirror_trips s h) checks w keeps)
 
-length-ticks : (s : Setting) (h : List Entry) → length (ticks s h) ≡ length h
+pub length-ticks : (s : Setting) (h : List Entry) → length (ticks s h) ≡ length h
 unfolding ticks
 length-ticks s [] = refl
 length-ticks s (e ∷ h) = ap suc (length-ticks s h)

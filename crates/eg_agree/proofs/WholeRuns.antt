@@ -1,11 +1,9 @@
 -- Level 2 and the model agree over whole runs.
-use Rattle.std.proofs.Common.{◌≡◌, ℕ, Bool, true, false, List, [], ◌∷◌, length, refl, ap, ◌∙◌}
+use Rattle.std.proofs.Common.{◌≡◌, ℕ, Bool, true, false, [], ◌∷◌, length, refl, ap, ◌∙◌}
 use Rattle.std.specs.Prelude.{if◌then◌else◌}
 use Rattle.eg_level2.specs.Words.{Words, start}
-use Rattle.eg_level2.specs.Inputs.{Inputs}
 use Rattle.eg_level2.specs.Modules.{check_step, given_up, pedal_step, permitted_step, actual_step, excess_step, pairs_step, debounce_step, react_step, module_step}
 use Rattle.eg_flow.specs.Ticks.{Doing, inputs_for, after_module, after_modules, after_tick}
-use Rattle.eg_model.specs.History.{Setting, Tick}
 use Rattle.eg_model.specs.Moments.{ticks}
 use Rattle.eg_agree.specs.Doings.{doing_at}
 use Rattle.eg_agree.specs.Replies.{doing_after, words_over}

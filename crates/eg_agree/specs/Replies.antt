@@ -1,20 +1,20 @@
 -- What level 2 answers over a history, against the answers of the model: its modules run one after another,
 -- from the start on, and the number that it sends is compared with the number that the monitoring module
 -- expects.
-use Rattle.std.specs.Prelude.{◌≡◌, ℕ, ◌^◌, ◌<◌, ◌==◌, ◌⊎◌, Bool, true, false, is_some, List, [], ◌∷◌, length, All, Option, Some, None, if◌then◌else◌}
+use Rattle.std.specs.Prelude.{◌≡◌, ℕ, ◌<◌, ◌==◌, ◌⊎◌, Bool, true, false, is_some, List, [], ◌∷◌, length, Option, Some, None, if◌then◌else◌}
 use Rattle.std.specs.List.{list_any}
 use Rattle.eg_answer.specs.Answers.{answer_number}
 use Rattle.eg_answer.specs.Questions.{question_at}
 use Rattle.eg_answer.specs.declared.marks.AnswerMark.{AnswerMark}
 use Rattle.eg_answer.specs.declared.marks.AnswerMark.TheVariants.{Absent, Good, Bad}
-use Rattle.eg_values.specs.Calibration.{CalibrationParts, IsAccepted}
+use Rattle.eg_values.specs.Calibration.{IsAccepted}
 use Rattle.eg_level2.specs.Words.{Words, is_set, start}
 use Rattle.eg_fault.specs.Effects.{Effects, asked_at}
 use Rattle.eg_fault.specs.Faults.{effects, IsValid}
 use Rattle.eg_fault.specs.Running.{AllRun, NoneRuns}
 use Rattle.eg_fault.specs.declared.class.Fault.{Fault}
 use Rattle.eg_flow.specs.Ticks.{Doing, after_tick, answer_at}
-use Rattle.eg_flow.specs.Flow.{row_asked, FitsWords, IsSteady}
+use Rattle.eg_flow.specs.Flow.{IsSteady}
 use Rattle.eg_flow.specs.Laws.{at_react}
 use Rattle.eg_model.specs.History.{Setting, Entry, Tick, Moment}
 use Rattle.eg_model.specs.Signals.{tripped}

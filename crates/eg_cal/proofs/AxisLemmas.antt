@@ -7,31 +7,15 @@ use native.Mathlib.Numerals.{unary_clauses}
 use Rattle.eg_num.specs.Interpolation.{IsAxis}
 use Rattle.eg_cal.specs.declared.key.CalKey.{CalKey}
 use Rattle.eg_cal.specs.declared.key.CalFault.TheVariants as fault
-use Rattle.eg_cal.specs.Checks.{is_rising, axis_fault}
-
-pub lt-true : (x y : ℕ) → x < y → nat_lt x y ≡ true
-lt-true x y h = grind (arith, nat_tests)
-
-pub true-lt : (x y : ℕ) → nat_lt x y ≡ true → x < y
-true-lt x y h = grind (arith, nat_tests)
+use Rattle.eg_toml.specs.Arrays.{is_rising}
+use Rattle.eg_toml.proofs.RisingLemmas.{rising-true, true-rising}
+use Rattle.eg_cal.specs.Checks.{axis_fault}
 
 pub le-true : (x y : ℕ) → x ≤ y → nat_le x y ≡ true
 le-true x y h = grind (arith, nat_tests)
 
 pub true-le : (x y : ℕ) → nat_le x y ≡ true → x ≤ y
 true-le x y h = grind (arith, nat_tests)
-
--- the test says that the points strictly rise
-pub rising-true : (xs : List ℕ) → IsStrictlyIncreasing xs → is_rising xs ≡ true
-rising-true [] h = refl
-rising-true (x ∷ []) h = refl
-rising-true (x ∷ y ∷ ys) h = rw (lt-true x y (h 0 (omega arith)), rising-true (y ∷ ys) (λ k below. simp unary_clauses (simp unary_clauses at (h (suc k) (omega arith)))))
-
-pub true-rising : (xs : List ℕ) → is_rising xs ≡ true → IsStrictlyIncreasing xs
-true-rising [] h k below = absurd (omega arith)
-true-rising (x ∷ []) h k below = absurd (omega arith)
-true-rising (x ∷ y ∷ ys) h zero below = true-lt x y (and_parts (nat_lt x y) (is_rising (y ∷ ys)) h).0
-true-rising (x ∷ y ∷ ys) h (suc k) below = simp unary_clauses (simp unary_clauses at (true-rising (y ∷ ys) (and_parts (nat_lt x y) (is_rising (y ∷ ys)) h).1 k (omega arith)))
 
 -- points that are an axis have no fault
 pub axis-accepted : (key : CalKey) (o : Option (List ℕ)) (points axis : List ℕ) → Some points ≡ o → IsAxis points → axis ≡ points → (axis_fault key o ≡ None) × (axis ≡ unwrap_or o [])

@@ -11,9 +11,11 @@ use Rattle.eg_cal.specs.declared.key.CalFault.{CalFault}
 use Rattle.eg_cal.specs.Keys.{Content, number, axis, values, grid, questions, nothing}
 use Rattle.eg_cal.specs.Faults.{unless_some}
 use Rattle.eg_cal.specs.Contents.{value_of, point_count, read_questions}
-use Rattle.eg_cal.specs.Checks.{is_rising, axis_fault, content_fault}
+use Rattle.eg_toml.specs.Arrays.{is_rising}
+use Rattle.eg_cal.specs.Checks.{axis_fault, content_fault}
 use Rattle.eg_cal.specs.Held.{number_items, row_items, AreNumbers, IsNumber, IsAxisArray, IsNumberArray, IsRowArray, Holds}
-use Rattle.eg_cal.proofs.AxisLemmas.{le-true, true-le, rising-true, true-rising}
+use Rattle.eg_toml.proofs.RisingLemmas.{rising-true, true-rising}
+use Rattle.eg_cal.proofs.AxisLemmas.{le-true, true-le}
 
 -- ---- integers
 

@@ -11,7 +11,8 @@ use Rattle.eg_answer.specs.Questions.{question_at, no_question}
 use Rattle.eg_answer.specs.declared.rules.Rules.{Rules}
 use Rattle.eg_answer.specs.declared.questions.Question.{Question}
 use Rattle.eg_cal.specs.declared.key.CalFault.TheVariants as fault
-use Rattle.eg_cal.proofs.AxisLemmas.{lt-true, true-lt, le-true, true-le, not-true}
+use Rattle.eg_toml.proofs.RisingLemmas.{lt-true, true-lt}
+use Rattle.eg_cal.proofs.AxisLemmas.{le-true, true-le, not-true}
 use Rattle.eg_cal.specs.Calibration.{first_from, falls, falling_row, is_window, window_fault, is_wrong, wrong_answer}
 
 -- ---- a search for the first number that passes

@@ -1,18 +1,13 @@
 -- The first key of a calibration file that has a fault.
 use Rattle.std.specs.Prelude.{ℕ, nat_lt, ◌&&◌, Bool, true, List, [], ◌∷◌, Option, Some, None, if◌then◌else◌}
 use Rattle.toml.specs.Data.{Members}
+use Rattle.eg_toml.specs.Arrays.{is_rising}
 use Rattle.eg_cal.specs.declared.key.CalKey.{CalKey}
 use Rattle.eg_cal.specs.declared.key.CalFault.{CalFault}
 use Rattle.eg_cal.specs.declared.key.CalFault.TheVariants.{Key, Axis}
 use Rattle.eg_cal.specs.Keys.{Content, number, axis, values, grid, questions, nothing, content_of}
 use Rattle.eg_cal.specs.Faults.{or_else, unless_some}
 use Rattle.eg_cal.specs.Contents.{read_number, read_numbers, read_rows, read_questions, point_count}
-
--- each number is less than the next one
-abbrev pub is_rising : List ℕ → Bool
-is_rising [] = true
-is_rising (x ∷ []) = true
-is_rising (x ∷ y ∷ ys) = nat_lt x y && is_rising (y ∷ ys)
 
 -- the fault of an axis: it is no array of 2 to 16 numbers in range, or else its points don't strictly rise
 abbrev pub axis_fault : CalKey → Option (List ℕ) → Option CalFault

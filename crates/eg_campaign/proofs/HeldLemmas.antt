@@ -7,7 +7,7 @@ use Rattle.std.proofs.lemmas.Bool.Decides.{nat_tests}
 use Rattle.std.proofs.lemmas.List.Elements.{All-nil, All-cons}
 use Rattle.toml.specs.Data.{Data, Members, Items, no_items, item, get_member, as_str, as_integer, as_bool, as_array}
 use Rattle.eg_toml.specs.Values.{number_in, number_at, ◌>>=◌}
-use Rattle.eg_toml.specs.Arrays.{count, append_read, all_read, one, items_in, array_in, numbers_in}
+use Rattle.eg_toml.specs.Arrays.{count, append_read, all_read, one, items_in, array_in, numbers_in, is_rising}
 use Rattle.eg_toml.proofs.RangeLemmas.{bind-some, if-some, number_in-within, array_in-All, numbers_in-within}
 use Rattle.eg_fault.specs.Faults.{AreFew, IsOffset}
 use Rattle.eg_campaign.specs.declared.key.RunKey.{RunKey}
@@ -16,9 +16,9 @@ use Rattle.eg_campaign.specs.declared.key.CampaignFault.TheVariants.{Key}
 use Rattle.eg_campaign.specs.Keys.{◌holds◌, run_name, file_name, slice_rows, number, optional, shift, words, ticks, truths, text_of}
 use Rattle.eg_campaign.specs.Checks.{key_refusal}
 use Rattle.eg_campaign.specs.Refusals.{unless_some}
-use Rattle.eg_campaign.specs.Contents.{is_plain, is_in_name, is_run_name, is_file_name, when, text_at, is_budget, slice_row, slices_in, usual_slices, read_or, slices_at, optional_at, is_shift, shift_in, shift_at, words_at, is_rising, ticks_in, ticks_at, truths_in, truths_at, bytes_of, rows_of, number_of, shift_of, numbers_of, truths_of}
+use Rattle.eg_campaign.specs.Contents.{is_plain, is_in_name, is_run_name, is_file_name, when, text_at, is_budget, slice_row, slices_in, usual_slices, read_or, slices_at, optional_at, is_shift, shift_in, shift_at, words_at, ticks_in, ticks_at, truths_in, truths_at, bytes_of, rows_of, number_of, shift_of, numbers_of, truths_of}
 use Rattle.eg_campaign.specs.Rules.{IsLetter, IsDigit, IsInName, IsRunName, IsFileName, IsSliceRow, IsSlicePlan}
-use Rattle.eg_campaign.proofs.RisingLemmas.{true-rising}
+use Rattle.eg_toml.proofs.RisingLemmas.{true-rising}
 
 -- where a key has no refusal, its value is what was read
 pub held : {X : Type 0} (P : X → Type 0) (f : CampaignFault) (o : Option X) (d : X) → ((x : X) → o ≡ Some x → P x) → unless_some f o ≡ None → P (unwrap_or o d)

@@ -1,4 +1,3 @@
-pub mod RisingLemmas
 pub mod TableLemmas
 pub mod HeldLemmas
 pub mod RuleLemmas

@@ -3,7 +3,7 @@ use Rattle.std.specs.Prelude.{ℕ, ℤ, pos, negsuc, ◌==◌, ◌&&◌, ◌||�
 use Rattle.std.specs.List.{sum, list_all}
 use Rattle.toml.specs.Data.{Data, Members, get_member, as_str, as_integer, as_bool}
 use Rattle.eg_toml.specs.Values.{number_in, number_at, ◌>>=◌}
-use Rattle.eg_toml.specs.Arrays.{numbers_in, array_in, one}
+use Rattle.eg_toml.specs.Arrays.{numbers_in, array_in, one, is_rising}
 use Rattle.eg_campaign.specs.Keys.{Content, run_name, file_name, slice_rows, number, optional, shift, words, ticks, truths, KeyRule, text_of}
 
 -- ---- texts ----
@@ -83,12 +83,6 @@ shift_at key ms = get_member key ms >>= shift_in
 -- the 1 to 64 numbers of one word under a key
 abbrev pub words_at : List ℕ → Members → Option (List ℕ)
 words_at key ms = get_member key ms >>= numbers_in 1 64 65535
-
--- each number is more than the one before it
-abbrev pub is_rising : List ℕ → Bool
-is_rising [] = true
-is_rising (x ∷ []) = true
-is_rising (x ∷ y ∷ ys) = nat_lt x y && is_rising (y ∷ ys)
 
 -- an array of 1 to 64 rising numbers up to 19999
 abbrev pub ticks_in : Data → Option (List ℕ)

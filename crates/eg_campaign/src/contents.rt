@@ -6,11 +6,11 @@ ghost use Rattle.arrayvec.specs.ArrayVec.{array_vec_len};
 ghost use Rattle.toml.specs.Data.{as_bool};
 ghost use Rattle.toml.specs.View.{view, table_view, items_view};
 ghost use Rattle.eg_toml.specs.Values.{number_at};
-ghost use Rattle.eg_toml.specs.Arrays.{all_read, one, HasRead};
+ghost use Rattle.eg_toml.specs.Arrays.{all_read, is_rising, one, HasRead};
 ghost use Rattle.eg_campaign.specs.declared.key.CampaignFault.TheVariants.{Key};
 ghost use Rattle.eg_campaign.specs.Keys.{text_of};
 ghost use Rattle.eg_campaign.specs.Refusals.{Checks, unless_some};
-ghost use Rattle.eg_campaign.specs.Contents.{optional_at, is_shift, shift_in, shift_at, words_at, is_rising, ticks_in, ticks_at, truths_in, truths_at};
+ghost use Rattle.eg_campaign.specs.Contents.{optional_at, is_shift, shift_in, shift_at, words_at, ticks_in, ticks_at, truths_in, truths_at};
 
 use crate::{CampaignFault, RunKey};
 use arrayvec::ArrayVec;

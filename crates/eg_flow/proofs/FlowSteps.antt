@@ -62,7 +62,7 @@ last_step d (suc (suc (suc (suc (suc zero))))) w h = same_part (λ (w : Words). 
 last_step d (suc (suc (suc (suc (suc (suc zero)))))) w h = same_part (λ (w : Words). w.last) (d.ran 7) _ w refl
 last_step d (suc (suc (suc (suc (suc (suc (suc i))))))) w h = absurd (omega arith)
 
-last-checked : (d : Doing) (w : Words) (n : ℕ) → n ≤ 7 → (after_modules d (suc n) w).last ≡ (after_module d 0 w).last
+pub last-checked : (d : Doing) (w : Words) (n : ℕ) → n ≤ 7 → (after_modules d (suc n) w).last ≡ (after_module d 0 w).last
 unfolding after_modules
 last-checked d w zero h = refl
 last-checked d w (suc n) h = last_step d n (after_modules d (suc n) w) (omega arith) ∙ last-checked d w n (omega arith)

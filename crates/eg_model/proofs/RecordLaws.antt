@@ -250,27 +250,26 @@ row_on r t = unfold row_at row_of is_on_after tick_at in
     ap (λ past. (moment r.setting (effects r.setting.fault t) (entry_at r t (moments_to r t)) past).on)
     (moments-are r t)
 
--- the ticks from tick n on, on top of those before it
-pub record Cut (r : Run) (n t : ℕ) : Type 0 where
-  pub more : List Tick
-  pub whole : more ++ ticks_to r n ≡ ticks_to r t
+-- a list that grows by one at each step: what came from step n on, on top of what was there
+pub record Cut {X : Type 0} (all : ℕ → List X) (n t : ℕ) : Type 0 where
+  pub more : List X
+  pub whole : more ++ all n ≡ all t
   pub size : length more + n ≡ t
 
-cut_at : (r : Run) (n t : ℕ) → n ≤ t → Cut r n t
-cut_at r n zero l = record {
+pub cut_at : {X : Type 0} (all : ℕ → List X) (at : ℕ → X) → ((t : ℕ) → all (suc t) ≡ at t ∷ all t) → (n t : ℕ) → n ≤ t → Cut all n t
+cut_at all at grows n zero l = record {
   more = [];
-  whole =
-      ap (ticks_to r) (none n l);
+  whole = ap all (none n l);
   size = (let z = none n l in omega arith);
 }
   where
     none : (n : ℕ) → n ≤ 0 → n ≡ 0
     none n l = omega arith
-cut_at r n (suc t) l = elim (now_or_before n t l) [
-  | inl now ↦ record { more = []; whole = ap (ticks_to r) now; size = omega (arith, now) }
-  | inr before ↦ (let c = cut_at r n t before in record {
-    more = tick_at r t ∷ c.more;
-    whole = ap (λ k. tick_at r t ∷ k) c.whole ∙ sym (ticks_to-suc r t);
+cut_at all at grows n (suc t) l = elim (now_or_before n t l) [
+  | inl now ↦ record { more = []; whole = ap all now; size = omega (arith, now) }
+  | inr before ↦ (let c = cut_at all at grows n t before in record {
+    more = at t ∷ c.more;
+    whole = ap (λ k. at t ∷ k) c.whole ∙ sym (grows t);
     size = (let z = c.size in omega arith);
   })
 ]
@@ -311,8 +310,8 @@ pub runs_react : RunsReact
 runs_react r run listed c t confirmed late = row_on r t
     ∙ subst (λ h. is_on_after r.setting h (tick_at r t) ≡ false) cut.whole off
   where
-    cut : Cut r (c + 1) t
-    cut = cut_at r (c + 1) t (omega (arith, late, some_ticks))
+    cut : Cut (ticks_to r) (c + 1) t
+    cut = cut_at (ticks_to r) (tick_at r) (ticks_to-suc r) (c + 1) t (omega (arith, late, some_ticks))
       where
         some_ticks : 1 ≤ reaction_of r.setting.cal.times
         some_ticks = reaction_least r.setting.cal.times run.accepted.times run.accepted.answers
@@ -330,8 +329,8 @@ pub runs_react_at_once : RunsReactAtOnce
 runs_react_at_once r run listed c t confirmed soon late = row_on r t
     ∙ subst (λ h. is_on_after r.setting h (tick_at r t) ≡ false) cut.whole off
   where
-    cut : Cut r (c + 1) t
-    cut = cut_at r (c + 1) t (omega arith)
+    cut : Cut (ticks_to r) (c + 1) t
+    cut = cut_at (ticks_to r) (tick_at r) (ticks_to-suc r) (c + 1) t (omega arith)
 
     zero_plus : (a b : ℕ) → a ≡ b → b ≡ 0 + a
     zero_plus a b e = omega arith

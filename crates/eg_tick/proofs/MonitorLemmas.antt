@@ -29,6 +29,7 @@ use Rattle.eg_model.specs.Moments.{moment, moments_of, ticks, moments, next}
 use Rattle.eg_model.proofs.TickLemmas.{length-moments, moment-tick, moment-verdict, moment-answers, moment-opens}
 use Rattle.eg_model.proofs.ClassLemmas.{early_is_none}
 use Rattle.eg_agree.specs.Replies.{number_expected, mark_of}
+use Rattle.eg_agree.proofs.TickLemmas.{length-ticks}
 use Rattle.eg_agree.proofs.ReplyLaws.{number_expected-usual}
 use Rattle.eg_tick.specs.Stands.{was_wild, IsOrderly, HoldsMonitor, Stands}
 use Rattle.eg_tick.specs.Kept.{Kept}
@@ -101,11 +102,6 @@ heard_below n t [] all = All-nil (λ answer. answer.tick < t)
 heard_below n t (answer ∷ before) all =
     All-cons (λ answer. answer.tick < t) answer before (All-head (λ answer. answer.tick < t) _ (map (marked n) before) all)
     (heard_below n t before (All-tail (λ answer. answer.tick < t) _ (map (marked n) before) all))
-
-length-ticks : (s : Setting) (h : List Entry) → length (ticks s h) ≡ length h
-unfolding ticks
-length-ticks s [] = refl
-length-ticks s (e ∷ h) = ap suc (length-ticks s h)
 
 -- What a tick asks of a module that isn't wild at it: it has given the verdicts of the periods that are over,
 pub orderly_period : (s : Setting) (monitor : MonitorParts) (h : List Entry) → HoldsMonitor s monitor h → (effects s.fault (length h)).wild ≡ None →

@@ -20,7 +20,7 @@ use Rattle.eg_model.specs.Moments.{moment, moments_of, moments, ticks}
 use Rattle.eg_model.specs.Bench.{Run, no_drive, drive_at, entry_at, moments_to, entries_to}
 use Rattle.eg_model.specs.Rows.{row_of, rows_of, record_rows}
 use Rattle.eg_model.specs.Records.{IsRun, row_at, rows_to}
-use Rattle.eg_model.proofs.RecordLaws.{length-entries, records_are_histories, records_are_rows, runs_react_at_once}
+use Rattle.eg_model.proofs.RecordLaws.{Cut, cut_at, length-entries, records_are_histories, records_are_rows, runs_react_at_once}
 use Rattle.eg_model.proofs.LapseLaw.{cuts_lapses, lapses_are_short}
 use Rattle.eg_tick.specs.Run.{IsRecordOf, ReactAtOnce, ExceedLast, CutLapses, LapsesAreShort}
 
@@ -175,24 +175,6 @@ row_on : (r : Run) (t : ℕ) → (row_at r t).on ≡ is_on_after r.setting (Tick
 row_on r t = unfold row_at row_of is_on_after tick_at in
     ap (λ past. (moment r.setting (effects r.setting.fault t) (entry_at r t (moments_to r t)) past).on) (moments-are r t)
 
--- the ticks from tick k on, on top of those before it
-record Cut (r : Run) (k t : ℕ) : Type 0 where
-  pub more : List Tick
-  pub whole : more ++ TicksTo r k ≡ TicksTo r t
-
-cut_at : (r : Run) (k t : ℕ) → k ≤ t → Cut r k t
-cut_at r k zero l = record { more = []; whole = ap (TicksTo r) (none k l) }
-  where
-    none : (k : ℕ) → k ≤ 0 → k ≡ 0
-    none k l = omega arith
-cut_at r k (suc t) l = elim (now_or_before k t l) [
-  | inl now ↦ record { more = []; whole = ap (TicksTo r) now }
-  | inr before ↦ (let c = cut_at r k t before in record {
-    more = tick_at r t ∷ c.more;
-    whole = ap (λ h. tick_at r t ∷ h) c.whole ∙ sym (ticks-suc r t);
-  })
-]
-
 off_after : (r : Run) (k t : ℕ) → k ≤ t → AreProper r.setting (TicksTo r t) → OffFrom r.setting 0 (TicksTo r k) 1 →
     (row_at r t).on ≡ false
 off_after r k t l proper off = row_on r t ∙ subst (λ h. is_on_after r.setting h (tick_at r t) ≡ false) cut.whole
@@ -201,8 +183,8 @@ off_after r k t l proper off = row_on r t ∙ subst (λ h. is_on_after r.setting
     (subst (Follows r.setting.fault 0) (ticks-suc r t) (follow r (suc t))))
     (subst (AreProper r.setting) (sym cut.whole) proper) (omega arith))
   where
-    cut : Cut r k t
-    cut = cut_at r k t l
+    cut : Cut (TicksTo r) k t
+    cut = cut_at (TicksTo r) (tick_at r) (ticks-suc r) k t l
 
 exceed : (r : Run) (n : ℕ) (before : List Row) → before ≡ rows_to r (length before) →
     ExceedLast r.setting.cal.rules.threshold n before → Exceeds r.setting n (TicksTo r (length before))

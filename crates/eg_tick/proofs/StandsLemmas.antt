@@ -21,7 +21,7 @@ use Rattle.eg_model.specs.Rows.{row_of, signal_list, first_trap, trap_in}
 use Rattle.eg_model.proofs.TickLemmas.{length-moments}
 use Rattle.eg_agree.specs.Standing.{signals_of}
 use Rattle.eg_agree.specs.Ticking.{found_in_level2}
-use Rattle.eg_agree.proofs.ReplyLaws.{length-ticks}
+use Rattle.eg_agree.proofs.TickLemmas.{length-ticks}
 use Rattle.eg_tick.specs.Kept.{Kept}
 use Rattle.eg_tick.specs.Stands.{HoldsLatches, HoldsMonitor, HoldsEngine, IsShown, Stands}
 use Rattle.eg_tick.specs.Working.{effects_after, Served, IsStep}

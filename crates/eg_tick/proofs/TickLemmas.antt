@@ -10,6 +10,7 @@ use Rattle.eg_fault.specs.Faults.{effects}
 use Rattle.eg_level2.specs.Words.{Words, AreMirrored, words_of, is_set}
 use Rattle.eg_level2.specs.Modules.{check_step, given_up, module_step, pedal_step, permitted_step, actual_step, excess_step, pairs_step, debounce_step, react_step}
 use Rattle.eg_flow.specs.Ticks.{Doing, inputs_for, after_module, after_modules, after_tick}
+use Rattle.eg_flow.proofs.FlowSteps.{last-checked}
 use Rattle.eg_model.specs.History.{Setting, Entry, Tick, Moment}
 use Rattle.eg_model.specs.Signals.{tripped, last_signals}
 use Rattle.eg_model.specs.Level1.{last_world, ports_of, slices_from, view_in, world_at}
@@ -18,9 +19,9 @@ use Rattle.eg_agree.specs.Doings.{doing_at}
 use Rattle.eg_agree.specs.Standing.{KeepsWords}
 use Rattle.eg_agree.specs.Ticking.{IsTick}
 use Rattle.eg_agree.specs.Replies.{doing_after, KeepsFlow, IsAnyFault}
-use Rattle.eg_agree.proofs.TickLemmas.{run_law}
+use Rattle.eg_agree.proofs.TickLemmas.{run_law, length-ticks}
 use Rattle.eg_agree.proofs.ReplySteps.{keeps_tick}
-use Rattle.eg_agree.proofs.ReplyLaws.{length-ticks, ticks_follow, rests}
+use Rattle.eg_agree.proofs.ReplyLaws.{ticks_follow, rests}
 use Rattle.eg_tick.specs.Stands.{HoldsLevel1, HoldsLevel2}
 use Rattle.eg_agree.specs.Agreement.{last_check}
 use Rattle.eg_tick.specs.Midway.{Work, view_at, rest_of, IsSet, IsMidway, work_at}
@@ -50,27 +51,6 @@ moment-world s x e past = refl
 
 -- ---- the last run of module 0 ----
 
-kept-last : (test : Bool) (a b : Words) → a.last ≡ b.last → (if test then a else b).last ≡ b.last
-kept-last true a b same = same
-kept-last false a b same = refl
-
-module-last : (d : Doing) (i : ℕ) (words : Words) → i < 7 → (after_module d (suc i) words).last ≡ words.last
-unfolding after_module module_step pedal_step permitted_step actual_step excess_step pairs_step debounce_step react_step
-module-last d zero words within = kept-last (d.ran 1) _ words refl
-module-last d (suc zero) words within = kept-last (d.ran 2) _ words refl
-module-last d (suc (suc zero)) words within = kept-last (d.ran 3) _ words refl
-module-last d (suc (suc (suc zero))) words within = kept-last (d.ran 4) _ words refl
-module-last d (suc (suc (suc (suc zero)))) words within = kept-last (d.ran 5) _ words refl
-module-last d (suc (suc (suc (suc (suc zero))))) words within = kept-last (d.ran 6) _ words refl
-module-last d (suc (suc (suc (suc (suc (suc zero)))))) words within = kept-last (d.ran 7) _ words refl
-module-last d (suc (suc (suc (suc (suc (suc (suc i))))))) words within = absurd (omega (arith, within))
-
-modules-last : (d : Doing) (words : Words) (n : ℕ) → n ≤ 7 → (after_modules d (suc n) words).last ≡ (after_module d 0 words).last
-unfolding after_modules
-modules-last d words zero within = refl
-modules-last d words (suc n) within =
-    module-last d n (after_modules d (suc n) words) (omega (arith, within)) ∙ modules-last d words n (omega (arith, within))
-
 check-last : (d : Doing) (words : Words) → (after_module d 0 words).last ≡ (if d.ran 0 then d.tick else words.last)
 unfolding after_module module_step check_step given_up inputs_for
 check-last d words = go (d.ran 0) d.differs
@@ -82,7 +62,7 @@ check-last d words = go (d.ran 0) d.differs
 
 tick-last : (d : Doing) (words : Words) → (after_tick d words).last ≡ (if d.ran 0 then d.tick else words.last)
 unfolding after_tick
-tick-last d words = modules-last d words 7 (omega arith) ∙ check-last d words
+tick-last d words = last-checked d words 7 (omega arith) ∙ check-last d words
 
 -- ---- one tick more ----
 

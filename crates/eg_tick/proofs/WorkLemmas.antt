@@ -18,8 +18,8 @@ use Rattle.eg_model.specs.Moments.{readings_at, moments, ticks, next}
 use Rattle.eg_agree.specs.Doings.{doing_at}
 use Rattle.eg_agree.specs.Ticking.{IsTick}
 use Rattle.eg_agree.specs.Replies.{IsAnyFault, IsReady, doing_after, number_expected, mark_of}
-use Rattle.eg_agree.proofs.TickLemmas.{run_law}
-use Rattle.eg_agree.proofs.ReplyLaws.{length-ticks, ticks_follow, flow_marks}
+use Rattle.eg_agree.proofs.TickLemmas.{run_law, length-ticks}
+use Rattle.eg_agree.proofs.ReplyLaws.{ticks_follow, flow_marks}
 use Rattle.eg_tick.specs.Board.{is_board_own, by_tracks}
 use Rattle.eg_tick.specs.Midway.{Work, IsMidway, Meets, IsDue, work_at, tick_step}
 use Rattle.eg_tick.specs.Working.{effects_after, Serves, Served, IsStep}

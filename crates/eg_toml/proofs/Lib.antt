@@ -1,3 +1,4 @@
 pub mod ReadLemmas
 pub mod DocumentLemmas
 pub mod RangeLemmas
+pub mod RisingLemmas

@@ -1,5 +1,5 @@
--- What the items of an array read as, one after another.
-use Rattle.std.specs.Prelude.{◌≡◌, ℕ, suc, ◌&&◌, Bool, List, [], ◌∷◌, ◌++◌, Option, Some, None, option_map, if◌then◌else◌, nat_le, MatchBool}
+-- What the items of an array read as, one after another; and whether numbers rise.
+use Rattle.std.specs.Prelude.{◌≡◌, ℕ, suc, ◌&&◌, Bool, true, List, [], ◌∷◌, ◌++◌, Option, Some, None, option_map, if◌then◌else◌, nat_le, nat_lt, MatchBool}
 use Rattle.toml.specs.Data.{Data, Items, no_items, item, as_array}
 use Rattle.eg_toml.specs.Values.{number_in, ◌>>=◌}
 
@@ -47,3 +47,9 @@ rows_in tall wide high d = array_in tall tall (numbers_in wide wide high) d
 -- what was read stands after what was found before, or nothing could be read
 abbrev pub HasRead : {X : Type 0} → Option (List X) → List X → List X → Bool → Type 0
 HasRead read before after ok = MatchBool ok (option_map (λ xs. before ++ xs) read ≡ Some after) (read ≡ None)
+
+-- each number is more than the one before it
+abbrev pub is_rising : List ℕ → Bool
+is_rising [] = true
+is_rising (x ∷ []) = true
+is_rising (x ∷ y ∷ ys) = nat_lt x y && is_rising (y ∷ ys)

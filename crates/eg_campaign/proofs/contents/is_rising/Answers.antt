@@ -1,4 +1,4 @@
-use Rattle.eg_campaign.proofs.RisingLemmas.{rising-same}
+use Rattle.eg_toml.proofs.RisingLemmas.{rising-same}
 use Rattle.eg_campaign.proofs.contents.is_rising.Goals as goal
 
 pub returns : goal.returns

@@ -4,12 +4,12 @@ use Rattle.std.proofs.lemmas.Bool.{and_parts}
 use Rattle.std.proofs.lemmas.Bool.Decides.{nat_tests}
 use Rattle.std.specs.List.Sorted.{IsStrictlyIncreasing}
 use native.Mathlib.Numerals.{unary_clauses}
-use Rattle.eg_campaign.specs.Contents.{is_rising}
+use Rattle.eg_toml.specs.Arrays.{is_rising}
 
-lt-true : (x y : ℕ) → x < y → nat_lt x y ≡ true
+pub lt-true : (x y : ℕ) → x < y → nat_lt x y ≡ true
 lt-true x y h = grind (arith, nat_tests)
 
-true-lt : (x y : ℕ) → nat_lt x y ≡ true → x < y
+pub true-lt : (x y : ℕ) → nat_lt x y ≡ true → x < y
 true-lt x y h = grind (arith, nat_tests)
 
 -- the test says that the numbers strictly rise
