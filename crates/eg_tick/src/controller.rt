@@ -306,6 +306,3 @@ fn trap_after(before: Option<(Trap, u32)>, state: State, tick: u32) -> Option<(T
         _ => before,
     }
 }
-
-#[cfg(test)]
-mod tests;
