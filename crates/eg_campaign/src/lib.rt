@@ -10,8 +10,6 @@ mod play;
 mod reader;
 mod run;
 mod slices;
-#[cfg(test)]
-mod tests;
 mod texts;
 mod ticks;
 

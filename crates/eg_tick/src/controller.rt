@@ -292,6 +292,3 @@ fn note_trap(trap: &mut Option<(Trap, u32)>, state: State, tick: u32)
         *trap = Some((kind, tick));
     }
 }
-
-#[cfg(test)]
-mod tests;

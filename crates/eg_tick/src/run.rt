@@ -214,6 +214,3 @@ fn make_row(
     let _engine = controller.engine();
     Ok(row)
 }
-
-#[cfg(test)]
-mod tests;

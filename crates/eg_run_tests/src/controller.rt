@@ -1,35 +1,45 @@
 // Controllers of the reference calibration over both memories, and want of memory.
-ghost use Rattle.std.specs.Prelude.{◌≡◌, ◌↔◌, ◌<◌, replicate, IsTrue};
+ghost use Rattle.std.specs.Prelude.{◌≡◌, ◌+◌, ◌≤◌, ◌<◌, replicate, IfOk};
 
-use super::Controller;
-use crate::{Slices, Ticks};
 use eg_base::NoMemory;
 use eg_guard::StingyMemory;
 use eg_num::Drive;
 use eg_plant::GasolineEngine;
+use eg_tick::{Controller, Slices, Ticks};
 use eg_values::reference;
 use eg_word::{CodeMemory, DecodedMemory};
 use std::process::Abort;
 use std::test::Fail;
 
-/// A controller whose level 1 waits.
+/// A controller whose level 1 waits. It has made no tick.
 #[tactic(auto, unfolding(eg_agree::specs::Replies::IsAnyFault))]
 fn controller<M: CodeMemory + Drop>(memory: M) -> Result<Controller<GasolineEngine, M>, NoMemory>
     requires { (M.shows memory).words ≡ replicate 4096 0 }
+    ensures { IfOk result (λ controller. controller.kept.ticks ≡ 0) }
 {
     let calibration = reference();
     let engine = GasolineEngine::new(calibration.plant().copy());
     Controller::new(calibration, &[0xf000], None, memory, engine)
 }
 
-/// Whether another tick may be made.
-fn goes_on<M: CodeMemory + Drop>(controller: &Controller<GasolineEngine, M>) -> bool
-    ensures { IsTrue result ↔ (controller.now.kept.ticks < 20000) }
+/// Whether one tick more is made.
+fn is_made<M: CodeMemory + Drop>(
+    controller: &mut Controller<GasolineEngine, M>,
+    drive: &Drive,
+    slices: &Slices,
+    steps: &mut Ticks,
+) -> bool
+    requires { controller.old.kept.ticks < 20000 }
+    ensures { controller.new.kept.ticks ≤ controller.old.kept.ticks + 1 }
 {
-    controller.ticks < 20000
+    match controller.tick(drive, slices, steps) {
+        Ok(_) => true,
+        Err(_) => false,
+    }
 }
 
-/// Makes ticks with the pedal at rest. Of each is told whether it is made, and what `Ticks` shows after it.
+/// Makes three ticks with the pedal at rest. Of each is told whether it is made, and what `Ticks` shows after
+/// it.
 fn ticks_are<M: CodeMemory + Drop>(
     rt: &impl Abort,
     memory: M,
@@ -37,18 +47,17 @@ fn ticks_are<M: CodeMemory + Drop>(
 ) -> Result<(), Fail>
     requires { (M.shows memory).words ≡ replicate 4096 0 }
 {
+    let [first, second, third] = wanted;
     let mut controller = controller(memory).ok().ok_or("no controller")?;
     let drive = Drive::new(0, 800, 0).ok_or("no drive row")?;
     let slices = Slices::new([1; 9]).ok_or("no slices")?;
     let mut steps = Ticks::new();
-    for (made, count, sum) in wanted {
-        assert!(rt; goes_on(&controller));
-        let row = controller.tick(&drive, &slices, &mut steps);
-        assert_eq!(rt;
-            (row.is_ok(), steps.count(), steps.sum()),
-            (made, count, sum)
-        );
-    }
+    let made = is_made(&mut controller, &drive, &slices, &mut steps);
+    assert_eq!(rt; (made, steps.count(), steps.sum()), first);
+    let made = is_made(&mut controller, &drive, &slices, &mut steps);
+    assert_eq!(rt; (made, steps.count(), steps.sum()), second);
+    let made = is_made(&mut controller, &drive, &slices, &mut steps);
+    assert_eq!(rt; (made, steps.count(), steps.sum()), third);
     Ok(())
 }
 

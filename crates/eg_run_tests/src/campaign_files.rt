@@ -1,5 +1,5 @@
 // What the reader says of campaign files: values from the tables of docs/FORMATS.md, each beside its limit.
-use crate::{
+use eg_campaign::{
     CampaignFault, RunKey, RunKey as K, RunPlan, accepted_files_keep_the_rules, add_ticks,
     read_campaign,
 };

@@ -2,9 +2,10 @@
 // no clause says, and what its ticks weigh.
 ghost use Rattle.std.specs.Prelude.{◌≤◌, length};
 
-use super::*;
-use crate::Slices;
+use eg_num::Drive;
+use eg_tick::{RunRecord, SlicePlan, Slices, Ticks, run_one};
 use eg_values::reference;
+use std::alloc::Global;
 use std::test::Fail;
 
 /// A run of an image without a fault, by one slice row.
