@@ -21,8 +21,8 @@ pub(crate) fn read_plain<R: FileRow>(
     read_lines(alloc, below)
 }
 
-/// The rows of the lines below the header. None may come for any, and comes where a line isn't plain and where
-/// there are too many.
+/// The rows of the lines below the header. None may come for any, and comes where a line isn't plain and
+/// where there are too many.
 fn read_lines<R: FileRow>(alloc: Global, bytes: &[u8]) -> Option<Result<Vec<R>, TraceFault>>
     ensures { IfSome result (λ read. IsRead (rows_below 20000 R.row_of (records_below bytes.now)) read) }
 {

@@ -35,8 +35,8 @@ pub fn push_row(text: &mut Vec<u8>, row: &Row) -> Result<(), NoMemory>
     Ok(())
 }
 
-/// Puts the columns of a row up to level 1's commands, each with a comma, to the end of a line, and tells where
-/// they start. Columns are put from the last to the first, since the digits of a number are found so.
+/// Puts the columns of a row up to level 1's commands, each with a comma, to the end of a line, and tells
+/// where they start. Columns are put from the last to the first, since the digits of a number are found so.
 fn put_columns(row: &Row, line: &mut [u8; ROOM]) -> usize
     ensures { drop result line.new ≡ join_with_byte comma (value_columns row.now) ++ codes "," }
 {

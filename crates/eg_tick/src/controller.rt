@@ -99,7 +99,8 @@ impl<E: Engine, M: Guarded> Model for Controller<E, M> {
 impl<E: Engine + Drop, M: CodeMemory + Drop> Controller<E, M> {
     /// A controller that has made no tick (docs/CONCEPT.md, "The controller"): with this calibration, the
     /// image that level 1 runs (at most 1,024 words), the fault of the run, if any, which is a valid one, a
-    /// memory of 0s, and an engine whose `kt` is that of the calibration. NoMemory gives up memory and engine.
+    /// memory of 0s, and an engine whose `kt` is that of the calibration. NoMemory gives up memory and
+    /// engine.
     pub fn new(
         calibration: Calibration,
         image: &[u16],
@@ -144,8 +145,8 @@ impl<E: Engine + Drop, M: CodeMemory + Drop> Controller<E, M> {
     }
 
     /// One tick of all three levels (docs/CONCEPT.md, "A run, tick by tick" and "The controller"), and its
-    /// row. It is counted in `steps`. A controller makes at most 20,000 ticks. After NoMemory every later tick
-    /// answers NoMemory.
+    /// row. It is counted in `steps`. A controller makes at most 20,000 ticks. After NoMemory every later
+    /// tick answers NoMemory.
     pub fn tick(
         &mut self,
         drive: &Drive,
