@@ -36,9 +36,10 @@ pub trait Sink {
         ensures prefix { OnErr result (AppendsPrefix (shows self.old) (shows self.new) bytes.now) }
         ensures stays_sure { (shows self.new).sure ≡ (shows self.old).sure }
 
-        // Each Failed is counted, and Ok isn't. A sure output takes no memory.
+        // Each Failed is counted, and nothing else is. A sure output takes no memory.
         ensures count { (shows self.old).faults ≤ (shows self.new).faults }
         ensures no_fault { OnOk result ((shows self.new).faults ≡ (shows self.old).faults) }
         ensures cause { IsErrOf result Failed → Rose (shows self.old).faults (shows self.new).faults }
+        ensures memory { IsErrOf result Memory → (shows self.new).faults ≡ (shows self.old).faults }
         ensures sure { IsTrue (shows self.old).sure → ¬ IsErrOf result Memory };
 }

@@ -40,11 +40,12 @@ pub trait Store {
         ensures ok { OnOk result (Reads (shows self.old).files name.now most into.old.items into.new.items) }
         ensures kept { OnErr result (BeginsWith into.old.items into.new.items) }
 
-        // Each Failed is counted, and Ok isn't. Over a sure store it comes exactly where there is no such
-        // file.
+        // Each Failed is counted, and nothing else is. Over a sure store it comes exactly where there is no
+        // such file.
         ensures count { (shows self.old).faults ≤ (shows self.new).faults }
         ensures no_fault { OnOk result ((shows self.new).faults ≡ (shows self.old).faults) }
         ensures cause { IsErrOf result Failed → Rose (shows self.old).faults (shows self.new).faults }
+        ensures memory { IsErrOf result Memory → (shows self.new).faults ≡ (shows self.old).faults }
         ensures told { IsTrue (shows self.old).sure → IsSome (shows self.old).files }
         ensures missing { IsTrue (shows self.old).sure →
             (IsErrOf result Failed ↔ IsMissing (shows self.old).files name.now) };

@@ -39,7 +39,7 @@ LineEnds-within before mid now whole line rest outcome.Done refused put same end
 LineEnds-within before mid now whole line rest outcome.WriteFault refused put same ends =
     (AppendsPrefix-append before mid now whole line rest put ends.0, subst (λ n. Rose n now.faults) same ends.1)
 LineEnds-within before mid now whole line rest outcome.Memory refused put same ends =
-    AppendsPrefix-append before mid now whole line rest put ends
+    (AppendsPrefix-append before mid now whole line rest put ends.0, ends.1 ∙ same)
 LineEnds-within before mid now whole line rest outcome.Usage refused put same ends = ends
 LineEnds-within before mid now whole line rest (outcome.ReadFault file) refused put same ends = ends
 LineEnds-within before mid now whole line rest (outcome.Refused why) refused put same ends = ends

@@ -9,12 +9,12 @@ use Rattle.eg_outcome.specs.declared.outcome.Outcome.{Outcome}
 use Rattle.eg_outcome.specs.declared.outcome.Outcome.TheVariants as outcome
 use Rattle.eg_outcome.specs.declared.outcome.Refusal.TheVariants as refusal
 
--- once the text is known: all of it was written and no fault of writing was met, or a prefix of it and a
--- fault or want of memory
+-- Once the text is known: all of it was written and no fault of writing was met, or a prefix of it and a
+-- fault or want of memory. No fault of writing is told as want of memory.
 abbrev pub LineEnds : List ℕ → ShownSink → ShownSink → Outcome → Type 0
 LineEnds line out now outcome.Done = Appends out now line × (now.faults ≡ out.faults)
 LineEnds line out now outcome.WriteFault = AppendsPrefix out now line × Rose out.faults now.faults
-LineEnds line out now outcome.Memory = AppendsPrefix out now line
+LineEnds line out now outcome.Memory = AppendsPrefix out now line × (now.faults ≡ out.faults)
 LineEnds line out now _ = ⊥
 
 -- Something came, and the work follows with it; or the call ends without it, and nothing was done.

@@ -68,11 +68,11 @@ module _ (store later : ShownStore) where
   goes-end n sum before made plan rest plans end parts first goes =
       subst (λ all. InputsCome store later 1 0 all (Err end)) (sym parts) (goes (plan ∷ rest) (Err end) (Err end, first, refl))
 
-  -- memory may run out at any run
+  -- memory may run out at any run, where no fault of reading was met
   pub goes-memory : (n sum : ℕ) (before : List RunPlan) (made : List RunInput) (plan : RunPlan) (rest plans : List RunPlan)
-      → plans ≡ before ++ plan ∷ rest → Goes n sum before made → InputsCome store later 1 0 plans (Err outcome.Memory)
-  goes-memory n sum before made plan rest plans parts goes =
-      goes-end n sum before made plan rest plans outcome.Memory parts (Err outcome.Memory, tt, refl) goes
+      → plans ≡ before ++ plan ∷ rest → later.faults ≡ store.faults → Goes n sum before made → InputsCome store later 1 0 plans (Err outcome.Memory)
+  goes-memory n sum before made plan rest plans parts same goes =
+      goes-end n sum before made plan rest plans outcome.Memory parts (Err outcome.Memory, same, refl) goes
 
   -- all runs were read
   pub goes-all : (n sum : ℕ) (plans : List RunPlan) (made : List RunInput) → Goes n sum plans made → InputsCome store later 1 0 plans (Ok made)

@@ -56,7 +56,7 @@ ticked runs was is (outcome.Refused why) e = e
 pub no_memory : (text : List ℕ) (runs : List Run) (out : ShownSink) (was is : TickCount) (n : ℕ) → n ≤ ticks_of runs →
     is.count ≡ (was.count + n) % 2 ^ 64 → All KeepsHeadline runs → Plays text runs out out was is outcome.Memory
 no_memory text runs out was is n most counted headline = record {
-  written = ([], text, refl, Appends-nil out);
+  written = (([], text, refl, Appends-nil out), refl);
   ticked = (n, most, counted);
   headline = headline;
 }
@@ -65,7 +65,7 @@ no_memory text runs out was is n most counted headline = record {
 pub no_lines : (text : List ℕ) (runs : List Run) (out : ShownSink) (was is : TickCount) → is ≡ count_after was runs →
     All KeepsHeadline runs → Plays text runs out out was is outcome.Memory
 no_lines text runs out was is counted headline = record {
-  written = ([], text, refl, Appends-nil out);
+  written = (([], text, refl, Appends-nil out), refl);
   ticked = ticked runs was is outcome.Memory counted;
   headline = headline;
 }

@@ -1,5 +1,5 @@
 // What the board itself writes into the memory.
-ghost use Rattle.std.specs.Prelude.{◌≡◌, ℕ, ◌+◌, ◌<◌, ◌≤◌, length, slice_index, slice_set, [], ◌∷◌, IsTrue, IsOk, OnOk};
+ghost use Rattle.std.specs.Prelude.{◌≡◌, ℕ, ◌+◌, ◌<◌, ◌≤◌, length, slice_index, slice_set, bit_xor, [], ◌∷◌, IsTrue, IsOk, OnOk};
 ghost use Rattle.eg_guard.specs.declared.regions.Who.TheVariants.{Board};
 ghost use Rattle.eg_guard.specs.Memory.{AreWords, SameOutside};
 ghost use Rattle.eg_guard.specs.Regions;
@@ -130,6 +130,9 @@ pub(crate) fn place(word: u8) -> u16
 pub(crate) fn flip<M: Guarded>(memory: &mut M, word: u8, mask: u16) -> Result<(), NoMemory>
     requires word { word < 32 }
     requires some { 1 ≤ mask }
+    ensures flipped { OnOk result ((M.shows memory.new).words
+        ≡ slice_set (M.shows memory.old).words (place word)
+        (bit_xor (slice_index (M.shows memory.old).words (place word)) mask)) }
     ensures changed { AreMirrored (M.shows memory.old).words
         → OnOk result (¬ AreMirrored (M.shows memory.new).words) }
     ensures outside { OnOk result

@@ -1,4 +1,5 @@
 use Rattle.std.proofs.Common.{◌≡◌, ◌∙◌, refl, sym, ap, subst, ◌+◌, ◌≤◌, ◌++◌, ◌∷◌, [], length, append_assoc, append-nil, All, arith}
+use Rattle.eg_base.specs.Outside.{ShownStore}
 use Rattle.eg_campaign.specs.Plays.{IsPlayable}
 use Rattle.eg_play.specs.Inputs.{InputComes, InputsCome, too_many}
 use Rattle.std.proofs.Common.{Ok, Err}
@@ -41,7 +42,8 @@ returns-in-Err-push-clause-comes g c =
     let later = g.S.Store.shows c.input_for.new.store in
     subst (λ o. InputsCome store later 1 0 c.args.plans (Err o)) (sym c.in-Err-push.ensures.memory)
     (goes-memory store later c.loop-plan.run c.loop-plan.sum c.loop-plan.yielded c.loop-plan.inputs.items c.in-Some.plan c.next.new.self.rest.items c.args.plans
-    (one-behind _ c.loop-plan.yielded _ _ _ c.loop-plan.invariant.parts c.in-Some.ensures.steps.0) (c.loop-plan.invariant.goes later))
+    (one-behind _ c.loop-plan.yielded _ _ _ c.loop-plan.invariant.parts c.in-Some.ensures.steps.0)
+    (ap (λ (shown : ShownStore). shown.faults) (c.in-Ok.ensures.shown refl ∙ c.loop-plan.invariant.shown)) (c.loop-plan.invariant.goes later))
 
 pub loop-plan-preserved : goal.loop-plan-preserved
 loop-plan-preserved g c =

@@ -1,6 +1,4 @@
-use Rattle.std.proofs.Common.{◌≡◌, ◌∙◌, sym, ap, subst, ◌≤◌, map}
-use Rattle.std.specs.Prelude.{string_bytes}
-use Rattle.std.specs.List.{concat}
+use Rattle.std.proofs.Common.{◌≡◌, ◌∙◌, sym, subst, ◌≤◌}
 use Rattle.eg_outcome.specs.Outcomes.{LineEnds}
 use Rattle.eg_campaign.specs.Plays.{run_with}
 use Rattle.eg_campaign.proofs.PlayLemmas.{ticks-one}

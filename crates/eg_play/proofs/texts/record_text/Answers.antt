@@ -1,4 +1,4 @@
-use Rattle.std.proofs.Common.{◌≡◌, ◌∙◌, sym, ap, ◌++◌, take, map, append_assoc}
+use Rattle.std.proofs.Common.{◌∙◌, sym, ap, ◌++◌, take, map, append_assoc}
 use Rattle.std.specs.List.{concat}
 use Rattle.eg_record.specs.Texts.{record_header, row_line}
 use Rattle.eg_outcome.proofs.LineLemmas.{concat-front}
