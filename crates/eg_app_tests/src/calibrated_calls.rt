@@ -165,7 +165,8 @@ const BROKEN: [Broken; 9] = [
         "[1000, 1200, 900]",
         "[199, 1200, 900]",
         CalFault::Rising { row: 1 },
-        b"cal.toml: row 1 falls\n",
+        b"cal.toml: row \
+          1 falls\n",
     ),
     (
         "answer = 8842",

@@ -1,9 +1,6 @@
 -- Axes that rise, and those that don't.
-use Rattle.std.proofs.Common.{◌≡◌, ℕ, zero, suc, ◌<◌, ◌≤◌, nat_lt, nat_le, Bool, true, false, length, List, [], ◌∷◌, Option, Some, None, unwrap_or, refl, arith}
-use Rattle.std.proofs.lemmas.Bool.{and_parts}
+use Rattle.std.proofs.Common.{◌≡◌, ℕ, ◌≤◌, nat_le, Bool, true, false, length, List, [], Option, Some, None, unwrap_or, refl, arith}
 use Rattle.std.proofs.lemmas.Bool.Decides.{nat_tests}
-use Rattle.std.specs.List.Sorted.{IsStrictlyIncreasing}
-use native.Mathlib.Numerals.{unary_clauses}
 use Rattle.eg_num.specs.Interpolation.{IsAxis}
 use Rattle.eg_cal.specs.declared.key.CalKey.{CalKey}
 use Rattle.eg_cal.specs.declared.key.CalFault.TheVariants as fault

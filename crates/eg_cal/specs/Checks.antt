@@ -1,5 +1,5 @@
 -- The first key of a calibration file that has a fault.
-use Rattle.std.specs.Prelude.{ℕ, nat_lt, ◌&&◌, Bool, true, List, [], ◌∷◌, Option, Some, None, if◌then◌else◌}
+use Rattle.std.specs.Prelude.{ℕ, List, [], ◌∷◌, Option, Some, None, if◌then◌else◌}
 use Rattle.toml.specs.Data.{Members}
 use Rattle.eg_toml.specs.Arrays.{is_rising}
 use Rattle.eg_cal.specs.declared.key.CalKey.{CalKey}

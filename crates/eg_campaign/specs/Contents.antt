@@ -1,5 +1,5 @@
 -- What stands under the keys of a campaign file.
-use Rattle.std.specs.Prelude.{ℕ, ℤ, pos, negsuc, ◌==◌, ◌&&◌, ◌||◌, Bool, true, false, not, nat_le, nat_lt, List, [], ◌∷◌, length, Option, Some, None, unwrap_or, if◌then◌else◌}
+use Rattle.std.specs.Prelude.{ℕ, ℤ, pos, negsuc, ◌==◌, ◌&&◌, ◌||◌, Bool, false, not, nat_le, List, [], ◌∷◌, length, Option, Some, None, unwrap_or, if◌then◌else◌}
 use Rattle.std.specs.List.{sum, list_all}
 use Rattle.toml.specs.Data.{Data, Members, get_member, as_str, as_integer, as_bool}
 use Rattle.eg_toml.specs.Values.{number_in, number_at, ◌>>=◌}

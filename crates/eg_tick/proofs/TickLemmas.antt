@@ -1,5 +1,5 @@
 -- After all slices and modules of a tick the memory holds the world and the words of the model's tick.
-use Rattle.std.proofs.Common.{◌≡◌, ◌∙◌, refl, sym, ap, ap₂, subst, ℕ, zero, suc, ◌+◌, ◌≤◌, ◌<◌, Bool, true, false, List, [], ◌∷◌, length, arith}
+use Rattle.std.proofs.Common.{◌≡◌, ◌∙◌, refl, sym, ap, ap₂, subst, ℕ, ◌+◌, ◌≤◌, ◌<◌, Bool, true, false, List, [], ◌∷◌, length, arith}
 use Rattle.std.specs.Prelude.{if◌then◌else◌}
 use Rattle.eg_word.specs.declared.registers.Registers.{Registers}
 use Rattle.eg_word.specs.World.{View, World, world_of}
@@ -8,7 +8,7 @@ use Rattle.eg_values.specs.Calibration.{IsAccepted}
 use Rattle.eg_fault.specs.Effects.{Effects}
 use Rattle.eg_fault.specs.Faults.{effects}
 use Rattle.eg_level2.specs.Words.{Words, AreMirrored, words_of, is_set}
-use Rattle.eg_level2.specs.Modules.{check_step, given_up, module_step, pedal_step, permitted_step, actual_step, excess_step, pairs_step, debounce_step, react_step}
+use Rattle.eg_level2.specs.Modules.{check_step, given_up, module_step}
 use Rattle.eg_flow.specs.Ticks.{Doing, inputs_for, after_module, after_modules, after_tick}
 use Rattle.eg_flow.proofs.FlowSteps.{last-checked}
 use Rattle.eg_model.specs.History.{Setting, Entry, Tick, Moment}

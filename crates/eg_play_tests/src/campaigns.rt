@@ -1,6 +1,6 @@
 // What no clause tells of calls over several files and several puts: which read met a fault, that each put
 // holds a whole line, and that the notes change no outcome.
-use crate::calls::{repeated, words};
+use crate::texts::{repeated, words};
 use eg_app::{Outcome, Refusal, Role, egasim};
 use eg_base::{MemorySink, MemoryStore};
 use eg_campaign::{CampaignFault, RunKey};

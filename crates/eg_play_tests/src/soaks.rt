@@ -1,6 +1,6 @@
 // What no clause tells of `soak`: that it does its work where memory is there, and that each put holds a
 // whole line. And what its numbers are, over many runs.
-use crate::calls::words;
+use crate::texts::words;
 use eg_app::{Outcome, egasim};
 use eg_base::{MemorySink, MemoryStore};
 use eg_tick::Ticks;

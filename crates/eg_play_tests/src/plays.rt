@@ -1,6 +1,6 @@
 // What no clause says of a call of `run` or `record`: the worked examples, and that it never answers Memory
 // where memory is there.
-use crate::calls::{repeated, words};
+use crate::texts::{repeated, words};
 use eg_app::{Outcome, Refusal, Role, egasim};
 use eg_base::{MemorySink, MemoryStore};
 use eg_campaign::CampaignFault;
@@ -102,6 +102,15 @@ fn shows(
     Ok(steps)
 }
 
+/// The report on a run of `FULL`.
+const REPORT: &[u8] = b"a: first torque at 9; off at 10; trap none; excess at 9; bound 34
+runs 1; detected 1; off 1
+";
+
+/// As much of it as stands where the second put fails with half of its line.
+const HALF_REPORT: &[u8] = b"a: first torque at 9; off at 10; trap none; excess at 9; bound 34
+runs 1; detec";
+
 #[test]
 fn reports_on_a_run(rt: HostRuntime) -> Result<(), Fail> {
     let alloc = rt.alloc();
@@ -110,13 +119,12 @@ fn reports_on_a_run(rt: HostRuntime) -> Result<(), Fail> {
     let done = Wanted {
         outcome: Outcome::Done,
         status: 0,
-        out: b"a: first torque at 9; off at 10; trap none; excess at 9; bound 34\nruns 1; detected 1; off 1\n",
+        out: REPORT,
         note: b"",
     };
     let steps = shows(&rt, alloc, "run c.toml", trace.as_str(), &whole, &done)?;
     assert_eq!(rt; steps.count(), 12);
 
-    // The second put fails with half of its line.
     let full = Case {
         put: Some(1),
         ..whole
@@ -124,7 +132,7 @@ fn reports_on_a_run(rt: HostRuntime) -> Result<(), Fail> {
     let fault = Wanted {
         outcome: Outcome::WriteFault,
         status: 5,
-        out: b"a: first torque at 9; off at 10; trap none; excess at 9; bound 34\nruns 1; detec",
+        out: HALF_REPORT,
         note: b"cannot write\n",
     };
     let steps = shows(&rt, alloc, "run c.toml", trace.as_str(), &full, &fault)?;
@@ -132,8 +140,9 @@ fn reports_on_a_run(rt: HostRuntime) -> Result<(), Fail> {
     Ok(())
 }
 
-const RECORD: &[u8] =
-    b"tick,pedal,speed,raise,plate,charge,torque,limit,path1,path2,on,used,permitted,actual,excess,pairs,throttle,ignition,found,answer,verdict
+/// The record of a run of `PROBE`.
+const RECORD: &[u8] = b"tick,pedal,speed,raise,plate,charge,torque,limit,path1,path2,on,\
+used,permitted,actual,excess,pairs,throttle,ignition,found,answer,verdict
 0,0,800,0,0,40,0,200,1,1,1,0,200,100,0,0,100,0,-,-,-
 1,0,800,0,50,40,0,200,1,1,1,0,200,100,0,0,0,0,-,-,-
 2,0,800,0,0,80,0,200,1,1,1,0,200,200,0,0,100,0,-,-,-
@@ -157,12 +166,21 @@ fn records_a_run(rt: HostRuntime) -> Result<(), Fail> {
     Ok(())
 }
 
-/// Two faults in one run.
-const TWO: &str = "faults = [{ class = \"halt\", onset = 0 }, { class = \"halt\", onset = 1 }]\n";
+/// Words, the end of the trace, what else stands in the store, and what the call is to show.
+type Call = (&'static str, &'static str, Case, Wanted);
+
+/// Asserts that calls show what they are to show, and that they make no tick.
+fn play_nothing(rt: &impl Abort, alloc: Global, calls: &[Call]) -> Result<(), Fail> {
+    for (line, end, case, wanted) in calls {
+        let trace = idle(alloc, 1, end)?;
+        let steps = shows(rt, alloc, line, trace.as_str(), case, wanted)?;
+        assert_eq!(rt; steps.count(), 0, "{line}");
+    }
+    Ok(())
+}
 
 #[test]
-fn plays_nothing_that_is_refused(rt: HostRuntime) -> Result<(), Fail> {
-    let alloc = rt.alloc();
+fn plays_nothing_that_is_missing(rt: HostRuntime) -> Result<(), Fail> {
     let whole = given("", FULL);
     let unread = Case {
         read: Some(2),
@@ -177,42 +195,35 @@ fn plays_nothing_that_is_refused(rt: HostRuntime) -> Result<(), Fail> {
         note: b"cannot read full.hex\n",
     };
     let no_run = refused(Refusal::NoRun, b"no such run\n");
-    let two = Refusal::Campaign(CampaignFault::TwoFaults { run: 1 });
-    let row = Refusal::Trace {
-        run: 1,
-        fault: TraceFault::Row { line: 3 },
-    };
-    let line = Refusal::Image {
-        run: 1,
-        fault: ImageFault::Line { line: 1 },
-    };
-    let rows: [(&str, &str, Case, Wanted); 6] = [
+    let calls: [Call; 3] = [
         ("run c.toml", "", unread, missing),
         ("record c.toml a", "", unread, missing),
         ("record c.toml b", "", whole, no_run),
-        (
-            "run c.toml",
-            "",
-            given(TWO, FULL),
-            refused(two, b"c.toml: run 1 has two faults\n"),
-        ),
-        (
-            "run c.toml",
-            "0,800\n",
-            whole,
-            refused(row, b"idle.csv: record 3\n"),
-        ),
-        (
-            "run c.toml",
-            "",
-            given("", "12100\n"),
-            refused(line, b"full.hex: line 1\n"),
-        ),
     ];
-    for (line, end, case, wanted) in rows {
-        let trace = idle(alloc, 1, end)?;
-        let steps = shows(&rt, alloc, line, trace.as_str(), &case, &wanted)?;
-        assert_eq!(rt; steps.count(), 0, "{line}");
-    }
-    Ok(())
+    play_nothing(&rt, rt.alloc(), &calls)
+}
+
+/// Two faults in one run.
+const TWO: &str = "faults = [{ class = \"halt\", onset = 0 }, { class = \"halt\", onset = 1 }]\n";
+
+#[test]
+fn plays_nothing_that_is_refused(rt: HostRuntime) -> Result<(), Fail> {
+    let campaign = Refusal::Campaign(CampaignFault::TwoFaults { run: 1 });
+    let two = refused(campaign, b"c.toml: run 1 has two faults\n");
+    let trace = Refusal::Trace {
+        run: 1,
+        fault: TraceFault::Row { line: 3 },
+    };
+    let row = refused(trace, b"idle.csv: record 3\n");
+    let image = Refusal::Image {
+        run: 1,
+        fault: ImageFault::Line { line: 1 },
+    };
+    let line = refused(image, b"full.hex: line 1\n");
+    let calls: [Call; 3] = [
+        ("run c.toml", "", given(TWO, FULL), two),
+        ("run c.toml", "0,800\n", given("", FULL), row),
+        ("run c.toml", "", given("", "12100\n"), line),
+    ];
+    play_nothing(&rt, rt.alloc(), &calls)
 }
