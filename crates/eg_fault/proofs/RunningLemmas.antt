@@ -5,7 +5,7 @@ use Rattle.std.proofs.lemmas.Bool.{cases_lt}
 use Rattle.std.proofs.lemmas.Bool.Decides.{nat_tests}
 use Rattle.eg_fault.specs.Effects.{Effects, no_effects}
 use Rattle.eg_fault.specs.Faults.{does, effects, is_left_out}
-use Rattle.eg_fault.specs.Running.{AllRun, NoneRuns, OthersRun, LeavesOut, RunsWhole, RunningLaw, DoSame, may_change_levels}
+use Rattle.eg_fault.specs.Running.{AllRun, NoneRuns, OthersRun, LeavesOut, RunsWhole, RunningLaw, RunAlike, may_change_levels}
 use Rattle.eg_fault.specs.declared.class.Class.{Class}
 use Rattle.eg_fault.specs.declared.class.Class.TheVariants.{Skip, Disturb, Flip, Halt, Lapse}
 use Rattle.eg_fault.specs.declared.class.Fault.{Fault}
@@ -68,18 +68,18 @@ of-kind fault (inr found) = inr (found.0, left_out fault found.0 found.1)
 pub running_law : RunningLaw
 running_law = (λ tick. inl (without tick), λ fault. of-kind fault (kind-of fault.class))
 
--- ---- what level 1 and level 2 do ----
+-- ---- how level 1 and level 2 run ----
 
-pub same : (x : Effects) → DoSame x x
+pub same : (x : Effects) → RunAlike x x
 same x = record { level1 = refl; ran = refl; disturbance = refl; flip = refl }
 
--- before the onset they do as without a fault
-pub same-before : (fault : Fault) (tick : ℕ) → tick < fault.onset → DoSame (effects None tick) (effects (Some fault) tick)
+-- before the onset they run as without a fault
+pub same-before : (fault : Fault) (tick : ℕ) → tick < fault.onset → RunAlike (effects None tick) (effects (Some fault) tick)
 unfolding effects
-same-before fault tick before = subst (DoSame no_effects) (sym (before-effects fault tick before)) (same no_effects)
+same-before fault tick before = subst (RunAlike no_effects) (sym (before-effects fault tick before)) (same no_effects)
 
 -- the other classes leave them alone
-spared : (class : Class) (k : ℕ) → may_change_levels class ≡ false → DoSame no_effects (does class k)
+spared : (class : Class) (k : ℕ) → may_change_levels class ≡ false → RunAlike no_effects (does class k)
 unfolding does no_effects may_change_levels
 spared (Skip one) k is = absurd (let clash : true ≡ false = is in cc)
 spared (Disturb one mask) k is = absurd (let clash : true ≡ false = is in cc)
@@ -88,10 +88,10 @@ spared Halt k is = absurd (let clash : true ≡ false = is in cc)
 spared (Lapse after every) k is = absurd (let clash : true ≡ false = is in cc)
 spared _ k is = record { level1 = refl; ran = refl; disturbance = refl; flip = refl }
 
--- so under these they do at any tick as without a fault
-pub same-spared : (fault : Fault) (tick : ℕ) → may_change_levels fault.class ≡ false → DoSame (effects None tick) (effects (Some fault) tick)
+-- so under these they run at any tick as without a fault
+pub same-spared : (fault : Fault) (tick : ℕ) → may_change_levels fault.class ≡ false → RunAlike (effects None tick) (effects (Some fault) tick)
 unfolding effects
 same-spared fault tick is = elim (cases_lt tick fault.onset) [
   | inl before ↦ same-before fault tick before
-  | inr after ↦ subst (DoSame no_effects) (sym (after-effects fault tick after)) (spared fault.class (tick - fault.onset) is)
+  | inr after ↦ subst (RunAlike no_effects) (sym (after-effects fault tick after)) (spared fault.class (tick - fault.onset) is)
 ]

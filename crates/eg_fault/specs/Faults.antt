@@ -94,7 +94,7 @@ IsValidClass (Lapse after every) =
 abbrev pub IsValid : Fault → Type 0
 IsValid fault = (fault.onset ≤ 19999) × IsValidClass fault.class
 
--- a class of which lapses aren't
+-- a lapse of level 2, which is no listed fault
 unfoldable pub is_lapse : Class → Bool
 is_lapse (Lapse after every) = true
 is_lapse _ = false

@@ -31,14 +31,15 @@ RunsWhole fault = (tick : ℕ) → AllRun (effects fault tick) ⊎ NoneRuns (eff
 abbrev pub RunningLaw : Type 0
 RunningLaw = RunsWhole None × ((fault : Fault) → RunsWhole (Some fault) ⊎ ((one : ℕ) × LeavesOut fault one))
 
--- level 1 and level 2 do the same: whether they run, what is mixed in, and which word is flipped
-pub record DoSame (x y : Effects) : Type 0 where
+-- Level 1 and level 2 run alike: whether they run, what is mixed in, and which word is flipped. What they read
+-- may differ.
+pub record RunAlike (x y : Effects) : Type 0 where
   pub level1 : x.level1 ≡ y.level1
   pub ran : x.ran ≡ y.ran
   pub disturbance : x.disturbance ≡ y.disturbance
   pub flip : x.flip ≡ y.flip
 
--- the classes under which they may do otherwise than without a fault
+-- the classes under which they may run otherwise than without a fault
 unfoldable pub may_change_levels : Class → Bool
 may_change_levels (Skip index) = true
 may_change_levels (Disturb index mask) = true

@@ -50,7 +50,7 @@ impl Class {
         !matches!(self, Class::Halt)
     }
 
-    /// Whether it may change what level 1 and level 2 do.
+    /// Whether it may change how level 1 and level 2 run.
     #[tactic(auto, unfolding(crate::specs::Running::may_change_levels))]
     pub(crate) fn may_change_levels(&self) -> bool
         ensures { result ≡ may_change_levels self.now }

@@ -5,7 +5,7 @@ ghost use Rattle.eg_answer.specs.Periods;
 ghost use Rattle.eg_fault.specs.Effects;
 ghost use Rattle.eg_fault.specs.Effects.{no_effects, readings_under, sends_at};
 ghost use Rattle.eg_fault.specs.Faults.{effects, does};
-ghost use Rattle.eg_fault.specs.Running.{RunningLaw, DoSame};
+ghost use Rattle.eg_fault.specs.Running.{RunningLaw, RunAlike};
 
 use crate::{Class, Fault};
 use eg_answer::Times;
@@ -91,11 +91,11 @@ pub fn flip(fault: Option<&Fault>, tick: u32) -> Option<(u8, u16)>
     class.flip(after)
 }
 
-/// The fault, where it may change at a tick what level 1 and level 2 do, else None (docs/CONCEPT.md,
-/// "Faults"). Under None they do as they do without a fault.
+/// The fault, where it may change at a tick how level 1 and level 2 run, else None (docs/CONCEPT.md,
+/// "Faults"). Under None each runs, undisturbed, and no word is flipped.
 pub fn fault_of_levels(fault: Option<&Fault>, tick: u32) -> Option<&Fault>
     ensures fault { IfSome (option_copied result) (λ found. option_copied fault.entry ≡ Some found) }
-    ensures same { DoSame (effects (option_copied result) tick) (effects (option_copied fault.entry) tick) }
+    ensures same { RunAlike (effects (option_copied result) tick) (effects (option_copied fault.entry) tick) }
 {
     let fault = fault?;
     if tick < fault.onset {

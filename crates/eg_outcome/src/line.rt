@@ -1,6 +1,7 @@
 // The one line, or the one text, that a command writes.
-ghost use Rattle.std.specs.Prelude.{string_bytes};
+ghost use Rattle.std.specs.Prelude.{◌≡◌, ◌≢◌, IsTrue, string_bytes};
 ghost use Rattle.eg_outcome.specs.Outcomes.{LineEnds, PutsNothing};
+ghost use Rattle.eg_outcome.specs.declared.outcome.Outcome.TheVariants.{Memory};
 
 use crate::Outcome;
 use eg_base::{PutRefusal, Sink};
@@ -10,6 +11,8 @@ use eg_base::{PutRefusal, Sink};
 pub fn put_line<K: Sink>(line: &String, out: &mut K) -> Outcome
     ensures ends { LineEnds (string_bytes line.now) (K.shows out.old) (K.shows out.new) result }
     ensures put { PutsNothing result → ⊥ }
+    ensures sure { IsTrue (K.shows out.old).sure → result ≢ Memory }
+    ensures stays_sure { (K.shows out.new).sure ≡ (K.shows out.old).sure }
 {
     put_text(line.as_bytes(), out)
 }
@@ -19,6 +22,8 @@ pub fn put_line<K: Sink>(line: &String, out: &mut K) -> Outcome
 pub fn put_text<K: Sink>(text: &[u8], out: &mut K) -> Outcome
     ensures ends { LineEnds text.now (K.shows out.old) (K.shows out.new) result }
     ensures put { PutsNothing result → ⊥ }
+    ensures sure { IsTrue (K.shows out.old).sure → result ≢ Memory }
+    ensures stays_sure { (K.shows out.new).sure ≡ (K.shows out.old).sure }
 {
     match out.put(text) {
         Ok(()) => Outcome::Done,

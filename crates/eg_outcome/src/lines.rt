@@ -1,7 +1,8 @@
 // The lines that a command writes.
-ghost use Rattle.std.specs.Prelude.{map, string_bytes};
+ghost use Rattle.std.specs.Prelude.{◌≢◌, IsTrue, map, string_bytes};
 ghost use Rattle.std.specs.List.{concat};
 ghost use Rattle.eg_outcome.specs.Outcomes.{LineEnds, PutsNothing};
+ghost use Rattle.eg_outcome.specs.declared.outcome.Outcome.TheVariants.{Memory};
 
 use crate::Outcome;
 use crate::line::put_line;
@@ -12,6 +13,7 @@ use eg_base::Sink;
 pub fn put_lines<K: Sink>(lines: &[String], out: &mut K) -> Outcome
     ensures ends { LineEnds (concat (map string_bytes lines.now)) (K.shows out.old) (K.shows out.new) result }
     ensures put { PutsNothing result → ⊥ }
+    ensures sure { IsTrue (K.shows out.old).sure → result ≢ Memory }
 {
     for line in lines {
         match put_line(line, out) {

@@ -1,5 +1,5 @@
 use Rattle.std.proofs.Common.{◌∙◌, sym, subst, take, drop, map, suc}
-use Rattle.std.specs.Prelude.{string_bytes}
+use Rattle.std.specs.Prelude.{string_bytes, IsTrue}
 use Rattle.std.specs.List.{concat}
 use Rattle.eg_outcome.specs.Outcomes.{LineEnds}
 use Rattle.eg_outcome.proofs.AppendLemmas.{Appends-append}
@@ -18,6 +18,7 @@ returns-in_default g c =
           (concat (map string_bytes (drop (suc i) lines))) c.put_line.result c.in_default.not-Done
           c.loop-line.invariant.put c.loop-line.invariant.faults c.put_line.ensures.ends);
       put = c.put_line.ensures.put;
+      sure = λ is. c.put_line.ensures.sure (subst IsTrue (sym c.loop-line.invariant.sure) is);
     }
 
 pub loop-line-preserved : goal.loop-line-preserved
@@ -30,4 +31,5 @@ loop-line-preserved g c =
           (Appends-append (shows c.args.out.now) (shows c.loop-line.out) (shows c.put_line.new.out) (concat (map string_bytes (take i lines))) _
           c.loop-line.invariant.put c.in-Done.ensures.ends.0);
       faults = c.in-Done.ensures.ends.1 ∙ c.loop-line.invariant.faults;
+      sure = c.put_line.ensures.stays_sure ∙ c.loop-line.invariant.sure;
     }

@@ -11,4 +11,5 @@ invariant-loop-line g l =
     record {
       put : Appends (shows l.fn.out) (shows l.out) (concat (map string_bytes (take l.line-index l.lines)));
       faults : (shows l.out).faults ≡ (shows l.fn.out).faults;
+      sure : (shows l.out).sure ≡ (shows l.fn.out).sure;
     }
