@@ -31,8 +31,8 @@ RunsWhole fault = (tick : ℕ) → AllRun (effects fault tick) ⊎ NoneRuns (eff
 abbrev pub RunningLaw : Type 0
 RunningLaw = RunsWhole None × ((fault : Fault) → RunsWhole (Some fault) ⊎ ((one : ℕ) × LeavesOut fault one))
 
--- Level 1 and level 2 run alike: whether they run, what is mixed in, and which word is flipped. What they read
--- may differ.
+-- Level 1 and level 2 run alike: whether they run, what is mixed in, and which word is flipped. What they
+-- read may differ.
 pub record RunAlike (x y : Effects) : Type 0 where
   pub level1 : x.level1 ≡ y.level1
   pub ran : x.ran ≡ y.ran

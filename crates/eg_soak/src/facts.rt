@@ -32,14 +32,7 @@ pub(crate) struct RunFacts {
 
 impl RunFacts {
     /// Whether this watch is the first that was found.
-    #[tactic(
-        auto,
-        unfolding(
-            crate::specs::Facts::is_first,
-            crate::specs::Facts::is_watch,
-            eg_record::specs::Detection::rank
-        )
-    )]
+    #[tactic(auto, unfolding(crate::specs::Facts::is_first, crate::specs::Facts::is_watch, eg_record::specs::Detection::rank))]
     pub(crate) fn is_first(&self, watch: Watch) -> bool
         ensures { result ≡ is_first watch self.now }
     {

@@ -3,8 +3,8 @@ ghost use Rattle.std.specs.Prelude.{◌≡◌};
 
 use eg_num::Weights;
 use eg_record::{
-    AnswerMark, Drive, Row, Verdict, Watches, detections_are_first, off_ticks_are_first,
-    push_row, record_header, report_end_text, summarize, summary_text,
+    AnswerMark, Drive, Row, Verdict, Watches, detections_are_first, off_ticks_are_first, push_row,
+    record_header, report_end_text, summarize, summary_text,
 };
 use eg_word::Trap;
 use std::test::Fail;
@@ -56,8 +56,10 @@ fn rows_are_printed(rt: HostRuntime) -> Result<(), Fail> {
     push_row(&mut text, &busy)?;
     assert_eq!(rt;
         std::str::from_utf8(&text),
-        Ok("3,0,800,0,50,40,0,200,1,1,1,0,200,100,0,0,65436,0,-,-,-\n\
-            19,0,800,0,50,40,0,200,1,0,0,0,200,100,0,0,65436,0,mirror+answers,bad,wrong\n")
+        Ok(
+            "3,0,800,0,50,40,0,200,1,1,1,0,200,100,0,0,65436,0,-,-,-\n\
+            19,0,800,0,50,40,0,200,1,0,0,0,200,100,0,0,65436,0,mirror+answers,bad,wrong\n"
+        )
     );
     assert!(rt; record_header().starts_with("tick,pedal,"));
     Ok(())
