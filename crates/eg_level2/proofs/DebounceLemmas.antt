@@ -149,4 +149,4 @@ counters-ok (Err x) f g1 g2 g3 g4 h feeds eh e4 e3 e2 e1 = eh
 
 pub ruleset counter_laws = (counters-ok)
 
-pub ruleset debounce_laws = (fed_step, tripped_step, tripped_finding)
+pub ruleset debounce_laws = (tripped_step, tripped_finding)

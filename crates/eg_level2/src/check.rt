@@ -46,7 +46,6 @@ pub(crate) fn check<M: Guarded>(memory: &mut M, tick: u16, seed: u16) -> Result<
 }
 
 /// Moves the token, looks at the tick of the last run, notes this one, and begins the fold.
-#[tactic(auto, using(crate::proofs::ModuleLemmas::check_laws))]
 fn go_on<M: Guarded>(memory: &mut M, tick: u16, seed: u16) -> Result<(), NoMemory>
     ensures words { OnOk result (words_of (M.shows memory.new).words
         ≡ check_step seed tick (words_of (M.shows memory.old).words)) }
@@ -74,7 +73,6 @@ fn flow_after(flow: u16, last: u16, tick: u16) -> u16
 }
 
 /// Gives all words up, and trips.
-#[tactic(auto, using(crate::proofs::ModuleLemmas::check_laws))]
 fn give_up<M: Guarded>(memory: &mut M, tick: u16) -> Result<(), NoMemory>
     ensures words { OnOk result (words_of (M.shows memory.new).words ≡ given_up tick) }
     ensures mirrored { OnOk result (AreMirrored (M.shows memory.new).words) }

@@ -110,7 +110,6 @@ fn feed_all<M: Guarded>(memory: &M, rules: &Rules) -> Feeds
 
 /// Stores the counters.
 #[inline(always)]
-#[tactic(auto, using(crate::proofs::DebounceLemmas::counter_laws))]
 fn keep_counters<M: Guarded>(memory: &mut M, feeds: &Feeds) -> Result<(), NoMemory>
     ensures stored { OnOk result (word_at (M.shows memory.new).words
         ≡ counters_kept feeds.now (word_at (M.shows memory.old).words)) }

@@ -17,7 +17,6 @@ const WHOLE_TOKEN: u16 = 0x00ff;
 /// Module 7: orders path 1 open where a trip stands, and else sends the answer at a send tick
 /// (docs/CONCEPT.md, "Level 2").
 #[inline(always)]
-#[tactic(auto, using(crate::proofs::ModuleLemmas::react_laws))]
 pub(crate) fn react<M: Guarded>(memory: &mut M, send: bool) -> Result<Step, NoMemory>
     ensures words { OnOk result (words_of (M.shows memory.new).words
         ≡ react_step send (words_of (M.shows memory.old).words)) }

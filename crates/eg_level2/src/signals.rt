@@ -159,7 +159,6 @@ fn exceeds(rules: &Rules, estimate: u16, permitted: u16) -> u16
 }
 
 /// Stores the signal of a module, moves the token, and mixes the result of the question's row into the fold.
-#[tactic(auto, using(crate::proofs::ModuleLemmas::write_laws))]
 fn write<M: Guarded>(
     memory: &mut M,
     number: u8,

@@ -7,9 +7,9 @@ ghost use Rattle.eg_fault.specs.Faults.{effects};
 ghost use Rattle.eg_level2.specs.Words.{words_of, AreMirrored, AreWithin};
 ghost use Rattle.eg_level2.specs.Inputs.{IsLookup};
 ghost use Rattle.eg_level2.specs.Modules.{quiet_step};
-ghost use Rattle.eg_agree.specs.Replies.{IsAnyFault};
+ghost use Rattle.eg_fault.specs.Faults.{IsNoneOrValid};
 ghost use Rattle.eg_tick.specs.Midway;
-ghost use Rattle.eg_tick.specs.Midway.{Work, IsMidway, Meets, IsDue, step_at, tick_step};
+ghost use Rattle.eg_tick.specs.Midway.{Work, IsMidway, Meets, IsDue, step_at, steps_at, tick_step};
 
 use crate::Slices;
 use crate::board::flip;
@@ -90,7 +90,7 @@ fn first_module<M: Guarded>(
     lookup: &Lookup,
     memory: &mut M,
 ) -> Result<Step, NoMemory>
-    requires fault { IsAnyFault (option_copied fault) }
+    requires fault { IsNoneOrValid (option_copied fault) }
     requires lookup { IsLookup level2.now.rules lookup.now }
     requires mirrored { AreMirrored (M.shows memory.old).words }
     requires within { AreWithin level2.now.rules (words_of (M.shows memory.old).words) }
@@ -118,7 +118,7 @@ fn first_module<M: Guarded>(
 
 /// The word of level 2 that is flipped at a tick, and its bits.
 fn scheduled_flip(fault: Option<&Fault>, tick: u16) -> Option<(u8, u16)>
-    requires fault { IsAnyFault (option_copied fault) }
+    requires fault { IsNoneOrValid (option_copied fault) }
     ensures flip { result ≡ (effects (option_copied fault.entry) tick).flip }
     ensures word { IfSome result (λ flipped. flipped.0 < 32) }
     ensures some { IfSome result (λ flipped. 1 ≤ flipped.1) }
@@ -141,7 +141,7 @@ fn turn<M: CodeMemory>(
     memory: &mut M,
 ) -> Result<Step, NoMemory>
     requires number { number < 8 }
-    requires fault { IsAnyFault (option_copied fault) }
+    requires fault { IsNoneOrValid (option_copied fault) }
     requires lookup { IsLookup level2.now.rules lookup.now }
     requires mirrored { AreMirrored (M.shows memory.old).words }
     requires within { AreWithin level2.now.rules (words_of (M.shows memory.old).words) }
@@ -170,7 +170,7 @@ fn turn<M: CodeMemory>(
 /// The nine slices of level 1 and the eight modules of level 2 of a tick, in turn: after each slice but the
 /// last comes the module of its number (docs/CONCEPT.md, "A run, tick by tick"). Answers what the modules
 /// order, answer and find. Ticks at which no fault may change that have a shorter form.
-#[tactic(auto, unfolding(eg_agree::specs::Replies::IsAnyFault))]
+#[tactic(auto, unfolding(eg_fault::specs::Faults::IsNoneOrValid))]
 pub(crate) fn run_levels<M: CodeMemory>(
     level2: &Level2,
     fault: Option<&Fault>,
@@ -181,7 +181,7 @@ pub(crate) fn run_levels<M: CodeMemory>(
     host: &mut Host,
     memory: &mut M,
 ) -> Result<Step, NoMemory>
-    requires fault { IsAnyFault (option_copied fault) }
+    requires fault { IsNoneOrValid (option_copied fault) }
     requires lookup { IsLookup level2.now.rules lookup.now }
     requires mirrored { AreMirrored (M.shows memory.old).words }
     requires within { AreWithin level2.now.rules (words_of (M.shows memory.old).words) }
@@ -216,7 +216,7 @@ fn run_turns<M: CodeMemory, const FAULTY: bool>(
     host: &mut Host,
     memory: &mut M,
 ) -> Result<Step, NoMemory>
-    requires fault { IsAnyFault (option_copied fault) }
+    requires fault { IsNoneOrValid (option_copied fault) }
     requires quiet { IsFalse FAULTY → option_copied fault ≡ None }
     requires lookup { IsLookup level2.now.rules lookup.now }
     requires mirrored { AreMirrored (M.shows memory.old).words }
@@ -235,6 +235,42 @@ fn run_turns<M: CodeMemory, const FAULTY: bool>(
     ensures are_words { AreWords (M.shows memory.old).words → AreWords (M.shows memory.new).words }
 {
     let fault = acting::<FAULTY>(fault);
+    let early = early_turns(level2, fault, tick, send, lookup, slices, host, memory)?;
+    late_turns(
+        level2, fault, tick, send, lookup, slices, &early, host, memory,
+    )
+}
+
+/// The first four turns.
+#[inline(always)]
+fn early_turns<M: CodeMemory>(
+    level2: &Level2,
+    fault: Option<&Fault>,
+    tick: u16,
+    send: bool,
+    lookup: &Lookup,
+    slices: &Slices,
+    host: &mut Host,
+    memory: &mut M,
+) -> Result<Step, NoMemory>
+    requires fault { IsNoneOrValid (option_copied fault) }
+    requires lookup { IsLookup level2.now.rules lookup.now }
+    requires mirrored { AreMirrored (M.shows memory.old).words }
+    requires within { AreWithin level2.now.rules (words_of (M.shows memory.old).words) }
+    ensures midway { (w : Work)
+        → IsDue level2.now (effects (option_copied fault.entry) tick) tick send slices.now w
+        → IsMidway w 0 0 host.old.registers (M.shows memory.old).words
+        → OnOk result (IsMidway w 4 4 host.new.registers (M.shows memory.new).words) }
+    ensures step { (w : Work)
+        → IsDue level2.now (effects (option_copied fault.entry) tick) tick send slices.now w
+        → IsMidway w 0 0 host.old.registers (M.shows memory.old).words
+        → IfOk result (λ step. step ≡ steps_at w.doing 4 w.words) }
+    ensures mirrored { OnOk result (AreMirrored (M.shows memory.new).words) }
+    ensures within { OnOk result (AreWithin level2.now.rules (words_of (M.shows memory.new).words)) }
+    ensures sure { IsTrue (M.shows memory.old).sure → IsOk result }
+    ensures stays_sure { (M.shows memory.new).sure ≡ (M.shows memory.old).sure }
+    ensures are_words { AreWords (M.shows memory.old).words → AreWords (M.shows memory.new).words }
+{
     let whole = quiet();
     let step = turn(level2, fault, tick, send, lookup, slices, 0, host, memory)?;
     let whole = joined(&whole, &step);
@@ -243,9 +279,42 @@ fn run_turns<M: CodeMemory, const FAULTY: bool>(
     let step = turn(level2, fault, tick, send, lookup, slices, 2, host, memory)?;
     let whole = joined(&whole, &step);
     let step = turn(level2, fault, tick, send, lookup, slices, 3, host, memory)?;
-    let whole = joined(&whole, &step);
+    Ok(joined(&whole, &step))
+}
+
+/// The last four turns, and the last slice. `whole` is what the first four order, answer and find.
+#[inline(always)]
+fn late_turns<M: CodeMemory>(
+    level2: &Level2,
+    fault: Option<&Fault>,
+    tick: u16,
+    send: bool,
+    lookup: &Lookup,
+    slices: &Slices,
+    whole: &Step,
+    host: &mut Host,
+    memory: &mut M,
+) -> Result<Step, NoMemory>
+    requires fault { IsNoneOrValid (option_copied fault) }
+    requires lookup { IsLookup level2.now.rules lookup.now }
+    requires mirrored { AreMirrored (M.shows memory.old).words }
+    requires within { AreWithin level2.now.rules (words_of (M.shows memory.old).words) }
+    ensures midway { (w : Work)
+        → IsDue level2.now (effects (option_copied fault.entry) tick) tick send slices.now w
+        → IsMidway w 4 4 host.old.registers (M.shows memory.old).words
+        → OnOk result (IsMidway w 9 8 host.new.registers (M.shows memory.new).words) }
+    ensures step { (w : Work)
+        → IsDue level2.now (effects (option_copied fault.entry) tick) tick send slices.now w
+        → IsMidway w 4 4 host.old.registers (M.shows memory.old).words
+        → whole.now ≡ steps_at w.doing 4 w.words
+        → IfOk result (λ step. step ≡ tick_step w.doing w.words) }
+    ensures nine { OnOk result (length slices.now ≡ 9) }
+    ensures sure { IsTrue (M.shows memory.old).sure → IsOk result }
+    ensures stays_sure { (M.shows memory.new).sure ≡ (M.shows memory.old).sure }
+    ensures are_words { AreWords (M.shows memory.old).words → AreWords (M.shows memory.new).words }
+{
     let step = turn(level2, fault, tick, send, lookup, slices, 4, host, memory)?;
-    let whole = joined(&whole, &step);
+    let whole = joined(whole, &step);
     let step = turn(level2, fault, tick, send, lookup, slices, 5, host, memory)?;
     let whole = joined(&whole, &step);
     let step = turn(level2, fault, tick, send, lookup, slices, 6, host, memory)?;
