@@ -28,7 +28,8 @@ use Rattle.eg_model.specs.Moments.{readings_at, moment, moments_of, ticks, momen
 use Rattle.eg_model.specs.Premises.{Follows}
 use Rattle.eg_model.proofs.TickLemmas.{tripped-cons, moment-whole}
 use Rattle.eg_agree.specs.Doings.{doing_at}
-use Rattle.eg_agree.specs.Replies.{doing_after, words_over, answer_from_power_on, TellTrips, IsReady, FlowMarks, AnswersHold, AnswersHoldFromPowerOn, RestsBetweenAnswers, moment_after, number_expected, mark_of, IsAnyFault, is_flipped, RanTogether, ReactRan, has_just_answered, KeepsFlow}
+use Rattle.eg_fault.specs.Faults.{IsNoneOrValid}
+use Rattle.eg_agree.specs.Replies.{doing_after, words_over, answer_from_power_on, TellTrips, IsReady, FlowMarks, AnswersHold, AnswersHoldFromPowerOn, RestsBetweenAnswers, moment_after, number_expected, mark_of, is_flipped, RanTogether, ReactRan, has_just_answered, KeepsFlow}
 use Rattle.eg_agree.proofs.TickLemmas.{length-ticks}
 use Rattle.eg_agree.proofs.ReplyShapes.{shape, LeavesOneOut, few_are_disturbed}
 use Rattle.eg_agree.proofs.ReplySteps.{whole_same, undisturbed_same, sent_same, mark-is, keeps_next, keeps_start}
@@ -251,7 +252,7 @@ answered_now m past part e = cases (is_answer m.mark) m.whole part e
     cases true b p q = refl
     cases false b p q = absurd (let f : false ≡ true = sym (and_left b _ p) ∙ q in cc)
 
-module _ (s : Setting) (fault : IsAnyFault s.fault) (start : ℕ) (w : Words) where
+module _ (s : Setting) (fault : IsNoneOrValid s.fault) (start : ℕ) (w : Words) where
   -- the tick isn't whole
   part_of : (one : ℕ) (x : Tick) (h : List Tick) → one < 8 → OthersRun one x.effects →
       (moment_after s x h).whole ≡ false

@@ -14,7 +14,7 @@ use Rattle.eg_flow.specs.Flow.{AtMostOneIsDisturbed}
 use Rattle.eg_model.specs.History.{Setting}
 use Rattle.eg_model.proofs.ClassLemmas.{Acts, of_effects}
 use Rattle.eg_agree.specs.Doings.{doing_at}
-use Rattle.eg_agree.specs.Replies.{IsAnyFault}
+use Rattle.eg_fault.specs.Faults.{IsNoneOrValid}
 
 -- ---- the module that is left out ----
 
@@ -51,8 +51,8 @@ at_onset : (fault : Fault) → effects (Some fault) fault.onset ≡ does fault.c
 unfolding effects
 at_onset fault = rw (le-leb fault.onset fault.onset (omega arith)) refl
 
-pub shape : (fault : Option Fault) → IsAnyFault fault → RunsWhole fault ⊎ LeavesOneOut fault
-unfolding IsAnyFault
+pub shape : (fault : Option Fault) → IsNoneOrValid fault → RunsWhole fault ⊎ LeavesOneOut fault
+unfolding IsNoneOrValid
 shape None valid = inl running_law.0
 shape (Some fault) valid = elim (running_law.1 fault) [
   | inl whole ↦ inl whole
@@ -90,12 +90,12 @@ few_by (Disturb index mask) k valid s reads tick = inr (record {
 })
 few_by _ k valid s reads tick = inl (λ i. refl)
 
-valid_acts : (fault : Option Fault) (tick : ℕ) → IsAnyFault fault → (a : Acts fault tick) →
+valid_acts : (fault : Option Fault) (tick : ℕ) → IsNoneOrValid fault → (a : Acts fault tick) →
     IsValidClass a.fault.class
-unfolding IsAnyFault
-valid_acts fault tick valid a = (subst IsAnyFault a.is valid).1
+unfolding IsNoneOrValid
+valid_acts fault tick valid a = (subst IsNoneOrValid a.is valid).1
 
-pub few_are_disturbed : (fault : Option Fault) (tick : ℕ) → IsAnyFault fault →
+pub few_are_disturbed : (fault : Option Fault) (tick : ℕ) → IsNoneOrValid fault →
     FewAreDisturbed (effects fault tick)
 few_are_disturbed fault tick valid =
     of_effects FewAreDisturbed fault tick none_by

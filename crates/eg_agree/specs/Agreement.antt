@@ -11,7 +11,8 @@ use Rattle.eg_flow.specs.Ticks.{after_tick, answer_at}
 use Rattle.eg_model.specs.Answers.{whole_since_answer}
 use Rattle.eg_model.specs.Moments.{moments_of, next}
 use Rattle.eg_agree.specs.Standing.{KeepsWords}
-use Rattle.eg_agree.specs.Replies.{IsAnyFault, doing_after, words_over, moment_after, mark_of, number_expected, answer_from_power_on, is_flipped}
+use Rattle.eg_fault.specs.Faults.{IsNoneOrValid}
+use Rattle.eg_agree.specs.Replies.{doing_after, words_over, moment_after, mark_of, number_expected, answer_from_power_on, is_flipped}
 
 -- after every history under any fault, from any tick of the run on
 abbrev pub WordsStand : Type 0
@@ -25,7 +26,7 @@ WordsStand =
 -- absent.
 abbrev pub EachAnswerHolds : Type 0
 EachAnswerHolds =
-    (s : Setting) → IsAccepted s.cal → IsAnyFault s.fault →
+    (s : Setting) → IsAccepted s.cal → IsNoneOrValid s.fault →
     (begin : ℕ) (x : Tick) (h : List Tick) → Follows s.fault begin (x ∷ h) → length h < 65535 →
     mark_of (number_expected s x.effects (length h)) (answer_at (doing_after s x h) (words_over s h))
     ≡ (moment_after s x h).mark
@@ -33,7 +34,7 @@ EachAnswerHolds =
 -- the same from power-on: the tick is that of an entry e after the history h
 abbrev pub EachAnswerHoldsFromPowerOn : Type 0
 EachAnswerHoldsFromPowerOn =
-    (s : Setting) → IsAccepted s.cal → IsAnyFault s.fault →
+    (s : Setting) → IsAccepted s.cal → IsNoneOrValid s.fault →
     (e : Entry) (h : List Entry) → length h < 65535 →
     mark_of (number_expected s (effects s.fault (length h)) (length h)) (answer_from_power_on s e h)
     ≡ (next s e h).mark
@@ -42,7 +43,7 @@ EachAnswerHoldsFromPowerOn =
 -- answer, the token is 0 and the flow is unmarked.
 abbrev pub WordsRest : Type 0
 WordsRest =
-    (s : Setting) → IsAccepted s.cal → IsAnyFault s.fault → (begin : ℕ) (h : List Tick) →
+    (s : Setting) → IsAccepted s.cal → IsNoneOrValid s.fault → (begin : ℕ) (h : List Tick) →
     Follows s.fault begin h → length h < 65536 → is_flipped h ≡ false →
     whole_since_answer (moments_of s h) ≡ true →
     ((words_over s h).token ≡ 0) × ((words_over s h).flow ≡ 0x00ff)

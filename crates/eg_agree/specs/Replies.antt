@@ -10,9 +10,8 @@ use Rattle.eg_answer.specs.declared.marks.AnswerMark.TheVariants.{Absent, Good, 
 use Rattle.eg_values.specs.Calibration.{IsAccepted}
 use Rattle.eg_level2.specs.Words.{Words, is_set, start}
 use Rattle.eg_fault.specs.Effects.{Effects, asked_at}
-use Rattle.eg_fault.specs.Faults.{effects, IsValid}
+use Rattle.eg_fault.specs.Faults.{effects, IsNoneOrValid}
 use Rattle.eg_fault.specs.Running.{AllRun, NoneRuns}
-use Rattle.eg_fault.specs.declared.class.Fault.{Fault}
 use Rattle.eg_flow.specs.Ticks.{Doing, after_tick, answer_at}
 use Rattle.eg_flow.specs.Flow.{IsSteady}
 use Rattle.eg_flow.specs.Laws.{at_react}
@@ -57,11 +56,6 @@ mark_of expected None = Absent
 mark_of expected (Some number) = if number == expected then Good else Bad
 
 -- ---- what the theorems ask for ----
-
--- no fault, or a valid one of any class, lapses too
-unfoldable pub IsAnyFault : Option Fault → Type 0
-IsAnyFault None = Unit {0}
-IsAnyFault (Some fault) = IsValid fault
 
 -- As react begins at tick x, the word for the trip tells whether a trip came by this tick.
 abbrev pub TellsTrip : Setting → Words → Tick → List Tick → Type 0
@@ -119,7 +113,7 @@ FlowIsKept =
 -- that the theorem asks for at one tick.
 pub record IsReady (s : Setting) (begin : ℕ) (x : Tick) (h : List Tick) (words : Words) : Type 0 where
   pub accepted : IsAccepted s.cal
-  pub fault : IsAnyFault s.fault
+  pub fault : IsNoneOrValid s.fault
   pub follows : Follows s.fault begin (x ∷ h)
   pub short : length h < 65535
   pub keeps : KeepsFlow s words h
@@ -139,7 +133,7 @@ FlowMarks =
 -- nothing, Good where it sends the number that is expected, else Bad.
 abbrev pub AnswersHold : Type 0
 AnswersHold =
-    (s : Setting) → IsAccepted s.cal → IsAnyFault s.fault →
+    (s : Setting) → IsAccepted s.cal → IsNoneOrValid s.fault →
     (begin : ℕ) (x : Tick) (h : List Tick) → Follows s.fault begin (x ∷ h) → length h < 65535 →
     TellTrips s (x ∷ h) →
     mark_of (number_expected s x.effects (length h)) (answer_at (doing_after s x h) (words_over s h))
@@ -148,7 +142,7 @@ AnswersHold =
 -- the same over the histories from power-on
 abbrev pub AnswersHoldFromPowerOn : Type 0
 AnswersHoldFromPowerOn =
-    (s : Setting) → IsAccepted s.cal → IsAnyFault s.fault →
+    (s : Setting) → IsAccepted s.cal → IsNoneOrValid s.fault →
     (e : Entry) (h : List Entry) → length h < 65535 → TellTrips s (ticks s (e ∷ h)) →
     mark_of (number_expected s (effects s.fault (length h)) (length h)) (answer_from_power_on s e h)
     ≡ (next s e h).mark
@@ -157,6 +151,6 @@ AnswersHoldFromPowerOn =
 -- answer, the token is 0 and the flow is unmarked.
 abbrev pub RestsBetweenAnswers : Type 0
 RestsBetweenAnswers =
-    (s : Setting) → IsAnyFault s.fault → (begin : ℕ) (h : List Tick) → Follows s.fault begin h →
+    (s : Setting) → IsNoneOrValid s.fault → (begin : ℕ) (h : List Tick) → Follows s.fault begin h →
     length h < 65536 → TellTrips s h → is_flipped h ≡ false → whole_since_answer (moments_of s h) ≡ true →
     ((words_over s h).token ≡ 0) × ((words_over s h).flow ≡ 0x00ff)

@@ -11,7 +11,7 @@ use Rattle.eg_answer.specs.declared.rules.Rules.{Rules}
 use Rattle.eg_answer.specs.Times.{TimeParts}
 use Rattle.eg_input.specs.CheckFile.{CheckRow}
 use Rattle.eg_tick.specs.Weights.{TickCount}
-use Rattle.eg_campaign.specs.declared.run.RunPlan.{RunPlan}
+use Rattle.eg_plan.specs.declared.run.RunPlan.{RunPlan}
 use Rattle.eg_outcome.specs.declared.outcome.Outcome.{Outcome}
 use Rattle.eg_outcome.specs.declared.outcome.Outcome.TheVariants as outcome
 use Rattle.eg_outcome.specs.declared.outcome.Role.TheVariants as role

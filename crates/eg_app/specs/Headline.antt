@@ -4,7 +4,7 @@ use Rattle.eg_base.specs.Outside.{ShownStore, ShownSink, Appends}
 use Rattle.eg_values.specs.Calibration.{CalibrationParts}
 use Rattle.eg_values.specs.Reference.{reference_parts}
 use Rattle.eg_campaign.specs.Plays.{run_with}
-use Rattle.eg_campaign.specs.declared.run.RunPlan.{RunPlan}
+use Rattle.eg_plan.specs.declared.run.RunPlan.{RunPlan}
 use Rattle.eg_campaign.specs.declared.play.RunInput.{RunInput}
 use Rattle.eg_outcome.specs.Reads.{ReadComes}
 use Rattle.eg_outcome.specs.Calibrations.{calibration_file}

@@ -8,9 +8,9 @@ use Rattle.eg_input.specs.declared.fault.ImageFault.TheVariants as image_fault
 use Rattle.eg_cal.specs.declared.key.CalFault.{CalFault}
 use Rattle.eg_cal.specs.declared.key.CalFault.TheVariants as cal_fault
 use Rattle.eg_cal.specs.Keys.{text_of}
-use Rattle.eg_campaign.specs.declared.key.CampaignFault.{CampaignFault}
-use Rattle.eg_campaign.specs.declared.key.CampaignFault.TheVariants as campaign_fault
-use Rattle.eg_campaign.specs.Keys.{text_of as run_key_text}
+use Rattle.eg_plan.specs.declared.key.CampaignFault.{CampaignFault}
+use Rattle.eg_plan.specs.declared.key.CampaignFault.TheVariants as campaign_fault
+use Rattle.eg_plan.specs.Keys.{text_of as run_key_text}
 use Rattle.eg_outcome.specs.declared.outcome.Outcome.{Outcome}
 use Rattle.eg_outcome.specs.declared.outcome.Outcome.TheVariants as outcome
 use Rattle.eg_outcome.specs.declared.outcome.Refusal.{Refusal}

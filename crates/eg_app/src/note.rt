@@ -6,9 +6,9 @@ ghost use Rattle.eg_outcome.specs.declared.outcome.Outcome.TheVariants.{Done};
 
 use eg_base::Sink;
 use eg_cal::CalFault;
-use eg_campaign::CampaignFault;
 use eg_input::{ImageFault, TraceFault};
 use eg_outcome::{Outcome, Refusal};
+use eg_plan::CampaignFault;
 use itoa::Buffer;
 
 /// Puts the line that notes this outcome, for a file of this name (docs/FORMATS.md, "Notes"). It is put in

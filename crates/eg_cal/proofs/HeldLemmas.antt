@@ -9,7 +9,7 @@ use Rattle.eg_toml.proofs.RangeLemmas.{bind-some, if-some, number_in-within, num
 use Rattle.eg_cal.specs.declared.key.CalKey.{CalKey}
 use Rattle.eg_cal.specs.declared.key.CalFault.{CalFault}
 use Rattle.eg_cal.specs.Keys.{Content, number, axis, values, grid, questions, nothing}
-use Rattle.eg_cal.specs.Faults.{unless_some}
+use Rattle.eg_toml.specs.Refusals.{unless_some}
 use Rattle.eg_cal.specs.Contents.{value_of, point_count, read_questions}
 use Rattle.eg_toml.specs.Arrays.{is_rising}
 use Rattle.eg_cal.specs.Checks.{axis_fault, content_fault}

@@ -17,7 +17,7 @@ use Rattle.eg_cal.specs.declared.key.CalKey.TheVariants.{Version, PermitPedal, P
 use Rattle.eg_cal.specs.declared.key.CalFault.{CalFault}
 use Rattle.eg_cal.specs.declared.key.CalFault.TheVariants as fault
 use Rattle.eg_cal.specs.Keys.{all_keys, content_of}
-use Rattle.eg_cal.specs.Faults.{or_else, unless}
+use Rattle.eg_toml.specs.Refusals.{or_else, unless}
 use Rattle.eg_cal.specs.Contents.{questions_of}
 use Rattle.eg_cal.specs.Checks.{fault_at, first_fault, keys_fault}
 use Rattle.eg_cal.specs.Calibration.{falls, falling_row, is_window, is_wrong, wrong_answer, rising_fault, window_fault, answer_fault, parts_fault, unknown_fault, refusal_of, permit_of, times_of, rules_of, parts_of}

@@ -15,7 +15,7 @@ use Rattle.eg_cal.specs.declared.key.CalKey.TheVariants.{PermitPedal, PermitSpee
 use Rattle.eg_cal.specs.declared.key.CalFault.{CalFault}
 use Rattle.eg_cal.specs.declared.key.CalFault.TheVariants as fault
 use Rattle.eg_cal.specs.Keys.{all_keys}
-use Rattle.eg_cal.specs.Faults.{or_else, unless}
+use Rattle.eg_toml.specs.Refusals.{or_else, unless}
 use Rattle.eg_cal.specs.Contents.{number_of, points_of, values_of, questions_of}
 use Rattle.eg_cal.specs.Checks.{keys_fault}
 use Rattle.eg_cal.specs.Names.{is_all_known}

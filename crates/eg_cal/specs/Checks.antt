@@ -6,7 +6,7 @@ use Rattle.eg_cal.specs.declared.key.CalKey.{CalKey}
 use Rattle.eg_cal.specs.declared.key.CalFault.{CalFault}
 use Rattle.eg_cal.specs.declared.key.CalFault.TheVariants.{Key, Axis}
 use Rattle.eg_cal.specs.Keys.{Content, number, axis, values, grid, questions, nothing, content_of}
-use Rattle.eg_cal.specs.Faults.{or_else, unless_some}
+use Rattle.eg_toml.specs.Refusals.{or_else, unless_some}
 use Rattle.eg_cal.specs.Contents.{read_number, read_numbers, read_rows, read_questions, point_count}
 
 -- the fault of an axis: it is no array of 2 to 16 numbers in range, or else its points don't strictly rise

@@ -3,7 +3,7 @@ ghost use Rattle.std.specs.Prelude.{◌≡◌, ◌≤◌, [], IfOk, IfSome, All,
 ghost use Rattle.toml.specs.View.{view, table_view};
 ghost use Rattle.eg_num.specs.Interpolation.{Grid, Curve};
 ghost use Rattle.eg_cal.specs.declared.key.CalFault.TheVariants.{Key};
-ghost use Rattle.eg_cal.specs.Faults.{Checks, unless_some};
+ghost use Rattle.eg_toml.specs.Refusals.{Checks, unless_some};
 ghost use Rattle.eg_cal.specs.Contents.{members_of, value_of, read_number, read_numbers, read_rows, read_questions};
 ghost use Rattle.eg_cal.specs.Checks.{axis_fault};
 ghost use Rattle.eg_cal.specs.Names.{top_names, has_names, is_all_known};

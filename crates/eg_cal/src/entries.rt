@@ -3,7 +3,7 @@ ghost use Rattle.std.specs.Prelude.{◌≡◌, ◌≤◌, IfOk, length};
 ghost use Rattle.toml.specs.View.{table_view};
 ghost use Rattle.eg_cal.specs.declared.key.CalKey.TheVariants.{Version, PermitThreshold, TorqueKt, Question};
 ghost use Rattle.eg_cal.specs.Keys.{version_keys, permit_keys, torque_keys, pairs_keys, plant_keys, answers_keys, question_keys, all_keys};
-ghost use Rattle.eg_cal.specs.Faults.{Checks};
+ghost use Rattle.eg_toml.specs.Refusals.{Checks};
 ghost use Rattle.eg_cal.specs.Contents.{number_of, questions_of};
 ghost use Rattle.eg_cal.specs.Checks.{first_fault, keys_fault};
 ghost use Rattle.eg_cal.specs.Calibration.{permit_of, torque_weights_of, tolerances_of, pair_weights_of, plant_of, times_of, parts_of};

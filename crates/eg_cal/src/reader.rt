@@ -2,7 +2,8 @@
 ghost use Rattle.std.specs.Prelude.{◌≡◌, ◌<◌, IfSome, length};
 ghost use Rattle.toml.specs.View.{table_view};
 ghost use Rattle.eg_toml.specs.Documents.{document_of};
-ghost use Rattle.eg_cal.specs.Faults.{IsRead, Checks};
+ghost use Rattle.eg_toml.specs.Refusals.{IsRead, Checks};
+ghost use Rattle.eg_cal.specs.declared.key.CalFault.TheVariants.{Memory};
 ghost use Rattle.eg_cal.specs.Calibration.{calibration_of, refusal_of, parts_of, parts_fault, rising_fault, window_fault, wrong_answer};
 
 use crate::document::Document;
@@ -19,7 +20,7 @@ use std::alloc::Global;
 /// breaks. The result is exactly that of `calibration_of`, but for want of memory, which it may answer at any
 /// bytes.
 pub fn read_calibration(alloc: Global, bytes: &[u8]) -> Result<Calibration, CalFault>
-    ensures { IsRead (calibration_of (document_of bytes.now)) result }
+    ensures { IsRead Memory (calibration_of (document_of bytes.now)) result }
 {
     let root = read_document(alloc, bytes)?;
     calibration_in(&Document { root })

@@ -7,7 +7,7 @@ use Rattle.eg_values.specs.Calibration.{CalibrationParts}
 use Rattle.eg_record.specs.declared.summary.Summary.{Summary}
 use Rattle.eg_model.specs.Bench.{Run}
 use Rattle.eg_model.specs.Rows.{record_rows, report_of}
-use Rattle.eg_agree.specs.Replies.{IsAnyFault}
+use Rattle.eg_fault.specs.Faults.{IsNoneOrValid}
 use Rattle.eg_tick.specs.Weights.{TickCount, weight_of}
 use Rattle.eg_tick.specs.Run.{run_by}
 use Rattle.eg_campaign.specs.declared.play.RunInput.{RunInput}
@@ -19,7 +19,7 @@ pub record IsPlayable (input : RunInput) : Type 0 where
   pub most : length input.drive ≤ 20000
   pub drive : All IsDrive input.drive
   pub image : length input.image ≤ 1024
-  pub fault : IsAnyFault input.plan.fault
+  pub fault : IsNoneOrValid input.plan.fault
 
 -- the run of an input by a calibration
 abbrev pub run_with : CalibrationParts → RunInput → Run

@@ -3,10 +3,10 @@ ghost use Rattle.std.specs.Prelude.{◌≡◌, ℕ, ◌+◌, ◌%◌, ◌^◌, �
 ghost use Rattle.eg_model.specs.Rows.{record_rows, record_trap};
 ghost use Rattle.eg_campaign.specs.Plays.{IsPlayable, run_with, report_with, ticks_of, count_after};
 
-use crate::RunPlan;
 use eg_answer::reaction;
 use eg_base::{Items, NoMemory};
 use eg_num::Drive;
+use eg_plan::RunPlan;
 use eg_record::{Summary, summarize};
 use eg_tick::{RunRecord, Ticks, run_one};
 use eg_values::Calibration;

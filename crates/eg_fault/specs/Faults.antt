@@ -94,6 +94,11 @@ IsValidClass (Lapse after every) =
 abbrev pub IsValid : Fault → Type 0
 IsValid fault = (fault.onset ≤ 19999) × IsValidClass fault.class
 
+-- no fault, or a valid one of any class, lapses too
+unfoldable pub IsNoneOrValid : Option Fault → Type 0
+IsNoneOrValid None = Unit {0}
+IsNoneOrValid (Some fault) = IsValid fault
+
 -- a lapse of level 2, which is no listed fault
 unfoldable pub is_lapse : Class → Bool
 is_lapse (Lapse after every) = true

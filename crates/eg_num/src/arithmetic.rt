@@ -1,5 +1,6 @@
 // Rules on single numbers.
-ghost use Rattle.std.specs.Prelude.{◌≡◌, ◌<◌, ◌≤◌};
+ghost use Rattle.std.specs.Prelude.{◌≡◌, ◌*◌, ◌<◌, ◌≤◌, length};
+ghost use Rattle.std.specs.List.{sum};
 ghost use Rattle.eg_num.specs.Arithmetic.{moved_toward};
 ghost use Rattle.eg_num.specs.Interpolation.{lerp};
 
@@ -32,4 +33,17 @@ pub fn toward(now: u16, target: u16, most: u16) -> u16
     } else {
         now - most
     }
+}
+
+/// The sum of at most nine numbers.
+pub fn total(numbers: &[u16]) -> u64
+    requires { length numbers.now ≤ 9 }
+    ensures sum { result ≡ sum numbers.now }
+    ensures bound { result ≤ 9 * 65535 }
+{
+    let mut total = 0;
+    for number in numbers {
+        total += u64::from(*number);
+    }
+    total
 }

@@ -11,7 +11,7 @@ mod table;
 mod watches;
 mod weights;
 
-pub use arithmetic::{lerp_floor, toward};
+pub use arithmetic::{lerp_floor, total, toward};
 pub use axis::Axis;
 pub use counter::{Counter, counters_count_windows, windows_are_places};
 pub use curve::Table1;

@@ -4,7 +4,7 @@ use Rattle.eg_base.specs.Outside.{ShownSink, Rose, Appends, AppendsPrefix}
 use Rattle.eg_input.specs.declared.fault.TraceFault.TheVariants as trace_fault
 use Rattle.eg_input.specs.declared.fault.ImageFault.TheVariants as image_fault
 use Rattle.eg_cal.specs.declared.key.CalFault.TheVariants as cal_fault
-use Rattle.eg_campaign.specs.declared.key.CampaignFault.TheVariants as campaign_fault
+use Rattle.eg_plan.specs.declared.key.CampaignFault.TheVariants as campaign_fault
 use Rattle.eg_outcome.specs.declared.outcome.Outcome.{Outcome}
 use Rattle.eg_outcome.specs.declared.outcome.Outcome.TheVariants as outcome
 use Rattle.eg_outcome.specs.declared.outcome.Refusal.TheVariants as refusal

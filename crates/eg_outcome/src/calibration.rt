@@ -2,7 +2,8 @@
 ghost use Rattle.std.specs.Prelude.{◌≡◌, ◌≢◌, ◌↔◌, Err, IfErr, IsOk, IsTrue, None};
 ghost use Rattle.std.specs.Option.{option_copied};
 ghost use Rattle.eg_base.specs.Outside.{IsMissing};
-ghost use Rattle.eg_cal.specs.Faults.{IsRead};
+ghost use Rattle.eg_toml.specs.Refusals.{IsRead};
+ghost use Rattle.eg_cal.specs.declared.key.CalFault.TheVariants.{Memory};
 ghost use Rattle.eg_outcome.specs.Reads.{BytesCome, FileComes};
 ghost use Rattle.eg_outcome.specs.Calibrations.{calibration_said, calibration_file, CalibrationComes, MissesCalibration};
 ghost use Rattle.eg_outcome.specs.Outcomes.{TellsNoMemory};
@@ -85,7 +86,7 @@ fn calibration_in(alloc: Global, bytes: &[u8]) -> Result<Calibration, Outcome>
 /// The calibration that the bytes of a file say, or why they are refused.
 #[tactic(auto, unfolding(crate::specs::Calibrations::calibration_said))]
 fn calibration_said(alloc: Global, bytes: &[u8]) -> Result<Calibration, CalFault>
-    ensures { IsRead (calibration_said bytes.now) result }
+    ensures { IsRead Memory (calibration_said bytes.now) result }
 {
     read_calibration(alloc, bytes)
 }

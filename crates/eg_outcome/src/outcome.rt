@@ -3,8 +3,8 @@ ghost use Rattle.std.specs.Prelude.{◌≡◌};
 ghost use Rattle.eg_outcome.specs.Status.{status_of};
 
 use eg_cal::CalFault;
-use eg_campaign::CampaignFault;
 use eg_input::{ImageFault, TraceFault};
+use eg_plan::CampaignFault;
 
 /// A file of a command, by what it is for.
 #[derive(Clone, Copy, Debug, PartialEq, Eq)]

@@ -4,7 +4,7 @@ use Rattle.std.specs.Prelude.{Result, slice_get, option_map}
 use Rattle.std.proofs.lemmas.List.Elements.{All-push}
 use Rattle.eg_base.specs.Outside.{ShownStore}
 use Rattle.eg_num.specs.Drive.{DriveRow}
-use Rattle.eg_campaign.specs.declared.run.RunPlan.{RunPlan}
+use Rattle.eg_plan.specs.declared.run.RunPlan.{RunPlan}
 use Rattle.eg_campaign.specs.declared.play.RunInput.{RunInput}
 use Rattle.eg_campaign.specs.Plays.{IsPlayable}
 use Rattle.eg_outcome.specs.declared.outcome.Outcome.{Outcome}

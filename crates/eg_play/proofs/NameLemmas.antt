@@ -2,9 +2,9 @@
 use Rattle.std.proofs.Common.{◌≡◌, refl, ap, ℕ, ◌+◌, List, ◌∷◌, true, Option, Some, None, Ok}
 use Rattle.std.specs.Prelude.{All, bytes_eq, if◌then◌else◌}
 use Rattle.eg_base.specs.Outside.{ShownStore}
-use Rattle.eg_agree.specs.Replies.{IsAnyFault}
-use Rattle.eg_campaign.specs.Rules.{AreRuns}
-use Rattle.eg_campaign.specs.declared.run.RunPlan.{RunPlan}
+use Rattle.eg_fault.specs.Faults.{IsNoneOrValid}
+use Rattle.eg_plan.specs.Rules.{AreRuns}
+use Rattle.eg_plan.specs.declared.run.RunPlan.{RunPlan}
 use Rattle.eg_outcome.specs.Reads.{ReadComes}
 use Rattle.eg_outcome.specs.declared.outcome.Role.{Role}
 use Rattle.eg_outcome.specs.declared.outcome.Role.TheVariants as role
@@ -31,7 +31,7 @@ names-file campaign store plans (Some (role.Trace n)) name (bytes, read, says) i
 names-file campaign store plans (Some (role.Image n)) name (bytes, read, says) is some = (bytes, read, plans, says, some, is)
 
 -- the faults of an accepted campaign are valid
-pub valid_faults : (plans : List RunPlan) → AreRuns plans → All (λ plan. IsAnyFault plan.fault) plans
+pub valid_faults : (plans : List RunPlan) → AreRuns plans → All (λ plan. IsNoneOrValid plan.fault) plans
 valid_faults plans rules = λ k d within. (rules.each k d within).fault
 
 -- the first run of the list has the name

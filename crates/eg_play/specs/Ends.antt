@@ -6,7 +6,7 @@ use Rattle.eg_base.specs.Outside.{ShownStore, ShownSink}
 use Rattle.eg_values.specs.Calibration.{CalibrationParts}
 use Rattle.eg_model.specs.Bench.{Run}
 use Rattle.eg_tick.specs.Weights.{TickCount}
-use Rattle.eg_campaign.specs.declared.run.RunPlan.{RunPlan}
+use Rattle.eg_plan.specs.declared.run.RunPlan.{RunPlan}
 use Rattle.eg_campaign.specs.declared.play.RunInput.{RunInput}
 use Rattle.eg_outcome.specs.Files.{AreRead}
 use Rattle.eg_outcome.specs.Outcomes.{LineEnds, Follows}

@@ -5,9 +5,9 @@ use Rattle.eg_toml.specs.Documents.{document_of}
 use Rattle.eg_input.specs.Records.{records_of}
 use Rattle.eg_input.specs.DriveTrace.{drive_rows}
 use Rattle.eg_input.specs.Images.{image_words}
-use Rattle.eg_campaign.specs.Campaign.{campaign_of}
-use Rattle.eg_campaign.specs.declared.key.CampaignFault.{CampaignFault}
-use Rattle.eg_campaign.specs.declared.run.RunPlan.{RunPlan}
+use Rattle.eg_plan.specs.Campaign.{campaign_of}
+use Rattle.eg_plan.specs.declared.key.CampaignFault.{CampaignFault}
+use Rattle.eg_plan.specs.declared.run.RunPlan.{RunPlan}
 use Rattle.eg_outcome.specs.Reads.{sized}
 use Rattle.eg_outcome.specs.declared.outcome.Refusal.{Refusal}
 use Rattle.eg_outcome.specs.declared.outcome.Refusal.TheVariants as refusal
@@ -18,7 +18,7 @@ abbrev pub refused : {X Fault : Type 0} → (Fault → Refusal) → Result X Fau
 refused why (Ok x) = Ok x
 refused why (Err fault) = Err (why fault)
 
--- what the bytes of a campaign file say, by the rules of eg_campaign
+-- what the bytes of a campaign file say, by the rules of eg_plan
 unfoldable pub campaign_said : List ℕ → Result (List RunPlan) CampaignFault
 campaign_said bytes = campaign_of (document_of bytes)
 

@@ -2,9 +2,9 @@
 use Rattle.std.specs.Prelude.{◌≡◌, ℕ, ◌+◌, List, [], ◌∷◌, length, Option, Some, None, Result, Ok, Err}
 use Rattle.eg_base.specs.Outside.{ShownStore}
 use Rattle.eg_num.specs.Drive.{DriveRow}
-use Rattle.eg_campaign.specs.Ticks.{sum_with}
-use Rattle.eg_campaign.specs.declared.key.CampaignFault.{CampaignFault}
-use Rattle.eg_campaign.specs.declared.run.RunPlan.{RunPlan}
+use Rattle.eg_plan.specs.Ticks.{sum_with}
+use Rattle.eg_plan.specs.declared.key.CampaignFault.{CampaignFault}
+use Rattle.eg_plan.specs.declared.run.RunPlan.{RunPlan}
 use Rattle.eg_campaign.specs.declared.play.RunInput.{RunInput}
 use Rattle.eg_outcome.specs.Outcomes.{Then}
 use Rattle.eg_outcome.specs.Reads.{FileComes, ReadComes, Finds, Accepts}

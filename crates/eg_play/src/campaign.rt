@@ -1,8 +1,9 @@
 // The campaign that a command plays.
 ghost use Rattle.std.specs.Prelude.{◌≡◌, ◌≢◌, ◌↔◌, Err, IfErr, IfOk, IsOk, IsTrue};
 ghost use Rattle.eg_base.specs.Outside.{IsMissing};
-ghost use Rattle.eg_campaign.specs.Refusals.{IsRead, seen};
-ghost use Rattle.eg_campaign.specs.Rules.{AreRuns};
+ghost use Rattle.eg_toml.specs.Refusals.{IsRead, seen};
+ghost use Rattle.eg_plan.specs.declared.key.CampaignFault.TheVariants.{Memory};
+ghost use Rattle.eg_plan.specs.Rules.{AreRuns};
 ghost use Rattle.eg_outcome.specs.Reads.{BytesCome, FileComes};
 ghost use Rattle.eg_outcome.specs.Outcomes.{TellsNoMemory};
 ghost use Rattle.eg_outcome.specs.declared.outcome.Outcome.TheVariants.{ReadFault};
@@ -11,8 +12,8 @@ ghost use Rattle.eg_play.specs.Files.{campaign_said, campaign_file};
 ghost use Rattle.eg_play.specs.Ends.{IsNotOfRun};
 
 use eg_base::{Items, ReadRefusal, Store};
-use eg_campaign::{CampaignFault, RunPlan, read_campaign};
 use eg_outcome::{MOST_BYTES, Outcome, Refusal, Role, is_too_long};
+use eg_plan::{CampaignFault, RunPlan, read_campaign};
 use std::alloc::Global;
 
 /// The runs of the campaign in the file of that name, or how the call ends without them.
@@ -64,7 +65,7 @@ fn campaign_in(alloc: Global, bytes: &[u8]) -> Result<Items<RunPlan>, Outcome>
 /// The runs that the bytes of a campaign file say, or why they are refused.
 #[tactic(auto, unfolding(crate::specs::Files::campaign_said))]
 fn campaign_said(alloc: Global, bytes: &[u8]) -> Result<Vec<RunPlan>, CampaignFault>
-    ensures said { IsRead (campaign_said bytes.now) (seen (λ plans. plans.items) result) }
+    ensures said { IsRead Memory (campaign_said bytes.now) (seen (λ plans. plans.items) result) }
     ensures rules { IfOk result (λ plans. AreRuns plans.items) }
 {
     read_campaign(alloc, bytes)

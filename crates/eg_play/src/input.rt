@@ -2,7 +2,7 @@
 ghost use Rattle.std.specs.Prelude.{◌≡◌, ◌+◌, ◌≤◌, All, length, Err, IfErr, IfOk, IsOk, None};
 ghost use Rattle.std.specs.Option.{ForSome, MatchOption};
 ghost use Rattle.eg_num.specs.Drive.{IsDrive};
-ghost use Rattle.eg_agree.specs.Replies.{IsAnyFault};
+ghost use Rattle.eg_fault.specs.Faults.{IsNoneOrValid};
 ghost use Rattle.eg_campaign.specs.Plays.{IsPlayable};
 ghost use Rattle.eg_outcome.specs.Reads.{BytesCome, FileComes};
 ghost use Rattle.eg_outcome.specs.Outcomes.{TellsNoMemory};
@@ -14,10 +14,11 @@ ghost use Rattle.eg_play.specs.Ends.{IsOf, role_in, name_by};
 
 use crate::End;
 use eg_base::{Items, ReadRefusal, Store};
-use eg_campaign::{RunInput, RunPlan, add_ticks};
+use eg_campaign::RunInput;
 use eg_input::{ImageFault, TraceFault, read_image, read_trace};
 use eg_num::Drive;
 use eg_outcome::{MOST_BYTES, Outcome, Refusal, Role, is_too_long};
+use eg_plan::{RunPlan, add_ticks};
 use std::alloc::Global;
 
 /// The input of a run, the first run being 1: its trace is read, and then its image. Where a sum is given, it
@@ -31,7 +32,7 @@ pub(crate) fn input_for<S: Store>(
     store: &mut S,
 ) -> Result<RunInput, End>
     requires sum { ForSome sum (λ n. n ≤ 1000000) }
-    requires fault { IsAnyFault plan.fault }
+    requires fault { IsNoneOrValid plan.fault }
     ensures comes { InputComes (refusing sum run) (S.shows store.old) (S.shows store.new) run plan
         (outcomes result) }
     ensures playable { IfOk result IsPlayable }

@@ -1,6 +1,6 @@
 // The files of all runs of a campaign.
 ghost use Rattle.std.specs.Prelude.{◌≡◌, ◌≤◌, ◌++◌, ◌∷◌, [], All, None, length, IfErr, IfOk, IsOk, OnOk};
-ghost use Rattle.eg_agree.specs.Replies.{IsAnyFault};
+ghost use Rattle.eg_fault.specs.Faults.{IsNoneOrValid};
 ghost use Rattle.eg_campaign.specs.Plays.{IsPlayable};
 ghost use Rattle.eg_outcome.specs.Outcomes.{TellsNoMemory};
 ghost use Rattle.eg_outcome.specs.declared.outcome.Outcome.TheVariants.{Memory};
@@ -10,8 +10,9 @@ ghost use Rattle.eg_play.specs.Ends.{role_in, name_for, IsNamedIfOfRun};
 use crate::End;
 use crate::input::input_for;
 use eg_base::{Items, Store};
-use eg_campaign::{RunInput, RunPlan};
+use eg_campaign::RunInput;
 use eg_outcome::Outcome;
+use eg_plan::RunPlan;
 use std::alloc::Global;
 
 /// The inputs of all runs of a campaign, in its order.
@@ -20,7 +21,7 @@ pub(crate) fn inputs_for<S: Store>(
     plans: Items<RunPlan>,
     store: &mut S,
 ) -> Result<Items<RunInput>, End>
-    requires faults { All (λ plan. IsAnyFault plan.fault) plans }
+    requires faults { All (λ plan. IsNoneOrValid plan.fault) plans }
     requires most { length plans ≤ 1000 }
     ensures comes { InputsCome (S.shows store.old) (S.shows store.new) 1 0 plans (outcomes result) }
     ensures playable { IfOk result (λ inputs. All IsPlayable inputs) }

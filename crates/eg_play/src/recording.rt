@@ -2,8 +2,8 @@
 ghost use Rattle.std.specs.Prelude.{◌≡◌, IsTrue, Some, None, bytes_eq};
 ghost use Rattle.std.specs.Option.{option_copied};
 ghost use Rattle.eg_base.specs.Outside.{IsMissing};
-ghost use Rattle.eg_agree.specs.Replies.{IsAnyFault};
-ghost use Rattle.eg_campaign.specs.Rules.{AreRuns};
+ghost use Rattle.eg_fault.specs.Faults.{IsNoneOrValid};
+ghost use Rattle.eg_plan.specs.Rules.{AreRuns};
 ghost use Rattle.eg_outcome.specs.Calibrations.{MissesCalibration};
 ghost use Rattle.eg_outcome.specs.Outcomes.{TellsNoMemory, PutsNothing};
 ghost use Rattle.eg_outcome.specs.declared.outcome.Outcome.TheVariants.{ReadFault};
@@ -15,8 +15,8 @@ use crate::campaign::campaign_for;
 use crate::input::input_for;
 use crate::report::put_record;
 use eg_base::{Items, Sink, Store};
-use eg_campaign::RunPlan;
 use eg_outcome::{Outcome, Refusal, calibration_for};
+use eg_plan::RunPlan;
 use eg_tick::Ticks;
 use eg_values::Calibration;
 use std::alloc::Global;
@@ -129,7 +129,7 @@ fn record_plan<S: Store, K: Sink>(
     out: &mut K,
     steps: &mut Ticks,
 ) -> End
-    requires fault { IsAnyFault plan.fault }
+    requires fault { IsNoneOrValid plan.fault }
     ensures ends { NamedEnds calibration.now (Some (run, plan)) (S.shows store.old)
         (S.shows store.new) (K.shows out.old) (K.shows out.new) steps.old steps.new result.outcome }
     ensures named { result.file ≡ name_by plan (role_in result.outcome) }

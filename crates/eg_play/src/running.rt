@@ -2,7 +2,7 @@
 ghost use Rattle.std.specs.Prelude.{◌≡◌, IsTrue, None};
 ghost use Rattle.std.specs.Option.{option_copied};
 ghost use Rattle.eg_base.specs.Outside.{IsMissing};
-ghost use Rattle.eg_campaign.specs.Rules.{AreRuns};
+ghost use Rattle.eg_plan.specs.Rules.{AreRuns};
 ghost use Rattle.eg_outcome.specs.Calibrations.{MissesCalibration};
 ghost use Rattle.eg_outcome.specs.Outcomes.{TellsNoMemory, PutsNothing};
 ghost use Rattle.eg_outcome.specs.declared.outcome.Outcome.TheVariants.{ReadFault};
@@ -14,8 +14,8 @@ use crate::campaign::campaign_for;
 use crate::inputs::inputs_for;
 use crate::report::put_report;
 use eg_base::{Items, Sink, Store};
-use eg_campaign::RunPlan;
 use eg_outcome::calibration_for;
+use eg_plan::RunPlan;
 use eg_tick::Ticks;
 use eg_values::Calibration;
 use std::alloc::Global;

@@ -9,7 +9,7 @@ use std::alloc::Global;
 use std::test::Fail;
 
 /// A run of an image without a fault, by one slice row.
-#[tactic(auto, unfolding(eg_agree::specs::Replies::IsAnyFault))]
+#[tactic(auto, unfolding(eg_fault::specs::Faults::IsNoneOrValid))]
 fn run(
     alloc: Global,
     image: &[u16],

@@ -12,7 +12,7 @@ use std::process::Abort;
 use std::test::Fail;
 
 /// A controller whose level 1 waits. It has made no tick.
-#[tactic(auto, unfolding(eg_agree::specs::Replies::IsAnyFault))]
+#[tactic(auto, unfolding(eg_fault::specs::Faults::IsNoneOrValid))]
 fn controller<M: CodeMemory + Drop>(memory: M) -> Result<Controller<GasolineEngine, M>, NoMemory>
     requires { (M.shows memory).words ≡ replicate 4096 0 }
     ensures { IfOk result (λ controller. controller.kept.ticks ≡ 0) }

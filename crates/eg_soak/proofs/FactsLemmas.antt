@@ -4,7 +4,7 @@ use Rattle.std.specs.Prelude.{Option, Some, None, IfSome, if◌then◌else◌, r
 use Rattle.std.proofs.lemmas.List.{length-reverse}
 use Rattle.eg_fault.specs.Faults.{IsValid}
 use Rattle.eg_fault.specs.declared.class.Fault.{Fault}
-use Rattle.eg_agree.specs.Replies.{IsAnyFault}
+use Rattle.eg_fault.specs.Faults.{IsNoneOrValid}
 use Rattle.eg_record.specs.declared.row.Row.{Row}
 use Rattle.eg_record.specs.declared.summary.Summary.{Summary}
 use Rattle.eg_record.proofs.RowsLemmas.{so_far, so_far-more, length-so_far}
@@ -31,8 +31,8 @@ length-rows r rows are = ap length are ∙ length-reverse (record_rows r)
 
 -- ---- runs ----
 
-pub any_fault : (fault : Option Fault) → IfSome fault IsValid → IsAnyFault fault
-unfolding IsAnyFault
+pub any_fault : (fault : Option Fault) → IfSome fault IsValid → IsNoneOrValid fault
+unfolding IsNoneOrValid
 any_fault None valid = tt
 any_fault (Some fault) valid = valid
 

@@ -5,7 +5,7 @@ use Rattle.eg_values.specs.Reference.{reference_parts}
 use Rattle.eg_record.specs.Detection.{watches}
 use Rattle.eg_model.specs.Bench.{Run}
 use Rattle.eg_tick.specs.Run.{run_by}
-use Rattle.eg_campaign.specs.Contents.{usual_slices}
+use Rattle.eg_plan.specs.Contents.{usual_slices}
 use Rattle.eg_draw.specs.declared.runs.DrawnRun.{DrawnRun}
 use Rattle.eg_draw.specs.Runs.{drawn_run, state_after}
 use Rattle.eg_soak.specs.declared.facts.RunFacts.{RunFacts}

@@ -9,8 +9,8 @@ ghost use Rattle.eg_soak.specs.Soak.{run_drawn};
 
 use eg_answer::reaction as reaction_time;
 use eg_base::NoMemory;
-use eg_campaign::usual_slices;
 use eg_draw::DrawnRun;
+use eg_plan::usual_slices;
 use eg_record::{Row, Summary, Watch, summarize};
 use eg_tick::{RunRecord, Ticks, run_one};
 use eg_values::Calibration;

@@ -23,7 +23,7 @@ use Rattle.eg_model.specs.Level1.{last_world}
 use Rattle.eg_model.specs.Moments.{readings_at, moments, next}
 use Rattle.eg_model.specs.Rows.{trap_in, row_of, signal_list}
 use Rattle.eg_agree.specs.Standing.{signals_of}
-use Rattle.eg_agree.specs.Replies.{IsAnyFault}
+use Rattle.eg_fault.specs.Faults.{IsNoneOrValid}
 use Rattle.eg_agree.proofs.HistoryLemmas.{within_law}
 use Rattle.eg_tick.specs.Kept.{Kept}
 use Rattle.eg_tick.specs.Stands.{Stands, HoldsMonitor}
@@ -71,8 +71,8 @@ class-held (PathOpen path) k x valid is = absurd (let no_plate : None ≡ Some x
 class-held (Lapse after every) k x valid is = absurd (let no_plate : None ≡ Some x = is in cc)
 
 -- under a valid fault it is within its range
-pub held-within : (fault : Option Fault) (tick x : ℕ) → IsAnyFault fault → (effects fault tick).held ≡ Some x → x ≤ 1000
-unfolding effects IsAnyFault no_effects
+pub held-within : (fault : Option Fault) (tick x : ℕ) → IsNoneOrValid fault → (effects fault tick).held ≡ Some x → x ≤ 1000
+unfolding effects IsNoneOrValid no_effects
 held-within None tick x valid is = absurd (let no_plate : None ≡ Some x = is in cc)
 held-within (Some fault) tick x valid is = either (nat_le fault.onset tick) is
   where

@@ -13,7 +13,7 @@ use Rattle.eg_level2.specs.Words.{Words, words_of, AreMirrored, is_level2_own}
 use Rattle.eg_level2.specs.Inputs.{Level2Parts, Inputs}
 use Rattle.eg_level2.specs.Modules.{answer_after, order_after, given_up, finding, mirror_alone}
 use Rattle.eg_flow.specs.Ticks.{after_module}
-use Rattle.eg_agree.specs.Replies.{IsAnyFault}
+use Rattle.eg_fault.specs.Faults.{IsNoneOrValid}
 use Rattle.eg_agree.proofs.FlipLemmas.{faults_check_flips}
 use Rattle.eg_tick.specs.Midway.{Work, IsMidway, Meets, step_at}
 use Rattle.eg_tick.proofs.MidwayLemmas.{module-midway}
@@ -38,8 +38,8 @@ unfolding no_effects
 from-onset true class k valid = class-flips class k valid
 from-onset false class k valid = tt
 
-pub flips-are : (fault : Option Fault) (tick : ℕ) → IsAnyFault fault → IfSome (effects fault tick).flip IsFlip
-unfolding effects IsAnyFault no_effects
+pub flips-are : (fault : Option Fault) (tick : ℕ) → IsNoneOrValid fault → IfSome (effects fault tick).flip IsFlip
+unfolding effects IsNoneOrValid no_effects
 flips-are None tick valid = tt
 flips-are (Some fault) tick valid = from-onset (nat_le fault.onset tick) fault.class (tick - fault.onset) valid.1
 

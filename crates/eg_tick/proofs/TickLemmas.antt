@@ -18,7 +18,8 @@ use Rattle.eg_model.specs.Moments.{readings_at, moment, moments_of, ticks, momen
 use Rattle.eg_agree.specs.Doings.{doing_at}
 use Rattle.eg_agree.specs.Standing.{KeepsWords}
 use Rattle.eg_agree.specs.Ticking.{IsTick}
-use Rattle.eg_agree.specs.Replies.{doing_after, KeepsFlow, IsAnyFault}
+use Rattle.eg_fault.specs.Faults.{IsNoneOrValid}
+use Rattle.eg_agree.specs.Replies.{doing_after, KeepsFlow}
 use Rattle.eg_agree.proofs.TickLemmas.{run_law, length-ticks}
 use Rattle.eg_agree.proofs.ReplySteps.{keeps_tick}
 use Rattle.eg_agree.proofs.ReplyLaws.{ticks_follow, rests}
@@ -121,7 +122,7 @@ module _ (s : Setting) (accepted : IsAccepted s.cal) (e : Entry) (h : List Entry
   unfolding last_world moments moments_of ticks next work_at
   level1-next m memory nine is = record { code = is.set.code; world = all-world w 8 m memory nine is ∙ world-is nine }
 
-  pub level2-next : (m : Registers) (memory : List ℕ) → IsAnyFault s.fault → length h < 65535 → KeepsFlow s words (ticks s h) → words.last ≡ last_check (ticks s h)
+  pub level2-next : (m : Registers) (memory : List ℕ) → IsNoneOrValid s.fault → length h < 65535 → KeepsFlow s words (ticks s h) → words.last ≡ last_check (ticks s h)
       → IsMidway w 9 8 m memory → HoldsLevel2 s memory (e ∷ h)
   unfolding moments moments_of ticks next work_at
   level2-next m memory valid short flow last is =

@@ -17,7 +17,8 @@ use Rattle.eg_model.specs.Signals.{tripped}
 use Rattle.eg_model.specs.Moments.{readings_at, moments, ticks, next}
 use Rattle.eg_agree.specs.Doings.{doing_at}
 use Rattle.eg_agree.specs.Ticking.{IsTick}
-use Rattle.eg_agree.specs.Replies.{IsAnyFault, IsReady, doing_after, number_expected, mark_of}
+use Rattle.eg_fault.specs.Faults.{IsNoneOrValid}
+use Rattle.eg_agree.specs.Replies.{IsReady, doing_after, number_expected, mark_of}
 use Rattle.eg_agree.proofs.TickLemmas.{run_law, length-ticks}
 use Rattle.eg_agree.proofs.ReplyLaws.{ticks_follow, flow_marks}
 use Rattle.eg_tick.specs.Board.{is_board_own, by_tracks}
@@ -85,12 +86,12 @@ module _ (s : Setting) (e : Entry) (h : List Entry) (made : Level2Parts) (under 
 
   -- ---- as it ends ----
 
-  pub served : (n : Registers) (new : List ℕ) → IsAnyFault under → length budgets ≡ 9 → IsMidway w 9 8 n new → Served s e h n new
+  pub served : (n : Registers) (new : List ℕ) → IsNoneOrValid under → length budgets ≡ 9 → IsMidway w 9 8 n new → Served s e h n new
   served n new valid nine is =
       let all : length e.slices ≡ 9 = ap length serves.slices ∙ nine in
       let short = serves.short in (
         level1-next s serves.accepted e h words serves.level2.words n new all is,
-        level2-next s serves.accepted e h words serves.level2.words n new (subst IsAnyFault (sym serves.fault) valid) (omega (arith, short)) serves.level2.flow serves.level2.last is,
+        level2-next s serves.accepted e h words serves.level2.words n new (subst IsNoneOrValid (sym serves.fault) valid) (omega (arith, short)) serves.level2.flow serves.level2.last is,
       )
 
   -- ---- what it orders, finds and answers ----
@@ -101,27 +102,27 @@ module _ (s : Setting) (e : Entry) (h : List Entry) (made : Level2Parts) (under 
   tells : IsTick s x (doing_at s x (readings_at x e) (length h)) words (next s e h) (moments s h)
   tells = run_law s serves.accepted h e words serves.level2.words
 
-  ready : IsAnyFault under → IsReady s 0 now (ticks s h) words
+  ready : IsNoneOrValid under → IsReady s 0 now (ticks s h) words
   unfolding now ticks doing_after next moments
   ready valid =
       let short = serves.short in
       let same = length-ticks s h in
       record {
         accepted = serves.accepted;
-        fault = subst IsAnyFault (sym serves.fault) valid;
+        fault = subst IsNoneOrValid (sym serves.fault) valid;
         follows = ticks_follow s (e ∷ h);
         short = omega (arith, short, same);
         keeps = serves.level2.flow;
         trip = subst (λ n. is_set (after_modules (doing_at s x (readings_at x e) n) 7 words).trip ≡ tripped (next s e h ∷ moments s h)) (sym same) tells.trip;
       }
 
-  marks : IsAnyFault under → mark_of (number_expected s x (length h)) (answer_at w.doing words) ≡ (next s e h).mark
+  marks : IsNoneOrValid under → mark_of (number_expected s x (length h)) (answer_at w.doing words) ≡ (next s e h).mark
   unfolding now work_at doing_after next moments
   marks valid =
       subst (λ n. mark_of (number_expected s x n) (answer_at (doing_at s x (readings_at x e) n) words) ≡ (next s e h).mark) (length-ticks s h)
       (flow_marks s 0 now (ticks s h) words (ready valid))
 
-  pub stepped : (step : Step) → IsAnyFault under → step ≡ tick_step w.doing words → IsStep s e h step
+  pub stepped : (step : Step) → IsNoneOrValid under → step ≡ tick_step w.doing words → IsStep s e h step
   unfolding tick_step work_at effects_after
   stepped step valid is = record {
     order = ap (λ (t : Step). t.open_path) is ∙ tells.order;

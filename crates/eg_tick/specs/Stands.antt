@@ -18,7 +18,8 @@ use Rattle.eg_model.specs.Premises.{AreProper}
 use Rattle.eg_model.specs.Moments.{ticks, moments}
 use Rattle.eg_model.specs.Rows.{first_trap}
 use Rattle.eg_agree.specs.Standing.{KeepsWords}
-use Rattle.eg_agree.specs.Replies.{KeepsFlow, IsAnyFault, is_flipped}
+use Rattle.eg_fault.specs.Faults.{IsNoneOrValid}
+use Rattle.eg_agree.specs.Replies.{KeepsFlow, is_flipped}
 use Rattle.eg_agree.specs.Agreement.{last_check}
 use Rattle.eg_tick.specs.Kept.{Kept}
 
@@ -106,7 +107,7 @@ pub record Stands (s : Setting) (c : Kept) (h : List Entry) : Type 0 where
 -- memory never runs out.
 pub record IsController (c : Kept) : Type 0 where
   pub accepted : IsAccepted c.cal
-  pub fault : IsAnyFault c.fault
+  pub fault : IsNoneOrValid c.fault
   pub stands : c.lost ≡ false → (image : List ℕ) × (h : List Entry)
       × Stands (record { cal = c.cal; image = image; fault = c.fault }) c h
   pub unsure : c.lost ≡ true → c.memory.sure ≡ false

@@ -7,7 +7,7 @@ ghost use Rattle.eg_model.specs.Paths.{on_at};
 ghost use Rattle.eg_model.specs.Level1.{last_world};
 ghost use Rattle.eg_model.specs.Moments.{moments, next};
 ghost use Rattle.eg_model.specs.Rows.{row_of, trap_in, first_trap};
-ghost use Rattle.eg_agree.specs.Replies.{IsAnyFault};
+ghost use Rattle.eg_fault.specs.Faults.{IsNoneOrValid};
 ghost use Rattle.eg_tick.specs.Stands.{Stands, IsController};
 ghost use Rattle.eg_tick.specs.Working.{effects_after};
 ghost use Rattle.eg_tick.specs.Advancing.{entry_of, HoldsOutputs, RowReactsInTime, RowReactsAtOnce, RowCutsLapses, HistoryHasShortLapses};
@@ -109,7 +109,7 @@ impl<E: Engine + Drop, M: CodeMemory + Drop> Controller<E, M> {
         engine: E,
     ) -> Result<Controller<E, M>, NoMemory>
         requires image { length image.now ≤ 1024 }
-        requires fault { IsAnyFault fault }
+        requires fault { IsNoneOrValid fault }
         requires zeros { (M.shows memory).words ≡ replicate 4096 0 }
         requires kt { E.kt engine ≡ calibration.rules.kt }
         // It stands for the history of this run without a tick.

@@ -15,10 +15,8 @@ mod paths;
 mod plant;
 mod row;
 mod run;
-mod slices;
-mod total;
 mod working;
 
 pub use controller::{Controller, Ticks};
+pub use eg_slices::{SlicePlan, Slices};
 pub use run::{RunRecord, run_one};
-pub use slices::{SlicePlan, Slices};

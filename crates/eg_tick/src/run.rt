@@ -9,7 +9,7 @@ ghost use Rattle.eg_model.specs.Bench.{Run, drive_at};
 ghost use Rattle.eg_model.specs.Rows.{record_rows, record_trap};
 ghost use Rattle.eg_model.specs.Records.{row_at, rows_to, ReactWithin, CutOneTickAfter};
 ghost use Rattle.eg_model.specs.Lapses.{IsLapse};
-ghost use Rattle.eg_agree.specs.Replies.{IsAnyFault};
+ghost use Rattle.eg_fault.specs.Faults.{IsNoneOrValid};
 ghost use Rattle.eg_tick.specs.Weights.{weight_of};
 ghost use Rattle.eg_tick.specs.Run.{run_by, IsAt, IsRecordOf, ReactAtOnce, CutLapses, LapsesAreShort};
 
@@ -46,7 +46,7 @@ pub fn run_one(
     requires some { 1 ≤ length drive.now }
     requires most { length drive.now ≤ 20000 }
     requires image { length image.now ≤ 1024 }
-    requires fault { IsAnyFault (option_copied fault) }
+    requires fault { IsNoneOrValid (option_copied fault) }
     // The record is that of the run in the model.
     ensures rows { IfOk result (λ made. made.rows ≡ reverse (record_rows
         (run_by calibration.now image.now (option_copied fault.entry) plan.now drive.now))) }
@@ -97,7 +97,7 @@ fn record_run(
 ) -> Result<RunRecord, NoMemory>
     requires most { length drive.now ≤ 20000 }
     requires image { length image.now ≤ 1024 }
-    requires fault { IsAnyFault (option_copied fault) }
+    requires fault { IsNoneOrValid (option_copied fault) }
     ensures made { IfOk result (λ made. IsRecordOf
         (run_by calibration.now image.now (option_copied fault.entry) plan.now drive.now)
         made.rows made.trap) }
@@ -133,7 +133,7 @@ fn begin(
     fault: Option<&Fault>,
 ) -> Result<Controller<GasolineEngine, DecodedMemory>, NoMemory>
     requires image { length image.now ≤ 1024 }
-    requires fault { IsAnyFault (option_copied fault) }
+    requires fault { IsNoneOrValid (option_copied fault) }
     ensures at { IfOk result (λ controller. (plan : List (List ℕ)) (drive : List DriveRow) →
         IsAt (run_by calibration.now image.now (option_copied fault.entry) plan drive) 0 controller) }
     ensures ticks { IfOk result (λ controller. controller.kept.ticks ≡ 0) }

@@ -5,7 +5,7 @@ ghost use Rattle.eg_guard.specs.Memory.{AreWords};
 ghost use Rattle.eg_level2.specs.Words.{words_of, AreMirrored, AreWithin};
 ghost use Rattle.eg_level2.specs.Inputs.{IsLookup};
 ghost use Rattle.eg_model.specs.History.{Setting, Entry};
-ghost use Rattle.eg_agree.specs.Replies.{IsAnyFault};
+ghost use Rattle.eg_fault.specs.Faults.{IsNoneOrValid};
 ghost use Rattle.eg_tick.specs.Working.{Serves, Served, IsStep};
 
 use crate::Slices;
@@ -42,7 +42,7 @@ pub(crate) fn work<M: CodeMemory>(
     requires mirrored { AreMirrored (M.shows memory.old).words }
     requires within { AreWithin level2.now.rules (words_of (M.shows memory.old).words) }
     requires are_words { AreWords (M.shows memory.old).words }
-    requires fault { IsAnyFault (option_copied fault) }
+    requires fault { IsNoneOrValid (option_copied fault) }
     requires lookup { IsLookup level2.now.rules task.now.lookup }
     ensures served { (s : Setting) (e : Entry) (h : List Entry)
         → Serves s e h level2.now (option_copied fault.entry) task.now slices.now host.old.registers

@@ -2,7 +2,7 @@
 ghost use Rattle.std.specs.Prelude.{◌≡◌, ◌+◌, ◌%◌, ◌^◌};
 ghost use Rattle.eg_tick.specs.Weights.{weight_of};
 
-use crate::total::total;
+use eg_num::total;
 use eg_record::Row;
 use std::marker::Model;
 

@@ -1,6 +1,6 @@
 use Rattle.std.proofs.Common.{◌∙◌, sym, ap, subst, [], ◌∷◌}
 use Rattle.std.specs.Option.{option_copied}
-use Rattle.eg_agree.specs.Replies.{IsAnyFault}
+use Rattle.eg_fault.specs.Faults.{IsNoneOrValid}
 use Rattle.eg_model.specs.Bench.{Run}
 use Rattle.eg_tick.specs.Run.{run_by}
 use Rattle.eg_campaign.specs.Plays.{count_after}
@@ -10,7 +10,7 @@ use Rattle.eg_soak.proofs.facts.record_drawn.Goals as goal
 
 pub run_one-requires-clause-fault : goal.run_one-requires-clause-fault
 run_one-requires-clause-fault c =
-    subst IsAnyFault (sym c.as_ref-fault.ensures.value) (any_fault c.args.drawn.now.fault c.requires.drawn.valid)
+    subst IsNoneOrValid (sym c.as_ref-fault.ensures.value) (any_fault c.args.drawn.now.fault c.requires.drawn.valid)
 
 pub returns-clause-counted : goal.returns-clause-counted
 returns-clause-counted c =

@@ -1,9 +1,0 @@
-use Rattle.eg_campaign.proofs.RuleLemmas.{accepted_law}
-use Rattle.eg_campaign.proofs.TickLemmas.{no_ticks}
-use Rattle.eg_campaign.proofs.laws.accepted_files_keep_the_rules.Goals as goal
-
-pub returns-clause-accepted : goal.returns-clause-accepted
-returns-clause-accepted c = accepted_law
-
-pub returns-clause-ticks : goal.returns-clause-ticks
-returns-clause-ticks c = no_ticks

@@ -1,8 +1,0 @@
--- How many ticks the runs of a campaign have in all.
-use Rattle.std.specs.Prelude.{ℕ, ◌+◌, nat_le, Result, Ok, Err, if◌then◌else◌}
-use Rattle.eg_campaign.specs.declared.key.CampaignFault.{CampaignFault}
-use Rattle.eg_campaign.specs.declared.key.CampaignFault.TheVariants.{Ticks}
-
--- the sum with the ticks of run n, at most 1,000,000
-abbrev pub sum_with : ℕ → ℕ → ℕ → Result ℕ CampaignFault
-sum_with sum n count = if nat_le (sum + count) 1000000 then Ok (sum + count) else Err (Ticks n)

@@ -1,0 +1,5 @@
+pub mod TableLemmas
+pub mod HeldLemmas
+pub mod RuleLemmas
+pub mod TickLemmas
+pub mod Worked

@@ -1,0 +1,6 @@
+use Rattle.std.proofs.Common.{rules, tests}
+use Rattle.eg_toml.proofs.ReadLemmas.{count-view}
+use Rattle.eg_plan.proofs.reader.is_one_at_least.Goals as goal
+
+pub returns : goal.returns
+returns c = rw (count-view c.args.items.now) (search (rules, tests))

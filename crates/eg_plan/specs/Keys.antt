@@ -1,0 +1,118 @@
+-- The keys of a campaign file, and the table of what each may hold.
+use Rattle.std.specs.Prelude.{ℕ, List, [], ◌∷◌, codes}
+use Rattle.eg_plan.specs.declared.key.RunKey.{RunKey}
+use Rattle.eg_plan.specs.declared.key.RunKey.TheVariants.{Run, Name, Trace, Image, Slices, Faults, Class, Onset, Track, Values, Add, Mask, At, Module, Word, Offset, Questions, Opens, Path, After, Every, Unknown}
+
+-- a key as it stands in the file, and as a note prints it
+abbrev pub text_of : RunKey → List ℕ
+text_of Run = codes "run"
+text_of Name = codes "name"
+text_of Trace = codes "trace"
+text_of Image = codes "image"
+text_of Slices = codes "slices"
+text_of Faults = codes "faults"
+text_of Class = codes "class"
+text_of Onset = codes "onset"
+text_of Track = codes "track"
+text_of Values = codes "values"
+text_of Add = codes "add"
+text_of Mask = codes "mask"
+text_of At = codes "at"
+text_of Module = codes "module"
+text_of Word = codes "word"
+text_of Offset = codes "offset"
+text_of Questions = codes "questions"
+text_of Opens = codes "opens"
+text_of Path = codes "path"
+text_of After = codes "after"
+text_of Every = codes "every"
+text_of Unknown = codes "unknown"
+
+-- What a key may hold. A number is a TOML integer, and a truth value a TOML boolean.
+pub data Content : Type 0 where
+  run_name : Content  -- 1 to 32 of the characters a to z, 0 to 9 and -, not beginning with -
+  file_name : Content  -- 1 to 200 bytes, not beginning with -
+  slice_rows : Content  -- 1 to 64 rows of nine numbers; where the key is absent, one row of nine 100
+  number : ℕ → ℕ → Content  -- a number from .. to ..
+  optional : ℕ → Content  -- a number from 0 to ..; where the key is absent, 0
+  shift : Content  -- a number from -65535 to 65535, and not 0
+  words : Content  -- 1 to 64 numbers from 0 to 65535
+  ticks : Content  -- 1 to 64 strictly rising numbers from 0 to 19999
+  truths : Content  -- 1 to 64 truth values
+
+-- a key and what it may hold
+pub record KeyRule : Type 0 where
+  pub key : RunKey
+  pub content : Content
+
+-- how a line of the table is written
+infix 4 ◌holds◌
+abbrev pub ◌holds◌ : RunKey → Content → KeyRule
+k holds c = record { key = k; content = c }
+
+-- ---- the keys of a run ----
+
+abbrev pub name : KeyRule
+name = Name holds run_name
+
+abbrev pub trace : KeyRule
+trace = Trace holds file_name
+
+abbrev pub image : KeyRule
+image = Image holds file_name
+
+abbrev pub slices : KeyRule
+slices = Slices holds slice_rows
+
+-- those that are checked first, in this order; `faults` comes after them
+abbrev pub run_keys : List KeyRule
+run_keys = name ∷ trace ∷ image ∷ slices ∷ []
+
+-- ---- the keys of a fault ----
+
+abbrev pub onset : KeyRule
+onset = Onset holds number 0 19999
+
+abbrev pub track : KeyRule
+track = Track holds number 0 7
+
+abbrev pub values : KeyRule
+values = Values holds words
+
+abbrev pub add : KeyRule
+add = Add holds shift
+
+abbrev pub mask : KeyRule
+mask = Mask holds number 1 65535
+
+abbrev pub at : KeyRule
+at = At holds number 0 1000
+
+-- any module of level 2
+abbrev pub any_module : KeyRule
+any_module = Module holds number 0 7
+
+-- a module that has a signal
+abbrev pub signal_module : KeyRule
+signal_module = Module holds number 1 5
+
+abbrev pub word : KeyRule
+word = Word holds number 0 31
+
+abbrev pub offset : KeyRule
+offset = Offset holds number 0 99
+
+abbrev pub questions : KeyRule
+questions = Questions holds words
+
+abbrev pub opens : KeyRule
+opens = Opens holds truths
+
+abbrev pub path : KeyRule
+path = Path holds number 1 2
+
+abbrev pub after : KeyRule
+after = After holds ticks
+
+abbrev pub every : KeyRule
+every = Every holds optional 20000

@@ -1,0 +1,10 @@
+pub mod Keys
+pub mod Refusals
+pub mod Contents
+pub mod Checks
+pub mod Classes
+pub mod Faults
+pub mod Runs
+pub mod Campaign
+pub mod Ticks
+pub mod Rules

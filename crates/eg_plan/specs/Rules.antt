@@ -1,0 +1,67 @@
+-- What every accepted campaign keeps, in plain rules.
+use Rattle.std.specs.Prelude.{◌≡◌, ◌⊎◌, ◌≤◌, ℕ, List, length, All, slice_index, Option, Ok, Err}
+use Rattle.std.specs.List.{sum, AllPairs}
+use Rattle.toml.specs.Data.{Members}
+use Rattle.eg_fault.specs.Faults.{IsNoneOrValid}
+use Rattle.eg_plan.specs.declared.key.CampaignFault.TheVariants.{Ticks}
+use Rattle.eg_plan.specs.declared.run.RunPlan.{RunPlan}
+use Rattle.eg_plan.specs.Campaign.{campaign_of}
+
+-- a to z
+abbrev pub IsLetter : ℕ → Type 0
+IsLetter c = (97 ≤ c) × (c ≤ 122)
+
+-- 0 to 9
+abbrev pub IsDigit : ℕ → Type 0
+IsDigit c = (48 ≤ c) × (c ≤ 57)
+
+-- a letter, a digit or -
+abbrev pub IsInName : ℕ → Type 0
+IsInName c = (IsLetter c ⊎ IsDigit c) ⊎ (c ≡ 45)
+
+-- 1 to 32 of these, the first of them no -
+pub record IsRunName (text : List ℕ) : Type 0 where
+  pub least : 1 ≤ length text
+  pub most : length text ≤ 32
+  pub characters : All IsInName text
+  pub begins : ¬ (slice_index text 0 ≡ 45)
+
+-- 1 to 200 bytes, the first of them no -
+pub record IsFileName (text : List ℕ) : Type 0 where
+  pub least : 1 ≤ length text
+  pub most : length text ≤ 200
+  pub begins : ¬ (slice_index text 0 ≡ 45)
+
+-- nine numbers, at most 1,000 in all
+abbrev pub IsSliceRow : List ℕ → Type 0
+IsSliceRow row = (length row ≡ 9) × (sum row ≤ 1000)
+
+-- 1 to 64 such rows
+pub record IsSlicePlan (rows : List (List ℕ)) : Type 0 where
+  pub least : 1 ≤ length rows
+  pub most : length rows ≤ 64
+  pub each : All IsSliceRow rows
+
+-- a run that may be made: its names and its slices keep the rules, and its fault, if any, is a valid one
+pub record IsRun (run : RunPlan) : Type 0 where
+  pub name : IsRunName run.name
+  pub trace : IsFileName run.trace
+  pub image : IsFileName run.image
+  pub plan : IsSlicePlan run.plan
+  pub fault : IsNoneOrValid run.fault
+
+-- 1 to 1,000 such runs, no two of one name
+pub record AreRuns (runs : List RunPlan) : Type 0 where
+  pub least : 1 ≤ length runs
+  pub most : length runs ≤ 1000
+  pub each : All IsRun runs
+  pub names : AllPairs (λ earlier later. ¬ (earlier.name ≡ later.name)) runs
+
+-- the law: what is accepted keeps these rules
+abbrev pub AcceptedLaw : Type 0
+AcceptedLaw =
+    (document : Option Members) (runs : List RunPlan) → campaign_of document ≡ Ok runs → AreRuns runs
+
+-- and ticks are no reason to refuse a campaign file, since it doesn't say how many a run has
+abbrev pub NoTicksLaw : Type 0
+NoTicksLaw = (document : Option Members) (n : ℕ) → ¬ (campaign_of document ≡ Err (Ticks n))

@@ -1,0 +1,23 @@
+//! Campaign files: a file is read as the plans of its runs, or refused by the first rule that it breaks.
+//!
+//! A plan is what a campaign says of a run. What its files hold, and what the run comes to, is for the crates
+//! above: nothing here stands on the controller.
+#![tactic(auto)]
+
+mod class_name;
+mod contents;
+mod fault;
+mod key;
+mod laws;
+mod reader;
+mod run;
+mod slices;
+mod texts;
+mod ticks;
+
+pub use key::{CampaignFault, RunKey};
+pub use laws::accepted_files_keep_the_rules;
+pub use reader::read_campaign;
+pub use run::RunPlan;
+pub use slices::usual_slices;
+pub use ticks::add_ticks;
