@@ -46,7 +46,8 @@ pub(crate) fn run_in(
     run: u32,
     earlier: &[RunPlan],
 ) -> Result<RunPlan, CampaignFault>
-    ensures { let ms = table_view table.now in Reads Memory (run_refusal run earlier.now ms) (run_of ms) result }
+    ensures { let ms = table_view table.now in
+        Reads Memory (run_refusal run earlier.now ms) (run_of ms) result }
 {
     let name = run_name(alloc, table, run, RunKey::Name)?;
     let trace = file_name(alloc, table, run, RunKey::Trace)?;
