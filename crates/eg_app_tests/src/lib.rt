@@ -1,8 +1,12 @@
-//! Tests of the top call: its words, `check` and `bound`, through its public call. They stand apart from what
-//! they test: a crate with tests is proved twice, and these are proved once.
+//! Tests of the top call and of the controller over fakes, of what the built program can't show: which of
+//! several reads failed, what was written before a put failed, notes that fail, and out of memory.
 #![tactic(auto)]
 
 #[cfg(test)]
-mod calibrated_calls;
-#[cfg(test)]
 mod calls;
+#[cfg(test)]
+mod controller;
+#[cfg(test)]
+mod faults;
+#[cfg(test)]
+mod outside;

@@ -1,18 +1,12 @@
-//! Tests of the parts of the unit, each through its public calls. They stand apart from what they test: a
-//! crate with tests is proved twice, and these are proved once.
+//! Tests of the crates below the controller, of what the built program can't show: stores, outputs and
+//! memories of which a read, a put or a store fails, and calls that the program never makes.
 #![tactic(auto)]
 
 #[cfg(test)]
-mod fault;
+mod faults;
 #[cfg(test)]
-mod guard;
+mod map;
 #[cfg(test)]
-mod host;
+mod memory;
 #[cfg(test)]
-mod level2;
-#[cfg(test)]
-mod plant;
-#[cfg(test)]
-mod rows;
-#[cfg(test)]
-mod word;
+mod outside;

@@ -1,0 +1,70 @@
+// Out of memory: over a memory that refuses one store, in a step, in a slice and in level 2.
+ghost use Rattle.eg_level2.specs.Inputs.{IsLookup};
+
+use eg_guard::{Guarded, StingyMemory, Who};
+use eg_host::Host;
+use eg_level2::{Level2, Lookup};
+use eg_values::reference;
+use eg_word::{Registers, State, step};
+
+#[test]
+fn a_step_that_is_refused_changes_nothing(rt: HostRuntime) {
+    let mut memory = StingyMemory::new(1);
+    assert!(rt; memory.store(Who::Board, 0, 0xc642).is_ok());
+    let start = Registers {
+        r: [0, 1022, 0, 0x1234, 0, 0, 0, 0],
+        pc: 0,
+        state: State::Running,
+    };
+    let mut registers = start;
+    assert!(rt; step(&mut registers, &mut memory).is_err() && registers == start);
+    assert!(rt; memory.load(Who::Level1, 1024) == Ok(0));
+    assert!(rt; step(&mut registers, &mut memory).is_ok() && registers.pc == 1);
+    assert!(rt; memory.load(Who::Level1, 1024) == Ok(0x1234));
+}
+
+/// An image that stores 77 at the first word of the data, and waits.
+const IMAGE: [u16; 5] = [0x1208, 0x2200, 0x144d, 0xc440, 0xf000];
+
+#[test]
+fn a_slice_ends_at_a_step_that_is_refused(rt: HostRuntime) {
+    let mut memory = StingyMemory::new(5);
+    for address in 0..5u16 {
+        let word = IMAGE[usize::from(address)];
+        assert!(rt; memory.store(Who::Board, address, word).is_ok());
+    }
+    let mut host = Host::new();
+    assert!(rt; host.slice(&mut memory, 5).is_err());
+    assert!(rt; host.registers.state == State::Running && host.registers.pc == 3);
+    assert!(rt; host.slice(&mut memory, 5).is_ok());
+    assert!(rt; host.registers.state == State::Waiting && host.registers.pc == 5);
+    assert!(rt; memory.load(Who::Level1, 1024) == Ok(77));
+}
+
+/// What the permit table says of the pedal at rest and 800 rpm.
+fn lookup(level2: &Level2) -> Lookup
+    ensures { IsLookup level2.now.rules result }
+{
+    Lookup {
+        pedal: 0,
+        speed: 800,
+        torque: level2.rules().permit.table().at(0, 800),
+    }
+}
+
+#[test]
+fn level_2_keeps_what_was_stored_before_a_refusal(rt: HostRuntime) {
+    let calibration = reference();
+    let level2 = Level2::new(calibration.rules().copy(), calibration.questions().copy());
+    // The reset takes 36 stores. Without the last of them the word of the last tick is there, and its
+    // complement isn't.
+    let mut memory = StingyMemory::new(35);
+    assert!(rt; level2.reset(&mut memory).is_err());
+    assert!(rt; memory.load(Who::Level2, 2105) == Ok(65535));
+    assert!(rt; memory.load(Who::Level2, 2121) == Ok(65535));
+    let mut memory = StingyMemory::new(36);
+    assert!(rt; level2.reset(&mut memory).is_ok());
+    let known = lookup(&level2);
+    assert!(rt; level2.module(0, &mut memory, 0, false, 0, &known).is_err());
+    assert!(rt; level2.module(0, &mut memory, 0, false, 0, &known).is_ok());
+}
