@@ -58,6 +58,3 @@ fn mix(bits: u16, number: u16) -> u16
 {
     bits.rotate_left(3) ^ number
 }
-
-#[cfg(test)]
-mod tests;

@@ -158,25 +158,3 @@ pub fn lapse_bound(torque: &Weights, times: &Times) -> Option<u32>
         None
     }
 }
-
-#[cfg(test)]
-mod tests {
-    use super::*;
-    use std::test::Fail;
-
-    #[test]
-    fn three_wrong_verdicts_take_34_ticks(rt: HostRuntime) -> Result<(), Fail> {
-        let weights = Weights::new(3, 1, 9).ok_or("no weights")?;
-        let times = Times::new(10, 4, 7, 5, weights).ok_or("no times")?.copy();
-        assert_eq!(rt;
-            [times.period(), times.first(), times.last(), times.send()],
-            [10, 4, 7, 5]
-        );
-        assert_eq!(rt; times.weights().limit(), 9);
-        assert_eq!(rt; reaction(&times), 34);
-        let torque = |limit| Weights::new(1, 1, limit).ok_or("no weights");
-        assert_eq!(rt; lapse_bound(&torque(5)?, &times), Some(50));
-        assert_eq!(rt; lapse_bound(&torque(100)?, &times), None);
-        Ok(())
-    }
-}

@@ -89,30 +89,3 @@ fn append_from<F: Read>(file: &mut F, most: usize, into: &mut Vec<u8>) -> Result
     }
     Ok(())
 }
-
-#[cfg(test)]
-mod tests {
-    use super::*;
-    use std::fs;
-    use std::test::Fail;
-
-    #[test]
-    fn reads_a_file_of_the_system(rt: HostRuntime) -> Result<(), Fail> {
-        let file = vec![in rt.alloc(); 7u8; 5000]?;
-        fs::write(&rt, "pedal.trace", &file)?;
-        let mut store = FileStore::new(&rt);
-        let mut into = Vec::new(rt.alloc());
-        assert_eq!(rt; store.read("pedal.trace", 4999, &mut into), Ok(()));
-        assert_eq!(rt; into.len(), 4999);
-        assert_eq!(rt; store.read("pedal.trace", 5001, &mut into), Ok(()));
-        assert_eq!(rt; into.len(), 9999);
-        assert!(rt; into.ends_with(&file));
-        assert_eq!(rt;
-            store.read("no.trace", 9, &mut into),
-            Err(ReadRefusal::Failed)
-        );
-        assert_eq!(rt; (into.len(), store.faults), (9999, 1));
-        fs::remove_file(&rt, "pedal.trace")?;
-        Ok(())
-    }
-}

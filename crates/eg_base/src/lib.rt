@@ -32,6 +32,3 @@ pub use store::{ReadRefusal, Store};
 pub use sure_sink::SureSink;
 pub use sure_store::SureStore;
 pub use text::Text;
-
-#[cfg(test)]
-mod tests;

@@ -13,6 +13,3 @@ pub use examples::{faults_of_each_class, images_of_each_kind, the_first_run};
 pub use generator::Generator;
 pub use laws::each_run_is_proper;
 pub use runs::DrawnRun;
-
-#[cfg(test)]
-mod tests;

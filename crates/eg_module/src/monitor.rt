@@ -203,6 +203,3 @@ fn is_bad(verdict: Verdict) -> bool
         Verdict::Wrong => true,
     }
 }
-
-#[cfg(test)]
-mod tests;

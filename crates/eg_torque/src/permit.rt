@@ -106,33 +106,3 @@ fn row_falls(table: &Table2, i: usize) -> bool
     }
     false
 }
-
-#[cfg(test)]
-mod tests {
-    use super::*;
-    use eg_num::Axis;
-    use std::test::Fail;
-
-    fn table(values: &[u16]) -> Option<Table2> {
-        let pedals = Axis::new(&[0, 500, 1000])?;
-        let speeds = Axis::new(&[800, 3000, 6000])?;
-        Table2::new(pedals, speeds, values)
-    }
-
-    #[test]
-    fn a_table_that_does_not_fall_is_accepted(rt: HostRuntime) -> Result<(), Fail> {
-        let table = table(&[200, 100, 0, 1000, 1200, 900, 2000, 2400, 1800]).ok_or("no table")?;
-        let permit = Permit::new(table)?;
-        let copy = permit.copy();
-        assert_eq!(rt; permit.at(750, 1900, 1900, 0), 1650);
-        assert_eq!(rt; copy.at(750, 1900, 800, 1600), 1600);
-        Ok(())
-    }
-
-    #[test]
-    fn the_first_row_that_falls_is_named(rt: HostRuntime) -> Result<(), Fail> {
-        let table = table(&[200, 100, 0, 1000, 1200, 900, 2000, 1199, 899]).ok_or("no table")?;
-        assert_eq!(rt; Permit::new(table).err(), Some(2));
-        Ok(())
-    }
-}
