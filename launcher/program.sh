@@ -66,7 +66,7 @@ sum_of() {
 
 # Whether a program is kept, and is that of the sources as they stand.
 is_kept() {
-  { sum_of "$top" && sha256sum <"$kept/egasim"; } 2>/dev/null | cmp -s - "$kept/egasim.sum" 2>/dev/null
+  [ -x "$kept/egasim" ] && { sum_of "$top" && sha256sum <"$kept/egasim"; } 2>/dev/null | cmp -s - "$kept/egasim.sum" 2>/dev/null
 }
 
 # Keeps the program $1, which was built from files of the checksum $2. Until both files are there, none counts as kept.
