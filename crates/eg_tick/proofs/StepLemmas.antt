@@ -1,6 +1,6 @@
 -- What the eight modules of a tick order, answer and find, joined: react's order and answer, debounce's watches,
 -- and the mirror of module 0.
-use Rattle.std.proofs.Common.{◌≡◌, ◌∙◌, refl, ap, ap₂, ℕ, suc, ◌+◌, ◌&&◌, ◌||◌, Bool, true, false, arith}
+use Rattle.std.proofs.Common.{◌≡◌, ◌∙◌, refl, ap, ap₂, ℕ, zero, suc, ◌+◌, ◌&&◌, ◌||◌, Bool, true, false, arith}
 use Rattle.std.specs.Prelude.{if◌then◌else◌, Option, Some, None}
 use Rattle.std.specs.Option.{option_or}
 use Rattle.eg_num.specs.declared.watches.Watches.{Watches}
@@ -9,9 +9,14 @@ use Rattle.eg_level2.specs.declared.step.Step.{Step}
 use Rattle.eg_level2.specs.Words.{Words, is_set}
 use Rattle.eg_level2.specs.Modules.{step_of, answer_after, order_after, found_by, answer_of, debounced, no_watches, mirror_alone, finding, quiet_step}
 use Rattle.eg_flow.specs.Ticks.{Doing, inputs_for, after_modules, answer_at, orders_at, finds_at}
-use Rattle.eg_tick.specs.Midway.{step_at, steps_at, found_in_both, joined, tick_step}
+use Rattle.eg_tick.specs.Midway.{step_at, found_in_both, joined, tick_step}
 
 -- ---- one module more ----
+
+-- what the first so many modules order, answer and find, where the words before the tick are these
+unfoldable pub steps_at : Doing → ℕ → Words → Step
+steps_at d zero words = quiet_step
+steps_at d (suc i) words = joined (steps_at d i words) (step_at d i words)
 
 pub steps-begin : (d : Doing) (words : Words) → quiet_step ≡ steps_at d 0 words
 unfolding steps_at

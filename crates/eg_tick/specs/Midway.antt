@@ -1,5 +1,5 @@
 -- Inside a tick: what the memory holds after some slices of level 1 and some modules of level 2.
-use Rattle.std.specs.Prelude.{◌≡◌, ℕ, zero, suc, ◌<◌, ◌==◌, ◌&&◌, ◌||◌, Bool, is_some, List, drop, length, slice_index, if◌then◌else◌}
+use Rattle.std.specs.Prelude.{◌≡◌, ℕ, ◌<◌, ◌==◌, ◌&&◌, ◌||◌, Bool, is_some, List, drop, length, slice_index, if◌then◌else◌}
 use Rattle.std.specs.Option.{option_or}
 use Rattle.eg_num.specs.declared.watches.Watches.{Watches}
 use Rattle.eg_word.specs.declared.registers.Registers.{Registers}
@@ -103,11 +103,6 @@ joined first next = record {
   answer = option_or first.answer next.answer;
   found = found_in_both first.found next.found;
 }
-
--- what the first so many modules order, answer and find
-unfoldable pub steps_at : Doing → ℕ → Words → Step
-steps_at d zero words = quiet_step
-steps_at d (suc i) words = joined (steps_at d i words) (step_at d i words)
 
 -- what all eight order, answer and find
 unfoldable pub tick_step : Doing → Words → Step

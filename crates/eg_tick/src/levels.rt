@@ -9,7 +9,7 @@ ghost use Rattle.eg_level2.specs.Inputs.{IsLookup};
 ghost use Rattle.eg_level2.specs.Modules.{quiet_step};
 ghost use Rattle.eg_fault.specs.Faults.{IsNoneOrValid};
 ghost use Rattle.eg_tick.specs.Midway;
-ghost use Rattle.eg_tick.specs.Midway.{Work, IsMidway, Meets, IsDue, step_at, steps_at, tick_step};
+ghost use Rattle.eg_tick.specs.Midway.{Work, IsMidway, Meets, IsDue, step_at, tick_step};
 
 use crate::Slices;
 use crate::board::flip;
@@ -235,42 +235,6 @@ fn run_turns<M: CodeMemory, const FAULTY: bool>(
     ensures are_words { AreWords (M.shows memory.old).words → AreWords (M.shows memory.new).words }
 {
     let fault = acting::<FAULTY>(fault);
-    let early = early_turns(level2, fault, tick, send, lookup, slices, host, memory)?;
-    late_turns(
-        level2, fault, tick, send, lookup, slices, &early, host, memory,
-    )
-}
-
-/// The first four turns.
-#[inline(always)]
-fn early_turns<M: CodeMemory>(
-    level2: &Level2,
-    fault: Option<&Fault>,
-    tick: u16,
-    send: bool,
-    lookup: &Lookup,
-    slices: &Slices,
-    host: &mut Host,
-    memory: &mut M,
-) -> Result<Step, NoMemory>
-    requires fault { IsNoneOrValid (option_copied fault) }
-    requires lookup { IsLookup level2.now.rules lookup.now }
-    requires mirrored { AreMirrored (M.shows memory.old).words }
-    requires within { AreWithin level2.now.rules (words_of (M.shows memory.old).words) }
-    ensures midway { (w : Work)
-        → IsDue level2.now (effects (option_copied fault.entry) tick) tick send slices.now w
-        → IsMidway w 0 0 host.old.registers (M.shows memory.old).words
-        → OnOk result (IsMidway w 4 4 host.new.registers (M.shows memory.new).words) }
-    ensures step { (w : Work)
-        → IsDue level2.now (effects (option_copied fault.entry) tick) tick send slices.now w
-        → IsMidway w 0 0 host.old.registers (M.shows memory.old).words
-        → IfOk result (λ step. step ≡ steps_at w.doing 4 w.words) }
-    ensures mirrored { OnOk result (AreMirrored (M.shows memory.new).words) }
-    ensures within { OnOk result (AreWithin level2.now.rules (words_of (M.shows memory.new).words)) }
-    ensures sure { IsTrue (M.shows memory.old).sure → IsOk result }
-    ensures stays_sure { (M.shows memory.new).sure ≡ (M.shows memory.old).sure }
-    ensures are_words { AreWords (M.shows memory.old).words → AreWords (M.shows memory.new).words }
-{
     let whole = quiet();
     let step = turn(level2, fault, tick, send, lookup, slices, 0, host, memory)?;
     let whole = joined(&whole, &step);
@@ -279,42 +243,9 @@ fn early_turns<M: CodeMemory>(
     let step = turn(level2, fault, tick, send, lookup, slices, 2, host, memory)?;
     let whole = joined(&whole, &step);
     let step = turn(level2, fault, tick, send, lookup, slices, 3, host, memory)?;
-    Ok(joined(&whole, &step))
-}
-
-/// The last four turns, and the last slice. `whole` is what the first four order, answer and find.
-#[inline(always)]
-fn late_turns<M: CodeMemory>(
-    level2: &Level2,
-    fault: Option<&Fault>,
-    tick: u16,
-    send: bool,
-    lookup: &Lookup,
-    slices: &Slices,
-    whole: &Step,
-    host: &mut Host,
-    memory: &mut M,
-) -> Result<Step, NoMemory>
-    requires fault { IsNoneOrValid (option_copied fault) }
-    requires lookup { IsLookup level2.now.rules lookup.now }
-    requires mirrored { AreMirrored (M.shows memory.old).words }
-    requires within { AreWithin level2.now.rules (words_of (M.shows memory.old).words) }
-    ensures midway { (w : Work)
-        → IsDue level2.now (effects (option_copied fault.entry) tick) tick send slices.now w
-        → IsMidway w 4 4 host.old.registers (M.shows memory.old).words
-        → OnOk result (IsMidway w 9 8 host.new.registers (M.shows memory.new).words) }
-    ensures step { (w : Work)
-        → IsDue level2.now (effects (option_copied fault.entry) tick) tick send slices.now w
-        → IsMidway w 4 4 host.old.registers (M.shows memory.old).words
-        → whole.now ≡ steps_at w.doing 4 w.words
-        → IfOk result (λ step. step ≡ tick_step w.doing w.words) }
-    ensures nine { OnOk result (length slices.now ≡ 9) }
-    ensures sure { IsTrue (M.shows memory.old).sure → IsOk result }
-    ensures stays_sure { (M.shows memory.new).sure ≡ (M.shows memory.old).sure }
-    ensures are_words { AreWords (M.shows memory.old).words → AreWords (M.shows memory.new).words }
-{
+    let whole = joined(&whole, &step);
     let step = turn(level2, fault, tick, send, lookup, slices, 4, host, memory)?;
-    let whole = joined(whole, &step);
+    let whole = joined(&whole, &step);
     let step = turn(level2, fault, tick, send, lookup, slices, 5, host, memory)?;
     let whole = joined(&whole, &step);
     let step = turn(level2, fault, tick, send, lookup, slices, 6, host, memory)?;
