@@ -5,6 +5,7 @@
 
 mod answers;
 mod marks;
+mod modules;
 mod questions;
 mod rules;
 mod times;
@@ -12,6 +13,7 @@ mod token;
 
 pub use answers::{expected, fold, folds_tell_results_apart, results};
 pub use marks::{AnswerMark, Verdict};
+pub use modules::{ACTUAL, CHECK, DEBOUNCE, EXCESS, MODULES, PAIRS, PEDAL, PERMITTED, REACT};
 pub use questions::{Question, Questions};
 pub use rules::{Rules, TestRow};
 pub use times::{Times, lapse_bound, reaction};

@@ -5,6 +5,7 @@
 mod class;
 mod class_effects;
 mod effects;
+mod paths;
 mod script;
 
 pub use class::{Class, Fault};
@@ -12,4 +13,5 @@ pub use effects::{
     conducts, disturbance, fault_of_levels, faulty_readings, flip, held, level1_runs, module_runs,
     modules_run_together, sends, wild,
 };
+pub use paths::{PATH_1, PATH_2};
 pub use script::{Opens, Script};

@@ -1,10 +1,15 @@
 -- The memory map: which words there are, and who may load and store them.
-use Rattle.std.specs.Prelude.{ℕ, ◌&&◌, Bool, true, false, nat_le, ◌==◌, if◌then◌else◌}
+use Rattle.std.specs.Prelude.{ℕ, ◌&&◌, Bool, true, false, nat_le, nat_lt, ◌==◌, if◌then◌else◌}
 use Rattle.eg_guard.specs.declared.regions.Who.{Who}
 use Rattle.eg_guard.specs.declared.regions.Who.TheVariants.{Level1, Level2, Board}
 use Rattle.eg_guard.specs.declared.regions.Region.{Region}
 use Rattle.eg_guard.specs.declared.regions.Region.TheVariants.{Code, Data, InPorts, OutPorts, Results, Protected, Link, None}
 use Rattle.eg_guard.specs.declared.regions.Allowed.{Allowed}
+use Rattle.eg_guard.specs.declared.regions.TheConstants.{DATA, IN_PORTS, LAST_IN_PORT, THROTTLE, IGNITION, RESULTS, LAST_RESULT, PROTECTED, LAST_PROTECTED, LINK}
+
+-- the address lies before this one
+abbrev pub is_below : ℕ → ℕ → Bool
+is_below next address = nat_lt address next
 
 -- the address is one of these, both ends included
 abbrev pub is_between : ℕ → ℕ → ℕ → Bool
@@ -13,13 +18,13 @@ is_between first last address = nat_le first address && nat_le address last
 -- the region in which an address lies
 unfoldable pub region_of : ℕ → Region
 region_of address =
-    if is_between 0 1023 address then Code
-    else if is_between 1024 2047 address then Data
-    else if is_between 2048 2057 address then InPorts
-    else if is_between 2064 2065 address then OutPorts
-    else if is_between 2080 2084 address then Results
-    else if is_between 2096 2122 address then Protected
-    else if address == 2128 then Link
+    if is_below DATA address then Code
+    else if is_below IN_PORTS address then Data
+    else if is_between IN_PORTS LAST_IN_PORT address then InPorts
+    else if is_between THROTTLE IGNITION address then OutPorts
+    else if is_between RESULTS LAST_RESULT address then Results
+    else if is_between PROTECTED LAST_PROTECTED address then Protected
+    else if address == LINK then Link
     else None
 
 -- ---- what each row of the map allows ----

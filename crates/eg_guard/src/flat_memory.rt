@@ -2,7 +2,7 @@
 ghost use Rattle.std.specs.Prelude.{◌≡◌, replicate, true};
 ghost use Rattle.eg_guard.specs.Memory.{ShownMemory, AreWords};
 
-use crate::{Guarded, Refused, StoreRefusal, Who, access};
+use crate::{Guarded, Refused, StoreRefusal, WORDS, Who, access};
 use std::marker::Model;
 
 /// A guarded memory that is one array of words. It is sure: no store takes memory.
@@ -10,7 +10,7 @@ use std::marker::Model;
 /// Contracts see the list of its words.
 #[derive(Drop)]
 pub struct FlatMemory {
-    words: [u16; 4096],
+    words: [u16; WORDS as usize],
 }
 
 impl Model for FlatMemory {
@@ -28,12 +28,14 @@ impl FlatMemory {
     /// A memory of which every word is 0.
     #[tactic(auto, using(crate::proofs::WordsLemmas::zeros_are_words))]
     pub fn new() -> FlatMemory
-        ensures words { result ≡ replicate 4096 0 }
+        ensures words { result ≡ replicate WORDS 0 }
         ensures shown { ⟦<FlatMemory as Guarded>⟧.shows result
-            ≡ record { words = replicate 4096 0; sure = true } }
+            ≡ record { words = replicate WORDS 0; sure = true } }
         ensures are_words { AreWords result }
     {
-        FlatMemory { words: [0; 4096] }
+        FlatMemory {
+            words: [0; WORDS as usize],
+        }
     }
 }
 

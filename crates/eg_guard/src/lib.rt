@@ -12,5 +12,8 @@ mod stingy_memory;
 
 pub use flat_memory::FlatMemory;
 pub use guarded::{Guarded, Refused, StoreRefusal};
-pub use regions::{Allowed, Region, Who, access, region_of};
+pub use regions::{
+    Allowed, DATA, IGNITION, IN_PORTS, LAST_IN_PORT, LAST_PROTECTED, LAST_RESULT, LINK, PROTECTED,
+    RESULTS, Region, THROTTLE, WORDS, Who, access, region_of,
+};
 pub use stingy_memory::StingyMemory;

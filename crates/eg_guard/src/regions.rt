@@ -2,6 +2,39 @@
 ghost use Rattle.std.specs.Prelude.{◌≡◌, ◌≤◌};
 ghost use Rattle.eg_guard.specs.Regions;
 
+/// How many words there are: the addresses are those below.
+pub const WORDS: u16 = 4096;
+
+/// The first word of level 1's own data. The code stands before it, from 0 on.
+pub const DATA: u16 = 1024;
+
+/// The first of the ten input ports.
+pub const IN_PORTS: u16 = 2048;
+
+/// The last of them.
+pub const LAST_IN_PORT: u16 = 2057;
+
+/// The first output port: the command to the throttle plate.
+pub const THROTTLE: u16 = 2064;
+
+/// The second output port: the command to the ignition.
+pub const IGNITION: u16 = 2065;
+
+/// The first of the five results, which are the signals of level 2.
+pub const RESULTS: u16 = 2080;
+
+/// The last of them.
+pub const LAST_RESULT: u16 = 2084;
+
+/// The first protected word.
+pub const PROTECTED: u16 = 2096;
+
+/// The last one.
+pub const LAST_PROTECTED: u16 = 2122;
+
+/// The link: the number of the question.
+pub const LINK: u16 = 2128;
+
 /// Who asks for a word (docs/CONCEPT.md, "Guarded memory").
 #[derive(Clone, Copy, Debug, PartialEq, Eq)]
 pub enum Who {
@@ -92,7 +125,7 @@ impl Region {
 pub fn region_of(address: u16) -> Region
     ensures { result ≡ Regions.region_of address }
 {
-    match address / 1024 {
+    match address / DATA {
         0 => Region::Code,
         1 => Region::Data,
         _ => port_of(address),
@@ -103,17 +136,17 @@ pub fn region_of(address: u16) -> Region
 #[inline]
 #[tactic(auto, unfolding(crate::specs::Regions::region_of))]
 fn port_of(address: u16) -> Region
-    requires { 2048 ≤ address }
+    requires { IN_PORTS ≤ address }
     ensures { result ≡ Regions.region_of address }
 {
-    if address < 2058 {
+    if address <= LAST_IN_PORT {
         return Region::InPorts;
     }
     match address {
-        2064..=2065 => Region::OutPorts,
-        2080..=2084 => Region::Results,
-        2096..=2122 => Region::Protected,
-        2128 => Region::Link,
+        THROTTLE..=IGNITION => Region::OutPorts,
+        RESULTS..=LAST_RESULT => Region::Results,
+        PROTECTED..=LAST_PROTECTED => Region::Protected,
+        LINK => Region::Link,
         _ => Region::None,
     }
 }

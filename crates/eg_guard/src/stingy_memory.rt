@@ -5,7 +5,7 @@ ghost use Rattle.eg_guard.specs.Memory.{ShownMemory, AreWords};
 ghost use Rattle.eg_guard.specs.Regions;
 ghost use Rattle.eg_guard.specs.Stingy.{StingyState, refuses_next, left_after};
 
-use crate::{FlatMemory, Guarded, Refused, StoreRefusal, Who, access};
+use crate::{FlatMemory, Guarded, Refused, StoreRefusal, WORDS, Who, access};
 use std::marker::Model;
 
 /// A memory as `FlatMemory`, but one of its stores answers Memory. It isn't sure. For tests of what comes of
@@ -34,9 +34,9 @@ impl StingyMemory {
     /// A memory of which every word is 0, and which refuses the store of this number, counted from 0 over the
     /// stores that the memory map allows.
     pub fn new(refuse: u32) -> StingyMemory
-        ensures state { result ≡ record { words = replicate 4096 0; left = Some refuse } }
+        ensures state { result ≡ record { words = replicate WORDS 0; left = Some refuse } }
         ensures shown { ⟦<StingyMemory as Guarded>⟧.shows result
-            ≡ record { words = replicate 4096 0; sure = false } }
+            ≡ record { words = replicate WORDS 0; sure = false } }
     {
         StingyMemory {
             memory: FlatMemory::new(),

@@ -3,6 +3,8 @@
 
 mod plausibility;
 mod readings;
+mod tracks;
 
 pub use plausibility::{checked_raise, disagree, falling, pair_bits, used};
 pub use readings::{Readings, sound};
+pub use tracks::{LOAD_1, LOAD_2, PEDAL_1, PEDAL_2, PLATE_1, PLATE_2, SPEED_1, SPEED_2, TRACKS};
