@@ -70,6 +70,36 @@ impl Monitor {
         }
     }
 
+    /// Begins again, as a new module with these times and questions.
+    pub fn restart(&mut self)
+        ensures begins { self.new ≡ record self.old { verdicts = 0; heard = []; value = 0 } }
+        ensures given { HasGiven self.new [] }
+        ensures next { self.new.verdicts ≡ period_of self.new.times 0 }
+        ensures keeps { IsMonitor self.new }
+    {
+        self.verdicts = 0;
+        self.heard.clear();
+        self.counter = Counter::new();
+    }
+
+    /// An equal module.
+    pub fn copy(&self) -> Monitor
+        ensures equal { result ≡ self.now }
+        ensures keeps { IsMonitor result }
+    {
+        let mut heard = ArrayVec::new();
+        match heard.try_extend_from_slice(self.heard.as_slice()) {
+            Ok(()) => Monitor {
+                times: self.times.copy(),
+                questions: self.questions.copy(),
+                verdicts: self.verdicts,
+                heard,
+                counter: self.counter,
+            },
+            Err(_) => unreachable!(),
+        }
+    }
+
     /// The number of the question that is asked at a tick, the first question being 0 (docs/CONCEPT.md,
     /// "Questions and answers").
     #[tactic(auto, unfolding(eg_answer::specs::Periods::asked, eg_answer::specs::Periods::period_of))]
