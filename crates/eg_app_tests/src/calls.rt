@@ -24,7 +24,8 @@ image = "probe.hex"
 /// Four ticks without pedal at 800 revolutions.
 const TRACE: &str = "pedal,speed,raise\n0,800,0\n0,800,0\n0,800,0\n0,800,0\n";
 
-/// An image that shows on the ignition what it does in which slice.
+/// An image that reads the actual torque in one slice and again in the next, and gives the difference to the
+/// throttle.
 const PROBE: &str = "1210\n2220\n1a10\n2a10\nb442\nf000\nb642\n58d0\nc940\nf000\nd1f9\n";
 
 /// A calibration with two equal questions.

@@ -1,2 +1,3 @@
 pub mod NamedFilesLemmas
 pub mod PutLemmas
+pub mod StreamLemmas

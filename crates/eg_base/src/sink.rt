@@ -8,7 +8,7 @@ use std::alloc::AllocError;
 /// Why a put was refused.
 #[derive(Clone, Copy, Debug, PartialEq, Eq)]
 pub enum PutRefusal {
-    /// Writing failed: the output counts one fault more.
+    /// Writing failed: the output's count of faults rises, up to the last value of a u64.
     Failed,
     /// Memory ran out.
     Memory,
@@ -25,7 +25,8 @@ impl From<AllocError> for PutRefusal {
 /// An output that bytes are written to.
 ///
 /// Contracts see what an output shows (`ShownSink`): what was written, where it is told, the count of its
-/// faults, which never falls, and whether it is sure.
+/// faults, which never falls and rises with each Failed up to the last value of a u64, and whether it is
+/// sure.
 pub trait Sink {
     /// What was written, faults, and whether it is sure.
     ghost shows: { Self → ShownSink };

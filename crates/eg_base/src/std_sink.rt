@@ -1,17 +1,19 @@
 // A stream of the system as an output.
-ghost use Rattle.std.specs.Prelude.{◌≡◌, ◌≤◌, None, true, OnOk, OnErr, IsOkUnless};
+ghost use Rattle.std.specs.Prelude.{◌≡◌, ◌≤◌, None, true, OnOk, OnErr, IfOk, IsOkUnless, [], length, take};
 ghost use Rattle.std.specs.Io.KnownBytes.{Appends};
 ghost use Rattle.eg_base.specs.declared.sink.PutRefusal.TheVariants.{Failed};
 ghost use Rattle.eg_base.specs.Counts.{next_count};
+ghost use Rattle.eg_base.specs.Streams.{TakesPrefix};
 
 use crate::{PutRefusal, Sink};
-use std::io::{self, Write};
+use std::io::{ErrorKind, Write};
 use std::marker::Model;
 
 /// A stream of the system, as its standard output. What was written isn't told, and the output is sure.
 ///
 /// Each refusal of the stream to write or to flush is a fault, as is a write that takes nothing of a piece
-/// that isn't empty. Contracts see a `StreamState`: the stream and the count of faults.
+/// that isn't empty. A write that is interrupted is made again. Contracts see a `StreamState`: the stream and
+/// the count of faults.
 #[derive(Drop)]
 pub struct StdSink<W: Write + Drop> {
     stream: W,
@@ -46,26 +48,66 @@ impl<W: Write + Drop> Sink for StdSink<W> {
         ensures taken { OnOk result
             (Appends (W.contents self.old.stream) (W.contents self.new.stream) bytes.now) }
 
+        // Where it is refused, the stream took a prefix of them.
+        ensures part { OnErr result
+            (TakesPrefix (W.contents self.old.stream) (W.contents self.new.stream) bytes.now) }
+
         // Each refusal is a fault, and nothing else is.
         ensures failed { IsOkUnless result Failed }
         ensures no_fault { OnOk result (self.new.faults ≡ self.old.faults) }
         ensures fault { OnErr result (self.new.faults ≡ next_count self.old.faults) }
         ensures count { self.old.faults ≤ self.new.faults }
     {
-        match write_through(&mut self.stream, bytes) {
-            Ok(()) => Ok(()),
-            Err(_) => {
-                self.faults = self.faults.saturating_add(1);
-                Err(PutRefusal::Failed)
-            }
+        let outcome = write_through(&mut self.stream, bytes);
+        if outcome.is_err() {
+            self.faults = self.faults.saturating_add(1);
         }
+        outcome
     }
 }
 
 /// Writes all of these bytes, and flushes the stream.
-fn write_through<W: Write>(stream: &mut W, bytes: &[u8]) -> io::Result<()>
-    ensures { OnOk result (Appends (W.contents stream.old) (W.contents stream.new) bytes.now) }
+#[tactic(auto, using(crate::proofs::StreamLemmas::taken))]
+fn write_through<W: Write>(stream: &mut W, bytes: &[u8]) -> Result<(), PutRefusal>
+    ensures refused { IsOkUnless result Failed }
+    ensures whole { OnOk result (Appends (W.contents stream.old) (W.contents stream.new) bytes.now) }
+    ensures part { OnErr result (TakesPrefix (W.contents stream.old) (W.contents stream.new) bytes.now) }
 {
-    stream.write_all(bytes)?;
-    stream.flush()
+    write_whole(stream, bytes)?;
+    stream.flush().map_err(|_| PutRefusal::Failed)
+}
+
+/// Writes all of these bytes. Of what a refused `write_all` took std says nothing, so the loop over `write`
+/// stands here.
+#[tactic(auto, using(crate::proofs::StreamLemmas::taken))]
+fn write_whole<W: Write>(stream: &mut W, bytes: &[u8]) -> Result<(), PutRefusal>
+    ensures refused { IsOkUnless result Failed }
+    ensures whole { OnOk result (Appends (W.contents stream.old) (W.contents stream.new) bytes.now) }
+    ensures part { OnErr result (TakesPrefix (W.contents stream.old) (W.contents stream.new) bytes.now) }
+{
+    let mut taken = 0;
+    for _ in 0..u64::MAX {
+        if taken == bytes.len() {
+            return Ok(());
+        }
+        taken += write_once(stream, &bytes[taken..])?;
+    }
+    Err(PutRefusal::Failed)
+}
+
+/// Writes as many of these bytes as the stream takes at once, and tells how many: none where the write is
+/// interrupted. A stream that takes none without that has failed.
+fn write_once<W: Write>(stream: &mut W, bytes: &[u8]) -> Result<usize, PutRefusal>
+    ensures refused { IsOkUnless result Failed }
+    ensures most { IfOk result (λ count. count ≤ length bytes.now) }
+    ensures taken { IfOk result
+        (λ count. Appends (W.contents stream.old) (W.contents stream.new) (take count bytes.now)) }
+    ensures kept { OnErr result (Appends (W.contents stream.old) (W.contents stream.new) []) }
+{
+    match stream.write(bytes) {
+        Ok(0) => Err(PutRefusal::Failed),
+        Ok(count) => Ok(count),
+        Err(e) if e.kind() == ErrorKind::Interrupted => Ok(0),
+        Err(_) => Err(PutRefusal::Failed),
+    }
 }

@@ -8,7 +8,8 @@ use std::alloc::AllocError;
 /// Why a read was refused.
 #[derive(Clone, Copy, Debug, PartialEq, Eq)]
 pub enum ReadRefusal {
-    /// There is no such file, or reading it failed: the store counts one fault more.
+    /// There is no such file, or reading it failed: the store's count of faults rises, up to
+    /// the last value of a u64.
     Failed,
     /// Memory ran out.
     Memory,
@@ -25,7 +26,8 @@ impl From<AllocError> for ReadRefusal {
 /// Named files that can be read.
 ///
 /// Contracts see what a store shows (`ShownStore`): its files, where they are told, the count of its
-/// faults, which never falls, and whether it is sure.
+/// faults, which never falls and rises with each Failed up to the last value of a u64, and whether it is
+/// sure.
 pub trait Store {
     /// Files, faults and whether it is sure.
     ghost shows: { Self → ShownStore };

@@ -116,7 +116,7 @@ impl Generator {
         Class::Offset { track, add }
     }
 
-    /// Draws a module that reacts, and the bits that are mixed into its results.
+    /// Draws one of the modules that give a signal, 1 to 5, and the bits that are mixed into its results.
     #[tactic(auto, using(crate::proofs::DrawLemmas::single))]
     fn disturb(&mut self) -> Class
         ensures class { result ≡ classes.Disturb (one_of 5 self.old) (drawn_mask (next self.old)) }

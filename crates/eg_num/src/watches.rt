@@ -1,21 +1,22 @@
 // The watches of the unit.
 
-/// Which watches are found at a tick: that of the mirrored words, those of the
-/// four pairs of sensors, that of the torque, and that of the answers.
+/// Which watches are found at a tick (docs/CONCEPT.md, "The record of a run"): that of the mirrored words,
+/// those of the four pairs of sensors, that of the torque, and that of the answers. All but that of the
+/// mirrored words have a debouncer, and are found where its counter first reaches its limit.
 #[derive(Clone, Copy, Debug, PartialEq, Eq)]
 pub struct Watches {
-    /// A word of level 2 differs from its complement.
+    /// A word of level 2 was found to differ from its complement.
     pub mirror: bool,
-    /// The pair of the pedal disagrees.
+    /// That the pair of the pedal disagrees was confirmed for the first time.
     pub pedal: bool,
-    /// The pair of the throttle plate disagrees.
+    /// That the pair of the throttle plate disagrees was confirmed for the first time.
     pub plate: bool,
-    /// The pair of the load disagrees.
+    /// That the pair of the load disagrees was confirmed for the first time.
     pub load: bool,
-    /// The pair of the speed disagrees.
+    /// That the pair of the speed disagrees was confirmed for the first time.
     pub speed: bool,
-    /// The torque exceeds what is permitted.
+    /// That the torque exceeds what is permitted was confirmed for the first time.
     pub torque: bool,
-    /// Answers are wrong.
+    /// That answers are wrong was confirmed for the first time.
     pub answers: bool,
 }

@@ -92,7 +92,7 @@ at = At holds number 0 1000
 abbrev pub any_module : KeyRule
 any_module = Module holds number 0 7
 
--- a module that has a signal
+-- one of the modules of level 2 that give a signal, 1 to 5
 abbrev pub signal_module : KeyRule
 signal_module = Module holds number 1 5
 

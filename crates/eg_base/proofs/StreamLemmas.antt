@@ -1,0 +1,43 @@
+-- What a stream took of bytes, one write after another.
+use Rattle.std.proofs.Common.{◌≡◌, ◌∙◌, sym, ap, subst, ℕ, ◌+◌, List, [], ◌++◌, take, drop, Option, None, Some, Result, Ok, Err, OnErr, append_assoc, append-nil, take-add, take_all, length-drop, length, ◌-◌, arith}
+use Rattle.std.proofs.lemmas.List.{take-append-drop}
+use Rattle.std.specs.Io.KnownBytes.{Appends, Keeps}
+use Rattle.eg_base.specs.declared.sink.PutRefusal.{PutRefusal}
+use Rattle.eg_base.specs.Streams.{TakesPrefix}
+
+appends-more : (a b c : Option (List ℕ)) (front more : List ℕ) → Appends a b front → Appends b c more → Appends a c (front ++ more)
+appends-more None b c front more p q = tt
+appends-more (Some x) None c front more p q = absurd p
+appends-more (Some x) (Some y) None front more p q = absurd q
+appends-more (Some x) (Some y) (Some z) front more p q = q ∙ ap (λ bytes. bytes ++ more) p ∙ append_assoc x front more
+
+-- a front of the bytes, and then the next of those behind it
+pub next-taken : (a b c : Option (List ℕ)) (bytes : List ℕ) (i count : ℕ) → Appends a b (take i bytes) → Appends b c (take count (take (length bytes - i) (drop i bytes)))
+    → Appends a c (take (i + count) bytes)
+next-taken a b c bytes i count p q =
+    let behind : take (length bytes - i) (drop i bytes) ≡ drop i bytes = take_all (length bytes - i) (drop i bytes) (let e = length-drop i bytes in omega arith) in
+    let next : Appends b c (take count (drop i bytes)) = subst (λ rest. Appends b c (take count rest)) behind q in
+    subst (Appends a c) (sym (take-add i count bytes)) (appends-more a b c _ _ p next)
+
+-- a front of the bytes, and then nothing
+pub none-taken : (a b c : Option (List ℕ)) (bytes : List ℕ) (i : ℕ) → Appends a b (take i bytes) → Appends b c [] → TakesPrefix a c bytes
+none-taken a b c bytes i p q =
+    (take i bytes, drop i bytes, sym (take-append-drop i bytes), subst (Appends a c) (append-nil (take i bytes)) (appends-more a b c _ _ p q))
+
+-- a front of the bytes
+pub front-taken : (a b : Option (List ℕ)) (bytes : List ℕ) (i : ℕ) → Appends a b (take i bytes) → TakesPrefix a b bytes
+front-taken a b bytes i p = (take i bytes, drop i bytes, sym (take-append-drop i bytes), p)
+
+-- whatever it is that was answered
+pub on-err : (result : Result (Unit {0}) PutRefusal) (P : Type 0) → P → OnErr result P
+on-err (Ok x) P p = tt
+on-err (Err e) P p = p
+
+-- all of the bytes, and then nothing but a refusal
+pub all-kept : (a b c : Option (List ℕ)) (bytes : List ℕ) → Appends a b bytes → Keeps b c → TakesPrefix a c bytes
+all-kept None b c bytes p q = (bytes, [], sym (append-nil bytes), tt)
+all-kept (Some x) None c bytes p q = absurd p
+all-kept (Some x) (Some y) None bytes p q = absurd q
+all-kept (Some x) (Some y) (Some z) bytes p q = (bytes, [], sym (append-nil bytes), q ∙ p)
+
+pub ruleset taken = (front-taken, all-kept)
