@@ -3,3 +3,4 @@ pub mod TogetherLemmas
 pub mod ReferenceLemmas
 pub mod HeldLemmas
 pub mod RuleLemmas
+pub mod NumberLemmas

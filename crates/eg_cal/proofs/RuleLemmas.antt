@@ -1,17 +1,12 @@
 -- A document is accepted exactly where it keeps the rules.
-use Rattle.std.proofs.Common.{◌≡◌, ℕ, ◌+◌, ◌-◌, ◌<◌, ◌≤◌, nat_lt, nat_le, is_some, Bool, true, false, ◌&&◌, length, List, [], ◌∷◌, All, Option, Some, None, option_map, Ok, refl, sym, ap, arith}
+use Rattle.std.proofs.Common.{◌≡◌, ℕ, ◌+◌, ◌-◌, ◌<◌, ◌≤◌, nat_lt, nat_le, is_some, Bool, true, false, ◌&&◌, length, List, [], ◌∷◌, Option, Some, None, option_map, Ok, refl, sym, ap, arith}
 use Rattle.std.specs.List.{AllByRecursion}
 use Rattle.std.proofs.lemmas.Bool.{and_parts}
 use Rattle.std.proofs.lemmas.Bool.Decides.{nat_tests}
-use Rattle.std.proofs.lemmas.List.Elements.{All-get_or}
 use Rattle.toml.specs.Data.{Members}
 use Rattle.eg_num.specs.Interpolation.{Grid, cell}
 use Rattle.eg_torque.specs.Permit.{DoesNotFall}
 use Rattle.eg_answer.specs.Times.{TimeParts}
-use Rattle.eg_answer.specs.Answers.{expected_of}
-use Rattle.eg_answer.specs.Questions.{no_question}
-use Rattle.eg_answer.specs.declared.rules.Rules.{Rules}
-use Rattle.eg_answer.specs.declared.questions.Question.{Question as QuestionParts}
 use Rattle.eg_cal.specs.declared.key.CalKey.{CalKey}
 use Rattle.eg_cal.specs.declared.key.CalKey.TheVariants.{Version, PermitPedal, PermitSpeed, PermitTable, PermitThreshold, TorqueKt, TorqueUp, TorqueDown, TorqueLimit, PairsPedal, PairsPlate, PairsLoad, PairsSpeed, PairsUp, PairsDown, PairsLimit, PlantSlew, PlantFill, PlantAngle, PlantCharge, AnswersPeriod, AnswersFirst, AnswersLast, AnswersSend, AnswersUp, AnswersDown, AnswersLimit, Question, Unknown}
 use Rattle.eg_cal.specs.declared.key.CalFault.{CalFault}
@@ -20,10 +15,10 @@ use Rattle.eg_cal.specs.Keys.{all_keys, content_of}
 use Rattle.eg_toml.specs.Refusals.{or_else, unless}
 use Rattle.eg_cal.specs.Contents.{questions_of}
 use Rattle.eg_cal.specs.Checks.{fault_at, first_fault, keys_fault}
-use Rattle.eg_cal.specs.Calibration.{falls, falling_row, is_window, is_wrong, wrong_answer, rising_fault, window_fault, answer_fault, parts_fault, unknown_fault, refusal_of, permit_of, times_of, rules_of, parts_of}
+use Rattle.eg_cal.specs.Calibration.{falls, falling_row, is_window, rising_fault, window_fault, answer_fault, parts_fault, unknown_fault, refusal_of, permit_of, times_of, rules_of, parts_of}
 use Rattle.eg_cal.specs.Rules.{IsWindow, KeepsRules, AcceptedLaw}
 use Rattle.eg_cal.proofs.HeldLemmas.{if-none, content-held, held-content}
-use Rattle.eg_cal.proofs.TogetherLemmas.{none-first_from, first_from-none, falling_row-none, wrong_answer-none, equal}
+use Rattle.eg_cal.proofs.TogetherLemmas.{none-first_from, falling_row-none, wrong_answer-none, answered-none}
 
 -- no fault of two is no fault of either
 or-none : (a b : Option CalFault) → or_else a b ≡ None → (a ≡ None) × (b ≡ None)
@@ -135,11 +130,6 @@ window-true t w =
     let inside = w.inside in
     three (nat_le t.first t.send) (nat_le t.send t.last) (nat_lt t.last t.period) (grind (arith, nat_tests)) (grind (arith, nat_tests)) (grind (arith, nat_tests))
 
-none-wrong : (rules : Rules) (asked : List QuestionParts) → All (λ question. question.answer ≡ expected_of rules question.row) asked → wrong_answer rules asked ≡ None
-none-wrong rules asked all =
-    first_from-none (is_wrong rules asked) (length asked) 0 (λ k from to.
-    equal _ _ (All-get_or (λ question. question.answer ≡ expected_of rules question.row) asked k no_question (omega arith) all))
-
 -- ---- the law
 
 keeps : (ms : Members) → refusal_of ms ≡ None → KeepsRules ms
@@ -160,7 +150,7 @@ no_refusal : (ms : Members) → KeepsRules ms → refusal_of ms ≡ None
 no_refusal ms k =
     none-or _ _ (all-none ms (λ key. held-content (content_of key) ms key (k.keys key)) all_keys) (none-or _ _ (rw (k.names) refl)
     (none-or _ _ (ap (option_map fault.Rising) (falling_row-none _ k.rises))
-    (none-or _ _ (rw (window-true _ k.window) refl) (ap (option_map fault.Answer) (none-wrong _ _ k.answers)))))
+    (none-or _ _ (rw (window-true _ k.window) refl) (ap (option_map fault.Answer) (answered-none _ _ k.answers)))))
 
 pub accepted_law : AcceptedLaw
 accepted_law ms parts = (

@@ -1,38 +1,23 @@
 -- What the values of a calibration are refused for together.
-use Rattle.std.proofs.Common.{◌≡◌, ◌⊎◌, inl, inr, ℕ, zero, suc, ◌+◌, ◌-◌, ◌<◌, ◌≤◌, ◌==◌, nat_lt, nat_le, not, is_some, Bool, true, false, length, List, All, Option, Some, None, if◌then◌else◌, ◌&&◌, refl, sym, ap, ◌∙◌, add-one, arith}
+use Rattle.std.proofs.Common.{◌≡◌, ◌⊎◌, inl, inr, ℕ, zero, suc, ◌+◌, ◌-◌, ◌<◌, ◌≤◌, ◌==◌, nat_lt, nat_le, not, is_some, Bool, true, false, length, List, Option, Some, None, if◌then◌else◌, ◌&&◌, refl, sym, ap, ◌∙◌, subst, arith}
 use Rattle.std.proofs.lemmas.Bool.{and_parts}
-use Rattle.std.proofs.lemmas.List.Elements.{All-from_get_or}
+use Rattle.std.proofs.lemmas.List.Elements.{All-from_get_or, All-get_or}
 use Rattle.std.proofs.lemmas.Bool.Decides.{nat_tests}
 use Rattle.eg_num.specs.Interpolation.{Grid, cell}
 use Rattle.eg_torque.specs.Permit.{FallsAt, IsFirstFall, DoesNotFall}
 use Rattle.eg_answer.specs.Times.{TimeParts, AreTimes}
-use Rattle.eg_answer.specs.Answers.{expected_of}
-use Rattle.eg_answer.specs.Questions.{question_at, no_question}
+use Rattle.eg_answer.specs.Questions.{no_question}
 use Rattle.eg_answer.specs.declared.rules.Rules.{Rules}
 use Rattle.eg_answer.specs.declared.questions.Question.{Question}
+use Rattle.eg_values.specs.declared.calibration.Apart.{Apart}
+use Rattle.eg_values.specs.declared.calibration.Apart.TheVariants.{Answer}
+use Rattle.eg_values.specs.Calibration.{CalibrationParts, IsAnswered, AreAnswered, IsFirstWrong, IsApart}
 use Rattle.eg_cal.specs.declared.key.CalFault.TheVariants as fault
 use Rattle.eg_toml.proofs.RisingLemmas.{lt-true, true-lt}
 use Rattle.eg_cal.proofs.AxisLemmas.{le-true, true-le, not-true}
 use Rattle.eg_cal.specs.Calibration.{first_from, falls, falling_row, is_window, window_fault, is_wrong, wrong_answer}
 
 -- ---- a search for the first number that passes
-
-first_from-more : (passes : ℕ → Bool) (n i m : ℕ) → n ≡ suc m → first_from passes n i ≡ (if passes i then Some i else first_from passes m (suc i))
-unfolding first_from
-first_from-more passes n i m e = rw e
-
--- it goes on past a number that fails,
-pub first_from-next : (passes : ℕ → Bool) (end i : ℕ) → i < end → passes i ≡ false → first_from passes (end - i) i ≡ first_from passes (end - (i + 1)) (i + 1)
-first_from-next passes end i h fails = first_from-more passes (end - i) i (end - (i + 1)) (omega arith) ∙ rw (fails, add-one i) refl
-
--- stops at one that passes,
-pub first_from-found : (passes : ℕ → Bool) (end i : ℕ) → i < end → passes i ≡ true → first_from passes (end - i) i ≡ Some i
-first_from-found passes end i h found = first_from-more passes (end - i) i (end - (i + 1)) (omega arith) ∙ rw found
-
--- and ends
-pub first_from-end : (passes : ℕ → Bool) (end i : ℕ) → end ≤ i → first_from passes (end - i) i ≡ None
-unfolding first_from
-first_from-end passes end i h = let e : end - i ≡ 0 = omega arith in rw e
 
 -- where no number passes there is no first
 pub first_from-none : (passes : ℕ → Bool) (n i : ℕ) → ((k : ℕ) → i ≤ k → k < i + n → passes k ≡ false) → first_from passes n i ≡ None
@@ -139,34 +124,30 @@ window-some t shortest longest fails =
 right : (a b : ℕ) → not (a == b) ≡ false → a ≡ b
 right a b h = grind (arith, nat_tests)
 
-pub equal : (a b : ℕ) → a ≡ b → not (a == b) ≡ false
+equal : (a b : ℕ) → a ≡ b → not (a == b) ≡ false
 equal a b h = grind (arith, nat_tests)
 
 differs : (a b : ℕ) → (a ≡ b → ⊥) → not (a == b) ≡ true
 differs a b h = grind (arith, nat_tests)
 
 -- where there is no first wrong answer, all are right
-pub wrong_answer-none : (rules : Rules) (asked : List Question) → wrong_answer rules asked ≡ None → All (λ question. question.answer ≡ expected_of rules question.row) asked
+pub wrong_answer-none : (rules : Rules) (asked : List Question) → wrong_answer rules asked ≡ None → AreAnswered rules asked
 wrong_answer-none rules asked none =
-    All-from_get_or (λ question. question.answer ≡ expected_of rules question.row) asked no_question (λ i below.
+    All-from_get_or (IsAnswered rules) asked no_question (λ i below.
     right _ _ (none-first_from (is_wrong rules asked) (length asked) 0 none i (omega arith) (omega arith)))
 
--- the reader goes on past a right answer
-pub wrong_answer-next : (rules : Rules) (asked : List Question) (i answer : ℕ) → i < length asked → answer ≡ (question_at asked i).answer → answer ≡ expected_of rules (question_at asked i).row
-    → wrong_answer rules asked ≡ first_from (is_wrong rules asked) (length asked - i) i
-    → wrong_answer rules asked ≡ first_from (is_wrong rules asked) (length asked - (i + 1)) (i + 1)
-wrong_answer-next rules asked i answer below here same so_far =
-    so_far ∙ first_from-next (is_wrong rules asked) (length asked) i below (equal _ _ (sym here ∙ same))
+-- with all answers right there is none
+pub answered-none : (rules : Rules) (asked : List Question) → AreAnswered rules asked → wrong_answer rules asked ≡ None
+answered-none rules asked all =
+    first_from-none (is_wrong rules asked) (length asked) 0 (λ k from to.
+    equal _ _ (All-get_or (IsAnswered rules) asked k no_question (omega arith) all))
 
--- and stops at a wrong one
-pub wrong_answer-here : (rules : Rules) (asked : List Question) (i answer expected : ℕ) → i < length asked → answer ≡ (question_at asked i).answer → expected ≡ expected_of rules (question_at asked i).row
-    → (answer ≡ expected → ⊥)
-    → wrong_answer rules asked ≡ first_from (is_wrong rules asked) (length asked - i) i
-    → Some i ≡ wrong_answer rules asked
-wrong_answer-here rules asked i answer expected below here there differ so_far =
-    sym (so_far ∙ first_from-found (is_wrong rules asked) (length asked) i below (differs _ _ (λ same. differ (here ∙ same ∙ sym there))))
+-- the first wrong one by the relation is the first
+wrong_answer-some : (rules : Rules) (asked : List Question) (i : ℕ) → IsFirstWrong rules asked i → wrong_answer rules asked ≡ Some i
+wrong_answer-some rules asked i first =
+    let within = first.within in
+    first_from-some (is_wrong rules asked) (length asked) 0 i (omega arith) (omega arith) (differs _ _ first.wrong) (λ k from below. equal _ _ (first.first k below))
 
--- with all answers right it comes to the end
-pub wrong_answer-end : (rules : Rules) (asked : List Question) (i : ℕ) → length asked ≤ i
-    → wrong_answer rules asked ≡ first_from (is_wrong rules asked) (length asked - i) i → None ≡ wrong_answer rules asked
-wrong_answer-end rules asked i over so_far = sym (so_far ∙ first_from-end (is_wrong rules asked) (length asked) i over)
+-- parts that are kept apart by an answer have it as their first wrong one
+pub apart-answer : (parts : CalibrationParts) (apart : Apart) (i : ℕ) → apart ≡ Answer i → IsApart parts apart → wrong_answer parts.rules parts.questions ≡ Some i
+apart-answer parts apart i is held = wrong_answer-some _ _ i (subst (IsApart parts) is held).2

@@ -38,7 +38,7 @@ read_questions ms key = value_of ms key >>= questions_in
 -- ---- what a document without a fault holds there
 
 -- the number of a key that may hold this, and 0 for other keys
-abbrev number_as : Content → Members → CalKey → ℕ
+abbrev pub number_as : Content → Members → CalKey → ℕ
 number_as (number low high) ms key = unwrap_or (read_number low high ms key) 0
 number_as _ ms key = 0
 

@@ -1,12 +1,9 @@
 -- What the rules of a calibration file are in all, without their order.
-use Rattle.std.specs.Prelude.{◌≡◌, ◌↔◌, ◌≤◌, ◌<◌, true, List, All, Some, Ok}
+use Rattle.std.specs.Prelude.{◌≡◌, ◌↔◌, ◌≤◌, ◌<◌, true, Some, Ok}
 use Rattle.toml.specs.Data.{Members}
 use Rattle.eg_torque.specs.Permit.{DoesNotFall}
 use Rattle.eg_answer.specs.Times.{TimeParts}
-use Rattle.eg_answer.specs.Answers.{expected_of}
-use Rattle.eg_answer.specs.declared.rules.Rules.{Rules}
-use Rattle.eg_answer.specs.declared.questions.Question.{Question as QuestionParts}
-use Rattle.eg_values.specs.Calibration.{CalibrationParts}
+use Rattle.eg_values.specs.Calibration.{CalibrationParts, AreAnswered}
 use Rattle.eg_cal.specs.declared.key.CalKey.{CalKey}
 use Rattle.eg_cal.specs.declared.key.CalKey.TheVariants.{Question}
 use Rattle.eg_cal.specs.Contents.{questions_of}
@@ -19,10 +16,6 @@ pub record IsWindow (t : TimeParts) : Type 0 where
   pub from_first : t.first ≤ t.send
   pub to_last : t.send ≤ t.last
   pub inside : t.last < t.period
-
--- each question's answer is the fold of its row
-abbrev pub AreAnswered : Rules → List QuestionParts → Type 0
-AreAnswered rules asked = All (λ question. question.answer ≡ expected_of rules question.row) asked
 
 -- each key is there and holds what it may, no other name is there, no row of the permit table falls, the
 -- answer window is in order, and each question is answered

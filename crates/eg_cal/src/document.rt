@@ -4,8 +4,9 @@ ghost use Rattle.toml.specs.View.{view, table_view};
 ghost use Rattle.eg_num.specs.Interpolation.{Grid, Curve};
 ghost use Rattle.eg_cal.specs.declared.key.CalFault.TheVariants.{Key};
 ghost use Rattle.eg_toml.specs.Refusals.{Checks, unless_some};
-ghost use Rattle.eg_cal.specs.Contents.{members_of, value_of, read_number, read_numbers, read_rows, read_questions};
-ghost use Rattle.eg_cal.specs.Checks.{axis_fault};
+ghost use Rattle.eg_cal.specs.Keys.{content_of, number};
+ghost use Rattle.eg_cal.specs.Contents.{members_of, value_of, number_of, read_number, read_numbers, read_rows, read_questions};
+ghost use Rattle.eg_cal.specs.Checks.{fault_at, axis_fault};
 ghost use Rattle.eg_cal.specs.Names.{top_names, has_names, is_all_known};
 ghost use Rattle.eg_toml.specs.Values.{table_at};
 ghost use Rattle.eg_toml.specs.Names.{all_names, is_among};
@@ -40,10 +41,11 @@ pub(crate) struct Document {
 }
 
 impl Document {
-    /// The number under a key, from `low` to `high`.
+    /// The number under a key that may hold one from `low` to `high`.
     pub(crate) fn number(&self, key: CalKey, low: u16, high: u16) -> Result<u16, CalFault>
-        ensures value { let read = read_number low high (table_view self.now.root) key in
-            Checks (unless_some (Key key) read) (unwrap_or read 0) result }
+        requires { content_of key ≡ number low high }
+        ensures value { let ms = table_view self.now.root in
+            Checks (fault_at ms key) (number_of ms key) result }
         ensures within { IfOk result (λ n. (low ≤ n) × (n ≤ high)) }
     {
         self.number_under(key, low, high)

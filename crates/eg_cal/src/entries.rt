@@ -1,12 +1,12 @@
 // What stands under all keys of a calibration file, table by table.
-ghost use Rattle.std.specs.Prelude.{◌≡◌, ◌≤◌, IfOk, length};
+ghost use Rattle.std.specs.Prelude.{◌≡◌, ◌≤◌, [], ◌∷◌, IfOk, length};
 ghost use Rattle.toml.specs.View.{table_view};
 ghost use Rattle.eg_cal.specs.declared.key.CalKey.TheVariants.{Version, PermitThreshold, TorqueKt, Question};
-ghost use Rattle.eg_cal.specs.Keys.{version_keys, permit_keys, torque_keys, pairs_keys, plant_keys, answers_keys, question_keys, all_keys};
+ghost use Rattle.eg_cal.specs.Keys.{content_of, number, version_keys, permit_keys, torque_keys, pairs_keys, plant_keys, answers_keys, question_keys, all_keys};
 ghost use Rattle.eg_toml.specs.Refusals.{Checks};
 ghost use Rattle.eg_cal.specs.Contents.{number_of, questions_of};
 ghost use Rattle.eg_cal.specs.Checks.{first_fault, keys_fault};
-ghost use Rattle.eg_cal.specs.Calibration.{permit_of, torque_weights_of, tolerances_of, pair_weights_of, plant_of, times_of, parts_of};
+ghost use Rattle.eg_cal.specs.Calibration.{permit_of, weights_of, torque_weights_of, tolerances_of, pair_weights_of, plant_of, times_of, parts_of};
 
 use crate::document::Document;
 use crate::{CalFault, CalKey};
@@ -126,6 +126,29 @@ fn permit_in(document: &Document) -> Result<(Table2, u16), CalFault>
     Ok((table, threshold))
 }
 
+/// The weights under the three keys of a debouncer.
+#[tactic(auto, unfolding(crate::specs::Checks::first_fault))]
+fn weights_in(
+    document: &Document,
+    up: CalKey,
+    down: CalKey,
+    limit: CalKey,
+) -> Result<Weights, CalFault>
+    requires up { content_of up ≡ number 1 100 }
+    requires down { content_of down ≡ number 0 100 }
+    requires limit { content_of limit ≡ number 1 10000 }
+    ensures { let ms = table_view document.now.root in
+        Checks (first_fault ms (up ∷ down ∷ limit ∷ [])) (weights_of ms up down limit) result }
+{
+    let up = document.number(up, 1, 100)?;
+    let down = document.number(down, 0, 100)?;
+    let limit = document.number(limit, 1, 10_000)?;
+    let Some(weights) = Weights::new(up, down, limit) else {
+        unreachable!();
+    };
+    Ok(weights)
+}
+
 /// The torque of a load of 1000, and the weights of the torque.
 #[tactic(auto, unfolding(crate::specs::Checks::first_fault))]
 fn torque_in(document: &Document) -> Result<(u16, Weights), CalFault>
@@ -134,12 +157,12 @@ fn torque_in(document: &Document) -> Result<(u16, Weights), CalFault>
     ensures kt { IfOk result (λ torque. (1 ≤ torque.0) × (torque.0 ≤ 10000)) }
 {
     let kt = document.number(CalKey::TorqueKt, 1, 10_000)?;
-    let up = document.number(CalKey::TorqueUp, 1, 100)?;
-    let down = document.number(CalKey::TorqueDown, 0, 100)?;
-    let limit = document.number(CalKey::TorqueLimit, 1, 10_000)?;
-    let Some(weights) = Weights::new(up, down, limit) else {
-        unreachable!();
-    };
+    let weights = weights_in(
+        document,
+        CalKey::TorqueUp,
+        CalKey::TorqueDown,
+        CalKey::TorqueLimit,
+    )?;
     Ok((kt, weights))
 }
 
@@ -153,12 +176,12 @@ fn pairs_in(document: &Document) -> Result<([u16; 4], Weights), CalFault>
     let plate = document.number(CalKey::PairsPlate, 0, 10_000)?;
     let load = document.number(CalKey::PairsLoad, 0, 10_000)?;
     let speed = document.number(CalKey::PairsSpeed, 0, 10_000)?;
-    let up = document.number(CalKey::PairsUp, 1, 100)?;
-    let down = document.number(CalKey::PairsDown, 0, 100)?;
-    let limit = document.number(CalKey::PairsLimit, 1, 10_000)?;
-    let Some(weights) = Weights::new(up, down, limit) else {
-        unreachable!();
-    };
+    let weights = weights_in(
+        document,
+        CalKey::PairsUp,
+        CalKey::PairsDown,
+        CalKey::PairsLimit,
+    )?;
     Ok(([pedal, plate, load, speed], weights))
 }
 
@@ -190,12 +213,12 @@ fn times_in(document: &Document) -> Result<AnswerTimes, CalFault>
     let first = document.number(CalKey::AnswersFirst, 0, 99)?;
     let last = document.number(CalKey::AnswersLast, 0, 99)?;
     let send = document.number(CalKey::AnswersSend, 0, 99)?;
-    let up = document.number(CalKey::AnswersUp, 1, 100)?;
-    let down = document.number(CalKey::AnswersDown, 0, 100)?;
-    let limit = document.number(CalKey::AnswersLimit, 1, 10_000)?;
-    let Some(weights) = Weights::new(up, down, limit) else {
-        unreachable!();
-    };
+    let weights = weights_in(
+        document,
+        CalKey::AnswersUp,
+        CalKey::AnswersDown,
+        CalKey::AnswersLimit,
+    )?;
     Ok(AnswerTimes {
         period,
         first,

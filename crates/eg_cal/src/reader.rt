@@ -1,19 +1,21 @@
 // The reader of calibration files.
-ghost use Rattle.std.specs.Prelude.{◌≡◌, ◌<◌, IfSome, length};
+ghost use Rattle.std.specs.Prelude.{◌≡◌, ◌≤◌, length};
 ghost use Rattle.toml.specs.View.{table_view};
 ghost use Rattle.eg_toml.specs.Documents.{document_of};
 ghost use Rattle.eg_toml.specs.Refusals.{IsRead, Checks};
 ghost use Rattle.eg_cal.specs.declared.key.CalFault.TheVariants.{Memory};
-ghost use Rattle.eg_cal.specs.Calibration.{calibration_of, refusal_of, parts_of, parts_fault, rising_fault, window_fault, wrong_answer};
+ghost use Rattle.eg_cal.specs.Calibration.{calibration_of, refusal_of, parts_of, parts_fault, rising_fault, window_fault, answer_fault};
+ghost use Rattle.eg_values.specs.Calibration.{CalibrationParts};
 
 use crate::document::Document;
 use crate::entries::{AnswerTimes, Entries, entries_in};
 use crate::{CalFault, CalKey};
-use eg_answer::{Questions, Rules, Times, expected};
+use eg_answer::{Questions, Rules, Times};
 use eg_num::Table2;
+use eg_plant::PlantData;
 use eg_toml::read_document;
 use eg_torque::Permit;
-use eg_values::Calibration;
+use eg_values::{Apart, Calibration};
 use std::alloc::Global;
 
 /// The calibration that a file says (docs/FORMATS.md, "Calibration files"), or the first rule that the file
@@ -45,21 +47,37 @@ fn put_together(entries: Entries) -> Result<Calibration, CalFault>
 {
     let permit = permit_of(entries.permit)?;
     let times = times_of(entries.times)?;
+    let tolerances = entries.tolerances;
     let rules = Rules {
         permit,
         kt: entries.kt,
         threshold: entries.threshold,
-        tolerances: entries.tolerances,
+        tolerances,
         pair: entries.pair,
         torque: entries.torque,
     };
-    if let Some(index) = wrong_answer(&rules, &entries.questions) {
-        return Err(CalFault::Answer { index });
+    answered(rules, entries.plant, times, entries.questions)
+}
+
+/// The calibration of these parts, where each question's answer is the fold of its row.
+fn answered(
+    rules: Rules,
+    plant: PlantData,
+    times: Times,
+    questions: Questions,
+) -> Result<Calibration, CalFault>
+    requires kt { rules.kt ≡ plant.kt }
+    requires count { 2 ≤ length questions }
+    ensures { let parts : CalibrationParts =
+        record { rules = rules; plant = plant; times = times; questions = questions } in
+        Checks (answer_fault rules questions) parts result }
+{
+    match Calibration::of_parts(rules, plant, times, questions) {
+        Ok(calibration) => Ok(calibration),
+        Err(Apart::Answer { index }) => Err(CalFault::Answer { index }),
+        Err(Apart::Torque) => unreachable!(),
+        Err(Apart::Few) => unreachable!(),
     }
-    let Some(calibration) = Calibration::new(rules, entries.plant, times, entries.questions) else {
-        unreachable!();
-    };
-    Ok(calibration)
 }
 
 /// The permit table of these values, where no row falls.
@@ -87,16 +105,4 @@ fn times_of(times: AnswerTimes) -> Result<Times, CalFault>
         Some(times) => Ok(times),
         None => Err(CalFault::Window),
     }
-}
-
-/// The first question, the first being 0, whose answer isn't the fold of its row.
-fn wrong_answer(rules: &Rules, questions: &Questions) -> Option<u16>
-    ensures { result ≡ wrong_answer rules.now questions.now }
-{
-    for i in 0..questions.len() {
-        if questions.answer(i) != expected(rules, questions.row(i)) {
-            return Some(i as u16);
-        }
-    }
-    None
 }

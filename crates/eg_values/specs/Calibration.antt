@@ -1,13 +1,16 @@
 -- What a calibration holds, and when it is an accepted one.
-use Rattle.std.specs.Prelude.{◌≡◌, ◌≤◌, ◌<◌, ◌^◌, List, length, All}
+use Rattle.std.specs.Prelude.{◌≡◌, ℕ, ◌≤◌, ◌<◌, ◌^◌, List, length, All}
 use Rattle.eg_num.specs.Interpolation.{IsGrid, IsCurve}
 use Rattle.eg_num.specs.Windows.{AreWeights}
 use Rattle.eg_torque.specs.Permit.{DoesNotFall}
 use Rattle.eg_plant.specs.PlantParts.{PlantParts, ArePlantParts}
 use Rattle.eg_answer.specs.Times.{TimeParts, AreTimes}
 use Rattle.eg_answer.specs.Answers.{expected_of}
+use Rattle.eg_answer.specs.Questions.{question_at}
 use Rattle.eg_answer.specs.declared.rules.Rules.{Rules}
 use Rattle.eg_answer.specs.declared.questions.Question.{Question}
+use Rattle.eg_values.specs.declared.calibration.Apart.{Apart}
+use Rattle.eg_values.specs.declared.calibration.Apart.TheVariants.{Torque, Few, Answer}
 
 -- the rules of level 2, the plant, the times of the answers, and the questions
 pub record CalibrationParts : Type 0 where
@@ -16,12 +19,33 @@ pub record CalibrationParts : Type 0 where
   pub times : TimeParts
   pub questions : List Question
 
+-- the question's answer is the fold of its row
+abbrev pub IsAnswered : Rules → Question → Type 0
+IsAnswered rules question = question.answer ≡ expected_of rules question.row
+
+-- so is each question's
+abbrev pub AreAnswered : Rules → List Question → Type 0
+AreAnswered rules questions = All (IsAnswered rules) questions
+
+-- question i, the first being 0, is the first whose answer isn't the fold of its row
+pub record IsFirstWrong (rules : Rules) (questions : List Question) (i : ℕ) : Type 0 where
+  pub within : i < length questions
+  pub wrong : ¬ IsAnswered rules (question_at questions i)
+  pub first : (k : ℕ) → k < i → IsAnswered rules (question_at questions k)
+
 -- the parts go together: one torque of a load of 1000, two questions at least, and each question's answer is
 -- the fold of its row
 pub record GoTogether (c : CalibrationParts) : Type 0 where
   pub one_kt : c.rules.kt ≡ c.plant.kt
   pub two_questions : 2 ≤ length c.questions
-  pub answered : All (λ question. question.answer ≡ expected_of c.rules question.row) c.questions
+  pub answered : AreAnswered c.rules c.questions
+
+-- what keeps parts apart, where what is told before it in `Apart` does not
+abbrev pub IsApart : CalibrationParts → Apart → Type 0
+IsApart c Torque = ¬ (c.rules.kt ≡ c.plant.kt)
+IsApart c Few = (c.rules.kt ≡ c.plant.kt) × (length c.questions < 2)
+IsApart c (Answer i) =
+    (c.rules.kt ≡ c.plant.kt) × (2 ≤ length c.questions) × IsFirstWrong c.rules c.questions i
 
 -- the seeds of the questions, and the values of the permit table, are words of 16 bits
 pub record HasWords (c : CalibrationParts) : Type 0 where

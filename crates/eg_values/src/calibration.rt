@@ -1,11 +1,21 @@
 // The values of a calibration.
-ghost use Rattle.std.specs.Prelude.{◌≡◌, ◌↔◌, ◌<◌, ◌^◌, All, IsTrue, IsSome, IfSome};
-ghost use Rattle.eg_answer.specs.Answers.{expected_of};
-ghost use Rattle.eg_values.specs.Calibration.{CalibrationParts, GoTogether, IsAccepted};
+ghost use Rattle.std.specs.Prelude.{◌≡◌, ◌↔◌, ◌<◌, ◌^◌, All, IsOk, IfOk, IfErr, IsSome, IfSome, IfNone};
+ghost use Rattle.eg_values.specs.Calibration.{CalibrationParts, AreAnswered, IsFirstWrong, GoTogether, IsApart, IsAccepted};
 
 use eg_answer::{Questions, Rules, Times, expected};
 use eg_plant::PlantData;
 use std::marker::Model;
+
+/// Why parts don't go together as a calibration: the first of these rules that they break.
+#[derive(Clone, Copy, Debug, PartialEq, Eq)]
+pub enum Apart {
+    /// Plant and rules have different torques of a load of 1000.
+    Torque,
+    /// There are fewer than two questions.
+    Few,
+    /// The answer of this question, the first being 0, isn't the fold of its row; those before it are.
+    Answer { index: u16 },
+}
 
 /// A calibration (docs/CONCEPT.md, "Calibration"): the rules of level 2, the plant, the times of the answers,
 /// and the questions with their answers. Its type keeps that it is an accepted one (`IsAccepted`). Contracts
@@ -55,15 +65,41 @@ impl Calibration {
             record { rules = rules; plant = plant; times = times; questions = questions } in
             IfSome result (λ calibration. (calibration ≡ parts) × IsAccepted parts) }
     {
-        if rules.kt != plant.kt() || questions.len() < 2 || !are_answered(&rules, &questions) {
-            return None;
+        Calibration::of_parts(rules, plant, times, questions).ok()
+    }
+
+    /// The calibration of these parts, or the first rule that keeps them apart.
+    pub fn of_parts(
+        rules: Rules,
+        plant: PlantData,
+        times: Times,
+        questions: Questions,
+    ) -> Result<Calibration, Apart>
+        ensures accepted { let parts : CalibrationParts =
+            record { rules = rules; plant = plant; times = times; questions = questions } in
+            IsOk result ↔ GoTogether parts }
+        ensures kept { let parts : CalibrationParts =
+            record { rules = rules; plant = plant; times = times; questions = questions } in
+            IfOk result (λ calibration. (calibration ≡ parts) × IsAccepted parts) }
+        ensures refused { let parts : CalibrationParts =
+            record { rules = rules; plant = plant; times = times; questions = questions } in
+            IfErr result (IsApart parts) }
+    {
+        if rules.kt != plant.kt() {
+            return Err(Apart::Torque);
+        }
+        if questions.len() < 2 {
+            return Err(Apart::Few);
+        }
+        if let Some(index) = wrong_answer(&rules, &questions) {
+            return Err(Apart::Answer { index });
         }
         // Whoever reads these values learns what their types keep.
         let _values = rules.permit.table().values();
         let _limits = (rules.pair.limit(), rules.torque.limit());
         let _charges = plant.charge().values();
         let _weights = times.weights();
-        Some(Calibration {
+        Ok(Calibration {
             rules,
             plant,
             times,
@@ -116,16 +152,17 @@ impl Calibration {
     }
 }
 
-/// Whether each question's answer is the fold of its row. Whoever asks learns that the seeds are words.
-fn are_answered(rules: &Rules, questions: &Questions) -> bool
-    ensures answered { IsTrue result
-        ↔ All (λ question. question.answer ≡ expected_of rules.now question.row) questions.now }
-    ensures seeds { IsTrue result → All (λ question. question.row.seed < 2 ^ 16) questions.now }
+/// The first question, the first being 0, whose answer isn't the fold of its row. Whoever learns that there
+/// is none learns that the seeds are words.
+fn wrong_answer(rules: &Rules, questions: &Questions) -> Option<u16>
+    ensures wrong { IfSome result (IsFirstWrong rules.now questions.now) }
+    ensures answered { IfNone result (AreAnswered rules.now questions.now) }
+    ensures seeds { IfNone result (All (λ question. question.row.seed < 2 ^ 16) questions.now) }
 {
     for i in 0..questions.len() {
         if questions.answer(i) != expected(rules, questions.row(i)) {
-            return false;
+            return Some(i as u16);
         }
     }
-    true
+    None
 }

@@ -5,5 +5,5 @@
 mod calibration;
 mod standard;
 
-pub use calibration::Calibration;
+pub use calibration::{Apart, Calibration};
 pub use standard::reference;
