@@ -10,7 +10,8 @@ use Rattle.eg_fault.specs.declared.class.Class.TheVariants.{Script, Offset, Bus,
 use Rattle.eg_fault.specs.declared.class.Fault.{Fault}
 use Rattle.eg_draw.specs.declared.runs.DrawnRun.{DrawnRun}
 use Rattle.eg_draw.specs.Draws.{next, draw, after, draws}
-use Rattle.eg_draw.specs.Runs.{idle, full, full_with, image_of, image_draws, stretch_row, stretches, trace_of, one_of, drawn_mask, four_values, first_ticks, class_of, fault_of, before_fault, drawn_run, IsDrawn}
+use Rattle.eg_word.specs.declared.images.TheConstants.{IDLE, FULL}
+use Rattle.eg_draw.specs.Runs.{full_with, image_of, image_draws, stretch_row, stretches, trace_of, one_of, drawn_mask, four_values, first_ticks, class_of, fault_of, before_fault, drawn_run, IsDrawn}
 
 -- ---- what is drawn ----
 
@@ -54,10 +55,10 @@ full_with-short : (x : ℕ) → length (full_with x) ≤ 256
 unfolding full_with
 full_with-short x = lit≤ tt
 
-idle-short : length idle ≤ 256
+idle-short : length IDLE ≤ 256
 idle-short = lit≤ tt
 
-full-short : length full ≤ 256
+full-short : length FULL ≤ 256
 full-short = lit≤ tt
 
 draws-short : (x : ℕ) → length (draws 256 x) ≤ 256
@@ -67,7 +68,7 @@ image-short : (kind x : ℕ) → length (image_of kind x) ≤ 256
 unfolding image_of
 image-short kind x =
     let P : List ℕ → Type 0 = λ words. length words ≤ 256 in
-    either P (kind == 0) idle _ idle-short (either P (kind == 1) full _ full-short
+    either P (kind == 0) IDLE _ idle-short (either P (kind == 1) FULL _ full-short
     (either P (kind == 2) (draws 256 x) _ (draws-short x) (full_with-short x)))
 
 -- ---- the drive ----

@@ -2,6 +2,7 @@
 -- what each part gives stands how many draws it takes.
 use Rattle.std.specs.Prelude.{ℕ, zero, suc, ◌≡◌, ◌+◌, ◌%◌, ◌≤◌, ◌==◌, pos, false, List, [], ◌∷◌, ◌++◌, map, replicate, take, slice_index, slice_set, length, All, Option, Some, None, IfSome, if◌then◌else◌}
 use Rattle.eg_num.specs.Drive.{DriveRow, IsDrive}
+use Rattle.eg_word.specs.declared.images.TheConstants.{IDLE, FULL}
 use Rattle.eg_fault.specs.Faults.{IsValid}
 use Rattle.eg_fault.specs.declared.class.Class.{Class}
 use Rattle.eg_fault.specs.declared.class.Class.TheVariants.{Script, Offset, Bus, Plate, Skip, Disturb, Flip, Halt, Timing, Wild, Path1Closed, Path2Closed, PathOpen, Lapse}
@@ -11,22 +12,14 @@ use Rattle.eg_draw.specs.declared.runs.DrawnRun.{DrawnRun}
 
 -- ---- the image ----
 
--- waits for ever
-abbrev pub idle : List ℕ
-idle = 0xf000 ∷ 0xd1fe ∷ []
-
--- sets both outputs to 1000, and waits
-abbrev pub full : List ℕ
-full = 0x1210 ∷ 0x2210 ∷ 0x1407 ∷ 0x2468 ∷ 0xc440 ∷ 0xc441 ∷ 0xf000 ∷ 0xd1fe ∷ []
-
--- the same with the two words drawn that load the number which it sets the outputs to
+-- the image that sets both outputs to 1000, with the two words drawn that load that number
 unfoldable pub full_with : ℕ → List ℕ
-full_with x = slice_set (slice_set full 2 (0x1400 + draw x % 8)) 3 (0x2400 + draw (next x) % 128)
+full_with x = slice_set (slice_set FULL 2 (0x1400 + draw x % 8)) 3 (0x2400 + draw (next x) % 128)
 
 -- the image of a kind, 0 to 3
 unfoldable pub image_of : ℕ → ℕ → List ℕ
 image_of kind x =
-    if kind == 0 then idle else if kind == 1 then full else if kind == 2 then draws 256 x else full_with x
+    if kind == 0 then IDLE else if kind == 1 then FULL else if kind == 2 then draws 256 x else full_with x
 
 -- how many draws it takes
 abbrev pub image_draws : ℕ → ℕ

@@ -1,19 +1,12 @@
 // The images of drawn runs.
 ghost use Rattle.std.specs.Prelude.{◌≡◌, ◌<◌, IfOk, OnOk};
 ghost use Rattle.eg_draw.specs.Draws.{after, draws};
-ghost use Rattle.eg_draw.specs.Runs.{idle, full, full_with, image_of, image_draws};
+ghost use Rattle.eg_draw.specs.Runs.{full_with, image_of, image_draws};
 
 use crate::Generator;
 use eg_base::{Items, NoMemory};
+use eg_word::{FULL, IDLE};
 use std::alloc::Global;
-
-/// Waits for ever.
-const IDLE: [u16; 2] = [0xf000, 0xd1fe];
-
-/// Sets both outputs to 1000, and waits.
-const FULL: [u16; 8] = [
-    0x1210, 0x2210, 0x1407, 0x2468, 0xc440, 0xc441, 0xf000, 0xd1fe,
-];
 
 impl Generator {
     /// Draws the image of a kind, 0 to 3.
@@ -59,14 +52,14 @@ impl Generator {
 
 /// The image that waits for ever.
 fn idle_image(alloc: Global) -> Result<Items<u16>, NoMemory>
-    ensures { IfOk result (λ words. words ≡ idle) }
+    ensures { IfOk result (λ words. words ≡ IDLE) }
 {
     image_of_words(alloc, &IDLE)
 }
 
 /// The image that sets both outputs to 1000.
 fn full_image(alloc: Global) -> Result<Items<u16>, NoMemory>
-    ensures { IfOk result (λ words. words ≡ full) }
+    ensures { IfOk result (λ words. words ≡ FULL) }
 {
     image_of_words(alloc, &FULL)
 }

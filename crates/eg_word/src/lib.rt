@@ -8,6 +8,7 @@
 
 mod code;
 mod decoded_memory;
+mod images;
 mod instruction;
 mod machine;
 mod register;
@@ -15,6 +16,7 @@ mod registers;
 
 pub use code::CodeMemory;
 pub use decoded_memory::DecodedMemory;
+pub use images::{FULL, IDLE};
 pub use instruction::{Instruction, decode};
 pub use machine::{step, step_on};
 pub use register::Register;
