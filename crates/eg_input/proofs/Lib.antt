@@ -9,3 +9,4 @@ pub mod LineLemmas
 pub mod WordLemmas
 pub mod WritesLemmas
 pub mod ImageLaws
+pub mod DecimalLemmas

@@ -4,24 +4,16 @@ ghost use Rattle.csv.specs.Records.{fields_of};
 ghost use Rattle.eg_input.specs.Records.{is_same_record};
 ghost use Rattle.eg_input.specs.Fields.{number_at, number_of};
 
+use crate::decimal_in;
 use csv::ByteRecord;
 
 /// The number that one to five decimal digits write, where it is at most `most`.
-#[tactic(auto, unfolding(crate::specs::Fields::number_of, crate::specs::Fields::decimal_value))]
+#[tactic(auto, unfolding(crate::specs::Fields::number_of))]
 fn number(field: &[u8], most: u16) -> Option<u16>
     ensures { result ≡ number_of most field.now }
 {
-    if field.is_empty() || field.len() > 5 {
-        return None;
-    }
-    let mut value = 0u32;
-    for byte in field {
-        if !byte.is_ascii_digit() {
-            return None;
-        }
-        value = 10 * value + u32::from(*byte - b'0');
-    }
-    if value <= u32::from(most) {
+    let value = decimal_in(field, 5)?;
+    if value <= u64::from(most) {
         Some(value as u16)
     } else {
         None

@@ -1,6 +1,7 @@
 //! The files that the simulator reads: drive traces and check files, which are files of rows, and images.
 #![tactic(auto)]
 
+mod decimal;
 mod fault;
 mod field;
 mod image;
@@ -9,6 +10,7 @@ mod reader;
 mod row;
 mod trace;
 
+pub use decimal::decimal_in;
 pub use fault::{ImageFault, TraceFault};
 pub use image::{images_are_their_lines, read_image};
 pub use trace::{check_files_are_their_rows, read_check, read_trace, traces_are_their_rows};

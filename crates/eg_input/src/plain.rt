@@ -58,7 +58,8 @@ pub(crate) fn drive(bytes: &[u8], ending: u8) -> Option<(Drive, &[u8])>
 }
 
 /// The number that one to five digits at the front write, and what comes behind the byte that ends them. None
-/// may come for any bytes, and comes where another byte ends them and where the number is above `most`.
+/// may come for any bytes, and comes where another byte ends them and where the number is above `most`. It
+/// reads the digits and finds their end in one pass, where `decimal_in` would want the end first.
 pub(crate) fn number(bytes: &[u8], most: u16, ending: u8) -> Option<(u16, &[u8])>
     ensures { IfSome result (λ found. BeginsWithNumber most ending bytes.now found.0 found.1.now) }
 {
