@@ -2,22 +2,14 @@
 ghost use Rattle.std.specs.Prelude.{◌≡◌};
 ghost use Rattle.eg_app.specs.Words.{number_in};
 
+use eg_input::decimal_in;
+
 /// The number that a word of one to ten decimal digits writes, where it is one from `least` to `most`
 /// (docs/FORMATS.md, "Commands").
-#[tactic(auto, unfolding(eg_input::specs::Fields::decimal_value))]
 pub(crate) fn number_in(word: &[u8], least: u32, most: u32) -> Option<u32>
     ensures { result ≡ number_in least most word.now }
 {
-    if word.is_empty() || word.len() > 10 {
-        return None;
-    }
-    let mut value = 0u64;
-    for byte in word {
-        if !byte.is_ascii_digit() {
-            return None;
-        }
-        value = 10 * value + u64::from(*byte - b'0');
-    }
+    let value = decimal_in(word, 10)?;
     if value >= u64::from(least) && value <= u64::from(most) {
         Some(value as u32)
     } else {
