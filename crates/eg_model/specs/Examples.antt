@@ -5,6 +5,7 @@ use Rattle.eg_num.specs.Drive.{DriveRow}
 use Rattle.eg_answer.specs.declared.marks.AnswerMark.{AnswerMark}
 use Rattle.eg_answer.specs.declared.marks.AnswerMark.TheVariants.{Absent}
 use Rattle.eg_answer.specs.declared.marks.Verdict.{Verdict}
+use Rattle.eg_word.specs.declared.images.TheConstants.{IDLE, FULL}
 use Rattle.eg_word.specs.declared.registers.Trap.{Trap}
 use Rattle.eg_fault.specs.declared.class.Class.{Class}
 use Rattle.eg_fault.specs.declared.class.Class.TheVariants.{Script, Offset, Bus, Flip, Path1Closed}
@@ -19,11 +20,11 @@ use Rattle.eg_model.specs.Bench.{Run, moments_to}
 
 -- waits for ever
 abbrev pub idle : List ℕ
-idle = 0xf000 ∷ 0xd1fe ∷ []
+idle = IDLE
 
 -- sets both outputs to 1000, and waits
 abbrev pub full : List ℕ
-full = 0x1210 ∷ 0x2210 ∷ 0x1407 ∷ 0x2468 ∷ 0xc440 ∷ 0xc441 ∷ 0xf000 ∷ 0xd1fe ∷ []
+full = FULL
 
 -- in each slice: half of the pedal to the throttle, and 1000 to the ignition
 abbrev pub follow : List ℕ
