@@ -5,6 +5,7 @@ use Rattle.std.proofs.lemmas.Nat.{pow_pos, pow_below}
 use Rattle.std.proofs.Math.Pow.{pow_mono}
 use Rattle.std.proofs.lemmas.Bool.{cases_order, eqb-true, eq-eqb, ne_eqb, eqb-false}
 use Rattle.std.proofs.lemmas.List.Elements.{All-head, All-tail}
+use Rattle.eg_answer.specs.Modules.{modules_before_react, modules}
 use Rattle.eg_answer.specs.Token.{next_token_of, token_after, TokenLaw}
 
 -- the modules 0 to k - 1 in their order, newest first
@@ -65,5 +66,5 @@ first_modules_from (number ∷ before) k all within e =
     ap (λ numbers. number ∷ numbers) rest ∙ ap first_modules (sym moved.0)
 
 pub token_law : TokenLaw
-unfolding first_modules
+unfolding first_modules modules_before_react modules
 token_law numbers all = (λ e. first_modules_from numbers 8 all (omega arith) e, λ e. ap token_after e ∙ token_after-first_modules 8)

@@ -1,21 +1,23 @@
 -- Four questions with their results, the folds on the way and the numbers that are expected, the token of a tick,
 -- a reaction time and bounds for lapses, computed from the definitions.
-use Rattle.std.proofs.Common.{◌≡◌, ℕ, ◌∷◌, List, [], map, take, refl, arith}
+use Rattle.std.proofs.Common.{◌≡◌, ℕ, ◌∷◌, List, [], map, take, reverse, refl, arith}
 use Rattle.eg_num.specs.Windows.{WeightParts}
 use Rattle.eg_num.specs.Interpolation.{value_at}
 use Rattle.eg_torque.specs.Permit.{permitted}
 use Rattle.eg_torque.specs.Excess.{is_excess}
 use Rattle.eg_answer.specs.Folds.{mixed, fold_of}
+use Rattle.eg_answer.specs.Formulas.{permitted_torque, estimated_torque, excess_number, disagreeing_pairs}
+use Rattle.eg_answer.specs.Modules.{modules_before_react, modules}
 use Rattle.eg_answer.specs.Answers.{pedal_result, permitted_result, estimate_result, excess_result, pairs_result, results_of, expected_of, answer_number}
-use Rattle.eg_answer.specs.Token.{next_token_of, token_after, all_modules}
+use Rattle.eg_answer.specs.Token.{next_token_of, token_after}
 use Rattle.eg_answer.specs.Times.{TimeParts, verdicts_to_confirm, reaction_of, runs_to_confirm, periods_to_confirm, worth_of, rounds_to_confirm, lapse_periods, lapse_bound_of, HasLapseBound}
 use Rattle.eg_answer.specs.declared.rules.Rules.{Rules}
 use Rattle.eg_answer.specs.declared.rules.TestRow.{TestRow}
 
 -- every definition that these rows need
 unfoldable answering : ℕ
-unfolding value_at permitted is_excess mixed fold_of pedal_result permitted_result estimate_result excess_result pairs_result
-    results_of expected_of answer_number next_token_of token_after verdicts_to_confirm reaction_of
+unfolding value_at permitted is_excess permitted_torque estimated_torque excess_number disagreeing_pairs mixed fold_of pedal_result permitted_result estimate_result excess_result pairs_result
+    results_of expected_of answer_number next_token_of token_after modules_before_react modules verdicts_to_confirm reaction_of
     runs_to_confirm periods_to_confirm worth_of rounds_to_confirm lapse_periods lapse_bound_of
 answering = 0
 
@@ -111,7 +113,7 @@ unfolding answering
 tie = refl
 
 -- the token of a tick, after each number of modules
-tokens : map token_after ([] ∷ (0 ∷ []) ∷ (1 ∷ 0 ∷ []) ∷ all_modules ∷ []) ≡ 0 ∷ 1 ∷ 3 ∷ 255 ∷ []
+tokens : map token_after ([] ∷ (0 ∷ []) ∷ (1 ∷ 0 ∷ []) ∷ reverse modules ∷ []) ≡ 0 ∷ 1 ∷ 3 ∷ 255 ∷ []
 unfolding answering
 tokens = refl
 

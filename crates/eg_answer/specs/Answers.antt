@@ -1,11 +1,9 @@
 -- The results of a test row, and its answer: level 2 computes on the row's numbers once more what it computes
 -- on the sensors' readings.
-use Rattle.std.specs.Prelude.{ℕ, ◌+◌, ◌*◌, false, List, [], ◌∷◌, max, slice_index}
-use Rattle.eg_num.specs.Arithmetic.{estimate}
-use Rattle.eg_torque.specs.Permit.{permitted}
-use Rattle.eg_torque.specs.Excess.{is_excess}
-use Rattle.eg_sensor.specs.Readings.{used_pedal, checked_raise, bit, pair_bits}
+use Rattle.std.specs.Prelude.{ℕ, ◌+◌, ◌*◌, false, List, [], ◌∷◌}
+use Rattle.eg_sensor.specs.Readings.{used_pedal}
 use Rattle.eg_answer.specs.Folds.{fold_of}
+use Rattle.eg_answer.specs.Formulas.{permitted_torque, estimated_torque, excess_number, disagreeing_pairs}
 use Rattle.eg_answer.specs.declared.rules.Rules.{Rules}
 use Rattle.eg_answer.specs.declared.rules.TestRow.{TestRow}
 
@@ -15,22 +13,19 @@ pedal_result row = used_pedal row.readings.pedal false
 
 -- the permitted torque of the row's own pedal, and of the speeds and the raise that are read
 unfoldable pub permitted_result : Rules → TestRow → ℕ
-permitted_result rules row =
-    permitted rules.permit row.used (slice_index row.readings.speed 0) (slice_index row.readings.speed 1)
-    (checked_raise row.readings.raise row.readings.raise_check)
+permitted_result rules row = permitted_torque rules row.readings row.used
 
 -- the torque estimate of the higher load
 unfoldable pub estimate_result : Rules → TestRow → ℕ
-estimate_result rules row =
-    estimate rules.kt (max (slice_index row.readings.load 0) (slice_index row.readings.load 1))
+estimate_result rules row = estimated_torque rules row.readings
 
 -- 1 where the row's own estimate is an excess over what the row allows, else 0
 unfoldable pub excess_result : Rules → TestRow → ℕ
-excess_result rules row = bit 1 (is_excess row.estimate row.allowed rules.threshold)
+excess_result rules row = excess_number rules row.allowed row.estimate
 
 -- the bits of the pairs that disagree
 unfoldable pub pairs_result : Rules → TestRow → ℕ
-pairs_result rules row = pair_bits row.readings rules.tolerances
+pairs_result rules row = disagreeing_pairs rules row.readings
 
 -- the five results, in the order of the modules that compute them
 unfoldable pub results_of : Rules → TestRow → List ℕ

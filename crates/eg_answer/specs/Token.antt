@@ -1,6 +1,8 @@
 -- The token of the program flow check: in a tick the eight modules of level 2 move it one after another, from
 -- 0 on. In the end it is 255 exactly where all eight did, in their order.
-use Rattle.std.specs.Prelude.{◌≡◌, ◌↔◌, ℕ, ◌+◌, ◌-◌, ◌<◌, ◌^◌, ◌==◌, List, [], ◌∷◌, All, if◌then◌else◌}
+use Rattle.std.specs.Prelude.{◌≡◌, ◌↔◌, ℕ, ◌+◌, ◌-◌, ◌<◌, ◌^◌, ◌==◌, List, [], ◌∷◌, All, reverse, if◌then◌else◌}
+use Rattle.eg_answer.specs.declared.modules.TheConstants.{MODULES}
+use Rattle.eg_answer.specs.Modules.{modules}
 
 -- moved by the module of this number: to the bits below its own its own is added, and any other token is lost
 unfoldable pub next_token_of : ℕ → ℕ → ℕ
@@ -11,11 +13,7 @@ unfoldable pub token_after : List ℕ → ℕ
 token_after [] = 0
 token_after (number ∷ before) = next_token_of (token_after before) number
 
--- all eight modules in their order, newest first
-abbrev pub all_modules : List ℕ
-all_modules = 7 ∷ 6 ∷ 5 ∷ 4 ∷ 3 ∷ 2 ∷ 1 ∷ 0 ∷ []
-
 -- The law: whichever modules moved it, it is 255 exactly where they are all eight in their order.
 abbrev pub TokenLaw : Type 0
-TokenLaw = (numbers : List ℕ) → All (λ number. number < 8) numbers →
-    (token_after numbers ≡ 255) ↔ (numbers ≡ all_modules)
+TokenLaw = (numbers : List ℕ) → All (λ number. number < MODULES) numbers →
+    (token_after numbers ≡ 255) ↔ (numbers ≡ reverse modules)

@@ -3,9 +3,8 @@ ghost use Rattle.std.specs.Prelude.{◌≡◌, ◌<◌, ◌^◌};
 ghost use Rattle.eg_answer.specs.Folds.{mixed, fold_of, FoldLaw};
 ghost use Rattle.eg_answer.specs.Answers.{results_of, expected_of};
 
-use crate::{Rules, TestRow};
-use eg_sensor::{checked_raise, pair_bits, used};
-use eg_torque::{actual, excess};
+use crate::{Rules, TestRow, disagreeing_pairs, estimated_torque, excess_number, permitted_torque};
+use eg_sensor::used;
 
 /// The five results of a test row (docs/CONCEPT.md, "Questions and answers"): the lower of the two pedal
 /// values, in per mille; the permitted torque and the torque estimate, in tenths of Nm; 1 where the row's own
@@ -14,18 +13,12 @@ pub fn results(rules: &Rules, row: &TestRow) -> [u16; 5]
     ensures { result ≡ results_of rules.now row.now }
 {
     let read = &row.readings;
-    let raise = checked_raise(read.raise, read.raise_check);
-    let permitted = rules
-        .permit
-        .at(row.used, read.speed[0], read.speed[1], raise);
-    let load = read.load[0].max(read.load[1]);
-    let exceeds = excess(row.estimate, row.allowed, rules.threshold);
     [
         used(read.pedal, false),
-        permitted,
-        actual(load, rules.kt),
-        u16::from(exceeds),
-        pair_bits(read, &rules.tolerances),
+        permitted_torque(rules, read, row.used),
+        estimated_torque(rules, read),
+        excess_number(rules, row.allowed, row.estimate),
+        disagreeing_pairs(rules, read),
     ]
 }
 
@@ -52,8 +45,10 @@ pub fn folds_tell_results_apart()
     ensures { FoldLaw }
 {}
 
-/// One number more.
-fn mix(bits: u16, number: u16) -> u16
+/// The fold with one number more (docs/CONCEPT.md, "Questions and answers").
+#[inline]
+#[tactic(auto, unfolding(crate::specs::Folds::mixed))]
+pub fn mix(bits: u16, number: u16) -> u16
     ensures { result ≡ mixed bits number }
 {
     bits.rotate_left(3) ^ number

@@ -4,6 +4,7 @@
 #![tactic(auto)]
 
 mod answers;
+mod formulas;
 mod marks;
 mod modules;
 mod questions;
@@ -11,7 +12,8 @@ mod rules;
 mod times;
 mod token;
 
-pub use answers::{expected, fold, folds_tell_results_apart, results};
+pub use answers::{expected, fold, folds_tell_results_apart, mix, results};
+pub use formulas::{disagreeing_pairs, estimated_torque, excess_number, permitted_torque};
 pub use marks::{AnswerMark, Verdict};
 pub use modules::{ACTUAL, CHECK, DEBOUNCE, EXCESS, MODULES, PAIRS, PEDAL, PERMITTED, REACT};
 pub use questions::{Question, Questions};

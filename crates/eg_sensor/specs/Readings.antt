@@ -1,7 +1,8 @@
 -- Redundant sensors. Pedal, plate, load and speed are each sensed by a pair of tracks. The second track of
 -- pedal and plate falls: a sound one reads 1000 less the value. A raise of the permitted torque comes with a
 -- check word.
-use Rattle.std.specs.Prelude.{ℕ, ◌+◌, ◌-◌, ◌==◌, Bool, List, [], ◌∷◌, min, if◌then◌else◌, nat_lt, slice_index}
+use Rattle.std.specs.Prelude.{ℕ, ◌+◌, ◌-◌, ◌/◌, ◌%◌, ◌==◌, Bool, List, [], ◌∷◌, min, if◌then◌else◌, nat_lt, slice_index}
+use Rattle.eg_sensor.specs.declared.pairs.TheConstants.{PEDAL_PAIR, PLATE_PAIR, LOAD_PAIR, SPEED_PAIR}
 use Rattle.eg_sensor.specs.declared.readings.Readings.{Readings}
 
 -- what a falling track's reading stands for, not below 0
@@ -37,14 +38,18 @@ checked_raise value check = if value + check == 65535 then value else 0
 abbrev pub bit : ℕ → Bool → ℕ
 bit size is_set = if is_set then size else 0
 
--- 1, 2, 4 and 8 for the pairs of pedal, plate, load and speed whose values differ by more than their
+-- whether the bit of that size is set in a word
+unfoldable pub has_bit : ℕ → ℕ → Bool
+has_bit size word = word / size % 2 == 1
+
+-- the bits of those of the pairs of pedal, plate, load and speed whose values differ by more than their
 -- tolerances
 abbrev pub pair_bits : Readings → List ℕ → ℕ
 pair_bits r tolerances =
-    bit 1 (disagrees (falling_pair r.pedal) (slice_index tolerances 0))
-    + bit 2 (disagrees (falling_pair r.plate) (slice_index tolerances 1))
-    + bit 4 (disagrees (rising_pair r.load) (slice_index tolerances 2))
-    + bit 8 (disagrees (rising_pair r.speed) (slice_index tolerances 3))
+    bit PEDAL_PAIR (disagrees (falling_pair r.pedal) (slice_index tolerances 0))
+    + bit PLATE_PAIR (disagrees (falling_pair r.plate) (slice_index tolerances 1))
+    + bit LOAD_PAIR (disagrees (rising_pair r.load) (slice_index tolerances 2))
+    + bit SPEED_PAIR (disagrees (rising_pair r.speed) (slice_index tolerances 3))
 
 -- what sound tracks read, of two loads that the engine shows
 abbrev pub sound_readings : ℕ → ℕ → List ℕ → ℕ → ℕ → Readings

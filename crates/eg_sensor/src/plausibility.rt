@@ -2,7 +2,7 @@
 ghost use Rattle.std.specs.Prelude.{◌≡◌};
 ghost use Rattle.eg_sensor.specs.Readings.{falling_value, disagrees, used_pedal, checked_raise, bit, pair_bits};
 
-use crate::Readings;
+use crate::{LOAD_PAIR, PEDAL_PAIR, PLATE_PAIR, Readings, SPEED_PAIR};
 
 /// The value of a falling track: 1000 less its reading, not below 0 (docs/CONCEPT.md, "Sensors").
 pub fn falling(reading: u16) -> u16
@@ -37,8 +37,8 @@ pub fn used(pedal: [u16; 2], limp: bool) -> u16
     }
 }
 
-/// The sum of 1, 2, 4 and 8 for those of the pairs of pedal, plate, load and speed whose values differ by
-/// more than their tolerances, which stand in the same order.
+/// The sum of the bits of those of the pairs of pedal, plate, load and speed whose values differ by more than
+/// their tolerances, which stand in the same order.
 pub fn pair_bits(r: &Readings, tolerances: &[u16; 4]) -> u16
     ensures { result ≡ pair_bits r.now tolerances.now }
 {
@@ -46,7 +46,7 @@ pub fn pair_bits(r: &Readings, tolerances: &[u16; 4]) -> u16
     let plate = disagree(r.plate[0], falling(r.plate[1]), tolerances[1]);
     let load = disagree(r.load[0], r.load[1], tolerances[2]);
     let speed = disagree(r.speed[0], r.speed[1], tolerances[3]);
-    bit(1, pedal) + bit(2, plate) + bit(4, load) + bit(8, speed)
+    bit(PEDAL_PAIR, pedal) + bit(PLATE_PAIR, plate) + bit(LOAD_PAIR, load) + bit(SPEED_PAIR, speed)
 }
 
 /// So much where a test is true, and else 0.

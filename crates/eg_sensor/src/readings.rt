@@ -21,6 +21,15 @@ pub struct Readings {
     pub raise_check: u16,
 }
 
+impl Readings {
+    /// Equal readings. It takes no memory.
+    pub fn copy(&self) -> Readings
+        ensures { result ≡ self.now }
+    {
+        *self
+    }
+}
+
 /// What sound tracks read where the engine shows these two loads.
 pub fn sound(pedal: u16, plate: u16, loads: [u16; 2], speed: u16, raise: u16) -> Readings
     requires pedal { pedal ≤ 1000 }
