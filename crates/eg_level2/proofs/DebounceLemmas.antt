@@ -3,13 +3,14 @@ use Rattle.std.proofs.Common.{◌≡◌, ◌∙◌, refl, sym, ap, ℕ, ◌≤�
 use Rattle.std.specs.Prelude.{Result, Ok, Err, OnOk, if◌then◌else◌}
 use Rattle.eg_num.specs.Windows.{WeightParts}
 use Rattle.eg_num.specs.declared.watches.Watches.{Watches}
+use Rattle.eg_sensor.specs.Readings.{has_bit}
 use Rattle.eg_answer.specs.Token.{next_token_of}
 use Rattle.eg_answer.specs.declared.rules.Rules.{Rules}
 use Rattle.eg_level2.specs.declared.debounce.Fed.{Fed}
 use Rattle.eg_level2.specs.declared.step.Step.{Step}
 use Rattle.eg_level2.specs.declared.debounce.Feeds.{Feeds}
 use Rattle.eg_level2.specs.Words.{Words, named, is_set, AreWithin}
-use Rattle.eg_level2.specs.Modules.{has_bit, counted, is_found, debounced, limits, trips, debounce_step, pedal_bit, plate_bit, load_bit, speed_bit, torque_bit, no_watches, finding}
+use Rattle.eg_level2.specs.Modules.{counted, is_found, debounced, limits, trips, debounce_step, pedal_bit, plate_bit, load_bit, speed_bit, torque_bit, no_watches, finding}
 use Rattle.eg_level2.specs.Stores.{put, keep, keep_where, fed_of, feeds_of, counters_kept, trips_of, found_of}
 
 -- ---- what is fed ----

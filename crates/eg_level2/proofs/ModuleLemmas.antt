@@ -3,9 +3,9 @@ use Rattle.std.proofs.Common.{◌≡◌, ◌∙◌, refl, sym, ap, ap₂, ℕ, �
 use Rattle.std.specs.Prelude.{Result, Ok, Err, OnOk, if◌then◌else◌, ◌==◌, min, max, bit_xor, slice_index, Option, Some, None}
 use Rattle.eg_num.specs.Interpolation.{grid_at}
 use Rattle.eg_torque.specs.Permit.{permitted}
-use Rattle.eg_torque.specs.Excess.{is_excess}
-use Rattle.eg_sensor.specs.Readings.{used_pedal, checked_raise, bit, pair_bits}
+use Rattle.eg_sensor.specs.Readings.{used_pedal, checked_raise}
 use Rattle.eg_sensor.specs.declared.readings.Readings.{Readings}
+use Rattle.eg_answer.specs.Formulas.{permitted_torque, estimated_torque, excess_number, disagreeing_pairs}
 use Rattle.eg_answer.specs.Folds.{mixed}
 use Rattle.eg_answer.specs.Answers.{pedal_result, permitted_result, estimate_result, excess_result, pairs_result}
 use Rattle.eg_answer.specs.Token.{next_token_of}
@@ -14,7 +14,6 @@ use Rattle.eg_answer.specs.declared.rules.TestRow.{TestRow}
 use Rattle.eg_level2.specs.declared.lookup.Lookup.{Lookup}
 use Rattle.eg_level2.specs.Inputs.{IsLookup}
 use Rattle.eg_level2.specs.Words.{named, is_set, start}
-use Rattle.eg_level2.specs.Signals.{pedal_signal, permitted_signal, actual_signal, excess_signal, pairs_signal}
 use Rattle.eg_level2.specs.Modules.{marked, check_step, given_up, written, signed, pedal_step, permitted_step, actual_step, excess_step, pairs_step, closed_flow, answers_now, number_of, answer_of, react_step}
 use Rattle.eg_level2.specs.Stores.{put, keep, cleared, signalled}
 
@@ -43,48 +42,52 @@ signalled_by f g1 g2 h number signal test d place value t token s sign w trip eh
 pub pedal_by : (f h : ℕ → ℕ) (read readings : Readings) (row : TestRow) (d signal test w : ℕ) (limp : Bool) → h ≡ signalled 1 signal test d f
     → read ≡ readings → signal ≡ used_pedal read.pedal limp → limp ≡ is_set w → w ≡ f 10 → test ≡ pedal_result row
     → named h ≡ pedal_step readings row d (named f)
-unfolding named signalled keep put pedal_step written signed pedal_signal
+unfolding named signalled keep put pedal_step written signed
 pedal_by f h read readings row d signal test w limp eh er es el ew et = rw (eh, es, el, ew, et, er) refl
 
--- the permitted torque at a pedal, and at the speeds and the raise of these readings
-abbrev permitted_at : Rules → ℕ → Readings → ℕ
-permitted_at rules pedal read = permitted rules.permit pedal (slice_index read.speed 0) (slice_index read.speed 1) (checked_raise read.raise read.raise_check)
-
 pub permitted_by : (f h : ℕ → ℕ) (rules : Rules) (read readings : Readings) (row : TestRow) (d signal test pedal : ℕ) → h ≡ signalled 2 signal test d f
-    → read ≡ readings → signal ≡ permitted_at rules pedal read → pedal ≡ f 0 → test ≡ permitted_result rules row
+    → read ≡ readings → signal ≡ permitted_torque rules read pedal → pedal ≡ f 0 → test ≡ permitted_result rules row
     → named h ≡ permitted_step rules readings row d (named f)
-unfolding named signalled keep put permitted_step written signed permitted_signal
+unfolding named signalled keep put permitted_step written signed
 permitted_by f h rules read readings row d signal test pedal eh er es ep et = rw (eh, es, ep, et, er) refl
 
 pub actual_by : (f h : ℕ → ℕ) (rules : Rules) (read readings : Readings) (row : TestRow) (d signal test : ℕ) → h ≡ signalled 3 signal test d f
-    → read ≡ readings → signal ≡ actual_signal rules read → test ≡ estimate_result rules row
+    → read ≡ readings → signal ≡ estimated_torque rules read → test ≡ estimate_result rules row
     → named h ≡ actual_step rules readings row d (named f)
-unfolding named signalled keep put actual_step written signed actual_signal
+unfolding named signalled keep put actual_step written signed
 actual_by f h rules read readings row d signal test eh er es et = rw (eh, es, et, er) refl
 
 pub excess_by : (f h : ℕ → ℕ) (rules : Rules) (row : TestRow) (d signal test actual allowed : ℕ) → h ≡ signalled 4 signal test d f
-    → signal ≡ bit 1 (is_excess actual allowed rules.threshold) → actual ≡ f 2 → allowed ≡ f 1 → test ≡ excess_result rules row
+    → signal ≡ excess_number rules allowed actual → actual ≡ f 2 → allowed ≡ f 1 → test ≡ excess_result rules row
     → named h ≡ excess_step rules row d (named f)
-unfolding named signalled keep put excess_step written signed excess_signal
+unfolding named signalled keep put excess_step written signed
 excess_by f h rules row d signal test actual allowed eh es ea ep et = rw (eh, es, ea, ep, et) refl
 
 pub pairs_by : (f h : ℕ → ℕ) (rules : Rules) (read readings : Readings) (row : TestRow) (d signal test : ℕ) → h ≡ signalled 5 signal test d f
-    → read ≡ readings → signal ≡ pair_bits read rules.tolerances → test ≡ pairs_result rules row
+    → read ≡ readings → signal ≡ disagreeing_pairs rules read → test ≡ pairs_result rules row
     → named h ≡ pairs_step rules readings row d (named f)
-unfolding named signalled keep put pairs_step written signed pairs_signal
+unfolding named signalled keep put pairs_step written signed
 pairs_by f h rules read readings row d signal test eh er es et = rw (eh, es, et, er) refl
 
 -- the permitted torque where both speeds are the one that was looked up
-pub looked_up-at : (rules : Rules) (lookup : Lookup) (pedal a b raise : ℕ) → IsLookup rules lookup → a ≡ b → lookup.pedal ≡ pedal → lookup.speed ≡ a →
+looked_up-value : (rules : Rules) (lookup : Lookup) (pedal a b raise : ℕ) → IsLookup rules lookup → a ≡ b → lookup.pedal ≡ pedal → lookup.speed ≡ a →
     max lookup.torque raise ≡ permitted rules.permit pedal a b raise
 unfolding permitted
-looked_up-at rules lookup pedal a b raise is same at_pedal at_speed =
+looked_up-value rules lookup pedal a b raise is same at_pedal at_speed =
     let torque : lookup.torque ≡ grid_at rules.permit pedal a = is ∙ ap₂ (grid_at rules.permit) at_pedal at_speed in
     ap (λ t. max t raise) torque ∙ ap (λ t. max t raise) (sym (min-self (grid_at rules.permit pedal a)))
     ∙ ap (λ s. max (min (grid_at rules.permit pedal a) (grid_at rules.permit pedal s)) raise) same
   where
     min-self : (n : ℕ) → min n n ≡ n
     min-self n = omega arith
+
+pub looked_up-at : (rules : Rules) (lookup : Lookup) (read : Readings) (pedal raise : ℕ) → IsLookup rules lookup → slice_index read.speed 0 ≡ slice_index read.speed 1 →
+    lookup.pedal ≡ pedal → lookup.speed ≡ slice_index read.speed 0 → raise ≡ checked_raise read.raise read.raise_check →
+    max lookup.torque raise ≡ permitted_torque rules read pedal
+unfolding permitted_torque
+looked_up-at rules lookup read pedal raise is same at_pedal at_speed checked =
+    looked_up-value rules lookup pedal (slice_index read.speed 0) (slice_index read.speed 1) raise is same at_pedal at_speed
+    ∙ ap (permitted rules.permit pedal (slice_index read.speed 0) (slice_index read.speed 1)) checked
 
 pub ruleset looked_up = (looked_up-at)
 

@@ -12,12 +12,15 @@ use Rattle.eg_level2.specs.Words.{place, word_at, ChangeLaw, is_level2_own}
 use Rattle.eg_level2.specs.Stores.{put, outside}
 
 -- where a word stands, by its number
-place_is : (number : ℕ) → ((number < 5) × (place number ≡ 2080 + number)) ⊎ ((5 ≤ number) × (place number ≡ 2091 + number))
+pub place_is : (number : ℕ) → ((number < 5) × (place number ≡ 2080 + number)) ⊎ ((5 ≤ number) × (place number ≡ 2091 + number))
 unfolding place
 place_is number = elim (cases_lt number 5) [
-  | inl low ↦ inl (low, rw (lt-ltb number 5 low) refl)
-  | inr high ↦ inr (high, rw (le-ltb number 5 high) refl)
+  | inl low ↦ inl (low, ap (λ signal. if signal then 2080 + number else 2096 + (number - 5)) (lt-ltb number 5 low))
+  | inr high ↦ inr (high, ap (λ signal. if signal then 2080 + number else 2096 + (number - 5)) (le-ltb number 5 high) ∙ shifted high)
 ]
+  where
+    shifted : 5 ≤ number → 2096 + (number - 5) ≡ 2091 + number
+    shifted high = omega arith
 
 -- the places of results and of the protected region
 results_is : (address : ℕ) → 2080 ≤ address → address < 2085 → region_of address ≡ Results

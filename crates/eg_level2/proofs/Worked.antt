@@ -5,8 +5,9 @@ use Rattle.eg_num.specs.Interpolation.{value_at}
 use Rattle.eg_num.specs.Counting.{fed}
 use Rattle.eg_torque.specs.Permit.{permitted}
 use Rattle.eg_torque.specs.Excess.{is_excess}
-use Rattle.eg_sensor.specs.Readings.{sound_readings}
+use Rattle.eg_sensor.specs.Readings.{has_bit, sound_readings}
 use Rattle.eg_sensor.specs.declared.readings.Readings.{Readings}
+use Rattle.eg_answer.specs.Formulas.{permitted_torque, estimated_torque, excess_number, disagreeing_pairs}
 use Rattle.eg_answer.specs.Folds.{mixed}
 use Rattle.eg_answer.specs.Answers.{pedal_result, permitted_result, estimate_result, excess_result, pairs_result}
 use Rattle.eg_answer.specs.Token.{next_token_of}
@@ -14,8 +15,7 @@ use Rattle.eg_answer.specs.declared.rules.Rules.{Rules}
 use Rattle.eg_answer.specs.declared.questions.Question.{Question}
 use Rattle.eg_level2.specs.Words.{Words, is_set, start}
 use Rattle.eg_level2.specs.Inputs.{Inputs, row_of}
-use Rattle.eg_level2.specs.Signals.{pedal_signal, permitted_signal, actual_signal, excess_signal, pairs_signal}
-use Rattle.eg_level2.specs.Modules.{marked, check_step, written, signed, pedal_step, permitted_step, actual_step, excess_step, pairs_step, has_bit, pedal_bit, plate_bit, load_bit, speed_bit, torque_bit, counted, is_found, debounced, limits, trips, debounce_step, closed_flow, answers_now, number_of, answer_of, react_step, module_step, answer_after, given_up, found_by, order_after, no_watches, mirror_alone}
+use Rattle.eg_level2.specs.Modules.{marked, check_step, written, signed, pedal_step, permitted_step, actual_step, excess_step, pairs_step, pedal_bit, plate_bit, load_bit, speed_bit, torque_bit, counted, is_found, debounced, limits, trips, debounce_step, closed_flow, answers_now, number_of, answer_of, react_step, module_step, answer_after, given_up, found_by, order_after, no_watches, mirror_alone}
 
 -- pedals 0, 500, 1000; speeds 800, 3000, 6000
 abbrev rules : Rules
@@ -71,7 +71,7 @@ idle = sound_readings 0 0 (40 ∷ 40 ∷ []) 800 0
 -- runs of these modules, in this order, with all that they are made of opened
 unfoldable run : Inputs → List ℕ → Words → Words
 unfolding value_at permitted is_excess mixed pedal_result permitted_result estimate_result excess_result pairs_result next_token_of fed
-    is_set row_of pedal_signal permitted_signal actual_signal excess_signal pairs_signal marked check_step written signed pedal_step permitted_step
+    is_set row_of permitted_torque estimated_torque excess_number disagreeing_pairs marked check_step written signed pedal_step permitted_step
     actual_step excess_step pairs_step has_bit pedal_bit plate_bit load_bit speed_bit torque_bit counted is_found debounced limits trips debounce_step
     closed_flow answers_now react_step module_step start
 run given numbers words = fold (λ before number. module_step given number before) words numbers

@@ -1,5 +1,6 @@
 -- What goes into one run of a module beside level 2's words.
-use Rattle.std.specs.Prelude.{◌≡◌, ◌≤◌, ℕ, ◌%◌, Bool, List, [], ◌∷◌, length, slice_index}
+use Rattle.std.specs.Prelude.{◌≡◌, ◌≤◌, ℕ, ◌+◌, ◌%◌, Bool, List, [], ◌∷◌, length, slice_index}
+use Rattle.eg_guard.specs.declared.regions.TheConstants.{IN_PORTS, LINK}
 use Rattle.eg_sensor.specs.declared.readings.Readings.{Readings}
 use Rattle.eg_answer.specs.declared.rules.Rules.{Rules}
 use Rattle.eg_answer.specs.declared.rules.TestRow.{TestRow}
@@ -33,17 +34,17 @@ pub record Inputs : Type 0 where
 -- the readings that stand at the ten input ports
 unfoldable pub readings_of : List ℕ → Readings
 readings_of memory = record {
-  pedal = slice_index memory 2048 ∷ slice_index memory 2049 ∷ [];
-  plate = slice_index memory 2050 ∷ slice_index memory 2051 ∷ [];
-  load = slice_index memory 2052 ∷ slice_index memory 2053 ∷ [];
-  speed = slice_index memory 2054 ∷ slice_index memory 2055 ∷ [];
-  raise = slice_index memory 2056;
-  raise_check = slice_index memory 2057;
+  pedal = slice_index memory IN_PORTS ∷ slice_index memory (IN_PORTS + 1) ∷ [];
+  plate = slice_index memory (IN_PORTS + 2) ∷ slice_index memory (IN_PORTS + 3) ∷ [];
+  load = slice_index memory (IN_PORTS + 4) ∷ slice_index memory (IN_PORTS + 5) ∷ [];
+  speed = slice_index memory (IN_PORTS + 6) ∷ slice_index memory (IN_PORTS + 7) ∷ [];
+  raise = slice_index memory (IN_PORTS + 8);
+  raise_check = slice_index memory (IN_PORTS + 9);
 }
 
 -- the number that stands at the link
 unfoldable pub asked_of : List ℕ → ℕ
-asked_of memory = slice_index memory 2128
+asked_of memory = slice_index memory LINK
 
 -- the inputs of a run over this memory
 unfoldable pub inputs_of : Level2Parts → List ℕ → ℕ → Bool → ℕ → Inputs

@@ -1,5 +1,5 @@
 pub mod Words
 pub mod Inputs
-pub mod Signals
 pub mod Modules
 pub mod Stores
+pub mod Runs

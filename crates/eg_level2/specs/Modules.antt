@@ -1,23 +1,27 @@
 -- The eight modules of level 2: what one run of a module makes of the words, what it answers and orders, and
 -- which watches it finds. Each word after the run is one formula over the words before it.
-use Rattle.std.specs.Prelude.{ℕ, ◌+◌, ◌*◌, ◌/◌, ◌%◌, Bool, true, false, not, ◌&&◌, ◌||◌, ◌==◌, nat_lt, if◌then◌else◌, bit_or, bit_xor, Option, Some, None}
+use Rattle.std.specs.Prelude.{ℕ, ◌+◌, ◌*◌, ◌%◌, Bool, true, false, not, ◌&&◌, ◌||◌, ◌==◌, nat_lt, if◌then◌else◌, bit_or, bit_xor, Option, Some, None}
 use Rattle.eg_num.specs.Windows.{WeightParts}
 use Rattle.eg_num.specs.Counting.{fed}
 use Rattle.eg_num.specs.declared.watches.Watches.{Watches}
+use Rattle.eg_sensor.specs.Readings.{used_pedal, has_bit}
+use Rattle.eg_sensor.specs.declared.pairs.TheConstants.{PEDAL_PAIR, PLATE_PAIR, LOAD_PAIR, SPEED_PAIR}
 use Rattle.eg_sensor.specs.declared.readings.Readings.{Readings}
+use Rattle.eg_answer.specs.declared.modules.TheConstants.{CHECK, PEDAL, PERMITTED, ACTUAL, EXCESS, PAIRS, DEBOUNCE, REACT}
 use Rattle.eg_answer.specs.declared.rules.Rules.{Rules}
 use Rattle.eg_answer.specs.declared.rules.TestRow.{TestRow}
 use Rattle.eg_answer.specs.Answers.{pedal_result, permitted_result, estimate_result, excess_result, pairs_result}
 use Rattle.eg_answer.specs.Folds.{mixed}
+use Rattle.eg_answer.specs.Formulas.{permitted_torque, estimated_torque, excess_number, disagreeing_pairs}
 use Rattle.eg_answer.specs.Token.{next_token_of}
 use Rattle.eg_level2.specs.declared.step.Step.{Step}
+use Rattle.eg_level2.specs.declared.words.TheConstants.{WHOLE_FLOW, BROKEN_FLOW}
 use Rattle.eg_level2.specs.Words.{Words, is_set}
 use Rattle.eg_level2.specs.Inputs.{Inputs, row_of}
-use Rattle.eg_level2.specs.Signals.{pedal_signal, permitted_signal, actual_signal, excess_signal, pairs_signal}
 
 -- the high word of an answer with the mark that the program flow was broken
 unfoldable pub marked : ℕ → ℕ
-marked flow = bit_or flow 0x8000
+marked flow = bit_or flow BROKEN_FLOW
 
 -- ---- module 0, check ----
 
@@ -25,7 +29,7 @@ marked flow = bit_or flow 0x8000
 -- tick before, notes the tick, and begins the fold with the seed of the question.
 unfoldable pub check_step : ℕ → ℕ → Words → Words
 check_step seed tick words = record words {
-  token = next_token_of words.token 0;
+  token = next_token_of words.token CHECK;
   flow = if (words.last + 1) % 65536 == tick then words.flow else marked words.flow;
   last = tick;
   sign = seed;
@@ -52,7 +56,7 @@ given_up tick = record {
   sign = 0;
 }
 
--- ---- modules 1 to 5: a signal each, and a result of the question's row ----
+-- ---- modules 1 to 5: a signal each, and the result of the question's row into the fold ----
 
 -- the signal is disturbed on its way, and it is 0 where a trip stands
 unfoldable pub written : Words → ℕ → ℕ → ℕ
@@ -62,65 +66,61 @@ written words signal disturbance = if is_set words.trip then 0 else bit_xor sign
 unfoldable pub signed : Words → ℕ → ℕ → ℕ
 signed words result disturbance = bit_xor (mixed words.sign result) disturbance
 
--- module 1, pedal
+-- module 1, pedal: the lower of the two pedal values, and 0 in limited operation
 unfoldable pub pedal_step : Readings → TestRow → ℕ → Words → Words
 pedal_step readings row disturbance words = record words {
-  pedal = written words (pedal_signal readings words) disturbance;
-  token = next_token_of words.token 1;
+  pedal = written words (used_pedal readings.pedal (is_set words.limp)) disturbance;
+  token = next_token_of words.token PEDAL;
   sign = signed words (pedal_result row) disturbance;
 }
 
--- module 2, permitted torque, in tenths of Nm
+-- module 2, permitted torque: of the pedal word, and of the speeds and the raise that are read
 unfoldable pub permitted_step : Rules → Readings → TestRow → ℕ → Words → Words
 permitted_step rules readings row disturbance words = record words {
-  permitted = written words (permitted_signal rules readings words) disturbance;
-  token = next_token_of words.token 2;
+  permitted = written words (permitted_torque rules readings words.pedal) disturbance;
+  token = next_token_of words.token PERMITTED;
   sign = signed words (permitted_result rules row) disturbance;
 }
 
--- module 3, actual torque, in tenths of Nm
+-- module 3, actual torque: the estimate of the higher of the two loads
 unfoldable pub actual_step : Rules → Readings → TestRow → ℕ → Words → Words
 actual_step rules readings row disturbance words = record words {
-  actual = written words (actual_signal rules readings) disturbance;
-  token = next_token_of words.token 3;
+  actual = written words (estimated_torque rules readings) disturbance;
+  token = next_token_of words.token ACTUAL;
   sign = signed words (estimate_result rules row) disturbance;
 }
 
--- module 4, excess
+-- module 4, excess: whether the actual torque exceeds the permitted torque, by the words
 unfoldable pub excess_step : Rules → TestRow → ℕ → Words → Words
 excess_step rules row disturbance words = record words {
-  excess = written words (excess_signal rules words) disturbance;
-  token = next_token_of words.token 4;
+  excess = written words (excess_number rules words.permitted words.actual) disturbance;
+  token = next_token_of words.token EXCESS;
   sign = signed words (excess_result rules row) disturbance;
 }
 
--- module 5, pairs of sensors
+-- module 5, pairs of sensors: the bits of those that disagree
 unfoldable pub pairs_step : Rules → Readings → TestRow → ℕ → Words → Words
 pairs_step rules readings row disturbance words = record words {
-  pairs = written words (pairs_signal rules readings) disturbance;
-  token = next_token_of words.token 5;
+  pairs = written words (disagreeing_pairs rules readings) disturbance;
+  token = next_token_of words.token PAIRS;
   sign = signed words (pairs_result rules row) disturbance;
 }
 
 -- ---- module 6, debounce ----
 
--- the bit of that size is set in a word
-unfoldable pub has_bit : ℕ → ℕ → Bool
-has_bit size word = word / size % 2 == 1
-
--- What is fed: bits 0 to 3 of the pairs for pedal, plate, load and speed, and bit 0 of the excess for the
--- torque. Other bits don't count.
+-- What is fed: the bits of the four pairs for pedal, plate, load and speed, and the lowest bit of the excess
+-- for the torque. Other bits don't count.
 unfoldable pub pedal_bit : Words → Bool
-pedal_bit words = has_bit 1 words.pairs
+pedal_bit words = has_bit PEDAL_PAIR words.pairs
 
 unfoldable pub plate_bit : Words → Bool
-plate_bit words = has_bit 2 words.pairs
+plate_bit words = has_bit PLATE_PAIR words.pairs
 
 unfoldable pub load_bit : Words → Bool
-load_bit words = has_bit 4 words.pairs
+load_bit words = has_bit LOAD_PAIR words.pairs
 
 unfoldable pub speed_bit : Words → Bool
-speed_bit words = has_bit 8 words.pairs
+speed_bit words = has_bit SPEED_PAIR words.pairs
 
 unfoldable pub torque_bit : Words → Bool
 torque_bit words = has_bit 1 words.excess
@@ -164,14 +164,14 @@ debounce_step rules words = record words {
   torque_counter = counted words rules.torque words.torque_counter (torque_bit words);
   limp = if limits (debounced rules words) then 1 else words.limp;
   trip = if trips (debounced rules words) then 1 else words.trip;
-  token = next_token_of words.token 6;
+  token = next_token_of words.token DEBOUNCE;
 }
 
 -- ---- module 7, react ----
 
 -- the high word of the answer: marked where the token isn't whole once it has been moved
 unfoldable pub closed_flow : Words → ℕ
-closed_flow words = if next_token_of words.token 7 == 255 then words.flow else marked words.flow
+closed_flow words = if next_token_of words.token REACT == 255 then words.flow else marked words.flow
 
 -- an answer is sent at a send tick, but never where a trip stands
 unfoldable pub answers_now : Bool → Words → Bool
@@ -189,7 +189,7 @@ answer_of sends words = if answers_now sends words then Some (number_of words) e
 unfoldable pub react_step : Bool → Words → Words
 react_step sends words = record words {
   token = 0;
-  flow = if answers_now sends words then 0x00ff else closed_flow words;
+  flow = if answers_now sends words then WHOLE_FLOW else closed_flow words;
 }
 
 -- ---- a module by its number ----
@@ -199,22 +199,22 @@ unfoldable pub module_step : Inputs → ℕ → Words → Words
 module_step inputs number words =
     let row = row_of inputs.questions inputs.asked in
     let disturbance = inputs.disturbance in
-    if number == 0 then check_step row.seed inputs.tick words
-    else if number == 1 then pedal_step inputs.readings row disturbance words
-    else if number == 2 then permitted_step inputs.rules inputs.readings row disturbance words
-    else if number == 3 then actual_step inputs.rules inputs.readings row disturbance words
-    else if number == 4 then excess_step inputs.rules row disturbance words
-    else if number == 5 then pairs_step inputs.rules inputs.readings row disturbance words
-    else if number == 6 then debounce_step inputs.rules words
+    if number == CHECK then check_step row.seed inputs.tick words
+    else if number == PEDAL then pedal_step inputs.readings row disturbance words
+    else if number == PERMITTED then permitted_step inputs.rules inputs.readings row disturbance words
+    else if number == ACTUAL then actual_step inputs.rules inputs.readings row disturbance words
+    else if number == EXCESS then excess_step inputs.rules row disturbance words
+    else if number == PAIRS then pairs_step inputs.rules inputs.readings row disturbance words
+    else if number == DEBOUNCE then debounce_step inputs.rules words
     else react_step inputs.sends words
 
 -- the answer that it sends, if any
 unfoldable pub answer_after : Inputs → ℕ → Words → Option ℕ
-answer_after inputs number words = if number == 7 then answer_of inputs.sends words else None
+answer_after inputs number words = if number == REACT then answer_of inputs.sends words else None
 
 -- whether it orders path 1 open
 unfoldable pub order_after : ℕ → Words → Bool
-order_after number words = number == 7 && is_set words.trip
+order_after number words = number == REACT && is_set words.trip
 
 -- no watch,
 unfoldable pub no_watches : Watches
@@ -234,7 +234,7 @@ mirror_alone = record no_watches { mirror = true }
 
 -- the watches that it finds, where each word had its complement
 unfoldable pub found_by : Inputs → ℕ → Words → Watches
-found_by inputs number words = if number == 6 then debounced inputs.rules words else no_watches
+found_by inputs number words = if number == DEBOUNCE then debounced inputs.rules words else no_watches
 
 -- all three, as a run answers them
 unfoldable pub step_of : Inputs → ℕ → Words → Step

@@ -9,6 +9,7 @@ use Rattle.eg_num.specs.Counting.{fed}
 use Rattle.eg_answer.specs.Folds.{mixed}
 use Rattle.eg_answer.specs.Token.{next_token_of}
 use Rattle.eg_answer.specs.declared.rules.Rules.{Rules}
+use Rattle.eg_level2.specs.declared.words.TheConstants.{PEDAL_COUNTER, PLATE_COUNTER, LOAD_COUNTER, SPEED_COUNTER, TORQUE_COUNTER, TRIP, TOKEN, SIGN}
 use Rattle.eg_level2.specs.declared.debounce.Fed.{Fed}
 use Rattle.eg_level2.specs.declared.debounce.Feeds.{Feeds}
 use Rattle.eg_level2.specs.Words.{Words, is_set, is_level2_own, AreMirrored}
@@ -34,9 +35,9 @@ cleared (suc count) word = keep count 0 (cleared count word)
 -- what a module of number 1 to 5 stores: its signal, the token and the fold
 unfoldable pub signalled : ℕ → ℕ → ℕ → ℕ → (ℕ → ℕ) → ℕ → ℕ
 signalled number signal test disturbance word =
-    keep 15 (bit_xor (mixed (word 15) test) disturbance)
-    (keep 12 (next_token_of (word 12) number)
-    (keep (number - 1) (if is_set (word 11) then 0 else bit_xor signal disturbance) word))
+    keep SIGN (bit_xor (mixed (word SIGN) test) disturbance)
+    (keep TOKEN (next_token_of (word TOKEN) number)
+    (keep (number - 1) (if is_set (word TRIP) then 0 else bit_xor signal disturbance) word))
 
 -- a counter after a feed, and whether it comes to its limit by it
 unfoldable pub fed_of : WeightParts → ℕ → Bool → Fed
@@ -74,18 +75,23 @@ found_of feeds = record {
 -- their values stored
 unfoldable pub counters_kept : Feeds → (ℕ → ℕ) → ℕ → ℕ
 counters_kept feeds word =
-    keep 9 feeds.torque.value (keep 8 feeds.speed.value (keep 7 feeds.load.value
-    (keep 6 feeds.plate.value (keep 5 feeds.pedal.value word))))
+    keep TORQUE_COUNTER feeds.torque.value (keep SPEED_COUNTER feeds.speed.value
+    (keep LOAD_COUNTER feeds.load.value (keep PLATE_COUNTER feeds.plate.value
+    (keep PEDAL_COUNTER feeds.pedal.value word))))
 
 -- the words outside level 2's own regions, by their addresses
 unfoldable pub outside : List ℕ → ℕ → ℕ
 outside memory address = if is_level2_own (region_of address) then 0 else slice_index memory address
 
--- What each of level 2's calls keeps, whatever it answers: the words outside level 2's own regions, and
--- whether the memory is sure. Over a sure memory it is done, and where it is done mirrored words stay so.
-pub record Keeps {T E : Type 0} (old new : ShownMemory) (result : Result T E) : Type 0 where
+-- What each store of level 2's leaves, whatever it answers: the words outside level 2's own regions, and
+-- whether the memory is sure. Over a sure memory it is done.
+pub record Leaves {T E : Type 0} (old new : ShownMemory) (result : Result T E) : Type 0 where
   pub outside : outside new.words ≡ outside old.words
   pub stays_sure : new.sure ≡ old.sure
   pub are_words : AreWords old.words → AreWords new.words
   pub sure : IsTrue old.sure → IsOk result
+
+-- What each of level 2's calls keeps: it leaves that, and where it is done mirrored words stay so.
+pub record Keeps {T E : Type 0} (old new : ShownMemory) (result : Result T E) : Type 0 where
+  pub leaves : Leaves old new result
   pub mirrored : AreMirrored old.words → OnOk result (AreMirrored new.words)

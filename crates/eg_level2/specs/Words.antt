@@ -1,9 +1,11 @@
 -- The sixteen words that level 2 keeps in the guarded memory, each with its complement.
-use Rattle.std.specs.Prelude.{◌≡◌, ◌≢◌, ℕ, ◌+◌, ◌<◌, ◌≤◌, Bool, true, false, not, ◌==◌, nat_lt, if◌then◌else◌, List, slice_index, slice_set}
+use Rattle.std.specs.Prelude.{◌≡◌, ◌≢◌, ℕ, ◌+◌, ◌-◌, ◌<◌, ◌≤◌, Bool, true, false, not, ◌==◌, nat_lt, if◌then◌else◌, List, slice_index, slice_set}
 use Rattle.eg_guard.specs.declared.regions.Region.{Region}
 use Rattle.eg_guard.specs.declared.regions.Region.TheVariants.{Results, Protected}
+use Rattle.eg_guard.specs.declared.regions.TheConstants.{RESULTS, PROTECTED}
 use Rattle.eg_guard.specs.Memory.{AreWords}
 use Rattle.eg_answer.specs.declared.rules.Rules.{Rules}
+use Rattle.eg_level2.specs.declared.words.TheConstants.{SIGNALS, PEDAL, PERMITTED, ACTUAL, EXCESS, PAIRS, PEDAL_COUNTER, PLATE_COUNTER, LOAD_COUNTER, SPEED_COUNTER, TORQUE_COUNTER, LIMP, TRIP, TOKEN, FLOW, LAST, SIGN, WHOLE_FLOW}
 
 -- The words by their names: the five signals, the five debounce counters, whether limited operation and
 -- whether a trip was found, and what tells that level 2 ran: the token, the high word of the next answer, the
@@ -29,9 +31,10 @@ pub record Words : Type 0 where
 -- ---- where they stand ----
 
 -- The table of places. The words have the numbers 0 to 15, in the order of their names, and the complement of
--- a word has its number and 16 more. Words 0 to 4 stand among the results, all else in the protected region.
+-- a word has its number and 16 more. The first five, the signals, stand among the results, all else in the
+-- protected region.
 unfoldable pub place : ℕ → ℕ
-place number = if nat_lt number 5 then 2080 + number else 2091 + number
+place number = if nat_lt number SIGNALS then RESULTS + number else PROTECTED + (number - SIGNALS)
 
 -- the word of that number in a memory, and from 16 on the complement
 unfoldable pub word_at : List ℕ → ℕ → ℕ
@@ -40,22 +43,22 @@ word_at memory number = slice_index memory (place number)
 -- words by their numbers, by their names
 unfoldable pub named : (ℕ → ℕ) → Words
 named word = record {
-  pedal = word 0;
-  permitted = word 1;
-  actual = word 2;
-  excess = word 3;
-  pairs = word 4;
-  pedal_counter = word 5;
-  plate_counter = word 6;
-  load_counter = word 7;
-  speed_counter = word 8;
-  torque_counter = word 9;
-  limp = word 10;
-  trip = word 11;
-  token = word 12;
-  flow = word 13;
-  last = word 14;
-  sign = word 15;
+  pedal = word PEDAL;
+  permitted = word PERMITTED;
+  actual = word ACTUAL;
+  excess = word EXCESS;
+  pairs = word PAIRS;
+  pedal_counter = word PEDAL_COUNTER;
+  plate_counter = word PLATE_COUNTER;
+  load_counter = word LOAD_COUNTER;
+  speed_counter = word SPEED_COUNTER;
+  torque_counter = word TORQUE_COUNTER;
+  limp = word LIMP;
+  trip = word TRIP;
+  token = word TOKEN;
+  flow = word FLOW;
+  last = word LAST;
+  sign = word SIGN;
 }
 
 -- the words that a memory has
@@ -100,7 +103,7 @@ start = record {
   limp = 0;
   trip = 0;
   token = 0;
-  flow = 0x00ff;
+  flow = WHOLE_FLOW;
   last = 65535;
   sign = 0;
 }

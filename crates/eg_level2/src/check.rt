@@ -51,7 +51,7 @@ fn go_on<M: Guarded>(memory: &mut M, tick: u16, seed: u16) -> Result<(), NoMemor
         ≡ check_step seed tick (words_of (M.shows memory.old).words)) }
     ensures keeps { Keeps (M.shows memory.old) (M.shows memory.new) result }
 {
-    let token = next_token(word(memory, TOKEN), 0);
+    let token = next_token(word(memory, TOKEN), eg_answer::CHECK);
     let last = word(memory, LAST);
     let flow = flow_after(word(memory, FLOW), last, tick);
     keep(memory, TOKEN, token)?;

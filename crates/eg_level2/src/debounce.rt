@@ -1,7 +1,8 @@
 // Module 6: the signals are debounced, and what is confirmed for the first time is found.
 ghost use Rattle.std.specs.Prelude.{◌≡◌, ◌≤◌, ◌&&◌, nat_lt, OnOk, IfOk};
+ghost use Rattle.eg_sensor.specs.Readings.{has_bit};
 ghost use Rattle.eg_level2.specs.Words.{word_at, words_of, AreWithin};
-ghost use Rattle.eg_level2.specs.Modules.{has_bit, debounced, debounce_step, finding};
+ghost use Rattle.eg_level2.specs.Modules.{debounced, debounce_step, finding};
 ghost use Rattle.eg_level2.specs.Stores.{Keeps, fed_of, feeds_of, trips_of, found_of, counters_kept};
 
 use crate::Step;
@@ -14,6 +15,7 @@ use eg_answer::{Rules, next_token};
 use eg_base::NoMemory;
 use eg_guard::Guarded;
 use eg_num::{Counter, Watches, Weights};
+use eg_sensor::{LOAD_PAIR, PEDAL_PAIR, PLATE_PAIR, SPEED_PAIR};
 
 /// A counter after a feed, and whether it comes to its limit by that feed.
 #[derive(Clone, Copy)]
@@ -44,7 +46,7 @@ pub(crate) fn debounce<M: Guarded>(memory: &mut M, rules: &Rules) -> Result<Step
         ≡ finding (debounced rules.now (words_of (M.shows memory.old).words))) }
     ensures keeps { Keeps (M.shows memory.old) (M.shows memory.new) result }
 {
-    let token = next_token(word(memory, TOKEN), 6);
+    let token = next_token(word(memory, TOKEN), eg_answer::DEBOUNCE);
     if is_set(word(memory, TRIP)) {
         keep(memory, TOKEN, token)?;
         return Ok(Step::quiet());
@@ -79,7 +81,7 @@ fn is_new(before: u16, weights: &Weights, confirmed: bool) -> bool
 }
 
 /// Whether the bit of that size is set in a word.
-#[tactic(auto, unfolding(crate::specs::Modules::has_bit))]
+#[tactic(auto, unfolding(eg_sensor::specs::Readings::has_bit))]
 fn has_bit(size: u16, word: u16) -> bool
     requires { 1 ≤ size }
     ensures { result ≡ has_bit size word }
@@ -96,10 +98,26 @@ fn feed_all<M: Guarded>(memory: &M, rules: &Rules) -> Feeds
     let pairs = word(memory, PAIRS);
     let excess = word(memory, EXCESS);
     Feeds {
-        pedal: feed(&rules.pair, word(memory, PEDAL_COUNTER), has_bit(1, pairs)),
-        plate: feed(&rules.pair, word(memory, PLATE_COUNTER), has_bit(2, pairs)),
-        load: feed(&rules.pair, word(memory, LOAD_COUNTER), has_bit(4, pairs)),
-        speed: feed(&rules.pair, word(memory, SPEED_COUNTER), has_bit(8, pairs)),
+        pedal: feed(
+            &rules.pair,
+            word(memory, PEDAL_COUNTER),
+            has_bit(PEDAL_PAIR, pairs),
+        ),
+        plate: feed(
+            &rules.pair,
+            word(memory, PLATE_COUNTER),
+            has_bit(PLATE_PAIR, pairs),
+        ),
+        load: feed(
+            &rules.pair,
+            word(memory, LOAD_COUNTER),
+            has_bit(LOAD_PAIR, pairs),
+        ),
+        speed: feed(
+            &rules.pair,
+            word(memory, SPEED_COUNTER),
+            has_bit(SPEED_PAIR, pairs),
+        ),
         torque: feed(
             &rules.torque,
             word(memory, TORQUE_COUNTER),

@@ -1,10 +1,12 @@
 // Level 2 as a whole: its eight modules by their numbers, and its reset.
-ghost use Rattle.std.specs.Prelude.{◌≡◌, ◌↔◌, ℕ, ◌%◌, ◌<◌, ◌≤◌, length, IsTrue, IsOk, OnOk, IfOk};
+ghost use Rattle.std.specs.Prelude.{◌≡◌, ℕ, ◌%◌, ◌<◌, ◌≤◌, length, IsTrue, IsOk, OnOk, IfOk};
+ghost use Rattle.eg_answer.specs.declared.modules.TheConstants.{CHECK, MODULES};
 ghost use Rattle.eg_guard.specs.Memory.{AreWords, SameOutside};
 ghost use Rattle.eg_level2.specs.Words.{ChangeLaw, words_of, AreMirrored, AreWithin, is_level2_own, start};
 ghost use Rattle.eg_level2.specs.Inputs.{AreParts, IsLookup, inputs_of, asked_of, results_by, row_of};
-ghost use Rattle.eg_level2.specs.Modules.{given_up, module_step, step_of, answer_after, order_after, mirror_alone, found_by};
+ghost use Rattle.eg_level2.specs.Modules.{module_step, step_of};
 ghost use Rattle.eg_level2.specs.Stores.{Keeps};
+ghost use Rattle.eg_level2.specs.Runs.{IsRun};
 
 use crate::check::check;
 use crate::debounce::debounce;
@@ -94,11 +96,30 @@ impl Level2 {
     /// Runs the module of this number, 0 to 7, over the memory (docs/CONCEPT.md, "Level 2"). The readings and
     /// the number of the question stand at the input ports and at the link. `tick` is this tick, and `send`
     /// says whether the answer is sent at it. What disturbs the run is mixed in by exclusive or; 0 disturbs
-    /// nothing. The permit table isn't asked again for what was looked up already. After NoMemory, what was
-    /// stored stays; a test shows that, and the clauses that no other word has changed.
-    #[inline(always)]
-    #[tactic(auto, using(crate::proofs::StoreLemmas::outsides))]
+    /// nothing. After NoMemory, what was stored stays; a test shows that, and the clause that no other word has
+    /// changed.
     pub fn module<M: Guarded>(
+        &self,
+        module: u8,
+        memory: &mut M,
+        tick: u16,
+        send: bool,
+        disturbance: u16,
+    ) -> Result<Step, NoMemory>
+        requires module { «module» < MODULES }
+        // Module 0 takes any words. The others rely on what it has checked.
+        requires mirrored { CHECK < «module» → AreMirrored (M.shows memory.old).words }
+        requires within { CHECK < «module» → AreWithin self.now.rules (words_of (M.shows memory.old).words) }
+        ensures { IsRun self.now «module» tick send disturbance (M.shows memory.old) (M.shows memory.new) result }
+    {
+        let lookup = Lookup::new(self.rules(), 0, 0);
+        self.module_with_lookup(module, memory, tick, send, disturbance, &lookup)
+    }
+
+    /// Does the same, and doesn't ask the permit table again for what was looked up already. The controller
+    /// calls it at every tick.
+    #[inline(always)]
+    pub fn module_with_lookup<M: Guarded>(
         &self,
         number: u8,
         memory: &mut M,
@@ -107,48 +128,13 @@ impl Level2 {
         disturbance: u16,
         lookup: &Lookup,
     ) -> Result<Step, NoMemory>
-        requires number { number < 8 }
+        requires number { number < MODULES }
         requires lookup { IsLookup self.now.rules lookup.now }
-        // Module 0 takes any words. The others rely on what it has checked.
-        requires mirrored { 0 < number → AreMirrored (M.shows memory.old).words }
-        requires within { 0 < number → AreWithin self.now.rules (words_of (M.shows memory.old).words) }
-
-        // The words after the run, and what it answers, orders and finds, where each word had its complement.
-        ensures words { AreMirrored (M.shows memory.old).words
-            → OnOk result (words_of (M.shows memory.new).words
-            ≡ module_step (inputs_of self.now (M.shows memory.old).words tick send disturbance) number
-            (words_of (M.shows memory.old).words)) }
-        ensures answer { IfOk result (λ step. step.answer
-            ≡ answer_after (inputs_of self.now (M.shows memory.old).words tick send disturbance) number
-            (words_of (M.shows memory.old).words)) }
-        ensures order { IfOk result (λ step. step.open_path
-            ≡ order_after number (words_of (M.shows memory.old).words)) }
-        ensures found { AreMirrored (M.shows memory.old).words → IfOk result (λ step. step.found
-            ≡ found_by (inputs_of self.now (M.shows memory.old).words tick send disturbance) number
-            (words_of (M.shows memory.old).words)) }
-
-        // Where a word differed from its complement, module 0 gives all words up, and finds that alone.
-        // Mirror is found exactly there.
-        ensures given_up { ¬ AreMirrored (M.shows memory.old).words
-            → OnOk result (words_of (M.shows memory.new).words ≡ given_up tick) }
-        ensures mirror_alone { ¬ AreMirrored (M.shows memory.old).words
-            → IfOk result (λ step. step.found ≡ mirror_alone) }
-        ensures mirror { IfOk result (λ step. IsTrue step.found.mirror
-            ↔ ¬ AreMirrored (M.shows memory.old).words) }
-
-        // Each word has its complement afterwards, and no counter passes its limit.
-        ensures mirrored { OnOk result (AreMirrored (M.shows memory.new).words) }
-        ensures within { (AreMirrored (M.shows memory.old).words
-            → AreWithin self.now.rules (words_of (M.shows memory.old).words))
-            → OnOk result (AreWithin self.now.rules (words_of (M.shows memory.new).words)) }
-
-        // No word outside results and protected changes. NoMemory never comes over a sure memory.
-        ensures outside { SameOutside is_level2_own (M.shows memory.old).words (M.shows memory.new).words }
-        ensures sure { IsTrue (M.shows memory.old).sure → IsOk result }
-        ensures stays_sure { (M.shows memory.new).sure ≡ (M.shows memory.old).sure }
-        ensures are_words { AreWords (M.shows memory.old).words → AreWords (M.shows memory.new).words }
+        requires mirrored { CHECK < number → AreMirrored (M.shows memory.old).words }
+        requires within { CHECK < number → AreWithin self.now.rules (words_of (M.shows memory.old).words) }
+        ensures { IsRun self.now number tick send disturbance (M.shows memory.old) (M.shows memory.new) result }
     {
-        if number == 0 {
+        if number == eg_answer::CHECK {
             return check(memory, tick, self.test(memory).seed);
         }
         self.run(number, memory, send, disturbance, lookup)
@@ -164,8 +150,8 @@ impl Level2 {
         disturbance: u16,
         lookup: &Lookup,
     ) -> Result<Step, NoMemory>
-        requires first { 0 < number }
-        requires last { number < 8 }
+        requires first { CHECK < number }
+        requires last { number < MODULES }
         requires lookup { IsLookup self.now.rules lookup.now }
         requires within { AreWithin self.now.rules (words_of (M.shows memory.old).words) }
         ensures words { (tick : ℕ) → OnOk result (words_of (M.shows memory.new).words
@@ -178,12 +164,12 @@ impl Level2 {
     {
         let results = self.test(memory).results;
         match number {
-            1 => pedal(memory, results[0], disturbance),
-            2 => permitted(memory, &self.rules, lookup, results[1], disturbance),
-            3 => actual(memory, &self.rules, results[2], disturbance),
-            4 => excess(memory, &self.rules, results[3], disturbance),
-            5 => pairs(memory, &self.rules, results[4], disturbance),
-            6 => debounce(memory, &self.rules),
+            eg_answer::PEDAL => pedal(memory, results[0], disturbance),
+            eg_answer::PERMITTED => permitted(memory, &self.rules, lookup, results[1], disturbance),
+            eg_answer::ACTUAL => actual(memory, &self.rules, results[2], disturbance),
+            eg_answer::EXCESS => excess(memory, &self.rules, results[3], disturbance),
+            eg_answer::PAIRS => pairs(memory, &self.rules, results[4], disturbance),
+            eg_answer::DEBOUNCE => debounce(memory, &self.rules),
             _ => react(memory, send),
         }
     }

@@ -22,3 +22,4 @@ pub use eg_num::Watches;
 pub use level2::{Level2, one_changed_word_is_found};
 pub use lookup::Lookup;
 pub use step::Step;
+pub use words::word_address;

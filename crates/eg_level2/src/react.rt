@@ -43,7 +43,7 @@ pub(crate) fn react<M: Guarded>(memory: &mut M, send: bool) -> Result<Step, NoMe
 /// Begins the token anew.
 fn begin_token<M: Guarded>(memory: &mut M) -> Result<(), NoMemory>
     ensures stored { OnOk result (word_at (M.shows memory.new).words
-        ≡ keep 12 0 (word_at (M.shows memory.old).words)) }
+        ≡ keep TOKEN 0 (word_at (M.shows memory.old).words)) }
     ensures keeps { Keeps (M.shows memory.old) (M.shows memory.new) result }
 {
     keep(memory, TOKEN, 0)
@@ -54,7 +54,10 @@ fn begin_token<M: Guarded>(memory: &mut M) -> Result<(), NoMemory>
 fn closed_flow<M: Guarded>(memory: &M) -> u16
     ensures { result ≡ closed_flow (words_of (M.shows memory.now).words) }
 {
-    closed(word(memory, FLOW), next_token(word(memory, TOKEN), 7))
+    closed(
+        word(memory, FLOW),
+        next_token(word(memory, TOKEN), eg_answer::REACT),
+    )
 }
 
 /// The flow, marked where the token isn't whole.

@@ -1,25 +1,24 @@
-// Modules 1 to 5: each computes a signal, and by the same function a result of the question's row.
-ghost use Rattle.std.specs.Prelude.{◌≡◌, ◌≤◌, OnOk, IfOk, bit_xor, if◌then◌else◌, slice_index};
-ghost use Rattle.eg_torque.specs.Permit.{permitted as permitted_of};
-ghost use Rattle.eg_torque.specs.Excess.{is_excess};
-ghost use Rattle.eg_sensor.specs.Readings.{checked_raise as raise_of, bit};
+// Modules 1 to 5: each computes a signal, and mixes a result of the question's row into the fold. The results
+// (`test`) were worked out by the same functions when level 2 was made.
+ghost use Rattle.std.specs.Prelude.{◌≡◌, ◌≤◌, OnOk, IfOk, bit_xor, if◌then◌else◌};
 ghost use Rattle.eg_answer.specs.declared.rules.TestRow.{TestRow};
 ghost use Rattle.eg_answer.specs.Answers.{pedal_result, permitted_result, estimate_result, excess_result, pairs_result};
+ghost use Rattle.eg_answer.specs.Formulas.{permitted_torque as torque_of};
 ghost use Rattle.eg_answer.specs.Folds.{mixed};
 ghost use Rattle.eg_level2.specs.Words.{word_at, words_of};
 ghost use Rattle.eg_level2.specs.Inputs.{IsLookup, readings_of};
-ghost use Rattle.eg_level2.specs.Signals.{actual_signal};
 ghost use Rattle.eg_level2.specs.Modules.{pedal_step, permitted_step, actual_step, excess_step, pairs_step, quiet_step};
 ghost use Rattle.eg_level2.specs.Stores.{Keeps, signalled};
 
 use crate::ports::readings;
 use crate::words::{ACTUAL, LIMP, PEDAL, PERMITTED, SIGN, TOKEN, TRIP, is_set, keep, word};
 use crate::{Lookup, Step};
-use eg_answer::{Rules, next_token};
+use eg_answer::{
+    Rules, disagreeing_pairs, estimated_torque, excess_number, mix, next_token, permitted_torque,
+};
 use eg_base::NoMemory;
 use eg_guard::Guarded;
-use eg_sensor::{Readings, checked_raise, pair_bits, used};
-use eg_torque as torque;
+use eg_sensor::{Readings, checked_raise, used};
 
 /// Module 1: the pedal that level 2 uses, in per mille (docs/CONCEPT.md, "Level 2").
 #[inline(always)]
@@ -38,7 +37,7 @@ pub(crate) fn pedal<M: Guarded>(
 {
     let read = readings(memory);
     let signal = used(read.pedal, is_set(word(memory, LIMP)));
-    write(memory, 1, signal, test, disturbance)?;
+    write(memory, eg_answer::PEDAL, signal, test, disturbance)?;
     Ok(Step::quiet())
 }
 
@@ -61,7 +60,7 @@ pub(crate) fn permitted<M: Guarded>(
     ensures keeps { Keeps (M.shows memory.old) (M.shows memory.new) result }
 {
     let signal = permit(rules, lookup, word(memory, PEDAL), &readings(memory));
-    write(memory, 2, signal, test, disturbance)?;
+    write(memory, eg_answer::PERMITTED, signal, test, disturbance)?;
     Ok(Step::quiet())
 }
 
@@ -81,8 +80,8 @@ pub(crate) fn actual<M: Guarded>(
     ensures step { IfOk result (λ step. step ≡ quiet_step) }
     ensures keeps { Keeps (M.shows memory.old) (M.shows memory.new) result }
 {
-    let signal = estimate(rules, &readings(memory));
-    write(memory, 3, signal, test, disturbance)?;
+    let signal = estimated_torque(rules, &readings(memory));
+    write(memory, eg_answer::ACTUAL, signal, test, disturbance)?;
     Ok(Step::quiet())
 }
 
@@ -102,8 +101,8 @@ pub(crate) fn excess<M: Guarded>(
     ensures step { IfOk result (λ step. step ≡ quiet_step) }
     ensures keeps { Keeps (M.shows memory.old) (M.shows memory.new) result }
 {
-    let signal = exceeds(rules, word(memory, ACTUAL), word(memory, PERMITTED));
-    write(memory, 4, signal, test, disturbance)?;
+    let signal = excess_number(rules, word(memory, PERMITTED), word(memory, ACTUAL));
+    write(memory, eg_answer::EXCESS, signal, test, disturbance)?;
     Ok(Step::quiet())
 }
 
@@ -123,8 +122,8 @@ pub(crate) fn pairs<M: Guarded>(
     ensures step { IfOk result (λ step. step ≡ quiet_step) }
     ensures keeps { Keeps (M.shows memory.old) (M.shows memory.new) result }
 {
-    let signal = pair_bits(&readings(memory), &rules.tolerances);
-    write(memory, 5, signal, test, disturbance)?;
+    let signal = disagreeing_pairs(rules, &readings(memory));
+    write(memory, eg_answer::PAIRS, signal, test, disturbance)?;
     Ok(Step::quiet())
 }
 
@@ -132,30 +131,15 @@ pub(crate) fn pairs<M: Guarded>(
 #[tactic(auto, using(crate::proofs::ModuleLemmas::looked_up))]
 fn permit(rules: &Rules, lookup: &Lookup, pedal: u16, read: &Readings) -> u16
     requires { IsLookup rules.now lookup.now }
-    ensures { result ≡ permitted_of rules.now.permit pedal (slice_index read.now.speed 0)
-        (slice_index read.now.speed 1) (raise_of read.now.raise read.now.raise_check) }
+    ensures { result ≡ torque_of rules.now read.now pedal }
 {
-    let raise = checked_raise(read.raise, read.raise_check);
     let [first, second] = read.speed;
     if first == second && lookup.is_at(pedal, first) {
-        return lookup.torque.max(raise);
+        return lookup
+            .torque
+            .max(checked_raise(read.raise, read.raise_check));
     }
-    rules.permit.at(pedal, first, second, raise)
-}
-
-/// The torque estimate of the higher of the two loads.
-#[tactic(auto, unfolding(crate::specs::Signals::actual_signal))]
-fn estimate(rules: &Rules, read: &Readings) -> u16
-    ensures { result ≡ actual_signal rules.now read.now }
-{
-    torque::actual(read.load[0].max(read.load[1]), rules.kt)
-}
-
-/// 1 where an estimate is an excess over a permitted torque, else 0.
-fn exceeds(rules: &Rules, estimate: u16, permitted: u16) -> u16
-    ensures { result ≡ bit 1 (is_excess estimate permitted rules.now.threshold) }
-{
-    u16::from(torque::excess(estimate, permitted, rules.threshold))
+    permitted_torque(rules, read, pedal)
 }
 
 /// Stores the signal of a module, moves the token, and mixes the result of the question's row into the fold.
@@ -188,9 +172,8 @@ fn written(trip: bool, signal: u16, disturbance: u16) -> u16
 }
 
 /// The fold with one result more, which is disturbed too.
-#[tactic(auto, unfolding(eg_answer::specs::Folds::mixed))]
 fn signed(sign: u16, test: u16, disturbance: u16) -> u16
     ensures { result ≡ bit_xor (mixed sign test) disturbance }
 {
-    sign.rotate_left(3) ^ test ^ disturbance
+    mix(sign, test) ^ disturbance
 }

@@ -1,14 +1,16 @@
 // Level 2's words in the guarded memory: each is stored with its complement.
-ghost use Rattle.std.specs.Prelude.{◌≡◌, ◌↔◌, ◌<◌, IsTrue, IsOk, OnOk};
-ghost use Rattle.eg_guard.specs.Memory.{AreWords};
+ghost use Rattle.std.specs.Prelude.{◌≡◌, ◌↔◌, ◌<◌, IsTrue, OnOk};
 ghost use Rattle.eg_level2.specs.Words.{place, word_at, AreMirrored, is_set};
-ghost use Rattle.eg_level2.specs.Stores.{Keeps, put, keep, keep_where, cleared, outside};
+ghost use Rattle.eg_level2.specs.Stores.{Keeps, Leaves, put, keep, keep_where, cleared};
 
 use eg_base::NoMemory;
-use eg_guard::{Guarded, StoreRefusal, Who};
+use eg_guard::{Guarded, PROTECTED, RESULTS, StoreRefusal, Who};
 
 /// How many words there are, each with a complement.
 const WORDS: u16 = 16;
+
+/// How many of them, the first, are signals: these stand among the results.
+pub(crate) const SIGNALS: u16 = 5;
 
 // The numbers of the words (docs/FORMATS.md, "Words of level 2").
 pub(crate) const PEDAL: u16 = 0;
@@ -49,17 +51,18 @@ pub(crate) const WHOLE_FLOW: u16 = 0x00ff;
 /// What marks it where the program flow was broken.
 pub(crate) const BROKEN_FLOW: u16 = 0x8000;
 
-/// The address at which the word of that number stands (docs/FORMATS.md, "Words of level 2"), and from 16 on
-/// its complement.
+/// The address at which the word of level 2 of that number stands, 0 to 15, and from 16 on its complement
+/// (docs/FORMATS.md, "Words of level 2").
+#[inline]
 #[tactic(auto, unfolding(crate::specs::Words::place))]
-fn place(number: u16) -> u16
+pub fn word_address(number: u16) -> u16
     requires { number < 32 }
     ensures { result ≡ place number }
 {
-    if number < 5 {
-        2080 + number
+    if number < SIGNALS {
+        RESULTS + number
     } else {
-        2091 + number
+        PROTECTED + (number - SIGNALS)
     }
 }
 
@@ -69,7 +72,7 @@ pub(crate) fn word<M: Guarded>(memory: &M, number: u16) -> u16
     requires { number < 32 }
     ensures { result ≡ word_at (M.shows memory.now).words number }
 {
-    match memory.load(Who::Level2, place(number)) {
+    match memory.load(Who::Level2, word_address(number)) {
         Ok(word) => word,
         Err(_) => unreachable!(),
     }
@@ -81,12 +84,9 @@ fn put<M: Guarded>(memory: &mut M, number: u16, value: u16) -> Result<(), NoMemo
     requires { number < 32 }
     ensures stored { OnOk result (word_at (M.shows memory.new).words
         ≡ put number value (word_at (M.shows memory.old).words)) }
-    ensures outside { outside (M.shows memory.new).words ≡ outside (M.shows memory.old).words }
-    ensures sure { IsTrue (M.shows memory.old).sure → IsOk result }
-    ensures stays_sure { (M.shows memory.new).sure ≡ (M.shows memory.old).sure }
-    ensures are_words { AreWords (M.shows memory.new).words }
+    ensures leaves { Leaves (M.shows memory.old) (M.shows memory.new) result }
 {
-    match memory.store(Who::Level2, place(number), value) {
+    match memory.store(Who::Level2, word_address(number), value) {
         Ok(()) => Ok(()),
         Err(StoreRefusal::Refused) => unreachable!(),
         Err(StoreRefusal::Memory) => Err(NoMemory),

@@ -11,7 +11,7 @@ pub loop-number-preserved : goal.loop-number-preserved
 loop-number-preserved g c = record {
   stored = cleared-more _ _ _ c.loop-number.number c.in_ok-keep.ensures.stored c.loop-number.invariant.stored;
   mirrored = mirror-more _ _ c.loop-number.number (omega arith) c.in_ok-keep.ensures.stored c.loop-number.invariant.mirrored;
-  outside = c.keep.ensures.keeps.outside ∙ c.loop-number.invariant.outside;
-  sure = c.keep.ensures.keeps.stays_sure ∙ c.loop-number.invariant.sure;
-  are_words = λ are. c.keep.ensures.keeps.are_words (c.loop-number.invariant.are_words are);
+  outside = c.keep.ensures.keeps.leaves.outside ∙ c.loop-number.invariant.outside;
+  sure = c.keep.ensures.keeps.leaves.stays_sure ∙ c.loop-number.invariant.sure;
+  are_words = λ are. c.keep.ensures.keeps.leaves.are_words (c.loop-number.invariant.are_words are);
 }
