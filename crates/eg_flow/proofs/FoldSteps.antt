@@ -12,7 +12,8 @@ use Rattle.eg_answer.proofs.FoldLemmas.{fold_law, fold_below}
 use Rattle.eg_level2.specs.Words.{Words}
 use Rattle.eg_level2.specs.Modules.{check_step, signed, pedal_step, permitted_step, actual_step, excess_step, pairs_step, debounce_step, module_step}
 use Rattle.eg_flow.specs.Ticks.{Doing, inputs_for, after_module, after_modules}
-use Rattle.eg_flow.specs.Flow.{AllRun, modules, row_asked, expected_fold, FitsWords, NoneIsDisturbed, OneIsDisturbed, is_undisturbed}
+use Rattle.eg_answer.specs.Modules.{modules_before_react, modules}
+use Rattle.eg_flow.specs.Flow.{AllRun, row_asked, expected_fold, FitsWords, NoneIsDisturbed, OneIsDisturbed, is_undisturbed}
 use Rattle.eg_flow.specs.Laws.{at_react, FoldTells}
 
 -- ---- the fold as react begins ----
@@ -136,11 +137,11 @@ undisturbed d none = ap (fold_of (row_asked d).seed) (quiet d none)
 -- ---- whether one is disturbed ----
 
 none_told : (d : Doing) → NoneIsDisturbed d → is_undisturbed d ≡ true
-unfolding is_undisturbed modules
+unfolding is_undisturbed modules_before_react modules
 none_told d z = rw (z 0, z 1, z 2, z 3, z 4, z 5, z 6, z 7) refl
 
 is_disturbed : (d : ℕ → ℕ) (one mask : ℕ) → 1 ≤ one → one ≤ 5 → (mask == 0) ≡ false → ((i : ℕ) → d i ≡ (if i == one then mask else 0)) → list_all (λ i. d i == 0) modules ≡ false
-unfolding modules
+unfolding modules_before_react modules
 is_disturbed d zero mask from to some is = absurd (omega arith)
 is_disturbed d (suc zero) mask from to some is = rw (is 0, is 1, some) refl
 is_disturbed d (suc (suc zero)) mask from to some is = rw (is 0, is 1, is 2, some) refl

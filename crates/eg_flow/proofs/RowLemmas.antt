@@ -9,6 +9,7 @@ use Rattle.eg_num.specs.Interpolation.{Grid, lerp, value_at, cell, grid_at, row_
 use Rattle.eg_torque.specs.Permit.{permitted}
 use Rattle.eg_torque.specs.Excess.{is_excess}
 use Rattle.eg_sensor.specs.Readings.{checked_raise, bit, disagrees, falling_pair, rising_pair}
+use Rattle.eg_answer.specs.Formulas.{permitted_torque, estimated_torque, excess_number, disagreeing_pairs}
 use Rattle.eg_answer.specs.Answers.{pedal_result, permitted_result, estimate_result, excess_result, pairs_result, results_of}
 use Rattle.eg_answer.specs.declared.rules.Rules.{Rules}
 use Rattle.eg_answer.specs.declared.rules.TestRow.{TestRow}
@@ -62,7 +63,7 @@ most_of : (a b c : ℕ) → a ≤ 65535 → c ≤ 65535 → max (min a b) c < 65
 most_of a b c h k = omega arith
 
 permitted-word : (rules : Rules) (row : TestRow) → All Word rules.permit.values → permitted_result rules row < 65536
-unfolding permitted_result permitted
+unfolding permitted_result permitted_torque permitted
 permitted-word rules row words =
     most_of _ _ _ (grid-word rules.permit words row.used (slice_index row.readings.speed 0)) (raise-word row.readings.raise row.readings.raise_check)
 
@@ -74,7 +75,7 @@ pedal-word row = least (slice_index row.readings.pedal 0) (slice_index row.readi
     least a b = omega arith
 
 estimate-word : (rules : Rules) (row : TestRow) → estimate_result rules row < 65536
-unfolding estimate_result
+unfolding estimate_result estimated_torque
 estimate-word rules row = least _
   where
     least : (a : ℕ) → min 65535 a < 65536
@@ -85,11 +86,11 @@ bit-word size true = omega arith
 bit-word size false = omega arith
 
 excess-word : (rules : Rules) (row : TestRow) → excess_result rules row < 65536
-unfolding excess_result
+unfolding excess_result excess_number
 excess-word rules row = let one = bit-word 1 (is_excess row.estimate row.allowed rules.threshold) in omega arith
 
 pairs-word : (rules : Rules) (row : TestRow) → pairs_result rules row < 65536
-unfolding pairs_result
+unfolding pairs_result disagreeing_pairs
 pairs-word rules row = sum (disagrees (falling_pair row.readings.pedal) (slice_index rules.tolerances 0)) (disagrees (falling_pair row.readings.plate) (slice_index rules.tolerances 1))
     (disagrees (rising_pair row.readings.load) (slice_index rules.tolerances 2)) (disagrees (rising_pair row.readings.speed) (slice_index rules.tolerances 3))
   where

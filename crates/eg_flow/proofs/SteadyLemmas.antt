@@ -8,7 +8,8 @@ use Rattle.eg_answer.specs.Answers.{answer_number}
 use Rattle.eg_level2.specs.Words.{Words, start}
 use Rattle.eg_level2.specs.Modules.{marked, closed_flow, number_of}
 use Rattle.eg_flow.specs.Ticks.{Doing, after_tick, answer_at}
-use Rattle.eg_flow.specs.Flow.{AllRun, NoneRuns, OthersRun, modules, modules_before_react, is_whole, row_asked, expected_fold, expected_number, FitsWords, AreInOrder, AreTogether, words_after, whole_after, whole_since, IsSteady}
+use Rattle.eg_answer.specs.Modules.{modules_before_react, modules}
+use Rattle.eg_flow.specs.Flow.{AllRun, NoneRuns, OthersRun, is_whole, row_asked, expected_fold, expected_number, FitsWords, AreInOrder, AreTogether, words_after, whole_after, whole_since, IsSteady}
 use Rattle.eg_flow.specs.Laws.{at_react, NumberTells, SteadyStays, SteadyAnswers, GapAnswers, SteadyFromStart}
 use Rattle.eg_flow.proofs.FlowSteps.{whole_tick, empty_tick, closed-flow, marked-high, flow-after}
 use Rattle.eg_flow.proofs.FoldSteps.{fold_tells, expected-word}
@@ -66,11 +67,11 @@ sent_flow d w whole e all steady =
     (whole_tick d w all e steady.token).flow ∙ steady_flow w.flow ((w.last + 1) % 65536) d.tick whole steady.flow steady.tells
 
 pub all_told : (d : Doing) → AllRun d → is_whole d ≡ true
-unfolding is_whole modules
+unfolding is_whole modules_before_react modules
 all_told d a = rw (a 0, a 1, a 2, a 3, a 4, a 5, a 6, a 7) refl
 
 none_whole : (d : Doing) → NoneRuns d → is_whole d ≡ false
-unfolding is_whole modules
+unfolding is_whole modules_before_react modules
 none_whole d n = rw (n 0) refl
 
 two_flows : (sent whole : Bool) (flow : ℕ) → flow ≡ (if sent then 255 else if whole then 255 else 33023) → (flow ≡ 255) ⊎ (flow ≡ 33023)
@@ -141,7 +142,7 @@ gap_told d (suc (suc (suc (suc (suc (suc (suc one))))))) h o = absurd (omega ari
 
 -- any module that is left out
 pub out_told : (d : Doing) (one : ℕ) → one < 8 → OthersRun one d → is_whole d ≡ false
-unfolding is_whole modules
+unfolding is_whole modules_before_react modules
 out_told d zero h o = rw (o 0) refl
 out_told d (suc zero) h o = rw (o 0, o 1) refl
 out_told d (suc (suc zero)) h o = rw (o 0, o 1, o 2) refl

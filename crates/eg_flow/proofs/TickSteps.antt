@@ -8,7 +8,7 @@ use Rattle.eg_answer.proofs.TokenLemmas.{next_token_of-turn, next_token_of-other
 use Rattle.eg_level2.specs.Words.{Words}
 use Rattle.eg_level2.specs.Modules.{check_step, pedal_step, permitted_step, actual_step, excess_step, pairs_step, debounce_step, module_step}
 use Rattle.eg_flow.specs.Ticks.{Doing, after_module, after_modules}
-use Rattle.eg_flow.specs.Flow.{modules_before_react}
+use Rattle.eg_answer.specs.Modules.{modules_before_react}
 use Rattle.eg_flow.specs.Laws.{TokenTells}
 
 -- a part of one of two words is one of two parts

@@ -5,16 +5,16 @@ use Rattle.eg_num.specs.Interpolation.{value_at}
 use Rattle.eg_num.specs.Counting.{fed}
 use Rattle.eg_torque.specs.Permit.{permitted}
 use Rattle.eg_torque.specs.Excess.{is_excess}
-use Rattle.eg_sensor.specs.Readings.{sound_readings}
+use Rattle.eg_sensor.specs.Readings.{has_bit, sound_readings}
 use Rattle.eg_answer.specs.Folds.{mixed, fold_of}
+use Rattle.eg_answer.specs.Formulas.{permitted_torque, estimated_torque, excess_number, disagreeing_pairs}
 use Rattle.eg_answer.specs.Answers.{pedal_result, permitted_result, estimate_result, excess_result, pairs_result, results_of, expected_of, answer_number}
 use Rattle.eg_answer.specs.Token.{next_token_of}
 use Rattle.eg_answer.specs.declared.rules.Rules.{Rules}
 use Rattle.eg_answer.specs.declared.questions.Question.{Question}
 use Rattle.eg_level2.specs.Words.{Words, is_set, start}
 use Rattle.eg_level2.specs.Inputs.{row_of}
-use Rattle.eg_level2.specs.Signals.{pedal_signal, permitted_signal, actual_signal, excess_signal, pairs_signal}
-use Rattle.eg_level2.specs.Modules.{marked, check_step, given_up, written, signed, pedal_step, permitted_step, actual_step, excess_step, pairs_step, has_bit, pedal_bit, plate_bit, load_bit, speed_bit, torque_bit, counted, is_found, debounced, limits, trips, debounce_step, closed_flow, answers_now, number_of, answer_of, react_step, module_step}
+use Rattle.eg_level2.specs.Modules.{marked, check_step, given_up, written, signed, pedal_step, permitted_step, actual_step, excess_step, pairs_step, pedal_bit, plate_bit, load_bit, speed_bit, torque_bit, counted, is_found, debounced, limits, trips, debounce_step, closed_flow, answers_now, number_of, answer_of, react_step, module_step}
 use Rattle.eg_flow.specs.Ticks.{Doing, inputs_for, after_module, after_modules, after_tick, answer_at}
 use Rattle.eg_flow.specs.Flow.{row_asked, expected_fold, expected_number}
 
@@ -87,7 +87,7 @@ empty tick = doing tick true none sound
 -- a tick, and its answer, with all that they are made of opened
 unfoldable tick : Doing → Words → Words
 unfolding value_at permitted is_excess mixed pedal_result permitted_result estimate_result excess_result pairs_result next_token_of fed
-    is_set row_of pedal_signal permitted_signal actual_signal excess_signal pairs_signal marked check_step given_up written signed pedal_step
+    is_set row_of permitted_torque estimated_torque excess_number disagreeing_pairs marked check_step given_up written signed pedal_step
     permitted_step actual_step excess_step pairs_step has_bit pedal_bit plate_bit load_bit speed_bit torque_bit counted is_found debounced
     limits trips debounce_step closed_flow answers_now react_step module_step inputs_for after_module after_modules after_tick start
 tick d words = after_tick d words
@@ -132,7 +132,7 @@ quiet_0 = refl
 
 expects_0 : expected_number (whole 0 true) ≡ 16720522
 unfolding expected_number answer_number expected_fold expected_of results_of fold_of mixed pedal_result permitted_result estimate_result
-    excess_result pairs_result permitted value_at is_excess row_asked row_of
+    excess_result pairs_result permitted_torque estimated_torque excess_number disagreeing_pairs permitted value_at is_excess row_asked row_of
 expects_0 = refl
 
 -- Tick 1 is left out. At tick 2 the gap is found and the flow is marked: 33023 is 0x80ff. The answer has the

@@ -3,6 +3,8 @@
 use Rattle.std.specs.Prelude.{◌≡◌, ℕ, ◌+◌, ◌%◌, ◌^◌, ◌≤◌, ◌<◌, ◌==◌, ◌⊎◌, Bool, true, false, not, ◌&&◌, ◌||◌, is_some, List, [], ◌∷◌, length, All, if◌then◌else◌}
 use Rattle.std.specs.List.{list_all}
 use Rattle.eg_answer.specs.Answers.{results_of, expected_of, answer_number}
+use Rattle.eg_answer.specs.Modules.{modules}
+use Rattle.eg_answer.specs.declared.modules.TheConstants.{PEDAL, PAIRS}
 use Rattle.eg_answer.specs.declared.rules.Rules.{Rules}
 use Rattle.eg_answer.specs.declared.rules.TestRow.{TestRow}
 use Rattle.eg_level2.specs.Words.{Words}
@@ -19,14 +21,6 @@ NoneRuns d = (i : ℕ) → d.ran i ≡ false
 
 abbrev pub OthersRun : ℕ → Doing → Type 0
 OthersRun one d = (i : ℕ) → d.ran i ≡ not (i == one)
-
--- the modules before react
-unfoldable pub modules_before_react : List ℕ
-modules_before_react = 0 ∷ 1 ∷ 2 ∷ 3 ∷ 4 ∷ 5 ∷ 6 ∷ []
-
--- all eight of them
-unfoldable pub modules : List ℕ
-modules = 0 ∷ 1 ∷ 2 ∷ 3 ∷ 4 ∷ 5 ∷ 6 ∷ 7 ∷ []
 
 -- whether all eight run
 unfoldable pub is_whole : Doing → Bool
@@ -54,12 +48,12 @@ pub record FitsWords (rules : Rules) (row : TestRow) : Type 0 where
 abbrev pub NoneIsDisturbed : Doing → Type 0
 NoneIsDisturbed d = (i : ℕ) → d.disturbance i ≡ 0
 
--- one of the modules 1 to 5 is, by some of the 16 bits, and no other
+-- one of the modules from pedal to pairs is, by some of the 16 bits, and no other
 pub record OneIsDisturbed (d : Doing) : Type 0 where
   pub one : ℕ
   pub mask : ℕ
-  pub from_1 : 1 ≤ one
-  pub to_5 : one ≤ 5
+  pub from_1 : PEDAL ≤ one
+  pub to_5 : one ≤ PAIRS
   pub some : 1 ≤ mask
   pub word : mask < 2 ^ 16
   pub alone : (i : ℕ) → d.disturbance i ≡ (if i == one then mask else 0)

@@ -2,15 +2,17 @@
 -- fold, and when the number that is sent is the expected one. They speak of level 2 alone, and of no fault.
 use Rattle.std.specs.Prelude.{◌≡◌, ℕ, suc, ◌+◌, ◌%◌, ◌^◌, ◌≤◌, ◌<◌, ◌==◌, ◌⊎◌, Bool, true, false, ◌&&◌, List, length, None, if◌then◌else◌}
 use Rattle.std.specs.List.{list_all}
+use Rattle.eg_answer.specs.declared.modules.TheConstants.{REACT}
+use Rattle.eg_answer.specs.Modules.{modules_before_react}
 use Rattle.eg_answer.specs.Token.{next_token_of}
 use Rattle.eg_level2.specs.Words.{Words, start}
 use Rattle.eg_level2.specs.Modules.{marked, closed_flow, number_of}
 use Rattle.eg_flow.specs.Ticks.{Doing, after_modules, after_tick, answer_at}
-use Rattle.eg_flow.specs.Flow.{AllRun, NoneRuns, OthersRun, modules_before_react, row_asked, expected_fold, expected_number, FitsWords, AtMostOneIsDisturbed, is_undisturbed, AreInOrder, AreTogether, words_after, whole_after, whole_since, IsSteady}
+use Rattle.eg_flow.specs.Flow.{AllRun, NoneRuns, OthersRun, row_asked, expected_fold, expected_number, FitsWords, AtMostOneIsDisturbed, is_undisturbed, AreInOrder, AreTogether, words_after, whole_after, whole_since, IsSteady}
 
 -- the words as react begins
 abbrev pub at_react : Doing → Words → Words
-at_react d words = after_modules d 7 words
+at_react d words = after_modules d REACT words
 
 -- ---- the token ----
 
@@ -18,11 +20,11 @@ at_react d words = after_modules d 7 words
 -- token that went wrong at one module stays wrong until react.
 abbrev pub TokenTells : Type 0
 TokenTells = (d : Doing) (words : Words) → d.differs ≡ false → words.token ≡ 0 →
-    (next_token_of (at_react d words).token 7 == 255) ≡ list_all (λ i. d.ran i) modules_before_react
+    (next_token_of (at_react d words).token REACT == 255) ≡ list_all (λ i. d.ran i) modules_before_react
 
 -- React clears it.
 abbrev pub ReactClears : Type 0
-ReactClears = (d : Doing) (words : Words) → d.ran 7 ≡ true → (after_tick d words).token ≡ 0
+ReactClears = (d : Doing) (words : Words) → d.ran REACT ≡ true → (after_tick d words).token ≡ 0
 
 -- ---- the flow and the last tick ----
 
@@ -87,7 +89,7 @@ SteadyAnswers = (d : Doing) (words : Words) (whole : Bool) → d.differs ≡ fal
 
 -- where one module before react is left out of a tick, the number isn't the expected one
 abbrev pub GapAnswers : Type 0
-GapAnswers = (d : Doing) (words : Words) (one : ℕ) → d.differs ≡ false → OthersRun one d → one < 7 →
+GapAnswers = (d : Doing) (words : Words) (one : ℕ) → d.differs ≡ false → OthersRun one d → one < REACT →
     FitsWords d.rules (row_asked d) → words.token ≡ 0 →
     (number_of (at_react d words) == expected_number d) ≡ false
 

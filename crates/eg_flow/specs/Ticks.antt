@@ -2,6 +2,7 @@
 use Rattle.std.specs.Prelude.{ℕ, zero, suc, Bool, ◌&&◌, ◌==◌, List, Option, None, if◌then◌else◌}
 use Rattle.eg_num.specs.declared.watches.Watches.{Watches}
 use Rattle.eg_sensor.specs.declared.readings.Readings.{Readings}
+use Rattle.eg_answer.specs.declared.modules.TheConstants.{CHECK, DEBOUNCE, REACT, MODULES}
 use Rattle.eg_answer.specs.declared.rules.Rules.{Rules}
 use Rattle.eg_answer.specs.declared.questions.Question.{Question}
 use Rattle.eg_level2.specs.Words.{Words, is_set}
@@ -39,7 +40,7 @@ inputs_for d i = record {
 unfoldable pub after_module : Doing → ℕ → Words → Words
 after_module d i words =
     if d.ran i
-    then (if i == 0 && d.differs then given_up d.tick else module_step (inputs_for d i) i words)
+    then (if i == CHECK && d.differs then given_up d.tick else module_step (inputs_for d i) i words)
     else words
 
 -- the words after the first so many modules, and after all eight
@@ -48,18 +49,19 @@ after_modules d zero words = words
 after_modules d (suc i) words = after_module d i (after_modules d i words)
 
 unfoldable pub after_tick : Doing → Words → Words
-after_tick d words = after_modules d 8 words
+after_tick d words = after_modules d MODULES words
 
 -- the answer that is sent, if any, and whether path 1 is ordered open: both by react, on the words as it
 -- begins
 unfoldable pub answer_at : Doing → Words → Option ℕ
-answer_at d words = if d.ran 7 then answer_of d.sends (after_modules d 7 words) else None
+answer_at d words =
+    if d.ran REACT then answer_of d.sends (after_modules d REACT words) else None
 
 unfoldable pub orders_at : Doing → Words → Bool
-orders_at d words = d.ran 7 && is_set (after_modules d 7 words).trip
+orders_at d words = d.ran REACT && is_set (after_modules d REACT words).trip
 
 -- the watches that are found: that of the mirrored words by check, the others by debounce
 unfoldable pub finds_at : Doing → Words → Watches
 finds_at d words =
-    let found = if d.ran 6 then debounced d.rules (after_modules d 6 words) else no_watches in
-    record found { mirror = d.ran 0 && d.differs }
+    let found = if d.ran DEBOUNCE then debounced d.rules (after_modules d DEBOUNCE words) else no_watches in
+    record found { mirror = d.ran CHECK && d.differs }
