@@ -1,5 +1,5 @@
--- What level 2 computes, of the sensors' readings and of a test row alike. The lower of the two pedal values is
--- `used_pedal` of the sensors.
+-- What level 2 computes, of the sensors' readings and of a test row alike. The lower of the two pedal values
+-- is `used_pedal` of the sensors.
 use Rattle.std.specs.Prelude.{ℕ, max, slice_index}
 use Rattle.eg_num.specs.Arithmetic.{estimate}
 use Rattle.eg_torque.specs.Permit.{permitted}
@@ -8,7 +8,8 @@ use Rattle.eg_sensor.specs.Readings.{checked_raise, bit, pair_bits}
 use Rattle.eg_sensor.specs.declared.readings.Readings.{Readings}
 use Rattle.eg_answer.specs.declared.rules.Rules.{Rules}
 
--- the permitted torque of a pedal: the lower of what the two speeds that are read give, or the raise that counts
+-- the permitted torque of a pedal: the lower of what the two speeds that are read give, or the raise that
+-- counts
 unfoldable pub permitted_torque : Rules → Readings → ℕ → ℕ
 permitted_torque rules readings pedal =
     permitted rules.permit pedal (slice_index readings.speed 0) (slice_index readings.speed 1)

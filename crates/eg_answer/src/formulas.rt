@@ -26,8 +26,8 @@ pub fn estimated_torque(rules: &Rules, read: &Readings) -> u16
     actual(read.load[0].max(read.load[1]), rules.kt)
 }
 
-/// 1 where an estimate exceeds the torque that is allowed by more than the threshold, else 0; both in tenths of
-/// Nm (docs/CONCEPT.md, "Level 2").
+/// 1 where an estimate exceeds the torque that is allowed by more than the threshold, else 0; both in tenths
+/// of Nm (docs/CONCEPT.md, "Level 2").
 #[inline]
 #[tactic(auto, unfolding(crate::specs::Formulas::excess_number))]
 pub fn excess_number(rules: &Rules, allowed: u16, estimate: u16) -> u16

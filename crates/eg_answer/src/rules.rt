@@ -39,8 +39,8 @@ impl Rules {
     }
 }
 
-/// A test row: numbers on which level 2 computes once more what it computes on the sensors' readings, and for
-/// which the results are known (docs/CONCEPT.md, "Questions and answers").
+/// A test row: numbers of which level 2 works out, when it is made, what it computes of the sensors' readings
+/// at each tick, and for which the results are known (docs/CONCEPT.md, "Questions and answers").
 #[derive(Clone, Copy, Debug, PartialEq, Eq)]
 pub struct TestRow {
     /// What the fold begins with.

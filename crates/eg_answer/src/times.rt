@@ -143,8 +143,9 @@ fn periods_to_confirm(torque: &Weights, times: &Times) -> u32
 
 /// The bound for lapses in ticks (docs/CONCEPT.md, "Lapses"): where level 2 as a whole doesn't run at some
 /// ticks, whichever they are, each stretch of torque excess is shorter. `torque` are the weights by which
-/// level 2 debounces the excess. None exactly where `(periods - 1) * down >= up`, at equality too: where the right
-/// verdicts of so many periods can take what a wrong one adds.
+/// level 2 debounces the excess. Its runs to confirm fill some periods (`periods_to_confirm`), and a wrong
+/// verdict adds `up`. None exactly where the right verdicts of all but one of these periods,
+/// `(periods - 1) * down`, are at least `up`, at equality too.
 pub fn lapse_bound(torque: &Weights, times: &Times) -> Option<u32>
     ensures { SomeIff result (HasLapseBound torque.now times.now) (lapse_bound_of torque.now times.now) }
 {

@@ -6,7 +6,7 @@ use Rattle.eg_level2.specs.Words.{words_of, AreMirrored, AreWithin, is_level2_ow
 use Rattle.eg_level2.specs.Inputs.{Level2Parts, inputs_of}
 use Rattle.eg_level2.specs.Modules.{given_up, module_step, answer_after, order_after, mirror_alone, found_by}
 
--- The run of the module of that number at a tick, whether or not answers are sent at it, with what disturbs it.
+-- The run of the module of that number at a tick, at which answers are sent or not, with what disturbs it.
 pub record IsRun {E : Type 0} (parts : Level2Parts) (number tick : ℕ) (sends : Bool) (disturbance : ℕ)
     (old new : ShownMemory) (result : Result Step E) : Type 0 where
   -- the words after it, and what it answers, orders and finds, where each word had its complement

@@ -96,7 +96,7 @@ impl Level2 {
     /// Runs the module of this number, 0 to 7, over the memory (docs/CONCEPT.md, "Level 2"). The readings and
     /// the number of the question stand at the input ports and at the link. `tick` is this tick, and `send`
     /// says whether the answer is sent at it. What disturbs the run is mixed in by exclusive or; 0 disturbs
-    /// nothing. After NoMemory, what was stored stays; a test shows that, and the clause that no other word has
+    /// nothing. After NoMemory, what was stored stays; a test shows that, and `IsRun` that no other word has
     /// changed.
     pub fn module<M: Guarded>(
         &self,
@@ -110,7 +110,8 @@ impl Level2 {
         // Module 0 takes any words. The others rely on what it has checked.
         requires mirrored { CHECK < «module» → AreMirrored (M.shows memory.old).words }
         requires within { CHECK < «module» → AreWithin self.now.rules (words_of (M.shows memory.old).words) }
-        ensures { IsRun self.now «module» tick send disturbance (M.shows memory.old) (M.shows memory.new) result }
+        ensures { IsRun self.now «module» tick send disturbance
+            (M.shows memory.old) (M.shows memory.new) result }
     {
         let lookup = Lookup::new(self.rules(), 0, 0);
         self.module_with_lookup(module, memory, tick, send, disturbance, &lookup)
@@ -132,7 +133,8 @@ impl Level2 {
         requires lookup { IsLookup self.now.rules lookup.now }
         requires mirrored { CHECK < number → AreMirrored (M.shows memory.old).words }
         requires within { CHECK < number → AreWithin self.now.rules (words_of (M.shows memory.old).words) }
-        ensures { IsRun self.now number tick send disturbance (M.shows memory.old) (M.shows memory.new) result }
+        ensures { IsRun self.now number tick send disturbance
+            (M.shows memory.old) (M.shows memory.new) result }
     {
         if number == eg_answer::CHECK {
             return check(memory, tick, self.test(memory).seed);

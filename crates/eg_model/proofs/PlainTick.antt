@@ -6,10 +6,11 @@ use Rattle.eg_num.specs.Arithmetic.{estimate}
 use Rattle.eg_torque.specs.Permit.{permitted, drive_permits}
 use Rattle.eg_torque.specs.Excess.{is_excess}
 use Rattle.eg_sensor.specs.Readings.{bit}
+use Rattle.eg_answer.specs.Formulas.{permitted_torque, excess_number, disagreeing_pairs}
 use Rattle.eg_fault.specs.Effects.{no_effects, readings_under}
 use Rattle.eg_record.specs.Excess.{full_excess}
 use Rattle.eg_model.specs.History.{Setting, Entry, Tick, Moment}
-use Rattle.eg_model.specs.Signals.{tripped, is_limited, last_signals, pedal_value, permitted_value, excess_value, pairs_value, signals_at}
+use Rattle.eg_model.specs.Signals.{tripped, is_limited, last_signals, signals_at}
 use Rattle.eg_model.specs.Detection.{has_bit, pedal_bit, plate_bit, load_bit, speed_bit, torque_bit}
 use Rattle.eg_model.specs.Moments.{readings_at, moment}
 use Rattle.eg_model.specs.Rows.{row_of}
@@ -67,13 +68,13 @@ module _ (s : Setting) (e : Entry) (past : List Moment) (proper : IsProper s (pl
   pedal-same : m.signals.pedal ≡ e.drive.pedal
   pedal-same =
       pedal-is s (plain e) past plain_runs plain_undisturbed untripped
-      ∙ (unfold pedal_value readings_at readings_under no_effects in else_of (is_limited past) 0 _ unlimited
+      ∙ (unfold readings_at readings_under no_effects in else_of (is_limited past) 0 _ unlimited
       ∙ lower_is e.drive.pedal proper.drive.0)
 
   allowed-same : m.signals.permitted ≡ m.limit
   allowed-same =
       permitted-is s (plain e) past plain_runs plain_undisturbed untripped
-      ∙ ap (permitted_value s.cal.rules (readings_at no_effects e)) pedal-same ∙ value ∙ sym limit-is
+      ∙ ap (permitted_torque s.cal.rules (readings_at no_effects e)) pedal-same ∙ value ∙ sym limit-is
     where
       limit-is : m.limit ≡ drive_permits s.cal.rules.permit e.drive
       limit-is = unfold moment in refl
@@ -81,9 +82,9 @@ module _ (s : Setting) (e : Entry) (past : List Moment) (proper : IsProper s (pl
       same : (a r q : ℕ) → r ≡ q → max (min a a) r ≡ max a q
       same a r q f = omega arith
 
-      value : permitted_value s.cal.rules (readings_at no_effects e) e.drive.pedal
+      value : permitted_torque s.cal.rules (readings_at no_effects e) e.drive.pedal
           ≡ drive_permits s.cal.rules.permit e.drive
-      value = unfold permitted_value permitted drive_permits readings_at readings_under no_effects in
+      value = unfold permitted_torque permitted drive_permits readings_at readings_under no_effects in
           same _ _ _ (checked_is e.drive.raise proper.drive.2)
 
   actual-same : m.signals.actual ≡ estimate s.cal.rules.kt e.shown.load_1
@@ -96,7 +97,7 @@ module _ (s : Setting) (e : Entry) (past : List Moment) (proper : IsProper s (pl
       higher a b f = omega arith
 
   flag : torque_bit m.signals ≡ is_excess m.signals.actual m.signals.permitted s.cal.rules.threshold
-  unfolding torque_bit excess_value
+  unfolding torque_bit excess_number
   flag = ap (has_bit 1) (excess-is s (plain e) past plain_runs plain_undisturbed untripped)
       ∙ flag_bit (is_excess m.signals.actual m.signals.permitted s.cal.rules.threshold)
 
@@ -114,10 +115,10 @@ module _ (s : Setting) (e : Entry) (past : List Moment) (proper : IsProper s (pl
   no_pairs : m.signals.pairs ≡ 0
   unfolding moment signals_at
   no_pairs = signal_value no_effects past 5 (last_signals past).pairs
-      (pairs_value s.cal.rules (readings_at no_effects e)) plain_runs plain_undisturbed untripped ∙ none
+      (disagreeing_pairs s.cal.rules (readings_at no_effects e)) plain_runs plain_undisturbed untripped ∙ none
     where
-      none : pairs_value s.cal.rules (readings_at no_effects e) ≡ 0
-      none = unfold pairs_value readings_at readings_under no_effects in
+      none : disagreeing_pairs s.cal.rules (readings_at no_effects e) ≡ 0
+      none = unfold disagreeing_pairs readings_at readings_under no_effects in
           rw (
             agree e.drive.pedal (1000 - (1000 - e.drive.pedal)) (slice_index s.cal.rules.tolerances 0)
                 (falls e.drive.pedal proper.drive.0),

@@ -9,13 +9,14 @@ use Rattle.eg_torque.specs.Permit.{permitted, drive_permits}
 use Rattle.eg_torque.specs.Excess.{is_excess}
 use Rattle.eg_num.specs.Interpolation.{grid_at}
 use Rattle.eg_torque.proofs.PermitLemmas.{grid_at-rises}
-use Rattle.eg_sensor.specs.Readings.{checked_raise}
+use Rattle.eg_sensor.specs.Readings.{used_pedal, checked_raise}
 use Rattle.eg_sensor.specs.declared.readings.Readings.{Readings}
 use Rattle.eg_values.specs.Calibration.{IsAccepted}
+use Rattle.eg_answer.specs.Formulas.{permitted_torque, estimated_torque, excess_number}
 use Rattle.eg_fault.specs.Effects.{Effects, readings_under}
 use Rattle.eg_record.specs.Excess.{true_excess}
 use Rattle.eg_model.specs.History.{Setting, Entry, Tick, Moment}
-use Rattle.eg_model.specs.Signals.{tripped, is_limited, signal, pedal_value, permitted_value, actual_value, excess_value, signals_at}
+use Rattle.eg_model.specs.Signals.{tripped, is_limited, signal, signals_at}
 use Rattle.eg_model.specs.Detection.{has_bit, torque_bit}
 use Rattle.eg_model.specs.Moments.{readings_at, moment, moments_of}
 use Rattle.eg_model.specs.Rows.{row_of}
@@ -111,24 +112,23 @@ module _ (s : Setting) (x : Tick) (past : List Moment) (runs : Runs x.effects)
   reads-is = refl
 
   pub actual-is : m.signals.actual ≡ estimate s.cal.rules.kt (higher_load (readings_at x.effects x.entry))
-  unfolding moment signals_at actual_value
+  unfolding moment signals_at estimated_torque
   actual-is = signal_value x.effects past 3 _ _ runs calm untripped
 
   pub permitted-is : m.signals.permitted
-      ≡ permitted_value s.cal.rules (readings_at x.effects x.entry) m.signals.pedal
+      ≡ permitted_torque s.cal.rules (readings_at x.effects x.entry) m.signals.pedal
   unfolding moment signals_at
   permitted-is = signal_value x.effects past 2 _ _ runs calm untripped
 
-  pub pedal-is : m.signals.pedal ≡ pedal_value (readings_at x.effects x.entry) past
+  pub pedal-is : m.signals.pedal ≡ used_pedal (readings_at x.effects x.entry).pedal (is_limited past)
   unfolding moment signals_at
   pedal-is = signal_value x.effects past 1 _ _ runs calm untripped
 
-  pub excess-is : m.signals.excess ≡ excess_value s.cal.rules m.signals.permitted m.signals.actual
+  pub excess-is : m.signals.excess ≡ excess_number s.cal.rules m.signals.permitted m.signals.actual
   unfolding moment signals_at
   excess-is = signal_value x.effects past 4 _ _ runs calm untripped
 
   pedal-below : m.signals.pedal ≤ lower_pedal (readings_at x.effects x.entry)
-  unfolding pedal_value
   pedal-below = rw pedal-is (go (is_limited past) _)
     where
       go : (b : Bool) (n : ℕ) → (if b then 0 else n) ≤ n
@@ -153,8 +153,8 @@ module _ (s : Setting) (x : Tick) (past : List Moment) (runs : Runs x.effects)
       below : (r : Readings) → lower_pedal r ≤ x.entry.drive.pedal →
           (slice_index r.speed 0 ≡ x.entry.drive.speed) ⊎ (slice_index r.speed 1 ≡ x.entry.drive.speed) →
           raise_of r ≤ x.entry.drive.raise → m.signals.pedal ≤ lower_pedal r →
-          permitted_value s.cal.rules r m.signals.pedal ≤ drive_permits s.cal.rules.permit x.entry.drive
-      below r pedal speed raise less = unfold permitted_value permitted drive_permits in
+          permitted_torque s.cal.rules r m.signals.pedal ≤ drive_permits s.cal.rules.permit x.entry.drive
+      below r pedal speed raise less = unfold permitted_torque permitted drive_permits in
           lower _ _ _ _ _ raise (at_speed speed)
         where
           at_speed : (slice_index r.speed 0 ≡ x.entry.drive.speed) ⊎
@@ -178,8 +178,8 @@ module _ (s : Setting) (x : Tick) (past : List Moment) (runs : Runs x.effects)
       above = let a = permitted-below accepted safe in let b = safe.load in
           rw actual-is (omega (arith, over, a, b))
 
-      shows : excess_value s.cal.rules m.signals.permitted m.signals.actual ≡ 1
-      shows = unfold excess_value is_excess in rw (lt-ltb _ _ above) refl
+      shows : excess_number s.cal.rules m.signals.permitted m.signals.actual ≡ 1
+      shows = unfold excess_number is_excess in rw (lt-ltb _ _ above) refl
 
 -- so the torque bit is set at each tick with true excess
 pub sees_all : (s : Setting) → IsAccepted s.cal → (h : List Tick) → Each (λ x. SeesExcess x.effects) h →

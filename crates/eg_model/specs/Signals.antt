@@ -1,11 +1,10 @@
 -- The signals of level 2: what it makes of the readings at a tick.
-use Rattle.std.specs.Prelude.{ℕ, Bool, not, is_some, List, [], ◌∷◌, max, bit_xor, slice_index, if◌then◌else◌}
+use Rattle.std.specs.Prelude.{ℕ, Bool, not, is_some, List, [], ◌∷◌, bit_xor, if◌then◌else◌}
 use Rattle.std.specs.List.{list_any}
-use Rattle.eg_num.specs.Arithmetic.{estimate}
-use Rattle.eg_torque.specs.Permit.{permitted}
-use Rattle.eg_torque.specs.Excess.{is_excess}
-use Rattle.eg_sensor.specs.Readings.{used_pedal, checked_raise, bit, pair_bits}
+use Rattle.eg_sensor.specs.Readings.{used_pedal}
 use Rattle.eg_sensor.specs.declared.readings.Readings.{Readings}
+use Rattle.eg_answer.specs.Formulas.{permitted_torque, estimated_torque, excess_number, disagreeing_pairs}
+use Rattle.eg_answer.specs.declared.modules.TheConstants.{PEDAL, PERMITTED, ACTUAL, EXCESS, PAIRS}
 use Rattle.eg_answer.specs.declared.rules.Rules.{Rules}
 use Rattle.eg_fault.specs.Effects.{Effects}
 use Rattle.eg_model.specs.History.{Signals, Moment}
@@ -37,40 +36,18 @@ signal x past i before value =
     else if tripped past then 0
     else bit_xor value (x.disturbance i)
 
--- the lower of the two pedal values, and 0 where the pedal is limited
-unfoldable pub pedal_value : Readings → List Moment → ℕ
-pedal_value reads past = used_pedal reads.pedal (is_limited past)
-
--- the permitted torque of the pedal signal, by the lower of what the two speeds give, or the checked raise
-unfoldable pub permitted_value : Rules → Readings → ℕ → ℕ
-permitted_value rules reads pedal =
-    permitted rules.permit pedal (slice_index reads.speed 0) (slice_index reads.speed 1)
-    (checked_raise reads.raise reads.raise_check)
-
--- the torque estimate of the higher of the two loads
-unfoldable pub actual_value : Rules → Readings → ℕ
-actual_value rules reads = estimate rules.kt (max (slice_index reads.load 0) (slice_index reads.load 1))
-
--- 1 where the actual torque exceeds the permitted torque by more than the threshold, else 0
-unfoldable pub excess_value : Rules → ℕ → ℕ → ℕ
-excess_value rules allowed actual = bit 1 (is_excess actual allowed rules.threshold)
-
--- the bits of the pairs that disagree
-unfoldable pub pairs_value : Rules → Readings → ℕ
-pairs_value rules reads = pair_bits reads rules.tolerances
-
--- the five signals after a tick; permitted torque goes by the pedal signal, excess by the two torques'
--- signals
+-- The five signals after a tick. The pedal is the lower of its two values, and 0 where it is limited; the
+-- permitted torque goes by the pedal signal, and the excess by the two torques' signals.
 unfoldable pub signals_at : Rules → Effects → Readings → List Moment → Signals
 signals_at rules x reads past =
     let before = last_signals past in
-    let pedal = signal x past 1 before.pedal (pedal_value reads past) in
-    let allowed = signal x past 2 before.permitted (permitted_value rules reads pedal) in
-    let actual = signal x past 3 before.actual (actual_value rules reads) in
+    let pedal = signal x past PEDAL before.pedal (used_pedal reads.pedal (is_limited past)) in
+    let allowed = signal x past PERMITTED before.permitted (permitted_torque rules reads pedal) in
+    let actual = signal x past ACTUAL before.actual (estimated_torque rules reads) in
     record {
       pedal = pedal;
       permitted = allowed;
       actual = actual;
-      excess = signal x past 4 before.excess (excess_value rules allowed actual);
-      pairs = signal x past 5 before.pairs (pairs_value rules reads);
+      excess = signal x past EXCESS before.excess (excess_number rules allowed actual);
+      pairs = signal x past PAIRS before.pairs (disagreeing_pairs rules reads);
     }

@@ -4,6 +4,7 @@ use Rattle.eg_torque.specs.Permit.{DoesNotFall, permitted}
 use Rattle.eg_torque.specs.Excess.{is_excess}
 use Rattle.eg_num.specs.Interpolation.{value_at}
 use Rattle.eg_answer.specs.Folds.{mixed, fold_of}
+use Rattle.eg_answer.specs.Formulas.{permitted_torque, estimated_torque, excess_number, disagreeing_pairs}
 use Rattle.eg_answer.specs.Answers.{pedal_result, permitted_result, estimate_result, excess_result, pairs_result, results_of, expected_of}
 use Rattle.eg_values.specs.Calibration.{GoTogether}
 use Rattle.eg_values.specs.Reference.{reference_permit, reference_rules, reference_questions, reference_parts}
@@ -22,7 +23,7 @@ reference_does_not_fall (suc (suc i)) j row column = absurd (omega arith)
 
 -- each question's answer is the fold of its row
 pub reference_answered : All (λ question. question.answer ≡ expected_of reference_rules question.row) reference_questions
-unfolding value_at permitted is_excess mixed fold_of pedal_result permitted_result estimate_result excess_result pairs_result results_of expected_of
+unfolding value_at permitted is_excess permitted_torque estimated_torque excess_number disagreeing_pairs mixed fold_of pedal_result permitted_result estimate_result excess_result pairs_result results_of expected_of
 reference_answered zero d below = refl
 reference_answered (suc zero) d below = refl
 reference_answered (suc (suc zero)) d below = refl
