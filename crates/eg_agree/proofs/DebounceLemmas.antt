@@ -3,6 +3,7 @@ use Rattle.std.proofs.Common.{◌≡◌, ℕ, ◌≤◌, Bool, true, false, not,
 use Rattle.std.specs.Prelude.{if◌then◌else◌, ◌==◌, is_some}
 use Rattle.eg_num.specs.Windows.{WeightParts}
 use Rattle.eg_num.specs.Counting.{fed}
+use Rattle.eg_sensor.specs.Readings as sensor
 use Rattle.eg_sensor.specs.Readings.{bit}
 use Rattle.eg_answer.specs.declared.rules.Rules.{Rules}
 use Rattle.eg_values.specs.Calibration.{IsAccepted}
@@ -93,23 +94,23 @@ module _ (s : Setting) (accepted : IsAccepted s.cal) (x : Effects) (e : Entry) (
     excess-now calm = b.signals.excess ∙ unflipped flip m.signals.excess calm
 
     pedal-bad : flip ≡ false → level2.pedal_bit w ≡ pedal_bit m.signals
-    unfolding level2.pedal_bit level2.has_bit pedal_bit has_bit
+    unfolding level2.pedal_bit sensor.has_bit pedal_bit has_bit
     pedal-bad calm = ap (has_bit 1) (pairs-now calm)
 
     plate-bad : flip ≡ false → level2.plate_bit w ≡ plate_bit m.signals
-    unfolding level2.plate_bit level2.has_bit plate_bit has_bit
+    unfolding level2.plate_bit sensor.has_bit plate_bit has_bit
     plate-bad calm = ap (has_bit 2) (pairs-now calm)
 
     load-bad : flip ≡ false → level2.load_bit w ≡ load_bit m.signals
-    unfolding level2.load_bit level2.has_bit load_bit has_bit
+    unfolding level2.load_bit sensor.has_bit load_bit has_bit
     load-bad calm = ap (has_bit 4) (pairs-now calm)
 
     speed-bad : flip ≡ false → level2.speed_bit w ≡ speed_bit m.signals
-    unfolding level2.speed_bit level2.has_bit speed_bit has_bit
+    unfolding level2.speed_bit sensor.has_bit speed_bit has_bit
     speed-bad calm = ap (has_bit 8) (pairs-now calm)
 
     torque-bad : flip ≡ false → level2.torque_bit w ≡ torque_bit m.signals
-    unfolding level2.torque_bit level2.has_bit torque_bit has_bit
+    unfolding level2.torque_bit sensor.has_bit torque_bit has_bit
     torque-bad calm = ap (has_bit 1) (excess-now calm)
 
     -- the watches that are found

@@ -2,6 +2,7 @@
 use Rattle.std.proofs.Common.{◌≡◌, suc, ◌<◌, ◌⊎◌, Bool, true, false, not, ◌&&◌, ◌||◌, List, ◌∷◌, length, refl, sym, ap, ap₂, subst, ◌∙◌, is_some}
 use Rattle.std.specs.Prelude.{if◌then◌else◌}
 use Rattle.std.proofs.lemmas.Bool.{and_parts, or_parts}
+use Rattle.eg_answer.specs.Modules as eight
 use Rattle.eg_answer.specs.declared.marks.AnswerMark.TheVariants.{Absent, Good, Bad}
 use Rattle.eg_level2.specs.Words.{Words, is_set, start}
 use Rattle.eg_level2.specs.Modules.{answers_now}
@@ -50,11 +51,11 @@ module _ (s : Setting) (x : Tick) (h : List Tick) where
   -- ---- what is the same on both sides ----
 
   pub whole_same : flow.is_whole d ≡ is_whole x.effects
-  unfolding flow.is_whole flow.modules is_whole modules doing_after doing_at
+  unfolding flow.is_whole eight.modules_before_react eight.modules is_whole modules doing_after doing_at
   whole_same = refl
 
   pub undisturbed_same : flow.is_undisturbed d ≡ is_undisturbed x.effects
-  unfolding flow.is_undisturbed flow.modules is_undisturbed modules doing_after doing_at
+  unfolding flow.is_undisturbed eight.modules_before_react eight.modules is_undisturbed modules doing_after doing_at
   undisturbed_same = refl
 
   answers_as_sent : (w : Words) → TellsTrip s w x h → (d.ran 7 && answers_now d.sends (at_react d w)) ≡ sent

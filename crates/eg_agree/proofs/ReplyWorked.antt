@@ -7,6 +7,8 @@ use Rattle.eg_num.specs.Counting.{fed}
 use Rattle.eg_torque.specs.Permit.{permitted}
 use Rattle.eg_torque.specs.Excess.{is_excess}
 use Rattle.eg_answer.specs.Folds.{mixed}
+use Rattle.eg_answer.specs.Formulas.{permitted_torque, estimated_torque, excess_number, disagreeing_pairs}
+use Rattle.eg_sensor.specs.Readings.{has_bit}
 use Rattle.eg_answer.specs.Answers.{pedal_result, permitted_result, estimate_result, excess_result, pairs_result, answer_number}
 use Rattle.eg_answer.specs.Token.{next_token_of}
 use Rattle.eg_answer.specs.Periods.{period_of, place_of, is_send_tick, asked}
@@ -15,8 +17,7 @@ use Rattle.eg_answer.specs.declared.marks.AnswerMark.TheVariants.{Absent, Good, 
 use Rattle.eg_values.specs.Reference.{reference_parts}
 use Rattle.eg_level2.specs.Words.{is_set, start}
 use Rattle.eg_level2.specs.Inputs.{row_of}
-use Rattle.eg_level2.specs.Signals.{pedal_signal, permitted_signal, actual_signal, excess_signal, pairs_signal}
-use Rattle.eg_level2.specs.Modules.{marked, check_step, given_up, written, signed, pedal_step, permitted_step, actual_step, excess_step, pairs_step, has_bit, pedal_bit, plate_bit, load_bit, speed_bit, torque_bit, counted, is_found, debounced, limits, trips, debounce_step, closed_flow, answers_now, number_of, answer_of, react_step, module_step}
+use Rattle.eg_level2.specs.Modules.{marked, check_step, given_up, written, signed, pedal_step, permitted_step, actual_step, excess_step, pairs_step, pedal_bit, plate_bit, load_bit, speed_bit, torque_bit, counted, is_found, debounced, limits, trips, debounce_step, closed_flow, answers_now, number_of, answer_of, react_step, module_step}
 use Rattle.eg_fault.specs.Effects.{no_effects, readings_under, sends_in, sends_at, asked_in, asked_at}
 use Rattle.eg_fault.specs.Faults.{is_left_out, does, effects}
 use Rattle.eg_fault.specs.declared.class.Class.TheVariants.{Lapse, Skip, Disturb, Flip}
@@ -41,7 +42,7 @@ under fault = record { cal = reference_parts; image = []; fault = fault }
 -- what is sent at a tick of the idling engine, with all that it is made of opened
 unfoldable sent : Option Fault → ℕ → Option ℕ
 unfolding value_at permitted is_excess mixed pedal_result permitted_result estimate_result excess_result pairs_result next_token_of fed
-    is_set row_of pedal_signal permitted_signal actual_signal excess_signal pairs_signal marked check_step given_up written signed pedal_step
+    is_set row_of permitted_torque estimated_torque excess_number disagreeing_pairs marked check_step given_up written signed pedal_step
     permitted_step actual_step excess_step pairs_step has_bit pedal_bit plate_bit load_bit speed_bit torque_bit counted is_found debounced
     limits trips debounce_step closed_flow answers_now react_step module_step inputs_for after_module after_modules after_tick start
     answer_of number_of answer_at period_of place_of is_send_tick asked no_effects readings_under sends_in sends_at asked_in asked_at

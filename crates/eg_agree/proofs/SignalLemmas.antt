@@ -4,14 +4,14 @@ use Rattle.std.specs.Prelude.{if◌then◌else◌, is_some, bit_xor}
 use Rattle.std.proofs.lemmas.Bool.{true≢false, false≢true}
 use Rattle.eg_sensor.specs.Readings.{bit, used_pedal}
 use Rattle.eg_sensor.specs.declared.readings.Readings.{Readings}
+use Rattle.eg_answer.specs.Formulas.{permitted_torque, excess_number}
 use Rattle.eg_answer.specs.declared.rules.Rules.{Rules}
 use Rattle.eg_answer.specs.declared.rules.TestRow.{TestRow}
 use Rattle.eg_fault.specs.Effects.{Effects}
 use Rattle.eg_level2.specs.Words.{Words, is_set}
-use Rattle.eg_level2.specs.Signals.{pedal_signal, permitted_signal, actual_signal, excess_signal, pairs_signal}
 use Rattle.eg_level2.specs.Modules.{check_step, given_up, written, pedal_step, permitted_step, actual_step, excess_step, pairs_step}
 use Rattle.eg_model.specs.History.{Setting, Signals, Moment}
-use Rattle.eg_model.specs.Signals.{tripped, is_limited, last_signals, signal, pedal_value, permitted_value, actual_value, excess_value, pairs_value, signals_at}
+use Rattle.eg_model.specs.Signals.{tripped, is_limited, last_signals, signal, signals_at}
 use Rattle.eg_model.specs.Detection.{pedal_bit, plate_bit, load_bit, speed_bit, torque_bit}
 use Rattle.eg_model.specs.Level1.{seen, seen_signals}
 use Rattle.eg_model.specs.Rows.{signal_list}
@@ -226,7 +226,7 @@ module _ (s : Setting) (x : Effects) (reads : Readings) (past : List Moment) whe
   -- module 1
   pub pedal-between : MirrorTrips past → (w : Words) (row : TestRow) → Between 1 w →
       Between 2 (if x.ran 1 then pedal_step reads row (x.disturbance 1) w else w)
-  unfolding seen signals_at pedal_step written limp_after pedal_signal pedal_value
+  unfolding seen signals_at pedal_step written limp_after
   pedal-between trips w row b =
       let v : Words = pedal_step reads row (x.disturbance 1) w in
       record {
@@ -246,14 +246,14 @@ module _ (s : Setting) (x : Effects) (reads : Readings) (past : List Moment) whe
   -- module 2
   pub permitted-between : (w : Words) (row : TestRow) → Between 2 w →
       Between 3 (if x.ran 2 then permitted_step s.cal.rules reads row (x.disturbance 2) w else w)
-  unfolding seen signals_at permitted_step written permitted_signal permitted_value
+  unfolding seen signals_at permitted_step written
   permitted-between w row b =
       let v : Words = permitted_step s.cal.rules reads row (x.disturbance 2) w in
       record {
         signals = record {
           pedal = left (λ (u : Words). u.pedal) 2 v w _ refl b.signals.pedal;
           permitted = wrote (λ (u : Words). u.permitted) 2 v w _ _ _ refl b.others.trip b.signals.permitted
-              (λ calm untripped. ap (permitted_value s.cal.rules reads)
+              (λ calm untripped. ap (permitted_torque s.cal.rules reads)
               (b.signals.pedal ∙ unflipped flip now.pedal calm));
           actual = left (λ (u : Words). u.actual) 2 v w _ refl b.signals.actual;
           excess = left (λ (u : Words). u.excess) 2 v w _ refl b.signals.excess;
@@ -265,7 +265,7 @@ module _ (s : Setting) (x : Effects) (reads : Readings) (past : List Moment) whe
   -- module 3
   pub actual-between : (w : Words) (row : TestRow) → Between 3 w →
       Between 4 (if x.ran 3 then actual_step s.cal.rules reads row (x.disturbance 3) w else w)
-  unfolding seen signals_at actual_step written actual_signal actual_value
+  unfolding seen signals_at actual_step written
   actual-between w row b =
       let v : Words = actual_step s.cal.rules reads row (x.disturbance 3) w in
       record {
@@ -283,7 +283,7 @@ module _ (s : Setting) (x : Effects) (reads : Readings) (past : List Moment) whe
   -- module 4
   pub excess-between : (w : Words) (row : TestRow) → Between 4 w →
       Between 5 (if x.ran 4 then excess_step s.cal.rules row (x.disturbance 4) w else w)
-  unfolding seen signals_at excess_step written excess_signal excess_value
+  unfolding seen signals_at excess_step written
   excess-between w row b =
       let v : Words = excess_step s.cal.rules row (x.disturbance 4) w in
       record {
@@ -292,7 +292,7 @@ module _ (s : Setting) (x : Effects) (reads : Readings) (past : List Moment) whe
           permitted = left (λ (u : Words). u.permitted) 4 v w _ refl b.signals.permitted;
           actual = left (λ (u : Words). u.actual) 4 v w _ refl b.signals.actual;
           excess = wrote (λ (u : Words). u.excess) 4 v w _ _ _ refl b.others.trip b.signals.excess
-              (λ calm untripped. ap₂ (excess_value s.cal.rules)
+              (λ calm untripped. ap₂ (excess_number s.cal.rules)
               (b.signals.permitted ∙ unflipped flip now.permitted calm)
               (b.signals.actual ∙ unflipped flip now.actual calm));
           pairs = left (λ (u : Words). u.pairs) 4 v w _ refl b.signals.pairs;
@@ -303,7 +303,7 @@ module _ (s : Setting) (x : Effects) (reads : Readings) (past : List Moment) whe
   -- module 5
   pub pairs-between : (w : Words) (row : TestRow) → Between 5 w →
       Between 6 (if x.ran 5 then pairs_step s.cal.rules reads row (x.disturbance 5) w else w)
-  unfolding seen signals_at pairs_step written pairs_signal pairs_value
+  unfolding seen signals_at pairs_step written
   pairs-between w row b =
       let v : Words = pairs_step s.cal.rules reads row (x.disturbance 5) w in
       record {

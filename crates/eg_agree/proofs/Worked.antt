@@ -5,10 +5,11 @@ use Rattle.std.proofs.Common.{◌≡◌, ℕ, false, List, [], ◌∷◌, map, r
 use Rattle.std.specs.Prelude.{if◌then◌else◌, ◌==◌, length, Some, None}
 use Rattle.eg_num.specs.Windows.{greatest_of, greatest}
 use Rattle.eg_num.specs.Counting.{fed, counted}
+use Rattle.eg_sensor.specs.Readings.{has_bit}
+use Rattle.eg_answer.specs.Formulas.{permitted_torque, estimated_torque, excess_number, disagreeing_pairs}
 use Rattle.eg_values.specs.Reference.{reference_parts}
 use Rattle.eg_fault.specs.Effects.{Effects, no_effects}
 use Rattle.eg_level2.specs.Words.{Words, is_set, start}
-use Rattle.eg_level2.specs.Signals as signal
 use Rattle.eg_level2.specs.Modules as module_of
 use Rattle.eg_flow.specs.Ticks.{inputs_for, after_module, after_modules, after_tick}
 use Rattle.eg_model.specs.Detection.{pedal_bit, load_bit}
@@ -71,7 +72,7 @@ holding w = w.pedal_counter ∷ w.load_counter ∷ w.limp ∷ w.trip ∷ []
 
 -- every definition of the eight modules that these words go through
 modules : ℕ
-unfolding start is_set doing_at inputs_for after_module after_modules after_tick module_of.module_step module_of.check_step module_of.given_up module_of.written module_of.pedal_step module_of.permitted_step module_of.actual_step module_of.excess_step module_of.pairs_step module_of.has_bit module_of.pedal_bit module_of.plate_bit module_of.load_bit module_of.speed_bit module_of.torque_bit module_of.counted module_of.is_found module_of.debounced module_of.limits module_of.trips module_of.debounce_step module_of.react_step signal.pedal_signal signal.permitted_signal signal.actual_signal signal.excess_signal signal.pairs_signal fed
+unfolding start is_set doing_at inputs_for after_module after_modules after_tick module_of.module_step module_of.check_step module_of.given_up module_of.written module_of.pedal_step module_of.permitted_step module_of.actual_step module_of.excess_step module_of.pairs_step has_bit module_of.pedal_bit module_of.plate_bit module_of.load_bit module_of.speed_bit module_of.torque_bit module_of.counted module_of.is_found module_of.debounced module_of.limits module_of.trips module_of.debounce_step module_of.react_step permitted_torque estimated_torque excess_number disagreeing_pairs fed
 modules = 0
 
 -- the histories: up 2, down 1, limit 10

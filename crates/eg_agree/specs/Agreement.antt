@@ -2,6 +2,7 @@
 -- the start on, and their words stand for the history; what they send at the next tick, compared with what
 -- is expected, is what the model calls it.
 use Rattle.std.specs.Prelude.{◌≡◌, ◌<◌, ℕ, true, false, List, [], ◌∷◌, length, if◌then◌else◌}
+use Rattle.eg_answer.specs.declared.modules.TheConstants.{CHECK}
 use Rattle.eg_values.specs.Calibration.{IsAccepted}
 use Rattle.eg_fault.specs.Faults.{effects}
 use Rattle.eg_model.specs.History.{Setting, Entry, Tick}
@@ -53,7 +54,7 @@ WordsRest =
 -- the last of these ticks at which module 0 ran, or 65535 where it never did
 unfoldable pub last_check : List Tick → ℕ
 last_check [] = 65535
-last_check (x ∷ before) = if x.effects.ran 0 then length before else last_check before
+last_check (x ∷ before) = if x.effects.ran CHECK then length before else last_check before
 
 -- the word for the last tick is that, after every history
 abbrev pub LastChecksStand : Type 0
@@ -63,4 +64,4 @@ LastChecksStand = (s : Setting) (h : List Tick) → (words_over s h).last ≡ la
 abbrev pub LastCheckIsKept : Type 0
 LastCheckIsKept =
     (s : Setting) (x : Tick) (h : List Tick) (words : Words) →
-    (after_tick (doing_after s x h) words).last ≡ (if x.effects.ran 0 then length h else words.last)
+    (after_tick (doing_after s x h) words).last ≡ (if x.effects.ran CHECK then length h else words.last)

@@ -5,6 +5,7 @@ use Rattle.std.specs.Prelude.{◌≡◌, ℕ, ◌<◌, ◌==◌, ◌⊎◌, Bool
 use Rattle.std.specs.List.{list_any}
 use Rattle.eg_answer.specs.Answers.{answer_number}
 use Rattle.eg_answer.specs.Questions.{question_at}
+use Rattle.eg_answer.specs.declared.modules.TheConstants.{REACT}
 use Rattle.eg_answer.specs.declared.marks.AnswerMark.{AnswerMark}
 use Rattle.eg_answer.specs.declared.marks.AnswerMark.TheVariants.{Absent, Good, Bad}
 use Rattle.eg_values.specs.Calibration.{IsAccepted}
@@ -82,7 +83,7 @@ RanTogether (x ∷ before) = (AllRun x.effects ⊎ NoneRuns x.effects) × RanTog
 -- at each of them react ran
 unfoldable pub ReactRan : List Tick → Type 0
 ReactRan [] = Unit {0}
-ReactRan (x ∷ before) = (x.effects.ran 7 ≡ true) × ReactRan before
+ReactRan (x ∷ before) = (x.effects.ran REACT ≡ true) × ReactRan before
 
 -- the last of them had an answer
 unfoldable pub has_just_answered : List Moment → Bool

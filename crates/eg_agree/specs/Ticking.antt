@@ -1,6 +1,7 @@
 -- One tick of level 2 over its words is one tick of the model.
 use Rattle.std.specs.Prelude.{◌≡◌, ℕ, ◌≤◌, true, false, ◌&&◌, is_some, List, [], ◌∷◌, length, Option}
 use Rattle.eg_num.specs.declared.watches.Watches.{Watches}
+use Rattle.eg_answer.specs.declared.modules.TheConstants.{CHECK, REACT, MODULES}
 use Rattle.eg_values.specs.Calibration.{IsAccepted}
 use Rattle.eg_fault.specs.Effects.{Effects}
 use Rattle.eg_fault.specs.Faults.{effects}
@@ -28,10 +29,10 @@ found_in_level2 m = record m.found { answers = false }
 pub record IsTick (s : Setting) (x : Effects) (d : Doing) (w : Words)
     (m : Moment) (past : List Moment) : Type 0 where
   pub words : KeepsWords s (after_tick d w) (m ∷ past)
-  pub seen : (j : ℕ) → j ≤ 8 →
+  pub seen : (j : ℕ) → j ≤ MODULES →
       signal_list (signals_of (after_modules d j w))
       ≡ seen_signals (is_some x.flip) j (last_signals past) m.signals
-  pub trip : is_set (after_modules d 7 w).trip ≡ tripped (m ∷ past)
+  pub trip : is_set (after_modules d REACT w).trip ≡ tripped (m ∷ past)
   pub order : orders_at d w ≡ (m.reacts && tripped (m ∷ past))
   pub found : finds_at d w ≡ found_in_level2 m
   pub answer : is_some (answer_at d w) ≡ is_answer m.mark
@@ -41,7 +42,7 @@ pub record IsTick (s : Setting) (x : Effects) (d : Doing) (w : Words)
 -- Where a word is flipped at a tick, module 0 runs at it, and so finds it. No more is asked of what is out
 -- of order.
 abbrev pub ChecksFlips : Effects → Type 0
-ChecksFlips x = is_some x.flip ≡ true → x.ran 0 ≡ true
+ChecksFlips x = is_some x.flip ≡ true → x.ran CHECK ≡ true
 
 -- it is so under every fault, and without one
 abbrev pub FaultsCheckFlips : Type 0
