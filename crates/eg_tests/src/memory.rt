@@ -1,9 +1,8 @@
 // Out of memory: over a memory that refuses one store, in a step, in a slice and in level 2.
-ghost use Rattle.eg_level2.specs.Inputs.{IsLookup};
 
 use eg_guard::{Guarded, StingyMemory, Who};
 use eg_host::Host;
-use eg_level2::{Level2, Lookup};
+use eg_level2::Level2;
 use eg_values::reference;
 use eg_word::{Registers, State, step};
 
@@ -41,17 +40,6 @@ fn a_slice_ends_at_a_step_that_is_refused(rt: HostRuntime) {
     assert!(rt; memory.load(Who::Level1, 1024) == Ok(77));
 }
 
-/// What the permit table says of the pedal at rest and 800 rpm.
-fn lookup(level2: &Level2) -> Lookup
-    ensures { IsLookup level2.now.rules result }
-{
-    Lookup {
-        pedal: 0,
-        speed: 800,
-        torque: level2.rules().permit.table().at(0, 800),
-    }
-}
-
 #[test]
 fn level_2_keeps_what_was_stored_before_a_refusal(rt: HostRuntime) {
     let calibration = reference();
@@ -64,7 +52,6 @@ fn level_2_keeps_what_was_stored_before_a_refusal(rt: HostRuntime) {
     assert!(rt; memory.load(Who::Level2, 2121) == Ok(65535));
     let mut memory = StingyMemory::new(36);
     assert!(rt; level2.reset(&mut memory).is_ok());
-    let known = lookup(&level2);
-    assert!(rt; level2.module(0, &mut memory, 0, false, 0, &known).is_err());
-    assert!(rt; level2.module(0, &mut memory, 0, false, 0, &known).is_ok());
+    assert!(rt; level2.module(0, &mut memory, 0, false, 0).is_err());
+    assert!(rt; level2.module(0, &mut memory, 0, false, 0).is_ok());
 }

@@ -12,9 +12,9 @@ use Rattle.eg_guard.proofs.AccessLemmas.{code-is, in_ports-is, results-is}
 use Rattle.eg_sensor.specs.declared.readings.Readings.{Readings}
 use Rattle.eg_level2.specs.Words.{place, word_at, AreMirrored, is_level2_own}
 use Rattle.eg_level2.specs.Inputs.{readings_of, asked_of}
-use Rattle.eg_level2.proofs.PlaceLemmas.{change_law}
+use Rattle.eg_level2.proofs.PlaceLemmas.{place_is, change_law}
 use Rattle.eg_tick.specs.Board.{IsWritten, is_board_own, by_tracks}
-use Rattle.eg_tick.proofs.FrameLemmas.{place-is, protected-is}
+use Rattle.eg_tick.proofs.FrameLemmas.{protected-is}
 
 -- ---- where it may store ----
 
@@ -40,7 +40,7 @@ link-store = refl
 
 place-allowed : (number : ℕ) → number < 32 → access Board (place number) ≡ both
 unfolding access allows
-place-allowed number within = elim (place-is number) [
+place-allowed number within = elim (place_is number) [
   | inl low ↦ let is = low.1 in let below = low.0 in ap (λ region. allows region Board) (results-is (place number) (omega arith) (omega arith))
   | inr high ↦ let is = high.1 in let from = high.0 in ap (λ region. allows region Board) (protected-is (place number) (omega arith) (omega arith))
 ]
@@ -160,7 +160,7 @@ flipped_changed old new number address before mask e at is some are within mirro
 
 own-place : (number : ℕ) → number < 32 → is_level2_own (region_of (place number)) ≡ true
 unfolding is_level2_own
-own-place number within = elim (place-is number) [
+own-place number within = elim (place_is number) [
   | inl low ↦ let is = low.1 in let below = low.0 in ap is_level2_own (results-is (place number) (omega arith) (omega arith))
   | inr high ↦ let is = high.1 in let from = high.0 in ap is_level2_own (protected-is (place number) (omega arith) (omega arith))
 ]

@@ -1,7 +1,6 @@
 -- What stays in the memory while somebody else stores: the regions of level 1, of level 2 and of the board lie
 -- apart.
 use Rattle.std.proofs.Common.{◌≡◌, ◌∙◌, refl, ap, inl, inr, ℕ, ◌+◌, ◌≤◌, ◌<◌, ◌⊎◌, Bool, true, false, List, slice_index, arith}
-use Rattle.std.proofs.lemmas.Bool.{lt-ltb, le-ltb, cases_lt}
 use Rattle.std.proofs.lemmas.Bool.Decides.{nat_tests}
 use Rattle.eg_guard.specs.declared.regions.Region.{Region}
 use Rattle.eg_guard.specs.declared.regions.Region.TheVariants.{Code, Data, InPorts, OutPorts, Results, Protected, Link, None as NoRegion}
@@ -14,6 +13,7 @@ use Rattle.eg_word.specs.World.{world_of}
 use Rattle.eg_word.proofs.WorldLemmas.{world_of-elsewhere}
 use Rattle.eg_level2.specs.Words.{place, word_at, named, words_of, AreMirrored, is_level2_own}
 use Rattle.eg_level2.specs.Inputs.{readings_of, asked_of}
+use Rattle.eg_level2.proofs.PlaceLemmas.{place_is}
 use Rattle.eg_tick.specs.Board.{is_board_own}
 use Rattle.eg_tick.specs.Midway.{Work, IsSet}
 
@@ -22,13 +22,6 @@ use Rattle.eg_tick.specs.Midway.{Work, IsSet}
 pub protected-is : (address : ℕ) → 2096 ≤ address → address < 2123 → region_of address ≡ Protected
 unfolding region_of
 protected-is address from to = grind (arith, nat_tests)
-
-pub place-is : (number : ℕ) → ((number < 5) × (place number ≡ 2080 + number)) ⊎ ((5 ≤ number) × (place number ≡ 2091 + number))
-unfolding place
-place-is number = elim (cases_lt number 5) [
-  | inl low ↦ inl (low, rw (lt-ltb number 5 low) refl)
-  | inr high ↦ inr (high, rw (le-ltb number 5 high) refl)
-]
 
 -- regions of somebody else than level 2
 pub record LeavesWords (is_own : Region → Bool) : Type 0 where
@@ -45,7 +38,7 @@ board_leaves_words = record { results = refl; protected = refl }
 
 -- no word of level 2 lies in them
 place-apart : (is_own : Region → Bool) → LeavesWords is_own → (number : ℕ) → number < 32 → is_own (region_of (place number)) ≡ false
-place-apart is_own leaves number within = elim (place-is number) [
+place-apart is_own leaves number within = elim (place_is number) [
   | inl low ↦ let is = low.1 in let below = low.0 in ap is_own (results-is (place number) (omega arith) (omega arith)) ∙ leaves.results
   | inr high ↦ let is = high.1 in let from = high.0 in ap is_own (protected-is (place number) (omega arith) (omega arith)) ∙ leaves.protected
 ]

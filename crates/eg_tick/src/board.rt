@@ -9,6 +9,7 @@ ghost use Rattle.eg_tick.specs.Board.{IsWritten, is_board_own, by_tracks};
 
 use eg_base::NoMemory;
 use eg_guard::{Guarded, StoreRefusal, Who};
+use eg_level2::word_address;
 use eg_sensor::Readings;
 
 /// The first word of the code, the first input port, and the link (docs/FORMATS.md, "Memory map").
@@ -112,19 +113,6 @@ pub(crate) fn show<M: Guarded>(
     put(memory, LINK, asked)
 }
 
-/// Where a word of level 2 stands, and from 16 on its complement (docs/FORMATS.md, "Words of level 2").
-#[tactic(auto, unfolding(eg_level2::specs::Words::place))]
-pub(crate) fn place(word: u8) -> u16
-    requires { word < 32 }
-    ensures { result ≡ place word }
-{
-    if word < 5 {
-        2080 + u16::from(word)
-    } else {
-        2091 + u16::from(word)
-    }
-}
-
 /// Flips bits of a word of level 2 (docs/CONCEPT.md, "Faults").
 #[tactic(auto, using(crate::proofs::BoardLemmas::board))]
 pub(crate) fn flip<M: Guarded>(memory: &mut M, word: u8, mask: u16) -> Result<(), NoMemory>
@@ -141,7 +129,7 @@ pub(crate) fn flip<M: Guarded>(memory: &mut M, word: u8, mask: u16) -> Result<()
     ensures stays_sure { (M.shows memory.new).sure ≡ (M.shows memory.old).sure }
     ensures are_words { AreWords (M.shows memory.new).words }
 {
-    let address = place(word);
+    let address = word_address(u16::from(word));
     let before = load(memory, address);
     put(memory, address, before ^ mask)
 }

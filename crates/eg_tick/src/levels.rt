@@ -77,7 +77,7 @@ fn module<M: Guarded>(
         return Ok(quiet());
     }
     let disturbance = disturbance(fault, u32::from(tick), number);
-    level2.module(number, memory, tick, send, disturbance, lookup)
+    level2.module_with_lookup(number, memory, tick, send, disturbance, lookup)
 }
 
 /// The run of module 0. A scheduled flip comes as it begins (docs/CONCEPT.md, "A run, tick by tick").
@@ -113,7 +113,7 @@ fn first_module<M: Guarded>(
     };
     flip(memory, word, mask)?;
     // No fault that flips a word leaves module 0 out, or disturbs it.
-    level2.module(0, memory, tick, send, 0, lookup)
+    level2.module_with_lookup(0, memory, tick, send, 0, lookup)
 }
 
 /// The word of level 2 that is flipped at a tick, and its bits.

@@ -7,12 +7,12 @@ ghost use Rattle.eg_level2.specs.Words.{word_at, words_of};
 ghost use Rattle.eg_model.specs.Rows.{signal_list};
 ghost use Rattle.eg_agree.specs.Standing.{signals_of};
 
-use crate::board::{load, place};
+use crate::board::load;
 use crate::monitoring::Judgement;
 use crate::paths::Paths;
 use crate::plant::Commands;
 use eg_guard::Guarded;
-use eg_level2::Lookup;
+use eg_level2::{Lookup, word_address};
 use eg_num::{Drive, Watches};
 use eg_plant::Engine;
 use eg_record::Row;
@@ -61,7 +61,7 @@ fn word<M: Guarded>(memory: &M, number: u8) -> u16
     requires { number < 32 }
     ensures { result ≡ word_at (M.shows memory.now).words number }
 {
-    load(memory, place(number))
+    load(memory, word_address(u16::from(number)))
 }
 
 /// The five signals of level 2, which are its first five words.

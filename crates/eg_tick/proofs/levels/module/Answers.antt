@@ -18,12 +18,12 @@ pub returns-clause-midway : goal.returns-clause-midway
 returns-clause-midway g c w i m meets plain is =
     let runs : (effects (option_copied c.args.fault) c.args.tick).ran c.args.number ≡ true = search rules in
     let mixes : c.disturbance-disturbance.result ≡ (effects (option_copied c.args.fault) c.args.tick).disturbance c.args.number = search rules in
-    module_result _ _ _ _ w i c.args.number m _ meets plain is _ mixes c.module.result _ runs
-    c.module.ensures.are_words c.module.ensures.outside c.module.ensures.mirrored c.module.ensures.words
+    module_result _ _ _ _ w i c.args.number m _ meets plain is _ mixes c.module_with_lookup.result _ runs
+    c.module_with_lookup.ensures.are_words c.module_with_lookup.ensures.outside c.module_with_lookup.ensures.mirrored c.module_with_lookup.ensures.words
 
 pub returns-clause-step : goal.returns-clause-step
 returns-clause-step g c w i m meets plain is =
     let runs : (effects (option_copied c.args.fault) c.args.tick).ran c.args.number ≡ true = search rules in
     let mixes : c.disturbance-disturbance.result ≡ (effects (option_copied c.args.fault) c.args.tick).disturbance c.args.number = search rules in
-    step_result _ _ _ _ w i c.args.number m _ meets plain is _ mixes c.module.result runs
-    c.module.ensures.answer c.module.ensures.order c.module.ensures.found
+    step_result _ _ _ _ w i c.args.number m _ meets plain is _ mixes c.module_with_lookup.result runs
+    c.module_with_lookup.ensures.answer c.module_with_lookup.ensures.order c.module_with_lookup.ensures.found
