@@ -1,6 +1,7 @@
 -- What level 1 has done after so many steps of a slice.
-use Rattle.std.proofs.Common.{◌≡◌, ◌∙◌, refl, sym, ap, ℕ, zero, suc, ◌+◌, ◌-◌, ◌≤◌, List, slice_index, arith, add-one}
-use Rattle.eg_guard.specs.Memory.{AreWords, SameOutside}
+use Rattle.std.proofs.Common.{◌≡◌, ◌∙◌, refl, sym, ap, subst, ℕ, zero, suc, ◌+◌, ◌-◌, ◌≤◌, ◌<◌, List, arith}
+use Rattle.std.specs.Prelude.{Result, Ok, Err, IsErr, IsTrue, true, false}
+use Rattle.eg_guard.specs.Memory.{ShownMemory, AreWords, SameOutside}
 use Rattle.eg_word.specs.declared.registers.Trap.{Trap}
 use Rattle.eg_word.specs.declared.registers.State.{State}
 use Rattle.eg_word.specs.declared.registers.State.TheVariants.{Running, Trapped}
@@ -8,7 +9,7 @@ use Rattle.eg_word.specs.declared.registers.Registers.{Registers}
 use Rattle.eg_word.specs.Memory.{is_level1_own}
 use Rattle.eg_word.specs.World.{View, World, Shows, world_of, world_step}
 use Rattle.eg_word.proofs.WorldLemmas.{shows-outside, world_step-idle}
-use Rattle.eg_host.specs.Slices.{wake, slice_start, steps, world_slice}
+use Rattle.eg_host.specs.Slices.{wake, slice_start, steps, world_slice, IsSlice}
 
 -- ---- steps ----
 
@@ -93,3 +94,39 @@ run-idle count budget m now old new run idle within = record {
   trapped = run.trapped;
   trapped_words = run.trapped_words;
 }
+
+-- ---- a call for a slice ----
+
+-- a slice that was done
+pub run-done : {T E : Type 0} (done : T) (budget : ℕ) (m now : Registers) (old new : ShownMemory) → HasRun budget m old.words now new.words
+    → new.sure ≡ old.sure → IsSlice {T = T} {E = E} budget m now old new (Ok done)
+run-done done budget m now old new run sure = record {
+  world = run.world;
+  ended = λ view shows. tt;
+  keeps = record { sure = λ told. refl; stays_sure = sure; are_words = run.are_words };
+  outside = run.outside;
+  trapped = run.trapped;
+  trapped_words = run.trapped_words;
+}
+
+-- a slice that ended for want of memory, over a memory that isn't sure
+run-failed : {T E : Type 0} (result : Result T E) (count budget : ℕ) (m now : Registers) (old new : ShownMemory) → IsErr result
+    → HasRun count m old.words now new.words → count < budget → new.sure ≡ old.sure → ¬ IsTrue new.sure → IsSlice budget m now old new result
+run-failed (Ok x) count budget m now old new failed run early sure unsure = absurd (let clash : false ≡ true = failed in cc)
+run-failed (Err e) count budget m now old new failed run early sure unsure = record {
+  world = λ view shows. tt;
+  ended = λ view shows. (count, early, run.world view shows);
+  keeps = record { sure = λ told. absurd (unsure (sure ∙ told)); stays_sure = sure; are_words = run.are_words };
+  outside = run.outside;
+  trapped = run.trapped;
+  trapped_words = run.trapped_words;
+}
+
+-- the step that failed changed nothing
+pub run-ended : {T E : Type 0} (result : Result T E) (count budget : ℕ) (m now last : Registers) (old new final : ShownMemory) → IsErr result
+    → HasRun count m old.words now new.words → count < budget → new.sure ≡ old.sure → ¬ IsTrue new.sure → last ≡ now → final ≡ new
+    → IsSlice budget m last old final result
+run-ended result count budget m now last old new final failed run early sure unsure same_machine same_memory =
+    subst (λ r. IsSlice budget m r old final result) (sym same_machine)
+    (subst (λ memory. IsSlice budget m now old memory result) (sym same_memory)
+    (run-failed result count budget m now old new failed run early sure unsure))

@@ -1,7 +1,7 @@
 -- Images that were worked by hand, against the definitions: what slices make of level 1's private world.
 use Rattle.std.proofs.Common.{◌≡◌, refl, ℕ, List, [], ◌∷◌, replicate}
 use Rattle.eg_guard.specs.Regions.{region_of, allows, access}
-use Rattle.eg_word.specs.declared.registers.Trap.TheVariants.{Fetch, Load, Store, Illegal}
+use Rattle.eg_word.specs.declared.registers.Trap.TheVariants.{Fetch, Store, Illegal}
 use Rattle.eg_word.specs.declared.registers.State.{State}
 use Rattle.eg_word.specs.declared.registers.State.TheVariants.{Running, Waiting, Trapped}
 use Rattle.eg_word.specs.declared.registers.Registers.{Registers}

@@ -1,9 +1,12 @@
--- What a slice makes of level 1's private world.
-use Rattle.std.specs.Prelude.{ℕ, zero, suc}
+-- What a slice makes of level 1's private world, and what a call for one keeps.
+use Rattle.std.specs.Prelude.{◌≡◌, ℕ, zero, suc, ◌<◌, Result, OnOk, OnErr}
+use Rattle.eg_guard.specs.Memory.{ShownMemory, SameOutside, KeepsMemory}
+use Rattle.eg_word.specs.declared.registers.Trap.{Trap}
 use Rattle.eg_word.specs.declared.registers.State.{State}
 use Rattle.eg_word.specs.declared.registers.State.TheVariants.{Running, Waiting, Trapped}
 use Rattle.eg_word.specs.declared.registers.Registers.{Registers}
-use Rattle.eg_word.specs.World.{View, World, world_step}
+use Rattle.eg_word.specs.Memory.{is_level1_own}
+use Rattle.eg_word.specs.World.{View, World, Shows, world_of, world_step}
 
 -- the state in which a slice begins: a machine that waits runs again
 unfoldable pub wake : State → State
@@ -23,3 +26,16 @@ steps (suc count) view world = steps count view (world_step view world)
 -- the world after a slice: it is woken, and then does as many steps as the budget says
 abbrev pub world_slice : View → ℕ → World → World
 world_slice view budget world = steps budget view (record world { registers = slice_start world.registers })
+
+-- A call for a slice of this budget, over a memory that shows a view, makes a slice of level 1's private world
+-- with that view; want of memory, which never comes over a sure memory, ends it after fewer steps. No word
+-- outside level 1's own regions changes. A machine that was trapped stays so, and changes nothing.
+pub record IsSlice {T E : Type 0} (budget : ℕ) (m now : Registers) (old new : ShownMemory) (result : Result T E) : Type 0 where
+  pub world : (view : View) → Shows old.words view
+      → OnOk result (world_of now new.words ≡ world_slice view budget (world_of m old.words))
+  pub ended : (view : View) → Shows old.words view → OnErr result ((count : ℕ) × (count < budget)
+      × (world_of now new.words ≡ world_slice view count (world_of m old.words)))
+  pub keeps : KeepsMemory old new result
+  pub outside : SameOutside is_level1_own old.words new.words
+  pub trapped : (trap : Trap) → m.state ≡ Trapped trap → now ≡ m
+  pub trapped_words : (trap : Trap) → m.state ≡ Trapped trap → new.words ≡ old.words

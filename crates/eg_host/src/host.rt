@@ -1,14 +1,15 @@
 // Level 1's machine, and the slices in which it runs.
-ghost use Rattle.std.specs.Prelude.{◌≡◌, ◌↔◌, ℕ, ◌<◌, IsTrue, IsOk, OnOk, OnErr};
-ghost use Rattle.eg_guard.specs.Memory.{AreWords, SameOutside};
-ghost use Rattle.eg_word.specs.declared.registers.Trap.{Trap};
-ghost use Rattle.eg_word.specs.declared.registers.State.TheVariants.{Running, Trapped};
-ghost use Rattle.eg_word.specs.Memory.{is_level1_own};
-ghost use Rattle.eg_word.specs.World.{View, Shows, world_of, new_registers};
+ghost use Rattle.std.specs.Prelude.{◌≡◌, ◌↔◌, IsTrue};
+ghost use Rattle.std.specs.Option.{option_copied, ForSome};
+ghost use Rattle.eg_word.specs.declared.registers.State.TheVariants.{Running};
+ghost use Rattle.eg_word.specs.Program.{IsProgramOf};
+ghost use Rattle.eg_word.specs.World.{new_registers};
 ghost use Rattle.eg_host.specs.Slices;
+ghost use Rattle.eg_host.specs.Slices.{IsSlice};
 
 use eg_base::NoMemory;
-use eg_word::{CodeMemory, Registers, State, step_on};
+use eg_guard::Guarded;
+use eg_word::{Program, Registers, State, step_on};
 
 /// Level 1, which runs in slices (docs/CONCEPT.md, "Level 1").
 #[derive(Clone, Copy, Debug, PartialEq, Eq)]
@@ -27,38 +28,48 @@ impl Host {
         }
     }
 
-    /// Wakes a machine that waits, and then does at most as many steps as the budget says.
+    /// Wakes a machine that waits, and then does at most as many steps as the budget says. NoMemory ends the
+    /// slice early.
+    pub fn slice<M: Guarded>(&mut self, memory: &mut M, budget: u16) -> Result<(), NoMemory>
+        ensures { IsSlice budget self.old.registers self.new.registers
+            (M.shows memory.old) (M.shows memory.new) result }
+    {
+        self.run(memory, None, budget)
+    }
+
+    /// The same for a caller that has the program of the memory's code, so that no word is decoded.
     #[inline(never)]
-    pub fn slice<M: CodeMemory>(&mut self, memory: &mut M, budget: u16) -> Result<(), NoMemory>
-        // Over a memory that shows a view it is a slice of level 1's private world with that view.
-        ensures world { (view : View) → Shows (M.shows memory.old).words view
-            → OnOk result (world_of self.new.registers (M.shows memory.new).words
-            ≡ Slices.world_slice view budget (world_of self.old.registers (M.shows memory.old).words)) }
+    pub fn slice_of<M: Guarded>(
+        &mut self,
+        program: &Program,
+        memory: &mut M,
+        budget: u16,
+    ) -> Result<(), NoMemory>
+        requires { IsProgramOf (M.shows memory.old).words program.now }
+        ensures { IsSlice budget self.old.registers self.new.registers
+            (M.shows memory.old) (M.shows memory.new) result }
+    {
+        self.run(memory, Some(program), budget)
+    }
 
-        // Want of memory never comes over a sure memory. It ends the slice after fewer steps.
-        ensures sure { IsTrue (M.shows memory.old).sure → IsOk result }
-        ensures stays_sure { (M.shows memory.new).sure ≡ (M.shows memory.old).sure }
-        ensures ended { (view : View) → Shows (M.shows memory.old).words view
-            → OnErr result ((count : ℕ) × (count < budget)
-            × (world_of self.new.registers (M.shows memory.new).words
-            ≡ Slices.world_slice view count (world_of self.old.registers (M.shows memory.old).words))) }
-
-        // No word outside level 1's own regions changes.
-        ensures outside { SameOutside is_level1_own (M.shows memory.old).words (M.shows memory.new).words }
-        ensures are_words { AreWords (M.shows memory.old).words → AreWords (M.shows memory.new).words }
-
-        // A machine that was trapped stays so, and changes nothing.
-        ensures trapped { (trap : Trap) → self.old.registers.state ≡ Trapped trap
-            → self.new.registers ≡ self.old.registers }
-        ensures trapped_words { (trap : Trap) → self.old.registers.state ≡ Trapped trap
-            → (M.shows memory.new).words ≡ (M.shows memory.old).words }
+    /// A slice with or without a program. Compiled for each apart.
+    #[inline(always)]
+    fn run<M: Guarded>(
+        &mut self,
+        memory: &mut M,
+        program: Option<&Program>,
+        budget: u16,
+    ) -> Result<(), NoMemory>
+        requires { ForSome (option_copied program) (IsProgramOf (M.shows memory.old).words) }
+        ensures { IsSlice budget self.old.registers self.new.registers
+            (M.shows memory.old) (M.shows memory.new) result }
     {
         self.registers.state = wake(self.registers.state);
         if !is_running(self.registers.state) {
             return Ok(());
         }
         for _done in 0..budget {
-            if !step_on(&mut self.registers, memory)? {
+            if !step_on(&mut self.registers, memory, program)? {
                 break;
             }
         }

@@ -1,4 +1,4 @@
 pub mod MachineLemmas
 pub mod WorldLemmas
 pub mod StepLaws
-mod CodeLemmas
+pub mod ProgramLemmas

@@ -2,4 +2,5 @@ pub mod Instructions
 pub mod Machine
 pub mod Memory
 pub mod World
-pub mod Decoded
+pub mod Program
+pub mod Steps

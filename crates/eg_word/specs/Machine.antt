@@ -1,6 +1,7 @@
 -- What one step makes of level 1's machine: the table of instructions.
 use Rattle.std.specs.Prelude.{ℕ, ◌+◌, ◌-◌, ◌*◌, ◌/◌, ◌%◌, ◌^◌, ℤ, if◌then◌else◌, ◌==◌, nat_lt, slice_index, slice_set, bit_and, bit_or, bit_xor, Option, Some, None}
 use Rattle.std.specs.Int.{w16, cast_unsigned}
+use Rattle.eg_guard.specs.declared.regions.TheConstants.{DATA}
 use Rattle.eg_guard.specs.declared.regions.Who.TheVariants.{Level1}
 use Rattle.eg_guard.specs.Regions.{access}
 use Rattle.eg_word.specs.declared.registers.Trap.{Trap}
@@ -91,7 +92,7 @@ fetch load m (Some word) = effect load m (instruction_of word)
 
 -- a step in a state: a machine that doesn't run stays as it is, and only code is fetched
 unfoldable pub step_in : State → (ℕ → Option ℕ) → Registers → Step
-step_in Running load m = if nat_lt m.pc 1024 then fetch load m (load m.pc) else trap m Fetch
+step_in Running load m = if nat_lt m.pc DATA then fetch load m (load m.pc) else trap m Fetch
 step_in Waiting load m = no_store m
 step_in (Trapped kind) load m = no_store m
 

@@ -1,6 +1,7 @@
 -- Level 1's private world: its machine, its words and its two outputs; and what it is shown besides.
 use Rattle.std.specs.Prelude.{◌≡◌, ℕ, ◌+◌, ◌-◌, ◌<◌, if◌then◌else◌, ◌==◌, List, slice_index, slice_set, replicate, Option, Some, None}
 use Rattle.std.specs.List.{slice_range}
+use Rattle.eg_guard.specs.declared.regions.TheConstants.{DATA, IN_PORTS, THROTTLE, IGNITION, RESULTS}
 use Rattle.eg_guard.specs.declared.regions.Region.{Region}
 use Rattle.eg_guard.specs.declared.regions.Region.TheVariants.{Code, Data, InPorts, OutPorts, Results, Protected, Link, None as NoRegion}
 use Rattle.eg_guard.specs.Regions.{region_of}
@@ -29,17 +30,17 @@ new_registers = record { r = replicate 8 0; pc = 0; state = Running }
 
 -- the world at its start
 unfoldable pub new_world : World
-new_world = record { registers = new_registers; words = replicate 1024 0; throttle = 0; ignition = 0 }
+new_world = record { registers = new_registers; words = replicate (IN_PORTS - DATA) 0; throttle = 0; ignition = 0 }
 
 -- ---- a step of the world ----
 
--- what level 1 sees at an address of a region; its outputs stand at 2064 and 2065
+-- what level 1 sees at an address of a region
 unfoldable pub sight_in : Region → View → World → ℕ → Option ℕ
 sight_in Code view world address = Some (slice_index view.image address)
-sight_in Data view world address = Some (slice_index world.words (address - 1024))
-sight_in InPorts view world address = Some (slice_index view.ports (address - 2048))
-sight_in OutPorts view world address = Some (if address == 2064 then world.throttle else world.ignition)
-sight_in Results view world address = Some (slice_index view.results (address - 2080))
+sight_in Data view world address = Some (slice_index world.words (address - DATA))
+sight_in InPorts view world address = Some (slice_index view.ports (address - IN_PORTS))
+sight_in OutPorts view world address = Some (if address == THROTTLE then world.throttle else world.ignition)
+sight_in Results view world address = Some (slice_index view.results (address - RESULTS))
 sight_in Protected view world address = None
 sight_in Link view world address = None
 sight_in NoRegion view world address = None
@@ -50,9 +51,9 @@ sight view world address = sight_in (region_of address) view world address
 
 -- the world after a store at an address of a region
 unfoldable pub after_store_in : Region → World → ℕ → ℕ → World
-after_store_in Data world address word = record world { words = slice_set world.words (address - 1024) word }
+after_store_in Data world address word = record world { words = slice_set world.words (address - DATA) word }
 after_store_in OutPorts world address word =
-    if address == 2064 then record world { throttle = word } else record world { ignition = word }
+    if address == THROTTLE then record world { throttle = word } else record world { ignition = word }
 after_store_in _ world address word = world
 
 -- the world after a store, if any
@@ -74,14 +75,14 @@ world_step view world = after_step world (step (sight view world) world.register
 unfoldable pub world_of : Registers → List ℕ → World
 world_of m words = record {
   registers = m;
-  words = slice_range words 1024 2048;
-  throttle = slice_index words 2064;
-  ignition = slice_index words 2065;
+  words = slice_range words DATA IN_PORTS;
+  throttle = slice_index words THROTTLE;
+  ignition = slice_index words IGNITION;
 }
 
 -- a memory of 4,096 words shows this view
 pub record Shows (words : List ℕ) (view : View) : Type 0 where
   pub are_words : AreWords words
-  pub image : (k : ℕ) → k < 1024 → slice_index words k ≡ slice_index view.image k
-  pub ports : (k : ℕ) → k < 10 → slice_index words (2048 + k) ≡ slice_index view.ports k
-  pub results : (k : ℕ) → k < 5 → slice_index words (2080 + k) ≡ slice_index view.results k
+  pub image : (k : ℕ) → k < DATA → slice_index words k ≡ slice_index view.image k
+  pub ports : (k : ℕ) → k < 10 → slice_index words (IN_PORTS + k) ≡ slice_index view.ports k
+  pub results : (k : ℕ) → k < 5 → slice_index words (RESULTS + k) ≡ slice_index view.results k

@@ -6,18 +6,16 @@
 //! built.
 #![tactic(auto)]
 
-mod code;
-mod decoded_memory;
 mod images;
 mod instruction;
 mod machine;
+mod program;
 mod register;
 mod registers;
 
-pub use code::CodeMemory;
-pub use decoded_memory::DecodedMemory;
 pub use images::{FULL, IDLE};
 pub use instruction::{Instruction, decode};
 pub use machine::{step, step_on};
+pub use program::Program;
 pub use register::Register;
 pub use registers::{Registers, State, Trap};

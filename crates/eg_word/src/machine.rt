@@ -1,129 +1,89 @@
 // One step of level 1's machine over a guarded memory.
-ghost use Rattle.std.specs.Prelude.{◌≡◌, ◌≢◌, IsTrue, IsFalse, IsOk, IfOk, OnOk, OnErr};
-ghost use Rattle.eg_guard.specs.Memory.{AreWords, SameOutside};
+ghost use Rattle.std.specs.Prelude.{◌≡◌, ◌≢◌, IsTrue, IsFalse, IfOk};
+ghost use Rattle.std.specs.Option.{option_copied, ForSome};
 ghost use Rattle.eg_word.specs.declared.registers.State.TheVariants.{Running, Trapped};
-ghost use Rattle.eg_word.specs.Machine.{effect, load_into, store_at};
-ghost use Rattle.eg_word.specs.Memory.{load_from, put, registers_after, words_after, is_level1_own};
-ghost use Rattle.eg_word.specs.World.{View, Shows, world_of, world_step};
+ghost use Rattle.eg_word.specs.Machine.{effect, load_into, store_at, step as one_step};
+ghost use Rattle.eg_word.specs.Memory.{load_from};
+ghost use Rattle.eg_word.specs.Program.{IsProgramOf};
+ghost use Rattle.eg_word.specs.Steps.{Makes, IsOneStep};
 
-use crate::{CodeMemory, Instruction, Register, Registers, State, Trap};
+use crate::program::instruction_at;
+use crate::{Instruction, Program, Register, Registers, State, Trap};
 use eg_base::NoMemory;
 use eg_guard::{Guarded, StoreRefusal, Who};
 
 /// One step of level 1's machine over a guarded memory: the instruction at `pc` is done
-/// (docs/CONCEPT.md, "Level 1").
+/// (docs/CONCEPT.md, "Level 1"). NoMemory changes nothing.
 #[tactic(auto, using(crate::proofs::StepLaws::step_laws))]
-pub fn step<M: CodeMemory>(registers: &mut Registers, memory: &mut M) -> Result<(), NoMemory>
-    // The step is the table of instructions.
-    ensures registers { OnOk result
-        (registers.new ≡ registers_after (M.shows memory.old).words registers.old) }
-    ensures words { OnOk result
-        ((M.shows memory.new).words ≡ words_after (M.shows memory.old).words registers.old) }
+pub fn step<M: Guarded>(registers: &mut Registers, memory: &mut M) -> Result<(), NoMemory>
+    // It is one step of the table of instructions, and of level 1's private world.
+    ensures step { IsOneStep registers.old registers.new (M.shows memory.old) (M.shows memory.new) result }
 
     // A machine that doesn't run stays as it is, and changes nothing.
     ensures idle { registers.old.state ≢ Running → registers.new ≡ registers.old }
     ensures idle_words { registers.old.state ≢ Running
         → (M.shows memory.new).words ≡ (M.shows memory.old).words }
 
-    // NoMemory changes nothing, and never comes over a sure memory.
-    ensures unchanged { OnErr result (registers.new ≡ registers.old) }
-    ensures memory_unchanged { OnErr result (M.shows memory.new ≡ M.shows memory.old) }
-    ensures sure { IsTrue (M.shows memory.old).sure → IsOk result }
-    ensures stays_sure { (M.shows memory.new).sure ≡ (M.shows memory.old).sure }
-    ensures are_words { AreWords (M.shows memory.old).words → AreWords (M.shows memory.new).words }
-
-    // No word outside level 1's own regions changes.
-    ensures outside { SameOutside is_level1_own (M.shows memory.old).words (M.shows memory.new).words }
-
     // A trap leaves registers, pc and memory.
     ensures trap { (trap : Trap) → registers.new.state ≡ Trapped trap
         → registers.new ≡ record registers.old { state = Trapped trap } }
     ensures trap_words { (trap : Trap) → registers.new.state ≡ Trapped trap
         → (M.shows memory.new).words ≡ (M.shows memory.old).words }
-
-    // Over a memory that shows a view it is a step of level 1's private world with that view.
-    ensures world { (view : View) → Shows (M.shows memory.old).words view
-        → OnOk result (world_of registers.new (M.shows memory.new).words
-        ≡ world_step view (world_of registers.old (M.shows memory.old).words)) }
 {
     advance(registers, memory)
 }
 
-/// One step of a machine that runs, as `step` does it, which also tells whether the machine runs on.
-///
-/// Who makes many steps needn't look at the state before each of them.
+/// One step of a machine that runs, as `step` does it, which also tells whether the machine runs on: who makes
+/// many steps needn't look at the state before each of them. Where the caller has the program of the memory's
+/// code no word is decoded.
 #[inline]
 #[tactic(auto, using(crate::proofs::StepLaws::step_laws))]
-pub fn step_on<M: CodeMemory>(registers: &mut Registers, memory: &mut M) -> Result<bool, NoMemory>
+pub fn step_on<M: Guarded>(
+    registers: &mut Registers,
+    memory: &mut M,
+    program: Option<&Program>,
+) -> Result<bool, NoMemory>
     requires running { registers.old.state ≡ Running }
-
-    // The step is the table of instructions.
-    ensures registers { OnOk result
-        (registers.new ≡ registers_after (M.shows memory.old).words registers.old) }
-    ensures words { OnOk result
-        ((M.shows memory.new).words ≡ words_after (M.shows memory.old).words registers.old) }
+    requires program { ForSome (option_copied program) (IsProgramOf (M.shows memory.old).words) }
+    ensures step { IsOneStep registers.old registers.new (M.shows memory.old) (M.shows memory.new) result }
 
     // The machine runs on exactly where the answer is true.
     ensures runs { IfOk result (λ runs. IsTrue runs → registers.new.state ≡ Running) }
     ensures ends { IfOk result (λ runs. IsFalse runs → registers.new.state ≢ Running) }
-
-    // NoMemory changes nothing, and never comes over a sure memory.
-    ensures unchanged { OnErr result (registers.new ≡ registers.old) }
-    ensures memory_unchanged { OnErr result (M.shows memory.new ≡ M.shows memory.old) }
-    ensures sure { IsTrue (M.shows memory.old).sure → IsOk result }
-    ensures stays_sure { (M.shows memory.new).sure ≡ (M.shows memory.old).sure }
-    ensures are_words { AreWords (M.shows memory.old).words → AreWords (M.shows memory.new).words }
-
-    // No word outside level 1's own regions changes.
-    ensures outside { SameOutside is_level1_own (M.shows memory.old).words (M.shows memory.new).words }
-
-    // Over a memory that shows a view it is a step of level 1's private world with that view.
-    ensures world { (view : View) → Shows (M.shows memory.old).words view
-        → OnOk result (world_of registers.new (M.shows memory.new).words
-        ≡ world_step view (world_of registers.old (M.shows memory.old).words)) }
 {
-    fetch(registers, memory)
+    fetch(registers, memory, program)
 }
 
 /// A step by its table alone: does the instruction at `pc`, where the machine runs.
 #[inline]
 #[tactic(auto, unfolding(crate::specs::Machine::step_in, crate::specs::Memory::load_from))]
-fn advance<M: CodeMemory>(registers: &mut Registers, memory: &mut M) -> Result<(), NoMemory>
-    ensures registers { OnOk result
-        (registers.new ≡ registers_after (M.shows memory.old).words registers.old) }
-    ensures words { OnOk result
-        ((M.shows memory.new).words ≡ words_after (M.shows memory.old).words registers.old) }
-    ensures unchanged { OnErr result (registers.new ≡ registers.old) }
-    ensures memory_unchanged { OnErr result (M.shows memory.new ≡ M.shows memory.old) }
-    ensures sure { IsTrue (M.shows memory.old).sure → IsOk result }
-    ensures stays_sure { (M.shows memory.new).sure ≡ (M.shows memory.old).sure }
-    ensures are_words { AreWords (M.shows memory.old).words → AreWords (M.shows memory.new).words }
+fn advance<M: Guarded>(registers: &mut Registers, memory: &mut M) -> Result<(), NoMemory>
+    ensures { Makes (one_step (load_from (M.shows memory.old).words) registers.old) registers.old
+        registers.new (M.shows memory.old) (M.shows memory.new) result }
 {
     let State::Running = registers.state else {
         return Ok(());
     };
-    fetch(registers, memory)?;
+    fetch(registers, memory, None)?;
     Ok(())
 }
 
 /// Does the instruction at `pc`, and tells whether the machine runs on.
 #[inline]
-#[tactic(auto, using(crate::proofs::CodeLemmas::code_loaded), unfolding(crate::specs::Machine::step_in))]
-fn fetch<M: CodeMemory>(registers: &mut Registers, memory: &mut M) -> Result<bool, NoMemory>
+#[tactic(auto, using(crate::proofs::ProgramLemmas::code_loaded), unfolding(crate::specs::Machine::step_in))]
+fn fetch<M: Guarded>(
+    registers: &mut Registers,
+    memory: &mut M,
+    program: Option<&Program>,
+) -> Result<bool, NoMemory>
     requires running { registers.old.state ≡ Running }
-    ensures registers { OnOk result
-        (registers.new ≡ registers_after (M.shows memory.old).words registers.old) }
-    ensures words { OnOk result
-        ((M.shows memory.new).words ≡ words_after (M.shows memory.old).words registers.old) }
+    requires program { ForSome (option_copied program) (IsProgramOf (M.shows memory.old).words) }
+    ensures makes { Makes (one_step (load_from (M.shows memory.old).words) registers.old) registers.old
+        registers.new (M.shows memory.old) (M.shows memory.new) result }
     ensures runs { IfOk result (λ runs. IsTrue runs → registers.new.state ≡ Running) }
     ensures ends { IfOk result (λ runs. IsFalse runs → registers.new.state ≢ Running) }
-    ensures unchanged { OnErr result (registers.new ≡ registers.old) }
-    ensures memory_unchanged { OnErr result (M.shows memory.new ≡ M.shows memory.old) }
-    ensures sure { IsTrue (M.shows memory.old).sure → IsOk result }
-    ensures stays_sure { (M.shows memory.new).sure ≡ (M.shows memory.old).sure }
-    ensures are_words { AreWords (M.shows memory.old).words → AreWords (M.shows memory.new).words }
 {
-    let Ok(instruction) = memory.instruction(registers.pc) else {
+    let Ok(instruction) = instruction_at(program, memory, registers.pc) else {
         return Ok(registers.trap(Trap::Fetch));
     };
     execute(instruction, registers, memory)
@@ -136,17 +96,10 @@ fn execute<M: Guarded>(
     registers: &mut Registers,
     memory: &mut M,
 ) -> Result<bool, NoMemory>
-    ensures registers { OnOk result (registers.new
-        ≡ (effect (load_from (M.shows memory.old).words) registers.old instruction).registers) }
-    ensures words { OnOk result ((M.shows memory.new).words ≡ put (M.shows memory.old).words
-        (effect (load_from (M.shows memory.old).words) registers.old instruction).stored) }
+    ensures makes { Makes (effect (load_from (M.shows memory.old).words) registers.old instruction)
+        registers.old registers.new (M.shows memory.old) (M.shows memory.new) result }
     ensures runs { IfOk result (λ runs. IsTrue runs → registers.new.state ≡ registers.old.state) }
     ensures ends { IfOk result (λ runs. IsFalse runs → registers.new.state ≢ Running) }
-    ensures unchanged { OnErr result (registers.new ≡ registers.old) }
-    ensures memory_unchanged { OnErr result (M.shows memory.new ≡ M.shows memory.old) }
-    ensures sure { IsTrue (M.shows memory.old).sure → IsOk result }
-    ensures stays_sure { (M.shows memory.new).sure ≡ (M.shows memory.old).sure }
-    ensures are_words { AreWords (M.shows memory.old).words → AreWords (M.shows memory.new).words }
 {
     let runs = match instruction {
         Instruction::Nop => registers.jump(registers.next()),
@@ -214,16 +167,10 @@ fn store<M: Guarded>(
     address: u16,
     word: u16,
 ) -> Result<bool, NoMemory>
-    ensures registers { OnOk result (registers.new ≡ (store_at registers.old address word).registers) }
-    ensures words { OnOk result ((M.shows memory.new).words
-        ≡ put (M.shows memory.old).words (store_at registers.old address word).stored) }
+    ensures makes { Makes (store_at registers.old address word) registers.old registers.new
+        (M.shows memory.old) (M.shows memory.new) result }
     ensures runs { IfOk result (λ runs. IsTrue runs → registers.new.state ≡ registers.old.state) }
     ensures ends { IfOk result (λ runs. IsFalse runs → registers.new.state ≢ Running) }
-    ensures unchanged { OnErr result (registers.new ≡ registers.old) }
-    ensures memory_unchanged { OnErr result (M.shows memory.new ≡ M.shows memory.old) }
-    ensures sure { IsTrue (M.shows memory.old).sure → IsOk result }
-    ensures stays_sure { (M.shows memory.new).sure ≡ (M.shows memory.old).sure }
-    ensures are_words { AreWords (M.shows memory.old).words → AreWords (M.shows memory.new).words }
 {
     let runs = match memory.store(Who::Level1, address, word) {
         Ok(()) => registers.jump(registers.next()),

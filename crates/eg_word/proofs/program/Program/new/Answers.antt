@@ -1,0 +1,11 @@
+use Rattle.eg_word.proofs.ProgramLemmas.{program-begins, program-more}
+use Rattle.std.proofs.Common.{ap, slice_set, rules}
+use Rattle.eg_word.proofs.program.Program.new.Goals as goal
+
+pub loop-address-init : goal.loop-address-init
+loop-address-init c = program-begins _ c.clear_code-code.ensures
+
+pub loop-address-preserved : goal.loop-address-preserved
+loop-address-preserved c =
+    program-more c.args.image.now c.loop-address.code c.loop-address.address c.loop-address.invariant (search rules)
+    _ (ap (slice_set c.loop-address.code c.loop-address.address) c.decode.ensures)

@@ -1,0 +1,94 @@
+// The code of level 1 as instructions.
+ghost use Rattle.std.specs.Prelude.{◌≡◌, ◌<◌, ◌≤◌, ◌↔◌, length, replicate, slice_index, slice_index_or, IsOk, IfOk};
+ghost use Rattle.std.specs.Option.{option_copied, ForSome};
+ghost use Rattle.eg_guard.specs.declared.regions.TheConstants.{DATA as CODE_END};
+ghost use Rattle.eg_word.specs.declared.instruction.Instruction.{Instruction};
+ghost use Rattle.eg_word.specs.Instructions.{instruction_of};
+ghost use Rattle.eg_word.specs.Program.{IsProgramOf};
+
+use crate::{Instruction, decode};
+use eg_guard::{DATA, Guarded, Refused, Who};
+use std::marker::Model;
+
+/// The code of level 1 as instructions (docs/CONCEPT.md, "Level 1"): each of its 1,024 words is decoded once,
+/// and not at each step. Neither level 1 nor level 2 can change a word of the code.
+///
+/// Contracts see the list of the instructions.
+#[derive(Drop)]
+pub struct Program {
+    code: [Instruction; DATA as usize],
+}
+
+impl Model for Program {
+    ghost use Rattle.std.specs.Prelude.{List};
+    ghost use Rattle.eg_word.specs.declared.instruction.Instruction.{Instruction};
+
+    ghost Value = { List Instruction };
+
+    ghost view = { λ p. p.code };
+}
+
+impl Program {
+    /// The program of an image of at most 1,024 words, with 0 past its end.
+    #[tactic(auto, using(crate::proofs::ProgramLemmas::programs))]
+    pub fn new(image: &[u16]) -> Program
+        requires { length image.now ≤ CODE_END }
+        ensures { IsProgramOf image.now result }
+    {
+        let mut code = clear_code();
+        for (address, word) in image.iter().enumerate() {
+            code[address] = decode(*word);
+        }
+        Program { code }
+    }
+
+    /// The instruction at an address of the code.
+    #[inline]
+    fn at(&self, address: u16) -> Instruction
+        requires { address < CODE_END }
+        ensures { (past : Instruction) → result ≡ slice_index_or self.now address past }
+    {
+        self.code[usize::from(address)]
+    }
+}
+
+/// The code of which every word is 0.
+fn clear_code() -> [Instruction; DATA as usize]
+    ensures { result ≡ replicate CODE_END (instruction_of 0) }
+{
+    [decode(0); DATA as usize]
+}
+
+/// The instruction at that address: that of the program, where the caller has it, else the word that stands in
+/// the memory is decoded. Refused exactly outside the code.
+#[inline]
+pub(crate) fn instruction_at<M: Guarded>(
+    program: Option<&Program>,
+    memory: &M,
+    address: u16,
+) -> Result<Instruction, Refused>
+    requires { ForSome (option_copied program) (IsProgramOf (M.shows memory.now).words) }
+    ensures allowed { IsOk result ↔ address < CODE_END }
+    ensures instruction { IfOk result
+        (λ it. it ≡ instruction_of (slice_index (M.shows memory.now).words address)) }
+{
+    if address >= DATA {
+        return Err(Refused);
+    }
+    match program {
+        Some(program) => Ok(program.at(address)),
+        None => loaded(memory, address),
+    }
+}
+
+/// Loads a word of the code, and decodes it.
+#[tactic(auto, using(crate::proofs::ProgramLemmas::code_loads))]
+fn loaded<M: Guarded>(memory: &M, address: u16) -> Result<Instruction, Refused>
+    requires { address < CODE_END }
+    ensures loads { IsOk result }
+    ensures instruction { IfOk result
+        (λ it. it ≡ instruction_of (slice_index (M.shows memory.now).words address)) }
+{
+    let word = memory.load(Who::Level1, address)?;
+    Ok(decode(word))
+}
