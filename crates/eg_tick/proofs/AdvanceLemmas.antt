@@ -105,9 +105,10 @@ pub record Advance (old new : Kept) (drive : DriveRow) (budgets : List ℕ) (und
   pub sends : task.sends ≡ sends_at (effects under old.ticks) old.cal.times old.ticks
   pub asked : task.asked ≡ asked_at (effects under old.ticks) old.monitor.times (length old.cal.questions) old.ticks
   pub readings : (e : Entry) → e.drive ≡ drive → e.shown ≡ new.shown → task.readings ≡ readings_at (effects under old.ticks) e
-  pub served : (s : Setting) (e : Entry) (h : List Entry) → Serves s e h made under task budgets old.registers old.memory.words
+  pub slices : task.slices ≡ budgets
+  pub served : (s : Setting) (e : Entry) (h : List Entry) → Serves s e h made under task old.registers old.memory.words
       → Served s e h new.registers new.memory.words
-  pub step : (s : Setting) (e : Entry) (h : List Entry) → Serves s e h made under task budgets old.registers old.memory.words → IsStep s e h done
+  pub step : (s : Setting) (e : Entry) (h : List Entry) → Serves s e h made under task old.registers old.memory.words → IsStep s e h done
   pub holds : (s : Setting) (e : Entry) (h : List Entry) → ComesNext s under old.ticks done.answer old.monitor e h → HoldsMonitor s new.monitor (e ∷ h)
   pub tells : (s : Setting) (e : Entry) (h : List Entry) → ComesNext s under old.ticks done.answer old.monitor e h → Tells judged (next s e h)
   pub cal : new.cal ≡ old.cal
@@ -139,7 +140,7 @@ module _ (old new : Kept) (drive : DriveRow) (budgets : List ℕ) (made : Level2
       (advance.path2 ∙ ap (λ t. (effects old.fault t).conducts 2 old.open2) stands.count)
       ∙ on-is s h old stands
 
-  serves : Serves s e h made old.fault task budgets old.registers old.memory.words
+  serves : Serves s e h made old.fault task old.registers old.memory.words
   unfolding effects_after entry_of
   serves = record {
     accepted = advance.accepted;
@@ -150,8 +151,8 @@ module _ (old new : Kept) (drive : DriveRow) (budgets : List ℕ) (made : Level2
       sends = advance.sends ∙ ap (λ t. sends_at (effects old.fault t) old.cal.times t) stands.count;
       asked = advance.asked ∙ stands-asked s old h stands;
       readings = advance.readings e refl refl ∙ ap (λ t. readings_at (effects old.fault t) e) stands.count;
+      slices = sym advance.slices;
     };
-    slices = refl;
     short = let few = advance.few in let count = stands.count in omega arith;
     level1 = stands.level1;
     level2 = stands.level2;

@@ -15,6 +15,7 @@ use Rattle.eg_level2.specs.Modules.{answer_after, order_after, given_up, finding
 use Rattle.eg_flow.specs.Ticks.{after_module}
 use Rattle.eg_fault.specs.Faults.{IsNoneOrValid}
 use Rattle.eg_agree.proofs.FlipLemmas.{faults_check_flips}
+use Rattle.eg_tick.specs.declared.working.Task.{Task}
 use Rattle.eg_tick.specs.Midway.{Work, IsMidway, Meets, step_at}
 use Rattle.eg_tick.proofs.MidwayLemmas.{module-midway}
 
@@ -58,21 +59,21 @@ runs-flipped true true gone plain idle r u = refl
 runs-flipped true false gone plain idle r u = absurd (let clash : false ≡ true = u in cc)
 runs-flipped false up gone plain idle r u = absurd (let clash : false ≡ true = r in cc)
 
-module _ (parts : Level2Parts) (fault : Option Fault) (tick : ℕ) (sends : Bool) (w : Work) (i : ℕ) (m : Registers) (old : List ℕ)
-    (meets : Meets parts (effects fault tick) tick sends w.doing) (is : IsMidway w i 0 m old) (flips : is_some (effects fault tick).flip ≡ true) where
+module _ (parts : Level2Parts) (fault : Option Fault) (task : Task) (w : Work) (i : ℕ) (m : Registers) (old : List ℕ)
+    (meets : Meets parts (effects fault task.tick) task w.doing) (is : IsMidway w i 0 m old) (flips : is_some (effects fault task.tick).flip ≡ true) where
   differs : w.doing.differs ≡ true
   differs = meets.differs ∙ flips
 
   runs : w.doing.ran 0 ≡ true
-  runs = ap (λ (f : ℕ → Bool). f 0) meets.ran ∙ faults_check_flips fault tick flips
+  runs = ap (λ (f : ℕ → Bool). f 0) meets.ran ∙ faults_check_flips fault task.tick flips
 
-  gives-up : (words : Words) → given_up tick ≡ after_module w.doing 0 words
+  gives-up : (words : Words) → given_up task.tick ≡ after_module w.doing 0 words
   unfolding after_module
   gives-up words = ap given_up (sym meets.at) ∙ runs-flipped (w.doing.ran 0) w.doing.differs (given_up w.doing.tick) _ words runs differs
 
   pub flipped_module : {T E : Type 0} (result : Result T E) (flipped new : List ℕ) → AreWords new
       → SameOutside is_level2_own old flipped → SameOutside is_level2_own flipped new → OnOk result (AreMirrored new)
-      → OnOk result (words_of new ≡ given_up tick) → OnOk result (IsMidway w i 1 m new)
+      → OnOk result (words_of new ≡ given_up task.tick) → OnOk result (IsMidway w i 1 m new)
   flipped_module (Ok y) flipped new are before after mirrored made =
       module-midway w i 0 m old new are (λ address outside. after address outside ∙ before address outside) mirrored (made ∙ gives-up (words_of old)) is
   flipped_module (Err y) flipped new are before after mirrored made = tt

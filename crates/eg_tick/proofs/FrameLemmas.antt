@@ -1,21 +1,26 @@
 -- What stays in the memory while somebody else stores: the regions of level 1, of level 2 and of the board lie
 -- apart.
-use Rattle.std.proofs.Common.{◌≡◌, ◌∙◌, refl, ap, inl, inr, ℕ, ◌+◌, ◌≤◌, ◌<◌, ◌⊎◌, Bool, true, false, List, slice_index, arith}
+use Rattle.std.proofs.Common.{◌≡◌, ◌∙◌, refl, sym, ap, subst, inl, inr, ℕ, ◌+◌, ◌≤◌, ◌<◌, ◌⊎◌, Bool, true, false, List, slice_index, arith}
+use Rattle.std.proofs.lemmas.Bool.{lt-ltb, le-ltb, cases_lt}
 use Rattle.std.proofs.lemmas.Bool.Decides.{nat_tests}
 use Rattle.eg_guard.specs.declared.regions.Region.{Region}
 use Rattle.eg_guard.specs.declared.regions.Region.TheVariants.{Code, Data, InPorts, OutPorts, Results, Protected, Link, None as NoRegion}
 use Rattle.eg_guard.specs.Regions.{region_of}
 use Rattle.eg_guard.specs.Memory.{AreWords, SameOutside}
 use Rattle.eg_guard.proofs.AccessLemmas.{code-is, in_ports-is, results-is}
+use Rattle.std.specs.Prelude.{Result, Ok, Err, OnOk}
+use Rattle.eg_answer.specs.declared.rules.Rules.{Rules}
+use Rattle.eg_word.specs.declared.instruction.Instruction.{Instruction}
+use Rattle.eg_word.proofs.ProgramLemmas.{program-stays}
 use Rattle.eg_word.specs.declared.registers.Registers.{Registers}
 use Rattle.eg_word.specs.Memory.{is_level1_own}
 use Rattle.eg_word.specs.World.{world_of}
 use Rattle.eg_word.proofs.WorldLemmas.{world_of-elsewhere}
-use Rattle.eg_level2.specs.Words.{place, word_at, named, words_of, AreMirrored, is_level2_own}
+use Rattle.eg_level2.specs.Words.{place, word_at, named, words_of, AreMirrored, AreWithin, is_level2_own}
 use Rattle.eg_level2.specs.Inputs.{readings_of, asked_of}
 use Rattle.eg_level2.proofs.PlaceLemmas.{place_is}
 use Rattle.eg_tick.specs.Board.{is_board_own}
-use Rattle.eg_tick.specs.Midway.{Work, IsSet}
+use Rattle.eg_tick.specs.Midway.{Work, IsSet, IsReady}
 
 -- ---- where things stand ----
 
@@ -178,3 +183,37 @@ module _ (old new : List ℕ) (same : SameOutside is_board_own old new) where
 
 pub world-stays : (m : Registers) (old new : List ℕ) → AreWords old → AreWords new → SameOutside is_level2_own old new → world_of m new ≡ world_of m old
 world-stays m old new were are same = world_of-elsewhere m old new were are (λ address own. same address (own-apart (region_of address) own))
+
+-- ---- what stands before each turn ----
+
+-- the memory is ready where the program, level 2's words and the mirrors stay
+made-ready : (rules : Rules) (program : List Instruction) (old new : List ℕ) → AreWords new → ((k : ℕ) → k < 1024 → slice_index new k ≡ slice_index old k)
+    → AreMirrored new → AreWithin rules (words_of new) → IsReady rules program old → IsReady rules program new
+made-ready rules program old new are code mirrored within is = record {
+  are_words = are;
+  mirrored = mirrored;
+  within = within;
+  decoded = program-stays old new program code is.decoded;
+}
+
+-- after a slice of level 1
+pub ready-level1 : (rules : Rules) (program : List Instruction) (old new : List ℕ) → SameOutside is_level1_own old new → AreWords new
+    → IsReady rules program old → IsReady rules program new
+ready-level1 rules program old new same are is =
+    made-ready rules program old new are (code-stays is_level1_own level1_leaves old new same) (mirrors-stay old new same is.mirrored)
+    (subst (AreWithin rules) (sym (words-stay old new same)) is.within) is
+
+-- after the board has shown readings and question
+pub ready-board : (rules : Rules) (program : List Instruction) (old new : List ℕ) → SameOutside is_board_own old new → AreWords new
+    → IsReady rules program old → IsReady rules program new
+ready-board rules program old new same are is =
+    made-ready rules program old new are (shown-code old new same) (shown-mirrors old new same is.mirrored)
+    (subst (AreWithin rules) (sym (shown-words old new same)) is.within) is
+
+-- after a module of level 2
+pub ready-level2 : {T E : Type 0} (result : Result T E) (rules : Rules) (program : List Instruction) (old new : List ℕ) → SameOutside is_level2_own old new
+    → AreWords new → OnOk result (AreMirrored new) → OnOk result (AreWithin rules (words_of new)) → IsReady rules program old
+    → OnOk result (IsReady rules program new)
+ready-level2 (Ok x) rules program old new same are mirrored within is =
+    made-ready rules program old new are (code-stays is_level2_own level2_leaves old new same) mirrored within is
+ready-level2 (Err e) rules program old new same are mirrored within is = tt

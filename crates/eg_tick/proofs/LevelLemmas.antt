@@ -12,6 +12,7 @@ use Rattle.eg_level2.specs.Words.{words_of, AreMirrored, is_level2_own}
 use Rattle.eg_level2.specs.Inputs.{Level2Parts, Inputs, inputs_of}
 use Rattle.eg_level2.specs.Modules.{module_step, step_of, answer_after, order_after, found_by, quiet_step, given_up, finding, mirror_alone}
 use Rattle.eg_flow.specs.Ticks.{inputs_for, after_module, after_modules}
+use Rattle.eg_tick.specs.declared.working.Task.{Task}
 use Rattle.eg_tick.specs.Midway.{Work, IsSet, IsMidway, Meets, step_at}
 use Rattle.eg_tick.proofs.MidwayLemmas.{slice-midway, module-midway}
 
@@ -29,10 +30,10 @@ slice_result (Err x) w j budget m n old new runs within row are same made is = t
 -- ---- a module ----
 
 -- what goes into a module is what the tick says
-inputs-same : (parts : Level2Parts) (x : Effects) (tick : ℕ) (sends : Bool) (w : Work) (j : ℕ) (memory : List ℕ) (mixed : ℕ) → mixed ≡ x.disturbance j → Meets parts x tick sends w.doing
-    → IsSet w memory → inputs_of parts memory tick sends mixed ≡ inputs_for w.doing j
+inputs-same : (parts : Level2Parts) (x : Effects) (task : Task) (w : Work) (j : ℕ) (memory : List ℕ) (mixed : ℕ) → mixed ≡ x.disturbance j → Meets parts x task w.doing
+    → IsSet w memory → inputs_of parts memory task.tick task.sends mixed ≡ inputs_for w.doing j
 unfolding inputs_of inputs_for
-inputs-same parts x tick sends w j memory mixed mixes meets set = λ i. record {
+inputs-same parts x task w j memory mixed mixes meets set = λ i. record {
   rules = sym meets.rules i;
   questions = sym meets.questions i;
   readings = set.readings i;
@@ -51,8 +52,8 @@ runs-not : {A : Type 0} (ran : Bool) (made idle : A) → ran ≡ false → (if r
 runs-not false made idle r = refl
 runs-not true made idle r = absurd (let clash : true ≡ false = r in cc)
 
-module _ (parts : Level2Parts) (x : Effects) (tick : ℕ) (sends : Bool) (w : Work) (i j : ℕ) (m : Registers) (old : List ℕ)
-    (meets : Meets parts x tick sends w.doing) (plain : (j == 0 && w.doing.differs) ≡ false) (is : IsMidway w i j m old) where
+module _ (parts : Level2Parts) (x : Effects) (task : Task) (w : Work) (i j : ℕ) (m : Registers) (old : List ℕ)
+    (meets : Meets parts x task w.doing) (plain : (j == 0 && w.doing.differs) ≡ false) (is : IsMidway w i j m old) where
   ran-is : (b : Bool) → x.ran j ≡ b → w.doing.ran j ≡ b
   ran-is b same = ap (λ (f : ℕ → Bool). f j) meets.ran ∙ same
 
@@ -70,10 +71,10 @@ module _ (parts : Level2Parts) (x : Effects) (tick : ℕ) (sends : Bool) (w : Wo
 
   module _ (mixed : ℕ) (mixes : mixed ≡ x.disturbance j) where
     abbrev inputs : Inputs
-    inputs = inputs_of parts old tick sends mixed
+    inputs = inputs_of parts old task.tick task.sends mixed
 
     inputs-are : inputs ≡ inputs_for w.doing j
-    inputs-are = inputs-same parts x tick sends w j old mixed mixes meets is.set
+    inputs-are = inputs-same parts x task w j old mixed mixes meets is.set
 
     pub module_result : {T E : Type 0} (result : Result T E) (new : List ℕ) → x.ran j ≡ true → (AreWords old → AreWords new) → SameOutside is_level2_own old new
         → OnOk result (AreMirrored new) → (AreMirrored old → OnOk result (words_of new ≡ module_step inputs j (words_of old)))

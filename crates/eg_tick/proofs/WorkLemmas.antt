@@ -38,8 +38,8 @@ tracks-are : (x : Effects) (truth : Readings) → by_tracks (readings_under x tr
 unfolding by_tracks readings_under
 tracks-are x truth = refl
 
-module _ (s : Setting) (e : Entry) (h : List Entry) (made : Level2Parts) (under : Option Fault) (given : Task) (budgets : List ℕ) (m : Registers) (old : List ℕ)
-    (serves : Serves s e h made under given budgets m old) where
+module _ (s : Setting) (e : Entry) (h : List Entry) (made : Level2Parts) (under : Option Fault) (given : Task) (m : Registers) (old : List ℕ)
+    (serves : Serves s e h made under given m old) where
   abbrev words : Words
   words = words_of old
 
@@ -54,7 +54,7 @@ module _ (s : Setting) (e : Entry) (h : List Entry) (made : Level2Parts) (under 
   effects-same : x ≡ effects under given.tick
   effects-same = ap₂ effects serves.fault (sym serves.task.tick)
 
-  meets : Meets made (effects under given.tick) given.tick given.sends w.doing
+  meets : Meets made (effects under given.tick) given w.doing
   unfolding work_at doing_at effects_after
   meets = record {
     rules = ap (λ (p : Level2Parts). p.rules) (sym serves.parts);
@@ -66,9 +66,9 @@ module _ (s : Setting) (e : Entry) (h : List Entry) (made : Level2Parts) (under 
     differs = ap (λ (y : Effects). is_some y.flip) effects-same;
   }
 
-  pub due : IsDue made (effects under given.tick) given.tick given.sends budgets w
+  pub due : IsDue made (effects under given.tick) given w
   unfolding work_at
-  due = record { meets = meets; level1 = ap (λ (y : Effects). y.level1) effects-same; budgets = serves.slices }
+  due = record { meets = meets; level1 = ap (λ (y : Effects). y.level1) effects-same; budgets = serves.task.slices }
 
   pub midway : (shown : List ℕ) → AreWords old → AreWords shown → SameOutside is_board_own old shown
       → readings_of shown ≡ by_tracks given.readings → asked_of shown ≡ given.asked → IsMidway w 0 0 m shown
@@ -86,9 +86,9 @@ module _ (s : Setting) (e : Entry) (h : List Entry) (made : Level2Parts) (under 
 
   -- ---- as it ends ----
 
-  pub served : (n : Registers) (new : List ℕ) → IsNoneOrValid under → length budgets ≡ 9 → IsMidway w 9 8 n new → Served s e h n new
+  pub served : (n : Registers) (new : List ℕ) → IsNoneOrValid under → length given.slices ≡ 9 → IsMidway w 9 8 n new → Served s e h n new
   served n new valid nine is =
-      let all : length e.slices ≡ 9 = ap length serves.slices ∙ nine in
+      let all : length e.slices ≡ 9 = ap length serves.task.slices ∙ nine in
       let short = serves.short in (
         level1-next s serves.accepted e h words serves.level2.words n new all is,
         level2-next s serves.accepted e h words serves.level2.words n new (subst IsNoneOrValid (sym serves.fault) valid) (omega (arith, short)) serves.level2.flow serves.level2.last is,

@@ -4,8 +4,12 @@ use Rattle.std.specs.Option.{option_or}
 use Rattle.eg_num.specs.declared.watches.Watches.{Watches}
 use Rattle.eg_word.specs.declared.registers.Registers.{Registers}
 use Rattle.eg_word.specs.World.{View, World, world_of}
+use Rattle.eg_word.specs.declared.instruction.Instruction.{Instruction}
+use Rattle.eg_word.specs.Program.{IsProgramOf}
+use Rattle.eg_guard.specs.declared.regions.TheConstants.{DATA}
 use Rattle.eg_guard.specs.Memory.{AreWords}
-use Rattle.eg_level2.specs.Words.{Words, AreMirrored, words_of}
+use Rattle.eg_answer.specs.declared.rules.Rules.{Rules}
+use Rattle.eg_level2.specs.Words.{Words, AreMirrored, AreWithin, words_of}
 use Rattle.eg_level2.specs.Inputs.{Level2Parts, readings_of, asked_of}
 use Rattle.eg_level2.specs.declared.step.Step.{Step}
 use Rattle.eg_level2.specs.Modules.{step_of, finding, mirror_alone, quiet_step}
@@ -18,6 +22,7 @@ use Rattle.eg_model.specs.Moments.{readings_at, moments}
 use Rattle.eg_model.specs.Rows.{signal_list}
 use Rattle.eg_agree.specs.Doings.{doing_at}
 use Rattle.eg_agree.specs.Standing.{signals_of}
+use Rattle.eg_tick.specs.declared.working.Task.{Task}
 
 -- What a tick begins with: the image, what level 2 meets (`doing`) and its words; whether level 1 runs, how
 -- many instructions it may do in each slice, and its world.
@@ -44,7 +49,7 @@ rest_of w j world = if w.level1 then slices_from j (view_at w) (drop j w.slices)
 -- what the board writes: the image, once, and at each tick the readings and the number of the question
 pub record IsSet (w : Work) (memory : List ℕ) : Type 0 where
   pub are_words : AreWords memory
-  pub code : (k : ℕ) → k < 1024 → slice_index memory k ≡ slice_index w.image k
+  pub code : (k : ℕ) → k < DATA → slice_index memory k ≡ slice_index w.image k
   pub readings : readings_of memory ≡ w.doing.readings
   pub asked : asked_of memory ≡ w.doing.asked
 
@@ -59,22 +64,29 @@ pub record IsMidway (w : Work) (slices modules : ℕ) (m : Registers) (memory : 
 
 -- ---- what level 2 meets ----
 
--- What a tick does to level 2 (`d`) is what its parts, and what is out of order at the tick, say.
-pub record Meets (parts : Level2Parts) (x : Effects) (tick : ℕ) (sends : Bool) (d : Doing) : Type 0 where
+-- What a tick does to level 2 (`d`) is what its parts, what is out of order at the tick, and its task say.
+pub record Meets (parts : Level2Parts) (x : Effects) (task : Task) (d : Doing) : Type 0 where
   pub rules : d.rules ≡ parts.rules
   pub questions : d.questions ≡ parts.questions
-  pub at : d.tick ≡ tick
-  pub sends_now : d.sends ≡ sends
+  pub at : d.tick ≡ task.tick
+  pub sends_now : d.sends ≡ task.sends
   pub ran : d.ran ≡ x.ran
   pub disturbance : d.disturbance ≡ x.disturbance
   pub differs : d.differs ≡ is_some x.flip
 
--- The work of a tick for these parts of level 2, with what is out of order at it, and with these slices.
-pub record IsDue (parts : Level2Parts) (x : Effects) (tick : ℕ) (sends : Bool) (slices : List ℕ)
-    (w : Work) : Type 0 where
-  pub meets : Meets parts x tick sends w.doing
+-- The work of a tick of this task for these parts of level 2, with what is out of order at it.
+pub record IsDue (parts : Level2Parts) (x : Effects) (task : Task) (w : Work) : Type 0 where
+  pub meets : Meets parts x task w.doing
   pub level1 : w.level1 ≡ x.level1
-  pub budgets : w.slices ≡ slices
+  pub budgets : w.slices ≡ task.slices
+
+-- What the memory holds before each turn, whatever the tick: 4,096 words; of level 2's words each has its
+-- complement, and no counter passes its limit; and the code is that of the program.
+pub record IsReady (rules : Rules) (program : List Instruction) (memory : List ℕ) : Type 0 where
+  pub are_words : AreWords memory
+  pub mirrored : AreMirrored memory
+  pub within : AreWithin rules (words_of memory)
+  pub decoded : IsProgramOf memory program
 
 -- what module i orders, answers and finds, where the words before the tick are these
 unfoldable pub step_at : Doing → ℕ → Words → Step

@@ -7,6 +7,7 @@ use Rattle.eg_values.specs.Calibration.{IsAccepted}
 use Rattle.eg_answer.specs.Periods.{period_of, place_of, expected_number, marked}
 use Rattle.eg_word.specs.declared.registers.Registers.{Registers}
 use Rattle.eg_word.specs.World.{world_of}
+use Rattle.eg_guard.specs.declared.regions.TheConstants.{DATA}
 use Rattle.eg_guard.specs.Memory.{AreWords}
 use Rattle.eg_level2.specs.Words.{AreMirrored, words_of}
 use Rattle.eg_module.specs.Monitoring.{MonitorParts, HasGiven}
@@ -27,7 +28,7 @@ use Rattle.eg_tick.specs.Kept.{Kept}
 
 -- The code is the image, with 0 past its end; machine, data and outputs are the world of the model.
 pub record HoldsLevel1 (s : Setting) (m : Registers) (memory : List ℕ) (past : List Moment) : Type 0 where
-  pub code : (k : ℕ) → k < 1024 → slice_index memory k ≡ slice_index s.image k
+  pub code : (k : ℕ) → k < DATA → slice_index memory k ≡ slice_index s.image k
   pub world : world_of m memory ≡ last_world past
 
 -- ---- level 2 ----

@@ -25,16 +25,16 @@ pub record IsTask (s : Setting) (e : Entry) (h : List Entry) (task : Task) : Typ
   pub sends : task.sends ≡ sends_at (effects_after s h) s.cal.times (length h)
   pub asked : task.asked ≡ asked_at (effects_after s h) s.cal.times (length s.cal.questions) (length h)
   pub readings : task.readings ≡ readings_at (effects_after s h) e
+  pub slices : e.slices ≡ task.slices
 
 -- At such a tick level 2 is made of the parts of an accepted calibration, and the memory holds what the model
 -- says of the history.
 pub record Serves (s : Setting) (e : Entry) (h : List Entry) (made : Level2Parts) (under : Option Fault)
-    (given : Task) (budgets : List ℕ) (m : Registers) (memory : List ℕ) : Type 0 where
+    (given : Task) (m : Registers) (memory : List ℕ) : Type 0 where
   pub accepted : IsAccepted s.cal
   pub parts : made ≡ record { rules = s.cal.rules; questions = s.cal.questions }
   pub fault : s.fault ≡ under
   pub task : IsTask s e h given
-  pub slices : e.slices ≡ budgets
   pub short : length h < 20000
   pub level1 : HoldsLevel1 s m memory (moments s h)
   pub level2 : HoldsLevel2 s memory h

@@ -1,32 +1,27 @@
 // What the board itself writes into the memory.
-ghost use Rattle.std.specs.Prelude.{◌≡◌, ℕ, ◌+◌, ◌<◌, ◌≤◌, length, slice_index, slice_set, bit_xor, [], ◌∷◌, IsTrue, IsOk, OnOk};
+ghost use Rattle.std.specs.Prelude.{◌≡◌, ℕ, ◌+◌, ◌<◌, ◌≤◌, length, slice_index, slice_set, bit_xor, [], ◌∷◌, IsTrue, OnOk};
 ghost use Rattle.eg_guard.specs.declared.regions.Who.TheVariants.{Board};
-ghost use Rattle.eg_guard.specs.Memory.{AreWords, SameOutside};
+ghost use Rattle.eg_guard.specs.Memory.{AreWords, SameOutside, KeepsMemory};
+ghost use Rattle.eg_guard.specs.declared.regions.TheConstants.{DATA as CODE_END, WORDS};
 ghost use Rattle.eg_guard.specs.Regions;
 ghost use Rattle.eg_level2.specs.Words.{place, word_at, AreMirrored, is_level2_own};
 ghost use Rattle.eg_level2.specs.Inputs.{readings_of, asked_of};
 ghost use Rattle.eg_tick.specs.Board.{IsWritten, is_board_own, by_tracks};
 
 use eg_base::NoMemory;
-use eg_guard::{Guarded, StoreRefusal, Who};
+use eg_guard::{Guarded, IN_PORTS, LINK, StoreRefusal, Who};
 use eg_level2::word_address;
 use eg_sensor::Readings;
 
-/// The first word of the code, the first input port, and the link (docs/FORMATS.md, "Memory map").
+/// The first word of the code (docs/FORMATS.md, "Memory map").
 const CODE: u16 = 0;
-
-const FIRST_PORT: u16 = 2048;
-
-const LINK: u16 = 2128;
 
 /// Stores a word, where one stands.
 fn put<M: Guarded>(memory: &mut M, address: u16, word: u16) -> Result<(), NoMemory>
     requires { IsTrue (Regions.access Board address).store }
     ensures stored { OnOk result
         ((M.shows memory.new).words ≡ slice_set (M.shows memory.old).words address word) }
-    ensures sure { IsTrue (M.shows memory.old).sure → IsOk result }
-    ensures stays_sure { (M.shows memory.new).sure ≡ (M.shows memory.old).sure }
-    ensures are_words { AreWords (M.shows memory.new).words }
+    ensures keeps { KeepsMemory (M.shows memory.old) (M.shows memory.new) result }
 {
     match memory.store(Who::Board, address, word) {
         Ok(()) => Ok(()),
@@ -50,13 +45,11 @@ pub(crate) fn load<M: Guarded>(memory: &M, address: u16) -> u16
 /// Stores these words from an address on.
 fn write<M: Guarded>(memory: &mut M, first: u16, values: &[u16]) -> Result<(), NoMemory>
     requires stored { (k : ℕ) → k < length values.now → IsTrue (Regions.access Board (first + k)).store }
-    requires within { first + length values.now ≤ 4096 }
+    requires within { first + length values.now ≤ WORDS }
     requires are_words { AreWords (M.shows memory.old).words }
     ensures written { OnOk result (IsWritten (M.shows memory.old).words (M.shows memory.new).words
         first values.now (length values.now)) }
-    ensures sure { IsTrue (M.shows memory.old).sure → IsOk result }
-    ensures stays_sure { (M.shows memory.new).sure ≡ (M.shows memory.old).sure }
-    ensures are_words { AreWords (M.shows memory.new).words }
+    ensures keeps { KeepsMemory (M.shows memory.old) (M.shows memory.new) result }
 {
     let mut address = first;
     for value in values {
@@ -69,13 +62,11 @@ fn write<M: Guarded>(memory: &mut M, first: u16, values: &[u16]) -> Result<(), N
 /// Loads the image that level 1 runs (docs/CONCEPT.md, "Level 1").
 #[tactic(auto, using(crate::proofs::BoardLemmas::board))]
 pub(crate) fn load_image<M: Guarded>(memory: &mut M, image: &[u16]) -> Result<(), NoMemory>
-    requires fits { length image.now ≤ 1024 }
+    requires fits { length image.now ≤ CODE_END }
     requires are_words { AreWords (M.shows memory.old).words }
     ensures written { OnOk result
         (IsWritten (M.shows memory.old).words (M.shows memory.new).words 0 image.now (length image.now)) }
-    ensures sure { IsTrue (M.shows memory.old).sure → IsOk result }
-    ensures stays_sure { (M.shows memory.new).sure ≡ (M.shows memory.old).sure }
-    ensures are_words { AreWords (M.shows memory.new).words }
+    ensures keeps { KeepsMemory (M.shows memory.old) (M.shows memory.new) result }
 {
     write(memory, CODE, image)
 }
@@ -93,9 +84,7 @@ pub(crate) fn show<M: Guarded>(
     ensures asked { OnOk result (asked_of (M.shows memory.new).words ≡ asked) }
     ensures outside { OnOk result
         (SameOutside is_board_own (M.shows memory.old).words (M.shows memory.new).words) }
-    ensures sure { IsTrue (M.shows memory.old).sure → IsOk result }
-    ensures stays_sure { (M.shows memory.new).sure ≡ (M.shows memory.old).sure }
-    ensures are_words { AreWords (M.shows memory.new).words }
+    ensures keeps { KeepsMemory (M.shows memory.old) (M.shows memory.new) result }
 {
     let ports = [
         readings.pedal[0],
@@ -109,7 +98,7 @@ pub(crate) fn show<M: Guarded>(
         readings.raise,
         readings.raise_check,
     ];
-    write(memory, FIRST_PORT, &ports)?;
+    write(memory, IN_PORTS, &ports)?;
     put(memory, LINK, asked)
 }
 
@@ -125,9 +114,7 @@ pub(crate) fn flip<M: Guarded>(memory: &mut M, word: u8, mask: u16) -> Result<()
         → OnOk result (¬ AreMirrored (M.shows memory.new).words) }
     ensures outside { OnOk result
         (SameOutside is_level2_own (M.shows memory.old).words (M.shows memory.new).words) }
-    ensures sure { IsTrue (M.shows memory.old).sure → IsOk result }
-    ensures stays_sure { (M.shows memory.new).sure ≡ (M.shows memory.old).sure }
-    ensures are_words { AreWords (M.shows memory.new).words }
+    ensures keeps { KeepsMemory (M.shows memory.old) (M.shows memory.new) result }
 {
     let address = word_address(u16::from(word));
     let before = load(memory, address);

@@ -2,6 +2,7 @@
 ghost use Rattle.std.specs.Prelude.{◌≡◌, ℕ, ◌+◌, ◌%◌, ◌^◌, ◌≤◌, ◌<◌, ◌||◌, true, false, length, replicate, List, [], ◌∷◌};
 ghost use Rattle.std.specs.Prelude.{IsTrue, IsOk, IsErr, IsSome, IfOk, OnOk, OnErr};
 ghost use Rattle.std.specs.Option.{option_or};
+ghost use Rattle.eg_guard.specs.declared.regions.TheConstants.{DATA as CODE_END, WORDS};
 ghost use Rattle.eg_model.specs.History.{Setting, Entry};
 ghost use Rattle.eg_model.specs.Paths.{on_at};
 ghost use Rattle.eg_model.specs.Level1.{last_world};
@@ -30,7 +31,7 @@ use eg_num::Drive;
 use eg_plant::Engine;
 use eg_record::Row;
 use eg_values::Calibration;
-use eg_word::{CodeMemory, State, Trap};
+use eg_word::{Program, State, Trap};
 use std::marker::Model;
 
 mod ticks;
@@ -45,6 +46,7 @@ pub struct Controller<E: Engine, M: Guarded> {
     fault: Option<Fault>,
     level2: Level2,
     monitor: Monitor,
+    program: Program,
     host: Host,
     memory: M,
     engine: E,
@@ -80,7 +82,7 @@ impl<E: Engine, M: Guarded> Model for Controller<E, M> {
       };
     } };
 
-    ghost invariant = { λ c. IsWhole c.calibration c.level2 (record {
+    ghost invariant = { λ c. IsWhole c.calibration c.level2 c.program (record {
       cal = c.calibration;
       fault = c.fault;
       ticks = c.ticks;
@@ -96,7 +98,7 @@ impl<E: Engine, M: Guarded> Model for Controller<E, M> {
     }) };
 }
 
-impl<E: Engine + Drop, M: CodeMemory + Drop> Controller<E, M> {
+impl<E: Engine + Drop, M: Guarded + Drop> Controller<E, M> {
     /// A controller that has made no tick (docs/CONCEPT.md, "The controller"): with this calibration, the
     /// image that level 1 runs (at most 1,024 words), the fault of the run, if any, which is a valid one, a
     /// memory of 0s, and an engine whose `kt` is that of the calibration. NoMemory gives up memory and
@@ -108,9 +110,9 @@ impl<E: Engine + Drop, M: CodeMemory + Drop> Controller<E, M> {
         memory: M,
         engine: E,
     ) -> Result<Controller<E, M>, NoMemory>
-        requires image { length image.now ≤ 1024 }
+        requires image { length image.now ≤ CODE_END }
         requires fault { IsNoneOrValid fault }
-        requires zeros { (M.shows memory).words ≡ replicate 4096 0 }
+        requires zeros { (M.shows memory).words ≡ replicate WORDS 0 }
         requires kt { E.kt engine ≡ calibration.rules.kt }
         // It stands for the history of this run without a tick.
         ensures stands { IfOk result (λ controller.
@@ -127,12 +129,14 @@ impl<E: Engine + Drop, M: CodeMemory + Drop> Controller<E, M> {
         load_image(&mut memory, image)?;
         let level2 = Level2::new(calibration.rules().copy(), calibration.questions().copy());
         level2.reset(&mut memory)?;
+        let program = Program::new(image);
         let monitor = Monitor::new(calibration.times().copy(), calibration.questions().copy());
         Ok(Controller {
             calibration,
             fault,
             level2,
             monitor,
+            program,
             host: Host::new(),
             memory,
             engine,
@@ -241,9 +245,11 @@ impl<E: Engine + Drop, M: CodeMemory + Drop> Controller<E, M> {
             asked: question(&self.monitor, questions, fault, tick),
             readings: readings(&self.engine, drive, fault, tick),
             lookup,
+            slices: *slices,
         };
-        let (level2, host, memory) = (&self.level2, &mut self.host, &mut self.memory);
-        let step = work(level2, fault, &task, slices, host, memory)?;
+        let (level2, program) = (&self.level2, &self.program);
+        let (host, memory) = (&mut self.host, &mut self.memory);
+        let step = work(level2, program, fault, &task, host, memory)?;
         let monitor = &mut self.monitor;
         let judged = judge(monitor, questions, fault, tick, task.asked, step.answer);
         self.open1 = either(step.open_path, self.open1);

@@ -1,47 +1,49 @@
 // The slices of level 1 and the modules of level 2, in turn over one memory.
-ghost use Rattle.std.specs.Prelude.{◌≡◌, ℕ, ◌+◌, ◌<◌, ◌==◌, ◌&&◌, ◌≤◌, length, slice_index, false, IsTrue, IsFalse, IsOk, OnOk, IfOk, IfSome, None};
+ghost use Rattle.std.specs.Prelude.{◌≡◌, ℕ, ◌+◌, ◌<◌, ◌==◌, ◌&&◌, ◌≤◌, List, length, slice_index, false, IsFalse, OnOk, IfOk, IfSome, None};
 ghost use Rattle.std.specs.Option.{option_copied};
-ghost use Rattle.eg_guard.specs.Memory.{AreWords};
+ghost use Rattle.eg_guard.specs.Memory.{KeepsMemory};
+ghost use Rattle.eg_answer.specs.declared.rules.Rules.{Rules};
+ghost use Rattle.eg_word.specs.declared.instruction.Instruction.{Instruction};
 ghost use Rattle.eg_word.specs.declared.registers.Registers.{Registers};
+ghost use Rattle.eg_word.specs.Program.{IsProgramOf};
 ghost use Rattle.eg_fault.specs.Faults.{effects};
 ghost use Rattle.eg_level2.specs.Words.{words_of, AreMirrored, AreWithin};
 ghost use Rattle.eg_level2.specs.Inputs.{IsLookup};
 ghost use Rattle.eg_level2.specs.Modules.{quiet_step};
 ghost use Rattle.eg_fault.specs.Faults.{IsNoneOrValid};
 ghost use Rattle.eg_tick.specs.Midway;
-ghost use Rattle.eg_tick.specs.Midway.{Work, IsMidway, Meets, IsDue, step_at, tick_step};
+ghost use Rattle.eg_tick.specs.Midway.{Work, IsMidway, IsReady, Meets, IsDue, step_at, tick_step};
 
-use crate::Slices;
 use crate::board::flip;
+use crate::working::Task;
 use eg_base::NoMemory;
 use eg_fault::{Fault, disturbance, fault_of_levels, level1_runs, module_runs};
 use eg_guard::Guarded;
 use eg_host::Host;
-use eg_level2::{Level2, Lookup, Step, Watches};
-use eg_word::CodeMemory;
+use eg_level2::{Level2, Step, Watches};
+use eg_word::Program;
 
 /// A slice of level 1, where it runs at this tick (docs/CONCEPT.md, "Level 1").
 #[inline(always)]
-fn slice<M: CodeMemory>(
+fn slice<M: Guarded>(
     runs: bool,
+    program: &Program,
     host: &mut Host,
     memory: &mut M,
     budget: u16,
 ) -> Result<(), NoMemory>
+    requires { IsProgramOf (M.shows memory.old).words program.now }
     ensures midway { (w : Work) (j : ℕ) → w.level1 ≡ runs → j < length w.slices
         → slice_index w.slices j ≡ budget → IsMidway w j j host.old.registers (M.shows memory.old).words
         → OnOk result (IsMidway w (j + 1) j host.new.registers (M.shows memory.new).words) }
-    // Level 2's words stay.
-    ensures words { words_of (M.shows memory.new).words ≡ words_of (M.shows memory.old).words }
-    ensures mirrored { AreMirrored (M.shows memory.old).words → AreMirrored (M.shows memory.new).words }
-    ensures sure { IsTrue (M.shows memory.old).sure → IsOk result }
-    ensures stays_sure { (M.shows memory.new).sure ≡ (M.shows memory.old).sure }
-    ensures are_words { AreWords (M.shows memory.old).words → AreWords (M.shows memory.new).words }
+    ensures ready { (rules : Rules) → IsReady rules program.now (M.shows memory.old).words
+        → IsReady rules program.now (M.shows memory.new).words }
+    ensures keeps { KeepsMemory (M.shows memory.old) (M.shows memory.new) result }
 {
     if !runs {
         return Ok(());
     }
-    host.slice(memory, budget)
+    host.slice_of(program, memory, budget)
 }
 
 /// A run of a module of level 2, where it runs at this tick (docs/CONCEPT.md, "Level 2").
@@ -49,35 +51,39 @@ fn slice<M: CodeMemory>(
 fn module<M: Guarded>(
     level2: &Level2,
     fault: Option<&Fault>,
-    tick: u16,
-    send: bool,
+    task: &Task,
     number: u8,
-    lookup: &Lookup,
     memory: &mut M,
 ) -> Result<Step, NoMemory>
     requires number { number < 8 }
-    requires lookup { IsLookup level2.now.rules lookup.now }
+    requires lookup { IsLookup level2.now.rules task.now.lookup }
     requires mirrored { AreMirrored (M.shows memory.old).words }
     requires within { AreWithin level2.now.rules (words_of (M.shows memory.old).words) }
     ensures midway { (w : Work) (i : ℕ) (m : Registers)
-        → Meets level2.now (effects (option_copied fault.entry) tick) tick send w.doing
+        → Meets level2.now (effects (option_copied fault.entry) task.now.tick) task.now w.doing
         → (number == 0 && w.doing.differs) ≡ false → IsMidway w i number m (M.shows memory.old).words
         → OnOk result (IsMidway w i (number + 1) m (M.shows memory.new).words) }
     ensures step { (w : Work) (i : ℕ) (m : Registers)
-        → Meets level2.now (effects (option_copied fault.entry) tick) tick send w.doing
+        → Meets level2.now (effects (option_copied fault.entry) task.now.tick) task.now w.doing
         → (number == 0 && w.doing.differs) ≡ false → IsMidway w i number m (M.shows memory.old).words
         → IfOk result (λ step. step ≡ step_at w.doing number w.words) }
-    ensures mirrored { OnOk result (AreMirrored (M.shows memory.new).words) }
-    ensures within { OnOk result (AreWithin level2.now.rules (words_of (M.shows memory.new).words)) }
-    ensures sure { IsTrue (M.shows memory.old).sure → IsOk result }
-    ensures stays_sure { (M.shows memory.new).sure ≡ (M.shows memory.old).sure }
-    ensures are_words { AreWords (M.shows memory.old).words → AreWords (M.shows memory.new).words }
+    ensures ready { (program : List Instruction) → IsReady level2.now.rules program (M.shows memory.old).words
+        → OnOk result (IsReady level2.now.rules program (M.shows memory.new).words) }
+    ensures keeps { KeepsMemory (M.shows memory.old) (M.shows memory.new) result }
 {
-    if !module_runs(fault, u32::from(tick), number) {
+    let tick = u32::from(task.tick);
+    if !module_runs(fault, tick, number) {
         return Ok(quiet());
     }
-    let disturbance = disturbance(fault, u32::from(tick), number);
-    level2.module_with_lookup(number, memory, tick, send, disturbance, lookup)
+    let disturbance = disturbance(fault, tick, number);
+    level2.module_with_lookup(
+        number,
+        memory,
+        task.tick,
+        task.sends,
+        disturbance,
+        &task.lookup,
+    )
 }
 
 /// The run of module 0. A scheduled flip comes as it begins (docs/CONCEPT.md, "A run, tick by tick").
@@ -85,35 +91,31 @@ fn module<M: Guarded>(
 fn first_module<M: Guarded>(
     level2: &Level2,
     fault: Option<&Fault>,
-    tick: u16,
-    send: bool,
-    lookup: &Lookup,
+    task: &Task,
     memory: &mut M,
 ) -> Result<Step, NoMemory>
     requires fault { IsNoneOrValid (option_copied fault) }
-    requires lookup { IsLookup level2.now.rules lookup.now }
+    requires lookup { IsLookup level2.now.rules task.now.lookup }
     requires mirrored { AreMirrored (M.shows memory.old).words }
     requires within { AreWithin level2.now.rules (words_of (M.shows memory.old).words) }
     ensures midway { (w : Work) (i : ℕ) (m : Registers)
-        → Meets level2.now (effects (option_copied fault.entry) tick) tick send w.doing
+        → Meets level2.now (effects (option_copied fault.entry) task.now.tick) task.now w.doing
         → IsMidway w i 0 m (M.shows memory.old).words
         → OnOk result (IsMidway w i 1 m (M.shows memory.new).words) }
     ensures step { (w : Work) (i : ℕ) (m : Registers)
-        → Meets level2.now (effects (option_copied fault.entry) tick) tick send w.doing
+        → Meets level2.now (effects (option_copied fault.entry) task.now.tick) task.now w.doing
         → IsMidway w i 0 m (M.shows memory.old).words
         → IfOk result (λ step. step ≡ step_at w.doing 0 w.words) }
-    ensures mirrored { OnOk result (AreMirrored (M.shows memory.new).words) }
-    ensures within { OnOk result (AreWithin level2.now.rules (words_of (M.shows memory.new).words)) }
-    ensures sure { IsTrue (M.shows memory.old).sure → IsOk result }
-    ensures stays_sure { (M.shows memory.new).sure ≡ (M.shows memory.old).sure }
-    ensures are_words { AreWords (M.shows memory.old).words → AreWords (M.shows memory.new).words }
+    ensures ready { (program : List Instruction) → IsReady level2.now.rules program (M.shows memory.old).words
+        → OnOk result (IsReady level2.now.rules program (M.shows memory.new).words) }
+    ensures keeps { KeepsMemory (M.shows memory.old) (M.shows memory.new) result }
 {
-    let Some((word, mask)) = scheduled_flip(fault, tick) else {
-        return module(level2, fault, tick, send, 0, lookup, memory);
+    let Some((word, mask)) = scheduled_flip(fault, task.tick) else {
+        return module(level2, fault, task, 0, memory);
     };
     flip(memory, word, mask)?;
     // No fault that flips a word leaves module 0 out, or disturbs it.
-    level2.module_with_lookup(0, memory, tick, send, 0, lookup)
+    level2.module_with_lookup(0, memory, task.tick, task.sends, 0, &task.lookup)
 }
 
 /// The word of level 2 that is flipped at a tick, and its bits.
@@ -129,131 +131,129 @@ fn scheduled_flip(fault: Option<&Fault>, tick: u16) -> Option<(u8, u16)>
 /// The slice of level 1 of that number, and then the module of level 2 of the same number (docs/CONCEPT.md,
 /// "A run, tick by tick").
 #[inline(always)]
-fn turn<M: CodeMemory>(
+fn turn<M: Guarded>(
     level2: &Level2,
+    program: &Program,
     fault: Option<&Fault>,
-    tick: u16,
-    send: bool,
-    lookup: &Lookup,
-    slices: &Slices,
+    task: &Task,
     number: u8,
     host: &mut Host,
     memory: &mut M,
 ) -> Result<Step, NoMemory>
     requires number { number < 8 }
     requires fault { IsNoneOrValid (option_copied fault) }
-    requires lookup { IsLookup level2.now.rules lookup.now }
-    requires mirrored { AreMirrored (M.shows memory.old).words }
-    requires within { AreWithin level2.now.rules (words_of (M.shows memory.old).words) }
+    requires lookup { IsLookup level2.now.rules task.now.lookup }
+    requires ready { IsReady level2.now.rules program.now (M.shows memory.old).words }
     ensures midway { (w : Work)
-        → IsDue level2.now (effects (option_copied fault.entry) tick) tick send slices.now w
+        → IsDue level2.now (effects (option_copied fault.entry) task.now.tick) task.now w
         → IsMidway w number number host.old.registers (M.shows memory.old).words
         → OnOk result (IsMidway w (number + 1) (number + 1) host.new.registers (M.shows memory.new).words) }
     ensures step { (w : Work)
-        → IsDue level2.now (effects (option_copied fault.entry) tick) tick send slices.now w
+        → IsDue level2.now (effects (option_copied fault.entry) task.now.tick) task.now w
         → IsMidway w number number host.old.registers (M.shows memory.old).words
         → IfOk result (λ step. step ≡ step_at w.doing number w.words) }
-    ensures mirrored { OnOk result (AreMirrored (M.shows memory.new).words) }
-    ensures within { OnOk result (AreWithin level2.now.rules (words_of (M.shows memory.new).words)) }
-    ensures sure { IsTrue (M.shows memory.old).sure → IsOk result }
-    ensures stays_sure { (M.shows memory.new).sure ≡ (M.shows memory.old).sure }
-    ensures are_words { AreWords (M.shows memory.old).words → AreWords (M.shows memory.new).words }
+    ensures ready { OnOk result (IsReady level2.now.rules program.now (M.shows memory.new).words) }
+    ensures keeps { KeepsMemory (M.shows memory.old) (M.shows memory.new) result }
 {
-    let budget = slices.budget_of(number);
-    slice(level1_runs(fault, u32::from(tick)), host, memory, budget)?;
+    let budget = task.slices.budget_of(number);
+    slice(
+        level1_runs(fault, u32::from(task.tick)),
+        program,
+        host,
+        memory,
+        budget,
+    )?;
     if number == 0 {
-        return first_module(level2, fault, tick, send, lookup, memory);
+        return first_module(level2, fault, task, memory);
     }
-    module(level2, fault, tick, send, number, lookup, memory)
+    module(level2, fault, task, number, memory)
 }
 
 /// The nine slices of level 1 and the eight modules of level 2 of a tick, in turn: after each slice but the
 /// last comes the module of its number (docs/CONCEPT.md, "A run, tick by tick"). Answers what the modules
 /// order, answer and find. Ticks at which no fault may change that have a shorter form.
 #[tactic(auto, unfolding(eg_fault::specs::Faults::IsNoneOrValid))]
-pub(crate) fn run_levels<M: CodeMemory>(
+pub(crate) fn run_levels<M: Guarded>(
     level2: &Level2,
+    program: &Program,
     fault: Option<&Fault>,
-    tick: u16,
-    send: bool,
-    lookup: &Lookup,
-    slices: &Slices,
+    task: &Task,
     host: &mut Host,
     memory: &mut M,
 ) -> Result<Step, NoMemory>
     requires fault { IsNoneOrValid (option_copied fault) }
-    requires lookup { IsLookup level2.now.rules lookup.now }
-    requires mirrored { AreMirrored (M.shows memory.old).words }
-    requires within { AreWithin level2.now.rules (words_of (M.shows memory.old).words) }
+    requires lookup { IsLookup level2.now.rules task.now.lookup }
+    requires ready { IsReady level2.now.rules program.now (M.shows memory.old).words }
     ensures midway { (w : Work)
-        → IsDue level2.now (effects (option_copied fault.entry) tick) tick send slices.now w
+        → IsDue level2.now (effects (option_copied fault.entry) task.now.tick) task.now w
         → IsMidway w 0 0 host.old.registers (M.shows memory.old).words
         → OnOk result (IsMidway w 9 8 host.new.registers (M.shows memory.new).words) }
     ensures step { (w : Work)
-        → IsDue level2.now (effects (option_copied fault.entry) tick) tick send slices.now w
+        → IsDue level2.now (effects (option_copied fault.entry) task.now.tick) task.now w
         → IsMidway w 0 0 host.old.registers (M.shows memory.old).words
         → IfOk result (λ step. step ≡ tick_step w.doing w.words) }
-    ensures nine { OnOk result (length slices.now ≡ 9) }
-    ensures sure { IsTrue (M.shows memory.old).sure → IsOk result }
-    ensures stays_sure { (M.shows memory.new).sure ≡ (M.shows memory.old).sure }
-    ensures are_words { AreWords (M.shows memory.old).words → AreWords (M.shows memory.new).words }
+    ensures nine { OnOk result (length task.now.slices ≡ 9) }
+    ensures ready { OnOk result (IsReady level2.now.rules program.now (M.shows memory.new).words) }
+    ensures keeps { KeepsMemory (M.shows memory.old) (M.shows memory.new) result }
 {
-    match fault_of_levels(fault, u32::from(tick)) {
-        None => run_turns::<M, false>(level2, None, tick, send, lookup, slices, host, memory),
-        some => run_turns::<M, true>(level2, some, tick, send, lookup, slices, host, memory),
+    match fault_of_levels(fault, u32::from(task.tick)) {
+        None => run_turns::<M, false>(level2, program, None, task, host, memory),
+        some => run_turns::<M, true>(level2, program, some, task, host, memory),
     }
 }
 
 /// The same in one of its two forms: compiled with what is asked of a fault at each turn, or without. The
 /// turns are written out, so that each is compiled for its own number.
-fn run_turns<M: CodeMemory, const FAULTY: bool>(
+fn run_turns<M: Guarded, const FAULTY: bool>(
     level2: &Level2,
+    program: &Program,
     fault: Option<&Fault>,
-    tick: u16,
-    send: bool,
-    lookup: &Lookup,
-    slices: &Slices,
+    task: &Task,
     host: &mut Host,
     memory: &mut M,
 ) -> Result<Step, NoMemory>
     requires fault { IsNoneOrValid (option_copied fault) }
     requires quiet { IsFalse FAULTY → option_copied fault ≡ None }
-    requires lookup { IsLookup level2.now.rules lookup.now }
-    requires mirrored { AreMirrored (M.shows memory.old).words }
-    requires within { AreWithin level2.now.rules (words_of (M.shows memory.old).words) }
+    requires lookup { IsLookup level2.now.rules task.now.lookup }
+    requires ready { IsReady level2.now.rules program.now (M.shows memory.old).words }
     ensures midway { (w : Work)
-        → IsDue level2.now (effects (option_copied fault.entry) tick) tick send slices.now w
+        → IsDue level2.now (effects (option_copied fault.entry) task.now.tick) task.now w
         → IsMidway w 0 0 host.old.registers (M.shows memory.old).words
         → OnOk result (IsMidway w 9 8 host.new.registers (M.shows memory.new).words) }
     ensures step { (w : Work)
-        → IsDue level2.now (effects (option_copied fault.entry) tick) tick send slices.now w
+        → IsDue level2.now (effects (option_copied fault.entry) task.now.tick) task.now w
         → IsMidway w 0 0 host.old.registers (M.shows memory.old).words
         → IfOk result (λ step. step ≡ tick_step w.doing w.words) }
-    ensures nine { OnOk result (length slices.now ≡ 9) }
-    ensures sure { IsTrue (M.shows memory.old).sure → IsOk result }
-    ensures stays_sure { (M.shows memory.new).sure ≡ (M.shows memory.old).sure }
-    ensures are_words { AreWords (M.shows memory.old).words → AreWords (M.shows memory.new).words }
+    ensures nine { OnOk result (length task.now.slices ≡ 9) }
+    ensures ready { OnOk result (IsReady level2.now.rules program.now (M.shows memory.new).words) }
+    ensures keeps { KeepsMemory (M.shows memory.old) (M.shows memory.new) result }
 {
     let fault = acting::<FAULTY>(fault);
     let whole = quiet();
-    let step = turn(level2, fault, tick, send, lookup, slices, 0, host, memory)?;
+    let step = turn(level2, program, fault, task, 0, host, memory)?;
     let whole = joined(&whole, &step);
-    let step = turn(level2, fault, tick, send, lookup, slices, 1, host, memory)?;
+    let step = turn(level2, program, fault, task, 1, host, memory)?;
     let whole = joined(&whole, &step);
-    let step = turn(level2, fault, tick, send, lookup, slices, 2, host, memory)?;
+    let step = turn(level2, program, fault, task, 2, host, memory)?;
     let whole = joined(&whole, &step);
-    let step = turn(level2, fault, tick, send, lookup, slices, 3, host, memory)?;
+    let step = turn(level2, program, fault, task, 3, host, memory)?;
     let whole = joined(&whole, &step);
-    let step = turn(level2, fault, tick, send, lookup, slices, 4, host, memory)?;
+    let step = turn(level2, program, fault, task, 4, host, memory)?;
     let whole = joined(&whole, &step);
-    let step = turn(level2, fault, tick, send, lookup, slices, 5, host, memory)?;
+    let step = turn(level2, program, fault, task, 5, host, memory)?;
     let whole = joined(&whole, &step);
-    let step = turn(level2, fault, tick, send, lookup, slices, 6, host, memory)?;
+    let step = turn(level2, program, fault, task, 6, host, memory)?;
     let whole = joined(&whole, &step);
-    let step = turn(level2, fault, tick, send, lookup, slices, 7, host, memory)?;
+    let step = turn(level2, program, fault, task, 7, host, memory)?;
     let whole = joined(&whole, &step);
-    let last = slices.budget_of(8);
-    slice(level1_runs(fault, u32::from(tick)), host, memory, last)?;
+    let last = task.slices.budget_of(8);
+    slice(
+        level1_runs(fault, u32::from(task.tick)),
+        program,
+        host,
+        memory,
+        last,
+    )?;
     Ok(whole)
 }
 

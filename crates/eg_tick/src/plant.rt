@@ -1,6 +1,7 @@
 // The engine at a tick: its step by level 1's outputs, and what the sensors read of it.
 ghost use Rattle.std.specs.Prelude.{◌≡◌, ◌≤◌, slice_index, IsFalse};
 ghost use Rattle.std.specs.Option.{option_copied, ForSome};
+ghost use Rattle.eg_guard.specs.declared.regions.TheConstants.{THROTTLE, IGNITION};
 ghost use Rattle.eg_plant.specs.Engine.{KeepsLaws};
 ghost use Rattle.eg_fault.specs.Faults.{effects};
 ghost use Rattle.eg_model.specs.History.{Entry};
@@ -8,15 +9,10 @@ ghost use Rattle.eg_model.specs.Moments.{readings_at};
 
 use crate::board::load;
 use eg_fault::{Fault, faulty_readings};
-use eg_guard::Guarded;
+use eg_guard::{Guarded, IGNITION, THROTTLE};
 use eg_num::Drive;
 use eg_plant::Engine;
 use eg_sensor::{Readings, sound};
-
-/// The two output words of level 1 (docs/FORMATS.md, "Memory map").
-const THROTTLE: u16 = 2064;
-
-const IGNITION: u16 = 2065;
 
 /// Level 1's commands to the throttle plate and to the ignition, as they stand in the memory.
 #[derive(Clone, Copy)]
@@ -29,8 +25,8 @@ impl Commands {
     /// Those that stand now.
     #[tactic(auto, using(crate::proofs::BoardLemmas::board))]
     pub(crate) fn of<M: Guarded>(memory: &M) -> Commands
-        ensures throttle { result.throttle ≡ slice_index (M.shows memory.now).words 2064 }
-        ensures ignition { result.ignition ≡ slice_index (M.shows memory.now).words 2065 }
+        ensures throttle { result.throttle ≡ slice_index (M.shows memory.now).words THROTTLE }
+        ensures ignition { result.ignition ≡ slice_index (M.shows memory.now).words IGNITION }
     {
         Commands {
             throttle: load(memory, THROTTLE),
@@ -47,8 +43,8 @@ pub(crate) fn step_engine<E: Engine, M: Guarded>(
     held: Option<u16>,
 )
     requires { ForSome held (λ at. at ≤ 1000) }
-    ensures steps { E.steps engine.old (slice_index (M.shows memory.now).words 2064)
-        (slice_index (M.shows memory.now).words 2065) on held engine.new }
+    ensures steps { E.steps engine.old (slice_index (M.shows memory.now).words THROTTLE)
+        (slice_index (M.shows memory.now).words IGNITION) on held engine.new }
     ensures off { IsFalse on → (E.shows engine.new).torque ≡ 0 }
     ensures kt { E.kt engine.new ≡ E.kt engine.old }
     ensures laws { KeepsLaws (E.kt engine.new) (E.shows engine.new) }

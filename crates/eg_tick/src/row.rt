@@ -1,5 +1,6 @@
 // The row of a tick.
 ghost use Rattle.std.specs.Prelude.{◌≡◌, ◌<◌, slice_index};
+ghost use Rattle.eg_guard.specs.declared.regions.TheConstants.{THROTTLE, IGNITION};
 ghost use Rattle.eg_num.specs.Drive.{IsDrive};
 ghost use Rattle.eg_num.specs.Interpolation.{Grid, grid_at};
 ghost use Rattle.eg_torque.specs.Permit.{drive_permits};
@@ -97,8 +98,8 @@ pub(crate) fn row<E: Engine, M: Guarded>(
       path2 = begins.paths.path2;
       on = begins.paths.on;
       signals = signal_list (signals_of (words_of (M.shows memory.now).words));
-      throttle = slice_index (M.shows memory.now).words 2064;
-      ignition = slice_index (M.shows memory.now).words 2065;
+      throttle = slice_index (M.shows memory.now).words THROTTLE;
+      ignition = slice_index (M.shows memory.now).words IGNITION;
       found = record found { answers = judgement.answers };
       answer = judgement.mark;
       verdict = judgement.verdict;

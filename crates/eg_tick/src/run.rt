@@ -2,6 +2,7 @@
 ghost use Rattle.std.specs.Prelude.{◌≡◌, ℕ, ◌+◌, ◌%◌, ◌^◌, ◌≤◌, ◌<◌, None, List, map, reverse, length, IfOk, OnOk, OnErr};
 ghost use Rattle.std.specs.Option.{option_copied};
 ghost use Rattle.std.specs.List.{sum};
+ghost use Rattle.eg_guard.specs.declared.regions.TheConstants.{DATA as CODE_END};
 ghost use Rattle.eg_num.specs.Drive.{DriveRow};
 ghost use Rattle.eg_answer.specs.Times.{HasLapseBound, reaction_of};
 ghost use Rattle.eg_fault.specs.Faults.{IsListed};
@@ -16,11 +17,12 @@ ghost use Rattle.eg_tick.specs.Run.{run_by, IsAt, IsRecordOf, ReactAtOnce, CutLa
 use crate::{Controller, SlicePlan, Ticks};
 use eg_base::{Items, NoMemory};
 use eg_fault::Fault;
+use eg_guard::FlatMemory;
 use eg_num::Drive;
 use eg_plant::GasolineEngine;
 use eg_record::Row;
 use eg_values::Calibration;
-use eg_word::{DecodedMemory, Trap};
+use eg_word::Trap;
 use std::alloc::Global;
 
 /// The record of a run (docs/CONCEPT.md, "The record of a run").
@@ -45,7 +47,7 @@ pub fn run_one(
 ) -> Result<RunRecord, NoMemory>
     requires some { 1 ≤ length drive.now }
     requires most { length drive.now ≤ 20000 }
-    requires image { length image.now ≤ 1024 }
+    requires image { length image.now ≤ CODE_END }
     requires fault { IsNoneOrValid (option_copied fault) }
     // The record is that of the run in the model.
     ensures rows { IfOk result (λ made. made.rows ≡ reverse (record_rows
@@ -96,7 +98,7 @@ fn record_run(
     steps: &mut Ticks,
 ) -> Result<RunRecord, NoMemory>
     requires most { length drive.now ≤ 20000 }
-    requires image { length image.now ≤ 1024 }
+    requires image { length image.now ≤ CODE_END }
     requires fault { IsNoneOrValid (option_copied fault) }
     ensures made { IfOk result (λ made. IsRecordOf
         (run_by calibration.now image.now (option_copied fault.entry) plan.now drive.now)
@@ -116,7 +118,7 @@ fn record_run(
 }
 
 /// The record of these rows and of the trap that a controller tells.
-fn record_of(rows: Vec<Row>, controller: &Controller<GasolineEngine, DecodedMemory>) -> RunRecord
+fn record_of(rows: Vec<Row>, controller: &Controller<GasolineEngine, FlatMemory>) -> RunRecord
     ensures rows { result.rows ≡ rows.items }
     ensures trap { result.trap ≡ controller.now.kept.trap }
 {
@@ -131,8 +133,8 @@ fn begin(
     calibration: &Calibration,
     image: &[u16],
     fault: Option<&Fault>,
-) -> Result<Controller<GasolineEngine, DecodedMemory>, NoMemory>
-    requires image { length image.now ≤ 1024 }
+) -> Result<Controller<GasolineEngine, FlatMemory>, NoMemory>
+    requires image { length image.now ≤ CODE_END }
     requires fault { IsNoneOrValid (option_copied fault) }
     ensures at { IfOk result (λ controller. (plan : List (List ℕ)) (drive : List DriveRow) →
         IsAt (run_by calibration.now image.now (option_copied fault.entry) plan drive) 0 controller) }
@@ -140,13 +142,7 @@ fn begin(
 {
     let engine = GasolineEngine::new(calibration.plant().copy());
     let fault = copied(fault);
-    Controller::new(
-        calibration.copy(),
-        image,
-        fault,
-        DecodedMemory::new(),
-        engine,
-    )
+    Controller::new(calibration.copy(), image, fault, FlatMemory::new(), engine)
 }
 
 /// An equal fault, if any.
@@ -162,7 +158,7 @@ fn copied(fault: Option<&Fault>) -> Option<Fault>
 /// The rows of the ticks of a drive, by a controller that has made no tick.
 fn make_rows(
     alloc: Global,
-    controller: &mut Controller<GasolineEngine, DecodedMemory>,
+    controller: &mut Controller<GasolineEngine, FlatMemory>,
     plan: &SlicePlan,
     drive: &[Drive],
     steps: &mut Ticks,
@@ -192,7 +188,7 @@ fn make_rows(
 
 /// The row of the next tick of a run, by a controller that has made all before it.
 fn make_row(
-    controller: &mut Controller<GasolineEngine, DecodedMemory>,
+    controller: &mut Controller<GasolineEngine, FlatMemory>,
     plan: &SlicePlan,
     drive: &Drive,
     tick: u32,

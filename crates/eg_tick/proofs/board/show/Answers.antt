@@ -8,7 +8,7 @@ returns-clause-readings g c =
 
 pub returns-clause-asked : goal.returns-clause-asked
 returns-clause-asked g c =
-    on_ok c.put.result (λ stored. shown_asked _ _ _ c.args.asked c.args.readings.now stored c.in_ok-write.ensures.written c.write.ensures.are_words.count) c.put.ensures.stored
+    on_ok c.put.result (λ stored. shown_asked _ _ _ c.args.asked c.args.readings.now stored c.in_ok-write.ensures.written (c.write.ensures.keeps.are_words c.requires.are_words).count) c.put.ensures.stored
 
 pub returns-clause-outside : goal.returns-clause-outside
 returns-clause-outside g c =

@@ -11,6 +11,6 @@ loop-value-preserved g c = record {
   written =
       more_written _ _ _ c.args.first c.loop-value.value-index c.loop-value.address _ c.args.values.now c.in_ok-put.ensures.stored c.loop-value.invariant.at refl
       c.loop-value.invariant.are_words.count (omega (arith, c.loop-value.invariant.at, c.requires.within)) c.loop-value.invariant.written;
-  are_words = c.put.ensures.are_words;
-  sure = c.put.ensures.stays_sure ∙ c.loop-value.invariant.sure;
+  are_words = c.put.ensures.keeps.are_words c.loop-value.invariant.are_words;
+  sure = c.put.ensures.keeps.stays_sure ∙ c.loop-value.invariant.sure;
 }

@@ -6,7 +6,7 @@ use Rattle.eg_tick.proofs.levels.run_turns.Goals as goal
 
 pub returns-clause-step : goal.returns-clause-step
 returns-clause-step g c w told is =
-    let due = subst (λ f. IsDue c.args.level2.now (effects f c.args.tick) c.args.tick c.args.send c.args.slices.now w) (sym c.acting-fault.ensures) told in
+    let due = subst (λ f. IsDue c.args.level2.now (effects f c.args.task.now.tick) c.args.task.now w) (sym c.acting-fault.ensures) told in
     let begun = c.quiet-whole.ensures ∙ steps-begin w.doing w.words in
     let steps-1 = c.joined-whole.ensures ∙ steps-more w.doing w.words 0 _ _ begun (c.in_ok-step.ensures.step w due is) in
     let midway-1 = c.in_ok-step.ensures.midway w due is in
@@ -24,3 +24,6 @@ returns-clause-step g c w told is =
     let midway-7 = c.in_ok-step-7.ensures.midway w due midway-6 in
     let steps-8 = c.joined-whole-8.ensures ∙ steps-more w.doing w.words 7 _ _ steps-7 (c.in_ok-step-8.ensures.step w due midway-7) in
     steps-8 ∙ steps-all w.doing w.words
+
+pub returns-clause-ready : goal.returns-clause-ready
+returns-clause-ready g c = c.slice.ensures.ready _ c.in_ok-step-8.ensures.ready

@@ -1,5 +1,5 @@
 use Rattle.std.proofs.Common.{rules, ◌≡◌, ◌∙◌, true, false}
-use Rattle.eg_tick.proofs.FrameLemmas.{words-stay, mirrors-stay}
+use Rattle.eg_tick.proofs.FrameLemmas.{ready-level1}
 use Rattle.eg_tick.proofs.MidwayLemmas.{idle-midway}
 use Rattle.eg_tick.proofs.LevelLemmas.{slice_result}
 use Rattle.eg_tick.proofs.levels.slice.Goals as goal
@@ -12,10 +12,9 @@ returns-then-not-runs-clause-midway g c w j runs within row is =
 pub returns-clause-midway : goal.returns-clause-midway
 returns-clause-midway g c w j runs within row is =
     let going : c.args.runs ≡ true = search rules in
-    slice_result c.slice.result w j c.args.budget _ _ _ _ (runs ∙ going) within row c.slice.ensures.are_words c.slice.ensures.outside c.slice.ensures.world is
+    slice_result c.slice_of.result w j c.args.budget _ _ _ _ (runs ∙ going) within row
+    c.slice_of.ensures.keeps.are_words c.slice_of.ensures.outside c.slice_of.ensures.world is
 
-pub returns-clause-words : goal.returns-clause-words
-returns-clause-words g c = words-stay _ _ c.slice.ensures.outside
-
-pub returns-clause-mirrored : goal.returns-clause-mirrored
-returns-clause-mirrored g c = mirrors-stay _ _ c.slice.ensures.outside
+pub returns-clause-ready : goal.returns-clause-ready
+returns-clause-ready g c rules is =
+    ready-level1 _ _ _ _ c.slice_of.ensures.outside (c.slice_of.ensures.keeps.are_words is.are_words) is

@@ -4,6 +4,7 @@ use Rattle.eg_answer.specs.declared.rules.Rules.{Rules}
 use Rattle.eg_torque.specs.Permit.{drive_permits}
 use Rattle.eg_fault.specs.Effects.{sends_at, asked_at}
 use Rattle.eg_fault.specs.Faults.{effects}
+use Rattle.eg_guard.specs.Memory.{AreWords}
 use Rattle.eg_level2.specs.Words.{words_of, AreWithin}
 use Rattle.eg_level2.specs.Inputs.{Level2Parts}
 use Rattle.eg_model.specs.History.{Setting, Entry}
@@ -27,11 +28,16 @@ step_engine-requires g c x is =
     held-within c.self.inside.fault c.self.inside.ticks x c.self.invariant.keeps.fault
     (subst (λ f. (effects f c.self.inside.ticks).held ≡ Some x) c.as_ref-fault.ensures.value (sym c.held-held.ensures ∙ is))
 
-pub work-requires-clause-within : goal.work-requires-clause-within
-work-requires-clause-within g c =
+pub work-requires-clause-ready : goal.work-requires-clause-ready
+work-requires-clause-ready g c =
     let some = c.self.invariant.keeps.stands c.if-self.false in
-    subst (λ (p : Level2Parts). AreWithin p.rules (words_of (g.M.Guarded.shows c.self.inside.memory).words)) (sym c.self.invariant.parts)
-    (within _ some.0 some.1 c.times.ensures.accepted some.2)
+    record {
+      are_words = some.2.are_words;
+      mirrored = some.2.level2.mirrored;
+      within = subst (λ (p : Level2Parts). AreWithin p.rules (words_of (g.M.Guarded.shows c.self.inside.memory).words)) (sym c.self.invariant.parts)
+          (within _ some.0 some.1 c.times.ensures.accepted some.2);
+      decoded = c.self.invariant.decoded c.if-self.false;
+    }
 
 pub judge-judged-requires-clause-period : goal.judge-judged-requires-clause-period
 judge-judged-requires-clause-period g c tame =
@@ -84,7 +90,11 @@ task g c = record {
   asked = c.question.result;
   readings = c.readings.result;
   lookup = c.look_up-lookup.result;
+  slices = c.args.slices.now;
 }
+
+are_words : (g : Over) (c : goal.After-self-5-1 g) → AreWords (g.M.Guarded.shows c.work.new.memory).words
+are_words g c = c.work.ensures.keeps.are_words (c.self.invariant.keeps.stands c.if-self.false).2.are_words
 
 advance : (g : Over) (c : goal.After-self-5-1 g) → Advance (old g c) (new g c) c.args.drive.now c.args.slices.now c.self.inside.fault c.self.inside.level2
     c.at.result (task g c) c.in_ok-step.step c.judge-judged.result
@@ -104,6 +114,7 @@ advance g c =
       asked = c.question.ensures.number
           ∙ ap (λ questions. asked_at (effects (option_copied c.as_ref-fault.result) c.self.inside.ticks) c.self.inside.monitor.times (length questions) c.self.inside.ticks) c.questions-questions.ensures.questions;
       readings = c.readings.ensures;
+      slices = refl;
       served = c.in_ok-step.ensures.served;
       step = c.in_ok-step.ensures.step;
       holds = c.judge-judged.ensures.holds;
@@ -111,7 +122,7 @@ advance g c =
       cal = refl;
       fault = refl;
       count = refl;
-      are_words = c.work.ensures.are_words;
+      are_words = are_words g c;
       open1 = c.either-self-inside.ensures;
       open2 = c.either-self-inside-2.ensures ∙ ap (λ b. b || c.self.inside.open2) c.either.ensures;
       kt = c.step_engine.ensures.kt;
@@ -153,7 +164,7 @@ steps g c =
     c.step_engine.ensures.steps)
 
 pub invariant_of-self-2 : goal.invariant_of-self-2
-invariant_of-self-2 g c = record { parts = c.self.invariant.parts; keeps = still g c }
+invariant_of-self-2 g c = record { parts = c.self.invariant.parts; decoded = λ held. c.in_ok-step.ensures.program; keeps = still g c }
 
 pub returns-clause-stands : goal.returns-clause-stands
 returns-clause-stands g c = stood g c

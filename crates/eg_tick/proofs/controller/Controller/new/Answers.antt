@@ -2,6 +2,7 @@ use Rattle.std.proofs.Common.{◌≡◌, ◌∙◌, refl, sym, ap, ap₂, subst,
 use Rattle.eg_guard.specs.Memory.{AreWords}
 use Rattle.eg_guard.proofs.WordsLemmas.{zeros_are_words}
 use Rattle.eg_word.specs.World.{world_of}
+use Rattle.eg_word.proofs.ProgramLemmas.{program-stays}
 use Rattle.eg_module.specs.Monitoring.{MonitorParts}
 use Rattle.eg_tick.specs.Kept.{Kept}
 use Rattle.eg_tick.specs.Stands.{Stands}
@@ -12,6 +13,12 @@ use Rattle.eg_tick.proofs.controller.Controller.new.Goals as goal
 
 pub load_image-requires-clause-are_words : goal.load_image-requires-clause-are_words
 load_image-requires-clause-are_words g c = subst AreWords (sym c.requires.zeros) zeros_are_words
+
+loaded_words : (g : Over) (c : goal.After-new g) → AreWords (g.M.Guarded.shows c.load_image.new.memory).words
+loaded_words g c = c.load_image.ensures.keeps.are_words (subst AreWords (sym c.requires.zeros) zeros_are_words)
+
+made_words : (g : Over) (c : goal.After-new g) → AreWords (g.M.Guarded.shows c.reset.new.memory).words
+made_words g c = c.reset.ensures.are_words (loaded_words g c)
 
 abbrev kept : (g : Over) → goal.After-new g → Kept
 kept g c = record {
@@ -36,16 +43,16 @@ made g c =
     let made = (g.M.Guarded.shows c.reset.new.memory).words in
     let written : IsWritten (replicate 4096 0) loaded 0 image (length image) =
     subst (λ old. IsWritten old loaded 0 image (length image)) c.requires.zeros c.in_ok-load_image.ensures.written in
-    let are_words : AreWords made = c.reset.ensures.are_words c.load_image.ensures.are_words in
+    let are_words : AreWords made = made_words g c in
     new_stands _ _ (record {
       cal = refl;
       fault = refl;
       count = refl;
       are_words = are_words;
-      code = made_code image loaded made c.requires.image c.load_image.ensures.are_words written c.reset.ensures.outside;
+      code = made_code image loaded made c.requires.image (loaded_words g c) written c.reset.ensures.outside;
       world =
           ap (λ m. world_of m made) c.new.ensures
-          ∙ made_world image loaded made c.requires.image c.load_image.ensures.are_words are_words written c.reset.ensures.outside;
+          ∙ made_world image loaded made c.requires.image (loaded_words g c) are_words written c.reset.ensures.outside;
       mirrored = c.in_ok-reset.ensures.mirrored;
       words = c.in_ok-reset.ensures.words;
       open1 = refl;
@@ -63,6 +70,7 @@ made g c =
 pub invariant_of-result : goal.invariant_of-result
 invariant_of-result g c = record {
   parts = c.new-level2.ensures.parts ∙ ap₂ (λ a b. record { rules = a; questions = b }) (c.copy.ensures ∙ c.rules.ensures.rules) (c.copy-2.ensures ∙ c.questions.ensures.questions);
+  decoded = λ held. program-stays c.args.image.now _ _ (made g c).level1.code c.new-program.ensures;
   keeps = record { accepted = c.rules.ensures.accepted; fault = c.requires.fault; stands = λ held. (c.args.image.now, [], made g c); unsure = λ gone. absurd (let clash : false ≡ true = gone in cc) };
 }
 
