@@ -27,10 +27,11 @@ steps (suc count) view world = steps count view (world_step view world)
 abbrev pub world_slice : View → ℕ → World → World
 world_slice view budget world = steps budget view (record world { registers = slice_start world.registers })
 
--- A call for a slice of this budget, over a memory that shows a view, makes a slice of level 1's private world
--- with that view; want of memory, which never comes over a sure memory, ends it after fewer steps. No word
+-- A call for a slice of this budget, over a memory that shows a view, makes a slice of level 1's private
+-- world with that view; NoMemory, which never comes over a sure memory, ends it after fewer steps. No word
 -- outside level 1's own regions changes. A machine that was trapped stays so, and changes nothing.
-pub record IsSlice {T E : Type 0} (budget : ℕ) (m now : Registers) (old new : ShownMemory) (result : Result T E) : Type 0 where
+pub record IsSlice {T E : Type 0} (budget : ℕ) (m now : Registers) (old new : ShownMemory)
+    (result : Result T E) : Type 0 where
   pub world : (view : View) → Shows old.words view
       → OnOk result (world_of now new.words ≡ world_slice view budget (world_of m old.words))
   pub ended : (view : View) → Shows old.words view → OnErr result ((count : ℕ) × (count < budget)

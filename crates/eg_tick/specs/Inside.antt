@@ -7,9 +7,10 @@ use Rattle.eg_level2.specs.Inputs.{Level2Parts}
 use Rattle.eg_tick.specs.Kept.{Kept}
 use Rattle.eg_tick.specs.Stands.{IsController}
 
--- Level 2 is made of the parts of the calibration; the program is that of the memory's code, unless memory ran
--- out; and all else is a controller.
-pub record IsWhole (cal : CalibrationParts) (level2 : Level2Parts) (program : List Instruction) (c : Kept) : Type 0 where
+-- Level 2 is made of the parts of the calibration; the program is that of the memory's code, unless memory
+-- ran out; and all else is a controller.
+pub record IsWhole (cal : CalibrationParts) (level2 : Level2Parts) (program : List Instruction)
+    (c : Kept) : Type 0 where
   pub parts : level2 ≡ record { rules = cal.rules; questions = cal.questions }
   pub decoded : c.lost ≡ false → IsProgramOf c.memory.words program
   pub keeps : IsController c

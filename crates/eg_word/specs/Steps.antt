@@ -6,9 +6,10 @@ use Rattle.eg_word.specs.Machine.{Step, step}
 use Rattle.eg_word.specs.Memory.{load_from, put, is_level1_own}
 use Rattle.eg_word.specs.World.{View, Shows, world_of, world_step}
 
--- A call that answers Ok has made `made` of the registers and of the words; NoMemory changes nothing, and never
--- comes over a sure memory.
-pub record Makes {T E : Type 0} (made : Step) (m now : Registers) (old new : ShownMemory) (result : Result T E) : Type 0 where
+-- A call that answers Ok has made `made` of the registers and of the words; NoMemory changes nothing, and
+-- never comes over a sure memory.
+pub record Makes {T E : Type 0} (made : Step) (m now : Registers) (old new : ShownMemory)
+    (result : Result T E) : Type 0 where
   pub registers : OnOk result (now ≡ made.registers)
   pub words : OnOk result (new.words ≡ put old.words made.stored)
   pub unchanged : OnErr result (now ≡ m)
@@ -17,7 +18,8 @@ pub record Makes {T E : Type 0} (made : Step) (m now : Registers) (old new : Sho
 
 -- A call for one step makes what the table of instructions says. It changes no word outside level 1's own
 -- regions; and over a memory that shows a view it is a step of level 1's private world with that view.
-pub record IsOneStep {T E : Type 0} (m now : Registers) (old new : ShownMemory) (result : Result T E) : Type 0 where
+pub record IsOneStep {T E : Type 0} (m now : Registers) (old new : ShownMemory)
+    (result : Result T E) : Type 0 where
   pub makes : Makes (step (load_from old.words) m) m now old new result
   pub outside : SameOutside is_level1_own old.words new.words
   pub world : (view : View) → Shows old.words view

@@ -30,7 +30,12 @@ new_registers = record { r = replicate 8 0; pc = 0; state = Running }
 
 -- the world at its start
 unfoldable pub new_world : World
-new_world = record { registers = new_registers; words = replicate (IN_PORTS - DATA) 0; throttle = 0; ignition = 0 }
+new_world = record {
+  registers = new_registers;
+  words = replicate (IN_PORTS - DATA) 0;
+  throttle = 0;
+  ignition = 0;
+}
 
 -- ---- a step of the world ----
 

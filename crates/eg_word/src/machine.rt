@@ -33,9 +33,9 @@ pub fn step<M: Guarded>(registers: &mut Registers, memory: &mut M) -> Result<(),
     advance(registers, memory)
 }
 
-/// One step of a machine that runs, as `step` does it, which also tells whether the machine runs on: who makes
-/// many steps needn't look at the state before each of them. Where the caller has the program of the memory's
-/// code no word is decoded.
+/// One step of a machine that runs, as `step` does it, which also tells whether the machine runs on: who
+/// makes many steps needn't look at the state before each of them. Where the caller has the program of the
+/// memory's code no word is decoded.
 #[inline]
 #[tactic(auto, using(crate::proofs::StepLaws::step_laws))]
 pub fn step_on<M: Guarded>(

@@ -1,5 +1,6 @@
 // The code of level 1 as instructions.
-ghost use Rattle.std.specs.Prelude.{◌≡◌, ◌<◌, ◌≤◌, ◌↔◌, length, replicate, slice_index, slice_index_or, IsOk, IfOk};
+ghost use Rattle.std.specs.Prelude.{◌≡◌, ◌<◌, ◌≤◌, ◌↔◌, length, replicate, slice_index, slice_index_or};
+ghost use Rattle.std.specs.Prelude.{IsOk, IfOk};
 ghost use Rattle.std.specs.Option.{option_copied, ForSome};
 ghost use Rattle.eg_guard.specs.declared.regions.TheConstants.{DATA as CODE_END};
 ghost use Rattle.eg_word.specs.declared.instruction.Instruction.{Instruction};
@@ -59,8 +60,8 @@ fn clear_code() -> [Instruction; DATA as usize]
     [decode(0); DATA as usize]
 }
 
-/// The instruction at that address: that of the program, where the caller has it, else the word that stands in
-/// the memory is decoded. Refused exactly outside the code.
+/// The instruction at that address: that of the program, where the caller has it, else the word that stands
+/// in the memory is decoded. Refused exactly outside the code.
 #[inline]
 pub(crate) fn instruction_at<M: Guarded>(
     program: Option<&Program>,
