@@ -1,2 +1,4 @@
+pub mod ActingLemmas
 pub mod RunningLemmas
+pub mod ClassLemmas
 pub mod Worked

@@ -1,23 +1,13 @@
 -- Which modules of level 2 run under each class of faults.
-use Rattle.std.proofs.Common.{◌≡◌, ℕ, ◌-◌, ◌≤◌, ◌<◌, ◌⊎◌, inl, inr, Bool, true, false, refl, sym, subst, arith}
+use Rattle.std.proofs.Common.{◌≡◌, ℕ, ◌-◌, ◌<◌, ◌⊎◌, inl, inr, Bool, true, false, refl, sym, subst}
 use Rattle.std.specs.Prelude.{not, Some, None}
-use Rattle.std.proofs.lemmas.Bool.{cases_lt}
-use Rattle.std.proofs.lemmas.Bool.Decides.{nat_tests}
 use Rattle.eg_fault.specs.Effects.{Effects, no_effects}
 use Rattle.eg_fault.specs.Faults.{does, effects, is_left_out}
 use Rattle.eg_fault.specs.Running.{AllRun, NoneRuns, OthersRun, LeavesOut, RunsWhole, RunningLaw, RunAlike, may_change_levels}
 use Rattle.eg_fault.specs.declared.class.Class.{Class}
 use Rattle.eg_fault.specs.declared.class.Class.TheVariants.{Skip, Disturb, Flip, Halt, Lapse}
 use Rattle.eg_fault.specs.declared.class.Fault.{Fault}
-
--- before the onset, and without a fault, all modules run
-before-effects : (fault : Fault) (tick : ℕ) → tick < fault.onset → effects (Some fault) tick ≡ no_effects
-unfolding effects
-before-effects fault tick before = grind (arith, nat_tests)
-
-after-effects : (fault : Fault) (tick : ℕ) → fault.onset ≤ tick → effects (Some fault) tick ≡ does fault.class (tick - fault.onset)
-unfolding effects
-after-effects fault tick after = grind (arith, nat_tests)
+use Rattle.eg_fault.proofs.ActingLemmas.{before_onset, from_onset, of_class}
 
 all-no_effects : AllRun no_effects
 unfolding no_effects
@@ -45,18 +35,13 @@ without tick = all-no_effects
 
 -- whole or not at all, at each tick
 whole : (fault : Fault) → ((k : ℕ) → AllRun (does fault.class k) ⊎ NoneRuns (does fault.class k)) → RunsWhole (Some fault)
-whole fault each tick =
-    let Q : Effects → Type 0 = λ x. AllRun x ⊎ NoneRuns x in
-    elim (cases_lt tick fault.onset) [
-      | inl before ↦ subst Q (sym (before-effects fault tick before)) (inl all-no_effects)
-      | inr after ↦ subst Q (sym (after-effects fault tick after)) (each (tick - fault.onset))
-    ]
+whole fault each tick = of_class (λ x. AllRun x ⊎ NoneRuns x) fault (inl all-no_effects) each tick
 
 -- one is left out from the onset on
 left_out : (fault : Fault) (one : ℕ) → ((k : ℕ) → OthersRun one (does fault.class k)) → LeavesOut fault one
 left_out fault one each = record {
-  before = λ tick before. subst AllRun (sym (before-effects fault tick before)) all-no_effects;
-  after = λ tick after. subst (OthersRun one) (sym (after-effects fault tick after)) (each (tick - fault.onset));
+  before = λ tick before. subst AllRun (sym (before_onset fault tick before)) all-no_effects;
+  after = λ tick after. subst (OthersRun one) (sym (from_onset fault tick after)) (each (tick - fault.onset));
 }
 
 of-kind : (fault : Fault) → Kind fault.class → RunsWhole (Some fault) ⊎ ((one : ℕ) × LeavesOut fault one)
@@ -76,10 +61,10 @@ same x = record { level1 = refl; ran = refl; disturbance = refl; flip = refl }
 -- before the onset they run as without a fault
 pub same-before : (fault : Fault) (tick : ℕ) → tick < fault.onset → RunAlike (effects None tick) (effects (Some fault) tick)
 unfolding effects
-same-before fault tick before = subst (RunAlike no_effects) (sym (before-effects fault tick before)) (same no_effects)
+same-before fault tick before = subst (RunAlike no_effects) (sym (before_onset fault tick before)) (same no_effects)
 
 -- the other classes leave them alone
-spared : (class : Class) (k : ℕ) → may_change_levels class ≡ false → RunAlike no_effects (does class k)
+pub spared : (class : Class) (k : ℕ) → may_change_levels class ≡ false → RunAlike no_effects (does class k)
 unfolding does no_effects may_change_levels
 spared (Skip one) k is = absurd (let clash : true ≡ false = is in cc)
 spared (Disturb one mask) k is = absurd (let clash : true ≡ false = is in cc)
@@ -91,7 +76,4 @@ spared _ k is = record { level1 = refl; ran = refl; disturbance = refl; flip = r
 -- so under these they run at any tick as without a fault
 pub same-spared : (fault : Fault) (tick : ℕ) → may_change_levels fault.class ≡ false → RunAlike (effects None tick) (effects (Some fault) tick)
 unfolding effects
-same-spared fault tick is = elim (cases_lt tick fault.onset) [
-  | inl before ↦ same-before fault tick before
-  | inr after ↦ subst (RunAlike no_effects) (sym (after-effects fault tick after)) (spared fault.class (tick - fault.onset) is)
-]
+same-spared fault tick is = of_class (RunAlike no_effects) fault (same no_effects) (λ k. spared fault.class k is) tick

@@ -2,6 +2,7 @@
 -- it. Whoever speaks of a tick is handed this record, and knows of no fault and of no onset.
 use Rattle.std.specs.Prelude.{ℕ, ◌%◌, ◌==◌, Bool, true, false, not, [], ◌∷◌, slice_index, Option, Some, None}
 use Rattle.eg_sensor.specs.declared.readings.Readings.{Readings}
+use Rattle.eg_sensor.specs.declared.tracks.TheConstants.{PEDAL_1, PEDAL_2, PLATE_1, PLATE_2, LOAD_1, LOAD_2, SPEED_1, SPEED_2}
 use Rattle.eg_answer.specs.Times.{TimeParts}
 use Rattle.eg_answer.specs.Periods.{asked, is_send_tick, place_of}
 
@@ -49,10 +50,10 @@ no_effects = record {
 -- the readings, where sound tracks read these
 unfoldable pub readings_under : Effects → Readings → Readings
 readings_under x truth = record {
-  pedal = x.track 0 (slice_index truth.pedal 0) ∷ x.track 1 (slice_index truth.pedal 1) ∷ [];
-  plate = x.track 2 (slice_index truth.plate 0) ∷ x.track 3 (slice_index truth.plate 1) ∷ [];
-  load = x.track 4 (slice_index truth.load 0) ∷ x.track 5 (slice_index truth.load 1) ∷ [];
-  speed = x.track 6 (slice_index truth.speed 0) ∷ x.track 7 (slice_index truth.speed 1) ∷ [];
+  pedal = x.track PEDAL_1 (slice_index truth.pedal 0) ∷ x.track PEDAL_2 (slice_index truth.pedal 1) ∷ [];
+  plate = x.track PLATE_1 (slice_index truth.plate 0) ∷ x.track PLATE_2 (slice_index truth.plate 1) ∷ [];
+  load = x.track LOAD_1 (slice_index truth.load 0) ∷ x.track LOAD_2 (slice_index truth.load 1) ∷ [];
+  speed = x.track SPEED_1 (slice_index truth.speed 0) ∷ x.track SPEED_2 (slice_index truth.speed 1) ∷ [];
   raise = x.raise truth.raise;
   raise_check = truth.raise_check;
 }

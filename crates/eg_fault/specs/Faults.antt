@@ -3,10 +3,13 @@
 use Rattle.std.specs.Prelude.{ℕ, ◌+◌, ◌-◌, ◌%◌, ◌≤◌, ◌<◌, ◌==◌, ◌≡◌, ℤ, pos, negsuc, Bool, true, false, not, ◌&&◌, ◌||◌, min, nat_le, bit_xor, List, length, All, slice_index, slice_index_or, Option, Some, None, if◌then◌else◌}
 use Rattle.std.specs.List.{list_any}
 use Rattle.std.specs.List.Sorted.{IsStrictlyIncreasing}
+use Rattle.eg_sensor.specs.declared.tracks.TheConstants.{TRACKS}
+use Rattle.eg_answer.specs.declared.modules.TheConstants.{PEDAL, PAIRS, MODULES}
 use Rattle.eg_fault.specs.Effects.{Effects, no_effects}
 use Rattle.eg_fault.specs.declared.class.Class.{Class}
 use Rattle.eg_fault.specs.declared.class.Class.TheVariants.{Script, Offset, Bus, Plate, Skip, Disturb, Flip, Halt, Timing, Wild, Path1Closed, Path2Closed, PathOpen, Lapse}
 use Rattle.eg_fault.specs.declared.class.Fault.{Fault}
+use Rattle.eg_fault.specs.declared.paths.TheConstants.{PATH_1, PATH_2}
 
 -- ---- what a class does ----
 
@@ -43,8 +46,8 @@ does Halt k = record no_effects { level1 = false; ran = λ i. false }
 does (Timing offset) k = record no_effects { send = Some offset }
 does (Wild questions opens) k =
     record no_effects { wild = Some (in_turn questions k); opens = truth_in_turn opens k }
-does Path1Closed k = record no_effects { conducts = λ path is_open. path == 1 || not is_open }
-does Path2Closed k = record no_effects { conducts = λ path is_open. path == 2 || not is_open }
+does Path1Closed k = record no_effects { conducts = λ path is_open. path == PATH_1 || not is_open }
+does Path2Closed k = record no_effects { conducts = λ path is_open. path == PATH_2 || not is_open }
 does (PathOpen path) k =
     record no_effects { conducts = λ other is_open. not (other == path) && not is_open }
 does (Lapse after every) k = record no_effects { ran = λ i. not (is_left_out after every k) }
@@ -73,12 +76,12 @@ IsOffset (negsuc less) = IsMask (less + 1)
 -- the ranges of the numbers of a class
 unfoldable pub IsValidClass : Class → Type 0
 IsValidClass (Script track values) =
-    (track < 8) × AreFew (length values) × All (λ value. value ≤ 65535) values
-IsValidClass (Offset track add) = (track < 8) × IsOffset add
+    (track < TRACKS) × AreFew (length values) × All (λ value. value ≤ 65535) values
+IsValidClass (Offset track add) = (track < TRACKS) × IsOffset add
 IsValidClass (Bus mask) = IsMask mask
 IsValidClass (Plate at) = at ≤ 1000
-IsValidClass (Skip index) = index < 8
-IsValidClass (Disturb index mask) = (1 ≤ index) × (index ≤ 5) × IsMask mask
+IsValidClass (Skip index) = index < MODULES
+IsValidClass (Disturb index mask) = (PEDAL ≤ index) × (index ≤ PAIRS) × IsMask mask
 IsValidClass (Flip word mask) = (word < 32) × IsMask mask
 IsValidClass Halt = Unit {0}
 IsValidClass (Timing offset) = offset ≤ 99
@@ -86,7 +89,7 @@ IsValidClass (Wild questions opens) =
     AreFew (length questions) × All (λ question. question ≤ 65535) questions × AreFew (length opens)
 IsValidClass Path1Closed = Unit {0}
 IsValidClass Path2Closed = Unit {0}
-IsValidClass (PathOpen path) = (1 ≤ path) × (path ≤ 2)
+IsValidClass (PathOpen path) = (PATH_1 ≤ path) × (path ≤ PATH_2)
 IsValidClass (Lapse after every) =
     AreFew (length after) × All (λ k. k ≤ 19999) after × IsStrictlyIncreasing after × (every ≤ 20000)
 

@@ -3,7 +3,9 @@ ghost use Rattle.std.specs.Prelude.{◌≡◌, ◌≤◌, ◌↔◌, IsTrue, All
 ghost use Rattle.std.specs.List.Sorted.{IsStrictlyIncreasing};
 ghost use Rattle.eg_fault.specs.Faults.{AreFew, IsValid, IsValidClass, IsOffset};
 
-use crate::{Opens, Script};
+use crate::{Opens, PATH_1, PATH_2, Script};
+use eg_answer::{MODULES, PAIRS, PEDAL};
+use eg_sensor::TRACKS;
 
 /// A fault outside level 1 (docs/CONCEPT.md, "Faults"): from the tick of its onset on it does what its class
 /// says, and before that nothing.
@@ -119,14 +121,14 @@ impl Class {
     {
         match self {
             Class::Script { track, values } => is_script(*track, values),
-            Class::Offset { track, add } => *track < 8 && is_offset(*add),
+            Class::Offset { track, add } => *track < TRACKS && is_offset(*add),
             Class::Bus { mask } => *mask != 0,
             Class::Plate { at } => *at <= 1000,
-            Class::Skip { module } => *module < 8,
-            Class::Disturb { module, mask } => 1 <= *module && *module <= 5 && *mask != 0,
+            Class::Skip { module } => *module < MODULES,
+            Class::Disturb { module, mask } => PEDAL <= *module && *module <= PAIRS && *mask != 0,
             Class::Flip { word, mask } => *word < 32 && *mask != 0,
             Class::Timing { offset } => *offset <= 99,
-            Class::PathOpen { path } => 1 <= *path && *path <= 2,
+            Class::PathOpen { path } => PATH_1 <= *path && *path <= PATH_2,
             Class::Wild { questions, opens } => is_wild(questions, opens),
             Class::Lapse { after, every } => is_lapse(after, *every),
             Class::Halt | Class::Path1Closed | Class::Path2Closed => true,
@@ -141,7 +143,7 @@ fn is_script(track: u8, values: &Script) -> bool
 {
     // Whoever reads the numbers learns that they are 1 to 64 words.
     let _values = values.values();
-    track < 8
+    track < TRACKS
 }
 
 /// Whether a class `Wild` of these is valid: each is.

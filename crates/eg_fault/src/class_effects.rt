@@ -5,7 +5,7 @@ ghost use Rattle.eg_fault.specs.Faults;
 ghost use Rattle.eg_fault.specs.Faults.{does};
 ghost use Rattle.eg_fault.specs.Running.{may_change_levels};
 
-use crate::{Class, Opens, Script};
+use crate::{Class, Opens, PATH_1, PATH_2, Script};
 
 impl Class {
     /// What a track reads, where a sound one reads that.
@@ -134,8 +134,8 @@ impl Class {
         ensures { result ≡ (does self.now after).conducts path opened }
     {
         match self {
-            Class::Path1Closed => path == 1 || !opened,
-            Class::Path2Closed => path == 2 || !opened,
+            Class::Path1Closed => path == PATH_1 || !opened,
+            Class::Path2Closed => path == PATH_2 || !opened,
             Class::PathOpen { path: broken } => path != *broken && !opened,
             _ => !opened,
         }

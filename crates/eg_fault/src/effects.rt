@@ -5,11 +5,11 @@ ghost use Rattle.eg_answer.specs.Periods;
 ghost use Rattle.eg_fault.specs.Effects;
 ghost use Rattle.eg_fault.specs.Effects.{no_effects, readings_under, sends_at};
 ghost use Rattle.eg_fault.specs.Faults.{effects, does};
-ghost use Rattle.eg_fault.specs.Running.{RunningLaw, RunAlike};
+ghost use Rattle.eg_fault.specs.Running.{RunAlike};
 
 use crate::{Class, Fault};
 use eg_answer::Times;
-use eg_sensor::Readings;
+use eg_sensor::{LOAD_1, LOAD_2, PEDAL_1, PEDAL_2, PLATE_1, PLATE_2, Readings, SPEED_1, SPEED_2};
 
 /// What the sensors read at a tick, where sound tracks read the truth (docs/CONCEPT.md, "Faults").
 #[tactic(auto, unfolding(crate::specs::Effects::readings_under))]
@@ -18,20 +18,20 @@ pub fn faulty_readings(fault: Option<&Fault>, tick: u32, truth: &Readings) -> Re
 {
     Readings {
         pedal: [
-            track(fault, tick, 0, truth.pedal[0]),
-            track(fault, tick, 1, truth.pedal[1]),
+            track(fault, tick, PEDAL_1, truth.pedal[0]),
+            track(fault, tick, PEDAL_2, truth.pedal[1]),
         ],
         plate: [
-            track(fault, tick, 2, truth.plate[0]),
-            track(fault, tick, 3, truth.plate[1]),
+            track(fault, tick, PLATE_1, truth.plate[0]),
+            track(fault, tick, PLATE_2, truth.plate[1]),
         ],
         load: [
-            track(fault, tick, 4, truth.load[0]),
-            track(fault, tick, 5, truth.load[1]),
+            track(fault, tick, LOAD_1, truth.load[0]),
+            track(fault, tick, LOAD_2, truth.load[1]),
         ],
         speed: [
-            track(fault, tick, 6, truth.speed[0]),
-            track(fault, tick, 7, truth.speed[1]),
+            track(fault, tick, SPEED_1, truth.speed[0]),
+            track(fault, tick, SPEED_2, truth.speed[1]),
         ],
         raise: raise(fault, tick, truth.raise),
         raise_check: truth.raise_check,
@@ -139,14 +139,6 @@ pub fn conducts(fault: Option<&Fault>, tick: u32, path: u8, opened: bool) -> boo
     };
     class.conducts(after, path, opened)
 }
-
-/// Does nothing when it runs. Its contract is a law: without a fault and under any fault all modules of level
-/// 2 run at a tick, or none does, or all but one, and then it is the same one at each tick from the onset on
-/// (docs/CONCEPT.md, "Faults").
-#[tactic(auto, using(crate::proofs::RunningLemmas::running_law))]
-pub fn modules_run_together()
-    ensures { RunningLaw }
-{}
 
 /// What a track (0 to 7) reads at a tick, where a sound one reads that.
 #[tactic(auto, unfolding(crate::specs::Effects::no_effects))]

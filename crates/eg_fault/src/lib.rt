@@ -5,13 +5,15 @@
 mod class;
 mod class_effects;
 mod effects;
+mod laws;
 mod paths;
 mod script;
 
 pub use class::{Class, Fault};
 pub use effects::{
     conducts, disturbance, fault_of_levels, faulty_readings, flip, held, level1_runs, module_runs,
-    modules_run_together, sends, wild,
+    sends, wild,
 };
+pub use laws::{faults_leave_the_rest, modules_run_together, plates_are_held_within};
 pub use paths::{PATH_1, PATH_2};
 pub use script::{Opens, Script};

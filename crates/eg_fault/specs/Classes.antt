@@ -1,0 +1,79 @@
+-- What holds of each class of faults, and so of every fault: what it leaves alone, and the range that a held
+-- plate keeps.
+use Rattle.std.specs.Prelude.{ℕ, ◌≡◌, ◌≢◌, ◌==◌, ◌≤◌, Bool, true, false, Option, Some, None, IfSome}
+use Rattle.eg_fault.specs.Effects.{Effects}
+use Rattle.eg_fault.specs.Faults.{effects, IsNoneOrValid}
+use Rattle.eg_fault.specs.Running.{RunAlike, may_change_levels}
+use Rattle.eg_fault.specs.declared.class.Class.{Class}
+use Rattle.eg_fault.specs.declared.class.Class.TheVariants.{Timing, Wild, Path1Closed, Path2Closed}
+use Rattle.eg_fault.specs.declared.class.Fault.{Fault}
+use Rattle.eg_fault.specs.declared.paths.TheConstants.{PATH_1, PATH_2}
+
+-- ---- tracks ----
+
+-- a track that reads what a sound one reads
+abbrev pub IsSound : Effects → ℕ → Type 0
+IsSound x i = (v : ℕ) → x.track i v ≡ v
+
+-- under each fault all tracks but one are sound, at each tick
+abbrev pub OneTrackIsFaulty : Type 0
+OneTrackIsFaulty =
+    (fault : Option Fault) → (one : ℕ) × ((tick i : ℕ) → i ≢ one → IsSound (effects fault tick) i)
+
+-- ---- the plate ----
+
+-- a plate that is held is within its range
+abbrev pub IsHeldWithin : Option ℕ → Type 0
+IsHeldWithin held = IfSome held (λ at. at ≤ 1000)
+
+-- so it is at each tick, without a fault and under each valid one
+abbrev pub PlatesAreHeldWithin : Type 0
+PlatesAreHeldWithin =
+    (fault : Option Fault) → IsNoneOrValid fault → (tick : ℕ) → IsHeldWithin (effects fault tick).held
+
+-- ---- level 1 and level 2 ----
+
+-- where a class is none of those that may change them, they run as without a fault
+abbrev pub OthersSpareLevels : Type 0
+OthersSpareLevels =
+    (fault : Fault) (tick : ℕ) → may_change_levels fault.class ≡ false →
+    RunAlike (effects None tick) (effects (Some fault) tick)
+
+-- ---- questions and answers ----
+
+-- answers are sent at the usual tick of a period, and the monitoring module isn't wild
+pub record IsRegular (x : Effects) : Type 0 where
+  pub sends : x.send ≡ None
+  pub judged : x.wild ≡ None
+
+-- the classes under which it is otherwise
+unfoldable pub may_change_answers : Class → Bool
+may_change_answers (Timing offset) = true
+may_change_answers (Wild questions opens) = true
+may_change_answers _ = false
+
+-- under all others it is so at each tick
+abbrev pub OthersSpareAnswers : Type 0
+OthersSpareAnswers =
+    (fault : Fault) (tick : ℕ) → may_change_answers fault.class ≡ false →
+    IsRegular (effects (Some fault) tick)
+
+-- where the monitoring module isn't wild at a tick, it wasn't at any tick before
+abbrev pub WildStaysWild : Type 0
+WildStaysWild =
+    (fault : Option Fault) (earlier later : ℕ) → earlier ≤ later → (effects fault later).wild ≡ None →
+    (effects fault earlier).wild ≡ None
+
+-- ---- the shut-off paths ----
+
+-- the classes under which a path conducts though its latch is open
+unfoldable pub closes : Class → ℕ → Bool
+closes Path1Closed path = path == PATH_1
+closes Path2Closed path = path == PATH_2
+closes _ path = false
+
+-- under all others a path whose latch is open doesn't conduct
+abbrev pub OthersObeyLatches : Type 0
+OthersObeyLatches =
+    (fault : Fault) (tick path : ℕ) → closes fault.class path ≡ false →
+    (effects (Some fault) tick).conducts path true ≡ false

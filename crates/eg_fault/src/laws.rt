@@ -1,0 +1,28 @@
+// The laws of all faults. None of these functions does anything when it runs.
+ghost use Rattle.eg_fault.specs.Classes.{OneTrackIsFaulty, PlatesAreHeldWithin, OthersSpareLevels, OthersSpareAnswers, WildStaysWild, OthersObeyLatches};
+ghost use Rattle.eg_fault.specs.Running.{RunningLaw};
+
+/// A law: without a fault and under any fault all modules of level 2 run at a tick, or none does, or all but
+/// one, and then it is the same one at each tick from the onset on (docs/CONCEPT.md, "Faults").
+#[tactic(auto, using(crate::proofs::RunningLemmas::running_law))]
+pub fn modules_run_together()
+    ensures { RunningLaw }
+{}
+
+/// Laws of what a fault leaves alone (docs/CONCEPT.md, "Faults"): all tracks but one are sound; level 1 and
+/// level 2, the ticks of answers, and a path whose latch is open are as without a fault, but for the classes
+/// that may change them; and a monitoring module that isn't wild has never been.
+pub fn faults_leave_the_rest()
+    ensures tracks { OneTrackIsFaulty }
+    ensures levels { OthersSpareLevels }
+    ensures answers { OthersSpareAnswers }
+    ensures wild { WildStaysWild }
+    ensures paths { OthersObeyLatches }
+{}
+
+/// A law: under a valid fault a plate that is held is held at 1000 per mille at most (docs/CONCEPT.md,
+/// "Faults").
+#[tactic(auto, using(crate::proofs::ClassLemmas::plates_are_held_within))]
+pub fn plates_are_held_within()
+    ensures { PlatesAreHeldWithin }
+{}
