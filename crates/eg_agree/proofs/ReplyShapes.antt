@@ -9,10 +9,10 @@ use Rattle.eg_fault.specs.Running.{AllRun, OthersRun, RunsWhole}
 use Rattle.eg_fault.specs.declared.class.Class.{Class}
 use Rattle.eg_fault.specs.declared.class.Class.TheVariants.{Disturb, Skip, Halt, Lapse}
 use Rattle.eg_fault.specs.declared.class.Fault.{Fault}
+use Rattle.eg_fault.proofs.ActingLemmas.{of_valid}
 use Rattle.eg_fault.proofs.RunningLemmas.{running_law}
 use Rattle.eg_flow.specs.Flow.{AtMostOneIsDisturbed}
 use Rattle.eg_model.specs.History.{Setting}
-use Rattle.eg_model.proofs.ClassLemmas.{Acts, of_effects}
 use Rattle.eg_agree.specs.Doings.{doing_at}
 use Rattle.eg_fault.specs.Faults.{IsNoneOrValid}
 
@@ -90,13 +90,6 @@ few_by (Disturb index mask) k valid s reads tick = inr (record {
 })
 few_by _ k valid s reads tick = inl (λ i. refl)
 
-valid_acts : (fault : Option Fault) (tick : ℕ) → IsNoneOrValid fault → (a : Acts fault tick) →
-    IsValidClass a.fault.class
-unfolding IsNoneOrValid
-valid_acts fault tick valid a = (subst IsNoneOrValid a.is valid).1
-
 pub few_are_disturbed : (fault : Option Fault) (tick : ℕ) → IsNoneOrValid fault →
     FewAreDisturbed (effects fault tick)
-few_are_disturbed fault tick valid =
-    of_effects FewAreDisturbed fault tick none_by
-    (λ a. few_by a.fault.class (tick - a.fault.onset) (valid_acts fault tick valid a))
+few_are_disturbed fault tick valid = of_valid FewAreDisturbed none_by few_by fault valid tick

@@ -9,6 +9,7 @@ use Rattle.eg_draw.proofs.ProperLemmas.{drawn_proper}
 use Rattle.eg_soak.specs.Soak.{run_drawn, drawn_runs}
 use Rattle.eg_soak.specs.Texts.{lines_of, numbers, soak_text}
 use Rattle.eg_soak.specs.declared.summary.SoakSummary.{SoakSummary}
+use Rattle.eg_soak.proofs.FactsLemmas.{any_fault}
 use Rattle.eg_play.specs.Headline.{KeepsHeadline}
 use Rattle.eg_play.proofs.HeadlineLemmas.{headline}
 
@@ -22,5 +23,6 @@ drawn_keep_headline accepted zero x = All-nil KeepsHeadline
 drawn_keep_headline accepted (suc count) x =
     let run = run_drawn (drawn_run x) in
     All-cons KeepsHeadline run (drawn_runs count (state_after x))
-    (headline run (record { accepted = accepted; drive = (drawn_proper x).within }))
+    (headline run (record { accepted = accepted; drive = (drawn_proper x).within })
+    (any_fault (drawn_run x).fault (drawn_proper x).valid))
     (drawn_keep_headline accepted count (state_after x))

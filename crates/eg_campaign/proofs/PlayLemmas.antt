@@ -4,7 +4,7 @@ use Rattle.std.specs.Prelude.{reverse, Option, Result, Ok, Err, IfOk, OnOk}
 use Rattle.std.specs.List.{sum}
 use Rattle.std.proofs.Math.Nat.{mod-eq_of_lt}
 use Rattle.std.proofs.Math.Seq.{take-suc}
-use Rattle.std.proofs.lemmas.List.{reverse-reverse, map-append, take-append-drop}
+use Rattle.std.proofs.lemmas.List.{map-append, take-append-drop}
 use Rattle.std.proofs.lemmas.List.Sums.{sum_by-append}
 use Rattle.std.proofs.lemmas.List.Sorted.{sum_by-IsPermutation, IsPermutation-reverse, IsPermutation-map}
 use Rattle.eg_num.specs.Drive.{DriveRow}
@@ -19,15 +19,13 @@ use Rattle.eg_model.proofs.RecordLaws.{records_are_rows}
 use Rattle.eg_tick.specs.Weights.{TickCount, weight_of}
 use Rattle.eg_tick.specs.Run.{run_by}
 use Rattle.eg_tick.proofs.RunLemmas.{more-mod}
+use Rattle.eg_tick.proofs.RunLaws.{newest_first}
 use Rattle.eg_campaign.specs.Plays.{ticks_of, weights_of, count_after}
 
 -- ---- the rows of a record ----
 
-pub in_time : (r : Run) (rows : List Row) → rows ≡ reverse (record_rows r) → record_rows r ≡ reverse rows
-in_time r rows are = sym (ap reverse are ∙ reverse-reverse (record_rows r))
-
 pub are_rows : (r : Run) (rows : List Row) → rows ≡ reverse (record_rows r) → AreRows (reverse rows)
-are_rows r rows are = subst AreRows (in_time r rows are)
+are_rows r rows are = subst AreRows (newest_first r rows are)
     (unfold record_rows in (unfold rows_to in (records_are_rows r (length r.drive)).0))
 
 -- runs of equal parts are equal

@@ -8,14 +8,16 @@ use Rattle.eg_answer.specs.Periods.{place_of, is_send_tick, is_in_window, Marked
 use Rattle.eg_answer.specs.declared.marks.AnswerMark.{AnswerMark}
 use Rattle.eg_answer.specs.declared.marks.AnswerMark.TheVariants.{Absent, Good, Bad}
 use Rattle.eg_fault.specs.Effects.{Effects, sends_in, sends_at}
+use Rattle.eg_fault.specs.Classes.{IsRegular}
 use Rattle.eg_model.specs.History.{Setting, Tick, Moment}
 use Rattle.eg_model.specs.Answers.{is_whole, is_undisturbed, is_answer, whole_since_answer, is_sent, is_good, mark_at, with_answer, answers_in}
 use Rattle.eg_model.specs.Moments.{moment, moments_of}
 use Rattle.eg_model.proofs.TickLemmas.{Each, length-moments, moment-mark, moment-whole, moment-tick, moment-verdict}
-use Rattle.eg_model.proofs.Silence.{IsRegular, period_least, verdict_none, verdict_some, wrongs, with_wrong, wrongs-cons}
+use Rattle.eg_model.proofs.Silence.{period_least, verdict_none, verdict_some, wrongs, with_wrong, wrongs-cons}
 use Rattle.eg_model.proofs.LapseRuns.{AllOrNoneEach, count-cons, runs_in, runs_in-cons}
 use Rattle.std.proofs.lemmas.Nat.{mod-mul-add}
 use Rattle.eg_answer.specs.declared.marks.Verdict.TheVariants.{Right, Wrong}
+use Rattle.eg_answer.specs.declared.modules.TheConstants.{REACT}
 
 -- ---- a good answer takes a whole period of runs ----
 
@@ -61,7 +63,7 @@ unfolding mark_at is_sent
 absent_off_place times x trip past regular e =
     let off = sends-is times x (length past) regular ∙ e in
     ap (λ sent. if sent then (if is_good x past then Good else Bad) else Absent)
-    (and_left _ _ (and_left _ (x.ran 7) off))
+    (and_left _ _ (and_left _ (x.ran REACT) off))
 
 -- where no answer is sent, all modules ran since the last one only where they ran now
 whole_before : (m : Moment) (past : List Moment) → m.mark ≡ Absent → whole_since_answer (m ∷ past) ≡ true →

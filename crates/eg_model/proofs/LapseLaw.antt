@@ -9,6 +9,7 @@ use Rattle.eg_torque.specs.Excess.{is_excess}
 use Rattle.eg_answer.specs.Times.{runs_to_confirm, periods_to_confirm, worth_of, HasLapseBound, rounds_to_confirm, lapse_periods, lapse_bound_of}
 use Rattle.eg_values.specs.Calibration.{IsAccepted}
 use Rattle.eg_fault.specs.Effects.{Effects}
+use Rattle.eg_fault.specs.declared.paths.TheConstants.{PATH_2}
 use Rattle.eg_record.specs.Excess.{true_excess}
 use Rattle.eg_model.specs.History.{Setting, Entry, Tick, Moment}
 use Rattle.eg_model.specs.Signals.{tripped}
@@ -17,7 +18,7 @@ use Rattle.eg_model.specs.Paths.{latch2, path2_at, on_at}
 use Rattle.eg_model.specs.Moments.{moment, moments_of}
 use Rattle.eg_model.specs.Rows.{row_of, rows_of}
 use Rattle.eg_model.specs.Premises.{AreProper, IsProper, Follows, is_on_after, true_excesses}
-use Rattle.eg_model.specs.Lapses.{IsLapse, Exceeds, CutsLapses, LapsesAreShort}
+use Rattle.eg_model.specs.Lapses.{IsLapse, Exceeds, CutsLapses, StretchesAreShort}
 use Rattle.eg_model.proofs.TripLemmas.{exceeds, latch1_on, off_by_latch1}
 use Rattle.eg_model.proofs.Silence.{wrongs, run_confirms, longer_run, latch2-cons, opens_when_confirmed, period_least, send_within}
 use Rattle.eg_model.proofs.ClassLemmas.{of_history}
@@ -178,10 +179,10 @@ unfolding moments_of
 latch2_on s [] h u = u
 latch2_on s (x ∷ more) h u = latch2-cons _ _ ∙ or_right _ _ (latch2_on s more h u)
 
-off_by_latch2 : (s : Setting) (x : Effects) (e : Entry) (ms : List Moment) → x.conducts 2 true ≡ false →
+off_by_latch2 : (s : Setting) (x : Effects) (e : Entry) (ms : List Moment) → x.conducts PATH_2 true ≡ false →
     latch2 ms ≡ true → (moment s x e ms).on ≡ false
 unfolding moment on_at path2_at
-off_by_latch2 s x e ms opens u = and_right _ _ (ap (x.conducts 2) u ∙ opens)
+off_by_latch2 s x e ms opens u = and_right _ _ (ap (x.conducts PATH_2) u ∙ opens)
 
 off_after_periods : (s : Setting) (h more : List Tick) → EndsWithPeriods s h → (x : Tick) →
     AllOrNone x.effects → is_on_after s (more ++ h) x ≡ false
@@ -285,7 +286,7 @@ room from whole period n positive long = record {
     back : first + whole - whole ≡ first
     back = omega arith
 
-pub lapses_are_short : LapsesAreShort
+pub lapses_are_short : StretchesAreShort
 unfolding lapse_bound_of
 lapses_are_short s accepted bounded lapse start h follows proper n exceed =
     elim (less_or n (lapse_bound_of s.cal.rules.torque s.cal.times)) [

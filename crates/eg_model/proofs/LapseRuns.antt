@@ -1,17 +1,20 @@
 -- Under lapses level 2 runs as a whole or not at all, and each of its runs in a stretch of excess finds the
 -- excess.
-use Rattle.std.proofs.Common.{◌≡◌, ℕ, zero, suc, ◌+◌, ◌-◌, Bool, true, false, not, ◌||◌, ◌&&◌, cond, List, [], ◌∷◌, take, refl, sym, ap, ◌∙◌, subst, arith, Option, None, nat_le, is_some, inl}
+use Rattle.std.proofs.Common.{◌≡◌, ℕ, zero, suc, ◌+◌, Bool, true, false, not, ◌||◌, ◌&&◌, cond, List, [], ◌∷◌, take, refl, sym, ap, ◌∙◌, subst, arith, Option, None, is_some, inl}
 use Rattle.std.specs.Prelude.{if◌then◌else◌}
 use Rattle.std.specs.List.{list_all, count_by}
 use Rattle.std.proofs.lemmas.List.Sums.{sum_by-cons}
 use Rattle.std.proofs.lemmas.Bool.{or_left, or_right, or_from, and_left, and_parts}
 use Rattle.eg_num.specs.Windows.{WeightParts, is_confirmed}
 use Rattle.eg_num.proofs.FirstPlaceLemmas.{is_first_from}
+use Rattle.eg_answer.specs.declared.modules.TheConstants.{DEBOUNCE, REACT}
 use Rattle.eg_values.specs.Calibration.{IsAccepted}
 use Rattle.eg_fault.specs.Effects.{Effects, no_effects}
 use Rattle.eg_fault.specs.Faults.{is_left_out, does, effects}
+use Rattle.eg_fault.specs.Classes.{IsSound, IsRegular}
 use Rattle.eg_fault.specs.declared.class.Class.TheVariants.{Lapse}
 use Rattle.eg_fault.specs.declared.class.Fault.{Fault}
+use Rattle.eg_fault.proofs.ActingLemmas.{of_class}
 use Rattle.eg_model.specs.History.{Setting, Tick, Moment, Signals}
 use Rattle.eg_model.specs.Signals.{tripped}
 use Rattle.eg_model.specs.Detection.{feeds_at, fed_bits, finds, torque_bit}
@@ -23,8 +26,8 @@ use Rattle.eg_model.specs.Premises.{AreProper, true_excesses}
 use Rattle.eg_model.specs.Lapses.{IsLapse}
 use Rattle.eg_model.proofs.TickLemmas.{Each, tripped-cons, untripped_before, moment-whole, moment-trip, moment-mirror, moment-plate, moment-load, moment-speed, moment-torque_found, moment-torque, trip_from_torque}
 use Rattle.eg_model.proofs.TripLemmas.{fed_bits-cons, confirmed_none, latch1-cons, latch1_from_trip}
-use Rattle.eg_model.proofs.Seeing.{IsSound, IsUndisturbed, SeesExcess, errs_safely, excess_seen}
-use Rattle.eg_model.proofs.Silence.{IsRegular, TrueRun}
+use Rattle.eg_model.proofs.Seeing.{IsUndisturbed, SeesExcess, errs_safely, excess_seen}
+use Rattle.eg_model.proofs.Silence.{TrueRun}
 
 -- ---- what lapses leave as it is ----
 
@@ -38,11 +41,10 @@ pub record AllOrNone (x : Effects) : Type 0 where
   pub regular : IsRegular x
   pub obeys : (path : ℕ) → x.conducts path true ≡ false
 
-all_or_none : (b : Bool) (after : List ℕ) (every k : ℕ) →
-    AllOrNone (if b then does (Lapse after every) k else no_effects)
-unfolding does no_effects
-all_or_none true after every k = record {
-  runs = not (is_left_out after every k);
+none_out : AllOrNone no_effects
+unfolding no_effects
+none_out = record {
+  runs = true;
   ran = λ i. refl;
   unflipped = refl;
   undisturbed = λ i. refl;
@@ -50,8 +52,11 @@ all_or_none true after every k = record {
   regular = record { sends = refl; judged = refl };
   obeys = λ path. refl;
 }
-all_or_none false after every k = record {
-  runs = true;
+
+all_or_none : (after : List ℕ) (every k : ℕ) → AllOrNone (does (Lapse after every) k)
+unfolding does no_effects
+all_or_none after every k = record {
+  runs = not (is_left_out after every k);
   ran = λ i. refl;
   unflipped = refl;
   undisturbed = λ i. refl;
@@ -62,9 +67,9 @@ all_or_none false after every k = record {
 
 -- so it is at each tick of a run with a lapse
 pub lapse_all_or_none : (f : Option Fault) → IsLapse f → (t : ℕ) → AllOrNone (effects f t)
-unfolding effects
 lapse_all_or_none f lapse t = subst (λ g. AllOrNone (effects g t)) (sym lapse.is)
-    (all_or_none (nat_le lapse.onset t) lapse.after lapse.every (t - lapse.onset))
+    (of_class AllOrNone (record { onset = lapse.onset; class = Lapse lapse.after lapse.every }) none_out
+    (all_or_none lapse.after lapse.every) t)
 
 abbrev pub AllOrNoneEach : List Tick → Type 0
 AllOrNoneEach h = Each (λ x. AllOrNone x.effects) h
@@ -84,7 +89,7 @@ module _ (s : Setting) (x : Tick) (past : List Moment) (one : AllOrNone x.effect
 
   feeds-is : tripped past ≡ false → now.feeds ≡ one.runs
   unfolding moment feeds_at
-  feeds-is u = rw (one.ran 6, u, one.unflipped) (and_trues one.runs)
+  feeds-is u = rw (one.ran DEBOUNCE, u, one.unflipped) (and_trues one.runs)
     where
       and_trues : (b : Bool) → (b && true && true) ≡ b
       and_trues true = refl
@@ -92,7 +97,7 @@ module _ (s : Setting) (x : Tick) (past : List Moment) (one : AllOrNone x.effect
 
   feeds_out : one.runs ≡ false → now.feeds ≡ false
   unfolding moment feeds_at
-  feeds_out out = and_left _ _ (and_left _ _ (one.ran 6 ∙ out))
+  feeds_out out = and_left _ _ (and_left _ _ (one.ran DEBOUNCE ∙ out))
 
   -- where level 2 doesn't run it finds nothing
   trip_out : one.runs ≡ false → now.trip ≡ false
@@ -138,7 +143,7 @@ trip_opens s (x ∷ h) each u = go each.0.runs refl (trip_opens s h each.1)
 
     go : (runs : Bool) → each.0.runs ≡ runs → (tripped past ≡ true → latch1 past ≡ true) →
         latch1 (moment s x.effects x.entry past ∷ past) ≡ true
-    go true runs before = latch1_from_trip s x h (each.0.ran 7 ∙ runs) u
+    go true runs before = latch1_from_trip s x h (each.0.ran REACT ∙ runs) u
     go false out before = latch1-cons _ _
         ∙ or_right _ _ (before (older _ _ (sym (tripped-cons _ _) ∙ u) (trip_out s x past each.0 out)))
 

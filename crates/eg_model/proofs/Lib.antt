@@ -15,3 +15,4 @@ pub mod LapseRuns
 pub mod LapseAnswers
 pub mod LapseWeights
 pub mod LapseLaw
+pub mod RowLaws

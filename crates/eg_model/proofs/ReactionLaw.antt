@@ -1,16 +1,22 @@
 -- The reaction theorem, class by class.
-use Rattle.std.proofs.Common.{◌≡◌, ℕ, suc, ◌+◌, ◌-◌, ◌≤◌, ◌<◌, Bool, true, false, not, ◌||◌, ◌&&◌, List, [], ◌∷◌, ◌++◌, length, refl, sym, ap, ◌∙◌, arith, inl, inr, ◌⊎◌, Option, Some, None, ◌≢◌, length-append, append_assoc, nat_le, subst, is_some}
-use Rattle.std.specs.Prelude.{if◌then◌else◌, ◌==◌}
+use Rattle.std.proofs.Common.{◌≡◌, ℕ, suc, ◌+◌, ◌-◌, ◌≤◌, ◌<◌, Bool, true, false, ◌||◌, ◌&&◌, List, [], ◌∷◌, ◌++◌, length, refl, sym, ap, ◌∙◌, arith, inl, inr, ◌⊎◌, Option, Some, None, ◌≢◌, length-append, append_assoc, nat_le, subst, is_some}
+use Rattle.std.specs.Prelude.{if◌then◌else◌}
 use Rattle.std.proofs.lemmas.Bool.{or_left, or_right, leb-true, le-leb}
 use Rattle.eg_num.specs.Windows.{is_confirmed}
 use Rattle.eg_answer.specs.Times.{TimeParts, reaction_of}
 use Rattle.eg_answer.specs.declared.marks.AnswerMark.TheVariants.{Absent, Good, Bad}
+use Rattle.eg_answer.specs.declared.modules.TheConstants.{REACT}
 use Rattle.eg_values.specs.Calibration.{IsAccepted}
 use Rattle.eg_fault.specs.Effects.{Effects, no_effects}
 use Rattle.eg_fault.specs.Faults.{does, effects, IsValidClass, is_lapse, IsListed}
+use Rattle.eg_fault.specs.Running.{may_change_levels}
+use Rattle.eg_fault.specs.Classes.{IsRegular, may_change_answers, closes}
 use Rattle.eg_fault.specs.declared.class.Class.{Class}
-use Rattle.eg_fault.specs.declared.class.Class.TheVariants.{Script, Offset, Bus, Plate, Skip, Disturb, Flip, Halt, Timing, Wild, Path1Closed, Path2Closed, PathOpen, Lapse}
+use Rattle.eg_fault.specs.declared.class.Class.TheVariants.{Skip, Disturb, Flip, Halt, Path1Closed, Lapse}
 use Rattle.eg_fault.specs.declared.class.Fault.{Fault}
+use Rattle.eg_fault.specs.declared.paths.TheConstants.{PATH_1, PATH_2}
+use Rattle.eg_fault.proofs.ActingLemmas.{at_tick, of_class}
+use Rattle.eg_fault.proofs.ClassLemmas.{regular, regular-class, obeys, obeys-class}
 use Rattle.eg_model.specs.History.{Setting, Tick, Moment}
 use Rattle.eg_model.specs.Signals.{tripped}
 use Rattle.eg_model.specs.Answers.{is_sent, is_good, mark_at}
@@ -21,8 +27,8 @@ use Rattle.eg_model.specs.Reaction.{ReactsInTime, ReactsAtOnce, reacts_at_once, 
 use Rattle.eg_model.proofs.TickLemmas.{Each, Each-map, moment-mark, moment-mirror, trip_from_mirror, tripped-cons, tripped_on}
 use Rattle.eg_model.proofs.TripLemmas.{trip_by_excess, off_after_trip}
 use Rattle.eg_model.proofs.Seeing.{SeesExcess, sees_all}
-use Rattle.eg_model.proofs.Silence.{IsRegular, NoGood, off_after_silence}
-use Rattle.eg_model.proofs.ClassLemmas.{of_effects, of_history, sees_plain, sees_script, sees_offset, sees_bus, sees_plate, sees_flip, sees_timing, sees_wild, sees_path_1_closed, sees_path_2_closed, sees_path_open, regular_plain, regular_skip, regular_disturb, regular_halt, regular_path_1_closed, mark_not_good, IsSpoiled, spoiled_skip, spoiled_halt, spoiled_disturb}
+use Rattle.eg_model.proofs.Silence.{NoGood, off_after_silence}
+use Rattle.eg_model.proofs.ClassLemmas.{of_history, sees_plain, sees_spared, sees_flip, mark_not_good, IsSpoiled, spoiled_skip, spoiled_halt, spoiled_disturb}
 
 -- ---- what holds at each tick of a run ----
 
@@ -33,31 +39,14 @@ Between P f from to = (t : ℕ) → from ≤ t → t < to → P (effects f t)
 abbrev pub Always : (Effects → Type 0) → Option Fault → Type 0
 Always P f = (t : ℕ) → P (effects f t)
 
--- path 1, and path 2, doesn't conduct where its latch is open
-abbrev pub Obeys1 : Effects → Type 0
-Obeys1 x = x.conducts 1 true ≡ false
-
-abbrev pub Obeys2 : Effects → Type 0
-Obeys2 x = x.conducts 2 true ≡ false
-
--- what the class of a fault does, at all ticks
-of_class : (P : Effects → Type 0) (x : Fault) → P no_effects → ((k : ℕ) → P (does x.class k)) →
-    Always P (Some x)
-of_class P x none p t = of_effects P (Some x) t none
-    (λ a. subst (λ y. P (does y.class (t - y.onset))) (same x a.fault a.is) (p (t - x.onset)))
-  where
-    same : (x y : Fault) → Some x ≡ Some y → x ≡ y
-    same x y e = cc
+-- a path doesn't conduct where its latch is open
+abbrev pub Obeys : ℕ → Effects → Type 0
+Obeys path x = x.conducts path true ≡ false
 
 -- where the fault hasn't begun
 of_early : (P : Effects → Type 0) (x : Fault) (end : ℕ) → end ≤ x.onset → P no_effects →
     Between P (Some x) 0 end
-of_early P x end late none t low high =
-    of_effects P (Some x) t none
-    (λ a. absurd (let f = a.from in let e = ap (λ y. y.onset) (same x a.fault a.is) in omega arith))
-  where
-    same : (x y : Fault) → Some x ≡ Some y → x ≡ y
-    same x y e = cc
+of_early P x end late none t low high = at_tick P x t (λ early. none) (λ from. absurd (omega arith))
 
 pub Follows-tail : (f : Option Fault) (start : ℕ) (more h : List Tick) → Follows f start (more ++ h) →
     Follows f start h
@@ -110,11 +99,11 @@ opened P s start h more x g obeys =
     subst P (sym (last_tick_of s.fault start x (more ++ h) g.follows)) (obeys (start + length (more ++ h)))
 
 off_by_sight : (s : Setting) (start : ℕ) (h more : List Tick) (x : Tick) → Given s start h more x →
-    Always Obeys1 s.fault → Between SeesExcess s.fault start (start + length h) → IsOff s h more x
+    Always (Obeys PATH_1) s.fault → Between SeesExcess s.fault start (start + length h) → IsOff s h more x
 off_by_sight s start h more x g obeys sees =
     let each = seen_history s start h (history s start h more x g) sees in
-    off_after_trip s h more (Each-map (λ y e. e.runs.ran 7) h each)
-    (trip_by_sight s start h more x g sees) x (opened Obeys1 s start h more x g obeys)
+    off_after_trip s h more (Each-map (λ y e. e.runs.ran REACT) h each)
+    (trip_by_sight s start h more x g sees) x (opened (Obeys PATH_1) s start h more x g obeys)
 
 -- ---- no good answer, and path 2 opens ----
 
@@ -153,7 +142,7 @@ some_confirmed : (s : Setting) (h : List Tick) → IsExcessConfirmed s h → 0 <
 some_confirmed s [] c = absurd (nothing_confirmed s c)
 some_confirmed s (x ∷ h) c = omega arith
 
-off_by_silence : (s : Setting) → IsAccepted s.cal → Always IsRegular s.fault → Always Obeys2 s.fault →
+off_by_silence : (s : Setting) → IsAccepted s.cal → Always IsRegular s.fault → Always (Obeys PATH_2) s.fault →
     (start : ℕ) (front back : List Tick) (x : Tick) → Follows s.fault start (x ∷ front ++ back) →
     NoGood s front back → reaction_of s.cal.times ≤ length front → is_on_after s (front ++ back) x ≡ false
 unfolding Follows
@@ -161,11 +150,11 @@ off_by_silence s accepted regular obeys start front back x follows none long =
     off_after_silence s accepted.times (let a = accepted.answers.0 in omega arith)
     (let a = accepted.answers.3 in omega arith) front back
     (of_history IsRegular s.fault start (front ++ back) follows.1 (λ t low high. regular t)) none long x
-    (subst Obeys2 (sym follows.0) (obeys (start + length (front ++ back))))
+    (subst (Obeys PATH_2) (sym follows.0) (obeys (start + length (front ++ back))))
 
 -- a trip by the end of h, and then silence
 off_after_trip_by_path2 : (s : Setting) (start : ℕ) (h more : List Tick) (x : Tick) →
-    Given s start h more x → Always IsRegular s.fault → Always Obeys2 s.fault →
+    Given s start h more x → Always IsRegular s.fault → Always (Obeys PATH_2) s.fault →
     Between SeesExcess s.fault start (start + length h) → reaction_of s.cal.times ≤ length more + 1 →
     IsOff s h more x
 off_after_trip_by_path2 s start [] more x g regular obeys sees long =
@@ -211,7 +200,7 @@ split (x ∷ h) n l = elim (more_or_equal n (length h) l) [
 
 off_after_onset : (s : Setting) (f : Fault) → s.fault ≡ Some f →
     (start : ℕ) (h more : List Tick) (x : Tick) → Given s start h more x → Always IsRegular s.fault →
-    Always Obeys2 s.fault → ((t : ℕ) → f.onset ≤ t → IsSpoiled (effects s.fault t)) →
+    Always (Obeys PATH_2) s.fault → ((t : ℕ) → f.onset ≤ t → IsSpoiled (effects s.fault t)) →
     f.onset < start + length h → reaction_of s.cal.times ≤ length more + 1 → IsOff s h more x
 off_after_onset s f is start h more x g regular obeys spoiled late long =
     let n = f.onset - start in
@@ -269,180 +258,155 @@ flip_trips s f word mask is class start (y ∷ h) follows low high =
 cut_none : (s : Setting) → s.fault ≡ None → (start : ℕ) (h more : List Tick) (x : Tick) →
     Given s start h more x → IsOff s h more x
 cut_none s is start h more x g =
-    off_by_sight s start h more x g (rw is (λ t. unfold effects no_effects in refl))
+    off_by_sight s start h more x g (rw is (λ t. unfold effects in obeys PATH_1))
     (rw is (λ t low high. unfold effects in sees_plain))
 
+-- what is told of the fault, and of the class c that it has
+record IsOf (s : Setting) (f : Fault) (c : Class) : Type 0 where
+  pub is : s.fault ≡ Some f
+  pub class : f.class ≡ c
+
+-- what holds where nothing is out of order, and of the class, holds at each tick
+always : (P : Effects → Type 0) (s : Setting) (f : Fault) (c : Class) → IsOf s f c → P no_effects →
+    ((k : ℕ) → P (does c k)) → Always P s.fault
+always P s f c of none each = rw of.is (of_class P f none (λ k. rw of.class (each k)))
+
+-- a path whose latch is open stays open, but under the classes that close it
+obeys_always : (s : Setting) (f : Fault) (c : Class) (path : ℕ) → IsOf s f c → closes c path ≡ false →
+    Always (Obeys path) s.fault
+obeys_always s f c path of opens = always (Obeys path) s f c of (obeys path) (λ k. obeys-class c k path opens)
+
+regular_always : (s : Setting) (f : Fault) (c : Class) → IsOf s f c → may_change_answers c ≡ false →
+    Always IsRegular s.fault
+regular_always s f c of is = always IsRegular s f c of regular (λ k. regular-class c k is)
+
 -- classes under which excess is seen, and path 1 obeys
-cut_seen : (s : Setting) (f : Fault) → s.fault ≡ Some f → ((k : ℕ) → SeesExcess (does f.class k)) →
-    ((k : ℕ) → Obeys1 (does f.class k)) → (start : ℕ) (h more : List Tick) (x : Tick) →
-    Given s start h more x → IsOff s h more x
-cut_seen s f is sees obeys start h more x g =
-    off_by_sight s start h more x g (rw is (of_class Obeys1 f (unfold no_effects in refl) obeys))
-    (λ t low high. rw is (of_class SeesExcess f sees_plain sees t))
+cut_seen : (s : Setting) (f : Fault) (c : Class) → IsOf s f c → may_change_levels c ≡ false →
+    closes c PATH_1 ≡ false → (start : ℕ) (h more : List Tick) (x : Tick) → Given s start h more x →
+    IsOff s h more x
+cut_seen s f c of spares opens start h more x g =
+    off_by_sight s start h more x g (obeys_always s f c PATH_1 of opens)
+    (λ t low high. always SeesExcess s f c of sees_plain (λ k. sees_spared c k spares) t)
 
 -- where the excess is confirmed before the onset
-cut_before : (s : Setting) (f : Fault) → s.fault ≡ Some f → ((k : ℕ) → Obeys1 (does f.class k)) →
+cut_before : (s : Setting) (f : Fault) (c : Class) → IsOf s f c → closes c PATH_1 ≡ false →
     (start : ℕ) (h more : List Tick) (x : Tick) → start + length h ≤ f.onset → Given s start h more x →
     IsOff s h more x
-cut_before s f is obeys start h more x early g =
-    off_by_sight s start h more x g (rw is (of_class Obeys1 f (unfold no_effects in refl) obeys))
-    (λ t low high. rw is (of_early SeesExcess f (start + length h) early sees_plain t
+cut_before s f c of opens start h more x early g =
+    off_by_sight s start h more x g (obeys_always s f c PATH_1 of opens)
+    (λ t low high. rw of.is (of_early SeesExcess f (start + length h) early sees_plain t
     (omega arith) high))
 
-flip_obeys : (word mask k : ℕ) → Obeys1 (does (Flip word mask) k)
-unfolding does no_effects
-flip_obeys word mask k = refl
-
-flip_reacts : (word mask k : ℕ) → (does (Flip word mask) k).ran 7 ≡ true
+flip_reacts : (word mask k : ℕ) → (does (Flip word mask) k).ran REACT ≡ true
 unfolding does no_effects
 flip_reacts word mask k = refl
-
--- of a flip that lies behind the history nothing is left
-of_older : (P : Effects → Type 0) (f : Fault) → P no_effects → ((k : ℕ) → 0 < k → P (does f.class k)) →
-    (t : ℕ) → f.onset < t → P (effects (Some f) t)
-of_older P f none p t older = of_effects P (Some f) t none
-    (λ a. subst (λ y. P (does y.class (t - y.onset))) (same f a.fault a.is) (p (t - f.onset) (omega arith)))
-  where
-    same : (x y : Fault) → Some x ≡ Some y → x ≡ y
-    same x y e = cc
 
 before_or_at : (a b : ℕ) → (b ≤ a) ⊎ (a < b)
 before_or_at a b = grind arith
 
-cut_flip : (s : Setting) (f : Fault) (word mask : ℕ) → s.fault ≡ Some f → f.class ≡ Flip word mask →
+cut_flip : (s : Setting) (f : Fault) (word mask : ℕ) → IsOf s f (Flip word mask) →
     (start : ℕ) (h more : List Tick) (x : Tick) → Given s start h more x → IsOff s h more x
-cut_flip s f word mask is class start h more x g = elim (before_or_at f.onset (start + length h)) [
-  | inl early ↦ cut_before s f is obeys start h more x early g
+cut_flip s f word mask of start h more x g = elim (before_or_at f.onset (start + length h)) [
+  | inl early ↦ cut_before s f (Flip word mask) of opens start h more x early g
   | inr late ↦ elim (before_or_at f.onset start) [
     | inl within ↦
         off_after_trip s h more
-        (of_history (λ y. y.ran 7 ≡ true) s.fault start h (history s start h more x g)
-        (λ t low high. rw is
-        (of_class (λ y. y.ran 7 ≡ true) f (unfold no_effects in refl)
-        (λ k. rw class (flip_reacts word mask k)) t)))
-        (flip_trips s f word mask is class start h (history s start h more x g) within late) x
-        (opened Obeys1 s start h more x g (rw is (of_class Obeys1 f (unfold no_effects in refl) obeys)))
+        (of_history (λ y. y.ran REACT ≡ true) s.fault start h (history s start h more x g)
+        (λ t low high. always (λ y. y.ran REACT ≡ true) s f (Flip word mask) of
+        (unfold no_effects in refl) (flip_reacts word mask) t))
+        (flip_trips s f word mask of.is of.class start h (history s start h more x g) within late) x
+        (opened (Obeys PATH_1) s start h more x g (obeys_always s f (Flip word mask) PATH_1 of opens))
     | inr older ↦
-        off_by_sight s start h more x g (rw is (of_class Obeys1 f (unfold no_effects in refl) obeys))
-        (λ t low high. rw is (of_older SeesExcess f sees_plain (λ k l. rw class (sees_flip word mask k l)) t
-        (omega arith)))
+        off_by_sight s start h more x g (obeys_always s f (Flip word mask) PATH_1 of opens)
+        (λ t low high. rw of.is (seen_behind t (omega arith)))
   ]
 ]
   where
-    obeys : (k : ℕ) → Obeys1 (does f.class k)
-    obeys k = rw class (flip_obeys word mask k)
+    opens : closes (Flip word mask) PATH_1 ≡ false
+    opens = unfold closes in refl
+
+    -- of a flip that lies behind the history nothing is left
+    seen_behind : (t : ℕ) → f.onset < t → SeesExcess (effects (Some f) t)
+    seen_behind t older = at_tick SeesExcess f t (λ early. sees_plain)
+        (λ from. rw of.class (sees_flip word mask (t - f.onset) (omega arith)))
 
 -- path 1 is closed: a trip, and then no answer
-bound_path_1_closed : (s : Setting) (f : Fault) → s.fault ≡ Some f → f.class ≡ Path1Closed →
+bound_path_1_closed : (s : Setting) (f : Fault) → IsOf s f Path1Closed →
     (start : ℕ) (h more : List Tick) (x : Tick) → reaction_of s.cal.times ≤ length more + 1 →
     Given s start h more x → IsOff s h more x
-bound_path_1_closed s f is class start h more x long g =
+bound_path_1_closed s f of start h more x long g =
     off_after_trip_by_path2 s start h more x g
-    (rw is (of_class IsRegular f regular_plain (λ k. rw class (regular_path_1_closed k))))
-    (rw is (of_class Obeys2 f (unfold no_effects in refl) (λ k. rw class (path_2_obeys k))))
-    (λ t low high. rw is (of_class SeesExcess f sees_plain (λ k. rw class (sees_path_1_closed k)) t)) long
-  where
-    path_2_obeys : (k : ℕ) → Obeys2 (does Path1Closed k)
-    path_2_obeys k = unfold does no_effects in refl
+    (regular_always s f Path1Closed of (unfold may_change_answers in refl))
+    (obeys_always s f Path1Closed PATH_2 of (unfold closes in refl))
+    (λ t low high. always SeesExcess s f Path1Closed of sees_plain
+    (λ k. sees_spared Path1Closed k (unfold may_change_levels in refl)) t) long
 
--- Skip, Disturb, Halt: a trip before the onset, or no good answer from it on
-bound_spoiled : (s : Setting) (f : Fault) → s.fault ≡ Some f → ((k : ℕ) → IsRegular (does f.class k)) →
-    ((k : ℕ) → Obeys1 (does f.class k)) → ((k : ℕ) → Obeys2 (does f.class k)) →
-    ((k : ℕ) → IsSpoiled (does f.class k)) → (start : ℕ) (h more : List Tick) (x : Tick) →
+-- what is told of a class under which no answer is good: Skip, Disturb, Halt
+record IsSpoiling (c : Class) : Type 0 where
+  pub answers : may_change_answers c ≡ false
+  pub path_1 : closes c PATH_1 ≡ false
+  pub path_2 : closes c PATH_2 ≡ false
+  pub spoiled : (k : ℕ) → IsSpoiled (does c k)
+
+spoiled_on : (s : Setting) (f : Fault) (c : Class) → IsOf s f c → IsSpoiling c → (t : ℕ) → f.onset ≤ t →
+    IsSpoiled (effects s.fault t)
+spoiled_on s f c of spoiling t from = rw of.is (at_tick IsSpoiled f t (λ early. absurd (omega arith))
+    (λ late. rw of.class (spoiling.spoiled (t - f.onset))))
+
+-- a trip before the onset, or no good answer from it on
+bound_spoiled : (s : Setting) (f : Fault) (c : Class) → IsOf s f c → IsSpoiling c →
+    (start : ℕ) (h more : List Tick) (x : Tick) →
     reaction_of s.cal.times ≤ length more + 1 → Given s start h more x → IsOff s h more x
-bound_spoiled s f is regular obeys1 obeys2 spoiled start h more x long g =
-    elim (before_or_at f.onset (start + length h)) [
-      | inl early ↦ cut_before s f is obeys1 start h more x early g
-      | inr late ↦ off_after_onset s f is start h more x g (rw is (of_class IsRegular f regular_plain regular))
-          (rw is (of_class Obeys2 f (unfold no_effects in refl) obeys2)) spoiled_on late long
-    ]
-  where
-    acting : (t : ℕ) → f.onset ≤ t → effects (Some f) t ≡ does f.class (t - f.onset)
-    acting t from = unfold effects in rw (le-leb f.onset t from) refl
-
-    spoiled_on : (t : ℕ) → f.onset ≤ t → IsSpoiled (effects s.fault t)
-    spoiled_on t from = rw is (subst IsSpoiled (sym (acting t from)) (spoiled (t - f.onset)))
+bound_spoiled s f c of spoiling start h more x long g = elim (before_or_at f.onset (start + length h)) [
+  | inl early ↦ cut_before s f c of spoiling.path_1 start h more x early g
+  | inr late ↦ off_after_onset s f of.is start h more x g (regular_always s f c of spoiling.answers)
+      (obeys_always s f c PATH_2 of spoiling.path_2) (spoiled_on s f c of spoiling) late long
+]
 
 -- ---- all of them ----
 
 -- off from the next tick on
-cut_at_once : (s : Setting) (f : Fault) → s.fault ≡ Some f → (c : Class) → f.class ≡ c →
+cut_at_once : (s : Setting) (f : Fault) (c : Class) → IsOf s f c →
     is_lapse c ≡ false → (start : ℕ) (h more : List Tick) (x : Tick) →
     reacts_at_once c f.onset (start + length h) ≡ true → Given s start h more x → IsOff s h more x
-unfolding reacts_at_once is_lapse does no_effects
-cut_at_once s f is (Script j values) class l start h more x b g =
-    cut_seen s f is (λ k. rw class (sees_script j values k)) (λ k. rw class refl) start h more x g
-cut_at_once s f is (Offset j add) class l start h more x b g =
-    cut_seen s f is (λ k. rw class (sees_offset j add k)) (λ k. rw class refl) start h more x g
-cut_at_once s f is (Bus mask) class l start h more x b g =
-    cut_seen s f is (λ k. rw class (sees_bus mask k)) (λ k. rw class refl) start h more x g
-cut_at_once s f is (Plate at) class l start h more x b g =
-    cut_seen s f is (λ k. rw class (sees_plate at k)) (λ k. rw class refl) start h more x g
-cut_at_once s f is (Skip i) class l start h more x b g =
-    cut_before s f is (λ k. rw class refl) start h more x (leb-true _ _ b) g
-cut_at_once s f is (Disturb i mask) class l start h more x b g =
-    cut_before s f is (λ k. rw class refl) start h more x (leb-true _ _ b) g
-cut_at_once s f is (Flip word mask) class l start h more x b g =
-    cut_flip s f word mask is class start h more x g
-cut_at_once s f is Halt class l start h more x b g =
-    cut_before s f is (λ k. rw class refl) start h more x (leb-true _ _ b) g
-cut_at_once s f is (Timing offset) class l start h more x b g =
-    cut_seen s f is (λ k. rw class (sees_timing offset k)) (λ k. rw class refl) start h more x g
-cut_at_once s f is (Wild questions opens) class l start h more x b g =
-    cut_seen s f is (λ k. rw class (sees_wild questions opens k)) (λ k. rw class refl) start h more x g
-cut_at_once s f is Path1Closed class l start h more x b g = absurd (let b' : false ≡ true = b in cc)
-cut_at_once s f is Path2Closed class l start h more x b g =
-    cut_seen s f is (λ k. rw class (sees_path_2_closed k)) (λ k. rw class refl) start h more x g
-cut_at_once s f is (PathOpen path) class l start h more x b g =
-    cut_seen s f is (λ k. rw class (sees_path_open path k))
-    (λ k. rw class (path_open_obeys path k)) start h more x g
-  where
-    path_open_obeys : (path k : ℕ) → Obeys1 (does (PathOpen path) k)
-    path_open_obeys path k = and_false (not (1 == path))
-      where
-        and_false : (b : Bool) → (b && false) ≡ false
-        and_false true = refl
-        and_false false = refl
-cut_at_once s f is (Lapse after every) class l start h more x b g = absurd (let l' : true ≡ false = l in cc)
+unfolding reacts_at_once is_lapse may_change_levels closes
+cut_at_once s f (Skip i) of l start h more x b g =
+    cut_before s f (Skip i) of refl start h more x (leb-true _ _ b) g
+cut_at_once s f (Disturb i mask) of l start h more x b g =
+    cut_before s f (Disturb i mask) of refl start h more x (leb-true _ _ b) g
+cut_at_once s f (Flip word mask) of l start h more x b g = cut_flip s f word mask of start h more x g
+cut_at_once s f Halt of l start h more x b g =
+    cut_before s f Halt of refl start h more x (leb-true _ _ b) g
+cut_at_once s f Path1Closed of l start h more x b g = absurd (let b' : false ≡ true = b in cc)
+cut_at_once s f (Lapse after every) of l start h more x b g = absurd (let l' : true ≡ false = l in cc)
+cut_at_once s f c of l start h more x b g = cut_seen s f c of refl refl start h more x g
+
+spoiling : (c : Class) → IsValidClass c → spoils_answers c ≡ true → IsSpoiling c
+unfolding spoils_answers may_change_answers closes IsValidClass
+spoiling (Skip i) v b =
+    record { answers = refl; path_1 = refl; path_2 = refl; spoiled = λ k. spoiled_skip i k v }
+spoiling (Disturb i mask) v b = record {
+  answers = refl;
+  path_1 = refl;
+  path_2 = refl;
+  spoiled = λ k. spoiled_disturb i mask k (let a = v.1 in omega arith) (let a = v.2.0 in omega arith);
+}
+spoiling Halt v b = record { answers = refl; path_1 = refl; path_2 = refl; spoiled = spoiled_halt }
+spoiling _ v b = absurd (let e : false ≡ true = b in cc)
 
 -- off from R ticks after on
-cut_in_time : (s : Setting) (f : Fault) → s.fault ≡ Some f → (c : Class) → f.class ≡ c → IsValidClass c →
+cut_in_time : (s : Setting) (f : Fault) (c : Class) → IsOf s f c → IsValidClass c →
     is_lapse c ≡ false → (start : ℕ) (h more : List Tick) (x : Tick) →
     reaction_of s.cal.times ≤ length more + 1 → Given s start h more x → IsOff s h more x
-unfolding reacts_at_once does no_effects IsValidClass
-cut_in_time s f is (Script j values) class v l start h more x long g =
-    cut_at_once s f is (Script j values) class l start h more x refl g
-cut_in_time s f is (Offset j add) class v l start h more x long g =
-    cut_at_once s f is (Offset j add) class l start h more x refl g
-cut_in_time s f is (Bus mask) class v l start h more x long g =
-    cut_at_once s f is (Bus mask) class l start h more x refl g
-cut_in_time s f is (Plate at) class v l start h more x long g =
-    cut_at_once s f is (Plate at) class l start h more x refl g
-cut_in_time s f is (Skip i) class v l start h more x long g =
-    bound_spoiled s f is (λ k. rw class (regular_skip i k)) (λ k. rw class refl) (λ k. rw class refl)
-    (λ k. rw class (spoiled_skip i k v)) start h more x long g
-cut_in_time s f is (Disturb i mask) class v l start h more x long g =
-    bound_spoiled s f is (λ k. rw class (regular_disturb i mask k)) (λ k. rw class refl)
-    (λ k. rw class refl) (λ k. rw class
-    (spoiled_disturb i mask k (let a = v.1 in omega arith)
-    (let a = v.2.0 in omega arith))) start h more x long g
-cut_in_time s f is (Flip word mask) class v l start h more x long g =
-    cut_at_once s f is (Flip word mask) class l start h more x refl g
-cut_in_time s f is Halt class v l start h more x long g =
-    bound_spoiled s f is (λ k. rw class (regular_halt k)) (λ k. rw class refl) (λ k. rw class refl)
-    (λ k. rw class (spoiled_halt k)) start h more x long g
-cut_in_time s f is (Timing offset) class v l start h more x long g =
-    cut_at_once s f is (Timing offset) class l start h more x refl g
-cut_in_time s f is (Wild questions opens) class v l start h more x long g =
-    cut_at_once s f is (Wild questions opens) class l start h more x refl g
-cut_in_time s f is Path1Closed class v l start h more x long g =
-    bound_path_1_closed s f is class start h more x long g
-cut_in_time s f is Path2Closed class v l start h more x long g =
-    cut_at_once s f is Path2Closed class l start h more x refl g
-cut_in_time s f is (PathOpen path) class v l start h more x long g =
-    cut_at_once s f is (PathOpen path) class l start h more x refl g
-cut_in_time s f is (Lapse after every) class v l start h more x long g =
-    cut_at_once s f is (Lapse after every) class l start h more x refl g
+unfolding reacts_at_once spoils_answers
+cut_in_time s f (Skip i) of v l start h more x long g =
+    bound_spoiled s f (Skip i) of (spoiling (Skip i) v refl) start h more x long g
+cut_in_time s f (Disturb i mask) of v l start h more x long g =
+    bound_spoiled s f (Disturb i mask) of (spoiling (Disturb i mask) v refl) start h more x long g
+cut_in_time s f Halt of v l start h more x long g =
+    bound_spoiled s f Halt of (spoiling Halt v refl) start h more x long g
+cut_in_time s f Path1Closed of v l start h more x long g = bound_path_1_closed s f of start h more x long g
+cut_in_time s f c of v l start h more x long g = cut_at_once s f c of l start h more x refl g
 
 pub reacts_in_time : ReactsInTime
 reacts_in_time s accepted listed start h confirmed more x follows proper long = go s.fault refl listed
@@ -453,7 +417,7 @@ reacts_in_time s accepted listed start h confirmed more x follows proper long = 
     go : (f : Option Fault) → s.fault ≡ f → IsListed f → is_on_after s (more ++ h) x ≡ false
     go None is listed = cut_none s is start h more x g
     go (Some f) is listed = unfold IsListed in
-        cut_in_time s f is f.class refl listed.0.1 listed.1 start h more x long g
+        cut_in_time s f f.class (record { is = is; class = refl }) listed.0.1 listed.1 start h more x long g
 
 pub reacts_at_once_law : ReactsAtOnce
 reacts_at_once_law s accepted listed start h soon confirmed more x follows proper long =
@@ -466,48 +430,19 @@ reacts_at_once_law s accepted listed start h soon confirmed more x follows prope
         is_on_after s (more ++ h) x ≡ false
     go None is listed soon = cut_none s is start h more x g
     go (Some f) is listed soon = unfold IsListed is_at_once in
-        cut_at_once s f is f.class refl listed.1 start h more x soon g
+        cut_at_once s f f.class (record { is = is; class = refl }) listed.1 start h more x soon g
 
 -- ---- whatever the torque ----
 
-cut_spoiled : (s : Setting) (f : Fault) → s.fault ≡ Some f → IsAccepted s.cal →
-    ((k : ℕ) → IsRegular (does f.class k)) → ((k : ℕ) → Obeys2 (does f.class k)) →
-    ((k : ℕ) → IsSpoiled (does f.class k)) → (start : ℕ) (h more : List Tick) (x : Tick) →
-    f.onset ≤ start + length h → Follows s.fault start (x ∷ more ++ h) → reaction_of s.cal.times ≤ length more →
-    is_on_after s (more ++ h) x ≡ false
-cut_spoiled s f is accepted regular obeys spoiled start h more x late follows long =
-    off_by_silence s accepted (rw is (of_class IsRegular f regular_plain regular))
-    (rw is (of_class Obeys2 f (unfold no_effects in refl) obeys)) start more h x follows
-    (spoiled_history s f is spoiled_on start more h (Follows-tail s.fault start (x ∷ []) (more ++ h) follows) late) long
-  where
-    acting : (t : ℕ) → f.onset ≤ t → effects (Some f) t ≡ does f.class (t - f.onset)
-    acting t from = unfold effects in rw (le-leb f.onset t from) refl
-
-    spoiled_on : (t : ℕ) → f.onset ≤ t → IsSpoiled (effects s.fault t)
-    spoiled_on t from = rw is (subst IsSpoiled (sym (acting t from)) (spoiled (t - f.onset)))
-
-cut_by_class : (s : Setting) (f : Fault) → s.fault ≡ Some f → IsAccepted s.cal → (c : Class) → f.class ≡ c →
-    IsValidClass c → spoils_answers c ≡ true → (start : ℕ) (h more : List Tick) (x : Tick) →
-    f.onset ≤ start + length h → Follows s.fault start (x ∷ more ++ h) → reaction_of s.cal.times ≤ length more →
-    is_on_after s (more ++ h) x ≡ false
-unfolding spoils_answers does no_effects IsValidClass
-cut_by_class s f is a (Skip i) class v b = cut_spoiled s f is a (λ k. rw class (regular_skip i k))
-    (λ k. rw class refl) (λ k. rw class (spoiled_skip i k v))
-cut_by_class s f is a (Disturb i mask) class v b = cut_spoiled s f is a (λ k. rw class (regular_disturb i mask k))
-    (λ k. rw class refl) (λ k. rw class (spoiled_disturb i mask k (let q = v.1 in omega arith) (let q = v.2.0 in omega arith)))
-cut_by_class s f is a Halt class v b = cut_spoiled s f is a (λ k. rw class (regular_halt k))
-    (λ k. rw class refl) (λ k. rw class (spoiled_halt k))
-cut_by_class s f is a (Script track values) class v b = absurd (let e : false ≡ true = b in cc)
-cut_by_class s f is a (Offset track add) class v b = absurd (let e : false ≡ true = b in cc)
-cut_by_class s f is a (Bus mask) class v b = absurd (let e : false ≡ true = b in cc)
-cut_by_class s f is a (Plate at) class v b = absurd (let e : false ≡ true = b in cc)
-cut_by_class s f is a (Flip word mask) class v b = absurd (let e : false ≡ true = b in cc)
-cut_by_class s f is a (Timing offset) class v b = absurd (let e : false ≡ true = b in cc)
-cut_by_class s f is a (Wild questions opens) class v b = absurd (let e : false ≡ true = b in cc)
-cut_by_class s f is a Path1Closed class v b = absurd (let e : false ≡ true = b in cc)
-cut_by_class s f is a Path2Closed class v b = absurd (let e : false ≡ true = b in cc)
-cut_by_class s f is a (PathOpen path) class v b = absurd (let e : false ≡ true = b in cc)
-cut_by_class s f is a (Lapse after every) class v b = absurd (let e : false ≡ true = b in cc)
-
 pub cuts_from_onset : CutsFromOnset
-cuts_from_onset s f a is valid spoils = cut_by_class s f is a f.class refl valid.1 spoils
+cuts_from_onset s f accepted is valid spoils start h more x late follows long =
+    off_by_silence s accepted (regular_always s f f.class of bad.answers) (obeys_always s f f.class PATH_2 of bad.path_2)
+    start more h x follows
+    (spoiled_history s f is (spoiled_on s f f.class of bad) start more h
+    (Follows-tail s.fault start (x ∷ []) (more ++ h) follows) late) long
+  where
+    of : IsOf s f f.class
+    of = record { is = is; class = refl }
+
+    bad : IsSpoiling f.class
+    bad = spoiling f.class valid.1 spoils

@@ -12,10 +12,11 @@ use Rattle.eg_plant.specs.Engine.{Shown, KeepsLaws}
 use Rattle.eg_plant.specs.Gasoline.{at_rest, next_plate, next_charge, gasoline_step}
 use Rattle.eg_plant.proofs.PlantLemmas.{curve_at-most, moved_toward-most, next_charge-most, torque_of-covered, torque_of-off}
 use Rattle.eg_fault.specs.Effects.{Effects, no_effects}
-use Rattle.eg_fault.specs.Faults.{effects, does, IsListed, IsValidClass}
-use Rattle.eg_fault.specs.declared.class.Class.{Class}
-use Rattle.eg_fault.specs.declared.class.Class.TheVariants.{Script, Offset, Bus, Plate, Skip, Disturb, Flip, Halt, Timing, Wild, Path1Closed, Path2Closed, PathOpen, Lapse}
+use Rattle.eg_fault.specs.Faults.{effects, IsNoneOrValid}
+use Rattle.eg_fault.specs.Classes.{IsHeldWithin}
 use Rattle.eg_fault.specs.declared.class.Fault.{Fault}
+use Rattle.eg_fault.proofs.ActingLemmas.{before_onset, listed_valid}
+use Rattle.eg_fault.proofs.ClassLemmas.{plates_are_held_within}
 use Rattle.eg_record.specs.declared.row.Row.{Row}
 use Rattle.eg_record.specs.Rows.{AreRows}
 use Rattle.eg_record.specs.Excess.{true_excess, full_excess, first_confirmed}
@@ -26,11 +27,10 @@ use Rattle.eg_model.specs.Moments.{moment, moments_of, ticks, moments}
 use Rattle.eg_model.specs.Bench.{Run, no_drive, last_engine, shown_at, drive_at, entry_at, moments_to, entries_to}
 use Rattle.eg_model.specs.Rows.{row_of, rows_of, record_rows}
 use Rattle.eg_model.specs.Premises.{IsProper, AreProper, Follows, is_on_after, true_excesses, full_excesses}
-use Rattle.eg_model.specs.Reaction.{is_at_once}
+use Rattle.eg_model.specs.Reaction.{OffFrom, is_at_once}
 use Rattle.eg_model.specs.SharpCut.{ArePlain}
 use Rattle.eg_model.specs.Records.{IsRun, row_at, rows_to, RecordsAreHistories, RecordsAreRows, IsConfirmedBy, RunsReact, RunsReactAtOnce, is_before_onset, RunsCutSharply, CutOneTickAfter, RecordsReact, RecordsCutSharply}
 use Rattle.eg_model.proofs.Silence.{enough_weight}
-use Rattle.eg_model.proofs.ClassLemmas.{of_effects, early_is_none}
 use Rattle.eg_model.proofs.ReactionLaw.{reacts_in_time, reacts_at_once_law}
 use Rattle.eg_model.proofs.SharpCutLaw.{cuts_sharply}
 
@@ -65,7 +65,7 @@ length-ticks_to r zero = refl
 length-ticks_to r (suc t) = ap suc (length-ticks_to r t)
 
 -- the tick of number t
-pub tick_at : Run → ℕ → Tick
+unfoldable pub tick_at : Run → ℕ → Tick
 tick_at r t = record { effects = effects r.setting.fault t; entry = entry_at r t (moments_to r t) }
 
 pub ticks_to-suc : (r : Run) (t : ℕ) → ticks_to r (suc t) ≡ tick_at r t ∷ ticks_to r t
@@ -86,43 +86,6 @@ drive_is : (r : Run) (t : ℕ) → All IsDrive r.drive → IsDrive (drive_at r t
 unfolding drive_at no_drive
 drive_is r t all = all_or IsDrive r.drive t no_drive (omega arith, omega arith, omega arith) all
 
--- a plate that is held has an angle within its range
-unfoldable pub IsHeldWithin : Option ℕ → Type 0
-IsHeldWithin None = Unit {0}
-IsHeldWithin (Some at) = at ≤ 1000
-
-class_holds : (c : Class) (k : ℕ) → IsValidClass c → IsHeldWithin (does c k).held
-unfolding does no_effects IsHeldWithin IsValidClass
-class_holds (Script track values) k v = tt
-class_holds (Offset track add) k v = tt
-class_holds (Bus mask) k v = tt
-class_holds (Plate at) k v = v
-class_holds (Skip index) k v = tt
-class_holds (Disturb index mask) k v = tt
-class_holds (Flip word mask) k v = tt
-class_holds Halt k v = tt
-class_holds (Timing offset) k v = tt
-class_holds (Wild questions opens) k v = tt
-class_holds Path1Closed k v = tt
-class_holds Path2Closed k v = tt
-class_holds (PathOpen path) k v = tt
-class_holds (Lapse after every) k v = tt
-
-same_fault : (f g : Fault) → Some f ≡ Some g → f ≡ g
-same_fault f g e = cc
-
--- the fault, if any, is a valid one
-unfoldable pub IsValidOrNone : Option Fault → Type 0
-IsValidOrNone None = Unit {0}
-IsValidOrNone (Some f) = IsValidClass f.class
-
-held_within : (f : Option Fault) (t : ℕ) → IsValidOrNone f → IsHeldWithin (effects f t).held
-held_within None t valid = unfold effects no_effects IsHeldWithin in tt
-held_within (Some f) t valid =
-    of_effects (λ x. IsHeldWithin x.held) (Some f) t (unfold no_effects IsHeldWithin in tt)
-    (λ a. class_holds a.fault.class (t - a.fault.onset)
-    (subst (λ g. IsValidClass g.class) (same_fault f a.fault a.is) (unfold IsValidOrNone in valid)))
-
 -- the engine after so many ticks keeps its ranges
 pub record IsKept (plant : PlantParts) (past : List Moment) : Type 0 where
   pub plate : (last_engine plant past).plate ≤ 1000
@@ -137,7 +100,7 @@ kept_at_first plant are = record {
 
 next_plate-most : (plant : PlantParts) (plate throttle : ℕ) (on : Bool) (held : Option ℕ) → plate ≤ 1000 →
     IsHeldWithin held → next_plate plant plate throttle on held ≤ 1000
-unfolding next_plate IsHeldWithin
+unfolding next_plate
 next_plate-most plant plate throttle on (Some at) low h = h
 next_plate-most plant plate throttle on None low h =
     moved_toward-most 1000 plate _ plant.slew low (commanded on)
@@ -229,6 +192,10 @@ proper_to r run (suc t) holds =
     with_tick p before = unfold AreProper in
         (subst (IsProper r.setting (tick_at r t)) (moments-are r t) p, before)
 
+-- so it is under each valid fault
+pub proper_under : (r : Run) → IsRun r → IsNoneOrValid r.setting.fault → (n : ℕ) → AreProper r.setting (ticks_to r n)
+proper_under r run valid n = proper_to r run n (λ t l. plates_are_held_within r.setting.fault valid t)
+
 pub follows_to : (r : Run) (n : ℕ) → Follows r.setting.fault 0 (ticks_to r n)
 follows_to r zero = unfold Follows ticks_to ticks entries_to in tt
 follows_to r (suc t) = subst (Follows r.setting.fault 0) (sym (ticks_to-suc r t))
@@ -245,7 +212,7 @@ follows_to r (suc t) = subst (Follows r.setting.fault 0) (sym (ticks_to-suc r t)
 -- ---- tick by tick ----
 
 -- the row of a tick tells whether the stages are on at it
-row_on : (r : Run) (t : ℕ) → (row_at r t).on ≡ is_on_after r.setting (ticks_to r t) (tick_at r t)
+pub row_on : (r : Run) (t : ℕ) → (row_at r t).on ≡ is_on_after r.setting (ticks_to r t) (tick_at r t)
 row_on r t = unfold row_at row_of is_on_after tick_at in
     ap (λ past. (moment r.setting (effects r.setting.fault t) (entry_at r t (moments_to r t)) past).on)
     (moments-are r t)
@@ -284,11 +251,7 @@ confirmed_ticks r c confirmed = unfold true_excesses in
     (map (true_excess r.setting.cal.rules.threshold) (rows_of past)) ≡ true) (moments-are r (c + 1))
     (unfold rows_to in confirmed)
 
-listed_valid : (f : Option Fault) → IsListed f → IsValidOrNone f
-listed_valid None listed = unfold IsValidOrNone in tt
-listed_valid (Some f) listed = unfold IsValidOrNone IsListed in listed.0.1
-
-follows_now : (r : Run) (t : ℕ) → Follows r.setting.fault 0 (tick_at r t ∷ ticks_to r t)
+pub follows_now : (r : Run) (t : ℕ) → Follows r.setting.fault 0 (tick_at r t ∷ ticks_to r t)
 follows_now r t = subst (Follows r.setting.fault 0) (ticks_to-suc r t) (follows_to r (suc t))
 
 -- the reaction time is at least one tick
@@ -306,68 +269,62 @@ reaction_least times are weights =
         bigger : (n p : ℕ) → 2 * p ≤ (suc n + 1) * p
         bigger n p = grind arith
 
-pub runs_react : RunsReact
-runs_react r run listed c t confirmed late = row_on r t
-    ∙ subst (λ h. is_on_after r.setting h (tick_at r t) ≡ false) cut.whole off
+-- where they are off from so many ticks after the first k on, they are off at tick t
+pub off_row : (r : Run) (k t after : ℕ) → k ≤ t → k + after ≤ t + 1 → AreProper r.setting (ticks_to r t) →
+    OffFrom r.setting 0 (ticks_to r k) after → (row_at r t).on ≡ false
+off_row r k t after up late proper off = row_on r t
+    ∙ subst (λ h. is_on_after r.setting h (tick_at r t) ≡ false) cut.whole
+    (off cut.more (tick_at r t)
+    (subst (λ h. Follows r.setting.fault 0 (tick_at r t ∷ h)) (sym cut.whole) (follows_now r t))
+    (subst (AreProper r.setting) (sym cut.whole) proper) (let z = cut.size in omega arith))
   where
-    cut : Cut (ticks_to r) (c + 1) t
-    cut = cut_at (ticks_to r) (tick_at r) (ticks_to-suc r) (c + 1) t (omega (arith, late, some_ticks))
-      where
-        some_ticks : 1 ≤ reaction_of r.setting.cal.times
-        some_ticks = reaction_least r.setting.cal.times run.accepted.times run.accepted.answers
+    cut : Cut (ticks_to r) k t
+    cut = cut_at (ticks_to r) (tick_at r) (ticks_to-suc r) k t up
 
-    off : is_on_after r.setting (cut.more ++ ticks_to r (c + 1)) (tick_at r t) ≡ false
-    off = reacts_in_time r.setting run.accepted listed 0 (ticks_to r (c + 1))
-        (confirmed_ticks r c confirmed) cut.more (tick_at r t)
-        (subst (λ h. Follows r.setting.fault 0 (tick_at r t ∷ h)) (sym cut.whole) (follows_now r t))
-        (subst (AreProper r.setting) (sym cut.whole)
-        (proper_to r run t
-        (λ u l. held_within r.setting.fault u (listed_valid r.setting.fault listed))))
-        (let z = cut.size in omega arith)
+pub runs_react : RunsReact
+runs_react r run listed c t confirmed late =
+    off_row r (c + 1) t (reaction_of r.setting.cal.times) (omega (arith, late, some_ticks)) (omega (arith, late))
+    (proper_under r run (listed_valid r.setting.fault listed) t)
+    (reacts_in_time r.setting run.accepted listed 0 (ticks_to r (c + 1)) (confirmed_ticks r c confirmed))
+  where
+    some_ticks : 1 ≤ reaction_of r.setting.cal.times
+    some_ticks = reaction_least r.setting.cal.times run.accepted.times run.accepted.answers
 
 pub runs_react_at_once : RunsReactAtOnce
-runs_react_at_once r run listed c t confirmed soon late = row_on r t
-    ∙ subst (λ h. is_on_after r.setting h (tick_at r t) ≡ false) cut.whole off
+runs_react_at_once r run listed c t confirmed soon late =
+    off_row r (c + 1) t 1 (omega arith) (omega arith) (proper_under r run (listed_valid r.setting.fault listed) t)
+    (reacts_at_once_law r.setting run.accepted listed 0 (ticks_to r (c + 1))
+    (subst (λ n. is_at_once r.setting.fault n ≡ true)
+    (zero_plus (length (ticks_to r (c + 1))) (c + 1) (length-ticks_to r (c + 1))) soon)
+    (confirmed_ticks r c confirmed))
   where
-    cut : Cut (ticks_to r) (c + 1) t
-    cut = cut_at (ticks_to r) (tick_at r) (ticks_to-suc r) (c + 1) t (omega arith)
-
     zero_plus : (a b : ℕ) → a ≡ b → b ≡ 0 + a
     zero_plus a b e = omega arith
-
-    off : is_on_after r.setting (cut.more ++ ticks_to r (c + 1)) (tick_at r t) ≡ false
-    off = reacts_at_once_law r.setting run.accepted listed 0 (ticks_to r (c + 1))
-        (subst (λ n. is_at_once r.setting.fault n ≡ true)
-        (zero_plus (length (ticks_to r (c + 1))) (c + 1) (length-ticks_to r (c + 1))) soon)
-        (confirmed_ticks r c confirmed) cut.more (tick_at r t)
-        (subst (λ h. Follows r.setting.fault 0 (tick_at r t ∷ h)) (sym cut.whole) (follows_now r t))
-        (subst (AreProper r.setting) (sym cut.whole)
-        (proper_to r run t
-        (λ u l. held_within r.setting.fault u (listed_valid r.setting.fault listed))))
-        (let z = cut.size in omega arith)
 
 -- while no fault has begun nothing is out of order
 quiet_tick : (f : Option Fault) (t : ℕ) → is_before_onset f t ≡ true → effects f t ≡ no_effects
 quiet_tick None t quiet = unfold effects in refl
-quiet_tick (Some f) t quiet = early_is_none f t (ltb-true _ _ (unfold is_before_onset in quiet))
+quiet_tick (Some f) t quiet = before_onset f t (ltb-true _ _ (unfold is_before_onset in quiet))
 
-quiet_earlier : (f : Option Fault) (t : ℕ) → is_before_onset f (suc t) ≡ true → is_before_onset f t ≡ true
-quiet_earlier None t quiet = unfold is_before_onset in refl
-quiet_earlier (Some f) t quiet = unfold is_before_onset in
+-- and so at each tick before
+quiet_before : (f : Option Fault) (t u : ℕ) → is_before_onset f t ≡ true → u < t →
+    is_before_onset f u ≡ true
+quiet_before None t u quiet l = unfold is_before_onset in refl
+quiet_before (Some f) t u quiet l = unfold is_before_onset in
     lt-ltb _ _ (earlier (ltb-true _ _ (unfold is_before_onset in quiet)))
   where
-    earlier : suc t < f.onset → t < f.onset
-    earlier l = omega arith
+    earlier : t < f.onset → u < f.onset
+    earlier m = omega arith
 
 plain_to : (r : Run) (n : ℕ) → is_before_onset r.setting.fault n ≡ true → ArePlain (ticks_to r n)
 plain_to r zero quiet = unfold ArePlain ticks_to ticks entries_to in tt
 plain_to r (suc t) quiet = subst ArePlain (sym (ticks_to-suc r t))
-    (with_tick (plain_to r t (quiet_earlier r.setting.fault t quiet)))
+    (with_tick (plain_to r t (quiet_before r.setting.fault (suc t) t quiet (omega arith))))
   where
     with_tick : ArePlain (ticks_to r t) → ArePlain (tick_at r t ∷ ticks_to r t)
     with_tick before = unfold ArePlain tick_at entry_at in (
       record {
-        effects = quiet_tick r.setting.fault t (quiet_earlier r.setting.fault t quiet);
+        effects = quiet_tick r.setting.fault t (quiet_before r.setting.fault (suc t) t quiet (omega arith));
         loads =
             shown_once r.setting.cal.plant (effects r.setting.fault t) (moments_to r t);
       },
@@ -377,16 +334,7 @@ plain_to r (suc t) quiet = subst ArePlain (sym (ticks_to-suc r t))
 -- what comes in before the onset is proper, whatever the fault
 quiet_held : (f : Option Fault) (t : ℕ) → is_before_onset f t ≡ true → IsHeldWithin (effects f t).held
 quiet_held f t quiet = subst (λ x. IsHeldWithin x.held) (sym (quiet_tick f t quiet))
-    (unfold no_effects IsHeldWithin in tt)
-
-quiet_before : (f : Option Fault) (t u : ℕ) → is_before_onset f t ≡ true → u < t →
-    is_before_onset f u ≡ true
-quiet_before None t u quiet l = unfold is_before_onset in refl
-quiet_before (Some f) t u quiet l = unfold is_before_onset in
-    lt-ltb _ _ (earlier (ltb-true _ _ (unfold is_before_onset in quiet)))
-  where
-    earlier : t < f.onset → u < f.onset
-    earlier m = omega arith
+    (unfold no_effects in tt)
 
 pub runs_cut_sharply : RunsCutSharply
 runs_cut_sharply r run t quiet = row_on r t
@@ -404,7 +352,7 @@ runs_cut_sharply r run t quiet = row_on r t
 
 -- ---- by the rows of the whole record ----
 
-rows_to-suc : (r : Run) (t : ℕ) → rows_to r (suc t) ≡ row_at r t ∷ rows_to r t
+pub rows_to-suc : (r : Run) (t : ℕ) → rows_to r (suc t) ≡ row_at r t ∷ rows_to r t
 unfolding rows_to rows_of moments_to row_at
 rows_to-suc r t = refl
 
@@ -413,7 +361,7 @@ unfolding moments_to
 length-moments_to r zero = refl
 length-moments_to r (suc t) = ap suc (length-moments_to r t)
 
-row_tick : (r : Run) (t : ℕ) → (row_at r t).tick ≡ t
+pub row_tick : (r : Run) (t : ℕ) → (row_at r t).tick ≡ t
 row_tick r t = unfold row_at row_of moment in length-moments_to r t
 
 length-rows_to : (r : Run) (n : ℕ) → length (rows_to r n) ≡ n
@@ -488,7 +436,7 @@ first_confirms w bit r (suc t) c first =
         (rest.0, (rest.1.0, (let l = rest.1.1 in omega arith)))
 
 -- P of each of the first n rows, by their ticks
-all_rows : (P : Row → Type 0) (r : Run) (n : ℕ) → ((t : ℕ) → t < n → P (row_at r t)) → All P (rows_to r n)
+pub all_rows : (P : Row → Type 0) (r : Run) (n : ℕ) → ((t : ℕ) → t < n → P (row_at r t)) → All P (rows_to r n)
 all_rows P r zero p = subst (All P) (empty_rows r) (All-nil P)
   where
     empty_rows : (q : Run) → [] ≡ rows_to q 0
@@ -497,7 +445,7 @@ all_rows P r (suc t) p = subst (All P) (sym (rows_to-suc r t))
     (All-cons P (row_at r t) (rows_to r t) (p t (omega arith)) (all_rows P r t (λ u l. p u (omega arith))))
 
 -- the rows of the record are those of all its ticks
-record_rows-is : (r : Run) → record_rows r ≡ rows_to r (length r.drive)
+pub record_rows-is : (r : Run) → record_rows r ≡ rows_to r (length r.drive)
 unfolding record_rows rows_to
 record_rows-is r = refl
 

@@ -13,7 +13,9 @@ use Rattle.eg_sensor.specs.Readings.{used_pedal, checked_raise}
 use Rattle.eg_sensor.specs.declared.readings.Readings.{Readings}
 use Rattle.eg_values.specs.Calibration.{IsAccepted}
 use Rattle.eg_answer.specs.Formulas.{permitted_torque, estimated_torque, excess_number}
+use Rattle.eg_sensor.specs.declared.tracks.TheConstants.{PEDAL_1, PEDAL_2, LOAD_1, LOAD_2, SPEED_1, SPEED_2}
 use Rattle.eg_fault.specs.Effects.{Effects, readings_under}
+use Rattle.eg_fault.specs.Classes.{IsSound}
 use Rattle.eg_record.specs.Excess.{true_excess}
 use Rattle.eg_model.specs.History.{Setting, Entry, Tick, Moment}
 use Rattle.eg_model.specs.Signals.{tripped, is_limited, signal, signals_at}
@@ -24,10 +26,6 @@ use Rattle.eg_model.specs.Premises.{AreProper, IsProper}
 use Rattle.eg_model.proofs.TickLemmas.{Each, Runs}
 use Rattle.eg_model.proofs.TripLemmas.{Sees, exceeds}
 
--- a track that reads what a sound one reads
-abbrev pub IsSound : Effects → ℕ → Type 0
-IsSound x i = (v : ℕ) → x.track i v ≡ v
-
 -- nothing disturbs a signal
 abbrev pub IsUndisturbed : Effects → Type 0
 IsUndisturbed x = (i : ℕ) → x.disturbance i ≡ 0
@@ -36,9 +34,9 @@ IsUndisturbed x = (i : ℕ) → x.disturbance i ≡ 0
 pub record SeesExcess (x : Effects) : Type 0 where
   pub runs : Runs x
   pub undisturbed : IsUndisturbed x
-  pub pedal : IsSound x 0 ⊎ IsSound x 1
-  pub load : IsSound x 4 ⊎ IsSound x 5
-  pub speed : IsSound x 6 ⊎ IsSound x 7
+  pub pedal : IsSound x PEDAL_1 ⊎ IsSound x PEDAL_2
+  pub load : IsSound x LOAD_1 ⊎ IsSound x LOAD_2
+  pub speed : IsSound x SPEED_1 ⊎ IsSound x SPEED_2
 
 -- the readings, track by track
 abbrev lower_pedal : Readings → ℕ
@@ -78,11 +76,11 @@ errs_safely s x past sees proper = record {
   load = elim sees.load [
     | inl sound ↦ (let a = sound x.entry.shown.load_1 in let b = proper.engine.load_1 in let c =
         estimate-rises s.cal.rules.kt x.entry.shown.load_1
-        (max (x.effects.track 4 x.entry.shown.load_1) (x.effects.track 5 x.entry.shown.load_2))
+        (max (x.effects.track LOAD_1 x.entry.shown.load_1) (x.effects.track LOAD_2 x.entry.shown.load_2))
         (omega arith) in omega arith)
     | inr sound ↦ (let a = sound x.entry.shown.load_2 in let b = proper.engine.load_2 in let c =
         estimate-rises s.cal.rules.kt x.entry.shown.load_2
-        (max (x.effects.track 4 x.entry.shown.load_1) (x.effects.track 5 x.entry.shown.load_2))
+        (max (x.effects.track LOAD_1 x.entry.shown.load_1) (x.effects.track LOAD_2 x.entry.shown.load_2))
         (omega arith) in omega arith)
   ];
   pedal = elim sees.pedal [

@@ -12,8 +12,10 @@ use Rattle.eg_answer.specs.declared.marks.AnswerMark.{AnswerMark}
 use Rattle.eg_answer.specs.declared.marks.AnswerMark.TheVariants.{Absent, Good, Bad}
 use Rattle.eg_answer.specs.declared.marks.Verdict.{Verdict}
 use Rattle.eg_answer.specs.declared.marks.Verdict.TheVariants.{Right}
+use Rattle.eg_answer.specs.declared.modules.TheConstants.{REACT}
 use Rattle.eg_values.specs.Calibration.{IsAccepted}
 use Rattle.eg_fault.specs.Effects.{no_effects, sends_in, sends_at}
+use Rattle.eg_fault.specs.declared.paths.TheConstants.{PATH_1}
 use Rattle.eg_record.specs.Excess.{full_excess}
 use Rattle.eg_model.specs.History.{Setting, Entry, Tick, Moment, Signals}
 use Rattle.eg_model.specs.Signals.{tripped, is_limited}
@@ -181,7 +183,7 @@ send_plain : (times : TimeParts) (t : ℕ) → sends_at no_effects times t ≡ (
 unfolding sends_at sends_in is_send_tick place_of no_effects
 send_plain times t = refl
 
-reacts_plain : no_effects.ran 7 ≡ true
+reacts_plain : no_effects.ran REACT ≡ true
 unfolding no_effects
 reacts_plain = refl
 
@@ -484,7 +486,7 @@ plain_reacts : (h : List Tick) → ArePlain h → ReactsAll h
 unfolding ArePlain Each
 plain_reacts [] each = tt
 plain_reacts (x ∷ h) each = (
-  ap (λ g. g.ran 7) each.0.effects
+  ap (λ g. g.ran REACT) each.0.effects
       ∙ (unfold no_effects in refl),
   plain_reacts h each.1,
 )
@@ -493,8 +495,8 @@ pub cuts_sharply : CutsSharply
 unfolding is_on_after
 cuts_sharply s a h each proper x none = go (is_confirmed s.cal.rules.torque (full_excesses s h)) refl
   where
-    opens : x.effects.conducts 1 true ≡ false
-    opens = ap (λ g. g.conducts 1 true) none ∙ (unfold no_effects in refl)
+    opens : x.effects.conducts PATH_1 true ≡ false
+    opens = ap (λ g. g.conducts PATH_1 true) none ∙ (unfold no_effects in refl)
 
     on : (moment s no_effects x.entry (moments_of s h)).on ≡ true →
         (moment s x.effects x.entry (moments_of s h)).on ≡ true

@@ -13,6 +13,8 @@ use Rattle.eg_answer.specs.declared.marks.AnswerMark.TheVariants.{Absent, Good, 
 use Rattle.eg_answer.specs.declared.marks.Verdict.{Verdict}
 use Rattle.eg_answer.specs.declared.marks.Verdict.TheVariants.{Right, Wrong}
 use Rattle.eg_fault.specs.Effects.{Effects, sends_in, sends_at}
+use Rattle.eg_fault.specs.Classes.{IsRegular}
+use Rattle.eg_fault.specs.declared.paths.TheConstants.{PATH_2}
 use Rattle.eg_model.specs.History.{Setting, Entry, Tick, Moment}
 use Rattle.eg_model.specs.Answers.{is_sent, mark_at, with_answer, answers_in, verdict_at, verdicts_in, finds_answers}
 use Rattle.eg_model.specs.Paths.{latch2, path2_at, on_at}
@@ -20,11 +22,6 @@ use Rattle.eg_model.specs.Moments.{moment, moments_of}
 use Rattle.eg_model.specs.Premises.{is_on_after}
 use Rattle.eg_model.proofs.PeriodLemmas.{at_place, period_closes, period_open, period_room, counts_from, none_counts, enough_periods, last_tick}
 use Rattle.eg_model.proofs.TickLemmas.{Each, length-moments, moment-tick, moment-mark, moment-verdict, moment-answers}
-
--- send ticks and verdicts are the usual ones
-pub record IsRegular (x : Effects) : Type 0 where
-  pub sends : x.send ≡ None
-  pub judged : x.wild ≡ None
 
 abbrev pub AreRegular : List Tick → Type 0
 AreRegular h = Each (λ x. IsRegular x.effects) h
@@ -383,7 +380,7 @@ pub off_after_silence : (s : Setting) → AreTimes s.cal.times → 0 < s.cal.tim
     0 < s.cal.times.weights.limit →
     (more h : List Tick) → AreRegular (more ++ h) → NoGood s more h →
     reaction_of s.cal.times ≤ length more →
-    (x : Tick) → x.effects.conducts 2 true ≡ false → is_on_after s (more ++ h) x ≡ false
+    (x : Tick) → x.effects.conducts PATH_2 true ≡ false → is_on_after s (more ++ h) x ≡ false
 unfolding moment on_at path2_at reaction_of closed is_on_after
 off_after_silence s are up limit more h r none long x opens =
     let times = s.cal.times in
@@ -395,7 +392,7 @@ off_after_silence s are up limit more h r none long x opens =
     (wrongs (moments_of s (more ++ h))) (many whole) (wrong_run s are more h r none) in
     let c = run_confirms times.weights n (wrongs (moments_of s (more ++ h))) limit
     (enough_weight times.weights up) run in
-    and_right _ _ (ap (x.effects.conducts 2) (opens_when_confirmed s (more ++ h) c) ∙ opens)
+    and_right _ _ (ap (x.effects.conducts PATH_2) (opens_when_confirmed s (more ++ h) c) ∙ opens)
   where
     many :
         (length h + s.cal.times.period - 1 - s.cal.times.send) / s.cal.times.period + verdicts_to_confirm s.cal.times.weights ≤ length

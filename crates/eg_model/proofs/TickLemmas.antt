@@ -2,6 +2,7 @@
 use Rattle.std.proofs.Common.{◌≡◌, ℕ, suc, Bool, true, false, ◌||◌, List, [], ◌∷◌, ◌++◌, length, refl, sym, ap, ◌∙◌, None, is_some}
 use Rattle.std.proofs.lemmas.Bool.{or_right, or_left, and_from}
 use Rattle.eg_num.specs.Windows.{is_first}
+use Rattle.eg_answer.specs.declared.modules.TheConstants.{REACT, DEBOUNCE}
 use Rattle.eg_record.specs.Excess.{true_excess}
 use Rattle.eg_torque.specs.Excess.{is_excess}
 use Rattle.eg_fault.specs.Effects.{Effects}
@@ -50,7 +51,7 @@ module _ (s : Setting) (x : Effects) (e : Entry) (past : List Moment) where
   unfolding moment
   moment-answers = refl
 
-  pub moment-reacts : (moment s x e past).reacts ≡ x.ran 7
+  pub moment-reacts : (moment s x e past).reacts ≡ x.ran REACT
   unfolding moment
   moment-reacts = refl
 
@@ -119,7 +120,7 @@ module _ (s : Setting) (x : Effects) (e : Entry) (past : List Moment) where
 
   pub moment-feeds : Runs x → tripped past ≡ false → (moment s x e past).feeds ≡ true
   unfolding moment feeds_at
-  moment-feeds r h = rw (r.ran 6, h, r.unflipped) refl
+  moment-feeds r h = rw (r.ran DEBOUNCE, h, r.unflipped) refl
 
 pub tripped-cons : (m : Moment) (past : List Moment) → tripped (m ∷ past) ≡ (m.trip || tripped past)
 unfolding tripped

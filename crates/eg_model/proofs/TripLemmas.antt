@@ -4,7 +4,9 @@ use Rattle.std.proofs.lemmas.Bool.{and_from, or_left, or_right, and_left}
 use Rattle.eg_num.specs.Windows.{WeightParts, is_confirmed, is_first}
 use Rattle.eg_num.proofs.WindowLemmas.{Below, below_none, below_more, is_confirmed-Below}
 use Rattle.eg_num.proofs.FirstPlaceLemmas.{is_first_from}
+use Rattle.eg_answer.specs.declared.modules.TheConstants.{REACT}
 use Rattle.eg_fault.specs.Effects.{Effects}
+use Rattle.eg_fault.specs.declared.paths.TheConstants.{PATH_1}
 use Rattle.eg_model.specs.History.{Setting, Entry, Tick, Moment, Signals}
 use Rattle.eg_model.specs.Signals.{tripped}
 use Rattle.eg_model.specs.Detection.{fed_bits, torque_bit}
@@ -111,7 +113,7 @@ trip_by_excess s h r sees c = go (tripped (moments_of s h)) refl
 
 -- react runs at each tick of a history
 abbrev pub ReactsAll : List Tick → Type 0
-ReactsAll h = Each (λ x. x.effects.ran 7 ≡ true) h
+ReactsAll h = Each (λ x. x.effects.ran REACT ≡ true) h
 
 pub latch1-cons : (m : Moment) (past : List Moment) →
     latch1 (m ∷ past) ≡ ((m.reacts && tripped (m ∷ past)) || latch1 past)
@@ -119,7 +121,7 @@ unfolding latch1
 latch1-cons m past = refl
 
 -- once a trip came, react has ordered path 1 open
-pub latch1_from_trip : (s : Setting) → (x : Tick) (h : List Tick) → x.effects.ran 7 ≡ true →
+pub latch1_from_trip : (s : Setting) → (x : Tick) (h : List Tick) → x.effects.ran REACT ≡ true →
     tripped (moments_of s (x ∷ h)) ≡ true → latch1 (moments_of s (x ∷ h)) ≡ true
 unfolding moments_of
 latch1_from_trip s x h r u =
@@ -134,10 +136,10 @@ latch1_on s [] h u = u
 latch1_on s (x ∷ more) h u = latch1-cons _ _ ∙ or_right _ _ (latch1_on s more h u)
 
 -- where it is open, and no fault makes it conduct, the stages are off
-pub off_by_latch1 : (s : Setting) (x : Effects) (e : Entry) (past : List Moment) → x.conducts 1 true ≡ false →
+pub off_by_latch1 : (s : Setting) (x : Effects) (e : Entry) (past : List Moment) → x.conducts PATH_1 true ≡ false →
     latch1 past ≡ true → (moment s x e past).on ≡ false
 unfolding moment on_at path1_at
-off_by_latch1 s x e past opens u = and_left _ _ (ap (x.conducts 1) u ∙ opens)
+off_by_latch1 s x e past opens u = and_left _ _ (ap (x.conducts PATH_1) u ∙ opens)
 
 no_trip_at_first : (s : Setting) → tripped (moments_of s []) ≡ true → ⊥
 unfolding moments_of tripped
@@ -145,7 +147,7 @@ no_trip_at_first s u = let u' : false ≡ true = u in cc
 
 -- a trip at some tick of h at whose last tick react ran: off at each later tick
 pub off_after_trip : (s : Setting) (h more : List Tick) → ReactsAll h → tripped (moments_of s h) ≡ true →
-    (x : Tick) → x.effects.conducts 1 true ≡ false → is_on_after s (more ++ h) x ≡ false
+    (x : Tick) → x.effects.conducts PATH_1 true ≡ false → is_on_after s (more ++ h) x ≡ false
 unfolding Each is_on_after
 off_after_trip s [] more r u x opens = absurd (no_trip_at_first s u)
 off_after_trip s (y ∷ h) more r u x opens =

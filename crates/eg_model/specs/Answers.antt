@@ -7,6 +7,7 @@ use Rattle.eg_answer.specs.Periods.{is_last_tick, MarkedAnswer, verdict_of, with
 use Rattle.eg_answer.specs.declared.marks.AnswerMark.{AnswerMark}
 use Rattle.eg_answer.specs.declared.marks.AnswerMark.TheVariants.{Absent, Good, Bad}
 use Rattle.eg_answer.specs.declared.marks.Verdict.{Verdict}
+use Rattle.eg_answer.specs.declared.modules.TheConstants.{CHECK, PEDAL, PERMITTED, ACTUAL, EXCESS, PAIRS, DEBOUNCE, REACT}
 use Rattle.eg_fault.specs.Effects.{Effects, sends_at}
 use Rattle.eg_model.specs.History.{Moment}
 use Rattle.eg_model.specs.Signals.{tripped}
@@ -15,7 +16,7 @@ use Rattle.eg_model.specs.Signals.{tripped}
 
 -- the eight modules of level 2
 unfoldable pub modules : List ℕ
-modules = 0 ∷ 1 ∷ 2 ∷ 3 ∷ 4 ∷ 5 ∷ 6 ∷ 7 ∷ []
+modules = CHECK ∷ PEDAL ∷ PERMITTED ∷ ACTUAL ∷ EXCESS ∷ PAIRS ∷ DEBOUNCE ∷ REACT ∷ []
 
 -- all of them run at a tick
 unfoldable pub is_whole : Effects → Bool
@@ -38,7 +39,7 @@ whole_since_answer (m ∷ past) = is_answer m.mark || (m.whole && whole_since_an
 
 -- an answer is sent at a send tick at which react runs, where no trip has come by then
 unfoldable pub is_sent : TimeParts → Effects → Bool → List Moment → Bool
-is_sent times x trip past = sends_at x times (length past) && x.ran 7 && not (trip || tripped past)
+is_sent times x trip past = sends_at x times (length past) && x.ran REACT && not (trip || tripped past)
 
 -- it is good exactly where all eight modules ran since the answer before it, and none is disturbed
 unfoldable pub is_good : Effects → List Moment → Bool

@@ -1,6 +1,7 @@
 -- Detection in level 2: the debouncers of the four pairs and of the torque.
 use Rattle.std.specs.Prelude.{ℕ, ◌/◌, ◌%◌, ◌==◌, Bool, not, ◌&&◌, is_some, List, ◌∷◌, map, filter}
 use Rattle.eg_num.specs.Windows.{WeightParts, is_first}
+use Rattle.eg_answer.specs.declared.modules.TheConstants.{DEBOUNCE}
 use Rattle.eg_fault.specs.Effects.{Effects}
 use Rattle.eg_model.specs.History.{Signals, Moment}
 use Rattle.eg_model.specs.Signals.{tripped}
@@ -28,7 +29,7 @@ torque_bit s = has_bit 1 s.excess
 
 -- they are fed at a tick where debounce runs, no trip stands and no word is flipped
 unfoldable pub feeds_at : Effects → List Moment → Bool
-feeds_at x past = x.ran 6 && not (tripped past) && not (is_some x.flip)
+feeds_at x past = x.ran DEBOUNCE && not (tripped past) && not (is_some x.flip)
 
 -- the bits of the ticks at which they were fed, newest first
 unfoldable pub fed_bits : (Signals → Bool) → List Moment → List Bool

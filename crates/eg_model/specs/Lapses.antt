@@ -34,8 +34,8 @@ CutsLapses =
 
 -- The law of stretches. Under the same premises each stretch of ticks in a row with true excess is shorter
 -- than the bound. (Here h is the history up to the end of the stretch, and n the ticks of the stretch.)
-abbrev pub LapsesAreShort : Type 0
-LapsesAreShort =
+abbrev pub StretchesAreShort : Type 0
+StretchesAreShort =
     (s : Setting) → IsAccepted s.cal → HasLapseBound s.cal.rules.torque s.cal.times → IsLapse s.fault →
     (start : ℕ) (h : List Tick) → Follows s.fault start h → AreProper s h →
     (n : ℕ) → Exceeds s n h → n < lapse_bound_of s.cal.rules.torque s.cal.times

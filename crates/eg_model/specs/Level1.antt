@@ -3,6 +3,7 @@ use Rattle.std.specs.Prelude.{ℕ, ◌+◌, Bool, ◌&&◌, is_some, nat_le, nat
 use Rattle.eg_sensor.specs.declared.readings.Readings.{Readings}
 use Rattle.eg_word.specs.World.{View, World, new_world}
 use Rattle.eg_host.specs.Slices.{world_slice}
+use Rattle.eg_answer.specs.declared.modules.TheConstants.{PEDAL, PERMITTED, ACTUAL, EXCESS, PAIRS}
 use Rattle.eg_fault.specs.Effects.{Effects}
 use Rattle.eg_model.specs.History.{Signals, Moment}
 use Rattle.eg_model.specs.Signals.{last_signals}
@@ -27,11 +28,11 @@ seen flipped j i before now =
 -- the five signals as slice j sees them
 unfoldable pub seen_signals : Bool → ℕ → Signals → Signals → List ℕ
 seen_signals flipped j before now =
-    seen flipped j 1 before.pedal now.pedal
-    ∷ seen flipped j 2 before.permitted now.permitted
-    ∷ seen flipped j 3 before.actual now.actual
-    ∷ seen flipped j 4 before.excess now.excess
-    ∷ seen flipped j 5 before.pairs now.pairs
+    seen flipped j PEDAL before.pedal now.pedal
+    ∷ seen flipped j PERMITTED before.permitted now.permitted
+    ∷ seen flipped j ACTUAL before.actual now.actual
+    ∷ seen flipped j EXCESS before.excess now.excess
+    ∷ seen flipped j PAIRS before.pairs now.pairs
     ∷ []
 
 -- what slice j is shown

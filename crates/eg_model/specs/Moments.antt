@@ -4,6 +4,7 @@ use Rattle.std.specs.Prelude.{◌||◌, is_some, List, [], ◌∷◌, length}
 use Rattle.eg_sensor.specs.Readings.{sound_readings}
 use Rattle.eg_sensor.specs.declared.readings.Readings.{Readings}
 use Rattle.eg_torque.specs.Permit.{drive_permits}
+use Rattle.eg_answer.specs.declared.modules.TheConstants.{REACT}
 use Rattle.eg_fault.specs.Effects.{Effects, readings_under}
 use Rattle.eg_fault.specs.Faults.{effects}
 use Rattle.eg_model.specs.History.{Setting, Entry, Tick, Moment}
@@ -55,7 +56,7 @@ moment s x e past =
         answers = finds_answers times verdict past;
       };
       trip = trip;
-      reacts = x.ran 7;
+      reacts = x.ran REACT;
       whole = is_whole x;
       mark = mark;
       verdict = verdict;

@@ -2,6 +2,7 @@
 use Rattle.std.specs.Prelude.{Bool, false, ◌&&◌, ◌||◌, List, [], ◌∷◌}
 use Rattle.std.specs.List.{list_any}
 use Rattle.eg_fault.specs.Effects.{Effects}
+use Rattle.eg_fault.specs.declared.paths.TheConstants.{PATH_1, PATH_2}
 use Rattle.eg_model.specs.History.{Moment}
 use Rattle.eg_model.specs.Signals.{tripped}
 
@@ -16,10 +17,10 @@ latch2 past = list_any (λ m. m.found.answers || m.opens) past
 
 -- whether each path conducts at a tick
 unfoldable pub path1_at : Effects → List Moment → Bool
-path1_at x past = x.conducts 1 (latch1 past)
+path1_at x past = x.conducts PATH_1 (latch1 past)
 
 unfoldable pub path2_at : Effects → List Moment → Bool
-path2_at x past = x.conducts 2 (latch2 past)
+path2_at x past = x.conducts PATH_2 (latch2 past)
 
 -- the power stages are on where both do
 unfoldable pub on_at : Effects → List Moment → Bool

@@ -1,15 +1,17 @@
 -- The laws for the record of a run on the bench: what the report says, and what the rows keep.
-use Rattle.std.specs.Prelude.{◌≡◌, ℕ, ◌+◌, ◌≤◌, ◌<◌, Bool, true, false, not, nat_lt, nat_le, List, All, map, length, Option, Some, None, MatchOption}
+use Rattle.std.specs.Prelude.{◌≡◌, ℕ, ◌+◌, ◌*◌, ◌≤◌, ◌<◌, Bool, true, false, not, nat_lt, nat_le, List, ◌++◌, All, map, take, length, Option, Some, None, IfSome, MatchOption}
+use Rattle.std.specs.List.{list_all}
 use Rattle.eg_num.specs.Drive.{IsDrive}
 use Rattle.eg_num.specs.Windows.{WeightParts, is_confirmed, first_place}
-use Rattle.eg_answer.specs.Times.{reaction_of}
-use Rattle.eg_values.specs.Calibration.{IsAccepted}
-use Rattle.eg_fault.specs.Faults.{effects, IsListed}
+use Rattle.eg_answer.specs.Times.{reaction_of, HasLapseBound, lapse_periods, lapse_bound_of}
+use Rattle.eg_values.specs.Calibration.{CalibrationParts, IsAccepted}
+use Rattle.eg_fault.specs.Faults.{effects, IsNoneOrValid, IsListed}
 use Rattle.eg_fault.specs.declared.class.Fault.{Fault}
 use Rattle.eg_record.specs.declared.row.Row.{Row}
 use Rattle.eg_record.specs.Rows.{AreRows}
 use Rattle.eg_record.specs.Excess.{true_excess, full_excess, first_confirmed}
-use Rattle.eg_model.specs.Reaction.{is_at_once}
+use Rattle.eg_model.specs.Reaction.{is_at_once, spoils_answers}
+use Rattle.eg_model.specs.Lapses.{IsLapse}
 use Rattle.eg_model.specs.Moments.{moment, moments}
 use Rattle.eg_model.specs.Bench.{Run, entry_at, moments_to, entries_to}
 use Rattle.eg_model.specs.Rows.{row_of, rows_of, record_rows}
@@ -98,3 +100,62 @@ RecordsCutSharply =
     (r : Run) → IsRun r → r.setting.fault ≡ None →
     CutOneTickAfter r.setting.cal.rules.torque r.setting.cal.rules.kt r.setting.cal.rules.threshold
     (record_rows r)
+
+-- ---- by parts of the rows ----
+
+-- Wherever the true excess is confirmed by the rows before a tick, and the fault, if any, is one under which
+-- the reaction is then at once, the stages are off from that tick on.
+abbrev pub ReactAtOnce : Option Fault → WeightParts → (threshold : ℕ) → List Row → Type 0
+ReactAtOnce fault weights threshold rows =
+    (later before : List Row) → rows ≡ later ++ before →
+    is_confirmed weights (map (true_excess threshold) before) ≡ true →
+    is_at_once fault (length before) ≡ true → All (λ row. row.on ≡ false) later
+
+-- there is true excess at each of the last n of these rows
+pub record ExceedLast (threshold n : ℕ) (rows : List Row) : Type 0 where
+  pub within : n ≤ length rows
+  pub each : list_all (λ excess. excess) (take n (map (true_excess threshold) rows)) ≡ true
+
+-- A lapse is cut: wherever a period ends at which there was true excess through so many whole periods, the
+-- stages are off from the next tick on.
+abbrev pub CutLapses : CalibrationParts → List Row → Type 0
+CutLapses cal rows =
+    (later before : List Row) (periods : ℕ) → rows ≡ later ++ before →
+    length before ≡ periods * cal.times.period →
+    ExceedLast cal.rules.threshold (lapse_periods cal.rules.torque cal.times * cal.times.period) before →
+    All (λ row. row.on ≡ false) later
+
+-- each stretch of rows in a row with true excess is shorter than the bound for lapses
+abbrev pub LapsesAreShort : CalibrationParts → List Row → Type 0
+LapsesAreShort cal rows =
+    (later before : List Row) (n : ℕ) → rows ≡ later ++ before →
+    ExceedLast cal.rules.threshold n before → n < lapse_bound_of cal.rules.torque cal.times
+
+-- where a module is skipped or disturbed, or the controller halts, the stages are off from `bound` ticks
+-- after the onset, whatever the torque
+abbrev pub CutFromOnset : Option Fault → (bound : ℕ) → List Row → Type 0
+CutFromOnset fault bound rows = IfSome fault (λ f. spoils_answers f.class ≡ true →
+    All (λ row. f.onset + bound ≤ row.tick → row.on ≡ false) rows)
+
+-- so it is for every record
+abbrev pub RecordsReactAtOnce : Type 0
+RecordsReactAtOnce =
+    (r : Run) → IsRun r → IsListed r.setting.fault →
+    ReactAtOnce r.setting.fault r.setting.cal.rules.torque r.setting.cal.rules.threshold (record_rows r)
+
+abbrev pub RecordsCutLapses : Type 0
+RecordsCutLapses =
+    (r : Run) → IsRun r → IsNoneOrValid r.setting.fault →
+    HasLapseBound r.setting.cal.rules.torque r.setting.cal.times → IsLapse r.setting.fault →
+    CutLapses r.setting.cal (record_rows r)
+
+abbrev pub RecordsHaveShortLapses : Type 0
+RecordsHaveShortLapses =
+    (r : Run) → IsRun r → IsNoneOrValid r.setting.fault →
+    HasLapseBound r.setting.cal.rules.torque r.setting.cal.times → IsLapse r.setting.fault →
+    LapsesAreShort r.setting.cal (record_rows r)
+
+abbrev pub RecordsCutFromOnset : Type 0
+RecordsCutFromOnset =
+    (r : Run) → IsRun r → IsNoneOrValid r.setting.fault →
+    CutFromOnset r.setting.fault (reaction_of r.setting.cal.times) (record_rows r)

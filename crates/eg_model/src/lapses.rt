@@ -1,5 +1,5 @@
 // The laws of lapses.
-ghost use Rattle.eg_model.specs.Lapses.{CutsLapses, LapsesAreShort};
+ghost use Rattle.eg_model.specs.Lapses.{CutsLapses, StretchesAreShort};
 
 /// The laws of lapses (docs/CONCEPT.md, "Lapses"): level 2 as a whole doesn't run at some ticks, whichever
 /// they are. For a calibration that has a bound: where `lapse_periods` whole periods lie in a stretch of
@@ -8,5 +8,5 @@ ghost use Rattle.eg_model.specs.Lapses.{CutsLapses, LapsesAreShort};
 /// said of an excess with gaps. It does nothing when it runs.
 pub fn lapses_are_cut()
     ensures cut { CutsLapses }
-    ensures short { LapsesAreShort }
+    ensures short { StretchesAreShort }
 {}

@@ -17,5 +17,8 @@ pub use faulty_runs::{
 };
 pub use lapses::lapses_are_cut;
 pub use reaction::{cuts_from_onset, reacts_in_time};
-pub use records::{records_are_histories, records_cut_sharply, records_react};
+pub use records::{
+    records_are_histories, records_cut_from_onset, records_cut_lapses, records_cut_sharply,
+    records_react,
+};
 pub use sharp_cut::cuts_sharply;

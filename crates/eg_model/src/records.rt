@@ -1,5 +1,5 @@
 // The laws of records of runs on the bench.
-ghost use Rattle.eg_model.specs.Records.{RecordsAreHistories, RecordsAreRows, RunsReact, RunsReactAtOnce, RecordsReact, RunsCutSharply, RecordsCutSharply};
+ghost use Rattle.eg_model.specs.Records.{RecordsAreHistories, RecordsAreRows, RunsReact, RunsReactAtOnce, RecordsReact, RecordsReactAtOnce, RecordsCutFromOnset, RunsCutSharply, RecordsCutSharply, RecordsCutLapses, RecordsHaveShortLapses};
 
 /// The record of a run on the bench is a history from power-on, and its rows are numbered from 0 on. It
 /// does nothing when it runs.
@@ -8,12 +8,20 @@ pub fn records_are_histories()
     ensures rows { RecordsAreRows }
 {}
 
-/// The reaction theorem for runs on the bench: tick by tick, and by the rows of the whole record. It does
-/// nothing when it runs.
+/// The reaction theorem for runs on the bench: tick by tick, and by the rows of the record. It does nothing
+/// when it runs.
 pub fn records_react()
     ensures in_time { RunsReact }
     ensures at_once { RunsReactAtOnce }
     ensures rows { RecordsReact }
+    ensures rows_at_once { RecordsReactAtOnce }
+{}
+
+/// By the rows of the record of a run on the bench: where a module of level 2 is skipped or disturbed, or the
+/// controller halts, the stages are off from R ticks after the onset, whatever the torque
+/// (docs/CONCEPT.md, "Reaction time"). It does nothing when it runs.
+pub fn records_cut_from_onset()
+    ensures { RecordsCutFromOnset }
 {}
 
 /// The sharp cut for runs on the bench: at each tick before the onset of a fault, whatever the fault, and
@@ -21,4 +29,12 @@ pub fn records_react()
 pub fn records_cut_sharply()
     ensures ticks { RunsCutSharply }
     ensures rows { RecordsCutSharply }
+{}
+
+/// The laws of lapses by the rows of the record of a run on the bench, for a calibration that has a bound
+/// (docs/CONCEPT.md, "Lapses"): a lapse is cut, and each stretch of true excess is shorter than the bound. It
+/// does nothing when it runs.
+pub fn records_cut_lapses()
+    ensures cut { RecordsCutLapses }
+    ensures short { RecordsHaveShortLapses }
 {}

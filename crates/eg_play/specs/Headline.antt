@@ -7,9 +7,8 @@ use Rattle.eg_record.specs.Detection.{IsFirstDetection}
 use Rattle.eg_record.specs.Stages.{IsFirstOff}
 use Rattle.eg_model.specs.Bench.{Run}
 use Rattle.eg_model.specs.Rows.{record_rows, report_of}
-use Rattle.eg_model.specs.Records.{ReactWithin, CutOneTickAfter}
+use Rattle.eg_model.specs.Records.{ReactWithin, CutOneTickAfter, ReactAtOnce, CutLapses, LapsesAreShort, CutFromOnset}
 use Rattle.eg_model.specs.Lapses.{IsLapse}
-use Rattle.eg_tick.specs.Run.{ReactAtOnce, CutLapses, LapsesAreShort}
 
 pub record KeepsHeadline (r : Run) : Type 0 where
   -- With at most one listed fault outside level 1, the power stages are off from R ticks after any confirmed
@@ -21,6 +20,9 @@ pub record KeepsHeadline (r : Run) : Type 0 where
   -- Without a fault they go off exactly one tick after the first confirmed full-efficiency excess.
   pub cuts : r.setting.fault ≡ None → CutOneTickAfter r.setting.cal.rules.torque r.setting.cal.rules.kt
       r.setting.cal.rules.threshold (record_rows r)
+  -- Where a module of level 2 is skipped or disturbed, or the controller halts, they are off from R ticks after
+  -- the onset, whatever the torque.
+  pub from_onset : CutFromOnset r.setting.fault (reaction_of r.setting.cal.times) (record_rows r)
   -- Lapses are cut, and each stretch of torque excess under them is short, where the calibration has a bound.
   pub lapses : HasLapseBound r.setting.cal.rules.torque r.setting.cal.times → IsLapse r.setting.fault →
       CutLapses r.setting.cal (record_rows r)

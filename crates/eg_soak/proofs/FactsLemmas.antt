@@ -12,7 +12,7 @@ use Rattle.eg_model.specs.Bench.{Run}
 use Rattle.eg_model.specs.Rows.{record_rows, report_of}
 use Rattle.eg_model.specs.Records.{rows_to}
 use Rattle.eg_model.proofs.RecordLaws.{records_are_rows}
-use Rattle.eg_campaign.proofs.PlayLemmas.{in_time}
+use Rattle.eg_tick.proofs.RunLaws.{newest_first}
 use Rattle.eg_soak.specs.Facts.{on_until, facts_in, facts_of}
 
 -- ---- rows ----
@@ -40,4 +40,4 @@ any_fault (Some fault) valid = valid
 pub facts_told : (r : Run) (rows : List Row) (report : Summary) → rows ≡ reverse (record_rows r) →
     report ≡ report_of [] r → facts_in report (reverse rows) ≡ facts_of r
 unfolding facts_of
-facts_told r rows report are told = ap₂ facts_in told (sym (in_time r rows are))
+facts_told r rows report are told = ap₂ facts_in told (sym (newest_first r rows are))

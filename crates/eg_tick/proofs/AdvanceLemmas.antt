@@ -1,14 +1,13 @@
 -- A tick, from what each of its parts says of itself.
-use Rattle.std.proofs.Common.{◌≡◌, ◌∙◌, refl, sym, ap, ap₂, subst, ℕ, ◌+◌, ◌-◌, ◌≤◌, ◌<◌, ◌||◌, ◌&&◌, Bool, true, false, Option, Some, None, List, ◌∷◌, length, slice_index, arith}
-use Rattle.std.specs.Prelude.{if◌then◌else◌, nat_le}
+use Rattle.std.proofs.Common.{◌≡◌, ◌∙◌, refl, sym, ap, ap₂, subst, ℕ, ◌+◌, ◌-◌, ◌≤◌, ◌<◌, ◌||◌, ◌&&◌, Bool, false, Option, Some, List, ◌∷◌, length, slice_index, arith}
 use Rattle.std.specs.Option.{option_or}
 use Rattle.eg_num.specs.Drive.{DriveRow, IsDrive}
 use Rattle.eg_plant.specs.Engine.{KeepsLaws}
 use Rattle.eg_fault.specs.declared.class.Fault.{Fault}
-use Rattle.eg_fault.specs.declared.class.Class.{Class}
-use Rattle.eg_fault.specs.declared.class.Class.TheVariants.{Script, Offset, Bus, Plate, Skip, Disturb, Flip, Halt, Timing, Wild, Path1Closed, Path2Closed, PathOpen, Lapse}
-use Rattle.eg_fault.specs.Effects.{no_effects, sends_at, asked_at}
-use Rattle.eg_fault.specs.Faults.{effects, does, IsValidClass}
+use Rattle.eg_fault.specs.Effects.{sends_at, asked_at}
+use Rattle.eg_fault.specs.Faults.{effects, IsNoneOrValid}
+use Rattle.eg_fault.specs.Classes.{IsHeldWithin}
+use Rattle.eg_fault.proofs.ClassLemmas.{plates_are_held_within}
 use Rattle.eg_values.specs.Calibration.{IsAccepted}
 use Rattle.eg_guard.specs.Memory.{AreWords}
 use Rattle.eg_torque.specs.Permit.{drive_permits}
@@ -23,7 +22,6 @@ use Rattle.eg_model.specs.Level1.{last_world}
 use Rattle.eg_model.specs.Moments.{readings_at, moments, next}
 use Rattle.eg_model.specs.Rows.{trap_in, row_of, signal_list}
 use Rattle.eg_agree.specs.Standing.{signals_of}
-use Rattle.eg_fault.specs.Faults.{IsNoneOrValid}
 use Rattle.eg_agree.proofs.HistoryLemmas.{within_law}
 use Rattle.eg_tick.specs.Kept.{Kept}
 use Rattle.eg_tick.specs.Stands.{Stands, HoldsMonitor}
@@ -50,35 +48,9 @@ of_setting P c h each s stands =
 
 -- ---- where a plate is held ----
 
-class-held : (class : Class) (k x : ℕ) → IsValidClass class → (does class k).held ≡ Some x → x ≤ 1000
-unfolding does no_effects IsValidClass
-class-held (Plate at) k x valid is = let same : Some at ≡ Some x = is in subst (λ n. n ≤ 1000) (some-same same) valid
-  where
-    some-same : {a b : ℕ} → Some a ≡ Some b → a ≡ b
-    some-same same = cc
-class-held (Script track values) k x valid is = absurd (let no_plate : None ≡ Some x = is in cc)
-class-held (Offset track add) k x valid is = absurd (let no_plate : None ≡ Some x = is in cc)
-class-held (Bus mask) k x valid is = absurd (let no_plate : None ≡ Some x = is in cc)
-class-held (Skip index) k x valid is = absurd (let no_plate : None ≡ Some x = is in cc)
-class-held (Disturb index mask) k x valid is = absurd (let no_plate : None ≡ Some x = is in cc)
-class-held (Flip word mask) k x valid is = absurd (let no_plate : None ≡ Some x = is in cc)
-class-held Halt k x valid is = absurd (let no_plate : None ≡ Some x = is in cc)
-class-held (Timing offset) k x valid is = absurd (let no_plate : None ≡ Some x = is in cc)
-class-held (Wild questions opens) k x valid is = absurd (let no_plate : None ≡ Some x = is in cc)
-class-held Path1Closed k x valid is = absurd (let no_plate : None ≡ Some x = is in cc)
-class-held Path2Closed k x valid is = absurd (let no_plate : None ≡ Some x = is in cc)
-class-held (PathOpen path) k x valid is = absurd (let no_plate : None ≡ Some x = is in cc)
-class-held (Lapse after every) k x valid is = absurd (let no_plate : None ≡ Some x = is in cc)
-
 -- under a valid fault it is within its range
 pub held-within : (fault : Option Fault) (tick x : ℕ) → IsNoneOrValid fault → (effects fault tick).held ≡ Some x → x ≤ 1000
-unfolding effects IsNoneOrValid no_effects
-held-within None tick x valid is = absurd (let no_plate : None ≡ Some x = is in cc)
-held-within (Some fault) tick x valid is = either (nat_le fault.onset tick) is
-  where
-    either : (began : Bool) → (if began then does fault.class (tick - fault.onset) else no_effects).held ≡ Some x → x ≤ 1000
-    either true is = class-held fault.class (tick - fault.onset) x valid.1 is
-    either false is = absurd (let no_plate : None ≡ Some x = is in cc)
+held-within fault tick x valid is = subst IsHeldWithin is (plates_are_held_within fault valid tick)
 
 -- ---- level 2's counters ----
 

@@ -1,10 +1,10 @@
 -- The monitoring module at a tick of a run: a module that isn't wild was never wild before, and what it hears and judges is what the model says.
-use Rattle.std.proofs.Common.{◌≡◌, ◌∙◌, refl, sym, ap, ap₂, ◌≢◌, subst, inl, inr, ℕ, zero, suc, ◌+◌, ◌-◌, ◌*◌, ◌/◌, ◌%◌, ◌≤◌, ◌<◌, le_trans, Bool, true, false, not, ◌&&◌, List, [], ◌∷◌, map, take, length, is_some, Option, Some, None, arith}
+use Rattle.std.proofs.Common.{◌≡◌, ◌∙◌, refl, sym, ap, ap₂, ◌≢◌, subst, inl, inr, ℕ, zero, suc, ◌+◌, ◌-◌, ◌*◌, ◌/◌, ◌%◌, ◌≤◌, ◌<◌, Bool, true, false, not, ◌&&◌, List, [], ◌∷◌, map, take, length, is_some, Option, Some, None, arith}
 use Rattle.std.specs.Prelude.{All, ◌==◌, if◌then◌else◌, IfSome, IfNone, OnSome, SomeIff, IsTrue}
 use Rattle.std.proofs.Math.Nat.{mod-lt}
 use Rattle.std.proofs.Math.Numerals.{add-one}
 use Rattle.std.proofs.lemmas.Nat.{div-add-mod', mod-mul-add}
-use Rattle.std.proofs.lemmas.Bool.{cases_Bool, cases_lt, le-leb, eqb-true, eqb-false, or_from, or_left}
+use Rattle.std.proofs.lemmas.Bool.{cases_Bool, eqb-true, eqb-false, or_from, or_left}
 use Rattle.std.proofs.lemmas.List.Elements.{All-nil, All-cons, All-head, All-tail}
 use Rattle.eg_num.specs.Windows.{is_confirmed}
 use Rattle.eg_num.proofs.FirstPlaceLemmas.{is_first-cons}
@@ -18,16 +18,14 @@ use Rattle.eg_answer.specs.declared.marks.AnswerMark.TheVariants.{Absent, Good, 
 use Rattle.eg_answer.specs.declared.marks.Verdict.{Verdict}
 use Rattle.eg_module.specs.Monitoring.{MonitorParts, HasGiven}
 use Rattle.eg_module.proofs.VerdictLemmas.{period_of-other}
-use Rattle.eg_fault.specs.Effects.{Effects, no_effects, asked_at}
-use Rattle.eg_fault.specs.Faults.{does, effects}
-use Rattle.eg_fault.specs.declared.class.Class.{Class}
-use Rattle.eg_fault.specs.declared.class.Class.TheVariants.{Script, Offset, Bus, Plate, Skip, Disturb, Flip, Halt, Timing, Wild, Path1Closed, Path2Closed, PathOpen, Lapse}
+use Rattle.eg_fault.specs.Effects.{Effects, asked_at}
+use Rattle.eg_fault.specs.Faults.{effects}
 use Rattle.eg_fault.specs.declared.class.Fault.{Fault}
+use Rattle.eg_fault.proofs.ClassLemmas.{wild_stays_wild}
 use Rattle.eg_model.specs.History.{Setting, Entry, Tick, Moment}
 use Rattle.eg_model.specs.Answers.{with_answer, answers_in, verdict_at, verdicts_in, finds_answers}
 use Rattle.eg_model.specs.Moments.{moment, moments_of, ticks, moments, next}
 use Rattle.eg_model.proofs.TickLemmas.{length-moments, moment-tick, moment-verdict, moment-answers, moment-opens}
-use Rattle.eg_model.proofs.ClassLemmas.{early_is_none}
 use Rattle.eg_agree.specs.Replies.{number_expected, mark_of}
 use Rattle.eg_agree.proofs.TickLemmas.{length-ticks}
 use Rattle.eg_agree.proofs.ReplyLaws.{number_expected-usual}
@@ -38,46 +36,11 @@ use Rattle.eg_tick.specs.Judging.{with_heard, Takes, IsDeaf, ComesNext}
 
 -- ---- wild, once it has begun ----
 
--- a class is wild at each tick or at none
-tame_class : (class : Class) (k j : ℕ) → (does class k).wild ≡ None → (does class j).wild ≡ None
-unfolding does no_effects
-tame_class (Script track values) k j tame = refl
-tame_class (Offset track add) k j tame = refl
-tame_class (Bus mask) k j tame = refl
-tame_class (Plate at) k j tame = refl
-tame_class (Skip index) k j tame = refl
-tame_class (Disturb index mask) k j tame = refl
-tame_class (Flip word mask) k j tame = refl
-tame_class Halt k j tame = refl
-tame_class (Timing offset) k j tame = refl
-tame_class (Wild questions opens) k j tame = cc
-tame_class Path1Closed k j tame = refl
-tame_class Path2Closed k j tame = refl
-tame_class (PathOpen path) k j tame = refl
-tame_class (Lapse after every) k j tame = refl
-
--- from its onset on a fault does what its class does
-acts_from : (fault : Fault) (t : ℕ) → fault.onset ≤ t → effects (Some fault) t ≡ does fault.class (t - fault.onset)
-unfolding effects
-acts_from fault t from = rw (le-leb fault.onset t from) refl
-
--- where the module isn't wild at a tick, it wasn't at any before
-pub tame_earlier : (fault : Option Fault) (j k : ℕ) → j ≤ k → (effects fault k).wild ≡ None → (effects fault j).wild ≡ None
-unfolding effects no_effects
-tame_earlier None j k before tame = refl
-tame_earlier (Some fault) j k before tame = elim (cases_lt j fault.onset) [
-  | inl early ↦ ap (λ (x : Effects). x.wild) (early_is_none fault j early)
-  | inr from ↦
-      ap (λ (x : Effects). x.wild) (acts_from fault j from)
-      ∙ tame_class fault.class (k - fault.onset) (j - fault.onset)
-      (sym (ap (λ (x : Effects). x.wild) (acts_from fault k (le_trans from before))) ∙ tame)
-]
-
 pub never_wild : (s : Setting) (h : List Entry) (t : ℕ) → length h ≤ t → (effects s.fault t).wild ≡ None → was_wild (ticks s h) ≡ false
 unfolding was_wild ticks
 never_wild s [] t before tame = refl
 never_wild s (e ∷ h) t before tame =
-    or_from _ _ (ap is_some (tame_earlier s.fault (length h) t (omega (arith, before)) tame)) (never_wild s h t (omega (arith, before)) tame)
+    or_from _ _ (ap is_some (wild_stays_wild s.fault (length h) t (omega (arith, before)) tame)) (never_wild s h t (omega (arith, before)) tame)
 
 -- ---- answers that were heard ----
 

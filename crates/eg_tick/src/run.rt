@@ -8,11 +8,11 @@ ghost use Rattle.eg_answer.specs.Times.{HasLapseBound, reaction_of};
 ghost use Rattle.eg_fault.specs.Faults.{IsListed};
 ghost use Rattle.eg_model.specs.Bench.{Run, drive_at};
 ghost use Rattle.eg_model.specs.Rows.{record_rows, record_trap};
-ghost use Rattle.eg_model.specs.Records.{row_at, rows_to, ReactWithin, CutOneTickAfter};
+ghost use Rattle.eg_model.specs.Records.{row_at, rows_to, ReactWithin, CutOneTickAfter, ReactAtOnce, CutLapses, LapsesAreShort};
 ghost use Rattle.eg_model.specs.Lapses.{IsLapse};
 ghost use Rattle.eg_fault.specs.Faults.{IsNoneOrValid};
 ghost use Rattle.eg_tick.specs.Weights.{weight_of};
-ghost use Rattle.eg_tick.specs.Run.{run_by, IsAt, IsRecordOf, ReactAtOnce, CutLapses, LapsesAreShort};
+ghost use Rattle.eg_tick.specs.Run.{run_by, IsAt, IsRecordOf};
 
 use crate::{Controller, SlicePlan, Ticks};
 use eg_base::{Items, NoMemory};

@@ -1,4 +1,5 @@
 use Rattle.eg_model.proofs.RecordLaws.{runs_react, runs_react_at_once, records_react}
+use Rattle.eg_model.proofs.RowLaws.{records_react_at_once}
 use Rattle.eg_model.proofs.records.records_react.Goals as goal
 
 pub returns-clause-in_time : goal.returns-clause-in_time
@@ -9,3 +10,6 @@ returns-clause-at_once c = runs_react_at_once
 
 pub returns-clause-rows : goal.returns-clause-rows
 returns-clause-rows c = records_react
+
+pub returns-clause-rows_at_once : goal.returns-clause-rows_at_once
+returns-clause-rows_at_once c = records_react_at_once

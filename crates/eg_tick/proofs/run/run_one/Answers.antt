@@ -2,11 +2,12 @@ use Rattle.std.proofs.Common.{subst}
 use Rattle.std.specs.Option.{option_copied}
 use Rattle.eg_answer.specs.Times.{reaction_of}
 use Rattle.eg_model.specs.Bench.{Run}
-use Rattle.eg_model.specs.Records.{ReactWithin, CutOneTickAfter}
+use Rattle.eg_model.specs.Records.{ReactWithin, CutOneTickAfter, ReactAtOnce, CutLapses, LapsesAreShort}
 use Rattle.eg_model.proofs.RecordLaws.{records_react, records_cut_sharply}
-use Rattle.eg_tick.specs.Run.{run_by, ReactAtOnce, CutLapses, LapsesAreShort}
+use Rattle.eg_model.proofs.RowLaws.{records_react_at_once, records_cut_lapses, records_have_short_lapses}
+use Rattle.eg_tick.specs.Run.{run_by}
 use Rattle.eg_tick.proofs.RunLemmas.{if_ok}
-use Rattle.eg_tick.proofs.RunLaws.{is_run, at_once, cut_lapses, short_lapses, newest_first}
+use Rattle.eg_tick.proofs.RunLaws.{is_run, newest_first}
 use Rattle.eg_tick.proofs.run.run_one.Goals as goal
 
 pub returns-clause-reacts : goal.returns-clause-reacts
@@ -21,7 +22,7 @@ returns-clause-at_once c = λ listed. if_ok _ _ c.record_run.result (λ made m.
     let r : Run = run_by c.args.calibration.now c.args.image.now (option_copied c.args.fault) c.args.plan.now c.args.drive.now in
     subst (ReactAtOnce r.setting.fault r.setting.cal.rules.torque r.setting.cal.rules.threshold)
     (newest_first r made.rows m.rows_are)
-    (at_once r (is_run r made.rows made.trap c.rules-rules.ensures.accepted m) listed)) c.record_run.ensures.made
+    (records_react_at_once r (is_run r made.rows made.trap c.rules-rules.ensures.accepted m) listed)) c.record_run.ensures.made
 
 pub returns-clause-cuts : goal.returns-clause-cuts
 returns-clause-cuts c = λ none. if_ok _ _ c.record_run.result (λ made m.
@@ -34,10 +35,10 @@ pub returns-clause-lapses : goal.returns-clause-lapses
 returns-clause-lapses c = λ bound lapse. if_ok _ _ c.record_run.result (λ made m.
     let r : Run = run_by c.args.calibration.now c.args.image.now (option_copied c.args.fault) c.args.plan.now c.args.drive.now in
     subst (CutLapses r.setting.cal) (newest_first r made.rows m.rows_are)
-    (cut_lapses r made.rows made.trap c.rules-rules.ensures.accepted m bound lapse)) c.record_run.ensures.made
+    (records_cut_lapses r (is_run r made.rows made.trap c.rules-rules.ensures.accepted m) c.requires.fault bound lapse)) c.record_run.ensures.made
 
 pub returns-clause-short : goal.returns-clause-short
 returns-clause-short c = λ bound lapse. if_ok _ _ c.record_run.result (λ made m.
     let r : Run = run_by c.args.calibration.now c.args.image.now (option_copied c.args.fault) c.args.plan.now c.args.drive.now in
     subst (LapsesAreShort r.setting.cal) (newest_first r made.rows m.rows_are)
-    (short_lapses r made.rows made.trap c.rules-rules.ensures.accepted m bound lapse)) c.record_run.ensures.made
+    (records_have_short_lapses r (is_run r made.rows made.trap c.rules-rules.ensures.accepted m) c.requires.fault bound lapse)) c.record_run.ensures.made

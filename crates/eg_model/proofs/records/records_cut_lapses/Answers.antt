@@ -1,0 +1,5 @@
+use Rattle.eg_model.proofs.RowLaws.{records_cut_lapses, records_have_short_lapses}
+use Rattle.eg_model.proofs.records.records_cut_lapses.Goals as goal
+
+pub returns : goal.returns
+returns c = record { cut = records_cut_lapses; short = records_have_short_lapses }
