@@ -20,8 +20,8 @@ pub record KeepsHeadline (r : Run) : Type 0 where
   -- Without a fault they go off exactly one tick after the first confirmed full-efficiency excess.
   pub cuts : r.setting.fault ≡ None → CutOneTickAfter r.setting.cal.rules.torque r.setting.cal.rules.kt
       r.setting.cal.rules.threshold (record_rows r)
-  -- Where a module of level 2 is skipped or disturbed, or the controller halts, they are off from R ticks after
-  -- the onset, whatever the torque.
+  -- Where a module of level 2 is skipped or disturbed, or the controller halts, they are off from R ticks
+  -- after the onset, whatever the torque.
   pub from_onset : CutFromOnset r.setting.fault (reaction_of r.setting.cal.times) (record_rows r)
   -- Lapses are cut, and each stretch of torque excess under them is short, where the calibration has a bound.
   pub lapses : HasLapseBound r.setting.cal.rules.torque r.setting.cal.times → IsLapse r.setting.fault →

@@ -1,5 +1,5 @@
--- A run on the bench: what a controller stands for after so many ticks of it, and what its record is. Lists of
--- rows stand newest first.
+-- A run on the bench: what a controller stands for after so many ticks of it, and what its record is. Lists
+-- of rows stand newest first.
 use Rattle.std.specs.Prelude.{◌≡◌, ℕ, List, reverse, length, Option}
 use Rattle.eg_num.specs.Drive.{DriveRow}
 use Rattle.eg_plant.specs.Gasoline.{GasolinePlant}
