@@ -1,5 +1,5 @@
 -- What the calibration of a command is: the reference calibration, or what the file behind `--cal` says.
-use Rattle.std.specs.Prelude.{◌≡◌, ℕ, List, Option, Some, None, Result, Ok, Err}
+use Rattle.std.specs.Prelude.{◌≡◌, ℕ, List, Option, Some, None, Result, Ok}
 use Rattle.eg_base.specs.Outside.{ShownStore, IsMissing}
 use Rattle.eg_toml.specs.Documents.{document_of}
 use Rattle.eg_values.specs.Calibration.{CalibrationParts}
@@ -7,7 +7,7 @@ use Rattle.eg_values.specs.Reference.{reference_parts}
 use Rattle.eg_cal.specs.Calibration.{calibration_of}
 use Rattle.eg_cal.specs.declared.key.CalFault.{CalFault}
 use Rattle.eg_outcome.specs.Outcomes.{Follows}
-use Rattle.eg_outcome.specs.Reads.{sized, FileComes, Finds, Accepts}
+use Rattle.eg_outcome.specs.Reads.{refused, sized, FileComes, Finds, Accepts}
 use Rattle.eg_outcome.specs.declared.outcome.Outcome.{Outcome}
 use Rattle.eg_outcome.specs.declared.outcome.Refusal.{Refusal}
 use Rattle.eg_outcome.specs.declared.outcome.Refusal.TheVariants as refusal
@@ -17,14 +17,13 @@ use Rattle.eg_outcome.specs.declared.outcome.Role.TheVariants as role
 unfoldable pub calibration_said : List ℕ → Result CalibrationParts CalFault
 calibration_said bytes = calibration_of (document_of bytes)
 
--- why a calibration is refused
-abbrev pub refused_calibration : Result CalibrationParts CalFault → Result CalibrationParts Refusal
-refused_calibration (Ok parts) = Ok parts
-refused_calibration (Err fault) = Err (refusal.Calibration fault)
+-- the calibration that the bytes of a file say, or why they are refused
+abbrev pub calibration_or_refusal : List ℕ → Result CalibrationParts Refusal
+calibration_or_refusal bytes = refused refusal.Calibration (calibration_said bytes)
 
 -- the calibration of a file, or its first refusal
 abbrev pub calibration_file : List ℕ → Result CalibrationParts Refusal
-calibration_file = sized role.Calibration (λ bytes. refused_calibration (calibration_said bytes))
+calibration_file = sized role.Calibration calibration_or_refusal
 
 -- What comes of the calibration that a command goes by: its parts, or how the call ends without one. Where no
 -- file is named it is the reference calibration.

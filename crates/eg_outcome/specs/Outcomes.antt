@@ -1,6 +1,6 @@
 -- How a call ends: what was put, and what each outcome tells.
-use Rattle.std.specs.Prelude.{◌≡◌, ℕ, List, Result, Ok, Err}
-use Rattle.eg_base.specs.Outside.{ShownSink, Rose, Appends, AppendsPrefix}
+use Rattle.std.specs.Prelude.{◌≡◌, ◌≢◌, ℕ, List, IsTrue, Result, Ok, Err}
+use Rattle.eg_base.specs.Outside.{ShownStore, ShownSink, Rose, Appends, AppendsPrefix}
 use Rattle.eg_input.specs.declared.fault.TraceFault.TheVariants as trace_fault
 use Rattle.eg_input.specs.declared.fault.ImageFault.TheVariants as image_fault
 use Rattle.eg_cal.specs.declared.key.CalFault.TheVariants as cal_fault
@@ -55,3 +55,22 @@ PutsNothing _ = ⊥
 abbrev pub IsReadFault : Outcome → Type 0
 IsReadFault (outcome.ReadFault _) = Unit {0}
 IsReadFault _ = ⊥
+
+-- ---- what every call tells ----
+
+-- A text is put: how that ends, and that nothing else can come of it; and the output stays sure where it is,
+-- so that memory doesn't run out.
+pub record PutsText (text : List ℕ) (out now : ShownSink) (o : Outcome) : Type 0 where
+  pub ends : LineEnds text out now o
+  pub put : PutsNothing o → ⊥
+  pub sure : IsTrue out.sure → o ≢ outcome.Memory
+  pub stays_sure : now.sure ≡ out.sure
+
+-- However a command that plays runs ends: no refusal tells that memory ran out, and no file changes; and where
+-- nothing is put, output and count of ticks are as they were.
+pub record EndsOrderly {K T : Type 0} (store later : ShownStore) (out now : K) (was is : T) (o : Outcome) :
+    Type 0 where
+  pub no_memory : TellsNoMemory o
+  pub files : later.files ≡ store.files
+  pub nothing_put : PutsNothing o → now ≡ out
+  pub nothing_played : PutsNothing o → is ≡ was

@@ -1,6 +1,6 @@
 -- What comes of reading a file: its value, or how the call ends without it. `says` is what the bytes of such
 -- a file say: a value, or the first refusal.
-use Rattle.std.specs.Prelude.{◌≡◌, ◌⊎◌, ℕ, List, IsTrue, IsOk, Result, Ok, Err, if◌then◌else◌}
+use Rattle.std.specs.Prelude.{◌≡◌, ◌⊎◌, ◌↔◌, ℕ, List, IsTrue, IsOk, IfErr, Result, Ok, Err, if◌then◌else◌}
 use Rattle.eg_base.specs.Outside.{ShownStore, Rose, IsMissing}
 use Rattle.eg_outcome.specs.Files.{AreRead, is_too_long}
 use Rattle.eg_outcome.specs.declared.outcome.Outcome.{Outcome}
@@ -8,10 +8,20 @@ use Rattle.eg_outcome.specs.declared.outcome.Outcome.TheVariants as outcome
 use Rattle.eg_outcome.specs.declared.outcome.Refusal.{Refusal}
 use Rattle.eg_outcome.specs.declared.outcome.Refusal.TheVariants as refusal
 use Rattle.eg_outcome.specs.declared.outcome.Role.{Role}
+use Rattle.eg_outcome.specs.Outcomes.{TellsNoMemory}
+
+-- a value, or why the file is refused
+abbrev pub refused : {X Fault : Type 0} → (Fault → Refusal) → Result X Fault → Result X Refusal
+refused why (Ok x) = Ok x
+refused why (Err fault) = Err (why fault)
 
 -- what the bytes of a file say, or its first refusal: of its size, or else by the rules of its kind
 abbrev pub sized : {X : Type 0} → Role → (List ℕ → Result X Refusal) → List ℕ → Result X Refusal
 sized file says bytes = if is_too_long bytes then Err (refusal.Size file) else says bytes
+
+-- the bytes themselves, unless there are too many
+abbrev pub whole : Role → List ℕ → Result (List ℕ) Refusal
+whole file = sized file (λ bytes. Ok bytes)
 
 -- once the bytes of the file are known: it is accepted with this value, or refused by its first refusal, or
 -- memory ran out
@@ -37,6 +47,27 @@ FileComes file says name store later (Err (outcome.ReadFault role)) = (role ≡ 
 FileComes file says name store later (Err outcome.Memory) = later.faults ≡ store.faults
 FileComes file says name store later (Err end) =
     (later.faults ≡ store.faults) × ReadComes says name store (Err end)
+
+-- ---- what a call that reads tells and leaves ----
+
+-- What comes of the file of this name; over a sure store it can't be read exactly where there is no such file;
+-- and no refusal tells that memory ran out.
+pub record ReadsFile {X : Type 0} (file : Role) (says : List ℕ → Result X Refusal) (name : List ℕ)
+    (store later : ShownStore) (come : Result X Outcome) : Type 0 where
+  pub comes : FileComes file says name store later come
+  pub missing : IsTrue store.sure → ((come ≡ Err (outcome.ReadFault file)) ↔ IsMissing store.files name)
+  pub no_memory : IfErr come TellsNoMemory
+
+-- what the bytes of a file come to, and no refusal tells that memory ran out
+pub record Says {X : Type 0} (says : List ℕ → Result X Refusal) (bytes : List ℕ) (come : Result X Outcome) :
+    Type 0 where
+  pub comes : BytesCome says bytes come
+  pub no_memory : IfErr come TellsNoMemory
+
+-- no file changes; and where something comes, nothing does that the store shows
+pub record KeepsFiles {X E : Type 0} (store later : ShownStore) (come : Result X E) : Type 0 where
+  pub files : later.files ≡ store.files
+  pub shown : IsOk come → later ≡ store
 
 -- ---- when it is there, and when it is accepted ----
 

@@ -1,18 +1,16 @@
 // The calibration that a command goes by.
-ghost use Rattle.std.specs.Prelude.{◌≡◌, ◌≢◌, ◌↔◌, Err, IfErr, IsOk, IsTrue, None};
+ghost use Rattle.std.specs.Prelude.{◌≡◌, ◌↔◌, Err, IfErr, IsTrue, None};
 ghost use Rattle.std.specs.Option.{option_copied};
-ghost use Rattle.eg_base.specs.Outside.{IsMissing};
 ghost use Rattle.eg_toml.specs.Refusals.{IsRead};
 ghost use Rattle.eg_cal.specs.declared.key.CalFault.TheVariants.{Memory};
-ghost use Rattle.eg_outcome.specs.Reads.{BytesCome, FileComes};
-ghost use Rattle.eg_outcome.specs.Calibrations.{calibration_said, calibration_file, CalibrationComes, MissesCalibration};
+ghost use Rattle.eg_outcome.specs.Reads.{KeepsFiles, ReadsFile, Says};
+ghost use Rattle.eg_outcome.specs.Calibrations.{calibration_said, calibration_or_refusal, calibration_file, CalibrationComes, MissesCalibration};
 ghost use Rattle.eg_outcome.specs.Outcomes.{TellsNoMemory};
 ghost use Rattle.eg_outcome.specs.declared.outcome.Outcome.TheVariants.{ReadFault};
 ghost use Rattle.eg_outcome.specs.declared.outcome.Role.TheVariants as role;
 
-use crate::files::{MOST_BYTES, is_too_long};
-use crate::{Outcome, Refusal, Role};
-use eg_base::{ReadRefusal, Store};
+use crate::{Outcome, Refusal, Role, file_bytes};
+use eg_base::Store;
 use eg_cal::{CalFault, read_calibration};
 use eg_values::{Calibration, reference};
 use std::alloc::Global;
@@ -32,8 +30,7 @@ pub fn calibration_for<S: Store>(
 
     // What stays as it was.
     ensures unread { option_copied file.entry ≡ None → store.new ≡ store.old }
-    ensures shown { IsOk result → S.shows store.new ≡ S.shows store.old }
-    ensures files { (S.shows store.new).files ≡ (S.shows store.old).files }
+    ensures keeps { KeepsFiles (S.shows store.old) (S.shows store.new) result }
 {
     match file {
         Some(file) => calibration_of(alloc, file, store),
@@ -47,35 +44,20 @@ fn calibration_of<S: Store>(
     file: &str,
     store: &mut S,
 ) -> Result<Calibration, Outcome>
-    ensures comes { FileComes role.Calibration calibration_file file.now
+    ensures reads { ReadsFile role.Calibration calibration_file file.now
         (S.shows store.old) (S.shows store.new) result }
-    ensures missing { IsTrue (S.shows store.old).sure →
-        ((result ≡ Err (ReadFault role.Calibration)) ↔ IsMissing (S.shows store.old).files file.now) }
-    ensures no_memory { IfErr result TellsNoMemory }
-    ensures shown { IsOk result → S.shows store.new ≡ S.shows store.old }
-    ensures files { (S.shows store.new).files ≡ (S.shows store.old).files }
+    ensures keeps { KeepsFiles (S.shows store.old) (S.shows store.new) result }
 {
-    let mut bytes = Vec::new(alloc);
-    match store.read(file, MOST_BYTES + 1, &mut bytes) {
-        Ok(()) => calibration_in(alloc, &bytes),
-        Err(ReadRefusal::Failed) => Err(Outcome::ReadFault {
-            file: Role::Calibration,
-        }),
-        Err(ReadRefusal::Memory) => Err(Outcome::Memory),
+    match file_bytes(alloc, Role::Calibration, file, store) {
+        Ok(bytes) => calibration_in(alloc, bytes.as_slice()),
+        Err(end) => Err(end),
     }
 }
 
-/// The calibration that a file of these bytes says, or how the call ends without one.
+/// The calibration that these bytes of a file say, or how the call ends without one.
 fn calibration_in(alloc: Global, bytes: &[u8]) -> Result<Calibration, Outcome>
-    ensures comes { BytesCome calibration_file bytes.now result }
-    ensures read { result ≢ Err (ReadFault role.Calibration) }
-    ensures no_memory { IfErr result TellsNoMemory }
+    ensures { Says calibration_or_refusal bytes.now result }
 {
-    if is_too_long(bytes) {
-        return Err(Outcome::Refused(Refusal::Size {
-            file: Role::Calibration,
-        }));
-    }
     match calibration_said(alloc, bytes) {
         Ok(calibration) => Ok(calibration),
         Err(CalFault::Memory) => Err(Outcome::Memory),

@@ -2,7 +2,7 @@ use Rattle.std.proofs.Common.{◌≡◌, take, map}
 use Rattle.std.specs.Prelude.{string_bytes}
 use Rattle.std.specs.List.{concat}
 use Rattle.eg_base.specs.Outside.{Appends}
-use Rattle.eg_outcome.proofs.lines.put_lines.Given as goal
+use Rattle.eg_outcome.proofs.line.put_lines.Given as goal
 
 -- the lines so far were put whole
 abbrev pub invariant-loop-line : goal.invariant-loop-line
