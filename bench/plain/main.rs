@@ -1,7 +1,8 @@
 //! The whole program as plain Rust, written to be fast: one array of words for all three levels, plain structs,
 //! and no allocation in a tick. It takes the words and files that `egasim` takes, by the reference
 //! calibration, and writes what it writes; notes it has none. It was written from docs/ and is measured beside
-//! the proved program by `bench/unit` and `bench/all`. Nothing of it is proved.
+//! the proved program by `bench/unit` and `bench/all`. A record is put as there, a line a write. Nothing of it
+//! is proved.
 //! Usage: check FILE, run CAMPAIGN, record CAMPAIGN RUN, soak SEED RUNS
 
 mod calibration;
@@ -110,15 +111,21 @@ fn record(cal: &Calibration, file: &str, name: &str, out: &mut Output) -> Result
     let plans = campaign(file)?;
     let plan = plans.iter().find(|plan| plan.name == name).ok_or(End::Refused)?;
     let (drives, image) = (drives(plan)?, image(plan)?);
-    out.write_all(record::HEADER.as_bytes())?;
+    put(record::HEADER.as_bytes(), out)?;
     let mut line = record::Line::new();
     let mut written = Ok(());
     play(cal, &run_of(plan, &drives, &image), |row| {
         if written.is_ok() {
-            written = out.write_all(line.row(row));
+            written = put(line.row(row), out);
         }
     });
     Ok(written?)
+}
+
+/// Puts a line by a write of its own, as the proved program does.
+fn put(line: &[u8], out: &mut Output) -> io::Result<()> {
+    out.write_all(line)?;
+    out.flush()
 }
 
 fn number(word: &str) -> Result<u32, End> {
