@@ -16,9 +16,6 @@ use eg_sensor::Readings;
 /// The first word of the code (docs/FORMATS.md, "Memory map").
 const CODE: u16 = 0;
 
-/// How many of level 2's words are its signals, which stand first.
-const SIGNALS: u16 = 5;
-
 /// Stores a word, where one stands.
 fn put<M: Guarded>(memory: &mut M, address: u16, word: u16) -> Result<(), NoMemory>
     requires { IsTrue (Regions.access Board address).store }
