@@ -1,17 +1,21 @@
 # Read by the launcher and by the gate: what the program is built from, and which program is kept.
 # `top` is the top of the repository. Kept are, in its folder out/, the program (egasim) and two checksums
-# (egasim.sum): of all that it was built from, the kit included, and of the program itself.
+# (egasim.sum): of all that it was built from, the kit included, and of the program itself; behind them the kit's name.
 # shellcheck shell=bash disable=SC2154
 
-kit='rattle-kit-13f logic dac8208d650f15bf'
 kept=$top/out
 
-# The kit of the command rt on the path.
+# The kit of the command rt on the path; nothing where there is no rt, or one that doesn't tell its kit.
 kit_found() {
   local rt
   rt=$(type -P rt) || return
   cat "$(dirname -- "$(readlink -f -- "$rt")")/../KIT-ID" 2>/dev/null || "$rt" version 2>/dev/null </dev/null | head -n 1
 }
+
+# The kit that the program is to be built by: that of the command rt on the path, or, where there is no rt, that which
+# built the program that is kept.
+kit=$(kit_found)
+type -P rt >/dev/null || kit=$(sed -n 3p "$kept/egasim.sum" 2>/dev/null)
 
 # Reads a crates.txt, and prints, with `names`, the crate of the program and those that it stands on, or, with `lines`,
 # all lines but those of other crates. A line that rt would refuse stays, and so does one of a crate that has no folder.
@@ -66,12 +70,12 @@ sum_of() {
 
 # Whether a program is kept, and is that of the sources as they stand.
 is_kept() {
-  [ -x "$kept/egasim" ] && { sum_of "$top" && sha256sum <"$kept/egasim"; } 2>/dev/null | cmp -s - "$kept/egasim.sum" 2>/dev/null
+  [ -x "$kept/egasim" ] && { sum_of "$top" && sha256sum <"$kept/egasim" && echo "$kit"; } 2>/dev/null | cmp -s - "$kept/egasim.sum" 2>/dev/null
 }
 
 # Keeps the program $1, which was built from files of the checksum $2. Until both files are there, none counts as kept.
 keep() {
   mkdir -p "$kept" && cp -- "$1" "$kept/new" && chmod 755 "$kept/new" &&
-    { echo "$2" && sha256sum <"$kept/new"; } >"$kept/new.sum" &&
+    { echo "$2" && sha256sum <"$kept/new" && echo "$kit"; } >"$kept/new.sum" &&
     mv -f "$kept/new" "$kept/egasim" && mv -f "$kept/new.sum" "$kept/egasim.sum"
 }
