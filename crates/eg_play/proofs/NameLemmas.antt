@@ -1,15 +1,48 @@
 -- The names of the files of runs.
-use Rattle.std.proofs.Common.{◌≡◌, refl, ap, ℕ, ◌+◌, List, ◌∷◌, true, Option, Some, None, Ok}
+use Rattle.std.proofs.Common.{◌≡◌, refl, sym, ap, subst, ℕ, ◌+◌, List, ◌∷◌, Bool, true, false, Option, Some, None, Ok, Err}
 use Rattle.std.specs.Prelude.{All, bytes_eq, if◌then◌else◌}
 use Rattle.eg_base.specs.Outside.{ShownStore}
 use Rattle.eg_fault.specs.Faults.{IsNoneOrValid}
 use Rattle.eg_plan.specs.Rules.{AreRuns}
 use Rattle.eg_plan.specs.declared.run.RunPlan.{RunPlan}
-use Rattle.eg_outcome.specs.Reads.{ReadComes}
+use Rattle.eg_outcome.specs.Reads.{whole, ReadComes, FileComes}
+use Rattle.eg_outcome.specs.Files.{is_too_long}
+use Rattle.eg_outcome.specs.declared.outcome.Outcome.{Outcome}
+use Rattle.eg_outcome.specs.declared.outcome.Outcome.TheVariants as outcome
+use Rattle.eg_outcome.specs.declared.outcome.Refusal.{Refusal}
+use Rattle.eg_outcome.specs.declared.outcome.Refusal.TheVariants as refusal
 use Rattle.eg_outcome.specs.declared.outcome.Role.{Role}
 use Rattle.eg_outcome.specs.declared.outcome.Role.TheVariants as role
 use Rattle.eg_play.specs.Files.{campaign_file}
-use Rattle.eg_play.specs.Ends.{name_by, name_for, IsNamedIfOfRun, NamesFile, run_named}
+use Rattle.eg_play.specs.Ends.{role_in, IsOf, IsNotOfRun, name_by, name_for, IsNamedIfOfRun, NamesFile, run_named}
+
+-- the whole of a file is refused for its size alone
+too_long : (file : Role) (bytes : List ℕ) (r : Refusal) → whole file bytes ≡ Err r → r ≡ refusal.Size file
+too_long file bytes r refuses = go (is_too_long bytes) refuses
+  where
+    go : (long : Bool) → (if long then Err (refusal.Size file) else Ok bytes) ≡ Err r → r ≡ refusal.Size file
+    go true e = cc
+    go false e = absurd cc
+
+module _ (file : Role) (name : List ℕ) (store later : ShownStore) where
+  -- a file of a run that can't be read, or is too long, is told as one of this run
+  pub of_run : (n : ℕ) (end : Outcome) → IsOf n (Some file) → FileComes file (whole file) name store later (Err end) → IsOf n (role_in end)
+  of_run n (outcome.ReadFault role) of (is, rose, missing) = subst (λ r. IsOf n (Some r)) (sym is) of
+  of_run n (outcome.Refused r) of (same, (bytes, read, refuses)) = subst (λ why. IsOf n (role_in (outcome.Refused why))) (sym (too_long file bytes r refuses)) of
+  of_run n outcome.Memory of comes = tt
+  of_run n outcome.Done of (same, (bytes, read, never)) = absurd never
+  of_run n outcome.Usage of (same, (bytes, read, never)) = absurd never
+  of_run n outcome.WriteFault of (same, (bytes, read, never)) = absurd never
+
+  -- a file that isn't of a run is told as none
+  pub not_of_run : (end : Outcome) → IsNotOfRun (outcome.ReadFault file) → IsNotOfRun (outcome.Refused (refusal.Size file)) →
+      FileComes file (whole file) name store later (Err end) → IsNotOfRun end
+  not_of_run (outcome.ReadFault role) unread long (is, rose, missing) = subst (λ r. IsNotOfRun (outcome.ReadFault r)) (sym is) unread
+  not_of_run (outcome.Refused r) unread long (same, (bytes, read, refuses)) = subst (λ why. IsNotOfRun (outcome.Refused why)) (sym (too_long file bytes r refuses)) long
+  not_of_run outcome.Memory unread long comes = tt
+  not_of_run outcome.Done unread long (same, (bytes, read, never)) = absurd never
+  not_of_run outcome.Usage unread long (same, (bytes, read, never)) = absurd never
+  not_of_run outcome.WriteFault unread long (same, (bytes, read, never)) = absurd never
 
 -- the plan of a run has a name for each of its files, and for no other
 pub by_plan : (plan : RunPlan) (file : Option Role) → IsNamedIfOfRun file (name_by plan file)

@@ -1,8 +1,8 @@
 -- How runs that were played end.
-use Rattle.std.proofs.Common.{◌≡◌, ◌∙◌, refl, ap, ℕ, ◌+◌, ◌%◌, ◌^◌, ◌≤◌, List, [], ◌∷◌, ◌++◌, All, map, arith}
+use Rattle.std.proofs.Common.{◌≡◌, ◌∙◌, refl, ap, subst, append-nil, ℕ, ◌+◌, ◌%◌, ◌^◌, ◌≤◌, List, [], ◌∷◌, ◌++◌, All, map, arith}
 use Rattle.std.specs.Prelude.{reverse}
 use Rattle.std.specs.List.{concat}
-use Rattle.eg_base.specs.Outside.{ShownSink}
+use Rattle.eg_base.specs.Outside.{ShownSink, Appends}
 use Rattle.eg_values.specs.Calibration.{CalibrationParts}
 use Rattle.eg_record.specs.Texts.{summary_line, report_end, record_header, row_line}
 use Rattle.eg_record.specs.declared.row.Row.{Row}
@@ -13,7 +13,8 @@ use Rattle.eg_tick.specs.Weights.{TickCount}
 use Rattle.eg_outcome.specs.Outcomes.{LineEnds}
 use Rattle.eg_outcome.specs.declared.outcome.Outcome.{Outcome}
 use Rattle.eg_outcome.specs.declared.outcome.Outcome.TheVariants as outcome
-use Rattle.eg_outcome.proofs.AppendLemmas.{Appends-nil}
+use Rattle.eg_outcome.proofs.AppendLemmas.{Appends-append, Appends-nil}
+use Rattle.eg_outcome.proofs.LineLemmas.{LineEnds-within}
 use Rattle.eg_campaign.specs.Plays.{run_with, report_with, ticks_of, count_after}
 use Rattle.eg_campaign.specs.declared.play.RunInput.{RunInput}
 use Rattle.eg_play.specs.Texts.{report_text, record_text}
@@ -37,6 +38,24 @@ pub record_is : (cal : CalibrationParts) (input : RunInput) (rows : List Row) �
     record_header ++ concat (map row_line rows) ≡ record_text cal input
 unfolding record_text
 record_is cal input rows are = ap (λ l. record_header ++ concat (map row_line l)) are
+
+-- ---- a line, and then a text ----
+
+-- the line was put whole, and the text after it ends so
+pub LineEnds-after : (before mid now : ShownSink) (line text : List ℕ) (o : Outcome) → Appends before mid line → mid.faults ≡ before.faults →
+    LineEnds text mid now o → LineEnds (line ++ text) before now o
+LineEnds-after before mid now line text outcome.Done put same ends = (Appends-append before mid now line text put ends.0, ends.1 ∙ same)
+LineEnds-after before mid now line text outcome.WriteFault put same ends = subst (λ all. LineEnds all before now outcome.WriteFault) (append-nil (line ++ text))
+    (LineEnds-within before mid now line text [] outcome.WriteFault (λ done. absurd cc) put same ends)
+LineEnds-after before mid now line text outcome.Memory put same ends = subst (λ all. LineEnds all before now outcome.Memory) (append-nil (line ++ text))
+    (LineEnds-within before mid now line text [] outcome.Memory (λ done. absurd cc) put same ends)
+LineEnds-after before mid now line text outcome.Usage put same ends = ends
+LineEnds-after before mid now line text (outcome.ReadFault file) put same ends = ends
+LineEnds-after before mid now line text (outcome.Refused why) put same ends = ends
+
+-- the line wasn't put whole, so nothing of the text was put
+pub LineEnds-first : (before now : ShownSink) (line text : List ℕ) (o : Outcome) → (o ≡ outcome.Done → ⊥) → LineEnds line before now o → LineEnds (line ++ text) before now o
+LineEnds-first before now line text o refused ends = LineEnds-within before before now [] line text o refused (Appends-nil before) refl ends
 
 -- ---- what was put and counted ----
 

@@ -1,5 +1,5 @@
 -- What the files of a campaign say: the campaign its runs, and of each run its drive trace and its image.
-use Rattle.std.specs.Prelude.{ℕ, List, Result, Ok, Err}
+use Rattle.std.specs.Prelude.{ℕ, List, Result}
 use Rattle.eg_num.specs.Drive.{DriveRow}
 use Rattle.eg_toml.specs.Documents.{document_of}
 use Rattle.eg_input.specs.Records.{records_of}
@@ -8,28 +8,37 @@ use Rattle.eg_input.specs.Images.{image_words}
 use Rattle.eg_plan.specs.Campaign.{campaign_of}
 use Rattle.eg_plan.specs.declared.key.CampaignFault.{CampaignFault}
 use Rattle.eg_plan.specs.declared.run.RunPlan.{RunPlan}
-use Rattle.eg_outcome.specs.Reads.{sized}
+use Rattle.eg_outcome.specs.Reads.{refused, sized}
 use Rattle.eg_outcome.specs.declared.outcome.Refusal.{Refusal}
 use Rattle.eg_outcome.specs.declared.outcome.Refusal.TheVariants as refusal
 use Rattle.eg_outcome.specs.declared.outcome.Role.TheVariants as role
-
--- a value, or why the file is refused
-abbrev pub refused : {X Fault : Type 0} → (Fault → Refusal) → Result X Fault → Result X Refusal
-refused why (Ok x) = Ok x
-refused why (Err fault) = Err (why fault)
 
 -- what the bytes of a campaign file say, by the rules of eg_plan
 unfoldable pub campaign_said : List ℕ → Result (List RunPlan) CampaignFault
 campaign_said bytes = campaign_of (document_of bytes)
 
+-- the runs that the bytes of a campaign file say, or why they are refused
+abbrev pub campaign_or_refusal : List ℕ → Result (List RunPlan) Refusal
+campaign_or_refusal bytes = refused refusal.Campaign (campaign_said bytes)
+
+-- the drive that the bytes of the trace of run n say, or why they are refused
+abbrev pub trace_or_refusal : ℕ → List ℕ → Result (List DriveRow) Refusal
+trace_or_refusal n bytes = refused (refusal.Trace n) (drive_rows (records_of bytes))
+
+-- the words that the bytes of the image of run n say, or why they are refused
+abbrev pub image_or_refusal : ℕ → List ℕ → Result (List ℕ) Refusal
+image_or_refusal n bytes = refused (refusal.Image n) (image_words bytes)
+
+-- ---- with the refusal of the file's size ----
+
 -- the runs of a campaign file, or its first refusal
 abbrev pub campaign_file : List ℕ → Result (List RunPlan) Refusal
-campaign_file = sized role.Campaign (λ bytes. refused refusal.Campaign (campaign_said bytes))
+campaign_file = sized role.Campaign campaign_or_refusal
 
 -- the drive of the trace of run n, or its first refusal
 abbrev pub trace_file : ℕ → List ℕ → Result (List DriveRow) Refusal
-trace_file n = sized (role.Trace n) (λ bytes. refused (refusal.Trace n) (drive_rows (records_of bytes)))
+trace_file n = sized (role.Trace n) (trace_or_refusal n)
 
 -- the words of the image of run n, or its first refusal
 abbrev pub image_file : ℕ → List ℕ → Result (List ℕ) Refusal
-image_file n = sized (role.Image n) (λ bytes. refused (refusal.Image n) (image_words bytes))
+image_file n = sized (role.Image n) (image_or_refusal n)

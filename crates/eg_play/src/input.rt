@@ -4,20 +4,20 @@ ghost use Rattle.std.specs.Option.{ForSome, MatchOption};
 ghost use Rattle.eg_num.specs.Drive.{IsDrive};
 ghost use Rattle.eg_fault.specs.Faults.{IsNoneOrValid};
 ghost use Rattle.eg_campaign.specs.Plays.{IsPlayable};
-ghost use Rattle.eg_outcome.specs.Reads.{BytesCome, FileComes};
+ghost use Rattle.eg_outcome.specs.Reads.{KeepsFiles, ReadsFile, Says};
 ghost use Rattle.eg_outcome.specs.Outcomes.{TellsNoMemory};
 ghost use Rattle.eg_outcome.specs.declared.outcome.Outcome.TheVariants.{Refused};
 ghost use Rattle.eg_outcome.specs.declared.outcome.Role.TheVariants as role;
-ghost use Rattle.eg_play.specs.Files.{trace_file, image_file};
+ghost use Rattle.eg_play.specs.Files.{trace_file, trace_or_refusal, image_file, image_or_refusal};
 ghost use Rattle.eg_play.specs.Inputs.{InputComes, ImageComes, refusing, outcomes};
 ghost use Rattle.eg_play.specs.Ends.{IsOf, role_in, name_by};
 
 use crate::End;
-use eg_base::{Items, ReadRefusal, Store};
+use eg_base::{Items, Store};
 use eg_campaign::RunInput;
 use eg_input::{ImageFault, TraceFault, read_image, read_trace};
 use eg_num::Drive;
-use eg_outcome::{MOST_BYTES, Outcome, Refusal, Role, is_too_long};
+use eg_outcome::{Outcome, Refusal, Role, file_bytes};
 use eg_plan::{RunPlan, add_ticks};
 use std::alloc::Global;
 
@@ -40,8 +40,7 @@ pub(crate) fn input_for<S: Store>(
     ensures named { IfErr result (λ end. (end.file ≡ name_by plan (role_in end.outcome))
         × IsOf run (role_in end.outcome)) }
     ensures no_memory { IfErr result (λ end. TellsNoMemory end.outcome) }
-    ensures shown { IsOk result → S.shows store.new ≡ S.shows store.old }
-    ensures files { (S.shows store.new).files ≡ (S.shows store.old).files }
+    ensures keeps { KeepsFiles (S.shows store.old) (S.shows store.new) result }
 {
     let drive = match drive_for(alloc, run, plan.trace.as_str(), store) {
         Ok(drive) => drive,
@@ -68,8 +67,7 @@ fn with_image<S: Store>(
     ensures named { IfErr result (λ end. (end.file ≡ name_by plan (role_in end.outcome))
         × IsOf run (role_in end.outcome)) }
     ensures no_memory { IfErr result (λ end. TellsNoMemory end.outcome) }
-    ensures shown { IsOk result → S.shows store.new ≡ S.shows store.old }
-    ensures files { (S.shows store.new).files ≡ (S.shows store.old).files }
+    ensures keeps { KeepsFiles (S.shows store.old) (S.shows store.new) result }
 {
     match image_for(alloc, run, plan.image.as_str(), store) {
         Ok(image) => Ok(RunInput { plan, drive, image }),
@@ -129,36 +127,24 @@ fn drive_for<S: Store>(
     file: &str,
     store: &mut S,
 ) -> Result<Items<Drive>, Outcome>
-    ensures comes { FileComes (role.Trace run) (trace_file run) file.now
+    ensures reads { ReadsFile (role.Trace run) (trace_file run) file.now
         (S.shows store.old) (S.shows store.new) result }
+    ensures keeps { KeepsFiles (S.shows store.old) (S.shows store.new) result }
     ensures drive { IfOk result (λ drive. (1 ≤ length drive) × (length drive ≤ 20000) × All IsDrive drive) }
     ensures role { IfErr result (λ outcome. IsOf run (role_in outcome)) }
-    ensures no_memory { IfErr result TellsNoMemory }
-    ensures shown { IsOk result → S.shows store.new ≡ S.shows store.old }
-    ensures files { (S.shows store.new).files ≡ (S.shows store.old).files }
 {
-    let mut bytes = Vec::new(alloc);
-    match store.read(file, MOST_BYTES + 1, &mut bytes) {
-        Ok(()) => drive_in(alloc, run, &bytes),
-        Err(ReadRefusal::Failed) => Err(Outcome::ReadFault {
-            file: Role::Trace { run },
-        }),
-        Err(ReadRefusal::Memory) => Err(Outcome::Memory),
+    match file_bytes(alloc, Role::Trace { run }, file, store) {
+        Ok(bytes) => drive_in(alloc, run, bytes.as_slice()),
+        Err(end) => Err(end),
     }
 }
 
-/// The drive that a trace of these bytes says, or how the call ends without it.
+/// The drive that these bytes of a trace say, or how the call ends without it.
 fn drive_in(alloc: Global, run: u32, bytes: &[u8]) -> Result<Items<Drive>, Outcome>
-    ensures comes { BytesCome (trace_file run) bytes.now result }
+    ensures says { Says (trace_or_refusal run) bytes.now result }
     ensures drive { IfOk result (λ drive. (1 ≤ length drive) × (length drive ≤ 20000) × All IsDrive drive) }
     ensures role { IfErr result (λ outcome. IsOf run (role_in outcome)) }
-    ensures no_memory { IfErr result TellsNoMemory }
 {
-    if is_too_long(bytes) {
-        return Err(Outcome::Refused(Refusal::Size {
-            file: Role::Trace { run },
-        }));
-    }
     match read_trace(alloc, bytes) {
         Ok(drive) => Ok(Items::new(drive)),
         Err(TraceFault::Memory) => Err(Outcome::Memory),
@@ -173,36 +159,24 @@ fn image_for<S: Store>(
     file: &str,
     store: &mut S,
 ) -> Result<Items<u16>, Outcome>
-    ensures comes { FileComes (role.Image run) (image_file run) file.now
+    ensures reads { ReadsFile (role.Image run) (image_file run) file.now
         (S.shows store.old) (S.shows store.new) result }
+    ensures keeps { KeepsFiles (S.shows store.old) (S.shows store.new) result }
     ensures image { IfOk result (λ image. length image ≤ 1024) }
     ensures role { IfErr result (λ outcome. IsOf run (role_in outcome)) }
-    ensures no_memory { IfErr result TellsNoMemory }
-    ensures shown { IsOk result → S.shows store.new ≡ S.shows store.old }
-    ensures files { (S.shows store.new).files ≡ (S.shows store.old).files }
 {
-    let mut bytes = Vec::new(alloc);
-    match store.read(file, MOST_BYTES + 1, &mut bytes) {
-        Ok(()) => image_in(alloc, run, &bytes),
-        Err(ReadRefusal::Failed) => Err(Outcome::ReadFault {
-            file: Role::Image { run },
-        }),
-        Err(ReadRefusal::Memory) => Err(Outcome::Memory),
+    match file_bytes(alloc, Role::Image { run }, file, store) {
+        Ok(bytes) => image_in(alloc, run, bytes.as_slice()),
+        Err(end) => Err(end),
     }
 }
 
-/// The words that an image of these bytes says, or how the call ends without them.
+/// The words that these bytes of an image say, or how the call ends without them.
 fn image_in(alloc: Global, run: u32, bytes: &[u8]) -> Result<Items<u16>, Outcome>
-    ensures comes { BytesCome (image_file run) bytes.now result }
+    ensures says { Says (image_or_refusal run) bytes.now result }
     ensures image { IfOk result (λ image. length image ≤ 1024) }
     ensures role { IfErr result (λ outcome. IsOf run (role_in outcome)) }
-    ensures no_memory { IfErr result TellsNoMemory }
 {
-    if is_too_long(bytes) {
-        return Err(Outcome::Refused(Refusal::Size {
-            file: Role::Image { run },
-        }));
-    }
     match read_image(alloc, bytes) {
         Ok(words) => Ok(Items::new(words)),
         Err(ImageFault::Memory) => Err(Outcome::Memory),

@@ -1,8 +1,9 @@
 // The files of all runs of a campaign.
-ghost use Rattle.std.specs.Prelude.{◌≡◌, ◌≤◌, ◌++◌, ◌∷◌, [], All, None, length, IfErr, IfOk, IsOk, OnOk};
+ghost use Rattle.std.specs.Prelude.{◌≡◌, ◌≤◌, ◌++◌, ◌∷◌, [], All, None, length, IfErr, IfOk, OnOk};
 ghost use Rattle.eg_fault.specs.Faults.{IsNoneOrValid};
 ghost use Rattle.eg_campaign.specs.Plays.{IsPlayable};
 ghost use Rattle.eg_outcome.specs.Outcomes.{TellsNoMemory};
+ghost use Rattle.eg_outcome.specs.Reads.{KeepsFiles};
 ghost use Rattle.eg_outcome.specs.declared.outcome.Outcome.TheVariants.{Memory};
 ghost use Rattle.eg_play.specs.Inputs.{InputsCome, outcomes};
 ghost use Rattle.eg_play.specs.Ends.{role_in, name_for, IsNamedIfOfRun};
@@ -28,8 +29,7 @@ pub(crate) fn inputs_for<S: Store>(
     ensures named { IfErr result (λ end. end.file ≡ name_for plans (role_in end.outcome)) }
     ensures some { IfErr result (λ end. IsNamedIfOfRun (role_in end.outcome) end.file) }
     ensures no_memory { IfErr result (λ end. TellsNoMemory end.outcome) }
-    ensures shown { IsOk result → S.shows store.new ≡ S.shows store.old }
-    ensures files { (S.shows store.new).files ≡ (S.shows store.old).files }
+    ensures keeps { KeepsFiles (S.shows store.old) (S.shows store.new) result }
 {
     let mut inputs = Vec::new(alloc);
     let mut sum = 0;

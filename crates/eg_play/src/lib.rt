@@ -10,6 +10,7 @@ mod input;
 mod inputs;
 mod recording;
 mod report;
+mod rows;
 mod running;
 mod texts;
 

@@ -5,7 +5,7 @@ ghost use Rattle.eg_base.specs.Outside.{IsMissing};
 ghost use Rattle.eg_fault.specs.Faults.{IsNoneOrValid};
 ghost use Rattle.eg_plan.specs.Rules.{AreRuns};
 ghost use Rattle.eg_outcome.specs.Calibrations.{MissesCalibration};
-ghost use Rattle.eg_outcome.specs.Outcomes.{TellsNoMemory, PutsNothing};
+ghost use Rattle.eg_outcome.specs.Outcomes.{EndsOrderly};
 ghost use Rattle.eg_outcome.specs.declared.outcome.Outcome.TheVariants.{ReadFault};
 ghost use Rattle.eg_outcome.specs.declared.outcome.Role.TheVariants as role;
 ghost use Rattle.eg_play.specs.Ends.{NothingPlayed, NamedEnds, CampaignEnds, RecordCommandEnds, run_named, NamesFile, role_in, name_by, name_for, IsOf, IsNamedIfOfRun};
@@ -43,10 +43,8 @@ pub fn record<S: Store, K: Sink>(
         → result.outcome ≡ ReadFault role.Calibration }
     ensures missing_campaign { IsTrue (S.shows store.old).sure → option_copied calibration.entry ≡ None
         → IsMissing (S.shows store.old).files campaign.now → result.outcome ≡ ReadFault role.Campaign }
-    ensures no_memory { TellsNoMemory result.outcome }
-    ensures files { (S.shows store.new).files ≡ (S.shows store.old).files }
-    ensures nothing_put { PutsNothing result.outcome → out.new ≡ out.old }
-    ensures nothing_played { PutsNothing result.outcome → steps.new ≡ steps.old }
+    ensures orderly { EndsOrderly (S.shows store.old) (S.shows store.new) out.old out.new
+        steps.old steps.new result.outcome }
 {
     match calibration_for(alloc, calibration, store) {
         Ok(calibration) => record_by(alloc, &calibration, campaign, name, store, out, steps),
@@ -71,10 +69,8 @@ fn record_by<S: Store, K: Sink>(
     ensures missing_campaign { IsTrue (S.shows store.old).sure
         → IsMissing (S.shows store.old).files campaign.now → result.outcome ≡ ReadFault role.Campaign }
     ensures named { NamesFile campaign.now (S.shows store.old) (role_in result.outcome) result.file }
-    ensures no_memory { TellsNoMemory result.outcome }
-    ensures files { (S.shows store.new).files ≡ (S.shows store.old).files }
-    ensures nothing_put { PutsNothing result.outcome → out.new ≡ out.old }
-    ensures nothing_played { PutsNothing result.outcome → steps.new ≡ steps.old }
+    ensures orderly { EndsOrderly (S.shows store.old) (S.shows store.new) out.old out.new
+        steps.old steps.new result.outcome }
 {
     match campaign_for(alloc, campaign, store) {
         Ok(plans) => record_named(alloc, calibration, plans, name, store, out, steps),
@@ -97,10 +93,8 @@ fn record_named<S: Store, K: Sink>(
         (S.shows store.new) (K.shows out.old) (K.shows out.new) steps.old steps.new result.outcome }
     ensures named { result.file ≡ name_for plans (role_in result.outcome) }
     ensures some { IsNamedIfOfRun (role_in result.outcome) result.file }
-    ensures no_memory { TellsNoMemory result.outcome }
-    ensures files { (S.shows store.new).files ≡ (S.shows store.old).files }
-    ensures nothing_put { PutsNothing result.outcome → out.new ≡ out.old }
-    ensures nothing_played { PutsNothing result.outcome → steps.new ≡ steps.old }
+    ensures orderly { EndsOrderly (S.shows store.old) (S.shows store.new) out.old out.new
+        steps.old steps.new result.outcome }
 {
     let mut run = 1;
     for plan in plans.into_vec() {
@@ -134,10 +128,8 @@ fn record_plan<S: Store, K: Sink>(
         (S.shows store.new) (K.shows out.old) (K.shows out.new) steps.old steps.new result.outcome }
     ensures named { result.file ≡ name_by plan (role_in result.outcome) }
     ensures of_run { IsOf run (role_in result.outcome) }
-    ensures no_memory { TellsNoMemory result.outcome }
-    ensures files { (S.shows store.new).files ≡ (S.shows store.old).files }
-    ensures nothing_put { PutsNothing result.outcome → out.new ≡ out.old }
-    ensures nothing_played { PutsNothing result.outcome → steps.new ≡ steps.old }
+    ensures orderly { EndsOrderly (S.shows store.old) (S.shows store.new) out.old out.new
+        steps.old steps.new result.outcome }
 {
     match input_for(alloc, run, None, plan, store) {
         Ok(input) => End::of(put_record(alloc, calibration, &input, out, steps)),

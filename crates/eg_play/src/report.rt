@@ -5,10 +5,11 @@ ghost use Rattle.eg_outcome.specs.Outcomes.{PutsNothing};
 ghost use Rattle.eg_play.specs.Texts.{report_text, record_text};
 ghost use Rattle.eg_play.specs.Ends.{Plays};
 
-use crate::texts::{self, report_lines};
+use crate::rows::put_rows;
+use crate::texts::report_lines;
 use eg_base::Sink;
 use eg_campaign::{RunInput, record_one, run_all};
-use eg_outcome::{Outcome, put_lines, put_text};
+use eg_outcome::{Outcome, put_lines};
 use eg_tick::Ticks;
 use eg_values::Calibration;
 use std::alloc::Global;
@@ -57,8 +58,5 @@ pub(crate) fn put_record<K: Sink>(
     let Ok(made) = record_one(alloc, calibration, input, steps) else {
         return Outcome::Memory;
     };
-    let Ok(text) = texts::record_text(alloc, made.rows.as_slice()) else {
-        return Outcome::Memory;
-    };
-    put_text(&text, out)
+    put_rows(alloc, made.rows.as_slice(), out)
 }

@@ -4,7 +4,7 @@ ghost use Rattle.std.specs.Option.{option_copied};
 ghost use Rattle.eg_base.specs.Outside.{IsMissing};
 ghost use Rattle.eg_plan.specs.Rules.{AreRuns};
 ghost use Rattle.eg_outcome.specs.Calibrations.{MissesCalibration};
-ghost use Rattle.eg_outcome.specs.Outcomes.{TellsNoMemory, PutsNothing};
+ghost use Rattle.eg_outcome.specs.Outcomes.{EndsOrderly};
 ghost use Rattle.eg_outcome.specs.declared.outcome.Outcome.TheVariants.{ReadFault};
 ghost use Rattle.eg_outcome.specs.declared.outcome.Role.TheVariants as role;
 ghost use Rattle.eg_play.specs.Ends.{NothingPlayed, RunsEnd, CampaignEnds, RunCommandEnds, NamesFile, role_in, name_for, IsNamedIfOfRun};
@@ -39,10 +39,8 @@ pub fn run<S: Store, K: Sink>(
         → result.outcome ≡ ReadFault role.Calibration }
     ensures missing_campaign { IsTrue (S.shows store.old).sure → option_copied calibration.entry ≡ None
         → IsMissing (S.shows store.old).files campaign.now → result.outcome ≡ ReadFault role.Campaign }
-    ensures no_memory { TellsNoMemory result.outcome }
-    ensures files { (S.shows store.new).files ≡ (S.shows store.old).files }
-    ensures nothing_put { PutsNothing result.outcome → out.new ≡ out.old }
-    ensures nothing_played { PutsNothing result.outcome → steps.new ≡ steps.old }
+    ensures orderly { EndsOrderly (S.shows store.old) (S.shows store.new) out.old out.new
+        steps.old steps.new result.outcome }
 {
     match calibration_for(alloc, calibration, store) {
         Ok(calibration) => run_by(alloc, &calibration, campaign, store, out, steps),
@@ -66,10 +64,8 @@ fn run_by<S: Store, K: Sink>(
     ensures missing_campaign { IsTrue (S.shows store.old).sure
         → IsMissing (S.shows store.old).files campaign.now → result.outcome ≡ ReadFault role.Campaign }
     ensures named { NamesFile campaign.now (S.shows store.old) (role_in result.outcome) result.file }
-    ensures no_memory { TellsNoMemory result.outcome }
-    ensures files { (S.shows store.new).files ≡ (S.shows store.old).files }
-    ensures nothing_put { PutsNothing result.outcome → out.new ≡ out.old }
-    ensures nothing_played { PutsNothing result.outcome → steps.new ≡ steps.old }
+    ensures orderly { EndsOrderly (S.shows store.old) (S.shows store.new) out.old out.new
+        steps.old steps.new result.outcome }
 {
     match campaign_for(alloc, campaign, store) {
         Ok(plans) => run_plans(alloc, calibration, plans, store, out, steps),
@@ -91,10 +87,8 @@ fn run_plans<S: Store, K: Sink>(
         (K.shows out.old) (K.shows out.new) steps.old steps.new result.outcome }
     ensures named { result.file ≡ name_for plans (role_in result.outcome) }
     ensures some { IsNamedIfOfRun (role_in result.outcome) result.file }
-    ensures no_memory { TellsNoMemory result.outcome }
-    ensures files { (S.shows store.new).files ≡ (S.shows store.old).files }
-    ensures nothing_put { PutsNothing result.outcome → out.new ≡ out.old }
-    ensures nothing_played { PutsNothing result.outcome → steps.new ≡ steps.old }
+    ensures orderly { EndsOrderly (S.shows store.old) (S.shows store.new) out.old out.new
+        steps.old steps.new result.outcome }
 {
     match inputs_for(alloc, plans, store) {
         Ok(inputs) => End::of(put_report(alloc, calibration, inputs.as_slice(), out, steps)),

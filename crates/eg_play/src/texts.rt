@@ -1,10 +1,10 @@
-// The lines of the report, and the text of the record.
+// The lines of the report.
 ghost use Rattle.std.specs.Prelude.{◌≡◌, ◌++◌, map, string_bytes, IfOk};
 ghost use Rattle.std.specs.List.{concat};
-ghost use Rattle.eg_record.specs.Texts.{summary_line, report_end, record_header, row_line};
+ghost use Rattle.eg_record.specs.Texts.{summary_line, report_end};
 
 use eg_base::NoMemory;
-use eg_record::{Row, Summary, push_row, record_header, report_end_text, summary_text};
+use eg_record::{Summary, report_end_text, summary_text};
 use std::alloc::Global;
 
 /// The lines of the report on these runs, in their order, and its last line (docs/FORMATS.md, "The report").
@@ -29,16 +29,4 @@ fn summary_lines(alloc: Global, summaries: &[Summary]) -> Result<Vec<String>, No
         lines.push(line)?;
     }
     Ok(lines)
-}
-
-/// The text of a record: the header, and a line for each of these rows, in their order (docs/FORMATS.md,
-/// "The record").
-pub(crate) fn record_text(alloc: Global, rows: &[Row]) -> Result<Vec<u8>, NoMemory>
-    ensures { IfOk result (λ text. text.items ≡ record_header ++ concat (map row_line rows.now)) }
-{
-    let mut text = Vec::from_slice(alloc, record_header().as_bytes())?;
-    for row in rows {
-        push_row(&mut text, row)?;
-    }
-    Ok(text)
 }

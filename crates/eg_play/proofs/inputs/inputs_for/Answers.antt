@@ -43,7 +43,7 @@ returns-in-Err-push-clause-comes g c =
     subst (λ o. InputsCome store later 1 0 c.args.plans (Err o)) (sym c.in-Err-push.ensures.memory)
     (goes-memory store later c.loop-plan.run c.loop-plan.sum c.loop-plan.yielded c.loop-plan.inputs.items c.in-Some.plan c.next.new.self.rest.items c.args.plans
     (one-behind _ c.loop-plan.yielded _ _ _ c.loop-plan.invariant.parts c.in-Some.ensures.steps.0)
-    (ap (λ (shown : ShownStore). shown.faults) (c.in-Ok.ensures.shown refl ∙ c.loop-plan.invariant.shown)) (c.loop-plan.invariant.goes later))
+    (ap (λ (shown : ShownStore). shown.faults) (c.in-Ok.ensures.keeps.shown refl ∙ c.loop-plan.invariant.shown)) (c.loop-plan.invariant.goes later))
 
 pub loop-plan-preserved : goal.loop-plan-preserved
 loop-plan-preserved g c =
@@ -53,7 +53,7 @@ loop-plan-preserved g c =
           ∙ sym (append_assoc c.loop-plan.yielded (c.in-Some.plan ∷ []) c.next.new.self.rest.items);
       run = ap (λ n. n + 1) c.loop-plan.invariant.run ∙ one-longer c.loop-plan.yielded c.in-Some.plan;
       sum = subst (λ rows. c.loop-plan.sum + length rows ≤ 1000000) (sym drive) (c.in-Ok.ensures.sum c.loop-plan.sum refl);
-      shown = c.in-Ok.ensures.shown refl ∙ c.loop-plan.invariant.shown;
+      shown = c.in-Ok.ensures.keeps.shown refl ∙ c.loop-plan.invariant.shown;
       playable = subst (All IsPlayable) (sym c.in-Ok-push.ensures.pushed) (all-behind c.loop-plan.inputs.items c.in-Ok.input c.loop-plan.invariant.playable c.in-Ok.ensures.playable);
       goes = λ later.
           subst (Goes (g.S.Store.shows c.args.store.now) later (c.loop-plan.run + 1) (c.loop-plan.sum + length c.as_slice.result.now) (c.loop-plan.yielded ++ c.in-Some.plan ∷ []))
