@@ -13,7 +13,7 @@ use Rattle.eg_level2.specs.Modules as level2
 use Rattle.eg_level2.specs.Modules.{is_found, debounced, limits, trips, debounce_step}
 use Rattle.eg_model.specs.History.{Setting, Entry, Signals, Moment}
 use Rattle.eg_model.specs.Signals.{tripped, is_limited}
-use Rattle.eg_model.specs.Detection.{has_bit, pedal_bit, plate_bit, load_bit, speed_bit, torque_bit, feeds_at, fed_bits, finds}
+use Rattle.eg_model.specs.Detection.{pedal_bit, plate_bit, load_bit, speed_bit, torque_bit, feeds_at, fed_bits, finds}
 use Rattle.eg_model.specs.Level1.{seen}
 use Rattle.eg_model.specs.Moments.{readings_at, moment}
 use Rattle.eg_agree.specs.Standing.{mirror_found, counter_after, limp_after, trip_after}
@@ -94,24 +94,24 @@ module _ (s : Setting) (accepted : IsAccepted s.cal) (x : Effects) (e : Entry) (
     excess-now calm = b.signals.excess ∙ unflipped flip m.signals.excess calm
 
     pedal-bad : flip ≡ false → level2.pedal_bit w ≡ pedal_bit m.signals
-    unfolding level2.pedal_bit sensor.has_bit pedal_bit has_bit
-    pedal-bad calm = ap (has_bit 1) (pairs-now calm)
+    unfolding level2.pedal_bit pedal_bit sensor.has_bit
+    pedal-bad calm = ap (sensor.has_bit 1) (pairs-now calm)
 
     plate-bad : flip ≡ false → level2.plate_bit w ≡ plate_bit m.signals
-    unfolding level2.plate_bit sensor.has_bit plate_bit has_bit
-    plate-bad calm = ap (has_bit 2) (pairs-now calm)
+    unfolding level2.plate_bit plate_bit sensor.has_bit
+    plate-bad calm = ap (sensor.has_bit 2) (pairs-now calm)
 
     load-bad : flip ≡ false → level2.load_bit w ≡ load_bit m.signals
-    unfolding level2.load_bit sensor.has_bit load_bit has_bit
-    load-bad calm = ap (has_bit 4) (pairs-now calm)
+    unfolding level2.load_bit load_bit sensor.has_bit
+    load-bad calm = ap (sensor.has_bit 4) (pairs-now calm)
 
     speed-bad : flip ≡ false → level2.speed_bit w ≡ speed_bit m.signals
-    unfolding level2.speed_bit sensor.has_bit speed_bit has_bit
-    speed-bad calm = ap (has_bit 8) (pairs-now calm)
+    unfolding level2.speed_bit speed_bit sensor.has_bit
+    speed-bad calm = ap (sensor.has_bit 8) (pairs-now calm)
 
     torque-bad : flip ≡ false → level2.torque_bit w ≡ torque_bit m.signals
-    unfolding level2.torque_bit sensor.has_bit torque_bit has_bit
-    torque-bad calm = ap (has_bit 1) (excess-now calm)
+    unfolding level2.torque_bit torque_bit sensor.has_bit
+    torque-bad calm = ap (sensor.has_bit 1) (excess-now calm)
 
     -- the watches that are found
     pub found-pedal : (x.ran 6 && (debounced s.cal.rules w).pedal) ≡ m.found.pedal

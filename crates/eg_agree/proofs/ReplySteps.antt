@@ -15,7 +15,7 @@ use Rattle.eg_flow.proofs.FlowSteps.{answers, flow-after, react_clears}
 use Rattle.eg_flow.proofs.SteadyLemmas.{steady_stays, start_steady}
 use Rattle.eg_model.specs.History.{Setting, Tick, Moment}
 use Rattle.eg_model.specs.Signals.{tripped}
-use Rattle.eg_model.specs.Answers.{modules, is_whole, is_undisturbed, is_answer, whole_since_answer, is_sent, is_good, mark_at}
+use Rattle.eg_model.specs.Answers.{is_whole, is_undisturbed, is_answer, whole_since_answer, is_sent, is_good, mark_at}
 use Rattle.eg_model.specs.Moments.{moments_of}
 use Rattle.eg_model.proofs.TickLemmas.{length-moments, moment-mark, moment-whole, tripped-cons}
 use Rattle.eg_agree.specs.Doings.{doing_at}
@@ -51,11 +51,11 @@ module _ (s : Setting) (x : Tick) (h : List Tick) where
   -- ---- what is the same on both sides ----
 
   pub whole_same : flow.is_whole d ≡ is_whole x.effects
-  unfolding flow.is_whole eight.modules_before_react eight.modules is_whole modules doing_after doing_at
+  unfolding flow.is_whole eight.modules_before_react eight.modules is_whole doing_after doing_at
   whole_same = refl
 
   pub undisturbed_same : flow.is_undisturbed d ≡ is_undisturbed x.effects
-  unfolding flow.is_undisturbed eight.modules_before_react eight.modules is_undisturbed modules doing_after doing_at
+  unfolding flow.is_undisturbed eight.modules_before_react eight.modules is_undisturbed doing_after doing_at
   undisturbed_same = refl
 
   answers_as_sent : (w : Words) → TellsTrip s w x h → (d.ran 7 && answers_now d.sends (at_react d w)) ≡ sent

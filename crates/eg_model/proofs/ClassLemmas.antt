@@ -18,7 +18,8 @@ use Rattle.eg_fault.specs.declared.class.Fault.{Fault}
 use Rattle.eg_fault.proofs.RunningLemmas.{spared}
 use Rattle.eg_fault.proofs.ClassLemmas.{one_of_two}
 use Rattle.eg_model.specs.History.{Tick, Moment}
-use Rattle.eg_model.specs.Answers.{modules, is_whole, is_undisturbed, whole_since_answer, is_sent, is_good, mark_at}
+use Rattle.eg_answer.specs.Modules.{modules_before_react, modules}
+use Rattle.eg_model.specs.Answers.{is_whole, is_undisturbed, whole_since_answer, is_sent, is_good, mark_at}
 use Rattle.eg_model.specs.Premises.{Follows}
 use Rattle.eg_model.proofs.TickLemmas.{Each, Runs}
 use Rattle.eg_model.proofs.Seeing.{IsUndisturbed, SeesExcess}
@@ -93,7 +94,7 @@ mark_not_good times x trip past h =
 
 -- a test that fails for one module fails for all
 fails_for_one : (p : ℕ → Bool) (i : ℕ) → i < MODULES → p i ≡ false → list_all p modules ≡ false
-unfolding modules
+unfolding modules modules_before_react
 fails_for_one p zero l h = list_all_at p modules 0 0 (omega arith) h
 fails_for_one p (suc zero) l h = list_all_at p modules 1 0 (omega arith) h
 fails_for_one p (suc (suc zero)) l h = list_all_at p modules 2 0 (omega arith) h
@@ -114,7 +115,7 @@ unfolding is_whole does no_effects
 spoiled_skip i k l = inl (fails_for_one (λ j. not (j == i)) i l (rw (eq-eqb i i refl) refl))
 
 pub spoiled_halt : (k : ℕ) → IsSpoiled (does Halt k)
-unfolding is_whole does no_effects modules
+unfolding is_whole does no_effects modules modules_before_react
 spoiled_halt k = inl refl
 
 pub spoiled_disturb : (i mask k : ℕ) → i < MODULES → 0 < mask → IsSpoiled (does (Disturb i mask) k)

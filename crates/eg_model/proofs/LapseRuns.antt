@@ -18,7 +18,8 @@ use Rattle.eg_fault.proofs.ActingLemmas.{of_class}
 use Rattle.eg_model.specs.History.{Setting, Tick, Moment, Signals}
 use Rattle.eg_model.specs.Signals.{tripped}
 use Rattle.eg_model.specs.Detection.{feeds_at, fed_bits, finds, torque_bit}
-use Rattle.eg_model.specs.Answers.{modules, is_whole}
+use Rattle.eg_answer.specs.Modules.{modules_before_react, modules}
+use Rattle.eg_model.specs.Answers.{is_whole}
 use Rattle.eg_model.specs.Paths.{latch1}
 use Rattle.eg_model.specs.Moments.{moment, moments_of}
 use Rattle.eg_model.specs.Rows.{rows_of}
@@ -84,8 +85,8 @@ module _ (s : Setting) (x : Tick) (past : List Moment) (one : AllOrNone x.effect
   whole-is = moment-whole s x.effects x.entry past ∙ all x.effects one.runs one.ran
     where
       all : (x : Effects) (b : Bool) → ((i : ℕ) → x.ran i ≡ b) → is_whole x ≡ b
-      all x true r = unfold is_whole modules in rw (r 0, r 1, r 2, r 3, r 4, r 5, r 6, r 7) refl
-      all x false r = unfold is_whole modules in and_left _ _ (r 0)
+      all x true r = unfold is_whole modules modules_before_react in rw (r 0, r 1, r 2, r 3, r 4, r 5, r 6, r 7) refl
+      all x false r = unfold is_whole modules modules_before_react in and_left _ _ (r 0)
 
   feeds-is : tripped past ≡ false → now.feeds ≡ one.runs
   unfolding moment feeds_at

@@ -5,13 +5,13 @@ use Rattle.std.proofs.lemmas.Bool.{le-ltb, eq-eqb}
 use Rattle.eg_num.specs.Arithmetic.{estimate}
 use Rattle.eg_torque.specs.Permit.{permitted, drive_permits}
 use Rattle.eg_torque.specs.Excess.{is_excess}
-use Rattle.eg_sensor.specs.Readings.{bit}
+use Rattle.eg_sensor.specs.Readings.{bit, has_bit}
 use Rattle.eg_answer.specs.Formulas.{permitted_torque, excess_number, disagreeing_pairs}
 use Rattle.eg_fault.specs.Effects.{no_effects, readings_under}
 use Rattle.eg_record.specs.Excess.{full_excess}
 use Rattle.eg_model.specs.History.{Setting, Entry, Tick, Moment}
 use Rattle.eg_model.specs.Signals.{tripped, is_limited, last_signals, signals_at}
-use Rattle.eg_model.specs.Detection.{has_bit, pedal_bit, plate_bit, load_bit, speed_bit, torque_bit}
+use Rattle.eg_model.specs.Detection.{pedal_bit, plate_bit, load_bit, speed_bit, torque_bit}
 use Rattle.eg_model.specs.Moments.{readings_at, moment}
 use Rattle.eg_model.specs.Rows.{row_of}
 use Rattle.eg_model.specs.Premises.{IsProper}

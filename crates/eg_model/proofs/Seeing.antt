@@ -9,7 +9,7 @@ use Rattle.eg_torque.specs.Permit.{permitted, drive_permits}
 use Rattle.eg_torque.specs.Excess.{is_excess}
 use Rattle.eg_num.specs.Interpolation.{grid_at}
 use Rattle.eg_torque.proofs.PermitLemmas.{grid_at-rises}
-use Rattle.eg_sensor.specs.Readings.{used_pedal, checked_raise}
+use Rattle.eg_sensor.specs.Readings.{used_pedal, checked_raise, has_bit}
 use Rattle.eg_sensor.specs.declared.readings.Readings.{Readings}
 use Rattle.eg_values.specs.Calibration.{IsAccepted}
 use Rattle.eg_answer.specs.Formulas.{permitted_torque, estimated_torque, excess_number}
@@ -19,7 +19,7 @@ use Rattle.eg_fault.specs.Classes.{IsSound}
 use Rattle.eg_record.specs.Excess.{true_excess}
 use Rattle.eg_model.specs.History.{Setting, Entry, Tick, Moment}
 use Rattle.eg_model.specs.Signals.{tripped, is_limited, signal, signals_at}
-use Rattle.eg_model.specs.Detection.{has_bit, torque_bit}
+use Rattle.eg_model.specs.Detection.{torque_bit}
 use Rattle.eg_model.specs.Moments.{readings_at, moment, moments_of}
 use Rattle.eg_model.specs.Rows.{row_of}
 use Rattle.eg_model.specs.Premises.{AreProper, IsProper}

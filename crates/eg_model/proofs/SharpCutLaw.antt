@@ -20,7 +20,8 @@ use Rattle.eg_record.specs.Excess.{full_excess}
 use Rattle.eg_model.specs.History.{Setting, Entry, Tick, Moment, Signals}
 use Rattle.eg_model.specs.Signals.{tripped, is_limited}
 use Rattle.eg_model.specs.Detection.{fed_bits, finds, pedal_bit, plate_bit, load_bit, speed_bit, torque_bit}
-use Rattle.eg_model.specs.Answers.{modules, is_whole, is_undisturbed, is_answer, whole_since_answer, is_sent, is_good, mark_at, with_answer, answers_in, verdict_at, verdicts_in, finds_answers}
+use Rattle.eg_answer.specs.Modules.{modules_before_react, modules}
+use Rattle.eg_model.specs.Answers.{is_whole, is_undisturbed, is_answer, whole_since_answer, is_sent, is_good, mark_at, with_answer, answers_in, verdict_at, verdicts_in, finds_answers}
 use Rattle.eg_model.specs.Paths.{latch1, latch2, on_at, path1_at, path2_at}
 use Rattle.eg_model.specs.Moments.{moment, moments_of}
 use Rattle.eg_model.specs.Rows.{row_of, rows_of}
@@ -165,11 +166,11 @@ unfolding finds AllGood
 unfound_now w b feeds now past l e none = and_right _ _ (none_first w (b now ∷ fed_bits b past) l (e, none))
 
 whole_plain : is_whole no_effects ≡ true
-unfolding is_whole modules no_effects
+unfolding is_whole modules modules_before_react no_effects
 whole_plain = refl
 
 undisturbed_plain : is_undisturbed no_effects ≡ true
-unfolding is_undisturbed modules no_effects
+unfolding is_undisturbed modules modules_before_react no_effects
 undisturbed_plain = refl
 
 mark_law : (a b t u w past still_ p : Bool) → a ≡ p → b ≡ true → t ≡ false → u ≡ false → w ≡ true →

@@ -7,18 +7,15 @@ use Rattle.eg_answer.specs.Periods.{is_last_tick, MarkedAnswer, verdict_of, with
 use Rattle.eg_answer.specs.declared.marks.AnswerMark.{AnswerMark}
 use Rattle.eg_answer.specs.declared.marks.AnswerMark.TheVariants.{Absent, Good, Bad}
 use Rattle.eg_answer.specs.declared.marks.Verdict.{Verdict}
-use Rattle.eg_answer.specs.declared.modules.TheConstants.{CHECK, PEDAL, PERMITTED, ACTUAL, EXCESS, PAIRS, DEBOUNCE, REACT}
+use Rattle.eg_answer.specs.declared.modules.TheConstants.{REACT}
+use Rattle.eg_answer.specs.Modules.{modules}
 use Rattle.eg_fault.specs.Effects.{Effects, sends_at}
 use Rattle.eg_model.specs.History.{Moment}
 use Rattle.eg_model.specs.Signals.{tripped}
 
 -- ---- answers ----
 
--- the eight modules of level 2
-unfoldable pub modules : List ℕ
-modules = CHECK ∷ PEDAL ∷ PERMITTED ∷ ACTUAL ∷ EXCESS ∷ PAIRS ∷ DEBOUNCE ∷ REACT ∷ []
-
--- all of them run at a tick
+-- all eight modules run at a tick
 unfoldable pub is_whole : Effects → Bool
 is_whole x = list_all (λ i. x.ran i) modules
 

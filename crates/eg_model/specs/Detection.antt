@@ -1,28 +1,26 @@
 -- Detection in level 2: the debouncers of the four pairs and of the torque.
-use Rattle.std.specs.Prelude.{ℕ, ◌/◌, ◌%◌, ◌==◌, Bool, not, ◌&&◌, is_some, List, ◌∷◌, map, filter}
+use Rattle.std.specs.Prelude.{ℕ, Bool, not, ◌&&◌, is_some, List, ◌∷◌, map, filter}
 use Rattle.eg_num.specs.Windows.{WeightParts, is_first}
+use Rattle.eg_sensor.specs.Readings.{has_bit}
+use Rattle.eg_sensor.specs.declared.pairs.TheConstants.{PEDAL_PAIR, PLATE_PAIR, LOAD_PAIR, SPEED_PAIR}
 use Rattle.eg_answer.specs.declared.modules.TheConstants.{DEBOUNCE}
 use Rattle.eg_fault.specs.Effects.{Effects}
 use Rattle.eg_model.specs.History.{Signals, Moment}
 use Rattle.eg_model.specs.Signals.{tripped}
 
--- whether the bit of this size is set in a word
-unfoldable pub has_bit : ℕ → ℕ → Bool
-has_bit size word = word / size % 2 == 1
-
--- ---- what each debouncer is fed with ----
+-- ---- what each debouncer is fed with: a pair's bit of the pairs, and bit 0 of the excess ----
 
 unfoldable pub pedal_bit : Signals → Bool
-pedal_bit s = has_bit 1 s.pairs
+pedal_bit s = has_bit PEDAL_PAIR s.pairs
 
 unfoldable pub plate_bit : Signals → Bool
-plate_bit s = has_bit 2 s.pairs
+plate_bit s = has_bit PLATE_PAIR s.pairs
 
 unfoldable pub load_bit : Signals → Bool
-load_bit s = has_bit 4 s.pairs
+load_bit s = has_bit LOAD_PAIR s.pairs
 
 unfoldable pub speed_bit : Signals → Bool
-speed_bit s = has_bit 8 s.pairs
+speed_bit s = has_bit SPEED_PAIR s.pairs
 
 unfoldable pub torque_bit : Signals → Bool
 torque_bit s = has_bit 1 s.excess
