@@ -1,12 +1,11 @@
 -- What `check` says of a file: the first tick by which the torque excess of its rows is confirmed.
-use Rattle.std.specs.Prelude.{ℕ, List, ◌++◌, Bool, map, codes, decimal, Option, Some, None, Result, Ok, Err}
+use Rattle.std.specs.Prelude.{ℕ, List, ◌++◌, Bool, map, codes, decimal, Option, Some, None, Result}
 use Rattle.eg_torque.specs.Permit.{drive_permits}
 use Rattle.eg_torque.specs.Excess.{is_excess}
 use Rattle.eg_input.specs.CheckFile.{CheckRow, check_rows}
 use Rattle.eg_input.specs.Records.{records_of}
-use Rattle.eg_input.specs.declared.fault.TraceFault.{TraceFault}
 use Rattle.eg_answer.specs.declared.rules.Rules.{Rules}
-use Rattle.eg_outcome.specs.Reads.{sized}
+use Rattle.eg_outcome.specs.Reads.{refused, sized}
 use Rattle.eg_outcome.specs.declared.outcome.Refusal.{Refusal}
 use Rattle.eg_outcome.specs.declared.outcome.Refusal.TheVariants as refusal
 use Rattle.eg_outcome.specs.declared.outcome.Role.TheVariants as role
@@ -24,11 +23,10 @@ abbrev pub check_line : Option ℕ → List ℕ
 check_line None = codes "none\n"
 check_line (Some tick) = codes "torque " ++ decimal tick ++ codes "\n"
 
--- why the rows of a check file are refused
-abbrev pub refused_rows : Result (List CheckRow) TraceFault → Result (List CheckRow) Refusal
-refused_rows (Ok rows) = Ok rows
-refused_rows (Err fault) = Err (refusal.Check fault)
+-- the rows that the bytes of a check file say, or why its records are refused
+abbrev pub check_or_refusal : List ℕ → Result (List CheckRow) Refusal
+check_or_refusal bytes = refused refusal.Check (check_rows (records_of bytes))
 
 -- the rows of a check file, or its first refusal: of its size, or else of its records
 abbrev pub check_file : List ℕ → Result (List CheckRow) Refusal
-check_file = sized role.Check (λ bytes. refused_rows (check_rows (records_of bytes)))
+check_file = sized role.Check check_or_refusal

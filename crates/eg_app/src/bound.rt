@@ -41,7 +41,7 @@ fn put_reaction<K: Sink>(alloc: Global, times: &Times, out: &mut K) -> Outcome
     let Ok(line) = line_of(alloc, times) else {
         return Outcome::Memory;
     };
-    put_line(&line, out)
+    put_line(line.as_bytes(), out)
 }
 
 /// The line that tells the reaction time.

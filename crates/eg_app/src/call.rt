@@ -5,7 +5,7 @@ ghost use Rattle.eg_app.specs.Ends.{Ends, ReadsNothing, CountsNothing, TellsMiss
 ghost use Rattle.eg_app.specs.Headline.{TellsHeadline};
 ghost use Rattle.eg_app.specs.Notes.{NotesOutcome, Names, IsFileName};
 ghost use Rattle.eg_base.specs.Outside.{ShownStore};
-ghost use Rattle.eg_outcome.specs.Outcomes.{TellsNoMemory, PutsNothing};
+ghost use Rattle.eg_outcome.specs.Outcomes.{EndsOrderly, TellsNoMemory, PutsNothing};
 ghost use Rattle.eg_outcome.specs.declared.outcome.Outcome.TheVariants.{Done};
 
 use crate::bound::bound;
@@ -95,11 +95,9 @@ fn run<S: Store, K: Sink>(
     ensures missing { TellsMissing (Some (said command.entry)) (S.shows store.old) result.outcome }
     ensures completes { Completes (Some (said command.entry)) (S.shows store.old) (S.shows store.new)
         (K.shows out.old) (K.shows out.new) result.outcome }
-    ensures no_memory { TellsNoMemory result.outcome }
     ensures nothing_read { ReadsNothing (Some (said command.entry)) → store.new ≡ store.old }
-    ensures files { (S.shows store.new).files ≡ (S.shows store.old).files }
-    ensures nothing_put { PutsNothing result.outcome → out.new ≡ out.old }
-    ensures nothing_played { PutsNothing result.outcome → steps.new ≡ steps.old }
+    ensures orderly { EndsOrderly (S.shows store.old) (S.shows store.new) out.old out.new
+        steps.old steps.new result.outcome }
     ensures counts_nothing { CountsNothing (Some (said command.entry)) → steps.new ≡ steps.old }
 {
     work(alloc, command, store, out, steps)
@@ -118,11 +116,9 @@ fn work<S: Store, K: Sink>(
         (K.shows out.old) (K.shows out.new) steps.old steps.new result.outcome }
     ensures names { Names (said command.entry) (S.shows store.old) result.outcome result.file }
     ensures missing { TellsMissing (Some (said command.entry)) (S.shows store.old) result.outcome }
-    ensures no_memory { TellsNoMemory result.outcome }
     ensures nothing_read { ReadsNothing (Some (said command.entry)) → store.new ≡ store.old }
-    ensures files { (S.shows store.new).files ≡ (S.shows store.old).files }
-    ensures nothing_put { PutsNothing result.outcome → out.new ≡ out.old }
-    ensures nothing_played { PutsNothing result.outcome → steps.new ≡ steps.old }
+    ensures orderly { EndsOrderly (S.shows store.old) (S.shows store.new) out.old out.new
+        steps.old steps.new result.outcome }
     ensures counts_nothing { CountsNothing (Some (said command.entry)) → steps.new ≡ steps.old }
 {
     match command {

@@ -1,21 +1,21 @@
 // `check [--cal NAME] FILE`: the first tick by which the torque excess of a file's rows is confirmed.
-ghost use Rattle.std.specs.Prelude.{◌≡◌, ◌≢◌, ◌↔◌, Err, Some, IfErr, IfOk, IsOk, IsTrue, string_bytes};
+ghost use Rattle.std.specs.Prelude.{◌≡◌, ◌↔◌, Some, IfOk, IsTrue, string_bytes};
 ghost use Rattle.std.specs.Option.{option_copied};
 ghost use Rattle.eg_base.specs.Outside.{IsMissing};
 ghost use Rattle.eg_app.specs.Words.{check};
-ghost use Rattle.eg_app.specs.Check.{check_file, check_line};
+ghost use Rattle.eg_app.specs.Check.{check_file, check_or_refusal, check_line};
 ghost use Rattle.eg_app.specs.Ends.{RowsEnd, CheckWorks, CheckEnds, TellsMissing};
-ghost use Rattle.eg_outcome.specs.Reads.{BytesCome, FileComes};
+ghost use Rattle.eg_outcome.specs.Reads.{KeepsFiles, ReadsFile, Says};
 ghost use Rattle.eg_outcome.specs.Outcomes.{LineEnds, TellsNoMemory, PutsNothing};
 ghost use Rattle.eg_outcome.specs.declared.outcome.Outcome.TheVariants.{ReadFault};
 ghost use Rattle.eg_outcome.specs.declared.outcome.Role.TheVariants as role;
 
 use crate::monitoring::first_confirmed;
 use eg_answer::Rules;
-use eg_base::{Items, ReadRefusal, Sink, Store};
+use eg_base::{Items, Sink, Store};
 use eg_input::{TraceFault, read_check};
 use eg_num::Drive;
-use eg_outcome::{MOST_BYTES, Outcome, Refusal, Role, calibration_for, is_too_long, put_line};
+use eg_outcome::{Outcome, Refusal, Role, calibration_for, file_bytes, put_line};
 use std::alloc::{AllocError, Global};
 
 /// Does `check [--cal NAME] FILE`, but for its note. The calibration is read before the file.
@@ -68,30 +68,19 @@ fn rows_of<S: Store>(
     file: &str,
     store: &mut S,
 ) -> Result<Items<(Drive, u16)>, Outcome>
-    ensures comes { FileComes role.Check check_file file.now (S.shows store.old) (S.shows store.new) result }
-    ensures missing { IsTrue (S.shows store.old).sure →
-        ((result ≡ Err (ReadFault role.Check)) ↔ IsMissing (S.shows store.old).files file.now) }
-    ensures no_memory { IfErr result TellsNoMemory }
-    ensures shown { IsOk result → S.shows store.new ≡ S.shows store.old }
-    ensures files { (S.shows store.new).files ≡ (S.shows store.old).files }
+    ensures reads { ReadsFile role.Check check_file file.now (S.shows store.old) (S.shows store.new) result }
+    ensures keeps { KeepsFiles (S.shows store.old) (S.shows store.new) result }
 {
-    let mut bytes = Vec::new(alloc);
-    match store.read(file, MOST_BYTES + 1, &mut bytes) {
-        Ok(()) => rows_in(alloc, &bytes),
-        Err(ReadRefusal::Failed) => Err(Outcome::ReadFault { file: Role::Check }),
-        Err(ReadRefusal::Memory) => Err(Outcome::Memory),
+    match file_bytes(alloc, Role::Check, file, store) {
+        Ok(bytes) => rows_in(alloc, bytes.as_slice()),
+        Err(end) => Err(end),
     }
 }
 
-/// The rows that a file of these bytes says, or how the call ends without them.
+/// The rows that these bytes of a file say, or how the call ends without them.
 fn rows_in(alloc: Global, bytes: &[u8]) -> Result<Items<(Drive, u16)>, Outcome>
-    ensures comes { BytesCome check_file bytes.now result }
-    ensures read { result ≢ Err (ReadFault role.Check) }
-    ensures no_memory { IfErr result TellsNoMemory }
+    ensures { Says check_or_refusal bytes.now result }
 {
-    if is_too_long(bytes) {
-        return Err(Outcome::Refused(Refusal::Size { file: Role::Check }));
-    }
     match read_check(alloc, bytes) {
         Ok(rows) => Ok(Items::new(rows)),
         Err(TraceFault::Memory) => Err(Outcome::Memory),
@@ -116,7 +105,7 @@ fn put_first<K: Sink>(alloc: Global, first: Option<usize>, out: &mut K) -> Outco
     let Ok(line) = line_of(alloc, first) else {
         return Outcome::Memory;
     };
-    put_line(&line, out)
+    put_line(line.as_bytes(), out)
 }
 
 /// The line that tells the first tick by which the excess is confirmed.

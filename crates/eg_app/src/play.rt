@@ -1,7 +1,7 @@
 // `run` and `record`: beside eg_play's own clauses, when the calibration is missing.
 ghost use Rattle.std.specs.Prelude.{◌≡◌, Some};
 ghost use Rattle.std.specs.Option.{option_copied};
-ghost use Rattle.eg_outcome.specs.Outcomes.{TellsNoMemory, PutsNothing};
+ghost use Rattle.eg_outcome.specs.Outcomes.{EndsOrderly};
 ghost use Rattle.eg_play.specs.Ends.{RunCommandEnds, RecordCommandEnds, NamesFile, role_in};
 ghost use Rattle.eg_app.specs.Words.{run, record_run};
 ghost use Rattle.eg_app.specs.Ends.{TellsMissing};
@@ -26,10 +26,8 @@ pub(crate) fn play_campaign<S: Store, K: Sink>(
     ensures named { NamesFile campaign.now (S.shows store.old) (role_in result.outcome) result.file }
     ensures missing { TellsMissing (Some (run (option_copied calibration.entry) campaign.now))
         (S.shows store.old) result.outcome }
-    ensures no_memory { TellsNoMemory result.outcome }
-    ensures files { (S.shows store.new).files ≡ (S.shows store.old).files }
-    ensures nothing_put { PutsNothing result.outcome → out.new ≡ out.old }
-    ensures nothing_played { PutsNothing result.outcome → steps.new ≡ steps.old }
+    ensures orderly { EndsOrderly (S.shows store.old) (S.shows store.new) out.old out.new
+        steps.old steps.new result.outcome }
 {
     run(alloc, calibration, campaign, store, out, steps)
 }
@@ -50,10 +48,8 @@ pub(crate) fn play_run<S: Store, K: Sink>(
     ensures named { NamesFile campaign.now (S.shows store.old) (role_in result.outcome) result.file }
     ensures missing { TellsMissing (Some (record_run (option_copied calibration.entry) campaign.now name.now))
         (S.shows store.old) result.outcome }
-    ensures no_memory { TellsNoMemory result.outcome }
-    ensures files { (S.shows store.new).files ≡ (S.shows store.old).files }
-    ensures nothing_put { PutsNothing result.outcome → out.new ≡ out.old }
-    ensures nothing_played { PutsNothing result.outcome → steps.new ≡ steps.old }
+    ensures orderly { EndsOrderly (S.shows store.old) (S.shows store.new) out.old out.new
+        steps.old steps.new result.outcome }
 {
     record(alloc, calibration, campaign, name, store, out, steps)
 }

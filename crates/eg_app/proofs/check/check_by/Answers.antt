@@ -8,4 +8,4 @@ use Rattle.eg_app.proofs.check.check_by.Goals as goal
 pub returns-in-Ok-clause-works : goal.returns-in-Ok-clause-works
 returns-in-Ok-clause-works g c =
     let ends = λ (rows : List CheckRow). RowsEnd c.args.rules.now rows (g.K.Sink.shows c.args.out.now) (g.K.Sink.shows c.check_rows.new.out) c.check_rows.result in
-    (Ok c.in-Ok.rows, c.in-Ok.ensures.comes, (ap (λ (s : ShownStore). s.faults) (c.in-Ok.ensures.shown refl), subst ends c.as_slice.ensures c.check_rows.ensures.ends))
+    (Ok c.in-Ok.rows, c.in-Ok.ensures.reads.comes, (ap (λ (s : ShownStore). s.faults) (c.in-Ok.ensures.keeps.shown refl), subst ends c.as_slice.ensures c.check_rows.ensures.ends))
