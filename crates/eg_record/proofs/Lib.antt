@@ -6,3 +6,4 @@ pub mod WatchLemmas
 pub mod GivenLemmas
 pub mod LawLemmas
 mod Worked
+pub mod AsciiLemmas

@@ -13,7 +13,7 @@ pub use detection::{detections_are_first, off_ticks_are_first};
 pub use eg_answer::{AnswerMark, Verdict};
 pub use eg_num::{Drive, Watches};
 pub use row::Row;
-pub use row_line::{push_row, record_header};
+pub use row_line::{push_row, record_header, row_text};
 pub use summary::{Summary, summarize};
 pub use summary_line::{report_end_text, summary_text};
 pub use watch::Watch;

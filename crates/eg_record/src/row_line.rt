@@ -1,6 +1,8 @@
 // The line of a row.
-ghost use Rattle.std.specs.Prelude.{◌≡◌, ◌+◌, ◌≤◌, ◌++◌, ◌∷◌, [], length, drop, codes, decimal, OnOk, if◌then◌else◌};
+ghost use Rattle.std.specs.Prelude.{◌≡◌, ◌+◌, ◌≤◌, ◌++◌, ◌∷◌, [], length, drop, codes, decimal, string_bytes, IfOk, OnOk, if◌then◌else◌};
 ghost use Rattle.std.specs.List.{join_with_byte};
+ghost use Rattle.std.specs.Str.{IsAscii, IsUtf8};
+ghost use Rattle.eg_record.specs.Ascii.{AreAscii};
 ghost use Rattle.eg_record.specs.Texts.{comma, plus, bit, watch_name, found_text, answer_text, verdict_text};
 ghost use Rattle.eg_record.specs.Texts.{drive_columns, engine_columns, path_columns, signal_columns};
 ghost use Rattle.eg_record.specs.Texts.{command_columns, value_columns, event_columns, row_line, record_header};
@@ -8,7 +10,7 @@ ghost use Rattle.eg_record.specs.Texts.{command_columns, value_columns, event_co
 use crate::{AnswerMark, Row, Verdict, Watch, Watches};
 use eg_base::NoMemory;
 use itoa::write_digits;
-use std::alloc::AllocError;
+use std::alloc::{AllocError, Global};
 
 /// The line above the rows of a record, with its LF (docs/FORMATS.md, "The record").
 #[tactic(auto, unfolding(crate::specs::Texts::record_header))]
@@ -26,7 +28,8 @@ const ROOM: usize = 192;
 /// Appends the line of a row, with its LF, to a text (docs/FORMATS.md, "The record"). Where memory runs out a
 /// part of the line may have been appended.
 pub fn push_row(text: &mut Vec<u8>, row: &Row) -> Result<(), NoMemory>
-    ensures { OnOk result (text.new.items ≡ text.old.items ++ row_line row.now) }
+    ensures line { OnOk result (text.new.items ≡ text.old.items ++ row_line row.now) }
+    ensures is_text { OnOk result (IsUtf8 (row_line row.now)) }
 {
     let mut line = [0; ROOM];
     let start = put_columns(row, &mut line);
@@ -35,10 +38,23 @@ pub fn push_row(text: &mut Vec<u8>, row: &Row) -> Result<(), NoMemory>
     Ok(())
 }
 
+/// The line of a row, with its LF (docs/FORMATS.md, "The record").
+pub fn row_text(alloc: Global, row: &Row) -> Result<String, NoMemory>
+    ensures { IfOk result (λ line. string_bytes line ≡ row_line row.now) }
+{
+    let mut line = Vec::new(alloc);
+    push_row(&mut line, row)?;
+    match String::from_utf8(line) {
+        Ok(line) => Ok(line),
+        Err(_) => unreachable!("the line of a row is ASCII"),
+    }
+}
+
 /// Puts the columns of a row up to level 1's commands, each with a comma, to the end of a line, and tells
 /// where they start. Columns are put from the last to the first, since the digits of a number are found so.
 fn put_columns(row: &Row, line: &mut [u8; ROOM]) -> usize
-    ensures { drop result line.new ≡ join_with_byte comma (value_columns row.now) ++ codes "," }
+    ensures put { drop result line.new ≡ join_with_byte comma (value_columns row.now) ++ codes "," }
+    ensures ascii { AreAscii (value_columns row.now) }
 {
     let start = put_commands(row, line, ROOM);
     let start = put_signals(row, line, start);
@@ -53,6 +69,7 @@ fn put_number(number: u32, line: &mut [u8], end: usize) -> usize
     requires within { end ≤ length line.old }
     ensures put { drop result line.new ≡ decimal number ++ codes "," ++ drop end line.old }
     ensures few { end ≤ result + 11 }
+    ensures ascii { IsAscii (decimal number) }
 {
     let comma = end - 1;
     line[comma] = b',';
@@ -80,6 +97,7 @@ fn put_drive(row: &Row, line: &mut [u8], end: usize) -> usize
     ensures put { drop result line.new
         ≡ join_with_byte comma (drive_columns row.now) ++ codes "," ++ drop end line.old }
     ensures few { end ≤ result + 44 }
+    ensures ascii { AreAscii (drive_columns row.now) }
 {
     let start = put_number(u32::from(row.drive.raise()), line, end);
     let start = put_number(u32::from(row.drive.speed()), line, start);
@@ -94,6 +112,7 @@ fn put_engine(row: &Row, line: &mut [u8], end: usize) -> usize
     ensures put { drop result line.new
         ≡ join_with_byte comma (engine_columns row.now) ++ codes "," ++ drop end line.old }
     ensures few { end ≤ result + 44 }
+    ensures ascii { AreAscii (engine_columns row.now) }
 {
     let start = put_number(u32::from(row.limit), line, end);
     let start = put_number(u32::from(row.torque), line, start);
@@ -108,6 +127,7 @@ fn put_paths(row: &Row, line: &mut [u8], end: usize) -> usize
     ensures put { drop result line.new
         ≡ join_with_byte comma (path_columns row.now) ++ codes "," ++ drop end line.old }
     ensures few { end ≤ result + 6 }
+    ensures ascii { AreAscii (path_columns row.now) }
 {
     let start = put_bit(row.on, line, end);
     let start = put_bit(row.path2, line, start);
@@ -121,6 +141,7 @@ fn put_signals(row: &Row, line: &mut [u8], end: usize) -> usize
     ensures put { drop result line.new
         ≡ join_with_byte comma (signal_columns row.now) ++ codes "," ++ drop end line.old }
     ensures few { end ≤ result + 55 }
+    ensures ascii { AreAscii (signal_columns row.now) }
 {
     let [used, permitted, actual, excess, pairs] = row.signals;
     let start = put_number(u32::from(pairs), line, end);
@@ -137,6 +158,7 @@ fn put_commands(row: &Row, line: &mut [u8], end: usize) -> usize
     ensures put { drop result line.new
         ≡ join_with_byte comma (command_columns row.now) ++ codes "," ++ drop end line.old }
     ensures few { end ≤ result + 22 }
+    ensures ascii { AreAscii (command_columns row.now) }
 {
     let start = put_number(u32::from(row.ignition), line, end);
     put_number(u32::from(row.throttle), line, start)

@@ -4,6 +4,7 @@ use Rattle.std.specs.List.{join_with_byte}
 use Rattle.eg_record.specs.declared.row.Row.{Row}
 use Rattle.eg_record.specs.Texts.{comma, drive_columns, event_columns, value_columns, columns, row_line}
 use Rattle.eg_record.proofs.ColumnsLemmas.{is_nil, columns-more, rest-whole}
+use Rattle.eg_record.proofs.AsciiLemmas.{line_is_text}
 use Rattle.eg_record.proofs.row_line.push_row.Goals as goal
 
 -- the values, and what is found and heard
@@ -15,5 +16,8 @@ line row old values text new are is events =
     (is ∙ ap (λ (t : List ℕ). old ++ t) are ∙ sym (append_assoc old (join_with_byte comma (value_columns row)) (codes ","))) events
     ∙ append_assoc old (join_with_byte comma (columns row)) (codes "\n")
 
-pub returns : goal.returns
-returns c = line c.args.row.now c.args.text.now.items _ _ _ c.put_columns-start.ensures (c.in_ok-extend_from_slice.ensures.items ∙ ap (λ (t : List ℕ). c.args.text.now.items ++ t) (rest-whole 192 c.put_columns-start.result c.put_columns-start.new.line (omega arith))) c.in_ok-push_events.ensures
+pub returns-clause-line : goal.returns-clause-line
+returns-clause-line c = line c.args.row.now c.args.text.now.items _ _ _ c.put_columns-start.ensures.put (c.in_ok-extend_from_slice.ensures.items ∙ ap (λ (t : List ℕ). c.args.text.now.items ++ t) (rest-whole 192 c.put_columns-start.result c.put_columns-start.new.line (omega arith))) c.in_ok-push_events.ensures
+
+pub returns-clause-is_text : goal.returns-clause-is_text
+returns-clause-is_text c = line_is_text c.args.row.now c.put_columns-start.ensures.ascii

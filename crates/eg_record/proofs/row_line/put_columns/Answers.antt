@@ -5,6 +5,7 @@ use Rattle.std.proofs.Math.ListN.{drop_of_length-le}
 use Rattle.eg_record.specs.declared.row.Row.{Row}
 use Rattle.eg_record.specs.Texts.{comma, drive_columns, engine_columns, path_columns, signal_columns, command_columns, value_columns}
 use Rattle.eg_record.proofs.ColumnsLemmas.{is_nil, columns-before}
+use Rattle.eg_record.proofs.AsciiLemmas.{values}
 use Rattle.eg_record.proofs.row_line.put_columns.Goals as goal
 
 -- the groups, from the last to the first
@@ -21,6 +22,9 @@ groups row end o s p b a none commands signals paths engine drive =
     ∙ ap (λ (t : List ℕ). (join_with_byte comma (value_columns row) ++ codes ",") ++ t) none
     ∙ append-nil (join_with_byte comma (value_columns row) ++ codes ",")
 
-pub returns : goal.returns
-returns c = groups c.args.row.now _ _ _ _ _ _ (drop_of_length-le c.args.line.now {i = 192} (omega arith)) c.put_commands-start.ensures.put c.put_signals-start.ensures.put c.put_paths-start.ensures.put
+pub returns-clause-put : goal.returns-clause-put
+returns-clause-put c = groups c.args.row.now _ _ _ _ _ _ (drop_of_length-le c.args.line.now {i = 192} (omega arith)) c.put_commands-start.ensures.put c.put_signals-start.ensures.put c.put_paths-start.ensures.put
     c.put_engine-start.ensures.put c.put_drive.ensures.put
+
+pub returns-clause-ascii : goal.returns-clause-ascii
+returns-clause-ascii c = values c.args.row.now c.put_drive.ensures.ascii c.put_engine-start.ensures.ascii c.put_paths-start.ensures.ascii c.put_signals-start.ensures.ascii c.put_commands-start.ensures.ascii

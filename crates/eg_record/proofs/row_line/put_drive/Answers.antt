@@ -1,5 +1,6 @@
 use Rattle.std.proofs.Common.{append_assoc}
 use Rattle.eg_record.specs.Texts.{drive_columns}
+use Rattle.eg_record.proofs.AsciiLemmas.{number}
 use Rattle.eg_record.proofs.row_line.put_drive.Goals as goal
 
 pub returns-clause-put : goal.returns-clause-put
@@ -16,4 +17,17 @@ returns-clause-put c = simp (
   c.speed.ensures.speed,
   c.raise.ensures.raise,
   append_assoc,
+)
+
+pub returns-clause-ascii : goal.returns-clause-ascii
+unfolding drive_columns
+returns-clause-ascii c = (
+  c.put_number.ensures.ascii,
+  (
+    number _ _ c.put_number-start-3.ensures.ascii (cc (c.from-3.ensures, c.pedal.ensures.pedal)),
+    (
+      number _ _ c.put_number-start-2.ensures.ascii (cc (c.from-2.ensures, c.speed.ensures.speed)),
+      (number _ _ c.put_number-start.ensures.ascii (cc (c.from.ensures, c.raise.ensures.raise)), tt),
+    ),
+  ),
 )

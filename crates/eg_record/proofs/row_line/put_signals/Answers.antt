@@ -1,5 +1,6 @@
 use Rattle.std.proofs.Common.{append_assoc}
 use Rattle.eg_record.specs.Texts.{signal_columns}
+use Rattle.eg_record.proofs.AsciiLemmas.{number}
 use Rattle.eg_record.proofs.row_line.put_signals.Goals as goal
 
 pub returns-clause-put : goal.returns-clause-put
@@ -16,4 +17,20 @@ returns-clause-put c = simp (
   c.from-2.ensures,
   c.from.ensures,
   append_assoc,
+)
+
+pub returns-clause-ascii : goal.returns-clause-ascii
+unfolding signal_columns
+returns-clause-ascii c = (
+  number _ _ c.put_number.ensures.ascii c.from-5.ensures,
+  (
+    number _ _ c.put_number-start-4.ensures.ascii c.from-4.ensures,
+    (
+      number _ _ c.put_number-start-3.ensures.ascii c.from-3.ensures,
+      (
+        number _ _ c.put_number-start-2.ensures.ascii c.from-2.ensures,
+        (number _ _ c.put_number-start.ensures.ascii c.from.ensures, tt),
+      ),
+    ),
+  ),
 )
