@@ -66,8 +66,8 @@ pub record PutsText (text : List ℕ) (out now : ShownSink) (o : Outcome) : Type
   pub sure : IsTrue out.sure → o ≢ outcome.Memory
   pub stays_sure : now.sure ≡ out.sure
 
--- However a command that plays runs ends: no refusal tells that memory ran out, and no file changes; and where
--- nothing is put, output and count of ticks are as they were.
+-- However a command that plays runs ends: no refusal tells that memory ran out, and no file changes; and
+-- where nothing is put, output and count of ticks are as they were.
 pub record EndsOrderly {K T : Type 0} (store later : ShownStore) (out now : K) (was is : T) (o : Outcome) :
     Type 0 where
   pub no_memory : TellsNoMemory o
