@@ -1,4 +1,4 @@
-use Rattle.std.proofs.Common.{◌≡◌, ◌∙◌, sym, subst, ◌≤◌}
+use Rattle.std.proofs.Common.{◌∙◌, sym, subst, ◌≤◌}
 use Rattle.eg_outcome.specs.Outcomes.{LineEnds}
 use Rattle.eg_campaign.specs.Plays.{run_with}
 use Rattle.eg_campaign.proofs.PlayLemmas.{ticks-one}
