@@ -38,7 +38,7 @@ impl Host {
     }
 
     /// The same for a caller that has the program of the memory's code, so that no word is decoded.
-    #[inline(never)]
+    #[inline]
     pub fn slice_of<M: Guarded>(
         &mut self,
         program: &Program,

@@ -1,5 +1,5 @@
 -- A tick, from what each of its parts says of itself.
-use Rattle.std.proofs.Common.{◌≡◌, ◌∙◌, refl, sym, ap, ap₂, subst, ℕ, ◌+◌, ◌-◌, ◌≤◌, ◌<◌, ◌||◌, ◌&&◌, Bool, false, Option, Some, List, ◌∷◌, length, slice_index, arith}
+use Rattle.std.proofs.Common.{◌≡◌, ◌∙◌, refl, sym, ap, ap₂, subst, ℕ, ◌+◌, ◌≤◌, ◌<◌, ◌||◌, ◌&&◌, Bool, false, Option, Some, List, ◌∷◌, length, slice_index, arith}
 use Rattle.std.specs.Option.{option_or}
 use Rattle.eg_num.specs.Drive.{DriveRow, IsDrive}
 use Rattle.eg_plant.specs.Engine.{KeepsLaws}

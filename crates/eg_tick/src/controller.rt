@@ -20,7 +20,7 @@ use crate::monitoring::{judge, question};
 use crate::paths::Paths;
 use crate::plant::{readings, step_engine};
 use crate::row::{Beginning, limit, look_up, row};
-use crate::working::{Task, work};
+use crate::working::{Level1, Task, work};
 use eg_base::NoMemory;
 use eg_fault::{Fault, held, sends};
 use eg_guard::Guarded;
@@ -46,8 +46,7 @@ pub struct Controller<E: Engine, M: Guarded> {
     fault: Option<Fault>,
     level2: Level2,
     monitor: Monitor,
-    program: Program,
-    host: Host,
+    level1: Level1,
     memory: M,
     engine: E,
     ticks: u32,
@@ -71,7 +70,7 @@ impl<E: Engine, M: Guarded> Model for Controller<E, M> {
         fault = c.fault;
         ticks = c.ticks;
         memory = M.shows c.memory;
-        registers = c.host.registers;
+        registers = c.level1.host.registers;
         monitor = c.monitor;
         open1 = c.open1;
         open2 = c.open2;
@@ -82,12 +81,12 @@ impl<E: Engine, M: Guarded> Model for Controller<E, M> {
       };
     } };
 
-    ghost invariant = { λ c. IsWhole c.calibration c.level2 c.program (record {
+    ghost invariant = { λ c. IsWhole c.calibration c.level2 c.level1.program (record {
       cal = c.calibration;
       fault = c.fault;
       ticks = c.ticks;
       memory = M.shows c.memory;
-      registers = c.host.registers;
+      registers = c.level1.host.registers;
       monitor = c.monitor;
       open1 = c.open1;
       open2 = c.open2;
@@ -136,8 +135,10 @@ impl<E: Engine + Drop, M: Guarded + Drop> Controller<E, M> {
             fault,
             level2,
             monitor,
-            program,
-            host: Host::new(),
+            level1: Level1 {
+                host: Host::new(),
+                program,
+            },
             memory,
             engine,
             ticks: 0,
@@ -247,14 +248,13 @@ impl<E: Engine + Drop, M: Guarded + Drop> Controller<E, M> {
             lookup,
             slices: *slices,
         };
-        let (level2, program) = (&self.level2, &self.program);
-        let (host, memory) = (&mut self.host, &mut self.memory);
-        let step = work(level2, program, fault, &task, host, memory)?;
+        let (level1, memory) = (&mut self.level1, &mut self.memory);
+        let step = work(&self.level2, fault, &task, level1, memory)?;
         let monitor = &mut self.monitor;
         let judged = judge(monitor, questions, fault, tick, task.asked, step.answer);
         self.open1 = either(step.open_path, self.open1);
         self.open2 = either(either(judged.answers, judged.opens), self.open2);
-        note_trap(&mut self.trap, self.host.registers.state, tick);
+        note_trap(&mut self.trap, self.level1.host.registers.state, tick);
         let row = row(begins, &self.engine, &self.memory, step.found, judged);
         self.ticks += 1;
         self.lost = false;

@@ -15,35 +15,32 @@ ghost use Rattle.eg_tick.specs.Midway;
 ghost use Rattle.eg_tick.specs.Midway.{Work, IsMidway, IsReady, Meets, IsDue, step_at, tick_step};
 
 use crate::board::flip;
-use crate::working::Task;
+use crate::working::{Level1, Task};
 use eg_base::NoMemory;
 use eg_fault::{Fault, disturbance, fault_of_levels, level1_runs, module_runs};
 use eg_guard::Guarded;
-use eg_host::Host;
 use eg_level2::{Level2, Step, Watches};
-use eg_word::Program;
 
 /// A slice of level 1, where it runs at this tick (docs/CONCEPT.md, "Level 1").
 #[inline(always)]
 fn slice<M: Guarded>(
     runs: bool,
-    program: &Program,
-    host: &mut Host,
+    level1: &mut Level1,
     memory: &mut M,
     budget: u16,
 ) -> Result<(), NoMemory>
-    requires { IsProgramOf (M.shows memory.old).words program.now }
+    requires { IsProgramOf (M.shows memory.old).words level1.old.program }
     ensures midway { (w : Work) (j : ℕ) → w.level1 ≡ runs → j < length w.slices
-        → slice_index w.slices j ≡ budget → IsMidway w j j host.old.registers (M.shows memory.old).words
-        → OnOk result (IsMidway w (j + 1) j host.new.registers (M.shows memory.new).words) }
-    ensures ready { (rules : Rules) → IsReady rules program.now (M.shows memory.old).words
-        → IsReady rules program.now (M.shows memory.new).words }
+        → slice_index w.slices j ≡ budget → IsMidway w j j level1.old.host.registers (M.shows memory.old).words
+        → OnOk result (IsMidway w (j + 1) j level1.new.host.registers (M.shows memory.new).words) }
+    ensures ready { (rules : Rules) → IsReady rules level1.old.program (M.shows memory.old).words
+        → IsReady rules level1.new.program (M.shows memory.new).words }
     ensures keeps { KeepsMemory (M.shows memory.old) (M.shows memory.new) result }
 {
     if !runs {
         return Ok(());
     }
-    host.slice_of(program, memory, budget)
+    level1.slice(memory, budget)
 }
 
 /// A run of a module of level 2, where it runs at this tick (docs/CONCEPT.md, "Level 2").
@@ -133,33 +130,31 @@ fn scheduled_flip(fault: Option<&Fault>, tick: u16) -> Option<(u8, u16)>
 #[inline(always)]
 fn turn<M: Guarded>(
     level2: &Level2,
-    program: &Program,
     fault: Option<&Fault>,
     task: &Task,
     number: u8,
-    host: &mut Host,
+    level1: &mut Level1,
     memory: &mut M,
 ) -> Result<Step, NoMemory>
     requires number { number < 8 }
     requires fault { IsNoneOrValid (option_copied fault) }
     requires lookup { IsLookup level2.now.rules task.now.lookup }
-    requires ready { IsReady level2.now.rules program.now (M.shows memory.old).words }
+    requires ready { IsReady level2.now.rules level1.old.program (M.shows memory.old).words }
     ensures midway { (w : Work)
         → IsDue level2.now (effects (option_copied fault.entry) task.now.tick) task.now w
-        → IsMidway w number number host.old.registers (M.shows memory.old).words
-        → OnOk result (IsMidway w (number + 1) (number + 1) host.new.registers (M.shows memory.new).words) }
+        → IsMidway w number number level1.old.host.registers (M.shows memory.old).words
+        → OnOk result (IsMidway w (number + 1) (number + 1) level1.new.host.registers (M.shows memory.new).words) }
     ensures step { (w : Work)
         → IsDue level2.now (effects (option_copied fault.entry) task.now.tick) task.now w
-        → IsMidway w number number host.old.registers (M.shows memory.old).words
+        → IsMidway w number number level1.old.host.registers (M.shows memory.old).words
         → IfOk result (λ step. step ≡ step_at w.doing number w.words) }
-    ensures ready { OnOk result (IsReady level2.now.rules program.now (M.shows memory.new).words) }
+    ensures ready { OnOk result (IsReady level2.now.rules level1.new.program (M.shows memory.new).words) }
     ensures keeps { KeepsMemory (M.shows memory.old) (M.shows memory.new) result }
 {
     let budget = task.slices.budget_of(number);
     slice(
         level1_runs(fault, u32::from(task.tick)),
-        program,
-        host,
+        level1,
         memory,
         budget,
     )?;
@@ -175,30 +170,29 @@ fn turn<M: Guarded>(
 #[tactic(auto, unfolding(eg_fault::specs::Faults::IsNoneOrValid))]
 pub(crate) fn run_levels<M: Guarded>(
     level2: &Level2,
-    program: &Program,
     fault: Option<&Fault>,
     task: &Task,
-    host: &mut Host,
+    level1: &mut Level1,
     memory: &mut M,
 ) -> Result<Step, NoMemory>
     requires fault { IsNoneOrValid (option_copied fault) }
     requires lookup { IsLookup level2.now.rules task.now.lookup }
-    requires ready { IsReady level2.now.rules program.now (M.shows memory.old).words }
+    requires ready { IsReady level2.now.rules level1.old.program (M.shows memory.old).words }
     ensures midway { (w : Work)
         → IsDue level2.now (effects (option_copied fault.entry) task.now.tick) task.now w
-        → IsMidway w 0 0 host.old.registers (M.shows memory.old).words
-        → OnOk result (IsMidway w 9 8 host.new.registers (M.shows memory.new).words) }
+        → IsMidway w 0 0 level1.old.host.registers (M.shows memory.old).words
+        → OnOk result (IsMidway w 9 8 level1.new.host.registers (M.shows memory.new).words) }
     ensures step { (w : Work)
         → IsDue level2.now (effects (option_copied fault.entry) task.now.tick) task.now w
-        → IsMidway w 0 0 host.old.registers (M.shows memory.old).words
+        → IsMidway w 0 0 level1.old.host.registers (M.shows memory.old).words
         → IfOk result (λ step. step ≡ tick_step w.doing w.words) }
     ensures nine { OnOk result (length task.now.slices ≡ 9) }
-    ensures ready { OnOk result (IsReady level2.now.rules program.now (M.shows memory.new).words) }
+    ensures ready { OnOk result (IsReady level2.now.rules level1.new.program (M.shows memory.new).words) }
     ensures keeps { KeepsMemory (M.shows memory.old) (M.shows memory.new) result }
 {
     match fault_of_levels(fault, u32::from(task.tick)) {
-        None => run_turns::<M, false>(level2, program, None, task, host, memory),
-        some => run_turns::<M, true>(level2, program, some, task, host, memory),
+        None => run_turns::<M, false>(level2, None, task, level1, memory),
+        some => run_turns::<M, true>(level2, some, task, level1, memory),
     }
 }
 
@@ -206,51 +200,49 @@ pub(crate) fn run_levels<M: Guarded>(
 /// turns are written out, so that each is compiled for its own number.
 fn run_turns<M: Guarded, const FAULTY: bool>(
     level2: &Level2,
-    program: &Program,
     fault: Option<&Fault>,
     task: &Task,
-    host: &mut Host,
+    level1: &mut Level1,
     memory: &mut M,
 ) -> Result<Step, NoMemory>
     requires fault { IsNoneOrValid (option_copied fault) }
     requires quiet { IsFalse FAULTY → option_copied fault ≡ None }
     requires lookup { IsLookup level2.now.rules task.now.lookup }
-    requires ready { IsReady level2.now.rules program.now (M.shows memory.old).words }
+    requires ready { IsReady level2.now.rules level1.old.program (M.shows memory.old).words }
     ensures midway { (w : Work)
         → IsDue level2.now (effects (option_copied fault.entry) task.now.tick) task.now w
-        → IsMidway w 0 0 host.old.registers (M.shows memory.old).words
-        → OnOk result (IsMidway w 9 8 host.new.registers (M.shows memory.new).words) }
+        → IsMidway w 0 0 level1.old.host.registers (M.shows memory.old).words
+        → OnOk result (IsMidway w 9 8 level1.new.host.registers (M.shows memory.new).words) }
     ensures step { (w : Work)
         → IsDue level2.now (effects (option_copied fault.entry) task.now.tick) task.now w
-        → IsMidway w 0 0 host.old.registers (M.shows memory.old).words
+        → IsMidway w 0 0 level1.old.host.registers (M.shows memory.old).words
         → IfOk result (λ step. step ≡ tick_step w.doing w.words) }
     ensures nine { OnOk result (length task.now.slices ≡ 9) }
-    ensures ready { OnOk result (IsReady level2.now.rules program.now (M.shows memory.new).words) }
+    ensures ready { OnOk result (IsReady level2.now.rules level1.new.program (M.shows memory.new).words) }
     ensures keeps { KeepsMemory (M.shows memory.old) (M.shows memory.new) result }
 {
     let fault = acting::<FAULTY>(fault);
     let whole = quiet();
-    let step = turn(level2, program, fault, task, 0, host, memory)?;
+    let step = turn(level2, fault, task, 0, level1, memory)?;
     let whole = joined(&whole, &step);
-    let step = turn(level2, program, fault, task, 1, host, memory)?;
+    let step = turn(level2, fault, task, 1, level1, memory)?;
     let whole = joined(&whole, &step);
-    let step = turn(level2, program, fault, task, 2, host, memory)?;
+    let step = turn(level2, fault, task, 2, level1, memory)?;
     let whole = joined(&whole, &step);
-    let step = turn(level2, program, fault, task, 3, host, memory)?;
+    let step = turn(level2, fault, task, 3, level1, memory)?;
     let whole = joined(&whole, &step);
-    let step = turn(level2, program, fault, task, 4, host, memory)?;
+    let step = turn(level2, fault, task, 4, level1, memory)?;
     let whole = joined(&whole, &step);
-    let step = turn(level2, program, fault, task, 5, host, memory)?;
+    let step = turn(level2, fault, task, 5, level1, memory)?;
     let whole = joined(&whole, &step);
-    let step = turn(level2, program, fault, task, 6, host, memory)?;
+    let step = turn(level2, fault, task, 6, level1, memory)?;
     let whole = joined(&whole, &step);
-    let step = turn(level2, program, fault, task, 7, host, memory)?;
+    let step = turn(level2, fault, task, 7, level1, memory)?;
     let whole = joined(&whole, &step);
     let last = task.slices.budget_of(8);
     slice(
         level1_runs(fault, u32::from(task.tick)),
-        program,
-        host,
+        level1,
         memory,
         last,
     )?;

@@ -3,6 +3,7 @@ ghost use Rattle.std.specs.Prelude.{◌≡◌, ℕ, List, OnOk, IfOk};
 ghost use Rattle.std.specs.Option.{option_copied};
 ghost use Rattle.eg_guard.specs.Memory.{KeepsMemory};
 ghost use Rattle.eg_word.specs.Program.{IsProgramOf};
+ghost use Rattle.eg_host.specs.Slices.{IsSlice};
 ghost use Rattle.eg_level2.specs.Inputs.{IsLookup};
 ghost use Rattle.eg_model.specs.History.{Setting, Entry};
 ghost use Rattle.eg_fault.specs.Faults.{IsNoneOrValid};
@@ -32,30 +33,49 @@ pub(crate) struct Task {
     pub(crate) slices: Slices,
 }
 
+/// Level 1 as a controller keeps it: its machine, and the program of its code (docs/CONCEPT.md, "Level 1").
+#[derive(Drop)]
+pub(crate) struct Level1 {
+    pub(crate) host: Host,
+    pub(crate) program: Program,
+}
+
+impl Level1 {
+    /// A slice of it. Machine and program stand together, so that a slice is handed one pointer for both.
+    #[inline(never)]
+    pub(crate) fn slice<M: Guarded>(&mut self, memory: &mut M, budget: u16) -> Result<(), NoMemory>
+        requires { IsProgramOf (M.shows memory.old).words self.old.program }
+        ensures slice { IsSlice budget self.old.host.registers self.new.host.registers
+            (M.shows memory.old) (M.shows memory.new) result }
+        ensures program { self.new.program ≡ self.old.program }
+    {
+        self.host.slice_of(&self.program, memory, budget)
+    }
+}
+
 /// Writes the readings to the input ports and the number of the question to the link; then slices of level 1
 /// and modules of level 2 run in turn (docs/CONCEPT.md, "A run, tick by tick").
 pub(crate) fn work<M: Guarded>(
     level2: &Level2,
-    program: &Program,
     fault: Option<&Fault>,
     task: &Task,
-    host: &mut Host,
+    level1: &mut Level1,
     memory: &mut M,
 ) -> Result<Step, NoMemory>
-    requires ready { IsReady level2.now.rules program.now (M.shows memory.old).words }
+    requires ready { IsReady level2.now.rules level1.old.program (M.shows memory.old).words }
     requires fault { IsNoneOrValid (option_copied fault) }
     requires lookup { IsLookup level2.now.rules task.now.lookup }
     ensures served { (s : Setting) (e : Entry) (h : List Entry)
-        → Serves s e h level2.now (option_copied fault.entry) task.now host.old.registers
+        → Serves s e h level2.now (option_copied fault.entry) task.now level1.old.host.registers
         (M.shows memory.old).words
-        → OnOk result (Served s e h host.new.registers (M.shows memory.new).words) }
+        → OnOk result (Served s e h level1.new.host.registers (M.shows memory.new).words) }
     ensures step { (s : Setting) (e : Entry) (h : List Entry)
-        → Serves s e h level2.now (option_copied fault.entry) task.now host.old.registers
+        → Serves s e h level2.now (option_copied fault.entry) task.now level1.old.host.registers
         (M.shows memory.old).words
         → IfOk result (IsStep s e h) }
-    ensures program { OnOk result (IsProgramOf (M.shows memory.new).words program.now) }
+    ensures program { OnOk result (IsProgramOf (M.shows memory.new).words level1.new.program) }
     ensures keeps { KeepsMemory (M.shows memory.old) (M.shows memory.new) result }
 {
     show(memory, &task.readings, task.asked)?;
-    run_levels(level2, program, fault, task, host, memory)
+    run_levels(level2, fault, task, level1, memory)
 }
