@@ -56,7 +56,7 @@ pub struct TestRow {
 }
 
 impl TestRow {
-    /// An equal row.
+    /// An equal row. It takes no memory.
     pub fn copy(&self) -> TestRow
         ensures { result ≡ self.now }
     {

@@ -14,6 +14,6 @@ pub use flat_memory::FlatMemory;
 pub use guarded::{Guarded, Refused, StoreRefusal};
 pub use regions::{
     Allowed, DATA, IGNITION, IN_PORTS, LAST_IN_PORT, LAST_PROTECTED, LAST_RESULT, LINK, PROTECTED,
-    RESULTS, Region, THROTTLE, WORDS, Who, access, region_of,
+    RESULTS, Region, THROTTLE, WORDS, Who, access, map_in_numbers, region_of,
 };
 pub use stingy_memory::StingyMemory;

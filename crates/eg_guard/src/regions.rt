@@ -1,5 +1,5 @@
 // The memory map: which words there are, and who may load and store them.
-ghost use Rattle.std.specs.Prelude.{◌≡◌, ◌≤◌};
+ghost use Rattle.std.specs.Prelude.{◌≡◌, ◌≤◌, [], ◌∷◌, map, replicate};
 ghost use Rattle.eg_guard.specs.Regions;
 
 /// How many words there are: the addresses are those below.
@@ -159,3 +159,18 @@ pub fn access(who: Who, address: u16) -> Allowed
 {
     region_of(address).allows(who)
 }
+
+/// Does nothing when it runs. Its contract is the memory map in numbers (docs/FORMATS.md, "Memory map"): the
+/// first and the last address of each region, and those next to them that have no word.
+#[tactic(auto, unfolding(crate::specs::Regions::region_of))]
+pub fn map_in_numbers()
+    ensures regions { map Regions.region_of
+        (0 ∷ 1023 ∷ 1024 ∷ 2047 ∷ 2048 ∷ 2057 ∷ 2064 ∷ 2065 ∷ 2080 ∷ 2084 ∷ 2096 ∷ 2122 ∷ 2128 ∷ [])
+        ≡ Region.Code ∷ Region.Code ∷ Region.Data ∷ Region.Data ∷ Region.InPorts ∷ Region.InPorts
+        ∷ Region.OutPorts ∷ Region.OutPorts ∷ Region.Results ∷ Region.Results ∷ Region.Protected
+        ∷ Region.Protected ∷ Region.Link ∷ [] }
+    ensures gaps { map Regions.region_of
+        (2058 ∷ 2063 ∷ 2066 ∷ 2079 ∷ 2085 ∷ 2095 ∷ 2123 ∷ 2127 ∷ 2129 ∷ 4096 ∷ [])
+        ≡ replicate 10 Region.None }
+    ensures words { WORDS ≡ 4096 }
+{}

@@ -1,6 +1,6 @@
 -- Ticks of level 2 that were worked by hand, against the definitions.
 use Rattle.std.proofs.Common.{◌≡◌, ℕ, Bool, true, false, List, [], ◌∷◌, ◌++◌, refl}
-use Rattle.std.specs.Prelude.{fold, Some, None}
+use Rattle.std.specs.Prelude.{fold, map, Some, None}
 use Rattle.eg_num.specs.Interpolation.{value_at}
 use Rattle.eg_num.specs.Counting.{fed}
 use Rattle.eg_torque.specs.Permit.{permitted}
@@ -13,7 +13,7 @@ use Rattle.eg_answer.specs.Answers.{pedal_result, permitted_result, estimate_res
 use Rattle.eg_answer.specs.Token.{next_token_of}
 use Rattle.eg_answer.specs.declared.rules.Rules.{Rules}
 use Rattle.eg_answer.specs.declared.questions.Question.{Question}
-use Rattle.eg_level2.specs.Words.{Words, is_set, start}
+use Rattle.eg_level2.specs.Words.{Words, is_set, start, place, named}
 use Rattle.eg_level2.specs.Inputs.{Inputs, row_of}
 use Rattle.eg_level2.specs.Modules.{marked, check_step, written, signed, pedal_step, permitted_step, actual_step, excess_step, pairs_step, pedal_bit, plate_bit, load_bit, speed_bit, torque_bit, counted, is_found, debounced, limits, trips, debounce_step, closed_flow, answers_now, number_of, answer_of, react_step, module_step, answer_after, given_up, found_by, order_after, no_watches, mirror_alone}
 
@@ -204,3 +204,32 @@ flip_found = refl
 flip_later : run (inputs idle 0 false 0) (1 ∷ 2 ∷ 3 ∷ 4 ∷ 5 ∷ 6 ∷ 7 ∷ []) (given_up 0) ≡ record gave_up { token = 0; sign = 11152 }
 unfolding run given_up
 flip_later = refl
+
+-- ---- where the words stand, in numbers ----
+
+-- the first and the last signal, the first and the last of the other words, and the first and the last complement
+places : map place (0 ∷ 4 ∷ 5 ∷ 15 ∷ 16 ∷ 31 ∷ []) ≡ 2080 ∷ 2084 ∷ 2096 ∷ 2106 ∷ 2107 ∷ 2122 ∷ []
+unfolding place
+places = refl
+
+-- the words by their names
+names : named (λ k. k) ≡ record {
+  pedal = 0;
+  permitted = 1;
+  actual = 2;
+  excess = 3;
+  pairs = 4;
+  pedal_counter = 5;
+  plate_counter = 6;
+  load_counter = 7;
+  speed_counter = 8;
+  torque_counter = 9;
+  limp = 10;
+  trip = 11;
+  token = 12;
+  flow = 13;
+  last = 14;
+  sign = 15;
+}
+unfolding named
+names = refl

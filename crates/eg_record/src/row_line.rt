@@ -25,8 +25,8 @@ pub fn record_header() -> &'static str
 /// with a comma behind each.
 const ROOM: usize = 192;
 
-/// Appends the line of a row, with its LF, to a text (docs/FORMATS.md, "The record"). Where memory runs out a
-/// part of the line may have been appended.
+/// Appends the line of a row, with its LF, to a text (docs/FORMATS.md, "The record"). Where memory runs out
+/// nothing is promised of the text any more.
 pub fn push_row(text: &mut Vec<u8>, row: &Row) -> Result<(), NoMemory>
     ensures line { OnOk result (text.new.items ≡ text.old.items ++ row_line row.now) }
     ensures is_text { OnOk result (IsUtf8 (row_line row.now)) }

@@ -3,6 +3,7 @@ ghost use Rattle.std.specs.Prelude.{◌≡◌, ℕ, ◌+◌, ◌<◌, ◌==◌, 
 ghost use Rattle.std.specs.Option.{option_copied};
 ghost use Rattle.eg_guard.specs.Memory.{KeepsMemory};
 ghost use Rattle.eg_answer.specs.declared.rules.Rules.{Rules};
+ghost use Rattle.eg_answer.specs.declared.modules.TheConstants.{MODULES};
 ghost use Rattle.eg_word.specs.declared.instruction.Instruction.{Instruction};
 ghost use Rattle.eg_word.specs.declared.registers.Registers.{Registers};
 ghost use Rattle.eg_word.specs.Program.{IsProgramOf};
@@ -52,7 +53,7 @@ fn module<M: Guarded>(
     number: u8,
     memory: &mut M,
 ) -> Result<Step, NoMemory>
-    requires number { number < 8 }
+    requires number { number < MODULES }
     requires lookup { IsLookup level2.now.rules task.now.lookup }
     requires mirrored { AreMirrored (M.shows memory.old).words }
     requires within { AreWithin level2.now.rules (words_of (M.shows memory.old).words) }
@@ -136,7 +137,7 @@ fn turn<M: Guarded>(
     level1: &mut Level1,
     memory: &mut M,
 ) -> Result<Step, NoMemory>
-    requires number { number < 8 }
+    requires number { number < MODULES }
     requires fault { IsNoneOrValid (option_copied fault) }
     requires lookup { IsLookup level2.now.rules task.now.lookup }
     requires ready { IsReady level2.now.rules level1.old.program (M.shows memory.old).words }
