@@ -32,7 +32,8 @@ fn slice<M: Guarded>(
 ) -> Result<(), NoMemory>
     requires { IsProgramOf (M.shows memory.old).words level1.old.program }
     ensures midway { (w : Work) (j : ℕ) → w.level1 ≡ runs → j < length w.slices
-        → slice_index w.slices j ≡ budget → IsMidway w j j level1.old.host.registers (M.shows memory.old).words
+        → slice_index w.slices j ≡ budget
+        → IsMidway w j j level1.old.host.registers (M.shows memory.old).words
         → OnOk result (IsMidway w (j + 1) j level1.new.host.registers (M.shows memory.new).words) }
     ensures ready { (rules : Rules) → IsReady rules level1.old.program (M.shows memory.old).words
         → IsReady rules level1.new.program (M.shows memory.new).words }
@@ -144,7 +145,8 @@ fn turn<M: Guarded>(
     ensures midway { (w : Work)
         → IsDue level2.now (effects (option_copied fault.entry) task.now.tick) task.now w
         → IsMidway w number number level1.old.host.registers (M.shows memory.old).words
-        → OnOk result (IsMidway w (number + 1) (number + 1) level1.new.host.registers (M.shows memory.new).words) }
+        → OnOk result (IsMidway w (number + 1) (number + 1) level1.new.host.registers
+        (M.shows memory.new).words) }
     ensures step { (w : Work)
         → IsDue level2.now (effects (option_copied fault.entry) task.now.tick) task.now w
         → IsMidway w number number level1.old.host.registers (M.shows memory.old).words
