@@ -1,10 +1,11 @@
 -- A key without a fault holds what it may, and a key that holds what it may has no fault.
-use Rattle.std.proofs.Common.{◌≡◌, ℕ, suc, ℤ, pos, negsuc, ◌≤◌, nat_le, Bool, true, false, ◌&&◌, length, List, [], ◌∷◌, ◌++◌, All, Option, Some, None, IsSome, option_map, if◌then◌else◌, refl, sym, ap, ap₂, ◌∙◌, arith}
+use Rattle.std.proofs.Common.{◌≡◌, ℕ, suc, ℤ, pos, negsuc, ◌≤◌, nat_le, true, ◌&&◌, length, List, [], ◌∷◌, ◌++◌, All, Option, Some, None, IsSome, option_map, if◌then◌else◌, refl, sym, ap, ap₂, ◌∙◌, arith}
 use Rattle.std.proofs.lemmas.Bool.{and_parts}
 use Rattle.std.proofs.lemmas.List.Elements.{All-nil, All-cons, All-head, All-tail}
 use Rattle.toml.specs.Data.{Data, string, integer, float, boolean, datetime, array, table, Members, Items, no_items, item, as_integer, as_array}
 use Rattle.eg_toml.specs.Values.{natural_in, number_in, ◌>>=◌}
 use Rattle.eg_toml.specs.Arrays.{count, append_read, all_read, all_numbers, items_in, numbers_in, rows_in}
+use Rattle.eg_toml.proofs.RefusalLemmas.{if-none}
 use Rattle.eg_toml.proofs.RangeLemmas.{bind-some, if-some, number_in-within, numbers_in-within}
 use Rattle.eg_cal.specs.declared.key.CalKey.{CalKey}
 use Rattle.eg_cal.specs.declared.key.CalFault.{CalFault}
@@ -138,11 +139,6 @@ row_items-count (row ∷ rows) = ap suc (row_items-count rows)
 unless_some-none : {X : Type 0} (f : CalFault) (o : Option X) → unless_some f o ≡ None → (x : X) × (o ≡ Some x)
 unless_some-none f None e = absurd (cc)
 unless_some-none f (Some x) e = (x, refl)
-
--- a test that gives no fault holds
-pub if-none : (b : Bool) (f : CalFault) → (if b then None else Some f) ≡ None → b ≡ true
-if-none true f e = refl
-if-none false f e = absurd (cc)
 
 axis_fault-none : (key : CalKey) (o : Option (List ℕ)) → axis_fault key o ≡ None → (points : List ℕ) × ((o ≡ Some points) × (is_rising points ≡ true))
 axis_fault-none key None e = absurd (cc)

@@ -9,32 +9,16 @@ use Rattle.eg_torque.specs.Permit.{DoesNotFall}
 use Rattle.eg_answer.specs.Times.{TimeParts}
 use Rattle.eg_cal.specs.declared.key.CalKey.{CalKey}
 use Rattle.eg_cal.specs.declared.key.CalKey.TheVariants.{Version, PermitPedal, PermitSpeed, PermitTable, PermitThreshold, TorqueKt, TorqueUp, TorqueDown, TorqueLimit, PairsPedal, PairsPlate, PairsLoad, PairsSpeed, PairsUp, PairsDown, PairsLimit, PlantSlew, PlantFill, PlantAngle, PlantCharge, AnswersPeriod, AnswersFirst, AnswersLast, AnswersSend, AnswersUp, AnswersDown, AnswersLimit, Question, Unknown}
-use Rattle.eg_cal.specs.declared.key.CalFault.{CalFault}
 use Rattle.eg_cal.specs.declared.key.CalFault.TheVariants as fault
 use Rattle.eg_cal.specs.Keys.{all_keys, content_of}
-use Rattle.eg_toml.specs.Refusals.{or_else, unless}
+use Rattle.eg_toml.specs.Refusals.{or_else}
+use Rattle.eg_toml.proofs.RefusalLemmas.{or-none, none-or, map-none, if-none, unless-ok}
 use Rattle.eg_cal.specs.Contents.{questions_of}
 use Rattle.eg_cal.specs.Checks.{fault_at, first_fault, keys_fault}
 use Rattle.eg_cal.specs.Calibration.{falls, falling_row, is_window, rising_fault, window_fault, answer_fault, parts_fault, unknown_fault, refusal_of, permit_of, times_of, rules_of, parts_of}
 use Rattle.eg_cal.specs.Rules.{IsWindow, KeepsRules, AcceptedLaw}
-use Rattle.eg_cal.proofs.HeldLemmas.{if-none, content-held, held-content}
+use Rattle.eg_cal.proofs.HeldLemmas.{content-held, held-content}
 use Rattle.eg_cal.proofs.TogetherLemmas.{none-first_from, falling_row-none, wrong_answer-none, answered-none}
-
--- no fault of two is no fault of either
-or-none : (a b : Option CalFault) → or_else a b ≡ None → (a ≡ None) × (b ≡ None)
-or-none None b e = (refl, e)
-or-none (Some f) b e = absurd (cc)
-
-none-or : (a b : Option CalFault) → a ≡ None → b ≡ None → or_else a b ≡ None
-none-or a b e f = rw (e, f) refl
-
-unless-ok : {X : Type 0} (f : Option CalFault) (x y : X) → unless f x ≡ Ok y → (f ≡ None) × (y ≡ x)
-unless-ok None x y e = (refl, cc)
-unless-ok (Some f) x y e = absurd (cc)
-
-map-none : (f : ℕ → CalFault) (o : Option ℕ) → option_map f o ≡ None → o ≡ None
-map-none f None e = refl
-map-none f (Some i) e = absurd (cc)
 
 -- ---- keys
 

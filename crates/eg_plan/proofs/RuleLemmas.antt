@@ -18,7 +18,8 @@ use Rattle.eg_plan.specs.declared.key.CampaignFault.TheVariants.{Memory, Key, Na
 use Rattle.eg_plan.specs.declared.key.RunKey.TheVariants as key
 use Rattle.eg_plan.specs.declared.run.RunPlan.{RunPlan}
 use Rattle.eg_plan.specs.Keys.{KeyRule, run_keys, name, onset}
-use Rattle.eg_toml.specs.Refusals.{or_else, first_of, unless_some, unless_true, unless, IsRead, seen}
+use Rattle.eg_toml.specs.Refusals.{unless_some, unless_true, IsRead, seen}
+use Rattle.eg_toml.proofs.RefusalLemmas.{or-none, first_of-none, unless_true-none, unless-ok}
 use Rattle.eg_plan.specs.Contents.{bytes_of}
 use Rattle.eg_plan.specs.Checks.{key_refusal, keys_refusal}
 use Rattle.eg_plan.specs.Classes.{class_in, own_keys, class_of}
@@ -27,23 +28,6 @@ use Rattle.eg_plan.specs.Runs.{all_items, is_table, faults_refusal, fault_table,
 use Rattle.eg_plan.specs.Campaign.{members_in, runs_of, runs_refusal, run_items, are_runs, is_top_known, refusal_of, campaign_of}
 use Rattle.eg_plan.specs.Rules.{IsRun, AreRuns, AcceptedLaw}
 use Rattle.eg_plan.proofs.HeldLemmas.{run_name-held, file_name-held, slices-held, number-held, optional-held, shift-held, words-held, ticks-held, truths-held}
-
--- no refusal of two is no refusal of either
-or-none : (a b : Option CampaignFault) → or_else a b ≡ None → (a ≡ None) × (b ≡ None)
-or-none None b e = (refl, e)
-or-none (Some f) b e = absurd (cc)
-
-unless-ok : {X : Type 0} (f : Option CampaignFault) (x y : X) → unless f x ≡ Ok y → (f ≡ None) × (y ≡ x)
-unless-ok None x y e = (refl, cc)
-unless-ok (Some f) x y e = absurd (cc)
-
-true-of : (f : CampaignFault) (b : Bool) → unless_true f b ≡ None → b ≡ true
-true-of f true e = refl
-true-of f false e = absurd (cc)
-
-each-none : (os : List (Option CampaignFault)) → first_of os ≡ None → AllByRecursion (λ o. o ≡ None) os
-each-none [] e = tt
-each-none (o ∷ os) e = let (here, more) = or-none o (first_of os) e in (here, each-none os more)
 
 keys-none : (n : ℕ) (ms : Members) (rules : List KeyRule) → keys_refusal n rules ms ≡ None → AllByRecursion (λ rule. key_refusal n rule ms ≡ None) rules
 unfolding keys_refusal
@@ -83,7 +67,7 @@ class-valid Lapse n ms h =
 fault-valid : (n : ℕ) (ms : Members) → fault_refusal n ms ≡ None → IsValid (fault_of ms)
 unfolding fault_refusal fault_of
 fault-valid n ms e =
-    let h = each-none (unless_some (Key n key.Class) (class_in ms) ∷ key_refusal n onset ms ∷ keys_refusal n (own_keys (class_at ms)) ms ∷ []) e in
+    let h = first_of-none (unless_some (Key n key.Class) (class_in ms) ∷ key_refusal n onset ms ∷ keys_refusal n (own_keys (class_at ms)) ms ∷ []) e in
     ((number-held 0 19999 n key.Onset ms h.1.0).1, class-valid (class_at ms) n ms (keys-none n ms (own_keys (class_at ms)) h.1.1.0))
 
 any-valid : (n : ℕ) (o : Option Members) → table_refusal n o ≡ None → IsNoneOrValid (option_map fault_of o)
@@ -106,9 +90,9 @@ not-false false e = refl
 passed : (n : ℕ) (earlier : List RunPlan) (ms : Members) → run_refusal n earlier ms ≡ None → Passed n earlier ms
 unfolding run_refusal
 passed n earlier ms e =
-    let h = each-none (keys_refusal n run_keys ms ∷ faults_refusal n ms ∷ table_refusal n (fault_table ms) ∷ unless_true (Key n key.Unknown) (is_all_known ms)
+    let h = first_of-none (keys_refusal n run_keys ms ∷ faults_refusal n ms ∷ table_refusal n (fault_table ms) ∷ unless_true (Key n key.Unknown) (is_all_known ms)
     ∷ unless_true (Name n) (not (has_name (bytes_of name ms) earlier)) ∷ []) e in
-    record { keys = keys-none n ms run_keys h.0; table = h.1.1.0; new = not-false _ (true-of (Name n) _ h.1.1.1.1.0) }
+    record { keys = keys-none n ms run_keys h.0; table = h.1.1.0; new = not-false _ (unless_true-none (Name n) _ h.1.1.1.1.0) }
 
 run-keeps : (n : ℕ) (earlier : List RunPlan) (ms : Members) → Passed n earlier ms → IsRun (run_of ms)
 run-keeps n earlier ms p = record {
@@ -173,11 +157,11 @@ file-keeps : (ms : Members) → refusal_of ms ≡ None → AreRuns (runs_of (run
 unfolding refusal_of
 file-keeps ms e =
     let ds = run_items ms in
-    let h = each-none (unless_true (Key 0 key.Run) (are_runs ds) ∷ unless_true (Key 0 key.Unknown) (is_top_known ms) ∷ unless_true Many (nat_le (count ds) 1000)
+    let h = first_of-none (unless_true (Key 0 key.Run) (are_runs ds) ∷ unless_true (Key 0 key.Unknown) (is_top_known ms) ∷ unless_true Many (nat_le (count ds) 1000)
     ∷ runs_refusal 1 [] ds ∷ []) e in
     record {
-      least = least-of _ _ (and_parts (all_items is_table ds) (nat_le 1 (count ds)) (true-of (Key 0 key.Run) _ h.0)).1 (runs_of-count ds);
-      most = most-of _ _ (true-of Many _ h.1.1.0) (runs_of-count ds);
+      least = least-of _ _ (and_parts (all_items is_table ds) (nat_le 1 (count ds)) (unless_true-none (Key 0 key.Run) _ h.0)).1 (runs_of-count ds);
+      most = most-of _ _ (unless_true-none Many _ h.1.1.0) (runs_of-count ds);
       each = runs-keep 1 [] ds h.1.1.1.0;
       names = runs-differ 1 [] ds h.1.1.1.0;
     }

@@ -2,3 +2,4 @@ pub mod ReadLemmas
 pub mod DocumentLemmas
 pub mod RangeLemmas
 pub mod RisingLemmas
+pub mod RefusalLemmas
