@@ -9,8 +9,11 @@ use Rattle.std.proofs.lemmas.List.Kept.{AllPairs-cons}
 use Rattle.std.proofs.lemmas.Slice.Eq.{bytes_eq-Decides}
 use Rattle.toml.specs.Data.{Members, Items, no_items, item}
 use Rattle.eg_toml.specs.Arrays.{count}
+use Rattle.eg_sensor.specs.declared.tracks.TheConstants.{PEDAL_1, SPEED_2, TRACKS}
+use Rattle.eg_answer.specs.declared.modules.TheConstants.{CHECK, PEDAL, PAIRS, REACT, MODULES}
 use Rattle.eg_fault.specs.Faults.{IsValid, IsValidClass}
 use Rattle.eg_fault.specs.Faults.{IsNoneOrValid}
+use Rattle.eg_fault.specs.declared.paths.TheConstants.{PATH_1, PATH_2}
 use Rattle.eg_plan.specs.declared.class_name.ClassName.{ClassName}
 use Rattle.eg_plan.specs.declared.class_name.ClassName.TheVariants.{Script, Offset, Bus, Plate, Skip, Disturb, Flip, Halt, Timing, Wild, Path1Closed, Path2Closed, PathOpen, Lapse}
 use Rattle.eg_plan.specs.declared.key.CampaignFault.{CampaignFault}
@@ -43,13 +46,13 @@ class-valid : (name : ClassName) (n : ℕ) (ms : Members) → AllByRecursion (λ
 unfolding IsValidClass
 class-valid Script n ms h =
     let values = words-held n key.Values ms h.1.0 in
-    (below _ 7 8 refl (number-held 0 7 n key.Track ms h.0).1, values.0, values.1)
-class-valid Offset n ms h = (below _ 7 8 refl (number-held 0 7 n key.Track ms h.0).1, shift-held n key.Add ms h.1.0)
+    (below _ SPEED_2 TRACKS refl (number-held PEDAL_1 SPEED_2 n key.Track ms h.0).1, values.0, values.1)
+class-valid Offset n ms h = (below _ SPEED_2 TRACKS refl (number-held PEDAL_1 SPEED_2 n key.Track ms h.0).1, shift-held n key.Add ms h.1.0)
 class-valid Bus n ms h = number-held 1 65535 n key.Mask ms h.0
 class-valid Plate n ms h = (number-held 0 1000 n key.At ms h.0).1
-class-valid Skip n ms h = below _ 7 8 refl (number-held 0 7 n key.Module ms h.0).1
+class-valid Skip n ms h = below _ REACT MODULES refl (number-held CHECK REACT n key.Module ms h.0).1
 class-valid Disturb n ms h =
-    let index = number-held 1 5 n key.Module ms h.0 in
+    let index = number-held PEDAL PAIRS n key.Module ms h.0 in
     (index.0, index.1, number-held 1 65535 n key.Mask ms h.1.0)
 class-valid Flip n ms h = (below _ 31 32 refl (number-held 0 31 n key.Word ms h.0).1, number-held 1 65535 n key.Mask ms h.1.0)
 class-valid Halt n ms h = tt
@@ -59,7 +62,7 @@ class-valid Wild n ms h =
     (questions.0, questions.1, truths-held n key.Opens ms h.1.0)
 class-valid Path1Closed n ms h = tt
 class-valid Path2Closed n ms h = tt
-class-valid PathOpen n ms h = number-held 1 2 n key.Path ms h.0
+class-valid PathOpen n ms h = number-held PATH_1 PATH_2 n key.Path ms h.0
 class-valid Lapse n ms h =
     let after = ticks-held n key.After ms h.0 in
     (after.0, after.1, after.2, optional-held 20000 n key.Every ms h.1.0)

@@ -1,5 +1,8 @@
 -- The keys of a campaign file, and the table of what each may hold.
 use Rattle.std.specs.Prelude.{ℕ, List, [], ◌∷◌, codes}
+use Rattle.eg_sensor.specs.declared.tracks.TheConstants.{PEDAL_1, SPEED_2}
+use Rattle.eg_answer.specs.declared.modules.TheConstants.{CHECK, PEDAL, PAIRS, REACT}
+use Rattle.eg_fault.specs.declared.paths.TheConstants.{PATH_1, PATH_2}
 use Rattle.eg_plan.specs.declared.key.RunKey.{RunKey}
 use Rattle.eg_plan.specs.declared.key.RunKey.TheVariants.{Run, Name, Trace, Image, Slices, Faults, Class, Onset, Track, Values, Add, Mask, At, Module, Word, Offset, Questions, Opens, Path, After, Every, Unknown}
 
@@ -74,7 +77,7 @@ abbrev pub onset : KeyRule
 onset = Onset holds number 0 19999
 
 abbrev pub track : KeyRule
-track = Track holds number 0 7
+track = Track holds number PEDAL_1 SPEED_2
 
 abbrev pub values : KeyRule
 values = Values holds words
@@ -90,11 +93,11 @@ at = At holds number 0 1000
 
 -- any module of level 2
 abbrev pub any_module : KeyRule
-any_module = Module holds number 0 7
+any_module = Module holds number CHECK REACT
 
--- one of the modules of level 2 that give a signal, 1 to 5
+-- one of the modules of level 2 that give a signal
 abbrev pub signal_module : KeyRule
-signal_module = Module holds number 1 5
+signal_module = Module holds number PEDAL PAIRS
 
 abbrev pub word : KeyRule
 word = Word holds number 0 31
@@ -109,7 +112,7 @@ abbrev pub opens : KeyRule
 opens = Opens holds truths
 
 abbrev pub path : KeyRule
-path = Path holds number 1 2
+path = Path holds number PATH_1 PATH_2
 
 abbrev pub after : KeyRule
 after = After holds ticks

@@ -33,6 +33,21 @@ pub(crate) fn number(
     number_at(table, key.text(), low, high).ok_or(CampaignFault::Key { run, key })
 }
 
+/// The number of a track, a module, a word or a path under a key, from `low` to `high`.
+pub(crate) fn index(
+    table: &Table,
+    run: u32,
+    key: RunKey,
+    low: u8,
+    high: u8,
+) -> Result<u8, CampaignFault>
+    ensures { let read = number_at low high (text_of key) (table_view table.now) in
+        Checks (unless_some (Key run key) read) (unwrap_or read 0) result }
+{
+    let index = number(table, run, key, u16::from(low), u16::from(high))?;
+    Ok(index as u8)
+}
+
 /// The number under a key, from 0 to `high`, or 0 where the key is absent.
 pub(crate) fn optional(
     table: &Table,

@@ -7,9 +7,11 @@ ghost use Rattle.eg_plan.specs.Classes.{own_keys};
 ghost use Rattle.eg_plan.specs.Faults.{TellsClass, fault_refusal, fault_of, names_with, has_own_names};
 
 use crate::class_name::{ClassName, class_in};
-use crate::contents::{number, optional, shift, ticks, truths, words};
+use crate::contents::{index, number, optional, shift, ticks, truths, words};
 use crate::{CampaignFault, RunKey};
-use eg_fault::{Class, Fault};
+use eg_answer::{CHECK, PAIRS, PEDAL, REACT};
+use eg_fault::{Class, Fault, PATH_1, PATH_2};
+use eg_sensor::{PEDAL_1, SPEED_2};
 use eg_toml::has_only_names;
 use toml::Table;
 
@@ -58,24 +60,18 @@ fn class_with(table: &Table, run: u32, name: ClassName) -> Result<Class, Campaig
 fn script(table: &Table, run: u32) -> Result<Class, CampaignFault>
     ensures { TellsClass run ClassName.Script (table_view table.now) result }
 {
-    let track = number(table, run, RunKey::Track, 0, 7)?;
+    let track = index(table, run, RunKey::Track, PEDAL_1, SPEED_2)?;
     let values = words(table, run, RunKey::Values)?;
-    Ok(Class::Script {
-        track: track as u8,
-        values,
-    })
+    Ok(Class::Script { track, values })
 }
 
 #[tactic(auto, unfolding(crate::specs::Checks::keys_refusal))]
 fn offset(table: &Table, run: u32) -> Result<Class, CampaignFault>
     ensures { TellsClass run ClassName.Offset (table_view table.now) result }
 {
-    let track = number(table, run, RunKey::Track, 0, 7)?;
+    let track = index(table, run, RunKey::Track, PEDAL_1, SPEED_2)?;
     let add = shift(table, run, RunKey::Add)?;
-    Ok(Class::Offset {
-        track: track as u8,
-        add,
-    })
+    Ok(Class::Offset { track, add })
 }
 
 #[tactic(auto, unfolding(crate::specs::Checks::keys_refusal))]
@@ -98,34 +94,26 @@ fn plate(table: &Table, run: u32) -> Result<Class, CampaignFault>
 fn skip(table: &Table, run: u32) -> Result<Class, CampaignFault>
     ensures { TellsClass run ClassName.Skip (table_view table.now) result }
 {
-    let module = number(table, run, RunKey::Module, 0, 7)?;
-    Ok(Class::Skip {
-        module: module as u8,
-    })
+    let module = index(table, run, RunKey::Module, CHECK, REACT)?;
+    Ok(Class::Skip { module })
 }
 
 #[tactic(auto, unfolding(crate::specs::Checks::keys_refusal))]
 fn disturb(table: &Table, run: u32) -> Result<Class, CampaignFault>
     ensures { TellsClass run ClassName.Disturb (table_view table.now) result }
 {
-    let module = number(table, run, RunKey::Module, 1, 5)?;
+    let module = index(table, run, RunKey::Module, PEDAL, PAIRS)?;
     let mask = number(table, run, RunKey::Mask, 1, u16::MAX)?;
-    Ok(Class::Disturb {
-        module: module as u8,
-        mask,
-    })
+    Ok(Class::Disturb { module, mask })
 }
 
 #[tactic(auto, unfolding(crate::specs::Checks::keys_refusal))]
 fn flip(table: &Table, run: u32) -> Result<Class, CampaignFault>
     ensures { TellsClass run ClassName.Flip (table_view table.now) result }
 {
-    let word = number(table, run, RunKey::Word, 0, 31)?;
+    let word = index(table, run, RunKey::Word, 0, 31)?;
     let mask = number(table, run, RunKey::Mask, 1, u16::MAX)?;
-    Ok(Class::Flip {
-        word: word as u8,
-        mask,
-    })
+    Ok(Class::Flip { word, mask })
 }
 
 #[tactic(auto, unfolding(crate::specs::Checks::keys_refusal))]
@@ -149,8 +137,8 @@ fn wild(table: &Table, run: u32) -> Result<Class, CampaignFault>
 fn path_open(table: &Table, run: u32) -> Result<Class, CampaignFault>
     ensures { TellsClass run ClassName.PathOpen (table_view table.now) result }
 {
-    let path = number(table, run, RunKey::Path, 1, 2)?;
-    Ok(Class::PathOpen { path: path as u8 })
+    let path = index(table, run, RunKey::Path, PATH_1, PATH_2)?;
+    Ok(Class::PathOpen { path })
 }
 
 #[tactic(auto, unfolding(crate::specs::Checks::keys_refusal))]
