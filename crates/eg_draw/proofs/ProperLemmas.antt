@@ -5,9 +5,12 @@ use Rattle.std.specs.List.Sorted.{IsStrictlyIncreasing}
 use Rattle.std.proofs.lemmas.List.{length-append, length-replicate, length-take-le, get_or-take}
 use Rattle.std.proofs.lemmas.List.Elements.{All-nil, All-cons, All-append, All-replicate, All-map, All-take, All-from_get_or}
 use Rattle.eg_num.specs.Drive.{IsDrive}
+use Rattle.eg_sensor.specs.declared.tracks.TheConstants.{TRACKS}
+use Rattle.eg_answer.specs.declared.modules.TheConstants.{PAIRS, MODULES}
 use Rattle.eg_fault.specs.Faults.{AreFew, IsMask, IsValid, IsValidClass}
 use Rattle.eg_fault.specs.declared.class.Class.TheVariants.{Script, Offset, Bus, Plate, Skip, Disturb, Flip, Halt, Timing, Wild, Path1Closed, Path2Closed, PathOpen, Lapse}
 use Rattle.eg_fault.specs.declared.class.Fault.{Fault}
+use Rattle.eg_fault.specs.declared.paths.TheConstants.{PATH_2}
 use Rattle.eg_draw.specs.declared.runs.DrawnRun.{DrawnRun}
 use Rattle.eg_draw.specs.Draws.{next, draw, after, draws}
 use Rattle.eg_word.specs.declared.images.TheConstants.{IDLE, FULL}
@@ -118,11 +121,11 @@ values-words x =
 ticks-early : All (λ k. k ≤ 19999) (0 ∷ 1 ∷ 2 ∷ 3 ∷ 4 ∷ 5 ∷ 6 ∷ 7 ∷ [])
 ticks-early = search (arith, All-cons, All-nil) depth 20
 
-script-valid : (x : ℕ) → IsValidClass (Script (draw x % 8) (four_values (next x)))
+script-valid : (x : ℕ) → IsValidClass (Script (draw x % TRACKS) (four_values (next x)))
 unfolding IsValidClass
 script-valid x = (omega arith, values-few (next x), values-words (next x))
 
-offset-valid : (x : ℕ) → IsValidClass (Offset (draw x % 8) (pos (one_of 500 (next x))))
+offset-valid : (x : ℕ) → IsValidClass (Offset (draw x % TRACKS) (pos (one_of 500 (next x))))
 unfolding IsValidClass
 offset-valid x =
     let most : one_of 500 (next x) ≤ 500 = one_of-most 500 (next x) (lit< tt) in
@@ -136,13 +139,13 @@ plate-valid : (x : ℕ) → IsValidClass (Plate (draw x % 1001))
 unfolding IsValidClass
 plate-valid x = omega arith
 
-skip-valid : (x : ℕ) → IsValidClass (Skip (draw x % 8))
+skip-valid : (x : ℕ) → IsValidClass (Skip (draw x % MODULES))
 unfolding IsValidClass
 skip-valid x = omega arith
 
-disturb-valid : (x : ℕ) → IsValidClass (Disturb (one_of 5 x) (drawn_mask (next x)))
+disturb-valid : (x : ℕ) → IsValidClass (Disturb (one_of PAIRS x) (drawn_mask (next x)))
 unfolding IsValidClass
-disturb-valid x = (one_of-least 5 x, one_of-most 5 x (lit< tt), is_mask (next x))
+disturb-valid x = (one_of-least PAIRS x, one_of-most PAIRS x (lit< tt), is_mask (next x))
 
 flip-valid : (x : ℕ) → IsValidClass (Flip (draw x % 32) (drawn_mask (next x)))
 unfolding IsValidClass
@@ -156,9 +159,9 @@ wild-valid : (x : ℕ) → IsValidClass (Wild (draws 2 x) (false ∷ []))
 unfolding IsValidClass
 wild-valid x = (rw (length-draws 2 x) (lit≤ tt, lit≤ tt), words-draws 2 x, (lit≤ tt, lit≤ tt))
 
-path-valid : (x : ℕ) → IsValidClass (PathOpen (one_of 2 x))
+path-valid : (x : ℕ) → IsValidClass (PathOpen (one_of PATH_2 x))
 unfolding IsValidClass
-path-valid x = (one_of-least 2 x, one_of-most 2 x (lit< tt))
+path-valid x = (one_of-least PATH_2 x, one_of-most PATH_2 x (lit< tt))
 
 -- the ticks of a lapse
 

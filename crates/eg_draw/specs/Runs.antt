@@ -2,11 +2,14 @@
 -- what each part gives stands how many draws it takes.
 use Rattle.std.specs.Prelude.{ℕ, zero, suc, ◌≡◌, ◌+◌, ◌%◌, ◌≤◌, ◌==◌, pos, false, List, [], ◌∷◌, ◌++◌, map, replicate, take, slice_index, slice_set, length, All, Option, Some, None, IfSome, if◌then◌else◌}
 use Rattle.eg_num.specs.Drive.{DriveRow, IsDrive}
+use Rattle.eg_sensor.specs.declared.tracks.TheConstants.{TRACKS}
 use Rattle.eg_word.specs.declared.images.TheConstants.{IDLE, FULL}
+use Rattle.eg_answer.specs.declared.modules.TheConstants.{PAIRS, MODULES}
 use Rattle.eg_fault.specs.Faults.{IsValid}
 use Rattle.eg_fault.specs.declared.class.Class.{Class}
 use Rattle.eg_fault.specs.declared.class.Class.TheVariants.{Script, Offset, Bus, Plate, Skip, Disturb, Flip, Halt, Timing, Wild, Path1Closed, Path2Closed, PathOpen, Lapse}
 use Rattle.eg_fault.specs.declared.class.Fault.{Fault}
+use Rattle.eg_fault.specs.declared.paths.TheConstants.{PATH_2}
 use Rattle.eg_draw.specs.Draws.{next, draw, after, draws}
 use Rattle.eg_draw.specs.declared.runs.DrawnRun.{DrawnRun}
 
@@ -65,19 +68,19 @@ first_ticks x = take (one_of 8 x) (0 ∷ 1 ∷ 2 ∷ 3 ∷ 4 ∷ 5 ∷ 6 ∷ 7 �
 -- the class of a number, 0 to 13, in the order of `Class`
 unfoldable pub class_of : ℕ → ℕ → Class
 class_of class x =
-    if class == 0 then Script (draw x % 8) (four_values (next x))
-    else if class == 1 then Offset (draw x % 8) (pos (one_of 500 (next x)))
+    if class == 0 then Script (draw x % TRACKS) (four_values (next x))
+    else if class == 1 then Offset (draw x % TRACKS) (pos (one_of 500 (next x)))
     else if class == 2 then Bus (drawn_mask x)
     else if class == 3 then Plate (draw x % 1001)
-    else if class == 4 then Skip (draw x % 8)
-    else if class == 5 then Disturb (one_of 5 x) (drawn_mask (next x))
+    else if class == 4 then Skip (draw x % MODULES)
+    else if class == 5 then Disturb (one_of PAIRS x) (drawn_mask (next x))
     else if class == 6 then Flip (draw x % 32) (drawn_mask (next x))
     else if class == 7 then Halt
     else if class == 8 then Timing (draw x % 10)
     else if class == 9 then Wild (draws 2 x) (false ∷ [])
     else if class == 10 then Path1Closed
     else if class == 11 then Path2Closed
-    else if class == 12 then PathOpen (one_of 2 x)
+    else if class == 12 then PathOpen (one_of PATH_2 x)
     else Lapse (first_ticks x) 0
 
 -- how many draws the numbers of each class take, in the same order

@@ -1,11 +1,15 @@
 // The faults of drawn runs.
 ghost use Rattle.std.specs.Prelude.{◌≡◌, ◌≤◌, ◌<◌, ◌%◌, pos, false, [], ◌∷◌, length};
+ghost use Rattle.eg_sensor.specs.declared.tracks.TheConstants.{TRACKS};
+ghost use Rattle.eg_answer.specs.declared.modules.TheConstants.{PAIRS};
 ghost use Rattle.eg_fault.specs.declared.class.Class.TheVariants as classes;
 ghost use Rattle.eg_draw.specs.Draws.{next, draw, after, draws};
 ghost use Rattle.eg_draw.specs.Runs.{one_of, drawn_mask, four_values, first_ticks, class_of, class_draws, fault_of, fault_draws};
 
 use crate::Generator;
-use eg_fault::{Class, Fault, Opens, Script};
+use eg_answer::{MODULES, PAIRS};
+use eg_fault::{Class, Fault, Opens, PATH_2, Script};
+use eg_sensor::TRACKS;
 
 /// The ticks of the longest lapse.
 const TICKS: [u16; 8] = [0, 1, 2, 3, 4, 5, 6, 7];
@@ -51,7 +55,7 @@ impl Generator {
                 at: self.below(1001),
             },
             4 => Class::Skip {
-                module: self.below(8) as u8,
+                module: self.below(u16::from(MODULES)) as u8,
             },
             5 => self.disturb(),
             6 => self.flip(),
@@ -63,7 +67,7 @@ impl Generator {
             10 => Class::Path1Closed,
             11 => Class::Path2Closed,
             12 => Class::PathOpen {
-                path: self.one_of(2) as u8,
+                path: self.one_of(u16::from(PATH_2)) as u8,
             },
             _ => self.lapse(),
         }
@@ -93,10 +97,10 @@ impl Generator {
     /// Draws a track, and four values that it reads in turn.
     #[tactic(auto, using(crate::proofs::DrawLemmas::single))]
     fn script(&mut self) -> Class
-        ensures class { result ≡ classes.Script (draw self.old % 8) (four_values (next self.old)) }
+        ensures class { result ≡ classes.Script (draw self.old % TRACKS) (four_values (next self.old)) }
         ensures state { self.new ≡ after 5 self.old }
     {
-        let track = self.below(8) as u8;
+        let track = self.below(u16::from(TRACKS)) as u8;
         let first = self.below(1001);
         let second = self.below(1001);
         let third = self.below(1001);
@@ -108,21 +112,21 @@ impl Generator {
     /// Draws a track, and what it reads too much.
     #[tactic(auto, using(crate::proofs::DrawLemmas::single))]
     fn offset(&mut self) -> Class
-        ensures class { result ≡ classes.Offset (draw self.old % 8) (pos (one_of 500 (next self.old))) }
+        ensures class { result ≡ classes.Offset (draw self.old % TRACKS) (pos (one_of 500 (next self.old))) }
         ensures state { self.new ≡ after 2 self.old }
     {
-        let track = self.below(8) as u8;
+        let track = self.below(u16::from(TRACKS)) as u8;
         let add = i32::from(self.one_of(500));
         Class::Offset { track, add }
     }
 
-    /// Draws one of the modules that give a signal, 1 to 5, and the bits that are mixed into its results.
+    /// Draws one of the modules that give a signal, and the bits that are mixed into its results.
     #[tactic(auto, using(crate::proofs::DrawLemmas::single))]
     fn disturb(&mut self) -> Class
-        ensures class { result ≡ classes.Disturb (one_of 5 self.old) (drawn_mask (next self.old)) }
+        ensures class { result ≡ classes.Disturb (one_of PAIRS self.old) (drawn_mask (next self.old)) }
         ensures state { self.new ≡ after 2 self.old }
     {
-        let module = self.one_of(5) as u8;
+        let module = self.one_of(u16::from(PAIRS)) as u8;
         let mask = self.mask();
         Class::Disturb { module, mask }
     }
