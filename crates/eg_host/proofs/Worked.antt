@@ -1,6 +1,7 @@
 -- Images that were worked by hand, against the definitions: what slices make of level 1's private world.
 use Rattle.std.proofs.Common.{◌≡◌, refl, ℕ, List, [], ◌∷◌, replicate}
 use Rattle.eg_guard.specs.Regions.{region_of, allows, access}
+use Rattle.eg_word.specs.declared.images.TheConstants.{FULL}
 use Rattle.eg_word.specs.declared.registers.Trap.TheVariants.{Fetch, Store, Illegal}
 use Rattle.eg_word.specs.declared.registers.State.{State}
 use Rattle.eg_word.specs.declared.registers.State.TheVariants.{Running, Waiting, Trapped}
@@ -39,20 +40,17 @@ no-instruction : slice (sees (0x1205 ∷ 0xf002 ∷ []) 0 0) 10 new_world ≡ le
 unfolding slice
 no-instruction = refl
 
--- `full` sets both outputs to 1000, and waits
-abbrev full : List ℕ
-full = 0x1210 ∷ 0x2210 ∷ 0x1407 ∷ 0x2468 ∷ 0xc440 ∷ 0xc441 ∷ 0xf000 ∷ 0xd1fe ∷ []
-
-full-waits : slice (sees full 0 0) 10 new_world ≡ leaves (machine 2064 1000 0 0 0 7 Waiting) 1000 1000
+-- `FULL` sets both outputs to 1000, and waits
+full-waits : slice (sees FULL 0 0) 10 new_world ≡ leaves (machine 2064 1000 0 0 0 7 Waiting) 1000 1000
 unfolding slice
 full-waits = refl
 
 -- a budget of 6 cuts it short before it waits, and one of 0 wakes a machine that waits
-full-cut : slice (sees full 0 0) 6 new_world ≡ leaves (machine 2064 1000 0 0 0 6 Running) 1000 1000
+full-cut : slice (sees FULL 0 0) 6 new_world ≡ leaves (machine 2064 1000 0 0 0 6 Running) 1000 1000
 unfolding slice
 full-cut = refl
 
-full-wakes : slice (sees full 0 0) 0 (slice (sees full 0 0) 10 new_world) ≡ leaves (machine 2064 1000 0 0 0 7 Running) 1000 1000
+full-wakes : slice (sees FULL 0 0) 0 (slice (sees FULL 0 0) 10 new_world) ≡ leaves (machine 2064 1000 0 0 0 7 Running) 1000 1000
 unfolding slice
 full-wakes = refl
 
