@@ -1,11 +1,9 @@
 -- What the words of the command line ask for. A word is the list of its bytes.
-use Rattle.std.specs.Prelude.{ℕ, ◌+◌, ◌≤◌, List, [], map, codes, length, Option, Some, None, Bool, ◌&&◌, ◌==◌, not, nat_le, nat_lt, if◌then◌else◌, bytes_eq, string_bytes, slice_index_or, slice_index}
+use Rattle.std.specs.Prelude.{ℕ, ◌+◌, ◌≤◌, List, [], map, codes, length, Option, Some, None, option_and_then, Bool, ◌&&◌, ◌==◌, not, nat_le, nat_lt, if◌then◌else◌, bytes_eq, string_bytes, slice_index_or, slice_index}
 use Rattle.std.specs.Option.{option_copied}
-use Rattle.std.specs.Char.{is_ascii_digit}
-use Rattle.std.specs.List.{list_all}
 use Rattle.std.specs.declared.string.String.{String}
 use Rattle.std.specs.declared.alloc.Global.{Global}
-use Rattle.eg_input.specs.Fields.{decimal_value}
+use Rattle.eg_input.specs.Fields.{decimal}
 use Rattle.eg_app.specs.declared.command.Command.{Command as Parsed}
 use Rattle.eg_app.specs.declared.command.Command.TheVariants as parsed
 
@@ -71,15 +69,13 @@ form_of words calibration own = if is_check words own then Some (check calibrati
     else if is_record words own then Some (record_run calibration (word words own) (word words (own + 1)))
     else None
 
--- one to ten decimal digits
-abbrev pub is_numeral : List ℕ → Bool
-is_numeral word = nat_le 1 (length word) && nat_le (length word) 10 && list_all is_ascii_digit word
+-- a number, where it is one from .. to ..
+abbrev pub within : (least most : ℕ) → ℕ → Option ℕ
+within least most n = if nat_le least n && nat_le n most then Some n else None
 
--- the number that a word writes, where it is one from .. to ..
+-- the number from .. to .. that a word of one to ten decimal digits writes
 abbrev pub number_in : (least most : ℕ) → List ℕ → Option ℕ
-number_in least most word =
-    if is_numeral word && nat_le least (decimal_value word) && nat_le (decimal_value word) most
-    then Some (decimal_value word) else None
+number_in least most word = option_and_then (within least most) (decimal 10 word)
 
 -- a seed is any word of 32 bits; there are 1 to 500 runs
 abbrev pub seed_in : List ℕ → Option ℕ
