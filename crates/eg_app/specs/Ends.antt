@@ -107,7 +107,7 @@ TellsMissingCalibration calibration store o =
     (o ≡ outcome.ReadFault role.Calibration) ↔ MissesCalibration calibration store
 
 -- Over a sure store reading the check file fails exactly where there is no such file. Where a calibration is
--- read before, that has to be there and be accepted, and want of memory may come first.
+-- read before, that has to be there and be accepted, and memory may run out first.
 abbrev pub TellsMissingCheck : Option (List ℕ) → List ℕ → ShownStore → Outcome → Type 0
 TellsMissingCheck None file store o = (o ≡ outcome.ReadFault role.Check) ↔ IsMissing store.files file
 TellsMissingCheck (Some name) file store o = ((o ≡ outcome.ReadFault role.Check) → IsMissing store.files file)
@@ -138,7 +138,7 @@ TellsMissing None store o = Unit {0}
 -- ---- when the work is done ----
 
 -- Where the words ask for something, each file is found and accepted, and no fault of writing is counted, the
--- work is done, but for want of memory.
+-- work is done, unless memory runs out.
 abbrev pub Completes : Option Command → ShownStore → ShownStore → ShownSink → ShownSink → Outcome → Type 0
 Completes (Some (check calibration file)) store later out now o =
     FindsCalibration calibration store later → AcceptsCalibration calibration store →

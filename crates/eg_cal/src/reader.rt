@@ -19,8 +19,7 @@ use eg_values::{Apart, Calibration};
 use std::alloc::Global;
 
 /// The calibration that a file says (docs/FORMATS.md, "Calibration files"), or the first rule that the file
-/// breaks. The result is exactly that of `calibration_of`, but for want of memory, which it may answer at any
-/// bytes.
+/// breaks. The result is exactly that of `calibration_of`, unless memory runs out, which it may at any bytes.
 pub fn read_calibration(alloc: Global, bytes: &[u8]) -> Result<Calibration, CalFault>
     ensures { IsRead Memory (calibration_of (document_of bytes.now)) result }
 {

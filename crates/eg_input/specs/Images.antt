@@ -51,7 +51,7 @@ words_of most lines =
 abbrev pub image_words : List ℕ → Result (List ℕ) ImageFault
 image_words file = words_of 1024 (lines_of file)
 
--- what was read is what the file gives, but for want of memory
+-- what was read is what the file gives, unless memory ran out
 abbrev pub IsImageRead : Result (List ℕ) ImageFault → Result (Vec ℕ Global) ImageFault → Type 0
 IsImageRead expected (Ok words) = expected ≡ Ok words.items
 IsImageRead expected (Err e) = (e ≡ fault.Memory) ⊎ (expected ≡ Err e)

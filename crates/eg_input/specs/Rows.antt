@@ -30,7 +30,7 @@ rows_of header row_of [] = Err fault.Header
 rows_of header row_of (first ∷ below) =
     if is_same_record first header then rows_below 20000 row_of below else Err fault.Header
 
--- what was read is what the file gives, but for want of memory
+-- what was read is what the file gives, unless memory ran out
 abbrev pub IsRead : {X : Type 0} → Result (List X) TraceFault → Result (Vec X Global) TraceFault → Type 0
 IsRead expected (Ok rows) = expected ≡ Ok rows.items
 IsRead expected (Err e) = (e ≡ fault.Memory) ⊎ (expected ≡ Err e)

@@ -9,8 +9,8 @@ use Rattle.eg_outcome.specs.declared.outcome.Outcome.{Outcome}
 use Rattle.eg_outcome.specs.declared.outcome.Outcome.TheVariants as outcome
 use Rattle.eg_outcome.specs.declared.outcome.Refusal.TheVariants as refusal
 
--- Once the text is known: all of it was written and no fault of writing was met, or a prefix of it and a
--- fault or want of memory. No fault of writing is told as want of memory.
+-- Once the text is known: all of it was written and no fault of writing was met, or a prefix of it was, and
+-- then a fault was met or memory ran out. No fault of writing is told as the outcome Memory.
 abbrev pub LineEnds : List ℕ → ShownSink → ShownSink → Outcome → Type 0
 LineEnds line out now outcome.Done = Appends out now line × (now.faults ≡ out.faults)
 LineEnds line out now outcome.WriteFault = AppendsPrefix out now line × Rose out.faults now.faults
@@ -29,7 +29,7 @@ abbrev pub Then :
 Then more (Ok x) come = more x come
 Then more (Err end) come = come ≡ Err end
 
--- a refusal never tells want of memory: that is the outcome Memory
+-- a refusal never tells that memory ran out: that is the outcome Memory
 abbrev pub TellsNoMemory : Outcome → Type 0
 TellsNoMemory (outcome.Refused (refusal.Calibration cal_fault.Memory)) = ⊥
 TellsNoMemory (outcome.Refused (refusal.Check trace_fault.Memory)) = ⊥

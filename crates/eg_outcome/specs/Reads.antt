@@ -37,7 +37,7 @@ abbrev pub ReadComes : {X : Type 0} → (List ℕ → Result X Refusal) → List
 ReadComes says name store come = (bytes : List ℕ) × AreRead store name bytes × BytesCome says bytes come
 
 -- Reading the file of this name failed, or memory ran out, or the file was read. Where the call ends with the
--- refusal of what was read, or for want of memory, no fault of reading was met; where it goes on, the work
+-- refusal of what was read, or since memory ran out, no fault of reading was met; where it goes on, the work
 -- says which were. Over a sure store reading fails only where there is no such file.
 abbrev pub FileComes : {X : Type 0} → Role → (List ℕ → Result X Refusal) → List ℕ → ShownStore → ShownStore
     → Result X Outcome → Type 0

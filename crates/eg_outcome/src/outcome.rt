@@ -26,15 +26,15 @@ pub enum Role {
 pub enum Refusal {
     /// The file has more than 4,194,304 bytes.
     Size { file: Role },
-    /// A calibration file. Want of memory is `Outcome::Memory`, and never stands here.
+    /// A calibration file. Out of memory is `Outcome::Memory`, and never stands here.
     Calibration(CalFault),
-    /// The records of a check file. Want of memory is `Outcome::Memory`, and never stands here.
+    /// The records of a check file. Out of memory is `Outcome::Memory`, and never stands here.
     Check(TraceFault),
-    /// A campaign file, or too many ticks of its runs in all. Want of memory never stands here.
+    /// A campaign file, or too many ticks of its runs in all. Out of memory never stands here.
     Campaign(CampaignFault),
-    /// The records of the drive trace of a run. Want of memory never stands here.
+    /// The records of the drive trace of a run. Out of memory never stands here.
     Trace { run: u32, fault: TraceFault },
-    /// The lines of the image of a run. Want of memory never stands here.
+    /// The lines of the image of a run. Out of memory never stands here.
     Image { run: u32, fault: ImageFault },
     /// The campaign has no run of that name.
     NoRun,
