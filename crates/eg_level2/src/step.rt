@@ -27,8 +27,9 @@ impl Step {
         }
     }
 
-    /// A run that neither orders nor answers nor finds anything.
-    pub(crate) fn quiet() -> Step
+    /// What neither orders nor answers nor finds anything, as a module that doesn't run at a tick
+    /// (docs/CONCEPT.md, "Level 2").
+    pub fn quiet() -> Step
         ensures { result ≡ quiet_step }
     {
         Step::finding(no_watches())

@@ -10,7 +10,6 @@ ghost use Rattle.eg_word.specs.Program.{IsProgramOf};
 ghost use Rattle.eg_fault.specs.Faults.{effects};
 ghost use Rattle.eg_level2.specs.Words.{words_of, AreMirrored, AreWithin};
 ghost use Rattle.eg_level2.specs.Inputs.{IsLookup};
-ghost use Rattle.eg_level2.specs.Modules.{quiet_step};
 ghost use Rattle.eg_fault.specs.Faults.{IsNoneOrValid};
 ghost use Rattle.eg_tick.specs.Midway;
 ghost use Rattle.eg_tick.specs.Midway.{Work, IsMidway, IsReady, Meets, IsDue, step_at, tick_step};
@@ -72,7 +71,7 @@ fn module<M: Guarded>(
 {
     let tick = u32::from(task.tick);
     if !module_runs(fault, tick, number) {
-        return Ok(quiet());
+        return Ok(Step::quiet());
     }
     let disturbance = disturbance(fault, tick, number);
     level2.module_with_lookup(
@@ -225,7 +224,7 @@ fn run_turns<M: Guarded, const FAULTY: bool>(
     ensures keeps { KeepsMemory (M.shows memory.old) (M.shows memory.new) result }
 {
     let fault = acting::<FAULTY>(fault);
-    let whole = quiet();
+    let whole = Step::quiet();
     let step = turn(level2, fault, task, 0, level1, memory)?;
     let whole = joined(&whole, &step);
     let step = turn(level2, fault, task, 1, level1, memory)?;
@@ -277,26 +276,6 @@ fn joined(first: &Step, next: &Step) -> Step
             speed: first.found.speed | next.found.speed,
             torque: first.found.torque | next.found.torque,
             answers: first.found.answers | next.found.answers,
-        },
-    }
-}
-
-/// What a module that doesn't run orders, answers and finds: nothing.
-#[tactic(auto, unfolding(eg_level2::specs::Modules::no_watches))]
-fn quiet() -> Step
-    ensures { result ≡ quiet_step }
-{
-    Step {
-        open_path: false,
-        answer: None,
-        found: Watches {
-            mirror: false,
-            pedal: false,
-            plate: false,
-            load: false,
-            speed: false,
-            torque: false,
-            answers: false,
         },
     }
 }
