@@ -1,5 +1,5 @@
 -- Detection in level 2: the debouncers of the four pairs and of the torque.
-use Rattle.std.specs.Prelude.{ℕ, Bool, not, ◌&&◌, is_some, List, ◌∷◌, map, filter}
+use Rattle.std.specs.Prelude.{Bool, not, ◌&&◌, is_some, List, ◌∷◌, map, filter}
 use Rattle.eg_num.specs.Windows.{WeightParts, is_first}
 use Rattle.eg_sensor.specs.Readings.{has_bit}
 use Rattle.eg_sensor.specs.declared.pairs.TheConstants.{PEDAL_PAIR, PLATE_PAIR, LOAD_PAIR, SPEED_PAIR}
