@@ -1,5 +1,5 @@
 -- Runs that are played one after another: their rows, and what their ticks come to.
-use Rattle.std.proofs.Common.{◌≡◌, ◌∙◌, sym, ap, ap₂, subst, ℕ, ◌+◌, ◌%◌, ◌^◌, ◌<◌, ◌≤◌, List, [], ◌∷◌, ◌++◌, map, take, drop, get_or, length, add-one, arith}
+use Rattle.std.proofs.Common.{◌≡◌, ◌∙◌, sym, ap, ap₂, ℕ, ◌+◌, ◌%◌, ◌^◌, ◌<◌, ◌≤◌, List, [], ◌∷◌, ◌++◌, map, take, drop, get_or, length, add-one, arith}
 use Rattle.std.specs.Prelude.{reverse, Option, Result, Ok, Err, IfOk, OnOk}
 use Rattle.std.specs.List.{sum}
 use Rattle.std.proofs.Math.Nat.{mod-eq_of_lt}
@@ -11,22 +11,14 @@ use Rattle.eg_num.specs.Drive.{DriveRow}
 use Rattle.eg_fault.specs.declared.class.Fault.{Fault}
 use Rattle.eg_values.specs.Calibration.{CalibrationParts}
 use Rattle.eg_record.specs.declared.row.Row.{Row}
-use Rattle.eg_record.specs.Rows.{AreRows}
 use Rattle.eg_model.specs.Bench.{Run}
 use Rattle.eg_model.specs.Rows.{record_rows}
-use Rattle.eg_model.specs.Records.{rows_to}
-use Rattle.eg_model.proofs.RecordLaws.{records_are_rows}
 use Rattle.eg_tick.specs.Weights.{TickCount, weight_of}
 use Rattle.eg_tick.specs.Run.{run_by}
 use Rattle.eg_tick.proofs.RunLemmas.{more-mod}
-use Rattle.eg_tick.proofs.RunLaws.{newest_first}
 use Rattle.eg_campaign.specs.Plays.{ticks_of, weights_of, count_after}
 
--- ---- the rows of a record ----
-
-pub are_rows : (r : Run) (rows : List Row) → rows ≡ reverse (record_rows r) → AreRows (reverse rows)
-are_rows r rows are = subst AreRows (newest_first r rows are)
-    (unfold record_rows in (unfold rows_to in (records_are_rows r (length r.drive)).0))
+-- ---- runs ----
 
 -- runs of equal parts are equal
 pub same_run : (cal cal' : CalibrationParts) (image image' : List ℕ) (fault fault' : Option Fault)

@@ -11,6 +11,7 @@ pub mod ReactionLaw
 pub mod PlainTick
 pub mod SharpCutLaw
 pub mod RecordLaws
+pub mod WholeRecord
 pub mod LapseRuns
 pub mod LapseAnswers
 pub mod LapseWeights

@@ -352,6 +352,9 @@ runs_cut_sharply r run t quiet = row_on r t
 
 -- ---- by the rows of the whole record ----
 
+pub no_rows : (r : Run) → rows_to r 0 ≡ []
+no_rows r = unfold rows_to rows_of moments_to in refl
+
 pub rows_to-suc : (r : Run) (t : ℕ) → rows_to r (suc t) ≡ row_at r t ∷ rows_to r t
 unfolding rows_to rows_of moments_to row_at
 rows_to-suc r t = refl
@@ -365,11 +368,11 @@ pub row_tick : (r : Run) (t : ℕ) → (row_at r t).tick ≡ t
 row_tick r t = unfold row_at row_of moment in length-moments_to r t
 
 length-rows_to : (r : Run) (n : ℕ) → length (rows_to r n) ≡ n
-length-rows_to r zero = unfold rows_to rows_of moments_to in refl
+length-rows_to r zero = ap length (no_rows r)
 length-rows_to r (suc t) = ap length (rows_to-suc r t) ∙ ap suc (length-rows_to r t)
 
 are_rows : (r : Run) (n : ℕ) → AreRows (rows_to r n)
-are_rows r zero = unfold rows_to rows_of moments_to in tt
+are_rows r zero = subst AreRows (sym (no_rows r)) tt
 are_rows r (suc t) = subst AreRows (sym (rows_to-suc r t))
     (row_tick r t ∙ sym (length-rows_to r t), are_rows r t)
 
@@ -395,13 +398,10 @@ first_confirms : (w : WeightParts) (bit : Row → Bool) (r : Run) (n c : ℕ) �
     first_place w (BitsTo bit r n) ≡ Some c →
     (is_confirmed w (BitsTo bit r (c + 1)) ≡ true) × ((is_confirmed w (BitsTo bit r c) ≡ false) × (c < n))
 first_confirms w bit r zero c first =
-    absurd (none (subst (λ l. first_place w l ≡ Some c) (empty_bits bit r) first))
+    absurd (none (subst (λ l. first_place w l ≡ Some c) (ap (map bit) (no_rows r)) first))
   where
     none : first_place w [] ≡ Some c → ⊥
     none e = let e' : None ≡ Some c = unfold first_place in e in cc
-
-    empty_bits : (b : Row → Bool) (q : Run) → BitsTo b q 0 ≡ []
-    empty_bits b q = unfold rows_to rows_of moments_to in refl
 first_confirms w bit r (suc t) c first =
     go (is_first w (bit (row_at r t) ∷ BitsTo bit r t)) refl (first_confirms w bit r t c)
   where
@@ -437,10 +437,7 @@ first_confirms w bit r (suc t) c first =
 
 -- P of each of the first n rows, by their ticks
 pub all_rows : (P : Row → Type 0) (r : Run) (n : ℕ) → ((t : ℕ) → t < n → P (row_at r t)) → All P (rows_to r n)
-all_rows P r zero p = subst (All P) (empty_rows r) (All-nil P)
-  where
-    empty_rows : (q : Run) → [] ≡ rows_to q 0
-    empty_rows q = unfold rows_to rows_of moments_to in refl
+all_rows P r zero p = subst (All P) (sym (no_rows r)) (All-nil P)
 all_rows P r (suc t) p = subst (All P) (sym (rows_to-suc r t))
     (All-cons P (row_at r t) (rows_to r t) (p t (omega arith)) (all_rows P r t (λ u l. p u (omega arith))))
 

@@ -8,7 +8,7 @@ use Rattle.eg_fault.specs.Faults.{IsNoneOrValid}
 use Rattle.eg_fault.specs.declared.class.Fault.{Fault}
 use Rattle.eg_record.specs.declared.row.Row.{Row}
 use Rattle.eg_record.specs.Excess.{true_excess}
-use Rattle.eg_model.specs.Bench.{Run, moments_to}
+use Rattle.eg_model.specs.Bench.{Run}
 use Rattle.eg_model.specs.Rows.{rows_of, record_rows}
 use Rattle.eg_model.specs.Premises.{Follows, is_on_after, true_excesses}
 use Rattle.eg_model.specs.Reaction.{is_at_once, spoils_answers}
@@ -16,7 +16,7 @@ use Rattle.eg_model.specs.Lapses.{Exceeds}
 use Rattle.eg_model.specs.Records.{IsRun, row_at, rows_to, ExceedLast, RecordsReactAtOnce, RecordsCutLapses, RecordsHaveShortLapses, CutFromOnset, RecordsCutFromOnset}
 use Rattle.eg_model.proofs.ReactionLaw.{cuts_from_onset}
 use Rattle.eg_model.proofs.LapseLaw.{cuts_lapses, lapses_are_short}
-use Rattle.eg_model.proofs.RecordLaws.{ticks_to, moments-are, length-ticks_to, tick_at, ticks_to-suc, proper_under, follows_to, follows_now, row_on, Cut, cut_at, off_row, rows_to-suc, row_tick, all_rows, record_rows-is, records_are_rows, runs_react_at_once}
+use Rattle.eg_model.proofs.RecordLaws.{ticks_to, moments-are, length-ticks_to, tick_at, ticks_to-suc, proper_under, follows_to, follows_now, row_on, Cut, cut_at, off_row, no_rows, rows_to-suc, row_tick, all_rows, record_rows-is, records_are_rows, runs_react_at_once}
 
 -- ---- a part of the rows ----
 
@@ -25,9 +25,6 @@ record Parts (r : Run) (n : ℕ) (later before : List Row) : Type 0 where
   pub size : length before ≤ n
   pub front : before ≡ rows_to r (length before)
   pub off : ((t : ℕ) → length before ≤ t → t < n → (row_at r t).on ≡ false) → All (λ row. row.on ≡ false) later
-
-no_rows : (r : Run) → rows_to r 0 ≡ []
-no_rows r = unfold rows_to rows_of moments_to in refl
 
 parts : (r : Run) (n : ℕ) (later before : List Row) → rows_to r n ≡ later ++ before → Parts r n later before
 parts r n [] before e = record {

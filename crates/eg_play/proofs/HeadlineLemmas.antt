@@ -1,26 +1,23 @@
 -- Every run that may be played keeps the headline.
-use Rattle.std.proofs.Common.{ℕ, List, [], ◌∷◌, length, All, refl, map}
+use Rattle.std.proofs.Common.{ℕ, List, [], ◌∷◌, All, refl, map}
 use Rattle.std.proofs.lemmas.List.Elements.{All-map, All-weaker, All-cons, All-nil}
 use Rattle.eg_values.specs.Calibration.{CalibrationParts, IsAccepted}
 use Rattle.eg_fault.specs.Faults.{IsNoneOrValid}
 use Rattle.eg_record.specs.Detection.{first_detection, IsFirstDetection}
-use Rattle.eg_record.specs.Rows.{AreRows}
 use Rattle.eg_record.specs.Stages.{IsFirstOff, first_off}
 use Rattle.eg_record.specs.Summaries.{summary_of}
 use Rattle.eg_record.proofs.LawLemmas.{detection_law, off_law}
 use Rattle.eg_model.specs.Bench.{Run}
 use Rattle.eg_model.specs.Rows.{record_rows, report_of}
-use Rattle.eg_model.specs.Records.{IsRun, rows_to}
-use Rattle.eg_model.proofs.RecordLaws.{records_are_rows, records_react, records_cut_sharply}
+use Rattle.eg_model.specs.Records.{IsRun}
+use Rattle.eg_model.proofs.RecordLaws.{records_react, records_cut_sharply}
+use Rattle.eg_model.proofs.WholeRecord.{are_rows}
 use Rattle.eg_model.proofs.RowLaws.{records_react_at_once, records_cut_from_onset, records_cut_lapses, records_have_short_lapses}
 use Rattle.eg_campaign.specs.Plays.{IsPlayable, run_with}
 use Rattle.eg_campaign.specs.declared.play.RunInput.{RunInput}
 use Rattle.eg_play.specs.Headline.{KeepsHeadline}
 
 -- ---- the headline ----
-
-are_rows : (r : Run) → AreRows (record_rows r)
-are_rows r = unfold record_rows in (unfold rows_to in (records_are_rows r (length r.drive)).0)
 
 detects : (r : Run) (name : List ℕ) → IsFirstDetection (record_rows r) (report_of name r).first
 unfolding report_of summary_of

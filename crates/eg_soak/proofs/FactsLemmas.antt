@@ -1,7 +1,6 @@
 -- The ticks at which the stages are on, row by row; the run that is played; and what counts of it.
 use Rattle.std.proofs.Common.{◌≡◌, ◌∙◌, sym, ap, ap₂, ℕ, ◌+◌, ◌<◌, List, [], get_or, length, arith}
 use Rattle.std.specs.Prelude.{Option, Some, None, IfSome, if◌then◌else◌, reverse}
-use Rattle.std.proofs.lemmas.List.{length-reverse}
 use Rattle.eg_fault.specs.Faults.{IsValid}
 use Rattle.eg_fault.specs.declared.class.Fault.{Fault}
 use Rattle.eg_fault.specs.Faults.{IsNoneOrValid}
@@ -10,9 +9,7 @@ use Rattle.eg_record.specs.declared.summary.Summary.{Summary}
 use Rattle.eg_record.proofs.RowsLemmas.{so_far, so_far-more, length-so_far}
 use Rattle.eg_model.specs.Bench.{Run}
 use Rattle.eg_model.specs.Rows.{record_rows, report_of}
-use Rattle.eg_model.specs.Records.{rows_to}
-use Rattle.eg_model.proofs.RecordLaws.{records_are_rows}
-use Rattle.eg_tick.proofs.RunLaws.{newest_first}
+use Rattle.eg_model.proofs.WholeRecord.{newest_first}
 use Rattle.eg_soak.specs.Facts.{on_until, facts_in, facts_of}
 
 -- ---- rows ----
@@ -23,11 +20,6 @@ pub on_until-more : (rows : List Row) (i : ℕ) (row : Row) → row ≡ get_or r
 unfolding on_until
 on_until-more rows i row stands below = ap on_until (so_far-more rows i row stands below)
     ∙ ap (λ n. if row.on then n + 1 else on_until (so_far rows i)) (length-so_far rows i (omega arith))
-
--- a run has as many rows as its drive
-pub length-rows : (r : Run) (rows : List Row) → rows ≡ reverse (record_rows r) → length rows ≡ length r.drive
-length-rows r rows are = ap length are ∙ length-reverse (record_rows r)
-    ∙ (unfold record_rows in (unfold rows_to in (records_are_rows r (length r.drive)).1))
 
 -- ---- runs ----
 

@@ -3,7 +3,7 @@ use Rattle.std.proofs.Common.{◌≡◌, ◌∙◌, refl, sym, ap, ap₂, subst,
 use Rattle.std.specs.Prelude.{reverse, slice_index_or, IfOk, OnErr}
 use Rattle.std.specs.List.{sum}
 use Rattle.std.proofs.Math.Nat.{mod-add-mod, mod-eq_of_lt}
-use Rattle.std.proofs.lemmas.List.{reverse-append, map-append}
+use Rattle.std.proofs.lemmas.List.{map-append}
 use Rattle.std.proofs.lemmas.List.Sums.{fold-append}
 use Rattle.eg_num.specs.Drive.{DriveRow}
 use Rattle.eg_plant.specs.Gasoline.{GasolinePlant, StepsAsGasoline, at_rest, gasoline_step, shown_of}
@@ -18,7 +18,7 @@ use Rattle.eg_model.specs.Paths.{on_at}
 use Rattle.eg_model.specs.Level1.{last_world}
 use Rattle.eg_model.specs.Moments.{moment, moments, next}
 use Rattle.eg_model.specs.Bench.{Run, no_drive, last_engine, shown_at, drive_at, slices_at, entry_at, moments_to, entries_to}
-use Rattle.eg_model.specs.Rows.{row_of, rows_of, first_trap, record_rows, record_trap}
+use Rattle.eg_model.specs.Rows.{row_of, first_trap, record_rows, record_trap}
 use Rattle.eg_model.specs.Records.{row_at, rows_to}
 use Rattle.eg_model.proofs.RecordLaws.{length-entries, records_are_histories}
 use Rattle.eg_tick.specs.Kept.{ControllerParts}
@@ -117,21 +117,7 @@ started cal cal' image fault fault' engine same same' still (Ok c) stands is = �
   engine = unfold moments_to last_engine in is ∙ still;
 }
 
--- ---- the rows ----
-
-pub rows-suc : (r : Run) (t : ℕ) (rows : List Row) (row : Row) → rows ≡ reverse (rows_to r t) → row ≡ row_at r t →
-    rows ++ row ∷ [] ≡ reverse (rows_to r (t + 1))
-rows-suc r t rows row are is = ap₂ (λ before last. before ++ last ∷ []) are is
-    ∙ sym (reverse-append (row_at r t ∷ []) (rows_to r t)) ∙ ap reverse (again r t) ∙ ap (λ n. reverse (rows_to r n)) (one_more t)
-  where
-    again : (r : Run) (t : ℕ) → row_at r t ∷ rows_to r t ≡ rows_to r (suc t)
-    again r t = unfold rows_to rows_of moments_to row_at in refl
-
-    one_more : (t : ℕ) → suc t ≡ t + 1
-    one_more t = omega arith
-
-pub no_rows : (r : Run) → [] ≡ reverse (rows_to r 0)
-no_rows r = unfold rows_to rows_of moments_to in refl
+-- ---- what a run is asked ----
 
 -- the drive row of a tick within the drive
 pub drive-at : (r : Run) (drive : List DriveRow) (t : ℕ) (row : DriveRow) → r.drive ≡ drive → t < length drive →

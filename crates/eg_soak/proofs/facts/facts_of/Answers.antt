@@ -1,6 +1,7 @@
 use Rattle.std.proofs.Common.{◌∙◌, arith}
+use Rattle.eg_model.proofs.WholeRecord.{length-rows}
 use Rattle.eg_soak.specs.Soak.{run_drawn}
-use Rattle.eg_soak.proofs.FactsLemmas.{length-rows, facts_told}
+use Rattle.eg_soak.proofs.FactsLemmas.{facts_told}
 use Rattle.eg_soak.proofs.facts.facts_of.Goals as goal
 
 pub facts_in-requires : goal.facts_in-requires

@@ -2,16 +2,17 @@ use Rattle.std.proofs.Common.{◌≡◌, ◌∙◌, sym, ap, subst, ◌+◌, ◌
 use Rattle.std.specs.Prelude.{reverse}
 use Rattle.std.proofs.lemmas.Grind.{common_steps}
 use Rattle.eg_model.specs.Records.{rows_to}
+use Rattle.eg_model.proofs.WholeRecord.{rows-none, rows-suc}
 use Rattle.eg_tick.specs.Weights.{TickCount}
 use Rattle.eg_tick.specs.Run.{IsAt}
-use Rattle.eg_tick.proofs.RunLemmas.{counted, counted-none, counted-more, rows-suc, no_rows, drive-at, more-mod, on_err}
+use Rattle.eg_tick.proofs.RunLemmas.{counted, counted-none, counted-more, drive-at, more-mod, on_err}
 use Rattle.eg_tick.proofs.run.make_rows.Goals as goal
 
 pub loop-tick-init : goal.loop-tick-init
 loop-tick-init c = record {
   ticks = c.requires.none;
   at = λ r plan drive at. at;
-  rows = λ r plan drive at. c.new-rows.ensures.items ∙ no_rows r;
+  rows = λ r plan drive at. c.new-rows.ensures.items ∙ rows-none r;
   counts = counted-none c.args.steps.now c.new-rows.result.items c.new-rows.ensures.items
       (let e = c.count.ensures in let l = c.count.type_inv in subst (λ n. n < 18446744073709551616) e l)
       (let e = c.sum.ensures in let l = c.sum.type_inv in subst (λ n. n < 18446744073709551616) e l);

@@ -5,9 +5,10 @@ use Rattle.eg_model.specs.Bench.{Run}
 use Rattle.eg_model.specs.Records.{ReactWithin, CutOneTickAfter, ReactAtOnce, CutLapses, LapsesAreShort}
 use Rattle.eg_model.proofs.RecordLaws.{records_react, records_cut_sharply}
 use Rattle.eg_model.proofs.RowLaws.{records_react_at_once, records_cut_lapses, records_have_short_lapses}
+use Rattle.eg_model.proofs.WholeRecord.{newest_first}
 use Rattle.eg_tick.specs.Run.{run_by}
 use Rattle.eg_tick.proofs.RunLemmas.{if_ok}
-use Rattle.eg_tick.proofs.RunLaws.{is_run, newest_first}
+use Rattle.eg_tick.proofs.RunLaws.{is_run}
 use Rattle.eg_tick.proofs.run.run_one.Goals as goal
 
 pub returns-clause-reacts : goal.returns-clause-reacts
