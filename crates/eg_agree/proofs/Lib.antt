@@ -1,4 +1,3 @@
-pub mod FlipLemmas
 pub mod BoolLaws
 pub mod HistoryLemmas
 pub mod ModuleLemmas

@@ -1,15 +1,14 @@
 -- Which modules run under a valid fault, and which are disturbed.
-use Rattle.std.proofs.Common.{◌≡◌, ℕ, suc, ◌-◌, ◌≤◌, ◌<◌, ◌⊎◌, inl, inr, Bool, true, false, not, refl, sym, ap, subst, ◌∙◌, arith, Option, Some, None}
-use Rattle.std.specs.Prelude.{◌==◌}
-use Rattle.std.proofs.lemmas.Bool.{eq-eqb, ne_eqb, eqb-true, le-leb}
+use Rattle.std.proofs.Common.{ℕ, ◌≤◌, ◌<◌, ◌⊎◌, inl, inr, refl, arith, Option, Some, None}
 use Rattle.eg_sensor.specs.declared.readings.Readings.{Readings}
 use Rattle.eg_fault.specs.Effects.{Effects, no_effects}
 use Rattle.eg_fault.specs.Faults.{does, effects, IsValidClass}
 use Rattle.eg_fault.specs.Running.{AllRun, OthersRun, RunsWhole}
 use Rattle.eg_fault.specs.declared.class.Class.{Class}
-use Rattle.eg_fault.specs.declared.class.Class.TheVariants.{Disturb, Skip, Halt, Lapse}
+use Rattle.eg_fault.specs.declared.class.Class.TheVariants.{Disturb}
 use Rattle.eg_fault.specs.declared.class.Fault.{Fault}
 use Rattle.eg_fault.proofs.ActingLemmas.{of_valid}
+use Rattle.eg_fault.proofs.ClassLemmas.{one_of_eight_is_left_out}
 use Rattle.eg_fault.proofs.RunningLemmas.{running_law}
 use Rattle.eg_flow.specs.Flow.{AtMostOneIsDisturbed}
 use Rattle.eg_model.specs.History.{Setting}
@@ -17,27 +16,6 @@ use Rattle.eg_agree.specs.Doings.{doing_at}
 use Rattle.eg_fault.specs.Faults.{IsNoneOrValid}
 
 -- ---- the module that is left out ----
-
-itself : (n : ℕ) → (n == n) ≡ true
-itself n = eq-eqb n n refl
-
-one_below : (class : Class) (k : ℕ) → IsValidClass class → (one : ℕ) → OthersRun one (does class k) →
-    one < 8
-unfolding does no_effects IsValidClass
-one_below (Skip index) k valid one others =
-    let same : one ≡ index = go (one == index) refl in
-    omega arith
-  where
-    go : (b : Bool) → (one == index) ≡ b → one ≡ index
-    go true e = eqb-true one index e
-    go false e = absurd (let f : true ≡ false = sym (ap not e) ∙ others one ∙ ap not (itself one) in cc)
-one_below Halt k valid one others =
-    absurd (let f : false ≡ true = others (suc one) ∙ ap not (ne_eqb (suc one) one (λ e. omega arith)) in
-    cc)
-one_below (Lapse after every) k valid one others =
-    absurd (let f : false ≡ true = sym (ap not (itself one)) ∙ sym (others one) ∙ others (suc one)
-    ∙ ap not (ne_eqb (suc one) one (λ e. omega arith)) in cc)
-one_below _ k valid one others = absurd (let f : true ≡ false = others one ∙ ap not (itself one) in cc)
 
 -- one of the eight modules is left out from a tick on, and before it all run
 pub record LeavesOneOut (fault : Option Fault) : Type 0 where
@@ -47,10 +25,6 @@ pub record LeavesOneOut (fault : Option Fault) : Type 0 where
   pub before : (tick : ℕ) → tick < onset → AllRun (effects fault tick)
   pub after : (tick : ℕ) → onset ≤ tick → OthersRun one (effects fault tick)
 
-at_onset : (fault : Fault) → effects (Some fault) fault.onset ≡ does fault.class (fault.onset - fault.onset)
-unfolding effects
-at_onset fault = rw (le-leb fault.onset fault.onset (omega arith)) refl
-
 pub shape : (fault : Option Fault) → IsNoneOrValid fault → RunsWhole fault ⊎ LeavesOneOut fault
 unfolding IsNoneOrValid
 shape None valid = inl running_law.0
@@ -58,8 +32,7 @@ shape (Some fault) valid = elim (running_law.1 fault) [
   | inl whole ↦ inl whole
   | inr found ↦ inr (record {
     one = found.0;
-    below = one_below fault.class (fault.onset - fault.onset) valid.1 found.0
-        (subst (OthersRun found.0) (at_onset fault) (found.1.after fault.onset (omega arith)));
+    below = one_of_eight_is_left_out fault valid found.0 found.1;
     onset = fault.onset;
     before = found.1.before;
     after = found.1.after;

@@ -16,7 +16,7 @@ use Rattle.eg_model.specs.Detection.{pedal_bit, plate_bit, load_bit, speed_bit, 
 use Rattle.eg_model.specs.Level1.{seen, seen_signals}
 use Rattle.eg_model.specs.Rows.{signal_list}
 use Rattle.eg_agree.specs.Standing.{signals_of, mirror_found, counter_after, limp_after, trip_after, KeepsWords}
-use Rattle.eg_agree.specs.Ticking.{ChecksFlips}
+use Rattle.eg_fault.specs.Classes.{ChecksFlips}
 use Rattle.eg_agree.proofs.BoolLaws.{if-part, if-same, is_set-bit, written-law}
 
 -- the signals as slice j sees them

@@ -10,6 +10,8 @@ use Rattle.eg_answer.specs.declared.marks.AnswerMark.TheVariants.{Absent, Good, 
 use Rattle.eg_values.specs.Calibration.{IsAccepted}
 use Rattle.eg_fault.specs.Effects.{Effects, sends_at}
 use Rattle.eg_fault.specs.Faults.{effects}
+use Rattle.eg_fault.specs.Classes.{ChecksFlips}
+use Rattle.eg_fault.proofs.ClassLemmas.{faults_check_flips}
 use Rattle.eg_level2.specs.Words.{Words, is_set}
 use Rattle.eg_level2.specs.Modules.{debounced, no_watches, answers_now, answer_of, number_of, debounce_step, react_step}
 use Rattle.eg_flow.specs.Ticks.{Doing, after_modules, after_tick, answer_at, orders_at, finds_at}
@@ -21,10 +23,9 @@ use Rattle.eg_model.specs.Moments.{readings_at, moment, moments_of, ticks, momen
 use Rattle.eg_model.specs.Rows.{signal_list}
 use Rattle.eg_agree.specs.Doings.{doing_at}
 use Rattle.eg_agree.specs.Standing.{signals_of, trip_after, KeepsWords}
-use Rattle.eg_agree.specs.Ticking.{ChecksFlips, found_in_level2, IsTick, TickLaw, RunLaw}
+use Rattle.eg_agree.specs.Ticking.{found_in_level2, IsTick, TickLaw, RunLaw}
 use Rattle.eg_agree.proofs.BoolLaws.{if-part, if-same, if-false, is_set-bit, sent-law}
 use Rattle.eg_model.proofs.TickLemmas.{length-moments}
-use Rattle.eg_agree.proofs.FlipLemmas.{faults_check_flips}
 use Rattle.eg_agree.proofs.HistoryLemmas.{mirror_trips}
 use Rattle.eg_agree.proofs.ModuleLemmas.{row, after-check, after-pedal, after-permitted, after-actual, after-excess, after-pairs, after-debounce, after-react}
 use Rattle.eg_agree.proofs.SignalLemmas.{AreSeen, MirrorTrips, Between, seen-same, seen-list, seen-begin, check-between, pedal-between, permitted-between, actual-between, excess-between, pairs-between}

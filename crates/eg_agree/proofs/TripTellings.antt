@@ -1,13 +1,13 @@
 -- Over every history under a fault the word for the trip tells, as react begins, whether a trip came.
 use Rattle.std.proofs.Common.{ℕ, ◌+◌, List, [], ◌∷◌, length, subst, sym}
+use Rattle.eg_fault.specs.Classes.{ChecksFlips}
+use Rattle.eg_fault.proofs.ClassLemmas.{faults_check_flips}
 use Rattle.eg_values.specs.Calibration.{IsAccepted}
 use Rattle.eg_model.specs.History.{Setting, Tick}
 use Rattle.eg_model.specs.Premises.{Follows}
 use Rattle.eg_model.specs.Moments.{moments_of}
 use Rattle.eg_agree.specs.Standing.{KeepsWords}
-use Rattle.eg_agree.specs.Ticking.{ChecksFlips}
 use Rattle.eg_agree.specs.Replies.{doing_after, words_over, TellTrips}
-use Rattle.eg_agree.proofs.FlipLemmas.{faults_check_flips}
 use Rattle.eg_agree.proofs.HistoryLemmas.{start_law}
 use Rattle.eg_agree.proofs.TickLemmas.{tick_law}
 

@@ -1,11 +1,11 @@
 -- One tick of level 2 over its words is one tick of the model.
-use Rattle.std.specs.Prelude.{◌≡◌, ℕ, ◌≤◌, true, false, ◌&&◌, is_some, List, [], ◌∷◌, length, Option}
+use Rattle.std.specs.Prelude.{◌≡◌, ℕ, ◌≤◌, false, ◌&&◌, is_some, List, [], ◌∷◌, length}
 use Rattle.eg_num.specs.declared.watches.Watches.{Watches}
-use Rattle.eg_answer.specs.declared.modules.TheConstants.{CHECK, REACT, MODULES}
+use Rattle.eg_answer.specs.declared.modules.TheConstants.{REACT, MODULES}
 use Rattle.eg_values.specs.Calibration.{IsAccepted}
 use Rattle.eg_fault.specs.Effects.{Effects}
+use Rattle.eg_fault.specs.Classes.{ChecksFlips}
 use Rattle.eg_fault.specs.Faults.{effects}
-use Rattle.eg_fault.specs.declared.class.Fault.{Fault}
 use Rattle.eg_level2.specs.Words.{Words, AreWithin, is_set, start}
 use Rattle.eg_flow.specs.Ticks.{Doing, after_modules, after_tick, answer_at, orders_at, finds_at}
 use Rattle.eg_model.specs.History.{Setting, Entry, Tick, Moment}
@@ -38,15 +38,6 @@ pub record IsTick (s : Setting) (x : Effects) (d : Doing) (w : Words)
   pub answer : is_some (answer_at d w) ≡ is_answer m.mark
 
 -- ---- the laws ----
-
--- Where a word is flipped at a tick, module 0 runs at it, and so finds it. No more is asked of what is out
--- of order.
-abbrev pub ChecksFlips : Effects → Type 0
-ChecksFlips x = is_some x.flip ≡ true → x.ran CHECK ≡ true
-
--- it is so under every fault, and without one
-abbrev pub FaultsCheckFlips : Type 0
-FaultsCheckFlips = (fault : Option Fault) (tick : ℕ) → ChecksFlips (effects fault tick)
 
 -- the words with which level 2 starts stand for the history without a tick
 abbrev pub StartLaw : Type 0

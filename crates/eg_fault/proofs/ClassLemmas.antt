@@ -1,13 +1,14 @@
--- What each class of faults leaves alone.
-use Rattle.std.proofs.Common.{◌≡◌, ◌≢◌, ◌∙◌, ℕ, ◌-◌, ◌⊎◌, inl, inr, Bool, true, false, not, ◌&&◌, ◌||◌, Some, None, refl, sym, ap, le_trans}
-use Rattle.std.specs.Prelude.{◌==◌}
-use Rattle.std.proofs.lemmas.Bool.{cases_lt, cases_Bool, eqb-true, eqb-false, ne_eqb}
+-- What each class of faults leaves alone, which word it flips, and which module it leaves out.
+use Rattle.std.proofs.Common.{◌≡◌, ◌≢◌, ◌∙◌, ℕ, suc, ◌-◌, ◌<◌, ◌⊎◌, inl, inr, Bool, true, false, not, ◌&&◌, ◌||◌, Some, None, refl, sym, ap, subst, le_trans, arith}
+use Rattle.std.specs.Prelude.{◌==◌, if◌then◌else◌, IfSome}
+use Rattle.std.proofs.lemmas.Bool.{cases_lt, cases_Bool, eq-eqb, eqb-true, eqb-false, ne_eqb, false≢true}
 use Rattle.eg_fault.specs.Effects.{Effects, no_effects}
 use Rattle.eg_fault.specs.Faults.{does, effects, IsValidClass}
-use Rattle.eg_fault.specs.Classes.{IsSound, OneTrackIsFaulty, IsHeldWithin, PlatesAreHeldWithin, IsRegular, may_change_answers, OthersSpareLevels, OthersSpareAnswers, WildStaysWild, closes, OthersObeyLatches}
+use Rattle.eg_fault.specs.Classes.{IsSound, OneTrackIsFaulty, IsHeldWithin, PlatesAreHeldWithin, IsFlip, FlipsAreInWords, ChecksFlips, FaultsCheckFlips, OneOfEightIsLeftOut, IsRegular, may_change_answers, OthersSpareLevels, OthersSpareAnswers, WildStaysWild, closes, OthersObeyLatches}
+use Rattle.eg_fault.specs.Running.{OthersRun}
 use Rattle.eg_fault.specs.declared.class.Class.{Class}
-use Rattle.eg_fault.specs.declared.class.Class.TheVariants.{Script, Offset, Plate, Timing, Wild, Path1Closed, Path2Closed, PathOpen}
-use Rattle.eg_fault.proofs.ActingLemmas.{before_onset, from_onset, of_class, of_valid}
+use Rattle.eg_fault.specs.declared.class.Class.TheVariants.{Script, Offset, Plate, Skip, Flip, Halt, Timing, Wild, Path1Closed, Path2Closed, PathOpen, Lapse}
+use Rattle.eg_fault.proofs.ActingLemmas.{before_onset, from_onset, of_class, of_all, of_valid}
 use Rattle.eg_fault.proofs.RunningLemmas.{same-spared}
 
 -- ---- tracks ----
@@ -44,6 +45,59 @@ held-class _ k valid = tt
 
 pub plates_are_held_within : PlatesAreHeldWithin
 plates_are_held_within = of_valid (λ x. IsHeldWithin x.held) (unfold no_effects in tt) held-class
+
+-- ---- the word that is flipped ----
+
+flipped_now : (now : Bool) (word mask : ℕ) → IsFlip (word, mask) → IfSome (if now then Some (word, mask) else None) IsFlip
+flipped_now true word mask valid = valid
+flipped_now false word mask valid = tt
+
+flips-class : (class : Class) (k : ℕ) → IsValidClass class → IfSome (does class k).flip IsFlip
+unfolding does no_effects IsValidClass
+flips-class (Flip word mask) k valid = flipped_now (k == 0) word mask (valid.0, valid.1.0)
+flips-class _ k valid = tt
+
+pub flips_are_in_words : FlipsAreInWords
+flips_are_in_words = of_valid (λ x. IfSome x.flip IsFlip) (unfold no_effects in tt) flips-class
+
+-- the classes that leave module 0 out flip no word
+checks-class : (class : Class) (k : ℕ) → ChecksFlips (does class k)
+unfolding does no_effects
+checks-class (Skip one) k flipped = absurd (false≢true flipped)
+checks-class Halt k flipped = absurd (false≢true flipped)
+checks-class (Lapse after every) k flipped = absurd (false≢true flipped)
+checks-class _ k flipped = refl
+
+pub faults_check_flips : FaultsCheckFlips
+faults_check_flips = of_all ChecksFlips (λ flipped. unfold no_effects in refl) checks-class
+
+-- ---- the module that is left out ----
+
+itself : (n : ℕ) → (n == n) ≡ true
+itself n = eq-eqb n n refl
+
+one_below : (class : Class) (k : ℕ) → IsValidClass class → (one : ℕ) → OthersRun one (does class k) →
+    one < 8
+unfolding does no_effects IsValidClass
+one_below (Skip index) k valid one others =
+    let same : one ≡ index = go (one == index) refl in
+    omega arith
+  where
+    go : (b : Bool) → (one == index) ≡ b → one ≡ index
+    go true e = eqb-true one index e
+    go false e = absurd (let f : true ≡ false = sym (ap not e) ∙ others one ∙ ap not (itself one) in cc)
+one_below Halt k valid one others =
+    absurd (let f : false ≡ true = others (suc one) ∙ ap not (ne_eqb (suc one) one (λ e. omega arith)) in
+    cc)
+one_below (Lapse after every) k valid one others =
+    absurd (let f : false ≡ true = sym (ap not (itself one)) ∙ sym (others one) ∙ others (suc one)
+    ∙ ap not (ne_eqb (suc one) one (λ e. omega arith)) in cc)
+one_below _ k valid one others = absurd (let f : true ≡ false = others one ∙ ap not (itself one) in cc)
+
+pub one_of_eight_is_left_out : OneOfEightIsLeftOut
+one_of_eight_is_left_out fault valid one out =
+    one_below fault.class (fault.onset - fault.onset) valid.1 one
+    (subst (OthersRun one) (from_onset fault fault.onset (omega arith)) (out.after fault.onset (omega arith)))
 
 -- ---- questions and answers ----
 

@@ -1,9 +1,10 @@
--- What holds of each class of faults, and so of every fault: what it leaves alone, and the range that a held
--- plate keeps.
-use Rattle.std.specs.Prelude.{ℕ, ◌≡◌, ◌≢◌, ◌==◌, ◌≤◌, Bool, true, false, Option, Some, None, IfSome}
+-- What holds of each class of faults, and so of every fault: what it leaves alone, the range that a held plate
+-- keeps, which word is flipped, and which module is left out.
+use Rattle.std.specs.Prelude.{ℕ, ◌≡◌, ◌≢◌, ◌==◌, ◌≤◌, ◌<◌, Bool, true, false, is_some, Option, Some, None, IfSome}
+use Rattle.eg_answer.specs.declared.modules.TheConstants.{CHECK, MODULES}
 use Rattle.eg_fault.specs.Effects.{Effects}
-use Rattle.eg_fault.specs.Faults.{effects, IsNoneOrValid}
-use Rattle.eg_fault.specs.Running.{RunAlike, may_change_levels}
+use Rattle.eg_fault.specs.Faults.{effects, IsValid, IsNoneOrValid}
+use Rattle.eg_fault.specs.Running.{LeavesOut, RunAlike, may_change_levels}
 use Rattle.eg_fault.specs.declared.class.Class.{Class}
 use Rattle.eg_fault.specs.declared.class.Class.TheVariants.{Timing, Wild, Path1Closed, Path2Closed}
 use Rattle.eg_fault.specs.declared.class.Fault.{Fault}
@@ -30,6 +31,32 @@ IsHeldWithin held = IfSome held (λ at. at ≤ 1000)
 abbrev pub PlatesAreHeldWithin : Type 0
 PlatesAreHeldWithin =
     (fault : Option Fault) → IsNoneOrValid fault → (tick : ℕ) → IsHeldWithin (effects fault tick).held
+
+-- ---- the word that is flipped ----
+
+-- a word of level 2, and at least one of its bits
+abbrev pub IsFlip : ℕ × ℕ → Type 0
+IsFlip flipped = (flipped.0 < 32) × (1 ≤ flipped.1)
+
+-- so it is at each tick, without a fault and under each valid one
+abbrev pub FlipsAreInWords : Type 0
+FlipsAreInWords =
+    (fault : Option Fault) → IsNoneOrValid fault → (tick : ℕ) → IfSome (effects fault tick).flip IsFlip
+
+-- Where a word is flipped at a tick, module 0 runs at it, and so finds it. No more is asked of what is out
+-- of order.
+abbrev pub ChecksFlips : Effects → Type 0
+ChecksFlips x = is_some x.flip ≡ true → x.ran CHECK ≡ true
+
+-- it is so under every fault, and without one
+abbrev pub FaultsCheckFlips : Type 0
+FaultsCheckFlips = (fault : Option Fault) (tick : ℕ) → ChecksFlips (effects fault tick)
+
+-- ---- the module that is left out ----
+
+-- under a valid fault it is one of the eight
+abbrev pub OneOfEightIsLeftOut : Type 0
+OneOfEightIsLeftOut = (fault : Fault) → IsValid fault → (one : ℕ) → LeavesOut fault one → one < MODULES
 
 -- ---- level 1 and level 2 ----
 

@@ -1,48 +1,22 @@
 -- Module 0 at the tick at which a word is flipped: it gives all up, and finds that alone.
-use Rattle.std.proofs.Common.{◌≡◌, ◌∙◌, refl, sym, ap, ℕ, ◌-◌, ◌<◌, ◌≤◌, ◌==◌, Bool, true, false, List, nat_le}
+use Rattle.std.proofs.Common.{◌≡◌, ◌∙◌, refl, sym, ap, ℕ, ◌<◌, ◌≤◌, Bool, true, false, List}
 use Rattle.std.specs.Prelude.{if◌then◌else◌, is_some, Option, Some, None, Result, Ok, Err, OnOk, IfOk, IfSome}
 use Rattle.eg_guard.specs.Memory.{AreWords, SameOutside}
 use Rattle.eg_word.specs.declared.registers.Registers.{Registers}
-use Rattle.eg_fault.specs.Effects.{no_effects}
-use Rattle.eg_fault.specs.Faults.{does, effects, IsValidClass}
-use Rattle.eg_fault.specs.declared.class.Class.{Class}
-use Rattle.eg_fault.specs.declared.class.Class.TheVariants.{Flip}
+use Rattle.eg_fault.specs.Classes.{IsFlip}
+use Rattle.eg_fault.specs.Faults.{effects}
 use Rattle.eg_fault.specs.declared.class.Fault.{Fault}
 use Rattle.eg_level2.specs.declared.step.Step.{Step}
 use Rattle.eg_level2.specs.Words.{Words, words_of, AreMirrored, is_level2_own}
 use Rattle.eg_level2.specs.Inputs.{Level2Parts, Inputs}
 use Rattle.eg_level2.specs.Modules.{answer_after, order_after, given_up, finding, mirror_alone}
 use Rattle.eg_flow.specs.Ticks.{after_module}
-use Rattle.eg_fault.specs.Faults.{IsNoneOrValid}
-use Rattle.eg_agree.proofs.FlipLemmas.{faults_check_flips}
+use Rattle.eg_fault.proofs.ClassLemmas.{faults_check_flips}
 use Rattle.eg_tick.specs.declared.working.Task.{Task}
 use Rattle.eg_tick.specs.Midway.{Work, IsMidway, Meets, step_at}
 use Rattle.eg_tick.proofs.MidwayLemmas.{module-midway}
 
 -- ---- what is flipped ----
-
--- a word of level 2, and at least one of its bits
-abbrev pub IsFlip : ℕ × ℕ → Type 0
-IsFlip flipped = (flipped.0 < 32) × (1 ≤ flipped.1)
-
-at-onset : (now : Bool) (word mask : ℕ) → IsFlip (word, mask) → IfSome (if now then Some (word, mask) else None) IsFlip
-at-onset true word mask valid = valid
-at-onset false word mask valid = tt
-
-class-flips : (class : Class) (k : ℕ) → IsValidClass class → IfSome (does class k).flip IsFlip
-unfolding does no_effects IsValidClass
-class-flips (Flip word mask) k valid = at-onset (k == 0) word mask (valid.0, valid.1.0)
-class-flips _ k valid = tt
-
-from-onset : (acts : Bool) (class : Class) (k : ℕ) → IsValidClass class → IfSome (if acts then does class k else no_effects).flip IsFlip
-unfolding no_effects
-from-onset true class k valid = class-flips class k valid
-from-onset false class k valid = tt
-
-pub flips-are : (fault : Option Fault) (tick : ℕ) → IsNoneOrValid fault → IfSome (effects fault tick).flip IsFlip
-unfolding effects IsNoneOrValid no_effects
-flips-are None tick valid = tt
-flips-are (Some fault) tick valid = from-onset (nat_le fault.onset tick) fault.class (tick - fault.onset) valid.1
 
 pub some-word : (flip : Option (ℕ × ℕ)) → IfSome flip IsFlip → IfSome flip (λ flipped. flipped.0 < 32)
 some-word None are = tt

@@ -1,4 +1,4 @@
-use Rattle.eg_agree.proofs.FlipLemmas.{faults_check_flips}
+use Rattle.eg_fault.proofs.ClassLemmas.{faults_check_flips}
 use Rattle.eg_agree.proofs.HistoryLemmas.{start_law, within_law}
 use Rattle.eg_agree.proofs.TickLemmas.{tick_law, run_law}
 use Rattle.eg_agree.proofs.words.words_stand_for_the_model.Goals as goal
