@@ -4,6 +4,7 @@ use Rattle.std.specs.Prelude.{if◌then◌else◌, ◌==◌}
 use Rattle.std.proofs.lemmas.Bool.{and_parts, or_parts, or_from, not-true, cases_lt, eq-eqb, ne_eqb, eqb-true, and_left}
 use Rattle.std.proofs.Math.Nat.{mod-lt, mod-eq_of_lt}
 use Rattle.eg_answer.specs.Answers.{expected_of, answer_number}
+use Rattle.eg_answer.specs.Modules.{AllRun, NoneRuns, OthersRun, AtMostOneIsDisturbed}
 use Rattle.eg_answer.specs.Periods.{asked, expected_number as expected_number_of}
 use Rattle.eg_answer.specs.Questions.{question_at}
 use Rattle.eg_answer.specs.Times.{TimeParts}
@@ -14,9 +15,9 @@ use Rattle.eg_level2.specs.Inputs.{row_of}
 use Rattle.eg_level2.specs.Modules.{number_of}
 use Rattle.eg_fault.specs.Effects.{Effects, asked_in, asked_at}
 use Rattle.eg_fault.specs.Faults.{effects}
-use Rattle.eg_fault.specs.Running.{AllRun, NoneRuns, OthersRun, RunsWhole}
+use Rattle.eg_fault.specs.Running.{RunsWhole}
 use Rattle.eg_flow.specs.Ticks.{Doing, answer_at}
-use Rattle.eg_flow.specs.Flow.{FitsWords, IsSteady, row_asked, expected_fold, expected_number, AtMostOneIsDisturbed}
+use Rattle.eg_flow.specs.Flow.{FitsWords, IsSteady, row_asked, expected_fold, expected_number}
 use Rattle.eg_flow.specs.Laws.{at_react}
 use Rattle.eg_flow.proofs.FlowSteps.{answer-is}
 use Rattle.eg_flow.proofs.SteadyLemmas.{steady_answers, gap_answers, all_told, out_told}
@@ -24,14 +25,15 @@ use Rattle.eg_flow.proofs.RowLemmas.{fits_words}
 use Rattle.eg_model.specs.History.{Setting, Entry, Tick, Moment}
 use Rattle.eg_model.specs.Signals.{tripped}
 use Rattle.eg_model.specs.Answers.{is_undisturbed, is_answer, whole_since_answer, is_sent, is_good}
-use Rattle.eg_model.specs.Moments.{readings_at, moment, moments_of, ticks, moments, next}
+use Rattle.eg_model.specs.Moments.{moment, moments_of, ticks, moments, next}
 use Rattle.eg_model.specs.Premises.{Follows}
 use Rattle.eg_model.proofs.TickLemmas.{tripped-cons, moment-whole}
 use Rattle.eg_agree.specs.Doings.{doing_at}
 use Rattle.eg_fault.specs.Faults.{IsNoneOrValid}
 use Rattle.eg_agree.specs.Replies.{doing_after, words_over, answer_from_power_on, TellTrips, IsReady, FlowMarks, AnswersHold, AnswersHoldFromPowerOn, RestsBetweenAnswers, moment_after, number_expected, mark_of, is_flipped, RanTogether, ReactRan, has_just_answered, KeepsFlow}
 use Rattle.eg_agree.proofs.TickLemmas.{length-ticks}
-use Rattle.eg_agree.proofs.ReplyShapes.{shape, LeavesOneOut, few_are_disturbed}
+use Rattle.eg_fault.proofs.ClassLemmas.{at_most_one_is_disturbed}
+use Rattle.eg_agree.proofs.ReplyShapes.{shape, LeavesOneOut}
 use Rattle.eg_agree.proofs.ReplySteps.{whole_same, undisturbed_same, sent_same, mark-is, keeps_next, keeps_start}
 
 -- ---- the question that is asked ----
@@ -110,7 +112,7 @@ whole_together : (s : Setting) → RunsWhole s.fault → (start : ℕ) (h : List
 unfolding RanTogether Follows
 whole_together s whole start [] follows = tt
 whole_together s whole start (x ∷ h) follows = (
-  run_as (λ x. AllRun x ⊎ NoneRuns x) s start x h follows (whole (start + length h)),
+  run_as (λ x. AllRun x.ran ⊎ NoneRuns x.ran) s start x h follows (whole (start + length h)),
   whole_together s whole start h follows.1,
 )
 
@@ -120,7 +122,7 @@ early_together : (s : Setting) (out : LeavesOneOut s.fault) (start : ℕ) (h : L
 unfolding RanTogether Follows
 early_together s out start [] follows early = tt
 early_together s out start (x ∷ h) follows early = (
-  inl (run_as AllRun s start x h follows (out.before (start + length h) (omega arith))),
+  inl (run_as (λ y. AllRun y.ran) s start x h follows (out.before (start + length h) (omega arith))),
   early_together s out start h follows.1 (omega arith),
 )
 
@@ -163,18 +165,16 @@ module _ (s : Setting) (start : ℕ) (x : Tick) (h : List Tick) (w : Words) (g :
   abbrev Tells : Type 0
   Tells = (number_of (at_react d w) == number_expected s x.effects (length h)) ≡ is_good x.effects past
 
-  few : AtMostOneIsDisturbed d
-  unfolding doing_after
-  few =
-      run_as (λ y. AtMostOneIsDisturbed
-      (doing_at s y (readings_at x.effects x.entry) (length h))) s start x h g.follows
-      (few_are_disturbed s.fault (start + length h) g.fault s (readings_at x.effects x.entry) (length h))
+  few : AtMostOneIsDisturbed d.disturbance
+  unfolding doing_after doing_at
+  few = run_as (λ y. AtMostOneIsDisturbed y.disturbance) s start x h g.follows
+      (at_most_one_is_disturbed s.fault g.fault (start + length h))
 
   expects : (n : ℕ) → (n == number_expected s x.effects (length h)) ≡ (n == expected_number d)
   expects n = ap (λ k. n == k) (number-is s g.accepted x h)
 
   -- where all modules ran together so far, and now
-  tells_all : AllRun x.effects → is_flipped (x ∷ h) ≡ false → RanTogether h → Tells
+  tells_all : AllRun x.effects.ran → is_flipped (x ∷ h) ≡ false → RanTogether h → Tells
   unfolding is_good is_flipped doing_after doing_at
   tells_all all unflipped together =
       let parts = or_parts _ _ unflipped in
@@ -186,7 +186,7 @@ module _ (s : Setting) (start : ℕ) (x : Tick) (h : List Tick) (w : Words) (g :
       (sym (sym (whole_same s x h) ∙ all_told d all))
 
   -- where one before react is left out now
-  tells_out : (one : ℕ) → one < 7 → OthersRun one x.effects → is_flipped (x ∷ h) ≡ false → w.token ≡ 0 →
+  tells_out : (one : ℕ) → one < 7 → OthersRun one x.effects.ran → is_flipped (x ∷ h) ≡ false → w.token ≡ 0 →
       Tells
   unfolding is_good is_flipped doing_after doing_at
   tells_out one below others unflipped z =
@@ -203,20 +203,20 @@ module _ (s : Setting) (start : ℕ) (x : Tick) (h : List Tick) (w : Words) (g :
       x.effects.ran 7 ≡ true → Tells
   unfolding Follows
   by_shape (inl whole) unflipped ran =
-      elim (run_as (λ y. AllRun y ⊎ NoneRuns y) s start x h g.follows (whole (start + length h))) [
+      elim (run_as (λ y. AllRun y.ran ⊎ NoneRuns y.ran) s start x h g.follows (whole (start + length h))) [
         | inl all ↦ tells_all all unflipped (whole_together s whole start h g.follows.1)
         | inr none ↦ absurd (let e : false ≡ true = sym (none 7) ∙ ran in cc)
       ]
   by_shape (inr out) unflipped ran =
       elim (cases_lt (start + length h) out.onset) [
         | inl early ↦ tells_all
-            (run_as AllRun s start x h g.follows (out.before (start + length h) early)) unflipped
+            (run_as (λ y. AllRun y.ran) s start x h g.follows (out.before (start + length h) early)) unflipped
             (early_together s out start h g.follows.1 (omega arith))
-        | inr late ↦ after (run_as (OthersRun out.one) s start x h g.follows
+        | inr late ↦ after (run_as (λ y. OthersRun out.one y.ran) s start x h g.follows
             (out.after (start + length h) late)) (seven out.one out.below)
       ]
     where
-      after : OthersRun out.one x.effects → (out.one < 7) ⊎ (out.one ≡ 7) → Tells
+      after : OthersRun out.one x.effects.ran → (out.one < 7) ⊎ (out.one ≡ 7) → Tells
       after others (inl below) =
           tells_out out.one below others unflipped
           (g.keeps.token (react_ran s out below start h g.follows.1))
@@ -254,7 +254,7 @@ answered_now m past part e = cases (is_answer m.mark) m.whole part e
 
 module _ (s : Setting) (fault : IsNoneOrValid s.fault) (start : ℕ) (w : Words) where
   -- the tick isn't whole
-  part_of : (one : ℕ) (x : Tick) (h : List Tick) → one < 8 → OthersRun one x.effects →
+  part_of : (one : ℕ) (x : Tick) (h : List Tick) → one < 8 → OthersRun one x.effects.ran →
       (moment_after s x h).whole ≡ false
   unfolding doing_after doing_at
   part_of one x h below others = moment-whole s x.effects x.entry (moments_of s h) ∙ sym (whole_same s x h)
@@ -275,7 +275,7 @@ module _ (s : Setting) (fault : IsNoneOrValid s.fault) (start : ℕ) (w : Words)
     where
       part : out.onset ≤ start + length h → (moment_after s x h).whole ≡ false
       part late = part_of out.one x h out.below
-          (run_as (OthersRun out.one) s start x h follows (out.after (start + length h) late))
+          (run_as (λ y. OthersRun out.one y.ran) s start x h follows (out.after (start + length h) late))
 
   -- where no word was flipped and all ran at each tick since the last answer, token and flow rest
   pub rests : (h : List Tick) → Follows s.fault start h → KeepsFlow s w h → is_flipped h ≡ false →

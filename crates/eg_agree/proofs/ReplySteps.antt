@@ -86,7 +86,7 @@ module _ (s : Setting) (x : Tick) (h : List Tick) where
 
   -- ---- what the words tell after it ----
 
-  all_or_none : RanTogether (x ∷ h) → flow.AllRun d ⊎ flow.NoneRuns d
+  all_or_none : RanTogether (x ∷ h) → eight.AllRun d.ran ⊎ eight.NoneRuns d.ran
   unfolding RanTogether doing_after doing_at
   all_or_none together = together.0
 

@@ -4,6 +4,7 @@
 use Rattle.std.specs.Prelude.{◌≡◌, ℕ, ◌<◌, ◌==◌, ◌⊎◌, Bool, true, false, is_some, List, [], ◌∷◌, length, Option, Some, None, if◌then◌else◌}
 use Rattle.std.specs.List.{list_any}
 use Rattle.eg_answer.specs.Answers.{answer_number}
+use Rattle.eg_answer.specs.Modules.{AllRun, NoneRuns}
 use Rattle.eg_answer.specs.Questions.{question_at}
 use Rattle.eg_answer.specs.declared.modules.TheConstants.{REACT}
 use Rattle.eg_answer.specs.declared.marks.AnswerMark.{AnswerMark}
@@ -12,7 +13,6 @@ use Rattle.eg_values.specs.Calibration.{IsAccepted}
 use Rattle.eg_level2.specs.Words.{Words, is_set, start}
 use Rattle.eg_fault.specs.Effects.{Effects, asked_at}
 use Rattle.eg_fault.specs.Faults.{effects, IsNoneOrValid}
-use Rattle.eg_fault.specs.Running.{AllRun, NoneRuns}
 use Rattle.eg_flow.specs.Ticks.{Doing, after_tick, answer_at}
 use Rattle.eg_flow.specs.Flow.{IsSteady}
 use Rattle.eg_flow.specs.Laws.{at_react}
@@ -78,7 +78,7 @@ is_flipped h = list_any (λ x. is_some x.effects.flip) h
 -- at each of them all modules ran or none did
 unfoldable pub RanTogether : List Tick → Type 0
 RanTogether [] = Unit {0}
-RanTogether (x ∷ before) = (AllRun x.effects ⊎ NoneRuns x.effects) × RanTogether before
+RanTogether (x ∷ before) = (AllRun x.effects.ran ⊎ NoneRuns x.effects.ran) × RanTogether before
 
 -- at each of them react ran
 unfoldable pub ReactRan : List Tick → Type 0

@@ -1,13 +1,13 @@
--- What each class of faults leaves alone, which word it flips, and which module it leaves out.
+-- What each class of faults leaves alone, which word it flips, and which module it leaves out or disturbs.
 use Rattle.std.proofs.Common.{◌≡◌, ◌≢◌, ◌∙◌, ℕ, suc, ◌-◌, ◌<◌, ◌⊎◌, inl, inr, Bool, true, false, not, ◌&&◌, ◌||◌, Some, None, refl, sym, ap, subst, le_trans, arith}
 use Rattle.std.specs.Prelude.{◌==◌, if◌then◌else◌, IfSome}
 use Rattle.std.proofs.lemmas.Bool.{cases_lt, cases_Bool, eq-eqb, eqb-true, eqb-false, ne_eqb, false≢true}
+use Rattle.eg_answer.specs.Modules.{OthersRun, AtMostOneIsDisturbed}
 use Rattle.eg_fault.specs.Effects.{Effects, no_effects}
 use Rattle.eg_fault.specs.Faults.{does, effects, IsValidClass}
-use Rattle.eg_fault.specs.Classes.{IsSound, OneTrackIsFaulty, IsHeldWithin, PlatesAreHeldWithin, IsFlip, FlipsAreInWords, ChecksFlips, FaultsCheckFlips, OneOfEightIsLeftOut, IsRegular, may_change_answers, OthersSpareLevels, OthersSpareAnswers, WildStaysWild, closes, OthersObeyLatches}
-use Rattle.eg_fault.specs.Running.{OthersRun}
+use Rattle.eg_fault.specs.Classes.{IsSound, OneTrackIsFaulty, IsHeldWithin, PlatesAreHeldWithin, IsFlip, FlipsAreInWords, ChecksFlips, FaultsCheckFlips, OneOfEightIsLeftOut, FaultsDisturbOne, IsRegular, may_change_answers, OthersSpareLevels, OthersSpareAnswers, WildStaysWild, closes, OthersObeyLatches}
 use Rattle.eg_fault.specs.declared.class.Class.{Class}
-use Rattle.eg_fault.specs.declared.class.Class.TheVariants.{Script, Offset, Plate, Skip, Flip, Halt, Timing, Wild, Path1Closed, Path2Closed, PathOpen, Lapse}
+use Rattle.eg_fault.specs.declared.class.Class.TheVariants.{Script, Offset, Plate, Skip, Disturb, Flip, Halt, Timing, Wild, Path1Closed, Path2Closed, PathOpen, Lapse}
 use Rattle.eg_fault.proofs.ActingLemmas.{before_onset, from_onset, of_class, of_all, of_valid}
 use Rattle.eg_fault.proofs.RunningLemmas.{same-spared}
 
@@ -76,7 +76,7 @@ faults_check_flips = of_all ChecksFlips (λ flipped. unfold no_effects in refl) 
 itself : (n : ℕ) → (n == n) ≡ true
 itself n = eq-eqb n n refl
 
-one_below : (class : Class) (k : ℕ) → IsValidClass class → (one : ℕ) → OthersRun one (does class k) →
+one_below : (class : Class) (k : ℕ) → IsValidClass class → (one : ℕ) → OthersRun one (does class k).ran →
     one < 8
 unfolding does no_effects IsValidClass
 one_below (Skip index) k valid one others =
@@ -97,7 +97,25 @@ one_below _ k valid one others = absurd (let f : true ≡ false = others one ∙
 pub one_of_eight_is_left_out : OneOfEightIsLeftOut
 one_of_eight_is_left_out fault valid one out =
     one_below fault.class (fault.onset - fault.onset) valid.1 one
-    (subst (OthersRun one) (from_onset fault fault.onset (omega arith)) (out.after fault.onset (omega arith)))
+    (subst (λ (x : Effects). OthersRun one x.ran) (from_onset fault fault.onset (omega arith)) (out.after fault.onset (omega arith)))
+
+-- ---- the module that is disturbed ----
+
+disturbs-class : (class : Class) (k : ℕ) → IsValidClass class → AtMostOneIsDisturbed (does class k).disturbance
+unfolding does no_effects IsValidClass
+disturbs-class (Disturb index mask) k valid = inr (record {
+  one = index;
+  mask = mask;
+  from_1 = valid.0;
+  to_5 = valid.1;
+  some = valid.2.0;
+  word = let few = valid.2.1 in omega arith;
+  alone = λ i. refl;
+})
+disturbs-class _ k valid = inl (λ i. refl)
+
+pub at_most_one_is_disturbed : FaultsDisturbOne
+at_most_one_is_disturbed = of_valid (λ x. AtMostOneIsDisturbed x.disturbance) (unfold no_effects in inl (λ i. refl)) disturbs-class
 
 -- ---- questions and answers ----
 

@@ -1,21 +1,22 @@
 -- Which modules of level 2 run under each class of faults.
 use Rattle.std.proofs.Common.{◌≡◌, ℕ, ◌-◌, ◌<◌, ◌⊎◌, inl, inr, Bool, true, false, refl, sym, subst}
 use Rattle.std.specs.Prelude.{not, Some, None}
+use Rattle.eg_answer.specs.Modules.{AllRun, NoneRuns, OthersRun}
 use Rattle.eg_fault.specs.Effects.{Effects, no_effects}
 use Rattle.eg_fault.specs.Faults.{does, effects, is_left_out}
-use Rattle.eg_fault.specs.Running.{AllRun, NoneRuns, OthersRun, LeavesOut, RunsWhole, RunningLaw, RunAlike, may_change_levels}
+use Rattle.eg_fault.specs.Running.{LeavesOut, RunsWhole, RunningLaw, RunAlike, may_change_levels}
 use Rattle.eg_fault.specs.declared.class.Class.{Class}
 use Rattle.eg_fault.specs.declared.class.Class.TheVariants.{Skip, Disturb, Flip, Halt, Lapse}
 use Rattle.eg_fault.specs.declared.class.Fault.{Fault}
 use Rattle.eg_fault.proofs.ActingLemmas.{before_onset, from_onset, of_class}
 
-all-no_effects : AllRun no_effects
+all-no_effects : AllRun no_effects.ran
 unfolding no_effects
 all-no_effects i = refl
 
 -- what a class does to level 2, at each tick after the onset
 Kind : Class → Type 0
-Kind class = ((k : ℕ) → AllRun (does class k) ⊎ NoneRuns (does class k)) ⊎ ((one : ℕ) × ((k : ℕ) → OthersRun one (does class k)))
+Kind class = ((k : ℕ) → AllRun (does class k).ran ⊎ NoneRuns (does class k).ran) ⊎ ((one : ℕ) × ((k : ℕ) → OthersRun one (does class k).ran))
 
 lapse : (left_out : Bool) → ((i : ℕ) → not left_out ≡ true) ⊎ ((i : ℕ) → not left_out ≡ false)
 lapse true = inr (λ i. refl)
@@ -29,19 +30,19 @@ kind-of (Lapse after every) = inl (λ k. lapse (is_left_out after every k))
 kind-of _ = inl (λ k. inl (λ i. refl))
 
 -- without a fault all run
-without : (tick : ℕ) → AllRun (effects None tick)
+without : (tick : ℕ) → AllRun (effects None tick).ran
 unfolding effects
 without tick = all-no_effects
 
 -- whole or not at all, at each tick
-whole : (fault : Fault) → ((k : ℕ) → AllRun (does fault.class k) ⊎ NoneRuns (does fault.class k)) → RunsWhole (Some fault)
-whole fault each tick = of_class (λ x. AllRun x ⊎ NoneRuns x) fault (inl all-no_effects) each tick
+whole : (fault : Fault) → ((k : ℕ) → AllRun (does fault.class k).ran ⊎ NoneRuns (does fault.class k).ran) → RunsWhole (Some fault)
+whole fault each tick = of_class (λ x. AllRun x.ran ⊎ NoneRuns x.ran) fault (inl all-no_effects) each tick
 
 -- one is left out from the onset on
-left_out : (fault : Fault) (one : ℕ) → ((k : ℕ) → OthersRun one (does fault.class k)) → LeavesOut fault one
+left_out : (fault : Fault) (one : ℕ) → ((k : ℕ) → OthersRun one (does fault.class k).ran) → LeavesOut fault one
 left_out fault one each = record {
-  before = λ tick before. subst AllRun (sym (before_onset fault tick before)) all-no_effects;
-  after = λ tick after. subst (OthersRun one) (sym (from_onset fault tick after)) (each (tick - fault.onset));
+  before = λ tick before. subst (λ (x : Effects). AllRun x.ran) (sym (before_onset fault tick before)) all-no_effects;
+  after = λ tick after. subst (λ (x : Effects). OthersRun one x.ran) (sym (from_onset fault tick after)) (each (tick - fault.onset));
 }
 
 of-kind : (fault : Fault) → Kind fault.class → RunsWhole (Some fault) ⊎ ((one : ℕ) × LeavesOut fault one)

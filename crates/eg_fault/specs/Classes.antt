@@ -1,6 +1,7 @@
 -- What holds of each class of faults, and so of every fault: what it leaves alone, the range that a held plate
--- keeps, which word is flipped, and which module is left out.
+-- keeps, which word is flipped, and which module is left out or disturbed.
 use Rattle.std.specs.Prelude.{ℕ, ◌≡◌, ◌≢◌, ◌==◌, ◌≤◌, ◌<◌, Bool, true, false, is_some, Option, Some, None, IfSome}
+use Rattle.eg_answer.specs.Modules.{AtMostOneIsDisturbed}
 use Rattle.eg_answer.specs.declared.modules.TheConstants.{CHECK, MODULES}
 use Rattle.eg_fault.specs.Effects.{Effects}
 use Rattle.eg_fault.specs.Faults.{effects, IsValid, IsNoneOrValid}
@@ -57,6 +58,13 @@ FaultsCheckFlips = (fault : Option Fault) (tick : ℕ) → ChecksFlips (effects 
 -- under a valid fault it is one of the eight
 abbrev pub OneOfEightIsLeftOut : Type 0
 OneOfEightIsLeftOut = (fault : Fault) → IsValid fault → (one : ℕ) → LeavesOut fault one → one < MODULES
+
+-- ---- the module that is disturbed ----
+
+-- it is one at most at each tick, without a fault and under each valid one
+abbrev pub FaultsDisturbOne : Type 0
+FaultsDisturbOne =
+    (fault : Option Fault) → IsNoneOrValid fault → (tick : ℕ) → AtMostOneIsDisturbed (effects fault tick).disturbance
 
 -- ---- level 1 and level 2 ----
 

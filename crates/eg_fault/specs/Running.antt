@@ -1,30 +1,21 @@
 -- Which modules of level 2 run under a fault. At each tick all of them run, or none does, or all but one; and
 -- where one is left out, it is the same one at each tick from the onset on.
-use Rattle.std.specs.Prelude.{ℕ, ◌≡◌, ◌==◌, ◌≤◌, ◌<◌, ◌⊎◌, Bool, true, false, not, Option, Some, None}
+use Rattle.std.specs.Prelude.{ℕ, ◌≡◌, ◌≤◌, ◌<◌, ◌⊎◌, Bool, true, false, Option, Some, None}
+use Rattle.eg_answer.specs.Modules.{AllRun, NoneRuns, OthersRun}
 use Rattle.eg_fault.specs.Effects.{Effects}
 use Rattle.eg_fault.specs.Faults.{effects}
 use Rattle.eg_fault.specs.declared.class.Class.{Class}
 use Rattle.eg_fault.specs.declared.class.Class.TheVariants.{Skip, Disturb, Flip, Halt, Lapse}
 use Rattle.eg_fault.specs.declared.class.Fault.{Fault}
 
--- which modules run at a tick: all of them; none; or all but one
-abbrev pub AllRun : Effects → Type 0
-AllRun x = (i : ℕ) → x.ran i ≡ true
-
-abbrev pub NoneRuns : Effects → Type 0
-NoneRuns x = (i : ℕ) → x.ran i ≡ false
-
-abbrev pub OthersRun : ℕ → Effects → Type 0
-OthersRun one x = (i : ℕ) → x.ran i ≡ not (i == one)
-
 -- one module is left out from the onset on
 pub record LeavesOut (fault : Fault) (one : ℕ) : Type 0 where
-  pub before : (tick : ℕ) → tick < fault.onset → AllRun (effects (Some fault) tick)
-  pub after : (tick : ℕ) → fault.onset ≤ tick → OthersRun one (effects (Some fault) tick)
+  pub before : (tick : ℕ) → tick < fault.onset → AllRun (effects (Some fault) tick).ran
+  pub after : (tick : ℕ) → fault.onset ≤ tick → OthersRun one (effects (Some fault) tick).ran
 
 -- level 2 runs whole or not at all
 abbrev pub RunsWhole : Option Fault → Type 0
-RunsWhole fault = (tick : ℕ) → AllRun (effects fault tick) ⊎ NoneRuns (effects fault tick)
+RunsWhole fault = (tick : ℕ) → AllRun (effects fault tick).ran ⊎ NoneRuns (effects fault tick).ran
 
 -- the law: without a fault and under any fault level 2 runs whole or not at all, at each tick, or one module
 -- is left out from the onset on

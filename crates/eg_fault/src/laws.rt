@@ -1,5 +1,5 @@
 // The laws of all faults. None of these functions does anything when it runs.
-ghost use Rattle.eg_fault.specs.Classes.{OneTrackIsFaulty, PlatesAreHeldWithin, FlipsAreInWords, FaultsCheckFlips, OneOfEightIsLeftOut, OthersSpareLevels, OthersSpareAnswers, WildStaysWild, OthersObeyLatches};
+ghost use Rattle.eg_fault.specs.Classes.{OneTrackIsFaulty, PlatesAreHeldWithin, FlipsAreInWords, FaultsCheckFlips, OneOfEightIsLeftOut, FaultsDisturbOne, OthersSpareLevels, OthersSpareAnswers, WildStaysWild, OthersObeyLatches};
 ghost use Rattle.eg_fault.specs.Running.{RunningLaw};
 
 /// A law: without a fault and under any fault all modules of level 2 run at a tick, or none does, or all but
@@ -29,9 +29,10 @@ pub fn plates_are_held_within()
 
 /// Laws of the module that runs and of the word that is flipped (docs/CONCEPT.md, "Faults"): module 0 runs at
 /// each tick at which a word is flipped; and under a valid fault that is one of the words of level 2, by at
-/// least one bit, and a module that is left out is one of the eight.
+/// least one bit, a module that is left out is one of the eight, and at most one module is disturbed.
 pub fn faults_stay_in_level2()
     ensures checks { FaultsCheckFlips }
     ensures flips { FlipsAreInWords }
     ensures left_out { OneOfEightIsLeftOut }
+    ensures disturbed { FaultsDisturbOne }
 {}

@@ -7,8 +7,7 @@ use Rattle.eg_answer.specs.Token.{next_token_of}
 use Rattle.eg_level2.specs.Words.{Words}
 use Rattle.eg_level2.specs.Modules.{marked, check_step, given_up, pedal_step, permitted_step, actual_step, excess_step, pairs_step, debounce_step, closed_flow, answers_now, number_of, answer_of, react_step, module_step}
 use Rattle.eg_flow.specs.Ticks.{Doing, inputs_for, after_module, after_modules, after_tick, answer_at}
-use Rattle.eg_answer.specs.Modules.{modules_before_react}
-use Rattle.eg_flow.specs.Flow.{AllRun, NoneRuns}
+use Rattle.eg_answer.specs.Modules.{modules_before_react, AllRun, NoneRuns}
 use Rattle.eg_flow.specs.Laws.{at_react, WholeTick, EmptyTick, MarkStays, IsFlow, TwoFlows, ReactClears}
 use Rattle.eg_flow.proofs.TickSteps.{part, token_tells}
 
@@ -142,7 +141,7 @@ pub closed-flow : (d : Doing) (w : Words) → d.differs ≡ false → w.token �
     closed_flow (at_react d w) ≡ (if list_all (λ i. d.ran i) modules_before_react then (at_react d w).flow else marked (at_react d w).flow)
 closed-flow d w e z = by_token (at_react d w) _ (token_tells d w e z)
 
-all_before : (d : Doing) → AllRun d → list_all (λ i. d.ran i) modules_before_react ≡ true
+all_before : (d : Doing) → AllRun d.ran → list_all (λ i. d.ran i) modules_before_react ≡ true
 unfolding modules_before_react
 all_before d a = rw (a 0, a 1, a 2, a 3, a 4, a 5, a 6) refl
 
@@ -153,7 +152,7 @@ whole_tick d w a e z = record {
   last = last-after d w e (a 0);
 }
 
-stays : (d : Doing) (w : Words) → NoneRuns d → after_tick d w ≡ w
+stays : (d : Doing) (w : Words) → NoneRuns d.ran → after_tick d w ≡ w
 unfolding after_tick after_modules after_module
 stays d w n = rw (n 0, n 1, n 2, n 3, n 4, n 5, n 6, n 7) refl
 

@@ -12,13 +12,13 @@ use Rattle.eg_answer.proofs.FoldLemmas.{fold_law, fold_below}
 use Rattle.eg_level2.specs.Words.{Words}
 use Rattle.eg_level2.specs.Modules.{check_step, signed, pedal_step, permitted_step, actual_step, excess_step, pairs_step, debounce_step, module_step}
 use Rattle.eg_flow.specs.Ticks.{Doing, inputs_for, after_module, after_modules}
-use Rattle.eg_answer.specs.Modules.{modules_before_react, modules}
-use Rattle.eg_flow.specs.Flow.{AllRun, row_asked, expected_fold, FitsWords, NoneIsDisturbed, OneIsDisturbed, is_undisturbed}
+use Rattle.eg_answer.specs.Modules.{modules_before_react, modules, AllRun, NoneIsDisturbed, OneIsDisturbed}
+use Rattle.eg_flow.specs.Flow.{row_asked, expected_fold, FitsWords, is_undisturbed}
 use Rattle.eg_flow.specs.Laws.{at_react, FoldTells}
 
 -- ---- the fold as react begins ----
 
-module _ (d : Doing) (w : Words) (all : AllRun d) where
+module _ (d : Doing) (w : Words) (all : AllRun d.ran) where
   fold_0 : d.differs ≡ false → (after_module d 0 w).sign ≡ (row_asked d).seed
   unfolding after_module module_step check_step inputs_for row_asked
   fold_0 e = rw (e, all 0) refl
@@ -65,7 +65,7 @@ unfolding fold_of
 five s0 s1 s2 s3 s4 s5 seed r1 r2 r3 r4 r5 d1 d2 d3 d4 d5 e0 e1 e2 e3 e4 e5 =
     rw (e5, e4, e3, e2, e1, e0, inside seed r1 d1, inside _ r2 d2, inside _ r3 d3, inside _ r4 d4, inside _ r5 d5) refl
 
-pub fold-at_react : (d : Doing) (w : Words) → AllRun d → d.differs ≡ false → (at_react d w).sign ≡ fold_of (row_asked d).seed (mixed_in d)
+pub fold-at_react : (d : Doing) (w : Words) → AllRun d.ran → d.differs ≡ false → (at_react d w).sign ≡ fold_of (row_asked d).seed (mixed_in d)
 unfolding after_modules mixed_in
 fold-at_react d w all e =
     fold_6 d (after_modules d 6 w) all
@@ -74,7 +74,7 @@ fold-at_react d w all e =
 
 -- ---- a fold that one result moves ----
 
-quiet : (d : Doing) → NoneIsDisturbed d → mixed_in d ≡ results_of d.rules (row_asked d)
+quiet : (d : Doing) → NoneIsDisturbed d.disturbance → mixed_in d ≡ results_of d.rules (row_asked d)
 unfolding mixed_in results_of
 quiet d z = rw (
   z 1,
@@ -124,19 +124,19 @@ five_differ bits d (suc (suc (suc (suc (suc zero))))) mask r1 r2 r3 r4 r5 from t
     (rw (is 1, is 2, is 3, is 4, is 5, xor_zero_r r1, xor_zero_r r2, xor_zero_r r3, xor_zero_r r4) refl) refl
 five_differ bits d (suc (suc (suc (suc (suc (suc one)))))) mask r1 r2 r3 r4 r5 from to some word is small words = absurd (omega arith)
 
-disturbed : (d : Doing) → FitsWords d.rules (row_asked d) → OneIsDisturbed d → fold_of (row_asked d).seed (mixed_in d) ≢ expected_fold d
+disturbed : (d : Doing) → FitsWords d.rules (row_asked d) → OneIsDisturbed d.disturbance → fold_of (row_asked d).seed (mixed_in d) ≢ expected_fold d
 unfolding mixed_in expected_fold expected_of results_of
 disturbed d fits one =
     five_differ (row_asked d).seed d.disturbance one.one one.mask (pedal_result (row_asked d)) (permitted_result d.rules (row_asked d)) (estimate_result d.rules (row_asked d))
     (excess_result d.rules (row_asked d)) (pairs_result d.rules (row_asked d)) one.from_1 one.to_5 one.some one.word one.alone fits.seed fits.results
 
-undisturbed : (d : Doing) → NoneIsDisturbed d → fold_of (row_asked d).seed (mixed_in d) ≡ expected_fold d
+undisturbed : (d : Doing) → NoneIsDisturbed d.disturbance → fold_of (row_asked d).seed (mixed_in d) ≡ expected_fold d
 unfolding expected_fold expected_of
 undisturbed d none = ap (fold_of (row_asked d).seed) (quiet d none)
 
 -- ---- whether one is disturbed ----
 
-none_told : (d : Doing) → NoneIsDisturbed d → is_undisturbed d ≡ true
+none_told : (d : Doing) → NoneIsDisturbed d.disturbance → is_undisturbed d ≡ true
 unfolding is_undisturbed modules_before_react modules
 none_told d z = rw (z 0, z 1, z 2, z 3, z 4, z 5, z 6, z 7) refl
 
@@ -150,7 +150,7 @@ is_disturbed d (suc (suc (suc (suc zero)))) mask from to some is = rw (is 0, is 
 is_disturbed d (suc (suc (suc (suc (suc zero))))) mask from to some is = rw (is 0, is 1, is 2, is 3, is 4, is 5, some) refl
 is_disturbed d (suc (suc (suc (suc (suc (suc one)))))) mask from to some is = absurd (omega arith)
 
-one_told : (d : Doing) → OneIsDisturbed d → is_undisturbed d ≡ false
+one_told : (d : Doing) → OneIsDisturbed d.disturbance → is_undisturbed d ≡ false
 unfolding is_undisturbed
 one_told d one = is_disturbed d.disturbance one.one one.mask one.from_1 one.to_5 (ne_eqb one.mask 0 (λ e. let some = one.some in omega arith)) one.alone
 

@@ -8,8 +8,8 @@ use Rattle.eg_answer.specs.Answers.{answer_number}
 use Rattle.eg_level2.specs.Words.{Words, start}
 use Rattle.eg_level2.specs.Modules.{marked, closed_flow, number_of}
 use Rattle.eg_flow.specs.Ticks.{Doing, after_tick, answer_at}
-use Rattle.eg_answer.specs.Modules.{modules_before_react, modules}
-use Rattle.eg_flow.specs.Flow.{AllRun, NoneRuns, OthersRun, is_whole, row_asked, expected_fold, expected_number, FitsWords, AreInOrder, AreTogether, words_after, whole_after, whole_since, IsSteady}
+use Rattle.eg_answer.specs.Modules.{modules_before_react, modules, AllRun, NoneRuns, OthersRun}
+use Rattle.eg_flow.specs.Flow.{is_whole, row_asked, expected_fold, expected_number, FitsWords, AreInOrder, AreTogether, words_after, whole_after, whole_since, IsSteady}
 use Rattle.eg_flow.specs.Laws.{at_react, NumberTells, SteadyStays, SteadyAnswers, GapAnswers, SteadyFromStart}
 use Rattle.eg_flow.proofs.FlowSteps.{whole_tick, empty_tick, closed-flow, marked-high, flow-after}
 use Rattle.eg_flow.proofs.FoldSteps.{fold_tells, expected-word}
@@ -62,15 +62,15 @@ steady_flow flow x made whole (inr e) t = cases (x == made) (sym t ∙ rw e refl
     cases false q = rw (q, e) refl
 
 -- what is sent with it, where all modules run
-sent_flow : (d : Doing) (w : Words) (whole : Bool) → d.differs ≡ false → AllRun d → IsSteady d.tick whole w → closed_flow (at_react d w) ≡ (if whole then 255 else 33023)
+sent_flow : (d : Doing) (w : Words) (whole : Bool) → d.differs ≡ false → AllRun d.ran → IsSteady d.tick whole w → closed_flow (at_react d w) ≡ (if whole then 255 else 33023)
 sent_flow d w whole e all steady =
     (whole_tick d w all e steady.token).flow ∙ steady_flow w.flow ((w.last + 1) % 65536) d.tick whole steady.flow steady.tells
 
-pub all_told : (d : Doing) → AllRun d → is_whole d ≡ true
+pub all_told : (d : Doing) → AllRun d.ran → is_whole d ≡ true
 unfolding is_whole modules_before_react modules
 all_told d a = rw (a 0, a 1, a 2, a 3, a 4, a 5, a 6, a 7) refl
 
-none_whole : (d : Doing) → NoneRuns d → is_whole d ≡ false
+none_whole : (d : Doing) → NoneRuns d.ran → is_whole d ≡ false
 unfolding is_whole modules_before_react modules
 none_whole d n = rw (n 0) refl
 
@@ -85,7 +85,7 @@ told_again true whole flow x made e q = rw e (eq-eqb x made q)
 told_again false true flow x made e q = rw e (eq-eqb x made q)
 told_again false false flow x made e q = rw e refl
 
-whole_stays : (d : Doing) (w : Words) (whole : Bool) → d.tick < 65535 → d.differs ≡ false → AllRun d → IsSteady d.tick whole w
+whole_stays : (d : Doing) (w : Words) (whole : Bool) → d.tick < 65535 → d.differs ≡ false → AllRun d.ran → IsSteady d.tick whole w
     → IsSteady (suc d.tick) (whole_after d w whole) (after_tick d w)
 whole_stays d w whole small e all steady =
     let through = whole_tick d w all e steady.token in
@@ -104,7 +104,7 @@ apart : (unmarked : Bool) (x made : ℕ) → x ≤ made → (unmarked && x == su
 apart true x made h = ne_eqb x (suc made) (λ e. omega arith)
 apart false x made h = refl
 
-none_stays : (d : Doing) (w : Words) (whole : Bool) → NoneRuns d → IsSteady d.tick whole w → IsSteady (suc d.tick) (whole_after d w whole) (after_tick d w)
+none_stays : (d : Doing) (w : Words) (whole : Bool) → NoneRuns d.ran → IsSteady d.tick whole w → IsSteady (suc d.tick) (whole_after d w whole) (after_tick d w)
 unfolding whole_after
 none_stays d w whole none steady =
     rw ((empty_tick d w none).0, (empty_tick d w none).1, none_whole d none)
@@ -129,7 +129,7 @@ steady_answers d w false e all fits most steady =
     marked_number d (at_react d w) fits (omega arith)
 
 -- a module before react that is left out
-gap_told : (d : Doing) (one : ℕ) → one < 7 → OthersRun one d → list_all (λ i. d.ran i) modules_before_react ≡ false
+gap_told : (d : Doing) (one : ℕ) → one < 7 → OthersRun one d.ran → list_all (λ i. d.ran i) modules_before_react ≡ false
 unfolding modules_before_react
 gap_told d zero h o = rw (o 0) refl
 gap_told d (suc zero) h o = rw (o 0, o 1) refl
@@ -141,7 +141,7 @@ gap_told d (suc (suc (suc (suc (suc (suc zero)))))) h o = rw (o 0, o 1, o 2, o 3
 gap_told d (suc (suc (suc (suc (suc (suc (suc one))))))) h o = absurd (omega arith)
 
 -- any module that is left out
-pub out_told : (d : Doing) (one : ℕ) → one < 8 → OthersRun one d → is_whole d ≡ false
+pub out_told : (d : Doing) (one : ℕ) → one < 8 → OthersRun one d.ran → is_whole d ≡ false
 unfolding is_whole modules_before_react modules
 out_told d zero h o = rw (o 0) refl
 out_told d (suc zero) h o = rw (o 0, o 1) refl
@@ -164,7 +164,7 @@ pub start_steady : IsSteady 0 true start
 unfolding start
 start_steady = record { token = refl; flow = inl refl; near = omega arith; tells = refl }
 
-next_steady : (d : Doing) (w : Words) (whole : Bool) (made : ℕ) → d.tick ≡ made → made < 65535 → d.differs ≡ false → AllRun d ⊎ NoneRuns d → IsSteady made whole w
+next_steady : (d : Doing) (w : Words) (whole : Bool) (made : ℕ) → d.tick ≡ made → made < 65535 → d.differs ≡ false → AllRun d.ran ⊎ NoneRuns d.ran → IsSteady made whole w
     → IsSteady (suc made) (whole_after d w whole) (after_tick d w)
 next_steady d w whole made e small same runs steady =
     subst (λ n. IsSteady (suc n) (whole_after d w whole) (after_tick d w)) e

@@ -1,10 +1,9 @@
 -- The program flow of level 2 over its ticks: which modules run, whether one is disturbed, which number a
 -- right answer is, and what the token, the flow and the last tick tell between two ticks.
-use Rattle.std.specs.Prelude.{◌≡◌, ℕ, ◌+◌, ◌%◌, ◌^◌, ◌≤◌, ◌<◌, ◌==◌, ◌⊎◌, Bool, true, false, not, ◌&&◌, ◌||◌, is_some, List, [], ◌∷◌, length, All, if◌then◌else◌}
+use Rattle.std.specs.Prelude.{◌≡◌, ℕ, ◌+◌, ◌%◌, ◌^◌, ◌≤◌, ◌<◌, ◌==◌, ◌⊎◌, Bool, true, false, ◌&&◌, ◌||◌, is_some, List, [], ◌∷◌, length, All}
 use Rattle.std.specs.List.{list_all}
 use Rattle.eg_answer.specs.Answers.{results_of, expected_of, answer_number}
-use Rattle.eg_answer.specs.Modules.{modules}
-use Rattle.eg_answer.specs.declared.modules.TheConstants.{PEDAL, PAIRS}
+use Rattle.eg_answer.specs.Modules.{modules, AllRun, NoneRuns}
 use Rattle.eg_answer.specs.declared.rules.Rules.{Rules}
 use Rattle.eg_answer.specs.declared.rules.TestRow.{TestRow}
 use Rattle.eg_level2.specs.Words.{Words}
@@ -12,15 +11,6 @@ use Rattle.eg_level2.specs.Inputs.{row_of}
 use Rattle.eg_flow.specs.Ticks.{Doing, after_tick, answer_at}
 
 -- ---- which modules run at a tick ----
-
-abbrev pub AllRun : Doing → Type 0
-AllRun d = (i : ℕ) → d.ran i ≡ true
-
-abbrev pub NoneRuns : Doing → Type 0
-NoneRuns d = (i : ℕ) → d.ran i ≡ false
-
-abbrev pub OthersRun : ℕ → Doing → Type 0
-OthersRun one d = (i : ℕ) → d.ran i ≡ not (i == one)
 
 -- whether all eight run
 unfoldable pub is_whole : Doing → Bool
@@ -44,23 +34,6 @@ pub record FitsWords (rules : Rules) (row : TestRow) : Type 0 where
   pub seed : row.seed < 2 ^ 16
   pub results : All (λ result. result < 2 ^ 16) (results_of rules row)
 
--- no module is disturbed
-abbrev pub NoneIsDisturbed : Doing → Type 0
-NoneIsDisturbed d = (i : ℕ) → d.disturbance i ≡ 0
-
--- one of the modules from pedal to pairs is, by some of the 16 bits, and no other
-pub record OneIsDisturbed (d : Doing) : Type 0 where
-  pub one : ℕ
-  pub mask : ℕ
-  pub from_1 : PEDAL ≤ one
-  pub to_5 : one ≤ PAIRS
-  pub some : 1 ≤ mask
-  pub word : mask < 2 ^ 16
-  pub alone : (i : ℕ) → d.disturbance i ≡ (if i == one then mask else 0)
-
-abbrev pub AtMostOneIsDisturbed : Doing → Type 0
-AtMostOneIsDisturbed d = NoneIsDisturbed d ⊎ OneIsDisturbed d
-
 -- whether none of the eight is
 unfoldable pub is_undisturbed : Doing → Bool
 is_undisturbed d = list_all (λ i. d.disturbance i == 0) modules
@@ -75,7 +48,7 @@ AreInOrder (d ∷ before) = (d.tick ≡ length before) × AreInOrder before
 -- at each of them all eight modules run or none does, and no word differs from its complement
 unfoldable pub AreTogether : List Doing → Type 0
 AreTogether [] = Unit {0}
-AreTogether (d ∷ before) = (AllRun d ⊎ NoneRuns d) × (d.differs ≡ false) × AreTogether before
+AreTogether (d ∷ before) = (AllRun d.ran ⊎ NoneRuns d.ran) × (d.differs ≡ false) × AreTogether before
 
 -- the words after them
 unfoldable pub words_after : Words → List Doing → Words

@@ -3,12 +3,12 @@
 use Rattle.std.specs.Prelude.{◌≡◌, ℕ, suc, ◌+◌, ◌%◌, ◌^◌, ◌≤◌, ◌<◌, ◌==◌, ◌⊎◌, Bool, true, false, ◌&&◌, List, length, None, if◌then◌else◌}
 use Rattle.std.specs.List.{list_all}
 use Rattle.eg_answer.specs.declared.modules.TheConstants.{REACT}
-use Rattle.eg_answer.specs.Modules.{modules_before_react}
+use Rattle.eg_answer.specs.Modules.{modules_before_react, AllRun, NoneRuns, OthersRun, AtMostOneIsDisturbed}
 use Rattle.eg_answer.specs.Token.{next_token_of}
 use Rattle.eg_level2.specs.Words.{Words, start}
 use Rattle.eg_level2.specs.Modules.{marked, closed_flow, number_of}
 use Rattle.eg_flow.specs.Ticks.{Doing, after_modules, after_tick, answer_at}
-use Rattle.eg_flow.specs.Flow.{AllRun, NoneRuns, OthersRun, row_asked, expected_fold, expected_number, FitsWords, AtMostOneIsDisturbed, is_undisturbed, AreInOrder, AreTogether, words_after, whole_after, whole_since, IsSteady}
+use Rattle.eg_flow.specs.Flow.{row_asked, expected_fold, expected_number, FitsWords, is_undisturbed, AreInOrder, AreTogether, words_after, whole_after, whole_since, IsSteady}
 
 -- the words as react begins
 abbrev pub at_react : Doing → Words → Words
@@ -37,12 +37,12 @@ pub record RunsThrough (d : Doing) (words : Words) : Type 0 where
   pub last : (after_tick d words).last ≡ d.tick
 
 abbrev pub WholeTick : Type 0
-WholeTick = (d : Doing) (words : Words) → AllRun d → d.differs ≡ false → words.token ≡ 0 → RunsThrough d words
+WholeTick = (d : Doing) (words : Words) → AllRun d.ran → d.differs ≡ false → words.token ≡ 0 → RunsThrough d words
 
 -- A tick at which none runs leaves all words as they are, and sends nothing. The next run of module 0 finds
 -- the gap.
 abbrev pub EmptyTick : Type 0
-EmptyTick = (d : Doing) (words : Words) → NoneRuns d →
+EmptyTick = (d : Doing) (words : Words) → NoneRuns d.ran →
     (after_tick d words ≡ words) × (answer_at d words ≡ None)
 
 -- a flow with the mark stays marked until an answer is sent, whatever runs, and the answer has the mark
@@ -64,8 +64,8 @@ TwoFlows = (d : Doing) (words : Words) → IsFlow words.flow →
 -- where all eight modules run and at most one of them is disturbed, the fold is that of the row that is
 -- asked exactly where none of them is disturbed, also where a trip stands
 abbrev pub FoldTells : Type 0
-FoldTells = (d : Doing) (words : Words) → AllRun d → d.differs ≡ false → FitsWords d.rules (row_asked d) →
-    AtMostOneIsDisturbed d → ((at_react d words).sign == expected_fold d) ≡ is_undisturbed d
+FoldTells = (d : Doing) (words : Words) → AllRun d.ran → d.differs ≡ false → FitsWords d.rules (row_asked d) →
+    AtMostOneIsDisturbed d.disturbance → ((at_react d words).sign == expected_fold d) ≡ is_undisturbed d
 
 -- ---- the number that is sent ----
 
@@ -77,19 +77,19 @@ NumberTells = (d : Doing) (words : Words) → FitsWords d.rules (row_asked d) �
 -- Steady words stay so over a tick at which all eight modules run, and over one at which none runs.
 abbrev pub SteadyStays : Type 0
 SteadyStays = (d : Doing) (words : Words) (whole : Bool) → d.tick < 65535 → d.differs ≡ false →
-    AllRun d ⊎ NoneRuns d → IsSteady d.tick whole words →
+    AllRun d.ran ⊎ NoneRuns d.ran → IsSteady d.tick whole words →
     IsSteady (suc d.tick) (whole_after d words whole) (after_tick d words)
 
 -- From steady words on, a tick at which all eight modules run has the expected number exactly where all
 -- eight ran at each tick since the last answer and none is disturbed now.
 abbrev pub SteadyAnswers : Type 0
-SteadyAnswers = (d : Doing) (words : Words) (whole : Bool) → d.differs ≡ false → AllRun d →
-    FitsWords d.rules (row_asked d) → AtMostOneIsDisturbed d → IsSteady d.tick whole words →
+SteadyAnswers = (d : Doing) (words : Words) (whole : Bool) → d.differs ≡ false → AllRun d.ran →
+    FitsWords d.rules (row_asked d) → AtMostOneIsDisturbed d.disturbance → IsSteady d.tick whole words →
     (number_of (at_react d words) == expected_number d) ≡ (whole && is_undisturbed d)
 
 -- where one module before react is left out of a tick, the number isn't the expected one
 abbrev pub GapAnswers : Type 0
-GapAnswers = (d : Doing) (words : Words) (one : ℕ) → d.differs ≡ false → OthersRun one d → one < REACT →
+GapAnswers = (d : Doing) (words : Words) (one : ℕ) → d.differs ≡ false → OthersRun one d.ran → one < REACT →
     FitsWords d.rules (row_asked d) → words.token ≡ 0 →
     (number_of (at_react d words) == expected_number d) ≡ false
 
