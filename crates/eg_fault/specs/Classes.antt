@@ -1,5 +1,5 @@
--- What holds of each class of faults, and so of every fault: what it leaves alone, the range that a held plate
--- keeps, which word is flipped, and which module is left out or disturbed.
+-- What holds of each class of faults, and so of every fault: what it leaves alone, the range that a held
+-- plate keeps, which word is flipped, and which module is left out or disturbed.
 use Rattle.std.specs.Prelude.{ℕ, ◌≡◌, ◌≢◌, ◌==◌, ◌≤◌, ◌<◌, Bool, true, false, is_some, Option, Some, None, IfSome}
 use Rattle.eg_answer.specs.Modules.{AtMostOneIsDisturbed}
 use Rattle.eg_answer.specs.declared.modules.TheConstants.{CHECK, MODULES}
@@ -64,7 +64,8 @@ OneOfEightIsLeftOut = (fault : Fault) → IsValid fault → (one : ℕ) → Leav
 -- it is one at most at each tick, without a fault and under each valid one
 abbrev pub FaultsDisturbOne : Type 0
 FaultsDisturbOne =
-    (fault : Option Fault) → IsNoneOrValid fault → (tick : ℕ) → AtMostOneIsDisturbed (effects fault tick).disturbance
+    (fault : Option Fault) → IsNoneOrValid fault → (tick : ℕ) →
+    AtMostOneIsDisturbed (effects fault tick).disturbance
 
 -- ---- level 1 and level 2 ----
 

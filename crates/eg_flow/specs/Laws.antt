@@ -37,7 +37,8 @@ pub record RunsThrough (d : Doing) (words : Words) : Type 0 where
   pub last : (after_tick d words).last ≡ d.tick
 
 abbrev pub WholeTick : Type 0
-WholeTick = (d : Doing) (words : Words) → AllRun d.ran → d.differs ≡ false → words.token ≡ 0 → RunsThrough d words
+WholeTick = (d : Doing) (words : Words) → AllRun d.ran → d.differs ≡ false → words.token ≡ 0 →
+    RunsThrough d words
 
 -- A tick at which none runs leaves all words as they are, and sends nothing. The next run of module 0 finds
 -- the gap.
