@@ -10,14 +10,14 @@ use Rattle.eg_answer.specs.Formulas.{permitted_torque, estimated_torque, excess_
 use Rattle.eg_answer.specs.Modules.{modules_before_react, modules}
 use Rattle.eg_answer.specs.Answers.{pedal_result, permitted_result, estimate_result, excess_result, pairs_result, results_of, expected_of, answer_number}
 use Rattle.eg_answer.specs.Token.{next_token_of, token_after}
-use Rattle.eg_answer.specs.Times.{TimeParts, verdicts_to_confirm, reaction_of, runs_to_confirm, periods_to_confirm, worth_of, rounds_to_confirm, lapse_periods, lapse_bound_of, HasLapseBound}
+use Rattle.eg_answer.specs.Times.{TimeParts, verdicts_to_confirm, reaction_of, test_ticks_of, runs_to_confirm, periods_to_confirm, worth_of, rounds_to_confirm, lapse_periods, lapse_bound_of, HasLapseBound}
 use Rattle.eg_answer.specs.declared.rules.Rules.{Rules}
 use Rattle.eg_answer.specs.declared.rules.TestRow.{TestRow}
 
 -- every definition that these rows need
 unfoldable answering : ℕ
 unfolding value_at permitted is_excess permitted_torque estimated_torque excess_number disagreeing_pairs mixed fold_of pedal_result permitted_result estimate_result excess_result pairs_result
-    results_of expected_of answer_number next_token_of token_after modules_before_react modules verdicts_to_confirm reaction_of
+    results_of expected_of answer_number next_token_of token_after modules_before_react modules verdicts_to_confirm reaction_of test_ticks_of
     runs_to_confirm periods_to_confirm worth_of rounds_to_confirm lapse_periods lapse_bound_of
 answering = 0
 
@@ -133,6 +133,14 @@ reaction-3 = refl
 reaction-2 : reaction_of (times 2) ≡ 54
 unfolding answering
 reaction-2 = refl
+
+test-3 : test_ticks_of (times 3) ≡ 30
+unfolding answering
+test-3 = refl
+
+test-2 : test_ticks_of (times 2) ≡ 50
+unfolding answering
+test-2 = refl
 
 -- the weights of an excess, in which each counts 1 up and 1 down
 abbrev torque : ℕ → WeightParts

@@ -32,6 +32,11 @@ verdicts_to_confirm w = quotient_up w.limit w.up
 unfoldable pub reaction_of : TimeParts → ℕ
 reaction_of t = (verdicts_to_confirm t.weights + 1) * t.period - t.send - 1
 
+-- How long the test of the shut-off paths takes: no answer is sent in it, so that each verdict is wrong, and so
+-- many ticks from its begin on path 2 is open.
+unfoldable pub test_ticks_of : TimeParts → ℕ
+test_ticks_of t = verdicts_to_confirm t.weights * t.period
+
 -- ---- lapses: level 2 as a whole doesn't run at some ticks, again and again ----
 
 -- how many runs of level 2 in a row are enough to confirm an excess, where each of them finds it

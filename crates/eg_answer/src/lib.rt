@@ -18,5 +18,5 @@ pub use marks::{AnswerMark, Verdict};
 pub use modules::{ACTUAL, CHECK, DEBOUNCE, EXCESS, MODULES, PAIRS, PEDAL, PERMITTED, REACT};
 pub use questions::{Question, Questions};
 pub use rules::{Rules, TestRow};
-pub use times::{Times, lapse_bound, reaction};
+pub use times::{Times, lapse_bound, reaction, verdicts_to_confirm};
 pub use token::{next_token, token_counts_modules};

@@ -1,7 +1,7 @@
 // The times of the answers, and the reaction time.
 ghost use Rattle.std.specs.Prelude.{◌≡◌, ◌+◌, ◌*◌, ◌≤◌, ◌<◌, SomeIff};
 ghost use Rattle.eg_num.specs.Windows.{AreWeights};
-ghost use Rattle.eg_answer.specs.Times.{TimeParts, AreTimes, reaction_of, periods_to_confirm, HasLapseBound, lapse_bound_of};
+ghost use Rattle.eg_answer.specs.Times.{TimeParts, AreTimes, verdicts_to_confirm, reaction_of, periods_to_confirm, HasLapseBound, lapse_bound_of};
 
 use eg_num::Weights;
 use std::marker::Model;
@@ -124,9 +124,17 @@ impl Times {
 pub fn reaction(times: &Times) -> u32
     ensures { result ≡ reaction_of times.now }
 {
-    let weights = times.weights();
-    let verdicts = u32::from(weights.limit()).div_ceil(u32::from(weights.up()));
+    let verdicts = verdicts_to_confirm(times.weights());
     (verdicts + 1) * u32::from(times.period()) - u32::from(times.send()) - 1
+}
+
+/// How many wrong verdicts in a row are enough to confirm (docs/CONCEPT.md, "Reaction time").
+pub fn verdicts_to_confirm(weights: &Weights) -> u32
+    ensures number { result ≡ verdicts_to_confirm weights.now }
+    ensures some { 1 ≤ result }
+    ensures within { result ≤ 10000 }
+{
+    u32::from(weights.limit()).div_ceil(u32::from(weights.up()))
 }
 
 /// How many periods the runs of level 2 fill that are enough to confirm an excess (docs/CONCEPT.md,

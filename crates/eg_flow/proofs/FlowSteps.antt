@@ -89,14 +89,14 @@ react-token d w r = rw r refl
 pub react_clears : ReactClears
 react_clears d w r = ap (λ (w : Words). w.token) (after_tick-is d w) ∙ react-token d (at_react d w) r
 
-react-flow : (d : Doing) (w : Words) → (after_module d 7 w).flow ≡ (if d.ran 7 then (if answers_now d.sends w then 255 else closed_flow w) else w.flow)
+react-flow : (d : Doing) (w : Words) → (after_module d 7 w).flow ≡ (if d.ran 7 then (if answers_now d.phase w then 255 else closed_flow w) else w.flow)
 unfolding after_module module_step react_step inputs_for
 react-flow d w = part (λ (w : Words). w.flow) (d.ran 7) _ w
 
 -- whether an answer is sent
-pub answers : (d : Doing) (w : Words) → is_some (answer_at d w) ≡ (d.ran 7 && answers_now d.sends (at_react d w))
+pub answers : (d : Doing) (w : Words) → is_some (answer_at d w) ≡ (d.ran 7 && answers_now d.phase (at_react d w))
 unfolding answer_at answer_of
-answers d w = cases (d.ran 7) (answers_now d.sends (at_react d w))
+answers d w = cases (d.ran 7) (answers_now d.phase (at_react d w))
   where
     cases : (r s : Bool) → is_some (if r then (if s then Some (number_of (at_react d w)) else None) else None) ≡ (r && s)
     cases true true = refl
@@ -107,7 +107,7 @@ answers d w = cases (d.ran 7) (answers_now d.sends (at_react d w))
 pub flow-after : (d : Doing) (w : Words) → (after_tick d w).flow ≡ (if is_some (answer_at d w) then 255 else if d.ran 7 then closed_flow (at_react d w) else (at_react d w).flow)
 flow-after d w =
     ap (λ (w : Words). w.flow) (after_tick-is d w) ∙ react-flow d (at_react d w)
-    ∙ cases (closed_flow (at_react d w)) (at_react d w).flow (d.ran 7) (answers_now d.sends (at_react d w))
+    ∙ cases (closed_flow (at_react d w)) (at_react d w).flow (d.ran 7) (answers_now d.phase (at_react d w))
     ∙ ap (λ b. if b then 255 else if d.ran 7 then closed_flow (at_react d w) else (at_react d w).flow) (sym (answers d w))
   where
     cases : (x y : ℕ) (r s : Bool) → (if r then (if s then 255 else x) else y) ≡ (if r && s then 255 else if r then x else y)
@@ -122,7 +122,7 @@ silent d w r = rw r refl
 -- the number that is sent is that of the words as react begins
 pub answer-is : (d : Doing) (w : Words) → is_some (answer_at d w) ≡ true → answer_at d w ≡ Some (number_of (at_react d w))
 unfolding answer_at answer_of
-answer-is d w s = cases (d.ran 7) (answers_now d.sends (at_react d w)) s
+answer-is d w s = cases (d.ran 7) (answers_now d.phase (at_react d w)) s
   where
     cases : (r b : Bool) → is_some (if r then (if b then Some (number_of (at_react d w)) else None) else None) ≡ true
         → (if r then (if b then Some (number_of (at_react d w)) else None) else None) ≡ Some (number_of (at_react d w))

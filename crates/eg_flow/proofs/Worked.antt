@@ -12,9 +12,12 @@ use Rattle.eg_answer.specs.Answers.{pedal_result, permitted_result, estimate_res
 use Rattle.eg_answer.specs.Token.{next_token_of}
 use Rattle.eg_answer.specs.declared.rules.Rules.{Rules}
 use Rattle.eg_answer.specs.declared.questions.Question.{Question}
+use Rattle.eg_level2.specs.declared.phase.Phase.{Phase}
+use Rattle.eg_level2.specs.declared.phase.Phase.TheVariants.{Quiet, Send}
+use Rattle.eg_level2.specs.Phases.{feeds, sends}
 use Rattle.eg_level2.specs.Words.{Words, is_set, start}
 use Rattle.eg_level2.specs.Inputs.{row_of}
-use Rattle.eg_level2.specs.Modules.{marked, check_step, given_up, written, signed, pedal_step, permitted_step, actual_step, excess_step, pairs_step, pedal_bit, plate_bit, load_bit, speed_bit, torque_bit, counted, is_found, debounced, limits, trips, debounce_step, closed_flow, answers_now, number_of, answer_of, react_step, module_step}
+use Rattle.eg_level2.specs.Modules.{feeds_now, marked, check_step, given_up, written, signed, pedal_step, permitted_step, actual_step, excess_step, pairs_step, pedal_bit, plate_bit, load_bit, speed_bit, torque_bit, counted, is_found, debounced, limits, trips, debounce_step, closed_flow, answers_now, number_of, answer_of, react_step, module_step}
 use Rattle.eg_flow.specs.Ticks.{Doing, inputs_for, after_module, after_modules, after_tick, answer_at}
 use Rattle.eg_flow.specs.Flow.{row_asked, expected_fold, expected_number}
 
@@ -55,14 +58,14 @@ question = record {
 
 -- The question is asked at a tick, with pedal 0, plate 0, both loads 40, speed 800 and no raise. These
 -- modules run, the disturbance of each is as given, and no word differs from its complement.
-abbrev doing : ℕ → Bool → (ℕ → Bool) → (ℕ → ℕ) → Doing
-doing tick sends ran disturbance = record {
+abbrev doing : ℕ → Phase → (ℕ → Bool) → (ℕ → ℕ) → Doing
+doing tick phase ran disturbance = record {
   rules = rules;
   questions = question ∷ question ∷ [];
   readings = sound_readings 0 0 (40 ∷ 40 ∷ []) 800 0;
   asked = 2;
   tick = tick;
-  sends = sends;
+  phase = phase;
   ran = ran;
   disturbance = disturbance;
   differs = false;
@@ -78,11 +81,11 @@ abbrev sound : ℕ → ℕ
 sound i = 0
 
 -- a tick whose modules all run, and one whose modules don't
-abbrev whole : ℕ → Bool → Doing
-whole tick sends = doing tick sends all sound
+abbrev whole : ℕ → Phase → Doing
+whole tick phase = doing tick phase all sound
 
 abbrev empty : ℕ → Doing
-empty tick = doing tick true none sound
+empty tick = doing tick Send none sound
 
 -- a tick, and its answer, with all that they are made of opened
 unfoldable tick : Doing → Words → Words
@@ -90,6 +93,7 @@ unfolding value_at permitted is_excess mixed pedal_result permitted_result estim
     is_set row_of permitted_torque estimated_torque excess_number disagreeing_pairs marked check_step given_up written signed pedal_step
     permitted_step actual_step excess_step pairs_step has_bit pedal_bit plate_bit load_bit speed_bit torque_bit counted is_found debounced
     limits trips debounce_step closed_flow answers_now react_step module_step inputs_for after_module after_modules after_tick start
+    feeds_now feeds sends
 tick d words = after_tick d words
 
 unfoldable answer : Doing → Words → Option ℕ
@@ -118,44 +122,44 @@ after_tick_0 = record {
 }
 
 -- all eight modules at tick 0, without and with an answer; it is the expected one
-tick_0 : tick (whole 0 false) start ≡ after_tick_0
+tick_0 : tick (whole 0 Quiet) start ≡ after_tick_0
 unfolding tick
 tick_0 = refl
 
-sends_0 : answer (whole 0 true) start ≡ Some 16720522
+sends_0 : answer (whole 0 Send) start ≡ Some 16720522
 unfolding answer
 sends_0 = refl
 
-quiet_0 : answer (whole 0 false) start ≡ None
+quiet_0 : answer (whole 0 Quiet) start ≡ None
 unfolding answer
 quiet_0 = refl
 
-expects_0 : expected_number (whole 0 true) ≡ 16720522
+expects_0 : expected_number (whole 0 Send) ≡ 16720522
 unfolding expected_number answer_number expected_fold expected_of results_of fold_of mixed pedal_result permitted_result estimate_result
     excess_result pairs_result permitted_torque estimated_torque excess_number disagreeing_pairs permitted value_at is_excess row_asked row_of
 expects_0 = refl
 
 -- Tick 1 is left out. At tick 2 the gap is found and the flow is marked: 33023 is 0x80ff. The answer has the
 -- mark too, and the flow begins anew with it.
-gap : (tick (whole 2 false) (tick (empty 1) after_tick_0)).flow ≡ 33023
+gap : (tick (whole 2 Quiet) (tick (empty 1) after_tick_0)).flow ≡ 33023
 unfolding tick
 gap = refl
 
-answers_after_gap : answer (whole 2 true) (tick (empty 1) after_tick_0) ≡ Some 2164204170
+answers_after_gap : answer (whole 2 Send) (tick (empty 1) after_tick_0) ≡ Some 2164204170
 unfolding answer
 answers_after_gap = refl
 
-begins_anew : (tick (whole 2 true) (tick (empty 1) after_tick_0)).flow ≡ 255
+begins_anew : (tick (whole 2 Send) (tick (empty 1) after_tick_0)).flow ≡ 255
 unfolding tick
 begins_anew = refl
 
 -- a mark stays over a whole tick without an answer
-stays_marked : answer (whole 3 true) (tick (whole 2 false) (tick (empty 1) after_tick_0)) ≡ Some 2164204170
+stays_marked : answer (whole 3 Send) (tick (whole 2 Quiet) (tick (empty 1) after_tick_0)) ≡ Some 2164204170
 unfolding answer
 stays_marked = refl
 
 -- two gaps before an answer don't cancel
-two_gaps : (tick (whole 4 false) (tick (empty 3) (tick (whole 2 false) (tick (empty 1) after_tick_0)))).flow ≡ 33023
+two_gaps : (tick (whole 4 Quiet) (tick (empty 3) (tick (whole 2 Quiet) (tick (empty 1) after_tick_0)))).flow ≡ 33023
 unfolding tick
 two_gaps = refl
 
@@ -163,7 +167,7 @@ two_gaps = refl
 abbrev without_3 : ℕ → Bool
 without_3 i = not (i == 3)
 
-left_out : (tick (doing 1 false without_3 sound) after_tick_0).flow ≡ 33023
+left_out : (tick (doing 1 Quiet without_3 sound) after_tick_0).flow ≡ 33023
 unfolding tick
 left_out = refl
 
@@ -172,11 +176,11 @@ left_out = refl
 abbrev first_half : ℕ → Bool
 first_half i = nat_lt i 4
 
-halves : answer (doing 2 true (λ i. not (first_half i)) sound) (tick (doing 1 false first_half sound) after_tick_0) ≡ Some 16720522
+halves : answer (doing 2 Send (λ i. not (first_half i)) sound) (tick (doing 1 Quiet first_half sound) after_tick_0) ≡ Some 16720522
 unfolding answer
 halves = refl
 
 -- bit 0 of module 4 is disturbed: the fold is another one, the flow isn't marked
-disturbed : answer (doing 1 true all (λ i. if i == 4 then 1 else 0)) after_tick_0 ≡ Some 16720514
+disturbed : answer (doing 1 Send all (λ i. if i == 4 then 1 else 0)) after_tick_0 ≡ Some 16720514
 unfolding answer
 disturbed = refl

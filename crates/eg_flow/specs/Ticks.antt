@@ -5,20 +5,21 @@ use Rattle.eg_sensor.specs.declared.readings.Readings.{Readings}
 use Rattle.eg_answer.specs.declared.modules.TheConstants.{CHECK, DEBOUNCE, REACT, MODULES}
 use Rattle.eg_answer.specs.declared.rules.Rules.{Rules}
 use Rattle.eg_answer.specs.declared.questions.Question.{Question}
-use Rattle.eg_level2.specs.Words.{Words, is_set}
+use Rattle.eg_level2.specs.declared.phase.Phase.{Phase}
+use Rattle.eg_level2.specs.Words.{Words}
 use Rattle.eg_level2.specs.Inputs.{Inputs}
-use Rattle.eg_level2.specs.Modules.{module_step, given_up, debounced, no_watches, answer_of}
+use Rattle.eg_level2.specs.Modules.{module_step, given_up, debounced, no_watches, opens_now, answer_of}
 
 -- What level 2 meets at a tick: its rules and questions, the readings, the number of the question that is
--- asked, the tick, whether answers are sent at it, which modules run, what disturbs each of them, and
--- whether a word differs from its complement as module 0 begins.
+-- asked, the tick and its phase, which modules run, what disturbs each of them, and whether a word differs
+-- from its complement as module 0 begins.
 pub record Doing : Type 0 where
   pub rules : Rules
   pub questions : List Question
   pub readings : Readings
   pub asked : ℕ
   pub tick : ℕ
-  pub sends : Bool
+  pub phase : Phase
   pub ran : ℕ → Bool
   pub disturbance : ℕ → ℕ
   pub differs : Bool
@@ -31,7 +32,7 @@ inputs_for d i = record {
   readings = d.readings;
   asked = d.asked;
   tick = d.tick;
-  sends = d.sends;
+  phase = d.phase;
   disturbance = d.disturbance i;
 }
 
@@ -55,13 +56,13 @@ after_tick d words = after_modules d MODULES words
 -- begins
 unfoldable pub answer_at : Doing → Words → Option ℕ
 answer_at d words =
-    if d.ran REACT then answer_of d.sends (after_modules d REACT words) else None
+    if d.ran REACT then answer_of d.phase (after_modules d REACT words) else None
 
 unfoldable pub orders_at : Doing → Words → Bool
-orders_at d words = d.ran REACT && is_set (after_modules d REACT words).trip
+orders_at d words = d.ran REACT && opens_now d.phase (after_modules d REACT words)
 
 -- the watches that are found: that of the mirrored words by check, the others by debounce
 unfoldable pub finds_at : Doing → Words → Watches
 finds_at d words =
-    let found = if d.ran DEBOUNCE then debounced d.rules (after_modules d DEBOUNCE words) else no_watches in
+    let found = if d.ran DEBOUNCE then debounced d.rules d.phase (after_modules d DEBOUNCE words) else no_watches in
     record found { mirror = d.ran CHECK && d.differs }

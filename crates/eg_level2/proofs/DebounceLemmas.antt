@@ -7,10 +7,11 @@ use Rattle.eg_sensor.specs.Readings.{has_bit}
 use Rattle.eg_answer.specs.Token.{next_token_of}
 use Rattle.eg_answer.specs.declared.rules.Rules.{Rules}
 use Rattle.eg_level2.specs.declared.debounce.Fed.{Fed}
+use Rattle.eg_level2.specs.declared.phase.Phase.{Phase}
 use Rattle.eg_level2.specs.declared.step.Step.{Step}
 use Rattle.eg_level2.specs.declared.debounce.Feeds.{Feeds}
-use Rattle.eg_level2.specs.Words.{Words, named, is_set, AreWithin}
-use Rattle.eg_level2.specs.Modules.{counted, is_found, debounced, limits, trips, debounce_step, pedal_bit, plate_bit, load_bit, speed_bit, torque_bit, no_watches, finding}
+use Rattle.eg_level2.specs.Words.{Words, named, AreWithin}
+use Rattle.eg_level2.specs.Modules.{feeds_now, counted, is_found, debounced, limits, trips, debounce_step, pedal_bit, plate_bit, load_bit, speed_bit, torque_bit, no_watches, finding}
 use Rattle.eg_level2.specs.Stores.{put, keep, keep_where, fed_of, feeds_of, counters_kept, trips_of, found_of}
 
 -- ---- what is fed ----
@@ -85,61 +86,57 @@ same_words feeds other trip token moved words ef et em =
 
 -- ---- the step ----
 
--- without a trip the counters are fed
-free : (rules : Rules) (words : Words) → is_set words.trip ≡ false
-    → fed_words (feeds_of rules words) (feeds_of rules words).pedal.found (trips_of (feeds_of rules words)) (next_token_of words.token 6) words ≡ debounce_step rules words
+-- the counters are fed
+free : (rules : Rules) (phase : Phase) (words : Words) → feeds_now phase words ≡ true
+    → fed_words (feeds_of rules words) (feeds_of rules words).pedal.found (trips_of (feeds_of rules words)) (next_token_of words.token 6) words ≡ debounce_step rules phase words
 unfolding debounce_step debounced limits trips counted is_found feeds_of fed_of trips_of
-free rules words e = rw e refl
+free rules phase words e = rw e refl
 
-free-found : (rules : Rules) (words : Words) → is_set words.trip ≡ false → found_of (feeds_of rules words) ≡ debounced rules words
+free-found : (rules : Rules) (phase : Phase) (words : Words) → feeds_now phase words ≡ true → found_of (feeds_of rules words) ≡ debounced rules phase words
 unfolding debounced is_found feeds_of fed_of found_of
-free-found rules words e = rw e refl
+free-found rules phase words e = rw e refl
 
--- with a trip the token alone moves
-tripped : (rules : Rules) (words : Words) → is_set words.trip ≡ true → record words { token = next_token_of words.token 6 } ≡ debounce_step rules words
+-- where they aren't fed the token alone moves
+unfed : (rules : Rules) (phase : Phase) (words : Words) → feeds_now phase words ≡ false → record words { token = next_token_of words.token 6 } ≡ debounce_step rules phase words
 unfolding debounce_step debounced limits trips counted is_found
-tripped rules words e = rw e refl
+unfed rules phase words e = rw e refl
 
-tripped-found : (rules : Rules) (words : Words) → is_set words.trip ≡ true → no_watches ≡ debounced rules words
+unfed-found : (rules : Rules) (phase : Phase) (words : Words) → feeds_now phase words ≡ false → no_watches ≡ debounced rules phase words
 unfolding debounced is_found no_watches
-tripped-found rules words e = rw e refl
+unfed-found rules phase words e = rw e refl
 
 -- ---- both, from the calls ----
 
-pub fed_step : (f g1 g2 g3 h : ℕ → ℕ) (rules : Rules) (feeds : Feeds) (trip set : Bool) (w t token : ℕ) → h ≡ keep 12 token g3 → g3 ≡ keep_where trip 11 1 g2
+pub fed_step : (f g1 g2 g3 h : ℕ → ℕ) (rules : Rules) (phase : Phase) (feeds : Feeds) (trip feeding : Bool) (t token : ℕ) → h ≡ keep 12 token g3 → g3 ≡ keep_where trip 11 1 g2
     → g2 ≡ keep_where feeds.pedal.found 10 1 g1 → g1 ≡ counters_kept feeds f → trip ≡ trips_of feeds → feeds ≡ feeds_of rules (named f)
-    → set ≡ is_set w → set ≡ false → w ≡ f 11 → token ≡ next_token_of t 6 → t ≡ f 12 → named h ≡ debounce_step rules (named f)
+    → feeding ≡ feeds_now phase (named f) → feeding ≡ true → token ≡ next_token_of t 6 → t ≡ f 12 → named h ≡ debounce_step rules phase (named f)
 unfolding named
-fed_step f g1 g2 g3 h rules feeds trip set w t token eh e3 e2 e1 etrip ef eset off ew etoken et =
+fed_step f g1 g2 g3 h rules phase feeds trip feeding t token eh e3 e2 e1 etrip ef efeeding on etoken et =
     let stored : h ≡ keep 12 token (keep_where trip 11 1 (keep_where feeds.pedal.found 10 1 (counters_kept feeds f))) = eh ∙ rw (e3, e2, e1) refl in
     ap named stored
     ∙ stored_by feeds feeds.pedal.found trip token f
     ∙ same_words feeds (feeds_of rules (named f)) trip token (next_token_of (f 12) 6) (named f) ef etrip (etoken ∙ ap (λ t. next_token_of t 6) et)
-    ∙ free rules (named f) (ap is_set (sym ew) ∙ sym eset ∙ off)
+    ∙ free rules phase (named f) (sym efeeding ∙ on)
 
-pub fed_found : (f : ℕ → ℕ) (rules : Rules) (feeds : Feeds) (set : Bool) (w : ℕ) (found : Watches) → found ≡ found_of feeds → feeds ≡ feeds_of rules (named f)
-    → set ≡ is_set w → set ≡ false → w ≡ f 11 → found ≡ debounced rules (named f)
+pub fed_found : (f : ℕ → ℕ) (rules : Rules) (phase : Phase) (feeds : Feeds) (feeding : Bool) (found : Watches) → found ≡ found_of feeds → feeds ≡ feeds_of rules (named f)
+    → feeding ≡ feeds_now phase (named f) → feeding ≡ true → found ≡ debounced rules phase (named f)
 unfolding named
-fed_found f rules feeds set w found e ef eset off ew = e ∙ ap found_of ef ∙ free-found rules (named f) (ap is_set (sym ew) ∙ sym eset ∙ off)
+fed_found f rules phase feeds feeding found e ef efeeding on = e ∙ ap found_of ef ∙ free-found rules phase (named f) (sym efeeding ∙ on)
 
-pub tripped_step : (f h : ℕ → ℕ) (rules : Rules) (set : Bool) (w t token : ℕ) → h ≡ keep 12 token f → set ≡ is_set w → set ≡ true → w ≡ f 11
-    → token ≡ next_token_of t 6 → t ≡ f 12 → named h ≡ debounce_step rules (named f)
+pub unfed_step : (f h : ℕ → ℕ) (rules : Rules) (phase : Phase) (feeding : Bool) (t token : ℕ) → h ≡ keep 12 token f → feeding ≡ feeds_now phase (named f) → feeding ≡ false
+    → token ≡ next_token_of t 6 → t ≡ f 12 → named h ≡ debounce_step rules phase (named f)
 unfolding named keep put
-tripped_step f h rules set w t token eh eset on ew etoken et =
-    rw (eh, etoken, et) (tripped rules (named f) (ap is_set (sym ew) ∙ sym eset ∙ on))
-
-pub tripped_found : (f : ℕ → ℕ) (rules : Rules) (set : Bool) (w : ℕ) → set ≡ is_set w → set ≡ true → w ≡ f 11 → no_watches ≡ debounced rules (named f)
-unfolding named
-tripped_found f rules set w eset on ew = tripped-found rules (named f) (ap is_set (sym ew) ∙ sym eset ∙ on)
+unfed_step f h rules phase feeding t token eh efeeding off etoken et =
+    rw (eh, etoken, et) (unfed rules phase (named f) (sym efeeding ∙ off))
 
 -- the watches that are found, as the run answers them
-pub fed_finding : (f : ℕ → ℕ) (rules : Rules) (feeds : Feeds) (set : Bool) (w : ℕ) (found : Watches) (step : Step) → step ≡ finding found → found ≡ found_of feeds
-    → feeds ≡ feeds_of rules (named f) → set ≡ is_set w → set ≡ false → w ≡ f 11 → step ≡ finding (debounced rules (named f))
-fed_finding f rules feeds set w found step es e ef eset off ew = es ∙ ap finding (fed_found f rules feeds set w found e ef eset off ew)
+pub fed_finding : (f : ℕ → ℕ) (rules : Rules) (phase : Phase) (feeds : Feeds) (feeding : Bool) (found : Watches) (step : Step) → step ≡ finding found → found ≡ found_of feeds
+    → feeds ≡ feeds_of rules (named f) → feeding ≡ feeds_now phase (named f) → feeding ≡ true → step ≡ finding (debounced rules phase (named f))
+fed_finding f rules phase feeds feeding found step es e ef efeeding on = es ∙ ap finding (fed_found f rules phase feeds feeding found e ef efeeding on)
 
-pub tripped_finding : (f : ℕ → ℕ) (rules : Rules) (set : Bool) (w : ℕ) (step : Step) → step ≡ finding no_watches → set ≡ is_set w → set ≡ true → w ≡ f 11
-    → step ≡ finding (debounced rules (named f))
-tripped_finding f rules set w step es eset on ew = es ∙ ap finding (tripped_found f rules set w eset on ew)
+pub unfed_finding : (f : ℕ → ℕ) (rules : Rules) (phase : Phase) (feeding : Bool) (step : Step) → step ≡ finding no_watches → feeding ≡ feeds_now phase (named f) → feeding ≡ false
+    → step ≡ finding (debounced rules phase (named f))
+unfed_finding f rules phase feeding step es efeeding off = es ∙ ap finding (unfed-found rules phase (named f) (sym efeeding ∙ off))
 
 -- ---- the same of calls that were done ----
 
@@ -150,4 +147,4 @@ counters-ok (Err x) f g1 g2 g3 g4 h feeds eh e4 e3 e2 e1 = eh
 
 pub ruleset counter_laws = (counters-ok)
 
-pub ruleset debounce_laws = (tripped_step, tripped_finding)
+pub ruleset debounce_laws = (unfed_step, unfed_finding)

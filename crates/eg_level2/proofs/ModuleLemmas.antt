@@ -11,6 +11,7 @@ use Rattle.eg_answer.specs.Answers.{pedal_result, permitted_result, estimate_res
 use Rattle.eg_answer.specs.Token.{next_token_of}
 use Rattle.eg_answer.specs.declared.rules.Rules.{Rules}
 use Rattle.eg_answer.specs.declared.rules.TestRow.{TestRow}
+use Rattle.eg_level2.specs.declared.phase.Phase.{Phase}
 use Rattle.eg_level2.specs.declared.lookup.Lookup.{Lookup}
 use Rattle.eg_level2.specs.Inputs.{IsLookup}
 use Rattle.eg_level2.specs.Words.{named, is_set, start}
@@ -93,19 +94,15 @@ pub ruleset looked_up = (looked_up-at)
 
 -- ---- module 7 ----
 
-pub reacted : (f g h : ℕ → ℕ) (send sends : Bool) (flow after : ℕ) → h ≡ keep 13 after g → g ≡ keep 12 0 f → after ≡ (if sends then 255 else flow)
-    → sends ≡ answers_now send (named f) → flow ≡ closed_flow (named f) → named h ≡ react_step send (named f)
+pub reacted : (f g h : ℕ → ℕ) (phase : Phase) (sends : Bool) (flow after : ℕ) → h ≡ keep 13 after g → g ≡ keep 12 0 f → after ≡ (if sends then 255 else flow)
+    → sends ≡ answers_now phase (named f) → flow ≡ closed_flow (named f) → named h ≡ react_step phase (named f)
 unfolding named keep put react_step
-reacted f g h send sends flow after eh eg ea es ef = rw (eh, eg, ea, es, ef) refl
+reacted f g h phase sends flow after eh eg ea es ef = rw (eh, eg, ea, es, ef) refl
 
-pub answered : (f : ℕ → ℕ) (answer : Option ℕ) (send sends : Bool) (flow sign : ℕ) → answer ≡ (if sends then Some (flow * 65536 + sign) else None)
-    → sends ≡ answers_now send (named f) → flow ≡ closed_flow (named f) → sign ≡ f 15 → answer ≡ answer_of send (named f)
+pub answered : (f : ℕ → ℕ) (answer : Option ℕ) (phase : Phase) (sends : Bool) (flow sign : ℕ) → answer ≡ (if sends then Some (flow * 65536 + sign) else None)
+    → sends ≡ answers_now phase (named f) → flow ≡ closed_flow (named f) → sign ≡ f 15 → answer ≡ answer_of phase (named f)
 unfolding named answer_of number_of
-answered f answer send sends flow sign ea es ef esign = ea ∙ rw (es, ef, esign) refl
-
-pub ordered : (f : ℕ → ℕ) (trip : Bool) (w : ℕ) → trip ≡ is_set w → w ≡ f 11 → trip ≡ is_set (named f).trip
-unfolding named
-ordered f trip w e p = e ∙ ap is_set p
+answered f answer phase sends flow sign ea es ef esign = ea ∙ rw (es, ef, esign) refl
 
 -- ---- the start ----
 
@@ -145,4 +142,4 @@ pub ruleset signal_laws = (pedal_by, permitted_by, actual_by, excess_by, pairs_b
 
 pub ruleset write_laws = (signalled-ok)
 
-pub ruleset react_laws = (reacted, answered, ordered)
+pub ruleset react_laws = (reacted, answered)

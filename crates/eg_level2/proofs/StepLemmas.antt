@@ -3,13 +3,14 @@ use Rattle.std.proofs.Common.{◌≡◌, ◌∙◌, refl, sym, ap, ℕ, ◌+◌,
 use Rattle.std.specs.Prelude.{min, if◌then◌else◌, ◌==◌, Option, None, Result, Ok, Err, IfOk}
 use Rattle.eg_answer.specs.declared.rules.Rules.{Rules}
 use Rattle.eg_answer.specs.declared.rules.TestRow.{TestRow}
+use Rattle.eg_level2.specs.declared.phase.Phase.{Phase}
 use Rattle.eg_level2.specs.declared.step.Step.{Step}
 use Rattle.eg_num.specs.Windows.{WeightParts}
 use Rattle.eg_num.specs.Counting.{fed}
 use Rattle.eg_num.specs.declared.watches.Watches.{Watches}
-use Rattle.eg_level2.specs.Words.{Words, is_set, start, AreMirrored, AreWithin}
+use Rattle.eg_level2.specs.Words.{Words, start, AreMirrored, AreWithin}
 use Rattle.eg_level2.specs.Inputs.{Level2Parts, Inputs, readings_of, asked_of, inputs_of, row_of}
-use Rattle.eg_level2.specs.Modules.{check_step, given_up, pedal_bit, plate_bit, load_bit, speed_bit, torque_bit, counted, pedal_step, permitted_step, actual_step, excess_step, pairs_step, debounced, debounce_step, answer_of, react_step, module_step, answer_after, order_after, no_watches, found_by, step_of, finding, quiet_step}
+use Rattle.eg_level2.specs.Modules.{feeds_now, opens_now, check_step, given_up, pedal_bit, plate_bit, load_bit, speed_bit, torque_bit, counted, pedal_step, permitted_step, actual_step, excess_step, pairs_step, debounced, debounce_step, answer_of, react_step, module_step, answer_after, order_after, no_watches, found_by, step_of, finding, quiet_step}
 
 -- what follows from the value of a call that was done
 pub if_ok : {T E : Type 0} (result : Result T E) {P Q : T → Type 0} → ((x : T) → P x → Q x) → IfOk result P → IfOk result Q
@@ -26,48 +27,48 @@ same_rules one other e = ap (λ (parts : Level2Parts). parts.rules) e
 
 -- ---- the words ----
 
-pub checks : (parts : Level2Parts) (memory : List ℕ) (tick : ℕ) (sends : Bool) (d n seed : ℕ) (words : Words) → n ≡ 0
-    → seed ≡ (row_of parts.questions (asked_of memory)).seed → check_step seed tick words ≡ module_step (inputs_of parts memory tick sends d) n words
+pub checks : (parts : Level2Parts) (memory : List ℕ) (tick : ℕ) (phase : Phase) (d n seed : ℕ) (words : Words) → n ≡ 0
+    → seed ≡ (row_of parts.questions (asked_of memory)).seed → check_step seed tick words ≡ module_step (inputs_of parts memory tick phase d) n words
 unfolding module_step inputs_of
-checks parts memory tick sends d n seed words en es = rw (en, es) refl
+checks parts memory tick phase d n seed words en es = rw (en, es) refl
 
-pub pedals : (parts : Level2Parts) (memory : List ℕ) (tick : ℕ) (sends : Bool) (d n : ℕ) (row : TestRow) (words : Words) → n ≡ 1
-    → row ≡ row_of parts.questions (asked_of memory) → pedal_step (readings_of memory) row d words ≡ module_step (inputs_of parts memory tick sends d) n words
+pub pedals : (parts : Level2Parts) (memory : List ℕ) (tick : ℕ) (phase : Phase) (d n : ℕ) (row : TestRow) (words : Words) → n ≡ 1
+    → row ≡ row_of parts.questions (asked_of memory) → pedal_step (readings_of memory) row d words ≡ module_step (inputs_of parts memory tick phase d) n words
 unfolding module_step inputs_of
-pedals parts memory tick sends d n row words en er = rw (en, er) refl
+pedals parts memory tick phase d n row words en er = rw (en, er) refl
 
-pub permits : (parts : Level2Parts) (memory : List ℕ) (tick : ℕ) (sends : Bool) (d n : ℕ) (rules : Rules) (row : TestRow) (words : Words) → n ≡ 2
+pub permits : (parts : Level2Parts) (memory : List ℕ) (tick : ℕ) (phase : Phase) (d n : ℕ) (rules : Rules) (row : TestRow) (words : Words) → n ≡ 2
     → rules ≡ parts.rules → row ≡ row_of parts.questions (asked_of memory)
-    → permitted_step rules (readings_of memory) row d words ≡ module_step (inputs_of parts memory tick sends d) n words
+    → permitted_step rules (readings_of memory) row d words ≡ module_step (inputs_of parts memory tick phase d) n words
 unfolding module_step inputs_of
-permits parts memory tick sends d n rules row words en eu er = rw (en, er, eu) refl
+permits parts memory tick phase d n rules row words en eu er = rw (en, er, eu) refl
 
-pub actuals : (parts : Level2Parts) (memory : List ℕ) (tick : ℕ) (sends : Bool) (d n : ℕ) (rules : Rules) (row : TestRow) (words : Words) → n ≡ 3
+pub actuals : (parts : Level2Parts) (memory : List ℕ) (tick : ℕ) (phase : Phase) (d n : ℕ) (rules : Rules) (row : TestRow) (words : Words) → n ≡ 3
     → rules ≡ parts.rules → row ≡ row_of parts.questions (asked_of memory)
-    → actual_step rules (readings_of memory) row d words ≡ module_step (inputs_of parts memory tick sends d) n words
+    → actual_step rules (readings_of memory) row d words ≡ module_step (inputs_of parts memory tick phase d) n words
 unfolding module_step inputs_of
-actuals parts memory tick sends d n rules row words en eu er = rw (en, er, eu) refl
+actuals parts memory tick phase d n rules row words en eu er = rw (en, er, eu) refl
 
-pub excesses : (parts : Level2Parts) (memory : List ℕ) (tick : ℕ) (sends : Bool) (d n : ℕ) (rules : Rules) (row : TestRow) (words : Words) → n ≡ 4
-    → rules ≡ parts.rules → row ≡ row_of parts.questions (asked_of memory) → excess_step rules row d words ≡ module_step (inputs_of parts memory tick sends d) n words
+pub excesses : (parts : Level2Parts) (memory : List ℕ) (tick : ℕ) (phase : Phase) (d n : ℕ) (rules : Rules) (row : TestRow) (words : Words) → n ≡ 4
+    → rules ≡ parts.rules → row ≡ row_of parts.questions (asked_of memory) → excess_step rules row d words ≡ module_step (inputs_of parts memory tick phase d) n words
 unfolding module_step inputs_of
-excesses parts memory tick sends d n rules row words en eu er = rw (en, er, eu) refl
+excesses parts memory tick phase d n rules row words en eu er = rw (en, er, eu) refl
 
-pub pairings : (parts : Level2Parts) (memory : List ℕ) (tick : ℕ) (sends : Bool) (d n : ℕ) (rules : Rules) (row : TestRow) (words : Words) → n ≡ 5
+pub pairings : (parts : Level2Parts) (memory : List ℕ) (tick : ℕ) (phase : Phase) (d n : ℕ) (rules : Rules) (row : TestRow) (words : Words) → n ≡ 5
     → rules ≡ parts.rules → row ≡ row_of parts.questions (asked_of memory)
-    → pairs_step rules (readings_of memory) row d words ≡ module_step (inputs_of parts memory tick sends d) n words
+    → pairs_step rules (readings_of memory) row d words ≡ module_step (inputs_of parts memory tick phase d) n words
 unfolding module_step inputs_of
-pairings parts memory tick sends d n rules row words en eu er = rw (en, er, eu) refl
+pairings parts memory tick phase d n rules row words en eu er = rw (en, er, eu) refl
 
-pub debounces : (parts : Level2Parts) (memory : List ℕ) (tick : ℕ) (sends : Bool) (d n : ℕ) (rules : Rules) (words : Words) → n ≡ 6 → rules ≡ parts.rules
-    → debounce_step rules words ≡ module_step (inputs_of parts memory tick sends d) n words
+pub debounces : (parts : Level2Parts) (memory : List ℕ) (tick : ℕ) (phase : Phase) (d n : ℕ) (rules : Rules) (words : Words) → n ≡ 6 → rules ≡ parts.rules
+    → debounce_step rules phase words ≡ module_step (inputs_of parts memory tick phase d) n words
 unfolding module_step inputs_of
-debounces parts memory tick sends d n rules words en eu = rw (en, eu) refl
+debounces parts memory tick phase d n rules words en eu = rw (en, eu) refl
 
-pub reacts : (parts : Level2Parts) (memory : List ℕ) (tick : ℕ) (sends : Bool) (d n : ℕ) (words : Words) → n ≡ 7
-    → react_step sends words ≡ module_step (inputs_of parts memory tick sends d) n words
+pub reacts : (parts : Level2Parts) (memory : List ℕ) (tick : ℕ) (phase : Phase) (d n : ℕ) (words : Words) → n ≡ 7
+    → react_step phase words ≡ module_step (inputs_of parts memory tick phase d) n words
 unfolding module_step inputs_of
-reacts parts memory tick sends d n words en = rw en refl
+reacts parts memory tick phase d n words en = rw en refl
 
 -- ---- what a run answers ----
 
@@ -77,16 +78,16 @@ pub quiet : (inputs : Inputs) (n k : ℕ) (words : Words) → n ≡ k → (k == 
 unfolding step_of order_after answer_after found_by
 quiet inputs n k words e six seven = rw (e, six, seven) refl
 
-pub debounces-step : (parts : Level2Parts) (memory : List ℕ) (tick : ℕ) (sends : Bool) (d n : ℕ) (rules : Rules) (words : Words) → n ≡ 6 → rules ≡ parts.rules
-    → finding (debounced rules words) ≡ step_of (inputs_of parts memory tick sends d) n words
+pub debounces-step : (parts : Level2Parts) (memory : List ℕ) (tick : ℕ) (phase : Phase) (d n : ℕ) (rules : Rules) (words : Words) → n ≡ 6 → rules ≡ parts.rules
+    → finding (debounced rules phase words) ≡ step_of (inputs_of parts memory tick phase d) n words
 unfolding step_of order_after answer_after found_by inputs_of
-debounces-step parts memory tick sends d n rules words en eu = rw (en, eu) refl
+debounces-step parts memory tick phase d n rules words en eu = rw (en, eu) refl
 
-pub reacts-step : (parts : Level2Parts) (memory : List ℕ) (tick : ℕ) (sends : Bool) (d n : ℕ) (words : Words) (step : Step) → n ≡ 7
-    → step.open_path ≡ is_set words.trip → step.answer ≡ answer_of sends words → step.found ≡ no_watches
-    → step ≡ step_of (inputs_of parts memory tick sends d) n words
+pub reacts-step : (parts : Level2Parts) (memory : List ℕ) (tick : ℕ) (phase : Phase) (d n : ℕ) (words : Words) (step : Step) → n ≡ 7
+    → step.open_path ≡ opens_now phase words → step.answer ≡ answer_of phase words → step.found ≡ no_watches
+    → step ≡ step_of (inputs_of parts memory tick phase d) n words
 unfolding step_of order_after answer_after found_by inputs_of
-reacts-step parts memory tick sends d n words step en eo ea ef = of_parts step eo ea ef ∙ rw en refl
+reacts-step parts memory tick phase d n words step en eo ea ef = of_parts step eo ea ef ∙ rw en refl
   where
     of_parts : (step : Step) {order : Bool} {answer : Option ℕ} {found : Watches} → step.open_path ≡ order → step.answer ≡ answer → step.found ≡ found
         → (let made : Step = record { open_path = order; answer = answer; found = found } in step ≡ made)
@@ -97,9 +98,9 @@ pub first-answer : (inputs : Inputs) (n : ℕ) (words : Words) → n ≡ 0 → N
 unfolding answer_after
 first-answer inputs n words e = rw e refl
 
-pub first-order : (n : ℕ) (words : Words) → n ≡ 0 → false ≡ order_after n words
+pub first-order : (inputs : Inputs) (n : ℕ) (words : Words) → n ≡ 0 → false ≡ order_after inputs n words
 unfolding order_after
-first-order n words e = rw e refl
+first-order inputs n words e = rw e refl
 
 pub first-found : (inputs : Inputs) (n : ℕ) (words : Words) → n ≡ 0 → no_watches ≡ found_by inputs n words
 unfolding found_by
@@ -110,7 +111,7 @@ pub step-answer : (inputs : Inputs) (n : ℕ) (words : Words) (step : Step) → 
 unfolding step_of
 step-answer inputs n words step e = ap (λ (s : Step). s.answer) e
 
-pub step-order : (inputs : Inputs) (n : ℕ) (words : Words) (step : Step) → step ≡ step_of inputs n words → step.open_path ≡ order_after n words
+pub step-order : (inputs : Inputs) (n : ℕ) (words : Words) (step : Step) → step ≡ step_of inputs n words → step.open_path ≡ order_after inputs n words
 unfolding step_of
 step-order inputs n words step e = ap (λ (s : Step). s.open_path) e
 
@@ -123,7 +124,7 @@ found_by-mirror : (inputs : Inputs) (n : ℕ) (words : Words) → (found_by inpu
 unfolding found_by debounced no_watches
 found_by-mirror inputs n words = pick (n == 6)
   where
-    pick : (b : Bool) → (if b then debounced inputs.rules words else no_watches).mirror ≡ false
+    pick : (b : Bool) → (if b then debounced inputs.rules inputs.phase words else no_watches).mirror ≡ false
     pick true = refl
     pick false = refl
 
@@ -163,32 +164,29 @@ fed-within weights value bad within = cases (value == weights.limit) bad
     cases false true = omega arith
     cases false false = omega arith
 
-counted-within : (words : Words) (weights : WeightParts) (value : ℕ) (bad : Bool) → value ≤ weights.limit → counted words weights value bad ≤ weights.limit
+counted-within : (feeding : Bool) (weights : WeightParts) (value : ℕ) (bad : Bool) → value ≤ weights.limit → counted feeding weights value bad ≤ weights.limit
 unfolding counted
-counted-within words weights value bad within = cases (is_set words.trip)
-  where
-    cases : (trip : Bool) → (if trip then value else fed weights value bad) ≤ weights.limit
-    cases true = within
-    cases false = fed-within weights value bad within
+counted-within true weights value bad within = fed-within weights value bad within
+counted-within false weights value bad within = within
 
-debounce-within : (rules : Rules) (words : Words) → AreWithin rules words → AreWithin rules (debounce_step rules words)
+debounce-within : (rules : Rules) (phase : Phase) (words : Words) → AreWithin rules words → AreWithin rules (debounce_step rules phase words)
 unfolding debounce_step
-debounce-within rules words within = record {
-  pedal = counted-within words rules.pair words.pedal_counter (pedal_bit words) within.pedal;
-  plate = counted-within words rules.pair words.plate_counter (plate_bit words) within.plate;
-  load = counted-within words rules.pair words.load_counter (load_bit words) within.load;
-  speed = counted-within words rules.pair words.speed_counter (speed_bit words) within.speed;
-  torque = counted-within words rules.torque words.torque_counter (torque_bit words) within.torque;
+debounce-within rules phase words within = record {
+  pedal = counted-within (feeds_now phase words) rules.pair words.pedal_counter (pedal_bit words) within.pedal;
+  plate = counted-within (feeds_now phase words) rules.pair words.plate_counter (plate_bit words) within.plate;
+  load = counted-within (feeds_now phase words) rules.pair words.load_counter (load_bit words) within.load;
+  speed = counted-within (feeds_now phase words) rules.pair words.speed_counter (speed_bit words) within.speed;
+  torque = counted-within (feeds_now phase words) rules.torque words.torque_counter (torque_bit words) within.torque;
 }
 
 either : (rules : Rules) (b : Bool) (x y : Words) → AreWithin rules x → AreWithin rules y → AreWithin rules (if b then x else y)
 either rules true x y p q = p
 either rules false x y p q = q
 
-pub step-within : (parts : Level2Parts) (memory : List ℕ) (tick : ℕ) (sends : Bool) (d n : ℕ) (words : Words) → AreWithin parts.rules words
-    → AreWithin parts.rules (module_step (inputs_of parts memory tick sends d) n words)
+pub step-within : (parts : Level2Parts) (memory : List ℕ) (tick : ℕ) (phase : Phase) (d n : ℕ) (words : Words) → AreWithin parts.rules words
+    → AreWithin parts.rules (module_step (inputs_of parts memory tick phase d) n words)
 unfolding module_step inputs_of check_step pedal_step permitted_step actual_step excess_step pairs_step react_step
-step-within parts memory tick sends d n words within =
+step-within parts memory tick phase d n words within =
     let same : (next : Words) → next.pedal_counter ≡ words.pedal_counter → next.plate_counter ≡ words.plate_counter → next.load_counter ≡ words.load_counter
     → next.speed_counter ≡ words.speed_counter → next.torque_counter ≡ words.torque_counter → AreWithin parts.rules next
     = λ next. kept parts.rules words next within in
@@ -198,7 +196,7 @@ step-within parts memory tick sends d n words within =
     (either parts.rules (n == 3) _ _ (same _ refl refl refl refl refl)
     (either parts.rules (n == 4) _ _ (same _ refl refl refl refl refl)
     (either parts.rules (n == 5) _ _ (same _ refl refl refl refl refl)
-    (either parts.rules (n == 6) _ _ (debounce-within parts.rules words within) (same _ refl refl refl refl refl)))))))
+    (either parts.rules (n == 6) _ _ (debounce-within parts.rules phase words within) (same _ refl refl refl refl refl)))))))
 
 pub start-within : (rules : Rules) (words : Words) → words ≡ start → AreWithin rules words
 unfolding start

@@ -1,5 +1,5 @@
 -- Ticks of level 2 that were worked by hand, against the definitions.
-use Rattle.std.proofs.Common.{◌≡◌, ℕ, Bool, true, false, List, [], ◌∷◌, ◌++◌, refl}
+use Rattle.std.proofs.Common.{◌≡◌, ℕ, true, false, List, [], ◌∷◌, ◌++◌, refl}
 use Rattle.std.specs.Prelude.{fold, map, Some, None}
 use Rattle.eg_num.specs.Interpolation.{value_at}
 use Rattle.eg_num.specs.Counting.{fed}
@@ -13,9 +13,12 @@ use Rattle.eg_answer.specs.Answers.{pedal_result, permitted_result, estimate_res
 use Rattle.eg_answer.specs.Token.{next_token_of}
 use Rattle.eg_answer.specs.declared.rules.Rules.{Rules}
 use Rattle.eg_answer.specs.declared.questions.Question.{Question}
+use Rattle.eg_level2.specs.declared.phase.Phase.{Phase}
+use Rattle.eg_level2.specs.declared.phase.Phase.TheVariants.{Quiet, Send, Test, TestOrder}
+use Rattle.eg_level2.specs.Phases.{feeds, sends, orders}
 use Rattle.eg_level2.specs.Words.{Words, is_set, start, place, named}
 use Rattle.eg_level2.specs.Inputs.{Inputs, row_of}
-use Rattle.eg_level2.specs.Modules.{marked, check_step, written, signed, pedal_step, permitted_step, actual_step, excess_step, pairs_step, pedal_bit, plate_bit, load_bit, speed_bit, torque_bit, counted, is_found, debounced, limits, trips, debounce_step, closed_flow, answers_now, number_of, answer_of, react_step, module_step, answer_after, given_up, found_by, order_after, no_watches, mirror_alone}
+use Rattle.eg_level2.specs.Modules.{feeds_now, opens_now, marked, check_step, written, signed, pedal_step, permitted_step, actual_step, excess_step, pairs_step, pedal_bit, plate_bit, load_bit, speed_bit, torque_bit, counted, is_found, debounced, limits, trips, debounce_step, closed_flow, answers_now, number_of, answer_of, react_step, module_step, answer_after, given_up, found_by, order_after, no_watches, mirror_alone}
 
 -- pedals 0, 500, 1000; speeds 800, 3000, 6000
 abbrev rules : Rules
@@ -53,14 +56,14 @@ question = record {
 }
 
 -- what goes in where the question is asked at a tick
-abbrev inputs : Readings → ℕ → Bool → ℕ → Inputs
-inputs readings tick sends disturbance = record {
+abbrev inputs : Readings → ℕ → Phase → ℕ → Inputs
+inputs readings tick phase disturbance = record {
   rules = rules;
   questions = question ∷ question ∷ [];
   readings = readings;
   asked = 2;
   tick = tick;
-  sends = sends;
+  phase = phase;
   disturbance = disturbance;
 }
 
@@ -73,7 +76,7 @@ unfoldable run : Inputs → List ℕ → Words → Words
 unfolding value_at permitted is_excess mixed pedal_result permitted_result estimate_result excess_result pairs_result next_token_of fed
     is_set row_of permitted_torque estimated_torque excess_number disagreeing_pairs marked check_step written signed pedal_step permitted_step
     actual_step excess_step pairs_step has_bit pedal_bit plate_bit load_bit speed_bit torque_bit counted is_found debounced limits trips debounce_step
-    closed_flow answers_now react_step module_step start
+    closed_flow answers_now react_step module_step start feeds_now feeds sends
 run given numbers words = fold (λ before number. module_step given number before) words numbers
 
 abbrev to_react : List ℕ
@@ -101,22 +104,22 @@ after_tick_0 = record {
 }
 
 -- modules 0 to 7 at tick 0
-tick_0 : run (inputs idle 0 false 0) (to_react ++ 7 ∷ []) start ≡ after_tick_0
+tick_0 : run (inputs idle 0 Quiet 0) (to_react ++ 7 ∷ []) start ≡ after_tick_0
 unfolding run
 tick_0 = refl
 
 -- the same at a send tick, and its answer
-sends_0 : run (inputs idle 0 true 0) (to_react ++ 7 ∷ []) start ≡ after_tick_0
+sends_0 : run (inputs idle 0 Send 0) (to_react ++ 7 ∷ []) start ≡ after_tick_0
 unfolding run
 sends_0 = refl
 
-answers_0 : answer_after (inputs idle 0 true 0) 7 (run (inputs idle 0 true 0) to_react start) ≡ Some 16720522
-unfolding run answer_after answer_of answers_now number_of closed_flow next_token_of is_set
+answers_0 : answer_after (inputs idle 0 Send 0) 7 (run (inputs idle 0 Send 0) to_react start) ≡ Some 16720522
+unfolding run answer_after answer_of answers_now number_of closed_flow next_token_of is_set sends
 answers_0 = refl
 
 -- no answer at another tick, nor from another module
-quiet_0 : answer_after (inputs idle 0 false 0) 7 (run (inputs idle 0 false 0) to_react start) ≡ None
-unfolding run answer_after answer_of answers_now number_of closed_flow next_token_of is_set
+quiet_0 : answer_after (inputs idle 0 Quiet 0) 7 (run (inputs idle 0 Quiet 0) to_react start) ≡ None
+unfolding run answer_after answer_of answers_now number_of closed_flow next_token_of is_set sends
 quiet_0 = refl
 
 -- ---- several ticks ----
@@ -126,7 +129,7 @@ all = to_react ++ 7 ∷ []
 
 -- whole ticks with these readings, without a send tick, in this order
 abbrev ticks : Readings → List ℕ → Words
-ticks readings numbers = fold (λ before tick. run (inputs readings tick false 0) all before) start numbers
+ticks readings numbers = fold (λ before tick. run (inputs readings tick Quiet 0) all before) start numbers
 
 -- two ticks at which level 2 didn't run don't cancel each other
 two_gaps : (ticks idle (0 ∷ 2 ∷ 4 ∷ [])).flow ≡ 0x80ff
@@ -134,13 +137,13 @@ unfolding run
 two_gaps = refl
 
 -- a module that is left out, and one that is disturbed, each spoil the number that is sent
-left_out : answer_after (inputs idle 0 true 0) 7 (run (inputs idle 0 true 0) (0 ∷ 1 ∷ 2 ∷ 3 ∷ 4 ∷ 5 ∷ []) start) ≡ Some 2164204170
-unfolding run answer_after answer_of answers_now number_of closed_flow next_token_of is_set
+left_out : answer_after (inputs idle 0 Send 0) 7 (run (inputs idle 0 Send 0) (0 ∷ 1 ∷ 2 ∷ 3 ∷ 4 ∷ 5 ∷ []) start) ≡ Some 2164204170
+unfolding run answer_after answer_of answers_now number_of closed_flow next_token_of is_set sends
 left_out = refl
 
-disturbed : answer_after (inputs idle 0 true 0) 7 (run (inputs idle 0 true 0) (4 ∷ 5 ∷ 6 ∷ []) (run (inputs idle 0 true 1) (3 ∷ []) (run (inputs idle 0 true 0) (0 ∷ 1 ∷ 2 ∷ []) start)))
+disturbed : answer_after (inputs idle 0 Send 0) 7 (run (inputs idle 0 Send 0) (4 ∷ 5 ∷ 6 ∷ []) (run (inputs idle 0 Send 1) (3 ∷ []) (run (inputs idle 0 Send 0) (0 ∷ 1 ∷ 2 ∷ []) start)))
     ≡ Some 16720586
-unfolding run answer_after answer_of answers_now number_of closed_flow next_token_of is_set
+unfolding run answer_after answer_of answers_now number_of closed_flow next_token_of is_set sends
 disturbed = refl
 
 -- the values of the pedal's tracks differ, 300 and 100
@@ -153,9 +156,9 @@ torn_five : ticks torn (0 ∷ 1 ∷ 2 ∷ 3 ∷ 4 ∷ [])
 unfolding run
 torn_five = refl
 
-torn_found : found_by (inputs torn 4 false 0) 6 (run (inputs torn 4 false 0) (0 ∷ 1 ∷ 2 ∷ 3 ∷ 4 ∷ 5 ∷ []) (ticks torn (0 ∷ 1 ∷ 2 ∷ 3 ∷ [])))
+torn_found : found_by (inputs torn 4 Quiet 0) 6 (run (inputs torn 4 Quiet 0) (0 ∷ 1 ∷ 2 ∷ 3 ∷ 4 ∷ 5 ∷ []) (ticks torn (0 ∷ 1 ∷ 2 ∷ 3 ∷ [])))
     ≡ record { mirror = false; pedal = true; plate = false; load = false; speed = false; torque = false; answers = false }
-unfolding run found_by debounced is_found fed is_set pedal_bit plate_bit load_bit speed_bit torque_bit has_bit
+unfolding run found_by debounced is_found fed is_set pedal_bit plate_bit load_bit speed_bit torque_bit has_bit feeds_now feeds
 torn_found = refl
 
 torn_six : (ticks torn (0 ∷ 1 ∷ 2 ∷ 3 ∷ 4 ∷ 5 ∷ [])).pedal ≡ 0
@@ -172,19 +175,45 @@ heavy_five : ticks heavy (0 ∷ 1 ∷ 2 ∷ 3 ∷ 4 ∷ [])
 unfolding run
 heavy_five = refl
 
-heavy_order : order_after 7 (run (inputs heavy 4 true 0) to_react (ticks heavy (0 ∷ 1 ∷ 2 ∷ 3 ∷ []))) ≡ true
-unfolding run order_after is_set
+heavy_order : order_after (inputs heavy 4 Send 0) 7 (run (inputs heavy 4 Send 0) to_react (ticks heavy (0 ∷ 1 ∷ 2 ∷ 3 ∷ []))) ≡ true
+unfolding run order_after opens_now is_set orders
 heavy_order = refl
 
-heavy_answer : answer_after (inputs heavy 4 true 0) 7 (run (inputs heavy 4 true 0) to_react (ticks heavy (0 ∷ 1 ∷ 2 ∷ 3 ∷ []))) ≡ None
-unfolding run answer_after answer_of answers_now number_of closed_flow next_token_of is_set
+heavy_answer : answer_after (inputs heavy 4 Send 0) 7 (run (inputs heavy 4 Send 0) to_react (ticks heavy (0 ∷ 1 ∷ 2 ∷ 3 ∷ []))) ≡ None
+unfolding run answer_after answer_of answers_now number_of closed_flow next_token_of is_set sends
 heavy_answer = refl
 
 -- after a trip the signals are 0, also where the runs are disturbed
-heavy_six : run (inputs heavy 5 false 7) (to_react ++ 7 ∷ []) (ticks heavy (0 ∷ 1 ∷ 2 ∷ 3 ∷ 4 ∷ []))
+heavy_six : run (inputs heavy 5 Quiet 7) (to_react ++ 7 ∷ []) (ticks heavy (0 ∷ 1 ∷ 2 ∷ 3 ∷ 4 ∷ []))
     ≡ record after_tick_0 { pedal = 0; permitted = 0; actual = 0; torque_counter = 5; trip = 1; last = 5; sign = 23925 }
 unfolding run
 heavy_six = refl
+
+-- ---- a test of the shut-off paths ----
+
+-- whole ticks with these readings while the paths are tested, in this order
+abbrev tested : Readings → List ℕ → Words
+tested readings numbers = fold (λ before tick. run (inputs readings tick Test 0) all before) start numbers
+
+-- the counters aren't fed, so that nothing limits or trips, and the flow goes on
+tested_torn : tested torn (0 ∷ 1 ∷ 2 ∷ 3 ∷ 4 ∷ [])
+    ≡ record after_tick_0 { pedal = 100; permitted = 360; pairs = 1; last = 4 }
+unfolding run
+tested_torn = refl
+
+tested_heavy : tested heavy (0 ∷ 1 ∷ 2 ∷ 3 ∷ 4 ∷ []) ≡ record after_tick_0 { actual = 1250; excess = 1; last = 4 }
+unfolding run
+tested_heavy = refl
+
+-- path 1 is ordered open in the phase for it alone, and no answer is sent in either
+tested_orders : map (λ phase. order_after (inputs idle 0 phase 0) 7 (run (inputs idle 0 phase 0) to_react start)) (Quiet ∷ Send ∷ Test ∷ TestOrder ∷ [])
+    ≡ false ∷ false ∷ false ∷ true ∷ []
+unfolding run order_after opens_now is_set orders
+tested_orders = refl
+
+tested_answers : map (λ phase. answer_after (inputs idle 0 phase 0) 7 (run (inputs idle 0 phase 0) to_react start)) (Test ∷ TestOrder ∷ []) ≡ None ∷ None ∷ []
+unfolding run answer_after answer_of answers_now number_of closed_flow next_token_of is_set sends
+tested_answers = refl
 
 -- ---- a word that differs from its complement ----
 
@@ -201,7 +230,7 @@ unfolding mirror_alone no_watches
 flip_found = refl
 
 -- the other modules of that tick leave the signals 0, and order path 1 open
-flip_later : run (inputs idle 0 false 0) (1 ∷ 2 ∷ 3 ∷ 4 ∷ 5 ∷ 6 ∷ 7 ∷ []) (given_up 0) ≡ record gave_up { token = 0; sign = 11152 }
+flip_later : run (inputs idle 0 Quiet 0) (1 ∷ 2 ∷ 3 ∷ 4 ∷ 5 ∷ 6 ∷ 7 ∷ []) (given_up 0) ≡ record gave_up { token = 0; sign = 11152 }
 unfolding run given_up
 flip_later = refl
 

@@ -1,5 +1,5 @@
 -- What goes into one run of a module beside level 2's words.
-use Rattle.std.specs.Prelude.{◌≡◌, ◌≤◌, ℕ, ◌+◌, ◌%◌, Bool, List, [], ◌∷◌, length, slice_index}
+use Rattle.std.specs.Prelude.{◌≡◌, ◌≤◌, ℕ, ◌+◌, ◌%◌, List, [], ◌∷◌, length, slice_index}
 use Rattle.eg_guard.specs.declared.regions.TheConstants.{IN_PORTS, LINK}
 use Rattle.eg_sensor.specs.declared.readings.Readings.{Readings}
 use Rattle.eg_answer.specs.declared.rules.Rules.{Rules}
@@ -10,6 +10,7 @@ use Rattle.eg_answer.specs.Answers.{results_of}
 use Rattle.eg_num.specs.Interpolation.{grid_at}
 use Rattle.eg_level2.specs.declared.results.RowResults.{RowResults}
 use Rattle.eg_level2.specs.declared.lookup.Lookup.{Lookup}
+use Rattle.eg_level2.specs.declared.phase.Phase.{Phase}
 
 -- what level 2 is made of: the rules that it goes by, and the questions that it answers
 pub record Level2Parts : Type 0 where
@@ -21,14 +22,14 @@ abbrev pub AreParts : Level2Parts → Type 0
 AreParts parts = 2 ≤ length parts.questions
 
 -- what goes into one run: those two, the readings at the input ports, the number of the question at the link,
--- the tick, whether it is one at which the answer is sent, and what disturbs the run (0 where nothing does)
+-- the tick, its phase, and what disturbs the run (0 where nothing does)
 pub record Inputs : Type 0 where
   pub rules : Rules
   pub questions : List Question
   pub readings : Readings
   pub asked : ℕ
   pub tick : ℕ
-  pub sends : Bool
+  pub phase : Phase
   pub disturbance : ℕ
 
 -- the readings that stand at the ten input ports
@@ -47,14 +48,14 @@ unfoldable pub asked_of : List ℕ → ℕ
 asked_of memory = slice_index memory LINK
 
 -- the inputs of a run over this memory
-unfoldable pub inputs_of : Level2Parts → List ℕ → ℕ → Bool → ℕ → Inputs
-inputs_of parts memory tick sends disturbance = record {
+unfoldable pub inputs_of : Level2Parts → List ℕ → ℕ → Phase → ℕ → Inputs
+inputs_of parts memory tick phase disturbance = record {
   rules = parts.rules;
   questions = parts.questions;
   readings = readings_of memory;
   asked = asked_of memory;
   tick = tick;
-  sends = sends;
+  phase = phase;
   disturbance = disturbance;
 }
 

@@ -1,3 +1,4 @@
+pub mod Phases
 pub mod Words
 pub mod Inputs
 pub mod Modules

@@ -14,10 +14,12 @@ use Rattle.eg_answer.specs.Answers.{pedal_result, permitted_result, estimate_res
 use Rattle.eg_answer.specs.Folds.{mixed}
 use Rattle.eg_answer.specs.Formulas.{permitted_torque, estimated_torque, excess_number, disagreeing_pairs}
 use Rattle.eg_answer.specs.Token.{next_token_of}
+use Rattle.eg_level2.specs.declared.phase.Phase.{Phase}
 use Rattle.eg_level2.specs.declared.step.Step.{Step}
 use Rattle.eg_level2.specs.declared.words.TheConstants.{WHOLE_FLOW, BROKEN_FLOW}
 use Rattle.eg_level2.specs.Words.{Words, is_set}
 use Rattle.eg_level2.specs.Inputs.{Inputs, row_of}
+use Rattle.eg_level2.specs.Phases.{feeds, sends, orders}
 
 -- the high word of an answer with the mark that the program flow was broken
 unfoldable pub marked : ℕ → ℕ
@@ -125,26 +127,32 @@ speed_bit words = has_bit SPEED_PAIR words.pairs
 unfoldable pub torque_bit : Words → Bool
 torque_bit words = has_bit 1 words.excess
 
--- a counter after the run: where a trip stands nothing is fed
-unfoldable pub counted : Words → WeightParts → ℕ → Bool → ℕ
-counted words weights value bad = if is_set words.trip then value else fed weights value bad
+-- the counters are fed: not in a test, and not where a trip stands
+unfoldable pub feeds_now : Phase → Words → Bool
+feeds_now phase words = feeds phase && not (is_set words.trip)
+
+-- a counter after the run, where the counters are fed or aren't
+unfoldable pub counted : Bool → WeightParts → ℕ → Bool → ℕ
+counted feeding weights value bad = if feeding then fed weights value bad else value
 
 -- its watch is found: the feed brings it to its limit, for the first time
-unfoldable pub is_found : Words → WeightParts → ℕ → Bool → Bool
-is_found words weights value bad =
-    not (is_set words.trip) && (nat_lt value weights.limit && fed weights value bad == weights.limit)
+unfoldable pub is_found : Bool → WeightParts → ℕ → Bool → Bool
+is_found feeding weights value bad =
+    feeding && (nat_lt value weights.limit && fed weights value bad == weights.limit)
 
 -- the watches that it finds
-unfoldable pub debounced : Rules → Words → Watches
-debounced rules words = record {
-  mirror = false;
-  pedal = is_found words rules.pair words.pedal_counter (pedal_bit words);
-  plate = is_found words rules.pair words.plate_counter (plate_bit words);
-  load = is_found words rules.pair words.load_counter (load_bit words);
-  speed = is_found words rules.pair words.speed_counter (speed_bit words);
-  torque = is_found words rules.torque words.torque_counter (torque_bit words);
-  answers = false;
-}
+unfoldable pub debounced : Rules → Phase → Words → Watches
+debounced rules phase words =
+    let feeding = feeds_now phase words in
+    record {
+      mirror = false;
+      pedal = is_found feeding rules.pair words.pedal_counter (pedal_bit words);
+      plate = is_found feeding rules.pair words.plate_counter (plate_bit words);
+      load = is_found feeding rules.pair words.load_counter (load_bit words);
+      speed = is_found feeding rules.pair words.speed_counter (speed_bit words);
+      torque = is_found feeding rules.torque words.torque_counter (torque_bit words);
+      answers = false;
+    }
 
 -- a pedal that is found limits the operation,
 unfoldable pub limits : Watches → Bool
@@ -155,17 +163,19 @@ unfoldable pub trips : Watches → Bool
 trips found = found.plate || found.load || found.speed || found.torque
 
 -- It feeds the counters, sets limp and trip by what is found, and moves the token.
-unfoldable pub debounce_step : Rules → Words → Words
-debounce_step rules words = record words {
-  pedal_counter = counted words rules.pair words.pedal_counter (pedal_bit words);
-  plate_counter = counted words rules.pair words.plate_counter (plate_bit words);
-  load_counter = counted words rules.pair words.load_counter (load_bit words);
-  speed_counter = counted words rules.pair words.speed_counter (speed_bit words);
-  torque_counter = counted words rules.torque words.torque_counter (torque_bit words);
-  limp = if limits (debounced rules words) then 1 else words.limp;
-  trip = if trips (debounced rules words) then 1 else words.trip;
-  token = next_token_of words.token DEBOUNCE;
-}
+unfoldable pub debounce_step : Rules → Phase → Words → Words
+debounce_step rules phase words =
+    let feeding = feeds_now phase words in
+    record words {
+      pedal_counter = counted feeding rules.pair words.pedal_counter (pedal_bit words);
+      plate_counter = counted feeding rules.pair words.plate_counter (plate_bit words);
+      load_counter = counted feeding rules.pair words.load_counter (load_bit words);
+      speed_counter = counted feeding rules.pair words.speed_counter (speed_bit words);
+      torque_counter = counted feeding rules.torque words.torque_counter (torque_bit words);
+      limp = if limits (debounced rules phase words) then 1 else words.limp;
+      trip = if trips (debounced rules phase words) then 1 else words.trip;
+      token = next_token_of words.token DEBOUNCE;
+    }
 
 -- ---- module 7, react ----
 
@@ -173,23 +183,27 @@ debounce_step rules words = record words {
 unfoldable pub closed_flow : Words → ℕ
 closed_flow words = if next_token_of words.token REACT == 255 then words.flow else marked words.flow
 
--- an answer is sent at a send tick, but never where a trip stands
-unfoldable pub answers_now : Bool → Words → Bool
-answers_now sends words = sends && not (is_set words.trip)
+-- path 1 is ordered open where a trip stands, and in the phase for it
+unfoldable pub opens_now : Phase → Words → Bool
+opens_now phase words = is_set words.trip || orders phase
+
+-- an answer is sent in the phase for it, but never where a trip stands
+unfoldable pub answers_now : Phase → Words → Bool
+answers_now phase words = sends phase && not (is_set words.trip)
 
 -- the number that is sent: the flow in the high word, the fold in the low word
 unfoldable pub number_of : Words → ℕ
 number_of words = closed_flow words * 65536 + words.sign
 
 -- the answer, if one is sent
-unfoldable pub answer_of : Bool → Words → Option ℕ
-answer_of sends words = if answers_now sends words then Some (number_of words) else None
+unfoldable pub answer_of : Phase → Words → Option ℕ
+answer_of phase words = if answers_now phase words then Some (number_of words) else None
 
 -- the token begins anew, and after an answer the flow does too
-unfoldable pub react_step : Bool → Words → Words
-react_step sends words = record words {
+unfoldable pub react_step : Phase → Words → Words
+react_step phase words = record words {
   token = 0;
-  flow = if answers_now sends words then WHOLE_FLOW else closed_flow words;
+  flow = if answers_now phase words then WHOLE_FLOW else closed_flow words;
 }
 
 -- ---- a module by its number ----
@@ -205,16 +219,16 @@ module_step inputs number words =
     else if number == ACTUAL then actual_step inputs.rules inputs.readings row disturbance words
     else if number == EXCESS then excess_step inputs.rules row disturbance words
     else if number == PAIRS then pairs_step inputs.rules inputs.readings row disturbance words
-    else if number == DEBOUNCE then debounce_step inputs.rules words
-    else react_step inputs.sends words
+    else if number == DEBOUNCE then debounce_step inputs.rules inputs.phase words
+    else react_step inputs.phase words
 
 -- the answer that it sends, if any
 unfoldable pub answer_after : Inputs → ℕ → Words → Option ℕ
-answer_after inputs number words = if number == REACT then answer_of inputs.sends words else None
+answer_after inputs number words = if number == REACT then answer_of inputs.phase words else None
 
--- whether it orders path 1 open
-unfoldable pub order_after : ℕ → Words → Bool
-order_after number words = number == REACT && is_set words.trip
+-- whether it orders path 1 open: react does where a trip stands, and in the phase for it
+unfoldable pub order_after : Inputs → ℕ → Words → Bool
+order_after inputs number words = number == REACT && opens_now inputs.phase words
 
 -- no watch,
 unfoldable pub no_watches : Watches
@@ -234,12 +248,12 @@ mirror_alone = record no_watches { mirror = true }
 
 -- the watches that it finds, where each word had its complement
 unfoldable pub found_by : Inputs → ℕ → Words → Watches
-found_by inputs number words = if number == DEBOUNCE then debounced inputs.rules words else no_watches
+found_by inputs number words = if number == DEBOUNCE then debounced inputs.rules inputs.phase words else no_watches
 
 -- all three, as a run answers them
 unfoldable pub step_of : Inputs → ℕ → Words → Step
 step_of inputs number words = record {
-  open_path = order_after number words;
+  open_path = order_after inputs number words;
   answer = answer_after inputs number words;
   found = found_by inputs number words;
 }

@@ -1,22 +1,24 @@
 -- What a run of a module by its number makes of a memory, and what it answers.
-use Rattle.std.specs.Prelude.{◌≡◌, ◌↔◌, ℕ, Bool, Result, IsTrue, IsOk, OnOk, IfOk}
+use Rattle.std.specs.Prelude.{◌≡◌, ◌↔◌, ℕ, Result, IsTrue, IsOk, OnOk, IfOk}
 use Rattle.eg_guard.specs.Memory.{ShownMemory, AreWords, SameOutside}
+use Rattle.eg_level2.specs.declared.phase.Phase.{Phase}
 use Rattle.eg_level2.specs.declared.step.Step.{Step}
 use Rattle.eg_level2.specs.Words.{words_of, AreMirrored, AreWithin, is_level2_own}
 use Rattle.eg_level2.specs.Inputs.{Level2Parts, inputs_of}
 use Rattle.eg_level2.specs.Modules.{given_up, module_step, answer_after, order_after, mirror_alone, found_by}
 
--- The run of the module of that number at a tick, at which answers are sent or not, with what disturbs it.
-pub record IsRun {E : Type 0} (parts : Level2Parts) (number tick : ℕ) (sends : Bool) (disturbance : ℕ)
+-- The run of the module of that number at a tick of that phase, with what disturbs it.
+pub record IsRun {E : Type 0} (parts : Level2Parts) (number tick : ℕ) (phase : Phase) (disturbance : ℕ)
     (old new : ShownMemory) (result : Result Step E) : Type 0 where
   -- the words after it, and what it answers, orders and finds, where each word had its complement
   pub words : AreMirrored old.words → OnOk result (words_of new.words
-      ≡ module_step (inputs_of parts old.words tick sends disturbance) number (words_of old.words))
+      ≡ module_step (inputs_of parts old.words tick phase disturbance) number (words_of old.words))
   pub answer : IfOk result (λ step. step.answer
-      ≡ answer_after (inputs_of parts old.words tick sends disturbance) number (words_of old.words))
-  pub order : IfOk result (λ step. step.open_path ≡ order_after number (words_of old.words))
+      ≡ answer_after (inputs_of parts old.words tick phase disturbance) number (words_of old.words))
+  pub order : IfOk result (λ step. step.open_path ≡ order_after (inputs_of parts old.words tick phase disturbance) number
+      (words_of old.words))
   pub found : AreMirrored old.words → IfOk result (λ step. step.found
-      ≡ found_by (inputs_of parts old.words tick sends disturbance) number (words_of old.words))
+      ≡ found_by (inputs_of parts old.words tick phase disturbance) number (words_of old.words))
   -- Where a word differed from its complement, module 0 gives all words up, and finds that alone. Mirror is
   -- found exactly there.
   pub given_up : ¬ AreMirrored old.words → OnOk result (words_of new.words ≡ given_up tick)

@@ -2,15 +2,15 @@
 ghost use Rattle.std.specs.Prelude.{◌≡◌, ◌≤◌, ◌&&◌, nat_lt, OnOk, IfOk};
 ghost use Rattle.eg_sensor.specs.Readings.{has_bit};
 ghost use Rattle.eg_level2.specs.Words.{word_at, words_of, AreWithin};
-ghost use Rattle.eg_level2.specs.Modules.{debounced, debounce_step, finding};
+ghost use Rattle.eg_level2.specs.Modules.{feeds_now, debounced, debounce_step, finding};
 ghost use Rattle.eg_level2.specs.Stores.{Keeps, fed_of, feeds_of, trips_of, found_of, counters_kept};
 
-use crate::Step;
 use crate::step::no_watches;
 use crate::words::{
     EXCESS, LIMP, LOAD_COUNTER, PAIRS, PEDAL_COUNTER, PLATE_COUNTER, SPEED_COUNTER, TOKEN,
     TORQUE_COUNTER, TRIP, is_set, keep, keep_where, word,
 };
+use crate::{Phase, Step};
 use eg_answer::{Rules, next_token};
 use eg_base::NoMemory;
 use eg_guard::Guarded;
@@ -34,20 +34,24 @@ struct Feeds {
     torque: Fed,
 }
 
-/// Module 6: debounces the pairs and the excess, where no trip stands. A pedal that is found limits the
+/// Module 6: debounces the pairs and the excess, but not in a test, nor where a trip stands. A pedal that is found limits the
 /// operation; any other watch that is found trips (docs/CONCEPT.md, "Level 2").
 #[inline(always)]
 #[tactic(auto, using(crate::proofs::DebounceLemmas::debounce_laws))]
-pub(crate) fn debounce<M: Guarded>(memory: &mut M, rules: &Rules) -> Result<Step, NoMemory>
+pub(crate) fn debounce<M: Guarded>(
+    memory: &mut M,
+    rules: &Rules,
+    phase: Phase,
+) -> Result<Step, NoMemory>
     requires { AreWithin rules.now (words_of (M.shows memory.old).words) }
     ensures words { OnOk result (words_of (M.shows memory.new).words
-        ≡ debounce_step rules.now (words_of (M.shows memory.old).words)) }
+        ≡ debounce_step rules.now phase (words_of (M.shows memory.old).words)) }
     ensures step { IfOk result (λ step. step
-        ≡ finding (debounced rules.now (words_of (M.shows memory.old).words))) }
+        ≡ finding (debounced rules.now phase (words_of (M.shows memory.old).words))) }
     ensures keeps { Keeps (M.shows memory.old) (M.shows memory.new) result }
 {
     let token = next_token(word(memory, TOKEN), eg_answer::DEBOUNCE);
-    if is_set(word(memory, TRIP)) {
+    if !feeds_now(memory, phase) {
         keep(memory, TOKEN, token)?;
         return Ok(Step::quiet());
     }
@@ -57,6 +61,14 @@ pub(crate) fn debounce<M: Guarded>(memory: &mut M, rules: &Rules) -> Result<Step
     keep_where(feeds.trips(), memory, TRIP, 1)?;
     keep(memory, TOKEN, token)?;
     Ok(Step::finding(feeds.found()))
+}
+
+/// Whether the counters are fed: not in a test, and not where a trip stands.
+#[tactic(auto, unfolding(crate::specs::Words::named, crate::specs::Modules::feeds_now))]
+fn feeds_now<M: Guarded>(memory: &M, phase: Phase) -> bool
+    ensures { result ≡ feeds_now phase (words_of (M.shows memory.now).words) }
+{
+    phase.feeds() && !is_set(word(memory, TRIP))
 }
 
 /// One feed of a counter.

@@ -15,7 +15,7 @@ use crate::react::react;
 use crate::results::{RowResults, results_of_all};
 use crate::signals::{actual, excess, pairs, pedal, permitted};
 use crate::words::{FLOW, LAST, WHOLE_FLOW, clear, keep};
-use crate::{Lookup, Step};
+use crate::{Lookup, Phase, Step};
 use arrayvec::ArrayVec;
 use eg_answer::{Questions, Rules};
 use eg_base::NoMemory;
@@ -94,8 +94,8 @@ impl Level2 {
     }
 
     /// Runs the module of this number, 0 to 7, over the memory (docs/CONCEPT.md, "Level 2"). The readings and
-    /// the number of the question stand at the input ports and at the link. `tick` is this tick, and `send`
-    /// says whether the answer is sent at it. What disturbs the run is mixed in by exclusive or; 0 disturbs
+    /// the number of the question stand at the input ports and at the link. `tick` is this tick, and `phase`
+    /// says what is to be done at it. What disturbs the run is mixed in by exclusive or; 0 disturbs
     /// nothing. After NoMemory, what was stored stays; a test shows that, and `IsRun` that no other word has
     /// changed.
     pub fn module<M: Guarded>(
@@ -103,18 +103,18 @@ impl Level2 {
         module: u8,
         memory: &mut M,
         tick: u16,
-        send: bool,
+        phase: Phase,
         disturbance: u16,
     ) -> Result<Step, NoMemory>
         requires module { «module» < MODULES }
         // Module 0 takes any words. The others rely on what it has checked.
         requires mirrored { CHECK < «module» → AreMirrored (M.shows memory.old).words }
         requires within { CHECK < «module» → AreWithin self.now.rules (words_of (M.shows memory.old).words) }
-        ensures { IsRun self.now «module» tick send disturbance
+        ensures { IsRun self.now «module» tick phase disturbance
             (M.shows memory.old) (M.shows memory.new) result }
     {
         let lookup = Lookup::new(self.rules(), 0, 0);
-        self.module_with_lookup(module, memory, tick, send, disturbance, &lookup)
+        self.module_with_lookup(module, memory, tick, phase, disturbance, &lookup)
     }
 
     /// Does the same, and doesn't ask the permit table again for what was looked up already. The controller
@@ -125,7 +125,7 @@ impl Level2 {
         number: u8,
         memory: &mut M,
         tick: u16,
-        send: bool,
+        phase: Phase,
         disturbance: u16,
         lookup: &Lookup,
     ) -> Result<Step, NoMemory>
@@ -133,13 +133,13 @@ impl Level2 {
         requires lookup { IsLookup self.now.rules lookup.now }
         requires mirrored { CHECK < number → AreMirrored (M.shows memory.old).words }
         requires within { CHECK < number → AreWithin self.now.rules (words_of (M.shows memory.old).words) }
-        ensures { IsRun self.now number tick send disturbance
+        ensures { IsRun self.now number tick phase disturbance
             (M.shows memory.old) (M.shows memory.new) result }
     {
         if number == eg_answer::CHECK {
             return check(memory, tick, self.test(memory).seed);
         }
-        self.run(number, memory, send, disturbance, lookup)
+        self.run(number, memory, phase, disturbance, lookup)
     }
 
     /// Runs a module other than the first.
@@ -148,7 +148,7 @@ impl Level2 {
         &self,
         number: u8,
         memory: &mut M,
-        send: bool,
+        phase: Phase,
         disturbance: u16,
         lookup: &Lookup,
     ) -> Result<Step, NoMemory>
@@ -157,10 +157,10 @@ impl Level2 {
         requires lookup { IsLookup self.now.rules lookup.now }
         requires within { AreWithin self.now.rules (words_of (M.shows memory.old).words) }
         ensures words { (tick : ℕ) → OnOk result (words_of (M.shows memory.new).words
-            ≡ module_step (inputs_of self.now (M.shows memory.old).words tick send disturbance) number
+            ≡ module_step (inputs_of self.now (M.shows memory.old).words tick phase disturbance) number
             (words_of (M.shows memory.old).words)) }
         ensures step { (tick : ℕ) → IfOk result (λ step. step
-            ≡ step_of (inputs_of self.now (M.shows memory.old).words tick send disturbance) number
+            ≡ step_of (inputs_of self.now (M.shows memory.old).words tick phase disturbance) number
             (words_of (M.shows memory.old).words)) }
         ensures keeps { Keeps (M.shows memory.old) (M.shows memory.new) result }
     {
@@ -171,8 +171,8 @@ impl Level2 {
             eg_answer::ACTUAL => actual(memory, &self.rules, results[2], disturbance),
             eg_answer::EXCESS => excess(memory, &self.rules, results[3], disturbance),
             eg_answer::PAIRS => pairs(memory, &self.rules, results[4], disturbance),
-            eg_answer::DEBOUNCE => debounce(memory, &self.rules),
-            _ => react(memory, send),
+            eg_answer::DEBOUNCE => debounce(memory, &self.rules, phase),
+            _ => react(memory, phase),
         }
     }
 

@@ -1,12 +1,12 @@
 // Module 7: what comes of a trip, and the answer.
 ghost use Rattle.std.specs.Prelude.{◌≡◌, ◌+◌, ◌*◌, ◌==◌, OnOk, IfOk, if◌then◌else◌, Some, None};
-ghost use Rattle.eg_level2.specs.Words.{words_of, word_at, is_set};
-ghost use Rattle.eg_level2.specs.Modules.{marked, closed_flow, answers_now, react_step, answer_of, no_watches};
+ghost use Rattle.eg_level2.specs.Words.{words_of, word_at};
+ghost use Rattle.eg_level2.specs.Modules.{marked, closed_flow, opens_now, answers_now, react_step, answer_of, no_watches};
 ghost use Rattle.eg_level2.specs.Stores.{Keeps, keep};
 
-use crate::Step;
 use crate::step::no_watches;
 use crate::words::{BROKEN_FLOW, FLOW, SIGN, TOKEN, TRIP, WHOLE_FLOW, is_set, keep, word};
+use crate::{Phase, Step};
 use eg_answer::next_token;
 use eg_base::NoMemory;
 use eg_guard::Guarded;
@@ -14,27 +14,27 @@ use eg_guard::Guarded;
 /// The token that all eight modules have moved.
 const WHOLE_TOKEN: u16 = 0x00ff;
 
-/// Module 7: orders path 1 open where a trip stands, and else sends the answer at a send tick
-/// (docs/CONCEPT.md, "Level 2").
+/// Module 7: orders path 1 open where a trip stands or a test asks for it, and sends the answer in the phase
+/// for it, where no trip stands (docs/CONCEPT.md, "Level 2").
 #[inline(always)]
-pub(crate) fn react<M: Guarded>(memory: &mut M, send: bool) -> Result<Step, NoMemory>
+pub(crate) fn react<M: Guarded>(memory: &mut M, phase: Phase) -> Result<Step, NoMemory>
     ensures words { OnOk result (words_of (M.shows memory.new).words
-        ≡ react_step send (words_of (M.shows memory.old).words)) }
+        ≡ react_step phase (words_of (M.shows memory.old).words)) }
     ensures answer { IfOk result (λ step. step.answer
-        ≡ answer_of send (words_of (M.shows memory.old).words)) }
+        ≡ answer_of phase (words_of (M.shows memory.old).words)) }
     ensures order { IfOk result (λ step. step.open_path
-        ≡ is_set (words_of (M.shows memory.old).words).trip) }
+        ≡ opens_now phase (words_of (M.shows memory.old).words)) }
     ensures found { IfOk result (λ step. step.found ≡ no_watches) }
     ensures keeps { Keeps (M.shows memory.old) (M.shows memory.new) result }
 {
-    let trip = is_set(word(memory, TRIP));
-    let sends = answers_now(memory, send);
+    let opens = opens_now(memory, phase);
+    let sends = answers_now(memory, phase);
     let flow = closed_flow(memory);
     let sign = word(memory, SIGN);
     begin_token(memory)?;
     keep(memory, FLOW, flow_after(sends, flow))?;
     Ok(Step {
-        open_path: trip,
+        open_path: opens,
         answer: number(sends, flow, sign),
         found: no_watches(),
     })
@@ -72,12 +72,20 @@ fn closed(flow: u16, token: u16) -> u16
     }
 }
 
-/// Whether an answer is sent: at a send tick without a trip.
-#[tactic(auto, unfolding(crate::specs::Words::named, crate::specs::Modules::answers_now))]
-fn answers_now<M: Guarded>(memory: &M, send: bool) -> bool
-    ensures { result ≡ answers_now send (words_of (M.shows memory.now).words) }
+/// Whether path 1 is ordered open: where a trip stands, or a test asks for it.
+#[tactic(auto, unfolding(crate::specs::Words::named, crate::specs::Modules::opens_now))]
+fn opens_now<M: Guarded>(memory: &M, phase: Phase) -> bool
+    ensures { result ≡ opens_now phase (words_of (M.shows memory.now).words) }
 {
-    send && !is_set(word(memory, TRIP))
+    is_set(word(memory, TRIP)) || phase.orders()
+}
+
+/// Whether an answer is sent: in the phase for it, without a trip.
+#[tactic(auto, unfolding(crate::specs::Words::named, crate::specs::Modules::answers_now))]
+fn answers_now<M: Guarded>(memory: &M, phase: Phase) -> bool
+    ensures { result ≡ answers_now phase (words_of (M.shows memory.now).words) }
+{
+    phase.sends() && !is_set(word(memory, TRIP))
 }
 
 /// The flow, which begins anew once an answer was sent.

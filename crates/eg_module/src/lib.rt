@@ -3,6 +3,8 @@
 #![tactic(auto)]
 
 mod monitor;
+mod testing;
 
 pub use eg_answer::Verdict;
 pub use monitor::Monitor;
+pub use testing::test_ticks;

@@ -1,4 +1,4 @@
-use Rattle.eg_level2.proofs.ModuleLemmas.{reacted, answered, ordered}
+use Rattle.eg_level2.proofs.ModuleLemmas.{reacted, answered}
 use Rattle.eg_level2.proofs.react.react.Goals as goal
 
 pub returns-clause-words : goal.returns-clause-words
@@ -9,6 +9,3 @@ returns-clause-words g c =
 pub returns-clause-answer : goal.returns-clause-answer
 returns-clause-answer g c =
     answered _ _ _ _ _ _ c.number.ensures c.answers_now-sends.ensures c.closed_flow-flow.ensures c.word-sign.ensures
-
-pub returns-clause-order : goal.returns-clause-order
-returns-clause-order g c = ordered _ _ _ c.is_set-trip.ensures c.word.ensures

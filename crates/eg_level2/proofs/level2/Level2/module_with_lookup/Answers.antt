@@ -11,9 +11,9 @@ later n apart = omega arith
 pub returns-then-number-eq-CHECK : goal.returns-then-number-eq-CHECK
 returns-then-number-eq-CHECK g c = record {
   words = λ are. on_ok c.check.result
-      (λ e. e ∙ checks c.args.self.now _ c.args.tick c.args.send c.args.disturbance _ _ _ c.if-number-eq-CHECK.true (seed-kept _ _ _ c.test.ensures)) (c.check.ensures.words are);
+      (λ e. e ∙ checks c.args.self.now _ c.args.tick c.args.phase c.args.disturbance _ _ _ c.if-number-eq-CHECK.true (seed-kept _ _ _ c.test.ensures)) (c.check.ensures.words are);
   answer = if_ok c.check.result (λ step e. e ∙ first-answer _ _ _ c.if-number-eq-CHECK.true) c.check.ensures.answer;
-  order = if_ok c.check.result (λ step e. e ∙ first-order _ _ c.if-number-eq-CHECK.true) c.check.ensures.order;
+  order = if_ok c.check.result (λ step e. e ∙ first-order _ _ _ c.if-number-eq-CHECK.true) c.check.ensures.order;
   found = λ are. if_ok c.check.result (λ step e. e ∙ first-found _ _ _ c.if-number-eq-CHECK.true) (c.check.ensures.found are);
   given_up = c.check.ensures.given_up;
   mirror_alone = c.check.ensures.mirror_alone;
@@ -41,7 +41,7 @@ returns g c =
       mirrored = c.run.ensures.keeps.mirrored are;
       within = λ within. on_ok c.run.result
           (λ e. subst (AreWithin c.args.self.now.rules) (sym e)
-          (step-within c.args.self.now _ c.args.tick c.args.send c.args.disturbance _ _ (c.requires.within first)))
+          (step-within c.args.self.now _ c.args.tick c.args.phase c.args.disturbance _ _ (c.requires.within first)))
           (c.run.ensures.words c.args.tick);
       outside = λ address other. same_outside _ _ address c.run.ensures.keeps.leaves.outside other;
       sure = c.run.ensures.keeps.leaves.sure;

@@ -6,7 +6,7 @@ use Rattle.eg_level2.proofs.level2.Level2.run.Goals as goal
 
 pub returns-in-1-clause-words : goal.returns-in-1-clause-words
 returns-in-1-clause-words g c = λ tick. on_ok c.pedal.result
-    (λ e. e ∙ pedals c.args.self.now _ tick c.args.send c.args.disturbance _ _ _ c.in-1.is refl)
+    (λ e. e ∙ pedals c.args.self.now _ tick c.args.phase c.args.disturbance _ _ _ c.in-1.is refl)
     (c.pedal.ensures.words _ (pedal-kept _ _ _ c.test.ensures))
 
 pub returns-in-1-clause-step : goal.returns-in-1-clause-step
@@ -14,7 +14,7 @@ returns-in-1-clause-step g c = λ tick. if_ok c.pedal.result (λ step e. e ∙ q
 
 pub returns-in-2-clause-words : goal.returns-in-2-clause-words
 returns-in-2-clause-words g c = λ tick. on_ok c.permitted.result
-    (λ e. e ∙ permits c.args.self.now _ tick c.args.send c.args.disturbance _ _ _ _ c.in-2.is (same_rules _ _ c.self.view_is) refl)
+    (λ e. e ∙ permits c.args.self.now _ tick c.args.phase c.args.disturbance _ _ _ _ c.in-2.is (same_rules _ _ c.self.view_is) refl)
     (c.permitted.ensures.words _ (permitted-kept _ _ _ _ (same_rules _ _ c.self.view_is) c.test.ensures))
 
 pub returns-in-2-clause-step : goal.returns-in-2-clause-step
@@ -22,7 +22,7 @@ returns-in-2-clause-step g c = λ tick. if_ok c.permitted.result (λ step e. e �
 
 pub returns-in-3-clause-words : goal.returns-in-3-clause-words
 returns-in-3-clause-words g c = λ tick. on_ok c.actual.result
-    (λ e. e ∙ actuals c.args.self.now _ tick c.args.send c.args.disturbance _ _ _ _ c.in-3.is (same_rules _ _ c.self.view_is) refl)
+    (λ e. e ∙ actuals c.args.self.now _ tick c.args.phase c.args.disturbance _ _ _ _ c.in-3.is (same_rules _ _ c.self.view_is) refl)
     (c.actual.ensures.words _ (estimate-kept _ _ _ _ (same_rules _ _ c.self.view_is) c.test.ensures))
 
 pub returns-in-3-clause-step : goal.returns-in-3-clause-step
@@ -30,7 +30,7 @@ returns-in-3-clause-step g c = λ tick. if_ok c.actual.result (λ step e. e ∙ 
 
 pub returns-in-4-clause-words : goal.returns-in-4-clause-words
 returns-in-4-clause-words g c = λ tick. on_ok c.excess.result
-    (λ e. e ∙ excesses c.args.self.now _ tick c.args.send c.args.disturbance _ _ _ _ c.in-4.is (same_rules _ _ c.self.view_is) refl)
+    (λ e. e ∙ excesses c.args.self.now _ tick c.args.phase c.args.disturbance _ _ _ _ c.in-4.is (same_rules _ _ c.self.view_is) refl)
     (c.excess.ensures.words _ (excess-kept _ _ _ _ (same_rules _ _ c.self.view_is) c.test.ensures))
 
 pub returns-in-4-clause-step : goal.returns-in-4-clause-step
@@ -38,7 +38,7 @@ returns-in-4-clause-step g c = λ tick. if_ok c.excess.result (λ step e. e ∙ 
 
 pub returns-in-5-clause-words : goal.returns-in-5-clause-words
 returns-in-5-clause-words g c = λ tick. on_ok c.pairs.result
-    (λ e. e ∙ pairings c.args.self.now _ tick c.args.send c.args.disturbance _ _ _ _ c.in-5.is (same_rules _ _ c.self.view_is) refl)
+    (λ e. e ∙ pairings c.args.self.now _ tick c.args.phase c.args.disturbance _ _ _ _ c.in-5.is (same_rules _ _ c.self.view_is) refl)
     (c.pairs.ensures.words _ (pairs-kept _ _ _ _ (same_rules _ _ c.self.view_is) c.test.ensures))
 
 pub returns-in-5-clause-step : goal.returns-in-5-clause-step
@@ -46,20 +46,20 @@ returns-in-5-clause-step g c = λ tick. if_ok c.pairs.result (λ step e. e ∙ q
 
 pub returns-in-6-clause-words : goal.returns-in-6-clause-words
 returns-in-6-clause-words g c = λ tick. on_ok c.debounce.result
-    (λ e. e ∙ debounces c.args.self.now _ tick c.args.send c.args.disturbance _ _ _ c.in-6.is (same_rules _ _ c.self.view_is))
+    (λ e. e ∙ debounces c.args.self.now _ tick c.args.phase c.args.disturbance _ _ _ c.in-6.is (same_rules _ _ c.self.view_is))
     c.debounce.ensures.words
 
 pub returns-in-6-clause-step : goal.returns-in-6-clause-step
 returns-in-6-clause-step g c = λ tick. if_ok c.debounce.result
-    (λ step e. e ∙ debounces-step c.args.self.now _ tick c.args.send c.args.disturbance _ _ _ c.in-6.is (same_rules _ _ c.self.view_is))
+    (λ step e. e ∙ debounces-step c.args.self.now _ tick c.args.phase c.args.disturbance _ _ _ c.in-6.is (same_rules _ _ c.self.view_is))
     c.debounce.ensures.step
 
 pub returns-in_default-clause-words : goal.returns-in_default-clause-words
 returns-in_default-clause-words g c = λ tick. on_ok c.react.result
-    (λ e. e ∙ reacts c.args.self.now _ tick c.args.send c.args.disturbance _ _ (omega arith))
+    (λ e. e ∙ reacts c.args.self.now _ tick c.args.phase c.args.disturbance _ _ (omega arith))
     c.react.ensures.words
 
 pub returns-in_default-clause-step : goal.returns-in_default-clause-step
 returns-in_default-clause-step g c = λ tick. if_ok_all c.react.result
-    (λ step ea eo ef. reacts-step c.args.self.now _ tick c.args.send c.args.disturbance _ _ step (omega arith) eo ea ef)
+    (λ step ea eo ef. reacts-step c.args.self.now _ tick c.args.phase c.args.disturbance _ _ step (omega arith) eo ea ef)
     c.react.ensures.answer c.react.ensures.order c.react.ensures.found
