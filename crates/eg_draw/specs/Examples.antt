@@ -1,13 +1,13 @@
 -- Words for runs that are worked out.
 use Rattle.std.specs.Prelude.{ℕ, Option, Some}
-use Rattle.eg_num.specs.Drive.{DriveRow}
+use Rattle.eg_num.specs.Drive.{DriveRow, driven}
 use Rattle.eg_fault.specs.declared.class.Class.{Class}
 use Rattle.eg_fault.specs.declared.class.Fault.{Fault}
 use Rattle.eg_draw.specs.Runs.{drawn_run, state_after}
 
 -- a row of a drive: pedal, speed and raise
 abbrev pub row : ℕ → ℕ → ℕ → DriveRow
-row pedal speed raise = record { pedal = pedal; speed = speed; raise = raise }
+row = driven
 
 -- a fault of this class from this tick on
 abbrev pub from_tick : ℕ → Class → Option Fault

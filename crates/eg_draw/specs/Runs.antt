@@ -1,7 +1,7 @@
 -- The run that is drawn in a state: an image of level 1, a drive of 2,000 ticks, and a fault or none. Beside
 -- what each part gives stands how many draws it takes.
 use Rattle.std.specs.Prelude.{ℕ, zero, suc, ◌≡◌, ◌+◌, ◌%◌, ◌≤◌, ◌==◌, pos, false, List, [], ◌∷◌, ◌++◌, map, replicate, take, slice_index, slice_set, length, All, Option, Some, None, IfSome, if◌then◌else◌}
-use Rattle.eg_num.specs.Drive.{DriveRow, IsDrive}
+use Rattle.eg_num.specs.Drive.{DriveRow, driven, IsDrive}
 use Rattle.eg_sensor.specs.declared.tracks.TheConstants.{TRACKS}
 use Rattle.eg_word.specs.declared.images.TheConstants.{IDLE, FULL}
 use Rattle.eg_answer.specs.declared.modules.TheConstants.{PAIRS, MODULES}
@@ -32,11 +32,8 @@ image_draws kind = if kind == 2 then 256 else if kind == 3 then 2 else 0
 
 -- a row of it: 0 to 1000 per mille, 800 to 6000 rpm, 0 to 499 tenths of Nm
 unfoldable pub stretch_row : ℕ → DriveRow
-stretch_row x = record {
-  pedal = draw x % 1001;
-  speed = 800 + draw (next x) % 5201;
-  raise = draw (next (next x)) % 500;
-}
+stretch_row x =
+    driven (draw x % 1001) (800 + draw (next x) % 5201) (draw (next (next x)) % 500)
 
 -- so many stretches of a hundred equal rows, each with three draws of its own
 unfoldable pub stretches : ℕ → ℕ → List DriveRow

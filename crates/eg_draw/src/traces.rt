@@ -41,7 +41,7 @@ impl Generator {
         let pedal = self.below(1001);
         let speed = 800 + self.below(5201);
         let raise = self.below(500);
-        match Drive::new(pedal, speed, raise) {
+        match Drive::new(pedal, speed, raise, false, false) {
             Some(row) => row,
             None => unreachable!(),
         }

@@ -1,6 +1,6 @@
 -- The file of a drive trace: a drive row for each tick.
 use Rattle.std.specs.Prelude.{ℕ, ◌==◌, List, [], ◌∷◌, length, codes, Option, Some, None, if◌then◌else◌, Result}
-use Rattle.eg_num.specs.Drive.{DriveRow}
+use Rattle.eg_num.specs.Drive.{DriveRow, driven}
 use Rattle.eg_input.specs.Records.{Record}
 use Rattle.eg_input.specs.Fields.{number_at}
 use Rattle.eg_input.specs.Rows.{rows_of}
@@ -13,7 +13,7 @@ trace_header = codes "pedal" ∷ codes "speed" ∷ codes "raise" ∷ []
 -- the drive row of three numbers, where each is there
 unfoldable pub drive_from : Option ℕ → Option ℕ → Option ℕ → Option DriveRow
 drive_from (Some pedal) (Some speed) (Some raise) =
-    Some (record { pedal = pedal; speed = speed; raise = raise })
+    Some (driven pedal speed raise)
 drive_from _ _ _ = None
 
 -- the drive row that the first three fields of a record write

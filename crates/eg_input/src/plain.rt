@@ -54,7 +54,7 @@ pub(crate) fn drive(bytes: &[u8], ending: u8) -> Option<(Drive, &[u8])>
     let (pedal, rest) = number(bytes, 1000, b',')?;
     let (speed, rest) = number(rest, 8000, b',')?;
     let (raise, rest) = number(rest, 10_000, ending)?;
-    Some((Drive::new(pedal, speed, raise)?, rest))
+    Some((Drive::new(pedal, speed, raise, false, false)?, rest))
 }
 
 /// The number that one to five digits at the front write, and what comes behind the byte that ends them. None

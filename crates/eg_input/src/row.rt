@@ -107,5 +107,5 @@ fn drive_at(entry: &ByteRecord) -> Option<Drive>
     let pedal = number_at(entry, 0, 1000)?;
     let speed = number_at(entry, 1, 8000)?;
     let raise = number_at(entry, 2, 10_000)?;
-    Drive::new(pedal, speed, raise)
+    Drive::new(pedal, speed, raise, false, false)
 }

@@ -157,7 +157,7 @@ unfolding run
 torn_five = refl
 
 torn_found : found_by (inputs torn 4 Quiet 0) 6 (run (inputs torn 4 Quiet 0) (0 ∷ 1 ∷ 2 ∷ 3 ∷ 4 ∷ 5 ∷ []) (ticks torn (0 ∷ 1 ∷ 2 ∷ 3 ∷ [])))
-    ≡ record { mirror = false; pedal = true; plate = false; load = false; speed = false; torque = false; answers = false }
+    ≡ record { mirror = false; pedal = true; plate = false; load = false; speed = false; torque = false; answers = false; start = false }
 unfolding run found_by debounced is_found fed is_set pedal_bit plate_bit load_bit speed_bit torque_bit has_bit feeds_now feeds
 torn_found = refl
 
@@ -225,7 +225,7 @@ flip_0 : given_up 0 ≡ gave_up
 unfolding given_up
 flip_0 = refl
 
-flip_found : mirror_alone ≡ record { mirror = true; pedal = false; plate = false; load = false; speed = false; torque = false; answers = false }
+flip_found : mirror_alone ≡ record { mirror = true; pedal = false; plate = false; load = false; speed = false; torque = false; answers = false; start = false }
 unfolding mirror_alone no_watches
 flip_found = refl
 

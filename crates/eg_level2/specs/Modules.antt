@@ -152,6 +152,7 @@ debounced rules phase words =
       speed = is_found feeding rules.pair words.speed_counter (speed_bit words);
       torque = is_found feeding rules.torque words.torque_counter (torque_bit words);
       answers = false;
+      start = false;
     }
 
 -- a pedal that is found limits the operation,
@@ -240,6 +241,7 @@ no_watches = record {
   speed = false;
   torque = false;
   answers = false;
+  start = false;
 }
 
 -- and that of the mirrored words alone

@@ -70,6 +70,7 @@ found_of feeds = record {
   speed = feeds.speed.found;
   torque = feeds.torque.found;
   answers = false;
+  start = false;
 }
 
 -- their values stored

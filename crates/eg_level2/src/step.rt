@@ -60,5 +60,6 @@ pub(crate) fn no_watches() -> Watches
         speed: false,
         torque: false,
         answers: false,
+        start: false,
     }
 }

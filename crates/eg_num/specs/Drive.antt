@@ -1,12 +1,20 @@
 -- What a drive trace gives to one tick.
-use Rattle.std.specs.Prelude.{ℕ, ◌≤◌}
+use Rattle.std.specs.Prelude.{ℕ, ◌≤◌, Bool, false}
 
--- pedal in per mille, speed in rpm, raise of the permitted torque in tenths of Nm
+-- pedal in per mille, speed in rpm, raise of the permitted torque in tenths of Nm; whether a power cycle begins
+-- at the tick, and whether the driver brakes
 pub record DriveRow : Type 0 where
   pub pedal : ℕ
   pub speed : ℕ
   pub raise : ℕ
+  pub reset : Bool
+  pub brake : Bool
 
--- each within its limit
+-- each number within its limit
 abbrev pub IsDrive : DriveRow → Type 0
 IsDrive row = (row.pedal ≤ 1000) × (row.speed ≤ 8000) × (row.raise ≤ 10000)
+
+-- a row at which no power cycle begins and nobody brakes
+abbrev pub driven : (pedal speed raise : ℕ) → DriveRow
+driven pedal speed raise =
+    record { pedal = pedal; speed = speed; raise = raise; reset = false; brake = false }

@@ -5,13 +5,15 @@ ghost use Rattle.eg_num.specs.Drive.{DriveRow, IsDrive};
 use std::marker::Model;
 
 /// What a drive trace gives to one tick (docs/CONCEPT.md, "Units"): the pedal (0 to 1000 per mille), the
-/// speed (0 to 8000 rpm), and what raises the permitted torque (0 to 10,000 tenths of Nm).
-/// Contracts see its `DriveRow`.
+/// speed (0 to 8000 rpm), what raises the permitted torque (0 to 10,000 tenths of Nm), whether a power cycle
+/// begins at the tick, and whether the driver brakes. Contracts see its `DriveRow`.
 #[derive(Clone, Copy, Debug, PartialEq, Eq)]
 pub struct Drive {
     pedal: u16,
     speed: u16,
     raise: u16,
+    reset: bool,
+    brake: bool,
 }
 
 impl Model for Drive {
@@ -19,24 +21,49 @@ impl Model for Drive {
 
     ghost Value = { DriveRow };
 
-    ghost view = { λ d. record { pedal = d.pedal; speed = d.speed; raise = d.raise } };
+    ghost view = { λ d. record {
+      pedal = d.pedal;
+      speed = d.speed;
+      raise = d.raise;
+      reset = d.reset;
+      brake = d.brake;
+    } };
 
-    ghost invariant = { λ d. IsDrive (record { pedal = d.pedal; speed = d.speed; raise = d.raise }) };
+    ghost invariant = { λ d. IsDrive (record {
+      pedal = d.pedal;
+      speed = d.speed;
+      raise = d.raise;
+      reset = d.reset;
+      brake = d.brake;
+    }) };
 
-    ghost inverse = { λ r. record { pedal = r.pedal; speed = r.speed; raise = r.raise } };
+    ghost inverse = { λ r. record {
+      pedal = r.pedal;
+      speed = r.speed;
+      raise = r.raise;
+      reset = r.reset;
+      brake = r.brake;
+    } };
 }
 
 impl Drive {
     /// This row, or None where one of the numbers is above its limit.
-    pub fn new(pedal: u16, speed: u16, raise: u16) -> Option<Drive>
-        ensures { let row : DriveRow = record { pedal = pedal; speed = speed; raise = raise } in
-            SomeIff result (IsDrive row) row }
+    pub fn new(pedal: u16, speed: u16, raise: u16, reset: bool, brake: bool) -> Option<Drive>
+        ensures { let row : DriveRow = record {
+          pedal = pedal;
+          speed = speed;
+          raise = raise;
+          reset = reset;
+          brake = brake;
+        } in SomeIff result (IsDrive row) row }
     {
         if pedal <= 1000 && speed <= 8000 && raise <= 10_000 {
             Some(Drive {
                 pedal,
                 speed,
                 raise,
+                reset,
+                brake,
             })
         } else {
             None
@@ -65,5 +92,21 @@ impl Drive {
         ensures drive { IsDrive self.now }
     {
         self.raise
+    }
+
+    /// Whether a power cycle begins at the tick.
+    pub fn reset(&self) -> bool
+        ensures reset { result ≡ self.now.reset }
+        ensures drive { IsDrive self.now }
+    {
+        self.reset
+    }
+
+    /// Whether the driver brakes.
+    pub fn brake(&self) -> bool
+        ensures brake { result ≡ self.now.brake }
+        ensures drive { IsDrive self.now }
+    {
+        self.brake
     }
 }
