@@ -8,7 +8,7 @@ use Rattle.eg_num.specs.Windows.{WeightParts, AreWeights, is_confirmed, is_first
 use Rattle.eg_num.proofs.FirstPlaceLemmas.{is_first-parts, first_place-first, first_place-other, is_some-first_place, is_reached_confirmed, is_confirmed-cons}
 use Rattle.eg_answer.specs.Times.{TimeParts, AreTimes, verdicts_to_confirm, reaction_of}
 use Rattle.eg_plant.specs.PlantParts.{PlantParts, ArePlantParts}
-use Rattle.eg_plant.specs.Engine.{Shown, KeepsLaws}
+use Rattle.eg_plant.specs.Engine.{KeepsLaws}
 use Rattle.eg_plant.specs.Gasoline.{at_rest, next_plate, next_charge, gasoline_step}
 use Rattle.eg_plant.proofs.PlantLemmas.{curve_at-most, moved_toward-most, next_charge-most, torque_of-covered, torque_of-off}
 use Rattle.eg_fault.specs.Effects.{Effects, no_effects}
@@ -30,6 +30,7 @@ use Rattle.eg_model.specs.Premises.{IsProper, AreProper, Follows, is_on_after, t
 use Rattle.eg_model.specs.Reaction.{OffFrom, is_at_once}
 use Rattle.eg_model.specs.SharpCut.{ArePlain}
 use Rattle.eg_model.specs.Records.{IsRun, row_at, rows_to, RecordsAreHistories, RecordsAreRows, IsConfirmedBy, RunsReact, RunsReactAtOnce, is_before_onset, RunsCutSharply, CutOneTickAfter, RecordsReact, RecordsCutSharply}
+use Rattle.eg_model.proofs.TickLemmas.{moment-tick, moment-entry}
 use Rattle.eg_model.proofs.Silence.{enough_weight}
 use Rattle.eg_model.proofs.ReactionLaw.{reacts_in_time, reacts_at_once_law}
 use Rattle.eg_model.proofs.SharpCutLaw.{cuts_sharply}
@@ -145,17 +146,15 @@ shown_once plant x past = refl
 kept_next : (s : Setting) (x : Effects) (e : Entry) (past : List Moment) →
     (e.shown ≡ shown_at s.cal.plant x past) → ArePlantParts s.cal.plant → IsKept s.cal.plant past →
     IsHeldWithin x.held → IsKept s.cal.plant (moment s x e past ∷ past)
-unfolding last_engine moment
+unfolding last_engine
 kept_next s x e past shows are kept held =
     let laws = shown_laws s.cal.plant x past are kept held in
     let charge = shown_charge s.cal.plant x past are kept in
+    let now = sym (ap (λ y. y.shown) (moment-entry s x e past) ∙ shows) in
     record {
-      plate = subst (λ w. w.position ≤ 1000) (sym_of shows) laws.position;
-      charge = subst (λ w. w.load_1 ≤ 1000) (sym_of shows) charge;
+      plate = subst (λ w. w.position ≤ 1000) now laws.position;
+      charge = subst (λ w. w.load_1 ≤ 1000) now charge;
     }
-  where
-    sym_of : {a b : Shown} → a ≡ b → b ≡ a
-    sym_of e = sym e
 
 -- a plate that is held at one of the first n ticks has an angle within its range
 abbrev pub HoldsTo : Run → ℕ → Type 0
@@ -365,7 +364,9 @@ length-moments_to r zero = refl
 length-moments_to r (suc t) = ap suc (length-moments_to r t)
 
 pub row_tick : (r : Run) (t : ℕ) → (row_at r t).tick ≡ t
-row_tick r t = unfold row_at row_of moment in length-moments_to r t
+row_tick r t = unfold row_at row_of moments_to in
+    moment-tick r.setting (effects r.setting.fault t) (entry_at r t (moments_to r t)) (moments_to r t)
+    ∙ length-moments_to r t
 
 length-rows_to : (r : Run) (n : ℕ) → length (rows_to r n) ≡ n
 length-rows_to r zero = ap length (no_rows r)
