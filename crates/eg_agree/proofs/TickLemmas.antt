@@ -1,5 +1,5 @@
 -- One tick of level 2 over its words is one tick of the model.
-use Rattle.std.proofs.Common.{◌≡◌, ℕ, ◌≤◌, Bool, true, false, not, ◌||◌, ◌&&◌, List, [], ◌∷◌, length, refl, sym, subst, ap, ◌∙◌, arith, suc, zero}
+use Rattle.std.proofs.Common.{◌≡◌, ℕ, ◌≤◌, Bool, true, false, not, ◌||◌, ◌&&◌, List, ◌∷◌, length, refl, sym, subst, ap, ◌∙◌, arith, suc, zero}
 use Rattle.std.specs.Prelude.{if◌then◌else◌, is_some, bit_xor}
 use Rattle.std.proofs.lemmas.Bool.{false≢true}
 use Rattle.eg_num.specs.declared.watches.Watches.{Watches}
@@ -9,9 +9,7 @@ use Rattle.eg_answer.specs.declared.rules.TestRow.{TestRow}
 use Rattle.eg_answer.specs.declared.marks.AnswerMark.TheVariants.{Absent, Good, Bad}
 use Rattle.eg_values.specs.Calibration.{IsAccepted}
 use Rattle.eg_fault.specs.Effects.{Effects, sends_at}
-use Rattle.eg_fault.specs.Faults.{effects}
 use Rattle.eg_fault.specs.Classes.{ChecksFlips}
-use Rattle.eg_fault.proofs.ClassLemmas.{faults_check_flips}
 use Rattle.eg_level2.specs.Words.{Words, is_set}
 use Rattle.eg_level2.specs.Modules.{debounced, no_watches, answers_now, answer_of, number_of, debounce_step, react_step}
 use Rattle.eg_flow.specs.Ticks.{Doing, after_modules, after_tick, answer_at, orders_at, finds_at}
@@ -19,11 +17,11 @@ use Rattle.eg_model.specs.History.{Setting, Entry, Signals, Moment}
 use Rattle.eg_model.specs.Signals.{tripped, last_signals, signal, signals_at}
 use Rattle.eg_model.specs.Answers.{is_answer, is_sent, is_good, mark_at}
 use Rattle.eg_model.specs.Level1.{seen, seen_signals}
-use Rattle.eg_model.specs.Moments.{readings_at, moment, moments_of, ticks, moments, next}
+use Rattle.eg_model.specs.Moments.{readings_at, moment, moments_of}
 use Rattle.eg_model.specs.Rows.{signal_list}
 use Rattle.eg_agree.specs.Doings.{doing_at}
 use Rattle.eg_agree.specs.Standing.{signals_of, trip_after, KeepsWords}
-use Rattle.eg_agree.specs.Ticking.{found_in_level2, IsTick, TickLaw, RunLaw}
+use Rattle.eg_agree.specs.Ticking.{found_in_level2, IsTick, TickLaw}
 use Rattle.eg_agree.proofs.BoolLaws.{if-part, if-same, if-false, is_set-bit, sent-law}
 use Rattle.eg_model.proofs.TickLemmas.{length-moments}
 use Rattle.eg_agree.proofs.HistoryLemmas.{mirror_trips}
@@ -337,17 +335,3 @@ tick_law s accepted h x e checks w keeps =
     let past = moments_of s h in
     at-number s x e w past (length h) (length-moments s h)
     (is_tick s accepted x e past (mirror_trips s h) checks w keeps)
-
-pub length-ticks : (s : Setting) (h : List Entry) → length (ticks s h) ≡ length h
-unfolding ticks
-length-ticks s [] = refl
-length-ticks s (e ∷ h) = ap suc (length-ticks s h)
-
-pub run_law : RunLaw
-unfolding moments next
-run_law s accepted h e w keeps =
-    let x = effects s.fault (length h) in
-    let past = moments_of s (ticks s h) in
-    at-number s x e w past (length h) (length-moments s (ticks s h) ∙ length-ticks s h)
-    (is_tick s accepted x e past (mirror_trips s (ticks s h))
-    (faults_check_flips s.fault (length h)) w keeps)

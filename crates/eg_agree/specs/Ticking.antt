@@ -5,14 +5,13 @@ use Rattle.eg_answer.specs.declared.modules.TheConstants.{REACT, MODULES}
 use Rattle.eg_values.specs.Calibration.{IsAccepted}
 use Rattle.eg_fault.specs.Effects.{Effects}
 use Rattle.eg_fault.specs.Classes.{ChecksFlips}
-use Rattle.eg_fault.specs.Faults.{effects}
 use Rattle.eg_level2.specs.Words.{Words, AreWithin, is_set, start}
 use Rattle.eg_flow.specs.Ticks.{Doing, after_modules, after_tick, answer_at, orders_at, finds_at}
 use Rattle.eg_model.specs.History.{Setting, Entry, Tick, Moment}
 use Rattle.eg_model.specs.Signals.{tripped, last_signals}
 use Rattle.eg_model.specs.Answers.{is_answer}
 use Rattle.eg_model.specs.Level1.{seen_signals}
-use Rattle.eg_model.specs.Moments.{readings_at, moment, moments_of, moments, next}
+use Rattle.eg_model.specs.Moments.{readings_at, moment, moments_of}
 use Rattle.eg_model.specs.Rows.{signal_list}
 use Rattle.eg_agree.specs.Doings.{doing_at}
 use Rattle.eg_agree.specs.Standing.{signals_of, KeepsWords}
@@ -57,11 +56,3 @@ TickLaw =
     (let past = moments_of s h in
     KeepsWords s w past →
     IsTick s x (doing_at s x (readings_at x e) (length h)) w (moment s x e past) past)
-
--- the same from power-on, where what is out of order is what the setting's fault does
-abbrev pub RunLaw : Type 0
-RunLaw =
-    (s : Setting) → IsAccepted s.cal → (h : List Entry) (e : Entry) (w : Words) →
-    (let x = effects s.fault (length h) in
-    KeepsWords s w (moments s h) →
-    IsTick s x (doing_at s x (readings_at x e) (length h)) w (next s e h) (moments s h))
