@@ -27,7 +27,7 @@ use Rattle.eg_model.specs.Signals.{tripped}
 use Rattle.eg_model.specs.Answers.{is_undisturbed, is_answer, whole_since_answer, is_sent, is_good}
 use Rattle.eg_model.specs.Moments.{moment, moments_of}
 use Rattle.eg_model.specs.Premises.{Follows}
-use Rattle.eg_model.proofs.TickLemmas.{tripped-cons, moment-whole}
+use Rattle.eg_model.proofs.TickLemmas.{tripped-cons, moment-whole, moment-mirror, moment-trip}
 use Rattle.eg_agree.specs.Doings.{doing_at}
 use Rattle.eg_fault.specs.Faults.{IsNoneOrValid}
 use Rattle.eg_agree.specs.Replies.{doing_after, IsReady, FlowMarks, moment_after, number_expected, mark_of, is_flipped, RanTogether, ReactRan, has_just_answered, KeepsFlow}
@@ -77,8 +77,8 @@ number_expected-usual s x tick e = rw e refl
 
 flip_trips : (s : Setting) (x : Effects) (e : Entry) (past : List Moment) →
     (moment s x e past).trip ≡ false → is_some x.flip ≡ false
-unfolding moment
-flip_trips s x e past none = (or_parts _ _ (or_parts _ _ (or_parts _ _ (or_parts _ _ none).0).0).0).0
+flip_trips s x e past none = sym (moment-mirror s x e past)
+    ∙ (or_parts _ _ (or_parts _ _ (or_parts _ _ (or_parts _ _ (sym (moment-trip s x e past) ∙ none)).0).0).0).0
 
 unflipped : (s : Setting) (h : List Tick) → tripped (moments_of s h) ≡ false → is_flipped h ≡ false
 unfolding moments_of is_flipped

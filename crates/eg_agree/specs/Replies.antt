@@ -27,7 +27,7 @@ use Rattle.eg_agree.specs.Doings.{doing_at}
 
 -- what level 2 meets at tick x, which comes after these
 unfoldable pub doing_after : Setting → Tick → List Tick → Doing
-doing_after s x before = doing_at s x.effects (readings_at x.effects x.entry) (length before)
+doing_after s x before = doing_at s x.effects (readings_at s.cal x.effects x.entry) (length before)
 
 -- its words after these ticks, from the start on
 unfoldable pub words_over : Setting → List Tick → Words

@@ -1,5 +1,5 @@
 -- One tick of level 2 over its words is one tick of the model.
-use Rattle.std.specs.Prelude.{◌≡◌, ℕ, ◌≤◌, false, ◌&&◌, is_some, List, [], ◌∷◌, length}
+use Rattle.std.specs.Prelude.{◌≡◌, ℕ, ◌≤◌, false, is_some, List, [], ◌∷◌, length}
 use Rattle.eg_num.specs.declared.watches.Watches.{Watches}
 use Rattle.eg_answer.specs.declared.modules.TheConstants.{REACT, MODULES}
 use Rattle.eg_values.specs.Calibration.{IsAccepted}
@@ -22,9 +22,8 @@ found_in_level2 m = record m.found { answers = false }
 
 -- What eight modules make of the words w at a tick is what the model says of the tick m after these ticks:
 -- the words stand for one tick more; the signals that they hold after the first j modules are those that
--- slice j of level 1 sees; as react begins they tell whether a trip came; path 1 is ordered open where
--- react runs and a trip came; the watches are those of the model; and an answer is sent where the model
--- says so.
+-- slice j of level 1 sees; as react begins they tell whether a trip came; path 1 is ordered open where the
+-- model says so; the watches are those of the model; and an answer is sent where the model says so.
 pub record IsTick (s : Setting) (x : Effects) (d : Doing) (w : Words)
     (m : Moment) (past : List Moment) : Type 0 where
   pub words : KeepsWords s (after_tick d w) (m ∷ past)
@@ -32,7 +31,7 @@ pub record IsTick (s : Setting) (x : Effects) (d : Doing) (w : Words)
       signal_list (signals_of (after_modules d j w))
       ≡ seen_signals (is_some x.flip) j (last_signals past) m.signals
   pub trip : is_set (after_modules d REACT w).trip ≡ tripped (m ∷ past)
-  pub order : orders_at d w ≡ (m.reacts && tripped (m ∷ past))
+  pub order : orders_at d w ≡ m.orders
   pub found : finds_at d w ≡ found_in_level2 m
   pub answer : is_some (answer_at d w) ≡ is_answer m.mark
 
@@ -55,4 +54,4 @@ TickLaw =
     (w : Words) →
     (let past = moments_of s h in
     KeepsWords s w past →
-    IsTick s x (doing_at s x (readings_at x e) (length h)) w (moment s x e past) past)
+    IsTick s x (doing_at s x (readings_at s.cal x e) (length h)) w (moment s x e past) past)
