@@ -220,7 +220,7 @@ cuts_lapses s accepted bounded lapse start periods h at exceed more x follows pr
 off_no_excess : (s : Setting) (x : Tick) (past : List Moment) → IsProper s x past →
     (moment s x.effects x.entry past).on ≡ false →
     exceeds s (moment s x.effects x.entry past) ≡ true → ⊥
-unfolding moment row_of true_excess is_excess
+unfolding moment is_excess
 off_no_excess s x past proper off over = none _ _ _ (proper.no_torque off) over
   where
     none : (limit threshold torque : ℕ) → torque ≡ 0 → nat_lt (limit + threshold) torque ≡ true → ⊥
@@ -241,7 +241,7 @@ none_after : (s : Setting) → Lapsing s → (start periods : ℕ) (x : Tick) (h
     Follows s.fault start (x ∷ h) →
     AreProper s (x ∷ h) → length h ≡ periods * s.cal.times.period → whole_ticks s ≤ length h →
     AllExceed s (suc (whole_ticks s)) (x ∷ h) → ⊥
-unfolding AreProper true_excesses moments_of rows_of is_on_after
+unfolding AreProper true_excesses moments_of rows_of row_of true_excess is_on_after
 none_after s has start periods x h follows proper at fits all =
     let parts = and_parts _ _ all in
     let cut = cuts_lapses s has.accepted has.bounded has.lapse start periods h at

@@ -355,17 +355,18 @@ runs_cut_sharply r run t quiet = row_on r t
 pub no_rows : (r : Run) → rows_to r 0 ≡ []
 no_rows r = unfold rows_to rows_of moments_to in refl
 
-pub rows_to-suc : (r : Run) (t : ℕ) → rows_to r (suc t) ≡ row_at r t ∷ rows_to r t
-unfolding rows_to rows_of moments_to row_at
-rows_to-suc r t = refl
-
 length-moments_to : (r : Run) (n : ℕ) → length (moments_to r n) ≡ n
 unfolding moments_to
 length-moments_to r zero = refl
 length-moments_to r (suc t) = ap suc (length-moments_to r t)
 
+pub rows_to-suc : (r : Run) (t : ℕ) → rows_to r (suc t) ≡ row_at r t ∷ rows_to r t
+unfolding rows_to rows_of moments_to row_at
+rows_to-suc r t = ap (λ n. row_of n (moment r.setting (effects r.setting.fault t) (entry_at r t (moments_to r t))
+    (moments_to r t)) ∷ rows_of (moments_to r t)) (length-moments_to r t)
+
 pub row_tick : (r : Run) (t : ℕ) → (row_at r t).tick ≡ t
-row_tick r t = unfold row_at row_of moment in length-moments_to r t
+row_tick r t = unfold row_at row_of in refl
 
 length-rows_to : (r : Run) (n : ℕ) → length (rows_to r n) ≡ n
 length-rows_to r zero = ap length (no_rows r)

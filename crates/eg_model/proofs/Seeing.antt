@@ -16,12 +16,10 @@ use Rattle.eg_answer.specs.Formulas.{permitted_torque, estimated_torque, excess_
 use Rattle.eg_sensor.specs.declared.tracks.TheConstants.{PEDAL_1, PEDAL_2, LOAD_1, LOAD_2, SPEED_1, SPEED_2}
 use Rattle.eg_fault.specs.Effects.{Effects, readings_under}
 use Rattle.eg_fault.specs.Classes.{IsSound}
-use Rattle.eg_record.specs.Excess.{true_excess}
 use Rattle.eg_model.specs.History.{Setting, Entry, Tick, Moment}
 use Rattle.eg_model.specs.Signals.{tripped, is_limited, signal, signals_at}
 use Rattle.eg_model.specs.Detection.{torque_bit}
 use Rattle.eg_model.specs.Moments.{readings_at, moment, moments_of}
-use Rattle.eg_model.specs.Rows.{row_of}
 use Rattle.eg_model.specs.Premises.{AreProper, IsProper}
 use Rattle.eg_model.proofs.TickLemmas.{Each, Runs}
 use Rattle.eg_model.proofs.TripLemmas.{Sees, exceeds}
@@ -170,7 +168,7 @@ module _ (s : Setting) (x : Tick) (past : List Moment) (runs : Runs x.effects)
   excess_seen accepted safe over_now = unfold torque_bit has_bit in rw (excess-is, shows) refl
     where
       over : m.limit + s.cal.rules.threshold < x.entry.shown.torque
-      over = ltb-true _ _ (unfold true_excess row_of is_excess moment in over_now)
+      over = ltb-true _ _ (unfold is_excess moment in over_now)
 
       above : m.signals.permitted + s.cal.rules.threshold < m.signals.actual
       above = let a = permitted-below accepted safe in let b = safe.load in

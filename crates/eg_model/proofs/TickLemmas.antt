@@ -3,15 +3,12 @@ use Rattle.std.proofs.Common.{◌≡◌, ℕ, suc, Bool, true, false, ◌||◌, 
 use Rattle.std.proofs.lemmas.Bool.{or_right, or_left, and_from}
 use Rattle.eg_num.specs.Windows.{is_first}
 use Rattle.eg_answer.specs.declared.modules.TheConstants.{REACT, DEBOUNCE}
-use Rattle.eg_record.specs.Excess.{true_excess}
-use Rattle.eg_torque.specs.Excess.{is_excess}
 use Rattle.eg_fault.specs.Effects.{Effects}
 use Rattle.eg_model.specs.History.{Setting, Entry, Tick, Moment}
 use Rattle.eg_model.specs.Signals.{tripped}
 use Rattle.eg_model.specs.Detection.{feeds_at, fed_bits, finds, pedal_bit, plate_bit, load_bit, speed_bit, torque_bit}
 use Rattle.eg_model.specs.Answers.{is_whole, mark_at, verdict_at, finds_answers}
 use Rattle.eg_model.specs.Moments.{moment, moments_of}
-use Rattle.eg_model.specs.Rows.{row_of}
 
 -- P at each tick
 unfoldable pub Each : (Tick → Type 0) → List Tick → Type 0
@@ -54,11 +51,6 @@ module _ (s : Setting) (x : Effects) (e : Entry) (past : List Moment) where
   pub moment-reacts : (moment s x e past).reacts ≡ x.ran REACT
   unfolding moment
   moment-reacts = refl
-
-  pub moment-true_excess : true_excess s.cal.rules.threshold (row_of (moment s x e past))
-      ≡ is_excess e.shown.torque (moment s x e past).limit s.cal.rules.threshold
-  unfolding true_excess row_of moment
-  moment-true_excess = refl
 
   pub trip_from_torque : (moment s x e past).found.torque ≡ true → (moment s x e past).trip ≡ true
   unfolding moment

@@ -2,8 +2,8 @@
 use Rattle.std.proofs.Common.{◌≡◌, [], ◌∷◌, ◌++◌, map, Some, None, refl}
 use Rattle.std.specs.Prelude.{codes, replicate}
 use Rattle.eg_record.specs.declared.watch.Watch.TheVariants.{Torque}
-use Rattle.eg_model.specs.Rows.{report_of, rows_of}
-use Rattle.eg_model.specs.Examples.{full, probe_run, probe_row, alternating_run, flipped_probe_run, raise_run, bench_run, moments_in_time, reported}
+use Rattle.eg_model.specs.Rows.{report_of}
+use Rattle.eg_model.specs.Examples.{full, probe_run, probe_row, alternating_run, flipped_probe_run, raise_run, bench_run, moments_in_time, rows_in_time, reported}
 use Rattle.eg_model.proofs.WholeModel.{whole_model}
 
 -- ---- full throttle, without a fault ----
@@ -23,7 +23,7 @@ pub probed : map (λ m. m.world.throttle) (moments_in_time probe_run) ≡ 100 �
 unfolding whole_model
 probed = refl
 
-pub probed-rows : rows_of (moments_in_time probe_run) ≡
+pub probed-rows : rows_in_time probe_run ≡
     probe_row 0 0 40 100 100 ∷ probe_row 1 50 40 100 0 ∷ probe_row 2 0 80 200 100 ∷ probe_row 3 50 40 100 65436 ∷ []
 unfolding whole_model
 probed-rows = refl

@@ -17,6 +17,7 @@ use Rattle.eg_record.specs.declared.watch.Watch.{Watch}
 use Rattle.eg_model.specs.History.{Moment}
 use Rattle.eg_model.specs.Answers.{is_answer}
 use Rattle.eg_model.specs.Bench.{Run, moments_to}
+use Rattle.eg_model.specs.Rows.{record_rows}
 
 -- waits for ever
 abbrev pub idle : List ℕ
@@ -148,9 +149,12 @@ looping_run = record (bench_run (0xd1ff ∷ []) None 30) { plan = (1000 ∷ repl
 
 -- ---- what is told of a run ----
 
--- the moments of a run, in the order of time
+-- the moments of a run, and its rows, in the order of time
 abbrev pub moments_in_time : Run → List Moment
 moments_in_time r = reverse (moments_to r (length r.drive))
+
+abbrev pub rows_in_time : Run → List Row
+rows_in_time r = reverse (record_rows r)
 
 -- the answers that are sent, each with its tick
 abbrev pub answers_of : Run → List (ℕ × AnswerMark)

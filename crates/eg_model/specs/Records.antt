@@ -24,7 +24,7 @@ pub record IsRun (r : Run) : Type 0 where
 -- the row of tick t, and the rows of the first n ticks
 unfoldable pub row_at : Run → ℕ → Row
 row_at r t =
-    row_of (moment r.setting (effects r.setting.fault t) (entry_at r t (moments_to r t)) (moments_to r t))
+    row_of t (moment r.setting (effects r.setting.fault t) (entry_at r t (moments_to r t)) (moments_to r t))
 
 unfoldable pub rows_to : Run → ℕ → List Row
 rows_to r n = rows_of (moments_to r n)

@@ -2,8 +2,8 @@
 // when it runs.
 ghost use Rattle.std.specs.Prelude.{◌≡◌, [], ◌∷◌, ◌++◌, map, replicate, Some, None, codes};
 ghost use Rattle.eg_record.specs.declared.watch.Watch.TheVariants as found;
-ghost use Rattle.eg_model.specs.Rows.{report_of, rows_of};
-ghost use Rattle.eg_model.specs.Examples.{full, bench_run, probe_row, probe_run, alternating_run, raise_run, reported, moments_in_time};
+ghost use Rattle.eg_model.specs.Rows.{report_of};
+ghost use Rattle.eg_model.specs.Examples.{full, bench_run, probe_row, probe_run, alternating_run, raise_run, reported, moments_in_time, rows_in_time};
 
 /// Level 1 at full throttle, for 20 ticks: the torque is found at tick 9, where the excess is confirmed,
 /// and the stages go off at tick 10. From that tick on the signals are 0, as the permitted torque is.
@@ -28,7 +28,7 @@ pub fn raise_is_read()
 /// In slices 3 and 4 level 1 reads the actual torque before and after its module has run, and gives the
 /// difference to the throttle: the four rows of the record.
 pub fn probing_run()
-    ensures { rows_of (moments_in_time probe_run)
+    ensures { rows_in_time probe_run
         ≡ probe_row 0 0 40 100 100 ∷ probe_row 1 50 40 100 0
         ∷ probe_row 2 0 80 200 100 ∷ probe_row 3 50 40 100 65436 ∷ [] }
 {}
