@@ -1,14 +1,13 @@
 -- Short runs of some images, computed from the definitions.
 use Rattle.std.proofs.Common.{◌≡◌, [], ◌∷◌, ◌++◌, map, Some, None, refl}
-use Rattle.std.specs.Prelude.{codes, replicate}
+use Rattle.std.specs.Prelude.{replicate}
 use Rattle.eg_record.specs.declared.watch.Watch.TheVariants.{Torque}
-use Rattle.eg_model.specs.Rows.{report_of}
-use Rattle.eg_model.specs.Examples.{full, probe_run, probe_row, alternating_run, flipped_probe_run, raise_run, bench_run, moments_in_time, rows_in_time, reported}
+use Rattle.eg_model.specs.Examples.{full, probe_run, probe_row, alternating_run, flipped_probe_run, raise_run, bench_run, moments_in_time, rows_in_time, report_on, reported}
 use Rattle.eg_model.proofs.WholeModel.{whole_model}
 
 -- ---- full throttle, without a fault ----
 
-pub full_throttle : report_of (codes "a") (bench_run full None 20)
+pub full_throttle : report_on (bench_run full None 20)
     ≡ reported (Some (Torque, 9)) (Some 10) None (Some 9)
 unfolding whole_model
 full_throttle = refl
@@ -16,6 +15,16 @@ full_throttle = refl
 pub full_throttle-permitted : map (λ m. m.signals.permitted) (moments_in_time (bench_run full None 20)) ≡ replicate 10 200 ++ replicate 10 0
 unfolding whole_model
 full_throttle-permitted = refl
+
+pub full_throttle-plate : map (λ m. m.entry.shown.position) (moments_in_time (bench_run full None 13))
+    ≡ 0 ∷ 50 ∷ 100 ∷ 150 ∷ 200 ∷ 250 ∷ 300 ∷ 350 ∷ 400 ∷ 450 ∷ 400 ∷ 350 ∷ 300 ∷ []
+unfolding whole_model
+full_throttle-plate = refl
+
+pub full_throttle-charge : map (λ m. m.entry.shown.load_1) (moments_in_time (bench_run full None 13))
+    ≡ 40 ∷ 40 ∷ 80 ∷ 120 ∷ 160 ∷ 200 ∷ 240 ∷ 280 ∷ 320 ∷ 360 ∷ 400 ∷ 440 ∷ 431 ∷ []
+unfolding whole_model
+full_throttle-charge = refl
 
 -- ---- slices lie between the modules ----
 

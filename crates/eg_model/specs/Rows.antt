@@ -9,6 +9,7 @@ use Rattle.eg_record.specs.declared.row.Row.{Row}
 use Rattle.eg_record.specs.declared.summary.Summary.{Summary}
 use Rattle.eg_record.specs.Summaries.{summary_of}
 use Rattle.eg_model.specs.History.{Signals, Moment}
+use Rattle.eg_model.specs.Engines.{BenchEngine}
 use Rattle.eg_model.specs.Bench.{Run, moments_to}
 
 -- the five signals in their order
@@ -52,14 +53,14 @@ first_trap [] = None
 first_trap (m ∷ past) = option_or (first_trap past) (trap_in m.world.registers.state (length past))
 
 -- the rows of a run, newest first, and its trap
-unfoldable pub record_rows : Run → List Row
-record_rows r = rows_of (moments_to r (length r.drive))
+unfoldable pub record_rows : {E : Type 0} → BenchEngine E → Run → List Row
+record_rows b r = rows_of (moments_to b r (length r.drive))
 
-unfoldable pub record_trap : Run → Option (Trap × ℕ)
-record_trap r = first_trap (moments_to r (length r.drive))
+unfoldable pub record_trap : {E : Type 0} → BenchEngine E → Run → Option (Trap × ℕ)
+record_trap b r = first_trap (moments_to b r (length r.drive))
 
 -- what the report says of a run of this name
-unfoldable pub report_of : List ℕ → Run → Summary
-report_of name r =
-    summary_of name (record_rows r) (record_trap r) r.setting.cal.rules.threshold r.setting.cal.rules.torque
-    (reaction_of r.setting.cal.times)
+unfoldable pub report_of : {E : Type 0} → BenchEngine E → List ℕ → Run → Summary
+report_of b name r =
+    summary_of name (record_rows b r) (record_trap b r) r.setting.cal.rules.threshold
+    r.setting.cal.rules.torque (reaction_of r.setting.cal.times)
