@@ -10,15 +10,16 @@ use Rattle.eg_answer.specs.Times.{runs_to_confirm, periods_to_confirm, worth_of,
 use Rattle.eg_values.specs.Calibration.{IsAccepted}
 use Rattle.eg_fault.specs.Effects.{Effects}
 use Rattle.eg_fault.specs.declared.paths.TheConstants.{PATH_2}
+use Rattle.eg_record.specs.Excess.{true_excess}
 use Rattle.eg_model.specs.History.{Setting, Entry, Tick, Moment}
 use Rattle.eg_model.specs.Signals.{tripped}
 use Rattle.eg_model.specs.Detection.{fed_bits, torque_bit}
 use Rattle.eg_model.specs.Paths.{latch2, path2_at, on_at}
 use Rattle.eg_model.specs.Moments.{moment, moments_of}
-use Rattle.eg_model.specs.Rows.{rows_of}
+use Rattle.eg_model.specs.Rows.{row_of, rows_of}
 use Rattle.eg_model.specs.Premises.{AreProper, IsProper, Follows, is_on_after, true_excesses}
 use Rattle.eg_model.specs.Lapses.{IsLapse, Exceeds, CutsLapses, StretchesAreShort}
-use Rattle.eg_model.proofs.TickLemmas.{moment-on, moment-true_excess}
+use Rattle.eg_model.proofs.TickLemmas.{moment-on, moment-exceeds}
 use Rattle.eg_model.proofs.TripLemmas.{exceeds, latch1_on, off_by_latch1}
 use Rattle.eg_model.proofs.Silence.{wrongs, run_confirms, longer_run, latch2-cons, opens_when_confirmed, period_least, send_within}
 use Rattle.eg_model.proofs.ClassLemmas.{of_history}
@@ -224,7 +225,7 @@ off_no_excess : (s : Setting) (x : Tick) (past : List Moment) → IsProper s x p
 unfolding is_excess
 off_no_excess s x past proper off over =
     none _ _ _ (proper.no_torque (sym (moment-on s x.effects x.entry past) ∙ off))
-    (sym (moment-true_excess s x.effects x.entry past) ∙ over)
+    (sym (moment-exceeds s x.effects x.entry past) ∙ over)
   where
     none : (limit threshold torque : ℕ) → torque ≡ 0 → nat_lt (limit + threshold) torque ≡ true → ⊥
     none limit threshold torque zero_torque h = let k : false ≡ true =
@@ -244,7 +245,7 @@ none_after : (s : Setting) → Lapsing s → (start periods : ℕ) (x : Tick) (h
     Follows s.fault start (x ∷ h) →
     AreProper s (x ∷ h) → length h ≡ periods * s.cal.times.period → whole_ticks s ≤ length h →
     AllExceed s (suc (whole_ticks s)) (x ∷ h) → ⊥
-unfolding AreProper true_excesses moments_of rows_of is_on_after
+unfolding AreProper true_excesses moments_of rows_of row_of true_excess is_on_after
 none_after s has start periods x h follows proper at fits all =
     let parts = and_parts _ _ all in
     let cut = cuts_lapses s has.accepted has.bounded has.lapse start periods h at

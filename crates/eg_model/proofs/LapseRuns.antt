@@ -15,6 +15,7 @@ use Rattle.eg_fault.specs.Classes.{IsSound, IsRegular}
 use Rattle.eg_fault.specs.declared.class.Class.TheVariants.{Lapse}
 use Rattle.eg_fault.specs.declared.class.Fault.{Fault}
 use Rattle.eg_fault.proofs.ActingLemmas.{of_class}
+use Rattle.eg_record.specs.Excess.{true_excess}
 use Rattle.eg_model.specs.History.{Setting, Tick, Moment, Signals}
 use Rattle.eg_model.specs.Signals.{tripped}
 use Rattle.eg_model.specs.Detection.{feeds_at, fed_bits, finds, torque_bit}
@@ -22,7 +23,7 @@ use Rattle.eg_answer.specs.Modules.{modules_before_react, modules}
 use Rattle.eg_model.specs.Answers.{is_whole}
 use Rattle.eg_model.specs.Paths.{latch1}
 use Rattle.eg_model.specs.Moments.{moment, moments_of}
-use Rattle.eg_model.specs.Rows.{rows_of}
+use Rattle.eg_model.specs.Rows.{row_of, rows_of}
 use Rattle.eg_model.specs.Premises.{AreProper, true_excesses}
 use Rattle.eg_model.specs.Lapses.{IsLapse}
 use Rattle.eg_model.proofs.TickLemmas.{Each, tripped-cons, untripped_before, moment-whole, moment-feeds_at, moment-trip, moment-mirror, moment-plate, moment-load, moment-speed, moment-torque_found, moment-torque, trip_from_torque}
@@ -232,7 +233,7 @@ AllExceed s n h = list_all (λ excess. excess) (take n (true_excesses s h)) ≡ 
 pub runs_find : (s : Setting) → IsAccepted s.cal → (h : List Tick) → AllOrNoneEach h → AreProper s h →
     (n : ℕ) → AllExceed s n h →
     tripped (moments_of s h) ≡ false → RunsFind n (moments_of s h)
-unfolding Each AreProper moments_of true_excesses rows_of runs_in TrueRun
+unfolding Each AreProper moments_of true_excesses rows_of row_of true_excess runs_in TrueRun
 runs_find s a h each proper zero over u = tt
 runs_find s a [] each proper (suc n) over u = tt
 runs_find s a (x ∷ h) each proper (suc n) over u =

@@ -1,5 +1,5 @@
 -- A tick at which nothing is out of order: what level 2 makes of it before any trip.
-use Rattle.std.proofs.Common.{◌≡◌, ℕ, zero, suc, ◌+◌, ◌-◌, ◌/◌, ◌%◌, ◌≤◌, Bool, true, false, List, refl, sym, ap, ap₂, ◌∙◌, arith, nat_lt, min, max}
+use Rattle.std.proofs.Common.{◌≡◌, ℕ, zero, suc, ◌+◌, ◌-◌, ◌/◌, ◌%◌, ◌≤◌, Bool, true, false, List, length, refl, sym, ap, ap₂, ◌∙◌, arith, nat_lt, min, max}
 use Rattle.std.specs.Prelude.{if◌then◌else◌, ◌==◌, slice_index}
 use Rattle.std.proofs.lemmas.Bool.{le-ltb, eq-eqb}
 use Rattle.eg_num.specs.Arithmetic.{estimate}
@@ -102,11 +102,11 @@ module _ (s : Setting) (e : Entry) (past : List Moment) (proper : IsProper s (pl
       ∙ flag_bit (is_excess m.signals.actual m.signals.permitted s.cal.rules.threshold)
 
   -- the torque bit is the full-efficiency excess
-  pub torque_bit-is : torque_bit m.signals ≡ full_excess s.cal.rules.kt s.cal.rules.threshold (row_of m)
+  pub torque_bit-is : torque_bit m.signals ≡ full_excess s.cal.rules.kt s.cal.rules.threshold (row_of (length past) m)
   torque_bit-is =
       flag
       ∙ ap₂ (λ a p. is_excess a p s.cal.rules.threshold) actual-same allowed-same
-      ∙ sym (moment-full_excess s no_effects e past)
+      ∙ sym (moment-full_excess s no_effects e past (length past))
 
   no_pairs : m.signals.pairs ≡ 0
   no_pairs = moment-pairs s no_effects e past

@@ -21,7 +21,7 @@ use Rattle.eg_model.specs.Signals.{tripped, is_limited, signal}
 use Rattle.eg_model.specs.Detection.{torque_bit}
 use Rattle.eg_model.specs.Moments.{readings_at, limit_at, moment, moments_of}
 use Rattle.eg_model.specs.Premises.{AreProper, IsProper}
-use Rattle.eg_model.proofs.TickLemmas.{Each, Runs, moment-limit, moment-pedal_signal, moment-permitted, moment-actual, moment-excess, moment-true_excess}
+use Rattle.eg_model.proofs.TickLemmas.{Each, Runs, moment-limit, moment-pedal_signal, moment-permitted, moment-actual, moment-excess, moment-exceeds}
 use Rattle.eg_model.proofs.TripLemmas.{Sees, exceeds}
 
 -- nothing disturbs a signal
@@ -166,7 +166,7 @@ module _ (s : Setting) (x : Tick) (past : List Moment) (runs : Runs x.effects)
   excess_seen accepted safe over_now = unfold torque_bit has_bit in rw (excess-is, shows) refl
     where
       over : m.limit + s.cal.rules.threshold < x.entry.shown.torque
-      over = ltb-true _ _ (unfold is_excess in sym (moment-true_excess s x.effects x.entry past) ∙ over_now)
+      over = ltb-true _ _ (unfold is_excess in sym (moment-exceeds s x.effects x.entry past) ∙ over_now)
 
       above : m.signals.permitted + s.cal.rules.threshold < m.signals.actual
       above = let a = permitted-below accepted safe in let b = safe.load in

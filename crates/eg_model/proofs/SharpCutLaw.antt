@@ -310,7 +310,7 @@ unlimited-cons m past e f = or_from _ _ e f
 
 full_excesses-cons : (s : Setting) (x : Tick) (h : List Tick) →
     full_excesses s (x ∷ h) ≡ full_excess s.cal.rules.kt s.cal.rules.threshold
-    (row_of (moment s x.effects x.entry (moments_of s h))) ∷ full_excesses s h
+    (row_of (length (moments_of s h)) (moment s x.effects x.entry (moments_of s h))) ∷ full_excesses s h
 unfolding full_excesses moments_of rows_of
 full_excesses-cons s x h = refl
 

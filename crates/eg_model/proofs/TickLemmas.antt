@@ -6,7 +6,7 @@ use Rattle.eg_num.specs.Arithmetic.{estimate}
 use Rattle.eg_sensor.specs.Readings.{used_pedal}
 use Rattle.eg_answer.specs.Formulas.{permitted_torque, estimated_torque, excess_number, disagreeing_pairs}
 use Rattle.eg_answer.specs.declared.modules.TheConstants.{PEDAL, PERMITTED, ACTUAL, EXCESS, PAIRS, REACT, DEBOUNCE}
-use Rattle.eg_record.specs.Excess.{true_excess, full_excess}
+use Rattle.eg_record.specs.Excess.{full_excess}
 use Rattle.eg_torque.specs.Excess.{is_excess}
 use Rattle.eg_fault.specs.Effects.{Effects}
 use Rattle.eg_model.specs.History.{Setting, Entry, Tick, drives, Moment}
@@ -177,15 +177,16 @@ module _ (s : Setting) (x : Effects) (e : Entry) (past : List Moment) where
 
   -- ---- what follows ----
 
-  pub moment-true_excess : true_excess s.cal.rules.threshold (row_of (moment s x e past))
+  pub moment-exceeds :
+      is_excess (moment s x e past).entry.shown.torque (moment s x e past).limit s.cal.rules.threshold
       ≡ is_excess e.shown.torque (moment s x e past).limit s.cal.rules.threshold
-  unfolding true_excess row_of moment moment_in
-  moment-true_excess = refl
+  unfolding moment moment_in
+  moment-exceeds = refl
 
-  pub moment-full_excess : full_excess s.cal.rules.kt s.cal.rules.threshold (row_of (moment s x e past))
+  pub moment-full_excess : (tick : ℕ) → full_excess s.cal.rules.kt s.cal.rules.threshold (row_of tick (moment s x e past))
       ≡ is_excess (estimate s.cal.rules.kt e.shown.load_1) (moment s x e past).limit s.cal.rules.threshold
   unfolding full_excess row_of moment moment_in
-  moment-full_excess = refl
+  moment-full_excess tick = refl
 
   pub trip_from_torque : (moment s x e past).found.torque ≡ true → (moment s x e past).trip ≡ true
   trip_from_torque h = moment-trip ∙ or_right _ _ h

@@ -4,6 +4,7 @@ use Rattle.std.proofs.lemmas.Bool.{and_from, or_left, or_right, and_left}
 use Rattle.eg_num.specs.Windows.{WeightParts, is_confirmed, is_first}
 use Rattle.eg_num.proofs.WindowLemmas.{Below, below_none, below_more, is_confirmed-Below}
 use Rattle.eg_num.proofs.FirstPlaceLemmas.{is_first_from}
+use Rattle.eg_torque.specs.Excess.{is_excess}
 use Rattle.eg_answer.specs.declared.modules.TheConstants.{REACT}
 use Rattle.eg_fault.specs.Effects.{Effects}
 use Rattle.eg_fault.specs.declared.paths.TheConstants.{PATH_1}
@@ -80,7 +81,7 @@ trip_from_confirmed s (x ∷ h) r c = trip_step s x r.0 (moments_of s h) (trip_f
 
 -- the true excess of a tick
 abbrev pub exceeds : Setting → Moment → Bool
-exceeds s m = true_excess s.cal.rules.threshold (row_of m)
+exceeds s m = is_excess m.entry.shown.torque m.limit s.cal.rules.threshold
 
 -- the torque bit is set at each tick with true excess, as long as no trip came
 unfoldable pub Sees : Setting → List Tick → Type 0
@@ -92,7 +93,7 @@ Sees s (x ∷ h) =
 
 seen_below : (s : Setting) (h : List Tick) → Sees s h → tripped (moments_of s h) ≡ false →
     Below (true_excesses s h) (map (λ m. torque_bit m.signals) (moments_of s h))
-unfolding moments_of Sees true_excesses rows_of
+unfolding moments_of Sees true_excesses rows_of row_of true_excess
 seen_below s [] sees u = below_none
 seen_below s (x ∷ h) sees u =
     let u' = untripped_before (moment s x.effects x.entry (moments_of s h)) (moments_of s h) u in
