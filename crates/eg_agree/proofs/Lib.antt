@@ -9,5 +9,4 @@ pub mod ReplyShapes
 pub mod ReplySteps
 pub mod ReplyLaws
 mod ReplyWorked
-pub mod TripTellings
 pub mod WholeRuns

@@ -25,16 +25,15 @@ use Rattle.eg_flow.proofs.RowLemmas.{fits_words}
 use Rattle.eg_model.specs.History.{Setting, Entry, Tick, Moment}
 use Rattle.eg_model.specs.Signals.{tripped}
 use Rattle.eg_model.specs.Answers.{is_undisturbed, is_answer, whole_since_answer, is_sent, is_good}
-use Rattle.eg_model.specs.Moments.{moment, moments_of, ticks, moments, next}
+use Rattle.eg_model.specs.Moments.{moment, moments_of}
 use Rattle.eg_model.specs.Premises.{Follows}
-use Rattle.eg_model.proofs.TickLemmas.{tripped-cons, moment-whole}
+use Rattle.eg_model.proofs.TickLemmas.{tripped-cons, moment-whole, moment-mirror, moment-trip}
 use Rattle.eg_agree.specs.Doings.{doing_at}
 use Rattle.eg_fault.specs.Faults.{IsNoneOrValid}
-use Rattle.eg_agree.specs.Replies.{doing_after, words_over, answer_from_power_on, TellTrips, IsReady, FlowMarks, AnswersHold, AnswersHoldFromPowerOn, RestsBetweenAnswers, moment_after, number_expected, mark_of, is_flipped, RanTogether, ReactRan, has_just_answered, KeepsFlow}
-use Rattle.eg_agree.proofs.TickLemmas.{length-ticks}
+use Rattle.eg_agree.specs.Replies.{doing_after, IsReady, FlowMarks, moment_after, number_expected, mark_of, is_flipped, RanTogether, ReactRan, has_just_answered, KeepsFlow}
 use Rattle.eg_fault.proofs.ClassLemmas.{at_most_one_is_disturbed}
 use Rattle.eg_agree.proofs.ReplyShapes.{shape, LeavesOneOut}
-use Rattle.eg_agree.proofs.ReplySteps.{whole_same, undisturbed_same, sent_same, mark-is, keeps_next, keeps_start}
+use Rattle.eg_agree.proofs.ReplySteps.{whole_same, undisturbed_same, sent_same, mark-is}
 
 -- ---- the question that is asked ----
 
@@ -78,8 +77,8 @@ number_expected-usual s x tick e = rw e refl
 
 flip_trips : (s : Setting) (x : Effects) (e : Entry) (past : List Moment) →
     (moment s x e past).trip ≡ false → is_some x.flip ≡ false
-unfolding moment
-flip_trips s x e past none = (or_parts _ _ (or_parts _ _ (or_parts _ _ (or_parts _ _ none).0).0).0).0
+flip_trips s x e past none = sym (moment-mirror s x e past)
+    ∙ (or_parts _ _ (or_parts _ _ (or_parts _ _ (or_parts _ _ (sym (moment-trip s x e past) ∙ none)).0).0).0).0
 
 unflipped : (s : Setting) (h : List Tick) → tripped (moments_of s h) ≡ false → is_flipped h ≡ false
 unfolding moments_of is_flipped
@@ -287,52 +286,7 @@ module _ (s : Setting) (fault : IsNoneOrValid s.fault) (start : ℕ) (w : Words)
         | inr out ↦ rest_out out h follows keeps unflipped whole
       ]
 
--- ---- the theorems ----
-
--- the words tell of the program flow over every history
-pub keeps_over : (s : Setting) (h : List Tick) → length h < 65536 → TellTrips s h →
-    KeepsFlow s (words_over s h) h
-unfolding words_over TellTrips
-keeps_over s [] small told = keeps_start s
-keeps_over s (x ∷ h) small told =
-    keeps_next s x h (words_over s h) told.0 (omega arith) (keeps_over s h (omega arith) told.1)
+-- ---- one tick ----
 
 pub flow_marks : FlowMarks
 flow_marks s start x h w g = marks s start x h w g
-
-pub answers_hold : AnswersHold
-unfolding TellTrips
-answers_hold s accepted fault start x h follows small told =
-    marks s start x h (words_over s h)
-    (record {
-      accepted = accepted;
-      fault = fault;
-      follows = follows;
-      short = small;
-      keeps = keeps_over s h (omega arith) told.1;
-      trip = told.0;
-    })
-
--- a history from power-on has its own faults' effects
-pub ticks_follow : (s : Setting) (h : List Entry) → Follows s.fault 0 (ticks s h)
-unfolding ticks Follows
-ticks_follow s [] = tt
-ticks_follow s (e ∷ h) = (
-  let same : length h
-      ≡ 0 + length (ticks s h) = (let e = length-ticks s h in omega arith) in
-      ap (effects s.fault) same,
-  ticks_follow s h,
-)
-
-pub answers_hold_from_power_on : AnswersHoldFromPowerOn
-unfolding ticks answer_from_power_on next moments
-answers_hold_from_power_on s accepted fault e h small told =
-    let x : Tick = record { effects = effects s.fault (length h); entry = e } in
-    ap (λ n. mark_of (number_expected s x.effects n)
-    (answer_at (doing_after s x (ticks s h)) (words_over s (ticks s h)))) (sym (length-ticks s h))
-    ∙ answers_hold s accepted fault 0 x (ticks s h) (ticks_follow s (e ∷ h))
-    (let same = length-ticks s h in omega arith) told
-
-pub rests_between_answers : RestsBetweenAnswers
-rests_between_answers s fault start h follows small told unflipped whole =
-    rests s fault start (words_over s h) h follows (keeps_over s h small told) unflipped whole

@@ -23,10 +23,10 @@ use Rattle.eg_fault.specs.Faults.{is_left_out, does, effects}
 use Rattle.eg_fault.specs.declared.class.Class.TheVariants.{Lapse, Skip, Disturb, Flip}
 use Rattle.eg_fault.specs.declared.class.Fault.{Fault}
 use Rattle.eg_flow.specs.Ticks.{inputs_for, after_module, after_modules, after_tick, answer_at}
-use Rattle.eg_model.specs.History.{Setting, Entry}
+use Rattle.eg_model.specs.History.{Setting, Entry, Tick}
 use Rattle.eg_model.specs.Moments.{readings_at, ticks}
 use Rattle.eg_agree.specs.Doings.{doing_at}
-use Rattle.eg_agree.specs.Replies.{doing_after, words_over, answer_from_power_on, number_expected, mark_of}
+use Rattle.eg_agree.specs.Replies.{doing_after, words_over, number_expected, mark_of}
 
 -- pedal 0, speed 800, no raise; plate 0, both loads 40, no torque
 abbrev idle : Entry
@@ -46,8 +46,12 @@ unfolding value_at permitted is_excess mixed pedal_result permitted_result estim
     permitted_step actual_step excess_step pairs_step has_bit pedal_bit plate_bit load_bit speed_bit torque_bit counted is_found debounced
     limits trips debounce_step closed_flow answers_now react_step module_step inputs_for after_module after_modules after_tick start
     answer_of number_of answer_at period_of place_of is_send_tick asked no_effects readings_under sends_in sends_at asked_in asked_at
-    is_left_out does effects readings_at ticks doing_at doing_after words_over answer_from_power_on
-sent fault tick = answer_from_power_on (under fault) idle (replicate tick idle)
+    is_left_out does effects readings_at ticks doing_at doing_after words_over
+sent fault tick =
+    let s = under fault in
+    let h = ticks s (replicate tick idle) in
+    let x : Tick = record { effects = effects fault tick; entry = idle } in
+    answer_at (doing_after s x h) (words_over s h)
 
 -- and its mark
 unfoldable mark : Option Fault → ℕ → AnswerMark

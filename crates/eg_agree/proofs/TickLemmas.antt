@@ -1,5 +1,5 @@
 -- One tick of level 2 over its words is one tick of the model.
-use Rattle.std.proofs.Common.{◌≡◌, ℕ, ◌≤◌, Bool, true, false, not, ◌||◌, ◌&&◌, List, [], ◌∷◌, length, refl, sym, subst, ap, ◌∙◌, arith, suc, zero}
+use Rattle.std.proofs.Common.{◌≡◌, ℕ, ◌≤◌, Bool, true, false, not, ◌||◌, ◌&&◌, List, ◌∷◌, length, refl, sym, subst, ap, ◌∙◌, arith, suc, zero}
 use Rattle.std.specs.Prelude.{if◌then◌else◌, is_some, bit_xor}
 use Rattle.std.proofs.lemmas.Bool.{false≢true}
 use Rattle.eg_num.specs.declared.watches.Watches.{Watches}
@@ -9,9 +9,7 @@ use Rattle.eg_answer.specs.declared.rules.TestRow.{TestRow}
 use Rattle.eg_answer.specs.declared.marks.AnswerMark.TheVariants.{Absent, Good, Bad}
 use Rattle.eg_values.specs.Calibration.{IsAccepted}
 use Rattle.eg_fault.specs.Effects.{Effects, sends_at}
-use Rattle.eg_fault.specs.Faults.{effects}
 use Rattle.eg_fault.specs.Classes.{ChecksFlips}
-use Rattle.eg_fault.proofs.ClassLemmas.{faults_check_flips}
 use Rattle.eg_level2.specs.Words.{Words, is_set}
 use Rattle.eg_level2.specs.Modules.{debounced, no_watches, answers_now, answer_of, number_of, debounce_step, react_step}
 use Rattle.eg_flow.specs.Ticks.{Doing, after_modules, after_tick, answer_at, orders_at, finds_at}
@@ -19,13 +17,13 @@ use Rattle.eg_model.specs.History.{Setting, Entry, Signals, Moment}
 use Rattle.eg_model.specs.Signals.{tripped, last_signals, signal, signals_at}
 use Rattle.eg_model.specs.Answers.{is_answer, is_sent, is_good, mark_at}
 use Rattle.eg_model.specs.Level1.{seen, seen_signals}
-use Rattle.eg_model.specs.Moments.{readings_at, moment, moments_of, ticks, moments, next}
+use Rattle.eg_model.specs.Moments.{readings_at, moment, moments_of}
 use Rattle.eg_model.specs.Rows.{signal_list}
 use Rattle.eg_agree.specs.Doings.{doing_at}
 use Rattle.eg_agree.specs.Standing.{signals_of, trip_after, KeepsWords}
-use Rattle.eg_agree.specs.Ticking.{found_in_level2, IsTick, TickLaw, RunLaw}
+use Rattle.eg_agree.specs.Ticking.{found_in_level2, IsTick, TickLaw}
 use Rattle.eg_agree.proofs.BoolLaws.{if-part, if-same, if-false, is_set-bit, sent-law}
-use Rattle.eg_model.proofs.TickLemmas.{length-moments}
+use Rattle.eg_model.proofs.TickLemmas.{length-moments, moment-signals, moment-pedal_signal, moment-permitted, moment-actual, moment-excess, moment-pairs, moment-mirror, moment-orders, moment-mark}
 use Rattle.eg_agree.proofs.HistoryLemmas.{mirror_trips}
 use Rattle.eg_agree.proofs.ModuleLemmas.{row, after-check, after-pedal, after-permitted, after-actual, after-excess, after-pairs, after-debounce, after-react}
 use Rattle.eg_agree.proofs.SignalLemmas.{AreSeen, MirrorTrips, Between, seen-same, seen-list, seen-begin, check-between, pedal-between, permitted-between, actual-between, excess-between, pairs-between}
@@ -136,7 +134,7 @@ met false false checks = refl
 module _ (s : Setting) (accepted : IsAccepted s.cal) (x : Effects) (e : Entry) (past : List Moment)
     (trips : MirrorTrips past) (checks : ChecksFlips x) (w : Words) (keeps : KeepsWords s w past) where
   abbrev reads : Readings
-  reads = readings_at x e
+  reads = readings_at s.cal x e
 
   abbrev d : Doing
   d = doing_at s x reads (length past)
@@ -184,8 +182,8 @@ module _ (s : Setting) (accepted : IsAccepted s.cal) (x : Effects) (e : Entry) (
 
   seen-at : (j : ℕ) (v : Words) →
       AreSeen (is_some x.flip) (last_signals past) (signals_at s.cal.rules x reads past) j v → Seen j v
-  unfolding moment
-  seen-at j v are = are
+  seen-at j v are =
+      subst (λ g. AreSeen (is_some x.flip) (last_signals past) g j v) (sym (moment-signals s x e past)) are
 
   signals-7 : Seen 7 (after 7)
   signals-7 = subst (Seen 7) (sym (after-debounce s x reads (length past) w))
@@ -206,13 +204,13 @@ module _ (s : Setting) (accepted : IsAccepted s.cal) (x : Effects) (e : Entry) (
   -- ---- what the tick tells ----
 
   settles : signals_of (after 8) ≡ last_signals (m ∷ past)
-  unfolding signals_of last_signals seen moment signals_at
+  unfolding signals_of last_signals seen
   settles =
-      let pedal = signals-8.pedal ∙ settled x past 1 _ _ in
-      let permitted = signals-8.permitted ∙ settled x past 2 _ _ in
-      let actual = signals-8.actual ∙ settled x past 3 _ _ in
-      let excess = signals-8.excess ∙ settled x past 4 _ _ in
-      let pairs = signals-8.pairs ∙ settled x past 5 _ _ in
+      let pedal = signals-8.pedal ∙ stays 1 _ _ _ (moment-pedal_signal s x e past) in
+      let permitted = signals-8.permitted ∙ stays 2 _ _ _ (moment-permitted s x e past) in
+      let actual = signals-8.actual ∙ stays 3 _ _ _ (moment-actual s x e past) in
+      let excess = signals-8.excess ∙ stays 4 _ _ _ (moment-excess s x e past) in
+      let pairs = signals-8.pairs ∙ stays 5 _ _ _ (moment-pairs s x e past) in
       λ i. record {
         pedal = pedal i;
         permitted = permitted i;
@@ -221,6 +219,12 @@ module _ (s : Setting) (accepted : IsAccepted s.cal) (x : Effects) (e : Entry) (
         pairs =
             pairs i;
       }
+    where
+      -- where a word is flipped the signal is 0 anyhow
+      stays : (i before value now : ℕ) → now ≡ signal x past i before value →
+          (if is_some x.flip && true then 0 else now) ≡ now
+      stays i before value now is =
+          ap (λ n. if is_some x.flip && true then 0 else n) is ∙ settled x past i before value ∙ sym is
 
   keeps-next : KeepsWords s (after_tick d w) (m ∷ past)
   unfolding after_tick
@@ -239,16 +243,17 @@ module _ (s : Setting) (accepted : IsAccepted s.cal) (x : Effects) (e : Entry) (
   unfolding trip_after
   trip-is = ap is_set fed-7.trip ∙ is_set-bit (tripped (m ∷ past))
 
-  order-is : orders_at d w ≡ (m.reacts && tripped (m ∷ past))
-  unfolding orders_at doing_at moment
-  order-is = ap (λ b. x.ran 7 && b) trip-is
+  order-is : orders_at d w ≡ m.orders
+  unfolding orders_at doing_at
+  order-is = ap (λ b. x.ran 7 && b) trip-is ∙ sym (moment-orders s x e past)
 
   answer-is : is_some (answer_at d w) ≡ is_answer m.mark
-  unfolding answer_at doing_at answer_of answers_now trip_after moment tripped mark_at is_sent
+  unfolding answer_at doing_at answer_of answers_now trip_after tripped mark_at is_sent
   answer-is =
       sent-law (x.ran 7) (sends_at x s.cal.times (length past)) (m.trip || tripped past) (after 7).trip
       (number_of (after 7)) fed-7.trip
       ∙ sym (is_answer-mark (is_sent s.cal.times x m.trip past) (is_good x past))
+      ∙ ap is_answer (sym (moment-mark s x e past))
 
   -- a watch by what debounce finds of it where it runs
   watch-is : (part : Watches → Bool) (told : Bool) → part no_watches ≡ false →
@@ -264,9 +269,9 @@ module _ (s : Setting) (accepted : IsAccepted s.cal) (x : Effects) (e : Entry) (
   no_answers = if-same (λ (f : Watches). f.answers) (x.ran 6) _ _ false refl refl
 
   found-is : finds_at d w ≡ found_in_level2 m
-  unfolding finds_at doing_at found_in_level2 no_watches moment
+  unfolding finds_at doing_at found_in_level2 no_watches
   found-is =
-      let mirror = met (is_some x.flip) (x.ran 0) checks in
+      let mirror = met (is_some x.flip) (x.ran 0) checks ∙ sym (moment-mirror s x e past) in
       let pedal = watch-is (λ f. f.pedal) m.found.pedal refl
       (found-pedal s accepted x e past trips (after 6) stands-6) in
       let plate = watch-is (λ f. f.plate) m.found.plate refl
@@ -327,27 +332,13 @@ module _ (s : Setting) (accepted : IsAccepted s.cal) (x : Effects) (e : Entry) (
 -- the tick that comes after these, by the number that it has
 at-number : (s : Setting) (x : Effects) (e : Entry) (w : Words) (past : List Moment) (n : ℕ) →
     length past ≡ n
-    → IsTick s x (doing_at s x (readings_at x e) (length past)) w (moment s x e past) past →
-    IsTick s x (doing_at s x (readings_at x e) n) w (moment s x e past) past
+    → IsTick s x (doing_at s x (readings_at s.cal x e) (length past)) w (moment s x e past) past →
+    IsTick s x (doing_at s x (readings_at s.cal x e) n) w (moment s x e past) past
 at-number s x e w past n same is =
-    subst (λ n. IsTick s x (doing_at s x (readings_at x e) n) w (moment s x e past) past) same is
+    subst (λ n. IsTick s x (doing_at s x (readings_at s.cal x e) n) w (moment s x e past) past) same is
 
 pub tick_law : TickLaw
 tick_law s accepted h x e checks w keeps =
     let past = moments_of s h in
     at-number s x e w past (length h) (length-moments s h)
     (is_tick s accepted x e past (mirror_trips s h) checks w keeps)
-
-pub length-ticks : (s : Setting) (h : List Entry) → length (ticks s h) ≡ length h
-unfolding ticks
-length-ticks s [] = refl
-length-ticks s (e ∷ h) = ap suc (length-ticks s h)
-
-pub run_law : RunLaw
-unfolding moments next
-run_law s accepted h e w keeps =
-    let x = effects s.fault (length h) in
-    let past = moments_of s (ticks s h) in
-    at-number s x e w past (length h) (length-moments s (ticks s h) ∙ length-ticks s h)
-    (is_tick s accepted x e past (mirror_trips s (ticks s h))
-    (faults_check_flips s.fault (length h)) w keeps)

@@ -1,32 +1,73 @@
 -- Level 2 and the model agree over whole runs.
-use Rattle.std.proofs.Common.{◌≡◌, ℕ, Bool, true, false, [], ◌∷◌, length, refl, ap, ◌∙◌}
+use Rattle.std.proofs.Common.{◌≡◌, ℕ, ◌+◌, Bool, true, false, List, [], ◌∷◌, length, refl, sym, ap, subst, ◌∙◌, arith}
 use Rattle.std.specs.Prelude.{if◌then◌else◌}
 use Rattle.eg_level2.specs.Words.{Words, start}
 use Rattle.eg_level2.specs.Modules.{check_step, given_up, pedal_step, permitted_step, actual_step, excess_step, pairs_step, debounce_step, react_step, module_step}
 use Rattle.eg_flow.specs.Ticks.{Doing, inputs_for, after_module, after_modules, after_tick}
-use Rattle.eg_model.specs.Moments.{ticks}
+use Rattle.eg_model.specs.History.{Setting, Tick}
+use Rattle.eg_model.specs.Moments.{moments_of}
+use Rattle.eg_model.specs.Premises.{Follows}
+use Rattle.eg_fault.specs.Classes.{ChecksFlips}
+use Rattle.eg_fault.proofs.ClassLemmas.{faults_check_flips}
+use Rattle.eg_values.specs.Calibration.{IsAccepted}
 use Rattle.eg_agree.specs.Doings.{doing_at}
-use Rattle.eg_agree.specs.Replies.{doing_after, words_over}
-use Rattle.eg_agree.specs.Agreement.{WordsStand, EachAnswerHolds, EachAnswerHoldsFromPowerOn, WordsRest, last_check, LastChecksStand, LastCheckIsKept}
-use Rattle.eg_agree.proofs.ReplyLaws.{ticks_follow, answers_hold, answers_hold_from_power_on, rests_between_answers}
-use Rattle.eg_agree.proofs.TripTellings.{words-keep, tell_trips}
+use Rattle.eg_agree.specs.Ticking.{IsTick}
+use Rattle.eg_agree.specs.Replies.{doing_after, words_over, moment_after}
+use Rattle.eg_agree.specs.Agreement.{WordsStand, FlowStands, EachAnswerHolds, WordsRest, last_check, LastChecksStand, LastCheckIsKept}
+use Rattle.eg_agree.proofs.HistoryLemmas.{start_law}
+use Rattle.eg_agree.proofs.TickLemmas.{tick_law}
+use Rattle.eg_agree.proofs.ReplySteps.{keeps_next, keeps_start}
+use Rattle.eg_agree.proofs.ReplyLaws.{flow_marks, rests}
 
+-- a flip at a tick that follows is found by the check of that tick
+checks_flips : (s : Setting) (begin : ℕ) (x : Tick) (h : List Tick) → Follows s.fault begin (x ∷ h) →
+    ChecksFlips x.effects
+unfolding Follows
+checks_flips s begin x h follows =
+    subst ChecksFlips (sym follows.0) (faults_check_flips s.fault (begin + length h))
+
+-- the words stand for every history
 pub words_stand : WordsStand
-words_stand s accepted begin h follows = words-keep s accepted begin h follows
+unfolding Follows words_over doing_after moments_of
+words_stand s accepted begin [] follows = start_law s
+words_stand s accepted begin (x ∷ h) follows =
+    (tick_law s accepted h x.effects x.entry (checks_flips s begin x h follows) (words_over s h)
+    (words_stand s accepted begin h follows.1)).words
 
+-- and a tick more of the modules is the model's
+pub is_tick_over : (s : Setting) → IsAccepted s.cal → (begin : ℕ) (x : Tick) (h : List Tick) →
+    Follows s.fault begin (x ∷ h) →
+    IsTick s x.effects (doing_after s x h) (words_over s h) (moment_after s x h) (moments_of s h)
+unfolding Follows doing_after
+is_tick_over s accepted begin x h follows =
+    tick_law s accepted h x.effects x.entry (checks_flips s begin x h follows) (words_over s h)
+    (words_stand s accepted begin h follows.1)
+
+-- so the words tell of the program flow over every history,
+pub flow_stands : FlowStands
+unfolding Follows words_over
+flow_stands s accepted begin [] follows small = keeps_start s
+flow_stands s accepted begin (x ∷ h) follows small =
+    keeps_next s x h (words_over s h) (is_tick_over s accepted begin x h follows).trip (omega arith)
+    (flow_stands s accepted begin h follows.1 (omega arith))
+
+-- and what is sent has the mark of the model
 pub each_answer_holds : EachAnswerHolds
+unfolding Follows
 each_answer_holds s accepted fault begin x h follows short =
-    answers_hold s accepted fault begin x h follows short
-    (tell_trips s accepted begin (x ∷ h) follows)
-
-pub each_answer_holds_from_power_on : EachAnswerHoldsFromPowerOn
-each_answer_holds_from_power_on s accepted fault e h short =
-    answers_hold_from_power_on s accepted fault e h short
-    (tell_trips s accepted 0 (ticks s (e ∷ h)) (ticks_follow s (e ∷ h)))
+    flow_marks s begin x h (words_over s h)
+    (record {
+      accepted = accepted;
+      fault = fault;
+      follows = follows;
+      short = short;
+      keeps = flow_stands s accepted begin h follows.1 (omega arith);
+      trip = (is_tick_over s accepted begin x h follows).trip;
+    })
 
 pub words_rest : WordsRest
 words_rest s accepted fault begin h follows short =
-    rests_between_answers s fault begin h follows short (tell_trips s accepted begin h follows)
+    rests s fault begin (words_over s h) h follows (flow_stands s accepted begin h follows short)
 
 -- ---- the last tick of check ----
 

@@ -64,7 +64,7 @@ standing h =
 -- the words after it, by eight modules a tick
 words_after : List Tick → Words
 words_after [] = start
-words_after (x ∷ h) = after_tick (doing_at setting x.effects (readings_at x.effects x.entry) (length h))
+words_after (x ∷ h) = after_tick (doing_at setting x.effects (readings_at setting.cal x.effects x.entry) (length h))
     (words_after h)
 
 abbrev holding : Words → List ℕ

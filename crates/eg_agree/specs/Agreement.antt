@@ -4,22 +4,27 @@
 use Rattle.std.specs.Prelude.{◌≡◌, ◌<◌, ℕ, true, false, List, [], ◌∷◌, length, if◌then◌else◌}
 use Rattle.eg_answer.specs.declared.modules.TheConstants.{CHECK}
 use Rattle.eg_values.specs.Calibration.{IsAccepted}
-use Rattle.eg_fault.specs.Faults.{effects}
-use Rattle.eg_model.specs.History.{Setting, Entry, Tick}
+use Rattle.eg_model.specs.History.{Setting, Tick}
 use Rattle.eg_model.specs.Premises.{Follows}
 use Rattle.eg_level2.specs.Words.{Words}
 use Rattle.eg_flow.specs.Ticks.{after_tick, answer_at}
 use Rattle.eg_model.specs.Answers.{whole_since_answer}
-use Rattle.eg_model.specs.Moments.{moments_of, next}
+use Rattle.eg_model.specs.Moments.{moments_of}
 use Rattle.eg_agree.specs.Standing.{KeepsWords}
 use Rattle.eg_fault.specs.Faults.{IsNoneOrValid}
-use Rattle.eg_agree.specs.Replies.{doing_after, words_over, moment_after, mark_of, number_expected, answer_from_power_on, is_flipped}
+use Rattle.eg_agree.specs.Replies.{doing_after, words_over, moment_after, mark_of, number_expected, is_flipped, KeepsFlow}
 
 -- after every history under any fault, from any tick of the run on
 abbrev pub WordsStand : Type 0
 WordsStand =
     (s : Setting) → IsAccepted s.cal → (begin : ℕ) (h : List Tick) → Follows s.fault begin h →
     KeepsWords s (words_over s h) (moments_of s h)
+
+-- and after every one shorter than 65,536 ticks they tell of the program flow what is so
+abbrev pub FlowStands : Type 0
+FlowStands =
+    (s : Setting) → IsAccepted s.cal → (begin : ℕ) (h : List Tick) → Follows s.fault begin h →
+    length h < 65536 → KeepsFlow s (words_over s h) h
 
 -- The theorem on answers. Let the calibration be an accepted one, and let there be no fault or a valid one of
 -- any class, lapses too. What is sent at tick x, after a history that begins at any tick of the run, is the
@@ -31,14 +36,6 @@ EachAnswerHolds =
     (begin : ℕ) (x : Tick) (h : List Tick) → Follows s.fault begin (x ∷ h) → length h < 65535 →
     mark_of (number_expected s x.effects (length h)) (answer_at (doing_after s x h) (words_over s h))
     ≡ (moment_after s x h).mark
-
--- the same from power-on: the tick is that of an entry e after the history h
-abbrev pub EachAnswerHoldsFromPowerOn : Type 0
-EachAnswerHoldsFromPowerOn =
-    (s : Setting) → IsAccepted s.cal → IsNoneOrValid s.fault →
-    (e : Entry) (h : List Entry) → length h < 65535 →
-    mark_of (number_expected s (effects s.fault (length h)) (length h)) (answer_from_power_on s e h)
-    ≡ (next s e h).mark
 
 -- After a history in which no word was flipped, and all eight modules ran at each tick since the last
 -- answer, the token is 0 and the flow is unmarked.

@@ -12,33 +12,27 @@ use Rattle.eg_answer.specs.declared.marks.AnswerMark.TheVariants.{Absent, Good, 
 use Rattle.eg_values.specs.Calibration.{IsAccepted}
 use Rattle.eg_level2.specs.Words.{Words, is_set, start}
 use Rattle.eg_fault.specs.Effects.{Effects, asked_at}
-use Rattle.eg_fault.specs.Faults.{effects, IsNoneOrValid}
+use Rattle.eg_fault.specs.Faults.{IsNoneOrValid}
 use Rattle.eg_flow.specs.Ticks.{Doing, after_tick, answer_at}
 use Rattle.eg_flow.specs.Flow.{IsSteady}
 use Rattle.eg_flow.specs.Laws.{at_react}
-use Rattle.eg_model.specs.History.{Setting, Entry, Tick, Moment}
+use Rattle.eg_model.specs.History.{Setting, Tick, Moment}
 use Rattle.eg_model.specs.Signals.{tripped}
 use Rattle.eg_model.specs.Answers.{is_answer, whole_since_answer}
 use Rattle.eg_model.specs.Premises.{Follows}
-use Rattle.eg_model.specs.Moments.{readings_at, moment, moments_of, ticks, next}
+use Rattle.eg_model.specs.Moments.{readings_at, moment, moments_of}
 use Rattle.eg_agree.specs.Doings.{doing_at}
 
 -- ---- level 2 over a history, newest first ----
 
 -- what level 2 meets at tick x, which comes after these
 unfoldable pub doing_after : Setting → Tick → List Tick → Doing
-doing_after s x before = doing_at s x.effects (readings_at x.effects x.entry) (length before)
+doing_after s x before = doing_at s x.effects (readings_at s.cal x.effects x.entry) (length before)
 
 -- its words after these ticks, from the start on
 unfoldable pub words_over : Setting → List Tick → Words
 words_over s [] = start
 words_over s (x ∷ before) = after_tick (doing_after s x before) (words_over s before)
-
--- what it sends at the tick of an entry that comes after a history from power-on, if anything
-unfoldable pub answer_from_power_on : Setting → Entry → List Entry → Option ℕ
-answer_from_power_on s e h =
-    let x : Tick = record { effects = effects s.fault (length h); entry = e } in
-    answer_at (doing_after s x (ticks s h)) (words_over s (ticks s h))
 
 -- the moment of tick x
 abbrev pub moment_after : Setting → Tick → List Tick → Moment
@@ -56,18 +50,13 @@ unfoldable pub mark_of : ℕ → Option ℕ → AnswerMark
 mark_of expected None = Absent
 mark_of expected (Some number) = if number == expected then Good else Bad
 
--- ---- what the theorems ask for ----
+-- ---- what a tick asks for ----
 
 -- As react begins at tick x, the word for the trip tells whether a trip came by this tick.
 abbrev pub TellsTrip : Setting → Words → Tick → List Tick → Type 0
 TellsTrip s words x before =
     is_set (at_react (doing_after s x before) words).trip
     ≡ tripped (moment_after s x before ∷ moments_of s before)
-
--- it is so at each of these ticks
-unfoldable pub TellTrips : Setting → List Tick → Type 0
-TellTrips s [] = Unit {0}
-TellTrips s (x ∷ before) = TellsTrip s (words_over s before) x before × TellTrips s before
 
 -- ---- what the token, the flow and the last tick stand for ----
 
@@ -126,32 +115,3 @@ FlowMarks =
     (s : Setting) (begin : ℕ) (x : Tick) (h : List Tick) (words : Words) → IsReady s begin x h words →
     mark_of (number_expected s x.effects (length h)) (answer_at (doing_after s x h) words)
     ≡ (moment_after s x h).mark
-
--- ---- whole histories ----
-
--- Let the calibration be an accepted one, and the fault any valid one or none. At each tick x of a history
--- from tick `begin` of the run on, what level 2 sends has the mark of the model's tick: Absent where it sends
--- nothing, Good where it sends the number that is expected, else Bad.
-abbrev pub AnswersHold : Type 0
-AnswersHold =
-    (s : Setting) → IsAccepted s.cal → IsNoneOrValid s.fault →
-    (begin : ℕ) (x : Tick) (h : List Tick) → Follows s.fault begin (x ∷ h) → length h < 65535 →
-    TellTrips s (x ∷ h) →
-    mark_of (number_expected s x.effects (length h)) (answer_at (doing_after s x h) (words_over s h))
-    ≡ (moment_after s x h).mark
-
--- the same over the histories from power-on
-abbrev pub AnswersHoldFromPowerOn : Type 0
-AnswersHoldFromPowerOn =
-    (s : Setting) → IsAccepted s.cal → IsNoneOrValid s.fault →
-    (e : Entry) (h : List Entry) → length h < 65535 → TellTrips s (ticks s (e ∷ h)) →
-    mark_of (number_expected s (effects s.fault (length h)) (length h)) (answer_from_power_on s e h)
-    ≡ (next s e h).mark
-
--- After a history in which no word was flipped, and all eight modules ran at each tick since the last
--- answer, the token is 0 and the flow is unmarked.
-abbrev pub RestsBetweenAnswers : Type 0
-RestsBetweenAnswers =
-    (s : Setting) → IsNoneOrValid s.fault → (begin : ℕ) (h : List Tick) → Follows s.fault begin h →
-    length h < 65536 → TellTrips s h → is_flipped h ≡ false → whole_since_answer (moments_of s h) ≡ true →
-    ((words_over s h).token ≡ 0) × ((words_over s h).flow ≡ 0x00ff)

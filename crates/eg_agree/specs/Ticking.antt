@@ -1,18 +1,17 @@
 -- One tick of level 2 over its words is one tick of the model.
-use Rattle.std.specs.Prelude.{◌≡◌, ℕ, ◌≤◌, false, ◌&&◌, is_some, List, [], ◌∷◌, length}
+use Rattle.std.specs.Prelude.{◌≡◌, ℕ, ◌≤◌, false, is_some, List, [], ◌∷◌, length}
 use Rattle.eg_num.specs.declared.watches.Watches.{Watches}
 use Rattle.eg_answer.specs.declared.modules.TheConstants.{REACT, MODULES}
 use Rattle.eg_values.specs.Calibration.{IsAccepted}
 use Rattle.eg_fault.specs.Effects.{Effects}
 use Rattle.eg_fault.specs.Classes.{ChecksFlips}
-use Rattle.eg_fault.specs.Faults.{effects}
 use Rattle.eg_level2.specs.Words.{Words, AreWithin, is_set, start}
 use Rattle.eg_flow.specs.Ticks.{Doing, after_modules, after_tick, answer_at, orders_at, finds_at}
 use Rattle.eg_model.specs.History.{Setting, Entry, Tick, Moment}
 use Rattle.eg_model.specs.Signals.{tripped, last_signals}
 use Rattle.eg_model.specs.Answers.{is_answer}
 use Rattle.eg_model.specs.Level1.{seen_signals}
-use Rattle.eg_model.specs.Moments.{readings_at, moment, moments_of, moments, next}
+use Rattle.eg_model.specs.Moments.{readings_at, moment, moments_of}
 use Rattle.eg_model.specs.Rows.{signal_list}
 use Rattle.eg_agree.specs.Doings.{doing_at}
 use Rattle.eg_agree.specs.Standing.{signals_of, KeepsWords}
@@ -23,9 +22,8 @@ found_in_level2 m = record m.found { answers = false }
 
 -- What eight modules make of the words w at a tick is what the model says of the tick m after these ticks:
 -- the words stand for one tick more; the signals that they hold after the first j modules are those that
--- slice j of level 1 sees; as react begins they tell whether a trip came; path 1 is ordered open where
--- react runs and a trip came; the watches are those of the model; and an answer is sent where the model
--- says so.
+-- slice j of level 1 sees; as react begins they tell whether a trip came; path 1 is ordered open where the
+-- model says so; the watches are those of the model; and an answer is sent where the model says so.
 pub record IsTick (s : Setting) (x : Effects) (d : Doing) (w : Words)
     (m : Moment) (past : List Moment) : Type 0 where
   pub words : KeepsWords s (after_tick d w) (m ∷ past)
@@ -33,7 +31,7 @@ pub record IsTick (s : Setting) (x : Effects) (d : Doing) (w : Words)
       signal_list (signals_of (after_modules d j w))
       ≡ seen_signals (is_some x.flip) j (last_signals past) m.signals
   pub trip : is_set (after_modules d REACT w).trip ≡ tripped (m ∷ past)
-  pub order : orders_at d w ≡ (m.reacts && tripped (m ∷ past))
+  pub order : orders_at d w ≡ m.orders
   pub found : finds_at d w ≡ found_in_level2 m
   pub answer : is_some (answer_at d w) ≡ is_answer m.mark
 
@@ -56,12 +54,4 @@ TickLaw =
     (w : Words) →
     (let past = moments_of s h in
     KeepsWords s w past →
-    IsTick s x (doing_at s x (readings_at x e) (length h)) w (moment s x e past) past)
-
--- the same from power-on, where what is out of order is what the setting's fault does
-abbrev pub RunLaw : Type 0
-RunLaw =
-    (s : Setting) → IsAccepted s.cal → (h : List Entry) (e : Entry) (w : Words) →
-    (let x = effects s.fault (length h) in
-    KeepsWords s w (moments s h) →
-    IsTick s x (doing_at s x (readings_at x e) (length h)) w (next s e h) (moments s h))
+    IsTick s x (doing_at s x (readings_at s.cal x e) (length h)) w (moment s x e past) past)

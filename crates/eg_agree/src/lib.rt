@@ -7,5 +7,5 @@ mod replies;
 mod words;
 
 pub use agreement::level_2_agrees;
-pub use replies::{answers_hold, words_rest_between_answers, words_tell_the_flow};
+pub use replies::words_tell_the_flow;
 pub use words::words_stand_for_the_model;

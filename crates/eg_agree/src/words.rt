@@ -1,6 +1,6 @@
 // What level 2's words stand for.
 ghost use Rattle.eg_fault.specs.Classes.{FaultsCheckFlips};
-ghost use Rattle.eg_agree.specs.Ticking.{RunLaw, StartLaw, TickLaw, WithinLaw};
+ghost use Rattle.eg_agree.specs.Ticking.{StartLaw, TickLaw, WithinLaw};
 
 /// Does nothing when it runs. Its contract is a law. The words with which level 2 starts stand for the
 /// history without a tick. Where they stand for a history, a tick of the eight modules makes them stand for
@@ -11,6 +11,5 @@ pub fn words_stand_for_the_model()
     ensures start { StartLaw }
     ensures within { WithinLaw }
     ensures tick { TickLaw }
-    ensures run { RunLaw }
     ensures faults { FaultsCheckFlips }
 {}

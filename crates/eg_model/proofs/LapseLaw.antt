@@ -19,6 +19,7 @@ use Rattle.eg_model.specs.Moments.{moment, moments_of}
 use Rattle.eg_model.specs.Rows.{row_of, rows_of}
 use Rattle.eg_model.specs.Premises.{AreProper, IsProper, Follows, is_on_after, true_excesses}
 use Rattle.eg_model.specs.Lapses.{IsLapse, Exceeds, CutsLapses, StretchesAreShort}
+use Rattle.eg_model.proofs.TickLemmas.{moment-on, moment-exceeds}
 use Rattle.eg_model.proofs.TripLemmas.{exceeds, latch1_on, off_by_latch1}
 use Rattle.eg_model.proofs.Silence.{wrongs, run_confirms, longer_run, latch2-cons, opens_when_confirmed, period_least, send_within}
 use Rattle.eg_model.proofs.ClassLemmas.{of_history}
@@ -181,8 +182,9 @@ latch2_on s (x ∷ more) h u = latch2-cons _ _ ∙ or_right _ _ (latch2_on s mor
 
 off_by_latch2 : (s : Setting) (x : Effects) (e : Entry) (ms : List Moment) → x.conducts PATH_2 true ≡ false →
     latch2 ms ≡ true → (moment s x e ms).on ≡ false
-unfolding moment on_at path2_at
-off_by_latch2 s x e ms opens u = and_right _ _ (ap (x.conducts PATH_2) u ∙ opens)
+unfolding on_at path2_at
+off_by_latch2 s x e ms opens u =
+    moment-on s x e ms ∙ and_right _ _ (ap (x.conducts PATH_2) u ∙ opens)
 
 off_after_periods : (s : Setting) (h more : List Tick) → EndsWithPeriods s h → (x : Tick) →
     AllOrNone x.effects → is_on_after s (more ++ h) x ≡ false
@@ -220,8 +222,10 @@ cuts_lapses s accepted bounded lapse start periods h at exceed more x follows pr
 off_no_excess : (s : Setting) (x : Tick) (past : List Moment) → IsProper s x past →
     (moment s x.effects x.entry past).on ≡ false →
     exceeds s (moment s x.effects x.entry past) ≡ true → ⊥
-unfolding moment row_of true_excess is_excess
-off_no_excess s x past proper off over = none _ _ _ (proper.no_torque off) over
+unfolding is_excess
+off_no_excess s x past proper off over =
+    none _ _ _ (proper.no_torque (sym (moment-on s x.effects x.entry past) ∙ off))
+    (sym (moment-exceeds s x.effects x.entry past) ∙ over)
   where
     none : (limit threshold torque : ℕ) → torque ≡ 0 → nat_lt (limit + threshold) torque ≡ true → ⊥
     none limit threshold torque zero_torque h = let k : false ≡ true =
@@ -241,7 +245,7 @@ none_after : (s : Setting) → Lapsing s → (start periods : ℕ) (x : Tick) (h
     Follows s.fault start (x ∷ h) →
     AreProper s (x ∷ h) → length h ≡ periods * s.cal.times.period → whole_ticks s ≤ length h →
     AllExceed s (suc (whole_ticks s)) (x ∷ h) → ⊥
-unfolding AreProper true_excesses moments_of rows_of is_on_after
+unfolding AreProper true_excesses moments_of rows_of row_of true_excess is_on_after
 none_after s has start periods x h follows proper at fits all =
     let parts = and_parts _ _ all in
     let cut = cuts_lapses s has.accepted has.bounded has.lapse start periods h at

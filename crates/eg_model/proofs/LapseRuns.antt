@@ -15,6 +15,7 @@ use Rattle.eg_fault.specs.Classes.{IsSound, IsRegular}
 use Rattle.eg_fault.specs.declared.class.Class.TheVariants.{Lapse}
 use Rattle.eg_fault.specs.declared.class.Fault.{Fault}
 use Rattle.eg_fault.proofs.ActingLemmas.{of_class}
+use Rattle.eg_record.specs.Excess.{true_excess}
 use Rattle.eg_model.specs.History.{Setting, Tick, Moment, Signals}
 use Rattle.eg_model.specs.Signals.{tripped}
 use Rattle.eg_model.specs.Detection.{feeds_at, fed_bits, finds, torque_bit}
@@ -22,10 +23,10 @@ use Rattle.eg_answer.specs.Modules.{modules_before_react, modules}
 use Rattle.eg_model.specs.Answers.{is_whole}
 use Rattle.eg_model.specs.Paths.{latch1}
 use Rattle.eg_model.specs.Moments.{moment, moments_of}
-use Rattle.eg_model.specs.Rows.{rows_of}
+use Rattle.eg_model.specs.Rows.{row_of, rows_of}
 use Rattle.eg_model.specs.Premises.{AreProper, true_excesses}
 use Rattle.eg_model.specs.Lapses.{IsLapse}
-use Rattle.eg_model.proofs.TickLemmas.{Each, tripped-cons, untripped_before, moment-whole, moment-trip, moment-mirror, moment-plate, moment-load, moment-speed, moment-torque_found, moment-torque, trip_from_torque}
+use Rattle.eg_model.proofs.TickLemmas.{Each, tripped-cons, untripped_before, moment-whole, moment-feeds_at, moment-trip, moment-mirror, moment-plate, moment-load, moment-speed, moment-torque_found, moment-torque, trip_from_torque}
 use Rattle.eg_model.proofs.TripLemmas.{fed_bits-cons, confirmed_none, latch1-cons, latch1_from_trip}
 use Rattle.eg_model.proofs.Seeing.{IsUndisturbed, SeesExcess, errs_safely, excess_seen}
 use Rattle.eg_model.proofs.Silence.{TrueRun}
@@ -89,16 +90,16 @@ module _ (s : Setting) (x : Tick) (past : List Moment) (one : AllOrNone x.effect
       all x false r = unfold is_whole modules modules_before_react in and_left _ _ (r 0)
 
   feeds-is : tripped past ≡ false → now.feeds ≡ one.runs
-  unfolding moment feeds_at
-  feeds-is u = rw (one.ran DEBOUNCE, u, one.unflipped) (and_trues one.runs)
+  feeds-is u = moment-feeds_at s x.effects x.entry past
+      ∙ (unfold feeds_at in rw (one.ran DEBOUNCE, u, one.unflipped) (and_trues one.runs))
     where
       and_trues : (b : Bool) → (b && true && true) ≡ b
       and_trues true = refl
       and_trues false = refl
 
   feeds_out : one.runs ≡ false → now.feeds ≡ false
-  unfolding moment feeds_at
-  feeds_out out = and_left _ _ (and_left _ _ (one.ran DEBOUNCE ∙ out))
+  feeds_out out = moment-feeds_at s x.effects x.entry past
+      ∙ (unfold feeds_at in and_left _ _ (and_left _ _ (one.ran DEBOUNCE ∙ out)))
 
   -- where level 2 doesn't run it finds nothing
   trip_out : one.runs ≡ false → now.trip ≡ false
@@ -232,7 +233,7 @@ AllExceed s n h = list_all (λ excess. excess) (take n (true_excesses s h)) ≡ 
 pub runs_find : (s : Setting) → IsAccepted s.cal → (h : List Tick) → AllOrNoneEach h → AreProper s h →
     (n : ℕ) → AllExceed s n h →
     tripped (moments_of s h) ≡ false → RunsFind n (moments_of s h)
-unfolding Each AreProper moments_of true_excesses rows_of runs_in TrueRun
+unfolding Each AreProper moments_of true_excesses rows_of row_of true_excess runs_in TrueRun
 runs_find s a h each proper zero over u = tt
 runs_find s a [] each proper (suc n) over u = tt
 runs_find s a (x ∷ h) each proper (suc n) over u =

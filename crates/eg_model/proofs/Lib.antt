@@ -10,7 +10,9 @@ pub mod ClassLemmas
 pub mod ReactionLaw
 pub mod PlainTick
 pub mod SharpCutLaw
+pub mod RecordTicks
 pub mod RecordLaws
+pub mod GasolineLaws
 pub mod WholeRecord
 pub mod LapseRuns
 pub mod LapseAnswers

@@ -1,5 +1,5 @@
 -- A tick at which nothing is out of order: what level 2 makes of it before any trip.
-use Rattle.std.proofs.Common.{◌≡◌, ℕ, zero, suc, ◌+◌, ◌-◌, ◌/◌, ◌%◌, ◌≤◌, Bool, true, false, List, refl, sym, ap, ap₂, ◌∙◌, arith, nat_lt, min, max}
+use Rattle.std.proofs.Common.{◌≡◌, ℕ, zero, suc, ◌+◌, ◌-◌, ◌/◌, ◌%◌, ◌≤◌, Bool, true, false, List, length, refl, sym, ap, ap₂, ◌∙◌, arith, nat_lt, min, max}
 use Rattle.std.specs.Prelude.{if◌then◌else◌, ◌==◌, slice_index}
 use Rattle.std.proofs.lemmas.Bool.{le-ltb, eq-eqb}
 use Rattle.eg_num.specs.Arithmetic.{estimate}
@@ -10,12 +10,12 @@ use Rattle.eg_answer.specs.Formulas.{permitted_torque, excess_number, disagreein
 use Rattle.eg_fault.specs.Effects.{no_effects, readings_under}
 use Rattle.eg_record.specs.Excess.{full_excess}
 use Rattle.eg_model.specs.History.{Setting, Entry, Tick, Moment}
-use Rattle.eg_model.specs.Signals.{tripped, is_limited, last_signals, signals_at}
+use Rattle.eg_model.specs.Signals.{tripped, is_limited, last_signals}
 use Rattle.eg_model.specs.Detection.{pedal_bit, plate_bit, load_bit, speed_bit, torque_bit}
-use Rattle.eg_model.specs.Moments.{readings_at, moment}
+use Rattle.eg_model.specs.Moments.{readings_at, limit_at, moment}
 use Rattle.eg_model.specs.Rows.{row_of}
 use Rattle.eg_model.specs.Premises.{IsProper}
-use Rattle.eg_model.proofs.TickLemmas.{Runs}
+use Rattle.eg_model.proofs.TickLemmas.{Runs, moment-limit, moment-pairs, moment-full_excess}
 use Rattle.eg_model.proofs.Seeing.{IsUndisturbed, signal_value, actual-is, permitted-is, pedal-is, excess-is}
 
 -- a tick at which nothing is out of order
@@ -74,15 +74,15 @@ module _ (s : Setting) (e : Entry) (past : List Moment) (proper : IsProper s (pl
   allowed-same : m.signals.permitted ≡ m.limit
   allowed-same =
       permitted-is s (plain e) past plain_runs plain_undisturbed untripped
-      ∙ ap (permitted_torque s.cal.rules (readings_at no_effects e)) pedal-same ∙ value ∙ sym limit-is
+      ∙ ap (permitted_torque s.cal.rules (readings_at s.cal no_effects e)) pedal-same ∙ value ∙ sym limit-is
     where
       limit-is : m.limit ≡ drive_permits s.cal.rules.permit e.drive
-      limit-is = unfold moment in refl
+      limit-is = moment-limit s no_effects e past ∙ (unfold limit_at in refl)
 
       same : (a r q : ℕ) → r ≡ q → max (min a a) r ≡ max a q
       same a r q f = omega arith
 
-      value : permitted_torque s.cal.rules (readings_at no_effects e) e.drive.pedal
+      value : permitted_torque s.cal.rules (readings_at s.cal no_effects e) e.drive.pedal
           ≡ drive_permits s.cal.rules.permit e.drive
       value = unfold permitted_torque permitted drive_permits readings_at readings_under no_effects in
           same _ _ _ (checked_is e.drive.raise proper.drive.2)
@@ -102,22 +102,18 @@ module _ (s : Setting) (e : Entry) (past : List Moment) (proper : IsProper s (pl
       ∙ flag_bit (is_excess m.signals.actual m.signals.permitted s.cal.rules.threshold)
 
   -- the torque bit is the full-efficiency excess
-  pub torque_bit-is : torque_bit m.signals ≡ full_excess s.cal.rules.kt s.cal.rules.threshold (row_of m)
+  pub torque_bit-is : torque_bit m.signals ≡ full_excess s.cal.rules.kt s.cal.rules.threshold (row_of (length past) m)
   torque_bit-is =
       flag
       ∙ ap₂ (λ a p. is_excess a p s.cal.rules.threshold) actual-same allowed-same
-      ∙ shown
-    where
-      shown : is_excess (estimate s.cal.rules.kt e.shown.load_1) m.limit s.cal.rules.threshold
-          ≡ full_excess s.cal.rules.kt s.cal.rules.threshold (row_of m)
-      shown = unfold full_excess row_of moment in refl
+      ∙ sym (moment-full_excess s no_effects e past (length past))
 
   no_pairs : m.signals.pairs ≡ 0
-  unfolding moment signals_at
-  no_pairs = signal_value no_effects past 5 (last_signals past).pairs
-      (disagreeing_pairs s.cal.rules (readings_at no_effects e)) plain_runs plain_undisturbed untripped ∙ none
+  no_pairs = moment-pairs s no_effects e past
+      ∙ signal_value no_effects past 5 (last_signals past).pairs
+      (disagreeing_pairs s.cal.rules (readings_at s.cal no_effects e)) plain_runs plain_undisturbed untripped ∙ none
     where
-      none : disagreeing_pairs s.cal.rules (readings_at no_effects e) ≡ 0
+      none : disagreeing_pairs s.cal.rules (readings_at s.cal no_effects e) ≡ 0
       none = unfold disagreeing_pairs readings_at readings_under no_effects in
           rw (
             agree e.drive.pedal (1000 - (1000 - e.drive.pedal)) (slice_index s.cal.rules.tolerances 0)

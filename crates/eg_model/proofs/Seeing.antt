@@ -1,5 +1,5 @@
 -- Level 2 sees each true excess where one track of each pair is sound.
-use Rattle.std.proofs.Common.{◌≡◌, ℕ, ◌+◌, ◌-◌, ◌≤◌, ◌<◌, Bool, true, false, List, [], ◌∷◌, refl, arith, inl, inr, ◌⊎◌, min, max}
+use Rattle.std.proofs.Common.{◌≡◌, ℕ, ◌+◌, ◌-◌, ◌≤◌, ◌<◌, Bool, true, false, List, [], ◌∷◌, refl, sym, ◌∙◌, arith, inl, inr, ◌⊎◌, min, max}
 use Rattle.std.specs.Prelude.{if◌then◌else◌, ◌==◌, slice_index}
 use Rattle.std.specs.Int.Bits.{xor_zero_r}
 use Rattle.std.proofs.lemmas.Bool.{ltb-true, lt-ltb, eqb-true}
@@ -16,14 +16,12 @@ use Rattle.eg_answer.specs.Formulas.{permitted_torque, estimated_torque, excess_
 use Rattle.eg_sensor.specs.declared.tracks.TheConstants.{PEDAL_1, PEDAL_2, LOAD_1, LOAD_2, SPEED_1, SPEED_2}
 use Rattle.eg_fault.specs.Effects.{Effects, readings_under}
 use Rattle.eg_fault.specs.Classes.{IsSound}
-use Rattle.eg_record.specs.Excess.{true_excess}
 use Rattle.eg_model.specs.History.{Setting, Entry, Tick, Moment}
-use Rattle.eg_model.specs.Signals.{tripped, is_limited, signal, signals_at}
+use Rattle.eg_model.specs.Signals.{tripped, is_limited, signal}
 use Rattle.eg_model.specs.Detection.{torque_bit}
-use Rattle.eg_model.specs.Moments.{readings_at, moment, moments_of}
-use Rattle.eg_model.specs.Rows.{row_of}
+use Rattle.eg_model.specs.Moments.{readings_at, limit_at, moment, moments_of}
 use Rattle.eg_model.specs.Premises.{AreProper, IsProper}
-use Rattle.eg_model.proofs.TickLemmas.{Each, Runs}
+use Rattle.eg_model.proofs.TickLemmas.{Each, Runs, moment-limit, moment-pedal_signal, moment-permitted, moment-actual, moment-excess, moment-exceeds}
 use Rattle.eg_model.proofs.TripLemmas.{Sees, exceeds}
 
 -- nothing disturbs a signal
@@ -70,7 +68,7 @@ lower_second a b p h = omega arith
 
 -- one sound track of each pair is enough
 pub errs_safely : (s : Setting) (x : Tick) (past : List Moment) → SeesExcess x.effects → IsProper s x past →
-    ErrsSafely s.cal.rules.kt (readings_at x.effects x.entry) x.entry
+    ErrsSafely s.cal.rules.kt (readings_at s.cal x.effects x.entry) x.entry
 unfolding readings_at readings_under
 errs_safely s x past sees proper = record {
   load = elim sees.load [
@@ -105,42 +103,40 @@ module _ (s : Setting) (x : Tick) (past : List Moment) (runs : Runs x.effects)
   abbrev pub m : Moment
   m = moment s x.effects x.entry past
 
-  pub reads-is : m.reads ≡ readings_at x.effects x.entry
-  unfolding moment
-  reads-is = refl
+  abbrev reads : Readings
+  reads = readings_at s.cal x.effects x.entry
 
-  pub actual-is : m.signals.actual ≡ estimate s.cal.rules.kt (higher_load (readings_at x.effects x.entry))
-  unfolding moment signals_at estimated_torque
-  actual-is = signal_value x.effects past 3 _ _ runs calm untripped
+  pub actual-is : m.signals.actual ≡ estimate s.cal.rules.kt (higher_load (readings_at s.cal x.effects x.entry))
+  unfolding estimated_torque
+  actual-is = moment-actual s x.effects x.entry past ∙ signal_value x.effects past 3 _ _ runs calm untripped
 
   pub permitted-is : m.signals.permitted
-      ≡ permitted_torque s.cal.rules (readings_at x.effects x.entry) m.signals.pedal
-  unfolding moment signals_at
-  permitted-is = signal_value x.effects past 2 _ _ runs calm untripped
+      ≡ permitted_torque s.cal.rules (readings_at s.cal x.effects x.entry) m.signals.pedal
+  permitted-is = moment-permitted s x.effects x.entry past
+      ∙ signal_value x.effects past 2 _ _ runs calm untripped
 
-  pub pedal-is : m.signals.pedal ≡ used_pedal (readings_at x.effects x.entry).pedal (is_limited past)
-  unfolding moment signals_at
-  pedal-is = signal_value x.effects past 1 _ _ runs calm untripped
+  pub pedal-is : m.signals.pedal ≡ used_pedal (readings_at s.cal x.effects x.entry).pedal (is_limited past)
+  pedal-is = moment-pedal_signal s x.effects x.entry past
+      ∙ signal_value x.effects past 1 _ _ runs calm untripped
 
   pub excess-is : m.signals.excess ≡ excess_number s.cal.rules m.signals.permitted m.signals.actual
-  unfolding moment signals_at
-  excess-is = signal_value x.effects past 4 _ _ runs calm untripped
+  excess-is = moment-excess s x.effects x.entry past ∙ signal_value x.effects past 4 _ _ runs calm untripped
 
-  pedal-below : m.signals.pedal ≤ lower_pedal (readings_at x.effects x.entry)
+  pedal-below : m.signals.pedal ≤ lower_pedal reads
   pedal-below = rw pedal-is (go (is_limited past) _)
     where
       go : (b : Bool) (n : ℕ) → (if b then 0 else n) ≤ n
       go true n = omega arith
       go false n = omega arith
 
-  permitted-below : IsAccepted s.cal → ErrsSafely s.cal.rules.kt (readings_at x.effects x.entry) x.entry →
+  permitted-below : IsAccepted s.cal → ErrsSafely s.cal.rules.kt reads x.entry →
       m.signals.permitted ≤ m.limit
   permitted-below accepted safe =
       rw (permitted-is, limit-is)
-      (below (readings_at x.effects x.entry) safe.pedal safe.speed safe.raise pedal-below)
+      (below reads safe.pedal safe.speed safe.raise pedal-below)
     where
       limit-is : m.limit ≡ drive_permits s.cal.rules.permit x.entry.drive
-      limit-is = unfold moment in refl
+      limit-is = moment-limit s x.effects x.entry past ∙ (unfold limit_at in refl)
 
       up : (p q v : ℕ) → p ≤ q → grid_at s.cal.rules.permit p v ≤ grid_at s.cal.rules.permit q v
       up = grid_at-rises s.cal.rules.permit accepted.grid accepted.permit
@@ -165,12 +161,12 @@ module _ (s : Setting) (x : Tick) (past : List Moment) (runs : Runs x.effects)
           at_speed (inr same) = inr (rw same (up _ _ _ (omega (arith, less, pedal))))
 
   -- true excess shows in the excess word
-  pub excess_seen : IsAccepted s.cal → ErrsSafely s.cal.rules.kt (readings_at x.effects x.entry) x.entry →
+  pub excess_seen : IsAccepted s.cal → ErrsSafely s.cal.rules.kt (readings_at s.cal x.effects x.entry) x.entry →
       exceeds s m ≡ true → torque_bit m.signals ≡ true
   excess_seen accepted safe over_now = unfold torque_bit has_bit in rw (excess-is, shows) refl
     where
       over : m.limit + s.cal.rules.threshold < x.entry.shown.torque
-      over = ltb-true _ _ (unfold true_excess row_of is_excess moment in over_now)
+      over = ltb-true _ _ (unfold is_excess in sym (moment-exceeds s x.effects x.entry past) ∙ over_now)
 
       above : m.signals.permitted + s.cal.rules.threshold < m.signals.actual
       above = let a = permitted-below accepted safe in let b = safe.load in

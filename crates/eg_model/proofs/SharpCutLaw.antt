@@ -21,14 +21,14 @@ use Rattle.eg_model.specs.History.{Setting, Entry, Tick, Moment, Signals}
 use Rattle.eg_model.specs.Signals.{tripped, is_limited}
 use Rattle.eg_model.specs.Detection.{fed_bits, finds, pedal_bit, plate_bit, load_bit, speed_bit, torque_bit}
 use Rattle.eg_answer.specs.Modules.{modules_before_react, modules}
-use Rattle.eg_model.specs.Answers.{is_whole, is_undisturbed, is_answer, whole_since_answer, is_sent, is_good, mark_at, with_answer, answers_in, verdict_at, verdicts_in, finds_answers}
+use Rattle.eg_model.specs.Answers.{is_whole, is_undisturbed, is_answer, whole_since_answer, is_sent, is_good, mark_at, with_answer, answers_in, verdict_at, verdicts_in, confirms_at}
 use Rattle.eg_model.specs.Paths.{latch1, latch2, on_at, path1_at, path2_at}
 use Rattle.eg_model.specs.Moments.{moment, moments_of}
 use Rattle.eg_model.specs.Rows.{row_of, rows_of}
 use Rattle.eg_model.specs.Premises.{IsProper, AreProper, is_on_after, full_excesses}
 use Rattle.eg_model.specs.SharpCut.{ArePlain, CutsSharply}
 use Rattle.eg_model.proofs.PeriodLemmas.{period_closes}
-use Rattle.eg_model.proofs.TickLemmas.{Each, length-moments, moment-tick, moment-mark, moment-verdict, moment-answers, moment-trip, moment-mirror, moment-pedal, moment-plate, moment-load, moment-speed, moment-torque_found, moment-torque, moment-opens, moment-whole, moment-feeds, trip_from_torque, tripped-cons, untripped_before}
+use Rattle.eg_model.proofs.TickLemmas.{Each, length-moments, moment-tick, moment-mark, moment-on, moment-verdict, moment-confirms, moment-orders, moment-trip, moment-mirror, moment-pedal, moment-plate, moment-load, moment-speed, moment-torque_found, moment-torque, moment-opens, moment-whole, moment-feeds, trip_from_torque, tripped-cons, untripped_before}
 use Rattle.eg_model.proofs.TripLemmas.{fed_bits-cons, latch1-cons, off_after_trip, ReactsAll}
 use Rattle.eg_model.proofs.Silence.{latch2-cons, wrongs, with_wrong, wrongs-cons, period_least, send_within, verdict_none, verdict_some}
 use Rattle.eg_model.proofs.PlainTick.{plain, plain_runs, torque_bit-is, pedal_bit-is, plate_bit-is, load_bit-is, speed_bit-is}
@@ -276,8 +276,8 @@ right_bits v bits (inl e) none = rw e none
 right_bits v bits (inr e) none = rw e (refl, none)
 
 no_answers : (times : TimeParts) (v : Option Verdict) (past : List Moment) → 0 < times.weights.limit →
-    IsNotWrong v → AllGood (wrongs past) → finds_answers times v past ≡ false
-unfolding finds_answers AllGood wrongs is_wrong
+    IsNotWrong v → AllGood (wrongs past) → confirms_at times v past ≡ false
+unfolding confirms_at AllGood wrongs is_wrong
 no_answers times v past l (inl e) none = rw e refl
 no_answers times v past l (inr e) none =
     rw e (none_first times.weights (false ∷ map is_wrong (verdicts_in past)) l (refl, none))
@@ -310,7 +310,7 @@ unlimited-cons m past e f = or_from _ _ e f
 
 full_excesses-cons : (s : Setting) (x : Tick) (h : List Tick) →
     full_excesses s (x ∷ h) ≡ full_excess s.cal.rules.kt s.cal.rules.threshold
-    (row_of (moment s x.effects x.entry (moments_of s h))) ∷ full_excesses s h
+    (row_of (length (moments_of s h)) (moment s x.effects x.entry (moments_of s h))) ∷ full_excesses s h
 unfolding full_excesses moments_of rows_of
 full_excesses-cons s x h = refl
 
@@ -401,7 +401,7 @@ module _ (s : Setting) (a : IsAccepted s.cal) (e : Entry) (h : List Tick)
     torque = torque_list;
     closed = latch2-cons m past
         ∙ or_from _ _ (or_from _ _
-        (moment-answers s no_effects e past
+        (moment-confirms s no_effects e past
         ∙ no_answers s.cal.times m.verdict past (let l = a.answers.3 in omega arith)
         (not_wrong quiet) calm.right)
         (moment-opens s no_effects e past ∙ (unfold no_effects in refl))) calm.closed;
@@ -473,15 +473,20 @@ trip_once_confirmed s a (x ∷ h) each proper c =
     ]
 
 -- no trip, no order
-latch1_shut : (ms : List Moment) → tripped ms ≡ false → latch1 ms ≡ false
-latch1_shut [] u = unfold latch1 in refl
-latch1_shut (m ∷ past) u = latch1-cons m past
-    ∙ or_from _ _ (and_right _ _ u) (latch1_shut past (untripped_before m past u))
+latch1_shut : (s : Setting) (h : List Tick) → tripped (moments_of s h) ≡ false →
+    latch1 (moments_of s h) ≡ false
+unfolding moments_of
+latch1_shut s [] u = unfold latch1 in refl
+latch1_shut s (x ∷ h) u =
+    let past = moments_of s h in
+    latch1-cons (moment s x.effects x.entry past) past
+    ∙ or_from _ _ (moment-orders s x.effects x.entry past ∙ and_right _ _ u)
+    (latch1_shut s h (untripped_before _ past u))
 
 on_law : (s : Setting) (e : Entry) (ms : List Moment) →
     (moment s no_effects e ms).on ≡ (not (latch1 ms) && not (latch2 ms))
-unfolding moment on_at path1_at path2_at no_effects
-on_law s e ms = refl
+unfolding on_at path1_at path2_at no_effects
+on_law s e ms = moment-on s no_effects e ms
 
 plain_reacts : (h : List Tick) → ArePlain h → ReactsAll h
 unfolding ArePlain Each
@@ -510,4 +515,4 @@ cuts_sharply s a h each proper x none = go (is_confirmed s.cal.rules.torque (ful
     go false c =
         let calm = calm_until s a h each proper c in
         on (on_law s x.entry (moments_of s h)
-        ∙ ap₂ (λ p q. not p && not q) (latch1_shut (moments_of s h) calm.untripped) calm.closed)
+        ∙ ap₂ (λ p q. not p && not q) (latch1_shut s h calm.untripped) calm.closed)

@@ -16,12 +16,12 @@ use Rattle.eg_fault.specs.Effects.{Effects, sends_in, sends_at}
 use Rattle.eg_fault.specs.Classes.{IsRegular}
 use Rattle.eg_fault.specs.declared.paths.TheConstants.{PATH_2}
 use Rattle.eg_model.specs.History.{Setting, Entry, Tick, Moment}
-use Rattle.eg_model.specs.Answers.{is_sent, mark_at, with_answer, answers_in, verdict_at, verdicts_in, finds_answers}
+use Rattle.eg_model.specs.Answers.{is_sent, mark_at, with_answer, answers_in, verdict_at, verdicts_in, confirms_at}
 use Rattle.eg_model.specs.Paths.{latch2, path2_at, on_at}
 use Rattle.eg_model.specs.Moments.{moment, moments_of}
 use Rattle.eg_model.specs.Premises.{is_on_after}
 use Rattle.eg_model.proofs.PeriodLemmas.{at_place, period_closes, period_open, period_room, counts_from, none_counts, enough_periods, last_tick}
-use Rattle.eg_model.proofs.TickLemmas.{Each, length-moments, moment-tick, moment-mark, moment-verdict, moment-answers}
+use Rattle.eg_model.proofs.TickLemmas.{Each, length-moments, moment-tick, moment-mark, moment-verdict, moment-confirms, moment-on}
 
 abbrev pub AreRegular : List Tick → Type 0
 AreRegular h = Each (λ x. IsRegular x.effects) h
@@ -321,17 +321,17 @@ run_confirms w n (b ∷ bits) h enough run =
 -- ---- the latch of path 2 ----
 
 pub latch2-cons : (m : Moment) (past : List Moment) →
-    latch2 (m ∷ past) ≡ ((m.found.answers || m.opens) || latch2 past)
+    latch2 (m ∷ past) ≡ ((m.confirms || m.opens) || latch2 past)
 unfolding latch2
 latch2-cons m past = refl
 
--- one tick more: a list that is confirmed now, and was not before, is found now
-found_now : (times : TimeParts) (v : Option Verdict) (past : List Moment) →
+-- one tick more: a list that is confirmed now, and was not before, is confirmed for the first time
+confirmed_now : (times : TimeParts) (v : Option Verdict) (past : List Moment) →
     is_confirmed times.weights (wrongs past) ≡ false →
-    is_confirmed times.weights (with_wrong v (wrongs past)) ≡ true → finds_answers times v past ≡ true
-unfolding finds_answers with_wrong
-found_now times None past before now = absurd (cc)
-found_now times (Some v) past before now = unfold wrongs in
+    is_confirmed times.weights (with_wrong v (wrongs past)) ≡ true → confirms_at times v past ≡ true
+unfolding confirms_at with_wrong
+confirmed_now times None past before now = absurd (cc)
+confirmed_now times (Some v) past before now = unfold wrongs in
     is_first_from times.weights (is_wrong v) (wrongs past) now before
 
 opens_step : (s : Setting) (x : Effects) (e : Entry) (past : List Moment) →
@@ -346,7 +346,7 @@ opens_step s x e past ih now = go (is_confirmed s.cal.times.weights (wrongs past
     go : (b : Bool) → is_confirmed s.cal.times.weights (wrongs past) ≡ b → latch2 (m ∷ past) ≡ true
     go true c = latch2-cons m past ∙ or_right _ _ (ih c)
     go false c = latch2-cons m past
-        ∙ or_left _ _ (or_left _ _ (moment-answers s x e past ∙ found_now s.cal.times m.verdict past c now))
+        ∙ or_left _ _ (or_left _ _ (moment-confirms s x e past ∙ confirmed_now s.cal.times m.verdict past c now))
 
 confirmed_nothing : (w : WeightParts) → is_confirmed w (wrongs []) ≡ true → ⊥
 unfolding is_confirmed wrongs verdicts_in
@@ -381,7 +381,7 @@ pub off_after_silence : (s : Setting) → AreTimes s.cal.times → 0 < s.cal.tim
     (more h : List Tick) → AreRegular (more ++ h) → NoGood s more h →
     reaction_of s.cal.times ≤ length more →
     (x : Tick) → x.effects.conducts PATH_2 true ≡ false → is_on_after s (more ++ h) x ≡ false
-unfolding moment on_at path2_at reaction_of closed is_on_after
+unfolding on_at path2_at reaction_of closed is_on_after
 off_after_silence s are up limit more h r none long x opens =
     let times = s.cal.times in
     let n = verdicts_to_confirm times.weights in
@@ -392,7 +392,8 @@ off_after_silence s are up limit more h r none long x opens =
     (wrongs (moments_of s (more ++ h))) (many whole) (wrong_run s are more h r none) in
     let c = run_confirms times.weights n (wrongs (moments_of s (more ++ h))) limit
     (enough_weight times.weights up) run in
-    and_right _ _ (ap (x.effects.conducts PATH_2) (opens_when_confirmed s (more ++ h) c) ∙ opens)
+    moment-on s x.effects x.entry (moments_of s (more ++ h))
+    ∙ and_right _ _ (ap (x.effects.conducts PATH_2) (opens_when_confirmed s (more ++ h) c) ∙ opens)
   where
     many :
         (length h + s.cal.times.period - 1 - s.cal.times.send) / s.cal.times.period + verdicts_to_confirm s.cal.times.weights ≤ length

@@ -1,9 +1,10 @@
 -- A trip comes by the tick at which the torque's bits are confirmed, and then the stages go off.
-use Rattle.std.proofs.Common.{◌≡◌, Bool, true, false, ◌||◌, ◌&&◌, List, [], ◌∷◌, ◌++◌, map, refl, ap, ◌∙◌}
+use Rattle.std.proofs.Common.{◌≡◌, Bool, true, false, ◌||◌, List, [], ◌∷◌, ◌++◌, map, refl, ap, ◌∙◌}
 use Rattle.std.proofs.lemmas.Bool.{and_from, or_left, or_right, and_left}
 use Rattle.eg_num.specs.Windows.{WeightParts, is_confirmed, is_first}
 use Rattle.eg_num.proofs.WindowLemmas.{Below, below_none, below_more, is_confirmed-Below}
 use Rattle.eg_num.proofs.FirstPlaceLemmas.{is_first_from}
+use Rattle.eg_torque.specs.Excess.{is_excess}
 use Rattle.eg_answer.specs.declared.modules.TheConstants.{REACT}
 use Rattle.eg_fault.specs.Effects.{Effects}
 use Rattle.eg_fault.specs.declared.paths.TheConstants.{PATH_1}
@@ -15,7 +16,7 @@ use Rattle.eg_model.specs.Moments.{moment, moments_of}
 use Rattle.eg_model.specs.Rows.{row_of, rows_of}
 use Rattle.eg_model.specs.Premises.{true_excesses, is_on_after}
 use Rattle.eg_record.specs.Excess.{true_excess}
-use Rattle.eg_model.proofs.TickLemmas.{Each, Runs, tripped-cons, untripped_before, moment-reacts, moment-feeds, moment-torque, trip_from_torque}
+use Rattle.eg_model.proofs.TickLemmas.{Each, Runs, tripped-cons, untripped_before, moment-on, moment-orders, moment-feeds, moment-torque, trip_from_torque}
 
 pub fed_bits-cons : (b : Signals → Bool) (m : Moment) (past : List Moment) → m.feeds ≡ true →
     fed_bits b (m ∷ past) ≡ b m.signals ∷ fed_bits b past
@@ -80,7 +81,7 @@ trip_from_confirmed s (x ∷ h) r c = trip_step s x r.0 (moments_of s h) (trip_f
 
 -- the true excess of a tick
 abbrev pub exceeds : Setting → Moment → Bool
-exceeds s m = true_excess s.cal.rules.threshold (row_of m)
+exceeds s m = is_excess m.entry.shown.torque m.limit s.cal.rules.threshold
 
 -- the torque bit is set at each tick with true excess, as long as no trip came
 unfoldable pub Sees : Setting → List Tick → Type 0
@@ -92,7 +93,7 @@ Sees s (x ∷ h) =
 
 seen_below : (s : Setting) (h : List Tick) → Sees s h → tripped (moments_of s h) ≡ false →
     Below (true_excesses s h) (map (λ m. torque_bit m.signals) (moments_of s h))
-unfolding moments_of Sees true_excesses rows_of
+unfolding moments_of Sees true_excesses rows_of row_of true_excess
 seen_below s [] sees u = below_none
 seen_below s (x ∷ h) sees u =
     let u' = untripped_before (moment s x.effects x.entry (moments_of s h)) (moments_of s h) u in
@@ -116,7 +117,7 @@ abbrev pub ReactsAll : List Tick → Type 0
 ReactsAll h = Each (λ x. x.effects.ran REACT ≡ true) h
 
 pub latch1-cons : (m : Moment) (past : List Moment) →
-    latch1 (m ∷ past) ≡ ((m.reacts && tripped (m ∷ past)) || latch1 past)
+    latch1 (m ∷ past) ≡ (m.orders || latch1 past)
 unfolding latch1
 latch1-cons m past = refl
 
@@ -126,7 +127,7 @@ pub latch1_from_trip : (s : Setting) → (x : Tick) (h : List Tick) → x.effect
 unfolding moments_of
 latch1_from_trip s x h r u =
     latch1-cons (moment s x.effects x.entry (moments_of s h)) (moments_of s h)
-    ∙ or_left _ _ (and_from _ _ (moment-reacts s x.effects x.entry (moments_of s h) ∙ r) u)
+    ∙ or_left _ _ (moment-orders s x.effects x.entry (moments_of s h) ∙ and_from _ _ r u)
 
 -- and it stays open
 pub latch1_on : (s : Setting) (more h : List Tick) → latch1 (moments_of s h) ≡ true →
@@ -138,8 +139,9 @@ latch1_on s (x ∷ more) h u = latch1-cons _ _ ∙ or_right _ _ (latch1_on s mor
 -- where it is open, and no fault makes it conduct, the stages are off
 pub off_by_latch1 : (s : Setting) (x : Effects) (e : Entry) (past : List Moment) → x.conducts PATH_1 true ≡ false →
     latch1 past ≡ true → (moment s x e past).on ≡ false
-unfolding moment on_at path1_at
-off_by_latch1 s x e past opens u = and_left _ _ (ap (x.conducts PATH_1) u ∙ opens)
+unfolding on_at path1_at
+off_by_latch1 s x e past opens u =
+    moment-on s x e past ∙ and_left _ _ (ap (x.conducts PATH_1) u ∙ opens)
 
 no_trip_at_first : (s : Setting) → tripped (moments_of s []) ≡ true → ⊥
 unfolding moments_of tripped

@@ -1,12 +1,11 @@
 -- Runs under a fault, computed from the definitions.
 use Rattle.std.proofs.Common.{◌≡◌, true, false, [], ◌∷◌, ◌++◌, map, replicate, Some, None, refl}
-use Rattle.std.specs.Prelude.{codes}
 use Rattle.eg_answer.specs.declared.marks.AnswerMark.TheVariants.{Good, Bad}
 use Rattle.eg_answer.specs.declared.marks.Verdict.TheVariants.{Right, Wrong}
 use Rattle.eg_fault.specs.declared.class.Class.TheVariants.{Plate, Skip, Halt, Wild, Path2Closed, PathOpen, Lapse}
 use Rattle.eg_record.specs.declared.watch.Watch.TheVariants as found
-use Rattle.eg_model.specs.Rows.{report_of, signal_list}
-use Rattle.eg_model.specs.Examples.{idle, full, fault_from, bench_run, pressed_run, offset_run, disturbed_raise_run, moments_in_time, answers_of, verdicts_of, stages_of, reported}
+use Rattle.eg_model.specs.Rows.{signal_list}
+use Rattle.eg_model.specs.Examples.{idle, full, fault_from, bench_run, pressed_run, offset_run, disturbed_raise_run, moments_in_time, answers_of, verdicts_of, stages_of, report_on, reported}
 use Rattle.eg_model.proofs.WholeModel.{whole_model}
 
 -- ---- it limits the pedal, once it is found ----
@@ -25,7 +24,7 @@ open_without_react = refl
 
 -- ---- the monitoring module is wild ----
 
-pub wild : report_of (codes "a") (bench_run full (fault_from 0 (Wild (65535 ∷ []) (false ∷ []))) 20)
+pub wild : report_on (bench_run full (fault_from 0 (Wild (65535 ∷ []) (false ∷ []))) 20)
     ≡ reported (Some (found.Torque, 9)) (Some 10) None (Some 9)
 unfolding whole_model
 wild = refl
@@ -36,7 +35,7 @@ wild-verdicts = refl
 
 -- ---- level 2 misses one tick ----
 
-pub lapsed : report_of (codes "a") (bench_run idle (fault_from 3 (Lapse (0 ∷ []) 0)) 30)
+pub lapsed : report_on (bench_run idle (fault_from 3 (Lapse (0 ∷ []) 0)) 30)
     ≡ reported None None None None
 unfolding whole_model
 lapsed = refl
@@ -78,13 +77,18 @@ pub plate_held : map (λ m. m.entry.shown.position)
 unfolding whole_model
 plate_held = refl
 
+pub plate_held-charge : map (λ m. m.entry.shown.load_1)
+    (moments_in_time (bench_run idle (fault_from 2 (Plate 300)) 5)) ≡ 40 ∷ 40 ∷ 40 ∷ 80 ∷ 120 ∷ []
+unfolding whole_model
+plate_held-charge = refl
+
 -- ---- a pedal track reads less than it should, cut at 0 ----
 
 pub offset-pedal : map (λ m. m.reads.pedal) (moments_in_time offset_run) ≡ (0 ∷ 950 ∷ []) ∷ []
 unfolding whole_model
 offset-pedal = refl
 
-pub limited : report_of (codes "a") pressed_run ≡ reported (Some (found.Pedal, 4)) None None None
+pub limited : report_on pressed_run ≡ reported (Some (found.Pedal, 4)) None None None
 unfolding whole_model
 limited = refl
 

@@ -74,8 +74,8 @@ unfoldable pub verdicts_in : List Moment → List Verdict
 verdicts_in [] = []
 verdicts_in (m ∷ past) = with_verdict m.verdict (verdicts_in past)
 
--- wrong answers are found at a tick whose verdict is the first place at which the wrong ones reach the
+-- wrong answers are confirmed at a tick whose verdict is the first place at which the wrong ones reach the
 -- limit
-unfoldable pub finds_answers : TimeParts → Option Verdict → List Moment → Bool
-finds_answers times None past = false
-finds_answers times (Some verdict) past = is_first times.weights (map is_wrong (verdict ∷ verdicts_in past))
+unfoldable pub confirms_at : TimeParts → Option Verdict → List Moment → Bool
+confirms_at times None past = false
+confirms_at times (Some verdict) past = is_first times.weights (map is_wrong (verdict ∷ verdicts_in past))

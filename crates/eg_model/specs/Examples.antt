@@ -16,7 +16,9 @@ use Rattle.eg_record.specs.declared.summary.Summary.{Summary}
 use Rattle.eg_record.specs.declared.watch.Watch.{Watch}
 use Rattle.eg_model.specs.History.{Moment}
 use Rattle.eg_model.specs.Answers.{is_answer}
+use Rattle.eg_model.specs.Engines.{gasoline}
 use Rattle.eg_model.specs.Bench.{Run, moments_to}
+use Rattle.eg_model.specs.Rows.{record_rows, report_of}
 
 -- waits for ever
 abbrev pub idle : List ℕ
@@ -148,9 +150,12 @@ looping_run = record (bench_run (0xd1ff ∷ []) None 30) { plan = (1000 ∷ repl
 
 -- ---- what is told of a run ----
 
--- the moments of a run, in the order of time
+-- the moments of a run, and its rows, in the order of time
 abbrev pub moments_in_time : Run → List Moment
-moments_in_time r = reverse (moments_to r (length r.drive))
+moments_in_time r = reverse (moments_to gasoline r (length r.drive))
+
+abbrev pub rows_in_time : Run → List Row
+rows_in_time r = reverse (record_rows gasoline r)
 
 -- the answers that are sent, each with its tick
 abbrev pub answers_of : Run → List (ℕ × AnswerMark)
@@ -164,7 +169,11 @@ verdicts_of r = map (λ m. (m.tick, m.verdict)) (filter (λ m. is_some m.verdict
 abbrev pub stages_of : Run → List Bool
 stages_of r = map (λ m. m.on) (moments_in_time r)
 
--- what the report says of a run of the name `a` with the reference calibration
+-- what the report says of a run of the name `a`
+abbrev pub report_on : Run → Summary
+report_on r = report_of gasoline (codes "a") r
+
+-- the report of a run of that name with the reference calibration, in full
 abbrev pub reported : Option (Watch × ℕ) → Option ℕ → Option (Trap × ℕ) → Option ℕ → Summary
 reported first off trap excess =
     record { name = codes "a"; first = first; off = off; trap = trap; confirmed = excess; bound = 34 }

@@ -1,7 +1,7 @@
 -- A run, tick by tick: what comes in, and what is true of each tick. A history is a list of ticks from a
 -- start on; it stands newest first, so the past of a tick is the rest of the list behind it, and the number
 -- of a tick is the length of its past.
-use Rattle.std.specs.Prelude.{ℕ, Bool, List, Option}
+use Rattle.std.specs.Prelude.{ℕ, Bool, true, List, Option}
 use Rattle.eg_num.specs.Drive.{DriveRow}
 use Rattle.eg_num.specs.declared.watches.Watches.{Watches}
 use Rattle.eg_sensor.specs.declared.readings.Readings.{Readings}
@@ -31,6 +31,14 @@ pub record Tick : Type 0 where
   pub effects : Effects
   pub entry : Entry
 
+-- what a span of a run's ticks is for: so far the engine is driven in each
+pub data SpanKind : Type 0 where
+  Drive : SpanKind
+
+-- whether the engine is driven in it: the stages have power, the debouncers are fed and answers are sent
+unfoldable pub drives : SpanKind → Bool
+drives Drive = true
+
 -- the five signals of level 2
 pub record Signals : Type 0 where
   pub pedal : ℕ
@@ -57,12 +65,15 @@ pub record Moment : Type 0 where
   pub feeds : Bool
   pub found : Watches
   pub trip : Bool
-  -- whether react runs, and whether all eight modules do
-  pub reacts : Bool
+  -- whether react orders path 1 open, and whether all eight modules run
+  pub orders : Bool
   pub whole : Bool
-  -- the answer and the verdict, if any, and whether a wild monitoring module orders path 2 open
+  -- the answer and the verdict, if any
   pub mark : AnswerMark
   pub verdict : Option Verdict
+  -- whether wrong answers are confirmed now, for the first time, and whether a wild monitoring module orders
+  -- path 2 open
+  pub confirms : Bool
   pub opens : Bool
   -- level 1's world after the tick
   pub world : World

@@ -5,6 +5,7 @@ pub mod Answers
 pub mod Paths
 pub mod Level1
 pub mod Moments
+pub mod Engines
 pub mod Bench
 pub mod Rows
 pub mod Examples

@@ -1,49 +1,57 @@
 -- What is true of a tick, from what is out of order at it, what comes in, and what was true of the ticks
 -- before; and so of each tick of a history.
-use Rattle.std.specs.Prelude.{◌||◌, is_some, List, [], ◌∷◌, length}
+use Rattle.std.specs.Prelude.{ℕ, ◌&&◌, ◌||◌, is_some, List, [], ◌∷◌, length, if◌then◌else◌}
+use Rattle.eg_num.specs.Drive.{DriveRow}
 use Rattle.eg_sensor.specs.Readings.{sound_readings}
 use Rattle.eg_sensor.specs.declared.readings.Readings.{Readings}
 use Rattle.eg_torque.specs.Permit.{drive_permits}
-use Rattle.eg_answer.specs.declared.modules.TheConstants.{REACT}
+use Rattle.eg_answer.specs.declared.marks.AnswerMark.TheVariants.{Absent}
 use Rattle.eg_fault.specs.Effects.{Effects, readings_under}
 use Rattle.eg_fault.specs.Faults.{effects}
-use Rattle.eg_model.specs.History.{Setting, Entry, Tick, Moment}
+use Rattle.eg_values.specs.Calibration.{CalibrationParts}
+use Rattle.eg_model.specs.History.{Setting, Entry, Tick, SpanKind, Drive, drives, Moment}
 use Rattle.eg_model.specs.Signals.{signals_at}
 use Rattle.eg_model.specs.Detection.{pedal_bit, plate_bit, load_bit, speed_bit, torque_bit, feeds_at, finds}
-use Rattle.eg_model.specs.Answers.{is_whole, mark_at, verdict_at, finds_answers}
-use Rattle.eg_model.specs.Paths.{path1_at, path2_at, on_at}
+use Rattle.eg_model.specs.Answers.{is_whole, mark_at, verdict_at, confirms_at}
+use Rattle.eg_model.specs.Paths.{orders_open, path1_at, path2_at, on_at}
 use Rattle.eg_model.specs.Level1.{world_at}
 
--- what the sensors read
-unfoldable pub readings_at : Effects → Entry → Readings
-readings_at x e =
+-- what the sensors read, under this calibration
+unfoldable pub readings_at : CalibrationParts → Effects → Entry → Readings
+readings_at cal x e =
     readings_under x (sound_readings e.drive.pedal e.shown.position (e.shown.load_1 ∷ e.shown.load_2 ∷ [])
     e.drive.speed e.drive.raise)
 
--- the moment of one tick
-unfoldable pub moment : Setting → Effects → Entry → List Moment → Moment
-moment s x e past =
+-- the torque that a drive row permits, under this calibration
+unfoldable pub limit_at : CalibrationParts → DriveRow → ℕ
+limit_at cal drive = drive_permits cal.rules.permit drive
+
+-- The moment of one tick, in a span of this kind. Where the engine isn't driven the stages have no power, the
+-- debouncers aren't fed, no answer is sent, and wrong answers that are confirmed aren't found.
+unfoldable pub moment_in : SpanKind → Setting → Effects → Entry → List Moment → Moment
+moment_in kind s x e past =
     let rules = s.cal.rules in
     let times = s.cal.times in
-    let reads = readings_at x e in
+    let reads = readings_at s.cal x e in
     let signals = signals_at rules x reads past in
-    let feeds = feeds_at x past in
+    let feeds = drives kind && feeds_at x past in
     let mirror = is_some x.flip in
     let plate = finds rules.pair plate_bit feeds signals past in
     let load = finds rules.pair load_bit feeds signals past in
     let speed = finds rules.pair speed_bit feeds signals past in
     let torque = finds rules.torque torque_bit feeds signals past in
     let trip = mirror || plate || load || speed || torque in
-    let mark = mark_at times x trip past in
+    let mark = if drives kind then mark_at times x trip past else Absent in
     let verdict = verdict_at times x mark past in
+    let confirms = confirms_at times verdict past in
     record {
       tick = length past;
       entry = e;
       reads = reads;
-      limit = drive_permits rules.permit e.drive;
+      limit = limit_at s.cal e.drive;
       path1 = path1_at x past;
       path2 = path2_at x past;
-      on = on_at x past;
+      on = drives kind && on_at x past;
       signals = signals;
       feeds = feeds;
       found = record {
@@ -53,21 +61,32 @@ moment s x e past =
         load = load;
         speed = speed;
         torque = torque;
-        answers = finds_answers times verdict past;
+        answers = drives kind && confirms;
       };
       trip = trip;
-      reacts = x.ran REACT;
+      orders = orders_open x trip past;
       whole = is_whole x;
       mark = mark;
       verdict = verdict;
+      confirms = confirms;
       opens = x.opens;
       world = world_at s.image x e.slices reads signals past;
     }
 
--- the moments of a history that stands by itself
+-- the moments of a history that stands by itself, as a span of this kind
+unfoldable pub moments_in : SpanKind → Setting → List Tick → List Moment
+moments_in kind s [] = []
+moments_in kind s (x ∷ before) =
+    let past = moments_in kind s before in moment_in kind s x.effects x.entry past ∷ past
+
+-- the moment of one tick at which the engine is driven
+unfoldable pub moment : Setting → Effects → Entry → List Moment → Moment
+moment = moment_in Drive
+
+-- the moments of a history that stands by itself, in which the engine is driven
 unfoldable pub moments_of : Setting → List Tick → List Moment
-moments_of s [] = []
-moments_of s (x ∷ before) = let past = moments_of s before in moment s x.effects x.entry past ∷ past
+unfolding moments_in moment
+moments_of = moments_in Drive
 
 -- the ticks of a history from power-on: what is out of order at each is what the setting's fault does
 unfoldable pub ticks : Setting → List Entry → List Tick

@@ -1,19 +1,24 @@
 -- The two shut-off paths. Their latches aren't kept: they are read off the past.
-use Rattle.std.specs.Prelude.{Bool, false, ◌&&◌, ◌||◌, List, [], ◌∷◌}
+use Rattle.std.specs.Prelude.{Bool, ◌&&◌, ◌||◌, List}
 use Rattle.std.specs.List.{list_any}
+use Rattle.eg_answer.specs.declared.modules.TheConstants.{REACT}
 use Rattle.eg_fault.specs.Effects.{Effects}
 use Rattle.eg_fault.specs.declared.paths.TheConstants.{PATH_1, PATH_2}
 use Rattle.eg_model.specs.History.{Moment}
 use Rattle.eg_model.specs.Signals.{tripped}
 
--- the latch of path 1 was opened at one of these ticks: react ran, and a trip had come by then
-unfoldable pub latch1 : List Moment → Bool
-latch1 [] = false
-latch1 (m ∷ past) = (m.reacts && tripped (m ∷ past)) || latch1 past
+-- react orders path 1 open at a tick where it runs and a trip has come by then
+unfoldable pub orders_open : Effects → Bool → List Moment → Bool
+orders_open x trip past = x.ran REACT && (trip || tripped past)
 
--- the latch of path 2 was opened at one of these ticks: answers were found, or a wild module ordered it
+-- the latch of path 1 was opened at one of these ticks: react ordered it
+unfoldable pub latch1 : List Moment → Bool
+latch1 past = list_any (λ m. m.orders) past
+
+-- the latch of path 2 was opened at one of these ticks: wrong answers were confirmed, or a wild monitoring
+-- module ordered it
 unfoldable pub latch2 : List Moment → Bool
-latch2 past = list_any (λ m. m.found.answers || m.opens) past
+latch2 past = list_any (λ m. m.confirms || m.opens) past
 
 -- whether each path conducts at a tick
 unfoldable pub path1_at : Effects → List Moment → Bool

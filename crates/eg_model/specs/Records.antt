@@ -1,4 +1,5 @@
--- The laws for the record of a run on the bench: what the report says, and what the rows keep.
+-- The laws for the record of a run on the bench: what the report says, and what the rows keep. They are said
+-- of any engine.
 use Rattle.std.specs.Prelude.{◌≡◌, ℕ, ◌+◌, ◌*◌, ◌≤◌, ◌<◌, Bool, true, false, not, nat_lt, nat_le, List, ◌++◌, All, map, take, length, Option, Some, None, IfSome, MatchOption}
 use Rattle.std.specs.List.{list_all}
 use Rattle.eg_num.specs.Drive.{IsDrive}
@@ -13,6 +14,7 @@ use Rattle.eg_record.specs.Excess.{true_excess, full_excess, first_confirmed}
 use Rattle.eg_model.specs.Reaction.{is_at_once, spoils_answers}
 use Rattle.eg_model.specs.Lapses.{IsLapse}
 use Rattle.eg_model.specs.Moments.{moment, moments}
+use Rattle.eg_model.specs.Engines.{BenchEngine}
 use Rattle.eg_model.specs.Bench.{Run, entry_at, moments_to, entries_to}
 use Rattle.eg_model.specs.Rows.{row_of, rows_of, record_rows}
 
@@ -22,42 +24,43 @@ pub record IsRun (r : Run) : Type 0 where
   pub drive : All IsDrive r.drive
 
 -- the row of tick t, and the rows of the first n ticks
-unfoldable pub row_at : Run → ℕ → Row
-row_at r t =
-    row_of (moment r.setting (effects r.setting.fault t) (entry_at r t (moments_to r t)) (moments_to r t))
+unfoldable pub row_at : {E : Type 0} → BenchEngine E → Run → ℕ → Row
+row_at b r t =
+    let past = moments_to b r t in
+    row_of t (moment r.setting (effects r.setting.fault t) (entry_at b r t past) past)
 
-unfoldable pub rows_to : Run → ℕ → List Row
-rows_to r n = rows_of (moments_to r n)
+unfoldable pub rows_to : {E : Type 0} → BenchEngine E → Run → ℕ → List Row
+rows_to b r n = rows_of (moments_to b r n)
 
 -- the record is a history from power-on: what came in at its ticks gives its moments
-abbrev pub RecordsAreHistories : Type 0
-RecordsAreHistories = (r : Run) (n : ℕ) → moments_to r n ≡ moments r.setting (entries_to r n)
+abbrev pub RecordsAreHistories : {E : Type 0} → BenchEngine E → Type 0
+RecordsAreHistories b = (r : Run) (n : ℕ) → moments_to b r n ≡ moments r.setting (entries_to b r n)
 
 -- its rows are numbered from 0 on
-abbrev pub RecordsAreRows : Type 0
-RecordsAreRows = (r : Run) (n : ℕ) → AreRows (rows_to r n) × (length (rows_to r n) ≡ n)
+abbrev pub RecordsAreRows : {E : Type 0} → BenchEngine E → Type 0
+RecordsAreRows b = (r : Run) (n : ℕ) → AreRows (rows_to b r n) × (length (rows_to b r n) ≡ n)
 
 -- ---- tick by tick ----
 
 -- the true excess is confirmed by tick c
-abbrev pub IsConfirmedBy : Run → ℕ → Type 0
-IsConfirmedBy r c =
+abbrev pub IsConfirmedBy : {E : Type 0} → BenchEngine E → Run → ℕ → Type 0
+IsConfirmedBy b r c =
     is_confirmed r.setting.cal.rules.torque
-    (map (true_excess r.setting.cal.rules.threshold) (rows_to r (c + 1)))
+    (map (true_excess r.setting.cal.rules.threshold) (rows_to b r (c + 1)))
     ≡ true
 
 -- the reaction theorem: where the true excess is confirmed by tick c, the stages are off at each tick from
 -- c + R on
-abbrev pub RunsReact : Type 0
-RunsReact =
-    (r : Run) → IsRun r → IsListed r.setting.fault → (c t : ℕ) → IsConfirmedBy r c →
-    c + reaction_of r.setting.cal.times ≤ t → (row_at r t).on ≡ false
+abbrev pub RunsReact : {E : Type 0} → BenchEngine E → Type 0
+RunsReact b =
+    (r : Run) → IsRun r → IsListed r.setting.fault → (c t : ℕ) → IsConfirmedBy b r c →
+    c + reaction_of r.setting.cal.times ≤ t → (row_at b r t).on ≡ false
 
 -- and under most faults already at each tick after c
-abbrev pub RunsReactAtOnce : Type 0
-RunsReactAtOnce =
-    (r : Run) → IsRun r → IsListed r.setting.fault → (c t : ℕ) → IsConfirmedBy r c →
-    is_at_once r.setting.fault (c + 1) ≡ true → c < t → (row_at r t).on ≡ false
+abbrev pub RunsReactAtOnce : {E : Type 0} → BenchEngine E → Type 0
+RunsReactAtOnce b =
+    (r : Run) → IsRun r → IsListed r.setting.fault → (c t : ℕ) → IsConfirmedBy b r c →
+    is_at_once r.setting.fault (c + 1) ≡ true → c < t → (row_at b r t).on ≡ false
 
 -- no fault has begun by a tick
 unfoldable pub is_before_onset : Option Fault → ℕ → Bool
@@ -66,12 +69,12 @@ is_before_onset (Some fault) t = nat_lt t fault.onset
 
 -- the sharp cut: where no fault has begun by tick t, the stages are on at it exactly where the
 -- full-efficiency excess isn't confirmed before it
-abbrev pub RunsCutSharply : Type 0
-RunsCutSharply =
+abbrev pub RunsCutSharply : {E : Type 0} → BenchEngine E → Type 0
+RunsCutSharply b =
     (r : Run) → IsRun r → (t : ℕ) → is_before_onset r.setting.fault t ≡ true →
-    (row_at r t).on
+    (row_at b r t).on
     ≡ not (is_confirmed r.setting.cal.rules.torque
-    (map (full_excess r.setting.cal.rules.kt r.setting.cal.rules.threshold) (rows_to r t)))
+    (map (full_excess r.setting.cal.rules.kt r.setting.cal.rules.threshold) (rows_to b r t)))
 
 -- ---- by the rows of the whole record ----
 
@@ -89,17 +92,17 @@ CutOneTickAfter weights kt threshold rows =
     (All (λ row. row.on ≡ true) rows) (λ c. All (λ row. row.on ≡ nat_le row.tick c) rows)
 
 -- so it is for every record
-abbrev pub RecordsReact : Type 0
-RecordsReact =
+abbrev pub RecordsReact : {E : Type 0} → BenchEngine E → Type 0
+RecordsReact b =
     (r : Run) → IsRun r → IsListed r.setting.fault →
     ReactWithin (reaction_of r.setting.cal.times) r.setting.cal.rules.torque r.setting.cal.rules.threshold
-    (record_rows r)
+    (record_rows b r)
 
-abbrev pub RecordsCutSharply : Type 0
-RecordsCutSharply =
+abbrev pub RecordsCutSharply : {E : Type 0} → BenchEngine E → Type 0
+RecordsCutSharply b =
     (r : Run) → IsRun r → r.setting.fault ≡ None →
     CutOneTickAfter r.setting.cal.rules.torque r.setting.cal.rules.kt r.setting.cal.rules.threshold
-    (record_rows r)
+    (record_rows b r)
 
 -- ---- by parts of the rows ----
 
@@ -138,24 +141,24 @@ CutFromOnset fault bound rows = IfSome fault (λ f. spoils_answers f.class ≡ t
     All (λ row. f.onset + bound ≤ row.tick → row.on ≡ false) rows)
 
 -- so it is for every record
-abbrev pub RecordsReactAtOnce : Type 0
-RecordsReactAtOnce =
+abbrev pub RecordsReactAtOnce : {E : Type 0} → BenchEngine E → Type 0
+RecordsReactAtOnce b =
     (r : Run) → IsRun r → IsListed r.setting.fault →
-    ReactAtOnce r.setting.fault r.setting.cal.rules.torque r.setting.cal.rules.threshold (record_rows r)
+    ReactAtOnce r.setting.fault r.setting.cal.rules.torque r.setting.cal.rules.threshold (record_rows b r)
 
-abbrev pub RecordsCutLapses : Type 0
-RecordsCutLapses =
+abbrev pub RecordsCutLapses : {E : Type 0} → BenchEngine E → Type 0
+RecordsCutLapses b =
     (r : Run) → IsRun r → IsNoneOrValid r.setting.fault →
     HasLapseBound r.setting.cal.rules.torque r.setting.cal.times → IsLapse r.setting.fault →
-    CutLapses r.setting.cal (record_rows r)
+    CutLapses r.setting.cal (record_rows b r)
 
-abbrev pub RecordsHaveShortLapses : Type 0
-RecordsHaveShortLapses =
+abbrev pub RecordsHaveShortLapses : {E : Type 0} → BenchEngine E → Type 0
+RecordsHaveShortLapses b =
     (r : Run) → IsRun r → IsNoneOrValid r.setting.fault →
     HasLapseBound r.setting.cal.rules.torque r.setting.cal.times → IsLapse r.setting.fault →
-    LapsesAreShort r.setting.cal (record_rows r)
+    LapsesAreShort r.setting.cal (record_rows b r)
 
-abbrev pub RecordsCutFromOnset : Type 0
-RecordsCutFromOnset =
+abbrev pub RecordsCutFromOnset : {E : Type 0} → BenchEngine E → Type 0
+RecordsCutFromOnset b =
     (r : Run) → IsRun r → IsNoneOrValid r.setting.fault →
-    CutFromOnset r.setting.fault (reaction_of r.setting.cal.times) (record_rows r)
+    CutFromOnset r.setting.fault (reaction_of r.setting.cal.times) (record_rows b r)

@@ -1,5 +1,5 @@
 -- The record of a run: its rows and the trap of level 1, and what the report says of it.
-use Rattle.std.specs.Prelude.{ℕ, List, [], ◌∷◌, map, length, Option, Some, None}
+use Rattle.std.specs.Prelude.{ℕ, List, [], ◌∷◌, length, Option, Some, None}
 use Rattle.std.specs.Option.{option_or}
 use Rattle.eg_answer.specs.Times.{reaction_of}
 use Rattle.eg_word.specs.declared.registers.Trap.{Trap}
@@ -9,16 +9,17 @@ use Rattle.eg_record.specs.declared.row.Row.{Row}
 use Rattle.eg_record.specs.declared.summary.Summary.{Summary}
 use Rattle.eg_record.specs.Summaries.{summary_of}
 use Rattle.eg_model.specs.History.{Signals, Moment}
+use Rattle.eg_model.specs.Engines.{BenchEngine}
 use Rattle.eg_model.specs.Bench.{Run, moments_to}
 
 -- the five signals in their order
 unfoldable pub signal_list : Signals → List ℕ
 signal_list s = s.pedal ∷ s.permitted ∷ s.actual ∷ s.excess ∷ s.pairs ∷ []
 
--- the row of a tick
-unfoldable pub row_of : Moment → Row
-row_of m = record {
-  tick = m.tick;
+-- the row of a tick, by its place in the record
+unfoldable pub row_of : ℕ → Moment → Row
+row_of tick m = record {
+  tick = tick;
   drive = m.entry.drive;
   plate = m.entry.shown.position;
   charge = m.entry.shown.load_1;
@@ -37,7 +38,8 @@ row_of m = record {
 
 -- the rows of these ticks
 unfoldable pub rows_of : List Moment → List Row
-rows_of past = map row_of past
+rows_of [] = []
+rows_of (m ∷ past) = row_of (length past) m ∷ rows_of past
 
 -- the trap that a state tells, with the tick
 unfoldable pub trap_in : State → ℕ → Option (Trap × ℕ)
@@ -48,17 +50,17 @@ trap_in (Trapped kind) tick = Some (kind, tick)
 -- the first of these ticks after which level 1 is trapped, with the kind of its trap
 unfoldable pub first_trap : List Moment → Option (Trap × ℕ)
 first_trap [] = None
-first_trap (m ∷ past) = option_or (first_trap past) (trap_in m.world.registers.state m.tick)
+first_trap (m ∷ past) = option_or (first_trap past) (trap_in m.world.registers.state (length past))
 
 -- the rows of a run, newest first, and its trap
-unfoldable pub record_rows : Run → List Row
-record_rows r = rows_of (moments_to r (length r.drive))
+unfoldable pub record_rows : {E : Type 0} → BenchEngine E → Run → List Row
+record_rows b r = rows_of (moments_to b r (length r.drive))
 
-unfoldable pub record_trap : Run → Option (Trap × ℕ)
-record_trap r = first_trap (moments_to r (length r.drive))
+unfoldable pub record_trap : {E : Type 0} → BenchEngine E → Run → Option (Trap × ℕ)
+record_trap b r = first_trap (moments_to b r (length r.drive))
 
 -- what the report says of a run of this name
-unfoldable pub report_of : List ℕ → Run → Summary
-report_of name r =
-    summary_of name (record_rows r) (record_trap r) r.setting.cal.rules.threshold r.setting.cal.rules.torque
-    (reaction_of r.setting.cal.times)
+unfoldable pub report_of : {E : Type 0} → BenchEngine E → List ℕ → Run → Summary
+report_of b name r =
+    summary_of name (record_rows b r) (record_trap b r) r.setting.cal.rules.threshold
+    r.setting.cal.rules.torque (reaction_of r.setting.cal.times)

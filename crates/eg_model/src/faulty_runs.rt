@@ -5,8 +5,8 @@ ghost use Rattle.eg_answer.specs.declared.marks.AnswerMark.TheVariants.{Good, Ba
 ghost use Rattle.eg_answer.specs.declared.marks.Verdict.TheVariants.{Right, Wrong};
 ghost use Rattle.eg_fault.specs.declared.class.Class.TheVariants.{Plate, Skip, Halt, Wild, Path2Closed, PathOpen, Lapse};
 ghost use Rattle.eg_record.specs.declared.watch.Watch.TheVariants as found;
-ghost use Rattle.eg_model.specs.Rows.{report_of, signal_list};
-ghost use Rattle.eg_model.specs.Examples.{idle, full, fault_from, bench_run, pressed_run, offset_run, disturbed_raise_run, flipped_probe_run, reported, moments_in_time, answers_of, verdicts_of, stages_of};
+ghost use Rattle.eg_model.specs.Rows.{signal_list};
+ghost use Rattle.eg_model.specs.Examples.{idle, full, fault_from, bench_run, pressed_run, offset_run, disturbed_raise_run, flipped_probe_run, report_on, reported, moments_in_time, answers_of, verdicts_of, stages_of};
 
 /// Path 2 conducts whatever its latch says, and a path that is open doesn't conduct.
 pub fn path_2_runs()
@@ -24,7 +24,7 @@ pub fn flip_seen_by_level_1()
 /// The first pedal track reads 1000 where the pedal stands at 500: the pair is found at tick 4, and from
 /// tick 5 on the pedal is limited to 0.
 pub fn limited_run()
-    ensures found { report_of (codes "a") pressed_run ≡ reported (Some (found.Pedal, 4)) None None None }
+    ensures found { report_on pressed_run ≡ reported (Some (found.Pedal, 4)) None None None }
     ensures permitted { map (λ m. m.signals.permitted) (moments_in_time pressed_run)
         ≡ replicate 5 1000 ++ replicate 5 200 }
 {}
@@ -35,19 +35,23 @@ pub fn latched_run()
         ≡ replicate 10 true ++ replicate 5 false }
 {}
 
-/// Neither level runs: level 1's outputs stay 0. And a plate that is held stays there.
+/// Neither level runs: level 1's outputs stay 0. And a plate that is held stays there; the charge goes by it
+/// from the next tick on.
 pub fn halted_and_held_runs()
     ensures halted { map (λ m. m.world.throttle)
         (moments_in_time (bench_run full (fault_from 0 Halt) 2)) ≡ 0 ∷ 0 ∷ [] }
     ensures held { map (λ m. m.entry.shown.position)
         (moments_in_time (bench_run idle (fault_from 2 (Plate 300)) 5))
         ≡ 0 ∷ 0 ∷ 300 ∷ 300 ∷ 300 ∷ [] }
+    ensures charge { map (λ m. m.entry.shown.load_1)
+        (moments_in_time (bench_run idle (fault_from 2 (Plate 300)) 5))
+        ≡ 40 ∷ 40 ∷ 40 ∷ 80 ∷ 120 ∷ [] }
 {}
 
 /// A wild monitoring module gives no verdicts, and level 2 cuts all the same; it opens path 2 where its
 /// list says so.
 pub fn wild_run()
-    ensures report { report_of (codes "a") (bench_run full (fault_from 0 (Wild (65535 ∷ []) (false ∷ []))) 20)
+    ensures report { report_on (bench_run full (fault_from 0 (Wild (65535 ∷ []) (false ∷ []))) 20)
         ≡ reported (Some (found.Torque, 9)) (Some 10) None (Some 9) }
     ensures verdicts { verdicts_of (bench_run full (fault_from 0 (Wild (65535 ∷ []) (false ∷ []))) 20) ≡ [] }
     ensures opens { stages_of (bench_run idle (fault_from 3 (Wild (0 ∷ []) (false ∷ true ∷ []))) 6)
@@ -56,7 +60,7 @@ pub fn wild_run()
 
 /// Level 2 misses tick 3: one answer is bad, and those after it are good again.
 pub fn lapsed_run()
-    ensures report { report_of (codes "a") (bench_run idle (fault_from 3 (Lapse (0 ∷ []) 0)) 30)
+    ensures report { report_on (bench_run idle (fault_from 3 (Lapse (0 ∷ []) 0)) 30)
         ≡ reported None None None None }
     ensures answers { answers_of (bench_run idle (fault_from 3 (Lapse (0 ∷ []) 0)) 30)
         ≡ (5, Bad) ∷ (15, Good) ∷ (25, Good) ∷ [] }

@@ -1,14 +1,13 @@
 -- Runs of other images, computed from the definitions.
 use Rattle.std.proofs.Common.{◌≡◌, [], ◌∷◌, ◌++◌, map, replicate, take, drop, Some, None, refl}
-use Rattle.std.specs.Prelude.{codes}
 use Rattle.eg_word.specs.declared.registers.Trap.TheVariants.{Fetch, Store}
-use Rattle.eg_model.specs.Rows.{report_of, signal_list}
-use Rattle.eg_model.specs.Examples.{idle, storing, follow_run, looping_run, bench_run, moments_in_time, reported}
+use Rattle.eg_model.specs.Rows.{signal_list}
+use Rattle.eg_model.specs.Examples.{idle, storing, follow_run, looping_run, bench_run, moments_in_time, report_on, reported}
 use Rattle.eg_model.proofs.WholeModel.{whole_model}
 
 -- ---- traps ----
 
-pub store_is_refused : report_of (codes "a") (bench_run storing None 30)
+pub store_is_refused : report_on (bench_run storing None 30)
     ≡ reported None None (Some (Store, 0)) None
 unfolding whole_model
 store_is_refused = refl
@@ -18,20 +17,20 @@ pub store_changes_nothing : map (λ m. signal_list m.signals) (moments_in_time (
 unfolding whole_model
 store_changes_nothing = refl
 
-pub runs_off_the_end : report_of (codes "a") (bench_run [] None 30)
+pub runs_off_the_end : report_on (bench_run [] None 30)
     ≡ reported None None (Some (Fetch, 1)) None
 unfolding whole_model
 runs_off_the_end = refl
 
 -- ---- a jump to itself ----
 
-pub loops : report_of (codes "a") looping_run ≡ reported None None None None
+pub loops : report_on looping_run ≡ reported None None None None
 unfolding whole_model
 loops = refl
 
 -- ---- the pedal is let go ----
 
-pub followed : report_of (codes "a") follow_run ≡ reported None None None None
+pub followed : report_on follow_run ≡ reported None None None None
 unfolding whole_model
 followed = refl
 

@@ -1,16 +1,14 @@
 -- A run under lapses, computed from the definitions.
 use Rattle.std.proofs.Common.{◌≡◌, true, false, [], ◌∷◌, ◌++◌, map, filter, replicate, Some, None, refl}
-use Rattle.std.specs.Prelude.{codes}
 use Rattle.eg_answer.specs.Times.{runs_to_confirm, periods_to_confirm, worth_of, rounds_to_confirm, lapse_periods, lapse_bound_of}
 use Rattle.eg_answer.specs.declared.marks.Verdict.TheVariants.{Wrong}
 use Rattle.eg_record.specs.declared.watch.Watch.TheVariants.{Answers}
 use Rattle.eg_values.specs.Reference.{reference_parts}
-use Rattle.eg_model.specs.Rows.{report_of}
-use Rattle.eg_model.specs.Examples.{answers_of, verdicts_of, stages_of, moments_in_time, reported}
+use Rattle.eg_model.specs.Examples.{answers_of, verdicts_of, stages_of, moments_in_time, report_on, reported}
 use Rattle.eg_runs.specs.WorkedLapses.{lapsing_run, excesses_of}
 use Rattle.eg_model.proofs.WholeModel.{whole_model}
 
-pub lapsing : report_of (codes "a") lapsing_run ≡ reported (Some (Answers, 29)) (Some 30) None (Some 9)
+pub lapsing : report_on lapsing_run ≡ reported (Some (Answers, 29)) (Some 30) None (Some 9)
 unfolding whole_model
 lapsing = refl
 

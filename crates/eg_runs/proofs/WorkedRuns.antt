@@ -5,20 +5,14 @@ use Rattle.eg_num.specs.Arithmetic.{estimate}
 use Rattle.eg_answer.specs.declared.marks.AnswerMark.TheVariants.{Good}
 use Rattle.eg_answer.specs.declared.marks.Verdict.TheVariants.{Right, Wrong}
 use Rattle.eg_record.specs.declared.watch.Watch.TheVariants.{Torque}
-use Rattle.eg_model.specs.Rows.{report_of}
 use Rattle.std.specs.Fmt.{digits}
 use Rattle.eg_fault.specs.declared.class.Class.TheVariants.{Path1Closed}
 use Rattle.eg_record.specs.Texts.{report_end}
-use Rattle.eg_model.specs.Examples.{idle, full, fault_from, bench_run, moments_in_time, answers_of, verdicts_of, stages_of, reported}
+use Rattle.eg_model.specs.Examples.{idle, full, fault_from, bench_run, moments_in_time, answers_of, verdicts_of, stages_of, report_on, reported}
 use Rattle.eg_model.proofs.WholeModel.{whole_model}
 use Rattle.eg_runs.proofs.WorkedFaults.{path_1_closed}
 
 -- ---- full throttle, without a fault ----
-
-pub full_throttle-charge : map (λ m. m.entry.shown.load_1) (moments_in_time (bench_run full None 10))
-    ≡ 40 ∷ 40 ∷ 80 ∷ 120 ∷ 160 ∷ 200 ∷ 240 ∷ 280 ∷ 320 ∷ 360 ∷ []
-unfolding whole_model
-full_throttle-charge = refl
 
 pub full_throttle-stages : stages_of (bench_run full None 12) ≡ replicate 10 true ++ false ∷ false ∷ []
 unfolding whole_model
@@ -38,7 +32,7 @@ full_throttle-verdicts = refl
 
 -- ---- nothing happens ----
 
-pub idle_run : report_of (codes "a") (bench_run idle None 60) ≡ reported None None None None
+pub idle_run : report_on (bench_run idle None 60) ≡ reported None None None None
 unfolding whole_model
 idle_run = refl
 
@@ -61,12 +55,12 @@ full_throttle-found = refl
 
 -- ---- a campaign of three runs, and its last line ----
 
-full_throttle-60 : report_of (codes "a") (bench_run full None 60)
+full_throttle-60 : report_on (bench_run full None 60)
     ≡ reported (Some (Torque, 9)) (Some 10) None (Some 9)
 unfolding whole_model
 full_throttle-60 = refl
 
-three_runs : map (report_of (codes "a"))
+three_runs : map report_on
     (bench_run idle None 60 ∷ bench_run full None 60 ∷ bench_run full (fault_from 0 Path1Closed) 60 ∷ [])
     ≡ reported None None None None
     ∷ reported (Some (Torque, 9)) (Some 10) None (Some 9)
@@ -81,7 +75,7 @@ three_reports-end : report_end
 unfolding whole_model report_end digits
 three_reports-end = refl
 
-pub three_runs-end : report_end (map (report_of (codes "a"))
+pub three_runs-end : report_end (map report_on
     (bench_run idle None 60 ∷ bench_run full None 60 ∷ bench_run full (fault_from 0 Path1Closed) 60 ∷ []))
     ≡ codes "runs 3; detected 2; off 2\n"
 three_runs-end = ap report_end three_runs ∙ three_reports-end

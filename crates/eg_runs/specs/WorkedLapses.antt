@@ -4,8 +4,7 @@ use Rattle.std.specs.Prelude.{Bool, List, [], ◌∷◌, map}
 use Rattle.eg_fault.specs.declared.class.Class.TheVariants.{Lapse}
 use Rattle.eg_record.specs.Excess.{true_excess}
 use Rattle.eg_model.specs.Bench.{Run}
-use Rattle.eg_model.specs.Rows.{row_of}
-use Rattle.eg_model.specs.Examples.{full, fault_from, bench_run, moments_in_time}
+use Rattle.eg_model.specs.Examples.{full, fault_from, bench_run, rows_in_time}
 
 -- it is left out at the ticks 0 to 8, 10 to 18, and so on
 abbrev pub lapsing_run : Run
@@ -13,4 +12,4 @@ lapsing_run = bench_run full (fault_from 0 (Lapse (0 ∷ 1 ∷ 2 ∷ 3 ∷ 4 ∷
 
 -- the true excess at each tick of a run, in the order of time
 abbrev pub excesses_of : Run → List Bool
-excesses_of r = map (λ m. true_excess r.setting.cal.rules.threshold (row_of m)) (moments_in_time r)
+excesses_of r = map (true_excess r.setting.cal.rules.threshold) (rows_in_time r)

@@ -1,4 +1,4 @@
-use Rattle.eg_model.proofs.WorkedImages.{full_throttle, full_throttle-permitted}
+use Rattle.eg_model.proofs.WorkedImages.{full_throttle, full_throttle-permitted, full_throttle-plate, full_throttle-charge}
 use Rattle.eg_model.proofs.examples.full_run.Goals as goal
 
 pub returns-clause-report : goal.returns-clause-report
@@ -6,3 +6,9 @@ returns-clause-report c = full_throttle
 
 pub returns-clause-permitted : goal.returns-clause-permitted
 returns-clause-permitted c = full_throttle-permitted
+
+pub returns-clause-plate : goal.returns-clause-plate
+returns-clause-plate c = full_throttle-plate
+
+pub returns-clause-charge : goal.returns-clause-charge
+returns-clause-charge c = full_throttle-charge

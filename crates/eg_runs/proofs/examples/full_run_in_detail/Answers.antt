@@ -1,8 +1,5 @@
-use Rattle.eg_runs.proofs.WorkedRuns.{full_throttle-charge, full_throttle-stages, full_throttle-answers, full_throttle-verdicts, full_throttle-found}
+use Rattle.eg_runs.proofs.WorkedRuns.{full_throttle-stages, full_throttle-answers, full_throttle-verdicts, full_throttle-found}
 use Rattle.eg_runs.proofs.examples.full_run_in_detail.Goals as goal
-
-pub returns-clause-charge : goal.returns-clause-charge
-returns-clause-charge c = full_throttle-charge
 
 pub returns-clause-stages : goal.returns-clause-stages
 returns-clause-stages c = full_throttle-stages

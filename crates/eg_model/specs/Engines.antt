@@ -1,0 +1,39 @@
+-- Engines on the bench: what the bench knows of an engine, the gasoline engine, and what an engine brings so
+-- that the laws of records hold of it.
+use Rattle.std.specs.Prelude.{◌≡◌, ℕ, Bool, false, Option}
+use Rattle.eg_plant.specs.PlantParts.{PlantParts, ArePlantParts}
+use Rattle.eg_plant.specs.Engine.{Shown, KeepsLaws}
+use Rattle.eg_plant.specs.Gasoline.{Gasoline, at_rest, gasoline_step, shown_of}
+use Rattle.eg_fault.specs.Classes.{IsHeldWithin}
+
+-- An engine on the bench. What it has come to is its state, of any type E. It needn't show all of it.
+pub record BenchEngine (E : Type 0) : Type 0 where
+  -- the state before the first tick
+  pub rest : PlantParts → E
+  -- the state after one step, by what is commanded to the plate and to the ignition, whether the power stages
+  -- are on, and where the plate is held, if it is
+  pub step : PlantParts → E → (throttle ignition : ℕ) → (on : Bool) → (held : Option ℕ) → E
+  -- what a state shows
+  pub shows : E → Shown
+
+-- the gasoline engine
+unfoldable pub gasoline : BenchEngine Gasoline
+gasoline = record { rest = at_rest; step = gasoline_step; shows = shown_of }
+
+-- What an engine brings, where `Keeps` is what its states keep from step to step, whatever that is.
+pub record KeepsBenchLaws {E : Type 0} (b : BenchEngine E) (Keeps : PlantParts → E → Type 0) : Type 0 where
+  -- the state before the first tick keeps it
+  pub at_first : (plant : PlantParts) → ArePlantParts plant → Keeps plant (b.rest plant)
+  -- and so does the state after each step, where a plate that is held is within its range
+  pub goes_on : (plant : PlantParts) (e : E) → Keeps plant e →
+      (throttle ignition : ℕ) (on : Bool) (held : Option ℕ) → IsHeldWithin held →
+      Keeps plant (b.step plant e throttle ignition on held)
+  -- what such a state shows keeps the laws of engines
+  pub laws : (plant : PlantParts) (e : E) → Keeps plant e → KeepsLaws plant.kt (b.shows e)
+  -- after a step with the stages off there is no torque
+  pub off : (plant : PlantParts) (e : E) → Keeps plant e → (throttle ignition : ℕ) (held : Option ℕ) →
+      (b.shows (b.step plant e throttle ignition false held)).torque ≡ 0
+
+-- the sharp cut asks besides that it shows one load twice
+pub record ShowsOneLoad {E : Type 0} (b : BenchEngine E) : Type 0 where
+  pub loads : (e : E) → (b.shows e).load_2 ≡ (b.shows e).load_1
