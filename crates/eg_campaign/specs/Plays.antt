@@ -2,6 +2,7 @@
 -- what the ticks of runs come to.
 use Rattle.std.specs.Prelude.{ℕ, ◌+◌, ◌%◌, ◌^◌, ◌≤◌, List, map, length, All}
 use Rattle.std.specs.List.{sum}
+use Rattle.eg_guard.specs.declared.regions.TheConstants.{DATA as CODE_END}
 use Rattle.eg_num.specs.Drive.{IsDrive}
 use Rattle.eg_values.specs.Calibration.{CalibrationParts}
 use Rattle.eg_record.specs.declared.summary.Summary.{Summary}
@@ -18,7 +19,7 @@ pub record IsPlayable (input : RunInput) : Type 0 where
   pub some : 1 ≤ length input.drive
   pub most : length input.drive ≤ 20000
   pub drive : All IsDrive input.drive
-  pub image : length input.image ≤ 1024
+  pub image : length input.image ≤ CODE_END
   pub fault : IsNoneOrValid input.plan.fault
 
 -- the run of an input by a calibration
