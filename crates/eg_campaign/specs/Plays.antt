@@ -6,6 +6,7 @@ use Rattle.eg_guard.specs.declared.regions.TheConstants.{DATA as CODE_END}
 use Rattle.eg_num.specs.Drive.{IsDrive}
 use Rattle.eg_values.specs.Calibration.{CalibrationParts}
 use Rattle.eg_record.specs.declared.summary.Summary.{Summary}
+use Rattle.eg_model.specs.Engines.{gasoline}
 use Rattle.eg_model.specs.Bench.{Run}
 use Rattle.eg_model.specs.Rows.{record_rows, report_of}
 use Rattle.eg_fault.specs.Faults.{IsNoneOrValid}
@@ -28,7 +29,7 @@ run_with cal input = run_by cal input.image input.plan.fault input.plan.plan inp
 
 -- what the report says of it
 abbrev pub report_with : CalibrationParts → RunInput → Summary
-report_with cal input = report_of input.plan.name (run_with cal input)
+report_with cal input = report_of gasoline input.plan.name (run_with cal input)
 
 -- ---- what counts the ticks ----
 
@@ -37,7 +38,7 @@ unfoldable pub ticks_of : List Run → ℕ
 ticks_of runs = sum (map (λ r. length r.drive) runs)
 
 unfoldable pub weights_of : List Run → ℕ
-weights_of runs = sum (map (λ r. sum (map weight_of (record_rows r))) runs)
+weights_of runs = sum (map (λ r. sum (map weight_of (record_rows gasoline r))) runs)
 
 -- the count after the ticks of these runs, with the weights of the rows of their records
 abbrev pub count_after : TickCount → List Run → TickCount
