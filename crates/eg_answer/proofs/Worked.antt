@@ -1,16 +1,19 @@
--- Four questions with their results, the folds on the way and the numbers that are expected, the token of a tick,
--- a reaction time and bounds for lapses, computed from the definitions.
-use Rattle.std.proofs.Common.{◌≡◌, ℕ, ◌∷◌, List, [], map, take, reverse, refl, arith}
+-- Four questions with their results, the folds on the way and the numbers that are expected, the counts of level 2's
+-- words and what they feed, the token of a tick, a reaction time and bounds for lapses, computed from the definitions.
+use Rattle.std.proofs.Common.{◌≡◌, ℕ, true, false, ◌∷◌, List, [], map, take, reverse, refl, arith}
 use Rattle.eg_num.specs.Windows.{WeightParts}
 use Rattle.eg_num.specs.Interpolation.{value_at}
+use Rattle.eg_sensor.specs.Readings.{has_bit}
 use Rattle.eg_torque.specs.Permit.{permitted}
 use Rattle.eg_torque.specs.Excess.{is_excess}
 use Rattle.eg_answer.specs.Folds.{mixed, fold_of}
 use Rattle.eg_answer.specs.Formulas.{permitted_torque, estimated_torque, excess_number, disagreeing_pairs}
+use Rattle.eg_answer.specs.Feeds.{pedal_feed, plate_feed, load_feed, speed_feed, torque_feed}
 use Rattle.eg_answer.specs.Modules.{modules_before_react, modules}
 use Rattle.eg_answer.specs.Answers.{pedal_result, permitted_result, estimate_result, excess_result, pairs_result, results_of, expected_of, answer_number}
 use Rattle.eg_answer.specs.Token.{next_token_of, token_after}
 use Rattle.eg_answer.specs.Times.{TimeParts, verdicts_to_confirm, reaction_of, test_ticks_of, runs_to_confirm, periods_to_confirm, worth_of, rounds_to_confirm, lapse_periods, lapse_bound_of, HasLapseBound}
+use Rattle.eg_answer.specs.declared.words.TheConstants.{MIRRORED_WORDS, STORED_WORDS}
 use Rattle.eg_answer.specs.declared.rules.Rules.{Rules}
 use Rattle.eg_answer.specs.declared.rules.TestRow.{TestRow}
 
@@ -111,6 +114,15 @@ number = refl
 tie : excess_result small (row 0 (0 ∷ 0 ∷ []) (0 ∷ 0 ∷ []) (0 ∷ 0 ∷ []) (0 ∷ 0 ∷ []) 0 0 0 1200 1000) ≡ 0
 unfolding answering
 tie = refl
+
+-- the words of level 2, and those with their complements
+counts : MIRRORED_WORDS ∷ STORED_WORDS ∷ [] ≡ 16 ∷ 32 ∷ []
+counts = refl
+
+-- a word of 21 feeds pedal, load and torque: its bits are 1, 4, and 16, which doesn't count
+feeds : map (λ feed. feed 21) (pedal_feed ∷ plate_feed ∷ load_feed ∷ speed_feed ∷ torque_feed ∷ []) ≡ true ∷ false ∷ true ∷ false ∷ true ∷ []
+unfolding has_bit
+feeds = refl
 
 -- the token of a tick, after each number of modules
 tokens : map token_after ([] ∷ (0 ∷ []) ∷ (1 ∷ 0 ∷ []) ∷ reverse modules ∷ []) ≡ 0 ∷ 1 ∷ 3 ∷ 255 ∷ []

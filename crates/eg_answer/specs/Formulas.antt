@@ -6,6 +6,7 @@ use Rattle.eg_torque.specs.Permit.{permitted}
 use Rattle.eg_torque.specs.Excess.{is_excess}
 use Rattle.eg_sensor.specs.Readings.{checked_raise, bit, pair_bits}
 use Rattle.eg_sensor.specs.declared.readings.Readings.{Readings}
+use Rattle.eg_answer.specs.declared.formulas.TheConstants.{EXCESS_BIT}
 use Rattle.eg_answer.specs.declared.rules.Rules.{Rules}
 
 -- the permitted torque of a pedal: the lower of what the two speeds that are read give, or the raise that
@@ -20,9 +21,10 @@ unfoldable pub estimated_torque : Rules → Readings → ℕ
 estimated_torque rules readings =
     estimate rules.kt (max (slice_index readings.load 0) (slice_index readings.load 1))
 
--- 1 where an estimate exceeds the torque that is allowed by more than the threshold, else 0
+-- the bit of the excess where an estimate exceeds the torque that is allowed by more than the threshold,
+-- else 0
 unfoldable pub excess_number : Rules → (allowed estimated : ℕ) → ℕ
-excess_number rules allowed estimated = bit 1 (is_excess estimated allowed rules.threshold)
+excess_number rules allowed estimated = bit EXCESS_BIT (is_excess estimated allowed rules.threshold)
 
 -- the bits of the pairs that disagree
 unfoldable pub disagreeing_pairs : Rules → Readings → ℕ

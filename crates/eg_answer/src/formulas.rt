@@ -6,6 +6,9 @@ use crate::Rules;
 use eg_sensor::{Readings, checked_raise, pair_bits};
 use eg_torque::{actual, excess};
 
+/// The bit of the excess in its word.
+pub const EXCESS_BIT: u16 = 1;
+
 /// The torque that a pedal (per mille) permits at the speeds and the raise that are read, in tenths of Nm
 /// (docs/CONCEPT.md, "Level 2").
 #[inline]
@@ -26,14 +29,14 @@ pub fn estimated_torque(rules: &Rules, read: &Readings) -> u16
     actual(read.load[0].max(read.load[1]), rules.kt)
 }
 
-/// 1 where an estimate exceeds the torque that is allowed by more than the threshold, else 0; both in tenths
-/// of Nm (docs/CONCEPT.md, "Level 2").
+/// The bit of the excess where an estimate exceeds the torque that is allowed by more than the threshold,
+/// else 0; both in tenths of Nm (docs/CONCEPT.md, "Level 2").
 #[inline]
 #[tactic(auto, unfolding(crate::specs::Formulas::excess_number))]
 pub fn excess_number(rules: &Rules, allowed: u16, estimate: u16) -> u16
     ensures { result ≡ excess_number rules.now allowed estimate }
 {
-    u16::from(excess(estimate, allowed, rules.threshold))
+    EXCESS_BIT * u16::from(excess(estimate, allowed, rules.threshold))
 }
 
 /// The bits of the pairs that disagree (docs/CONCEPT.md, "Level 2").

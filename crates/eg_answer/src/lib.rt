@@ -11,12 +11,16 @@ mod questions;
 mod rules;
 mod times;
 mod token;
+mod words;
 
 pub use answers::{expected, fold, folds_tell_results_apart, mix, results};
-pub use formulas::{disagreeing_pairs, estimated_torque, excess_number, permitted_torque};
+pub use formulas::{
+    EXCESS_BIT, disagreeing_pairs, estimated_torque, excess_number, permitted_torque,
+};
 pub use marks::{AnswerMark, Verdict};
 pub use modules::{ACTUAL, CHECK, DEBOUNCE, EXCESS, MODULES, PAIRS, PEDAL, PERMITTED, REACT};
 pub use questions::{Question, Questions};
 pub use rules::{Rules, TestRow};
 pub use times::{Times, lapse_bound, reaction, verdicts_to_confirm};
 pub use token::{next_token, token_counts_modules};
+pub use words::{MIRRORED_WORDS, STORED_WORDS};

@@ -29,7 +29,7 @@ pub record StoreState : Type 0 where
 abbrev pub read_fails : StoreState → List ℕ → Bool
 read_fails store name = is_listed store.failing store.reads || is_none (get store.files name)
 
--- the store after a read of that name: one read more, and where it failed one fault more
+-- the store after a read of that name: one read more, and where it failed the count of faults rises
 abbrev pub after_read : StoreState → List ℕ → StoreState
 after_read store name = record store {
   reads = next_count store.reads;
@@ -41,7 +41,7 @@ pub record SureStoreState : Type 0 where
   pub files : Files
   pub faults : ℕ
 
--- the store after a read of that name: where there is no such file, one fault more
+-- the store after a read of that name: where there is no such file, the count of faults rises
 abbrev pub after_sure_read : SureStoreState → List ℕ → SureStoreState
 after_sure_read store name = record store {
   faults = if is_none (get store.files name) then next_count store.faults else store.faults;

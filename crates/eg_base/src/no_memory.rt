@@ -1,4 +1,4 @@
-// The refusal of a call that only want of memory can stop.
+// The refusal of a call that ends early only where memory runs out.
 use std::alloc::{AllocError, AllocFailed};
 
 /// Memory ran out. This is the only refusal of a call that answers it.

@@ -5,7 +5,7 @@ ghost use Rattle.eg_toml.specs.Documents.{document_of};
 ghost use Rattle.eg_toml.specs.Refusals.{IsRead, Checks};
 ghost use Rattle.eg_cal.specs.declared.key.CalFault.TheVariants.{Memory};
 ghost use Rattle.eg_cal.specs.Calibration.{calibration_of, refusal_of, parts_of, parts_fault, rising_fault, window_fault, answer_fault};
-ghost use Rattle.eg_values.specs.Calibration.{CalibrationParts};
+ghost use Rattle.eg_values.specs.Calibration.{made_of};
 
 use crate::document::Document;
 use crate::entries::{AnswerTimes, Entries, entries_in};
@@ -67,9 +67,7 @@ fn answered(
 ) -> Result<Calibration, CalFault>
     requires kt { rules.kt ≡ plant.kt }
     requires count { 2 ≤ length questions }
-    ensures { let parts : CalibrationParts =
-        record { rules = rules; plant = plant; times = times; questions = questions } in
-        Checks (answer_fault rules questions) parts result }
+    ensures { Checks (answer_fault rules questions) (made_of rules plant times questions) result }
 {
     match Calibration::of_parts(rules, plant, times, questions) {
         Ok(calibration) => Ok(calibration),

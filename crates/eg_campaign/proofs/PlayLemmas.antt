@@ -11,6 +11,7 @@ use Rattle.eg_num.specs.Drive.{DriveRow}
 use Rattle.eg_fault.specs.declared.class.Fault.{Fault}
 use Rattle.eg_values.specs.Calibration.{CalibrationParts}
 use Rattle.eg_record.specs.declared.row.Row.{Row}
+use Rattle.eg_model.specs.Engines.{gasoline}
 use Rattle.eg_model.specs.Bench.{Run}
 use Rattle.eg_model.specs.Rows.{record_rows}
 use Rattle.eg_tick.specs.Weights.{TickCount, weight_of}
@@ -44,8 +45,8 @@ ticks-append xs ys = ap sum (map-append (λ (r : Run). length r.drive) xs ys)
 
 weights-append : (xs ys : List Run) → weights_of (xs ++ ys) ≡ weights_of xs + weights_of ys
 unfolding weights_of
-weights-append xs ys = ap sum (map-append (λ (r : Run). sum (map weight_of (record_rows r))) xs ys)
-    ∙ sum-append (map (λ (r : Run). sum (map weight_of (record_rows r))) xs) (map (λ (r : Run). sum (map weight_of (record_rows r))) ys)
+weights-append xs ys = ap sum (map-append (λ (r : Run). sum (map weight_of (record_rows gasoline r))) xs ys)
+    ∙ sum-append (map (λ (r : Run). sum (map weight_of (record_rows gasoline r))) xs) (map (λ (r : Run). sum (map weight_of (record_rows gasoline r))) ys)
 
 zero_plus : (n : ℕ) → 0 + n ≡ n
 zero_plus n = omega arith
@@ -54,20 +55,20 @@ pub ticks-one : (r : Run) → ticks_of (r ∷ []) ≡ length r.drive
 unfolding ticks_of
 ticks-one r = zero_plus (length r.drive)
 
-weights-one : (r : Run) → weights_of (r ∷ []) ≡ sum (map weight_of (record_rows r))
+weights-one : (r : Run) → weights_of (r ∷ []) ≡ sum (map weight_of (record_rows gasoline r))
 unfolding weights_of
-weights-one r = zero_plus (sum (map weight_of (record_rows r)))
+weights-one r = zero_plus (sum (map weight_of (record_rows gasoline r)))
 
 counts : ℕ → ℕ → TickCount
 counts n w = record { count = n; weights = w }
 
 -- what a run counts by the rows of its record
-pub counted_one : (was is : TickCount) (r : Run) (rows : List Row) → rows ≡ reverse (record_rows r) →
+pub counted_one : (was is : TickCount) (r : Run) (rows : List Row) → rows ≡ reverse (record_rows gasoline r) →
     is ≡ record { count = (was.count + length r.drive) % 2 ^ 64; weights = (was.weights + sum (map weight_of rows)) % 2 ^ 64 } →
     is ≡ count_after was (r ∷ [])
 unfolding counts
 counted_one was is r rows are e = e ∙ ap₂ (λ n w. counts ((was.count + n) % 2 ^ 64) ((was.weights + w) % 2 ^ 64))
-    (sym (ticks-one r)) (ap (λ l. sum (map weight_of l)) are ∙ sum-reverse weight_of (record_rows r) ∙ sym (weights-one r))
+    (sym (ticks-one r)) (ap (λ l. sum (map weight_of l)) are ∙ sum-reverse weight_of (record_rows gasoline r) ∙ sym (weights-one r))
 
 -- before the first run
 pub counted-none : (was : TickCount) → was.count < 2 ^ 64 → was.weights < 2 ^ 64 → was ≡ count_after was []

@@ -2,9 +2,11 @@
 -- what the ticks of runs come to.
 use Rattle.std.specs.Prelude.{ℕ, ◌+◌, ◌%◌, ◌^◌, ◌≤◌, List, map, length, All}
 use Rattle.std.specs.List.{sum}
+use Rattle.eg_guard.specs.declared.regions.TheConstants.{DATA as CODE_END}
 use Rattle.eg_num.specs.Drive.{IsDrive}
 use Rattle.eg_values.specs.Calibration.{CalibrationParts}
 use Rattle.eg_record.specs.declared.summary.Summary.{Summary}
+use Rattle.eg_model.specs.Engines.{gasoline}
 use Rattle.eg_model.specs.Bench.{Run}
 use Rattle.eg_model.specs.Rows.{record_rows, report_of}
 use Rattle.eg_fault.specs.Faults.{IsNoneOrValid}
@@ -18,7 +20,7 @@ pub record IsPlayable (input : RunInput) : Type 0 where
   pub some : 1 ≤ length input.drive
   pub most : length input.drive ≤ 20000
   pub drive : All IsDrive input.drive
-  pub image : length input.image ≤ 1024
+  pub image : length input.image ≤ CODE_END
   pub fault : IsNoneOrValid input.plan.fault
 
 -- the run of an input by a calibration
@@ -27,7 +29,7 @@ run_with cal input = run_by cal input.image input.plan.fault input.plan.plan inp
 
 -- what the report says of it
 abbrev pub report_with : CalibrationParts → RunInput → Summary
-report_with cal input = report_of input.plan.name (run_with cal input)
+report_with cal input = report_of gasoline input.plan.name (run_with cal input)
 
 -- ---- what counts the ticks ----
 
@@ -36,7 +38,7 @@ unfoldable pub ticks_of : List Run → ℕ
 ticks_of runs = sum (map (λ r. length r.drive) runs)
 
 unfoldable pub weights_of : List Run → ℕ
-weights_of runs = sum (map (λ r. sum (map weight_of (record_rows r))) runs)
+weights_of runs = sum (map (λ r. sum (map weight_of (record_rows gasoline r))) runs)
 
 -- the count after the ticks of these runs, with the weights of the rows of their records
 abbrev pub count_after : TickCount → List Run → TickCount

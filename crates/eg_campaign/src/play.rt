@@ -1,5 +1,6 @@
 // The runs of a campaign, played one after another.
 ghost use Rattle.std.specs.Prelude.{◌≡◌, ℕ, ◌+◌, ◌%◌, ◌^◌, ◌≤◌, All, [], ◌∷◌, map, reverse, length, IfOk, OnOk, OnErr};
+ghost use Rattle.eg_model.specs.Engines.{gasoline};
 ghost use Rattle.eg_model.specs.Rows.{record_rows, record_trap};
 ghost use Rattle.eg_campaign.specs.Plays.{IsPlayable, run_with, report_with, ticks_of, count_after};
 
@@ -76,8 +77,9 @@ pub fn record_one(
 ) -> Result<RunRecord, NoMemory>
     requires { IsPlayable input.now }
     ensures rows { IfOk result (λ made.
-        made.rows ≡ reverse (record_rows (run_with calibration.now input.now))) }
-    ensures trap { IfOk result (λ made. made.trap ≡ record_trap (run_with calibration.now input.now)) }
+        made.rows ≡ reverse (record_rows gasoline (run_with calibration.now input.now))) }
+    ensures trap { IfOk result (λ made.
+        made.trap ≡ record_trap gasoline (run_with calibration.now input.now)) }
     ensures counted { OnOk result
         (steps.new ≡ count_after steps.old (run_with calibration.now input.now ∷ [])) }
     ensures count { OnErr result ((n : ℕ) × (n ≤ length input.now.drive)
@@ -96,8 +98,8 @@ fn summary_of(
     input: &RunInput,
     made: &RunRecord,
 ) -> Result<Summary, NoMemory>
-    requires rows { made.now.rows ≡ reverse (record_rows (run_with calibration.now input.now)) }
-    requires trap { made.now.trap ≡ record_trap (run_with calibration.now input.now) }
+    requires rows { made.now.rows ≡ reverse (record_rows gasoline (run_with calibration.now input.now)) }
+    requires trap { made.now.trap ≡ record_trap gasoline (run_with calibration.now input.now) }
     ensures { IfOk result (λ summary. summary ≡ report_with calibration.now input.now) }
 {
     let (name, rows) = (input.plan.name.as_str(), made.rows.as_slice());

@@ -7,6 +7,7 @@ use Rattle.std.proofs.lemmas.List.Elements.{All-nil, All-cons, All-append, All-r
 use Rattle.eg_num.specs.Drive.{IsDrive}
 use Rattle.eg_sensor.specs.declared.tracks.TheConstants.{TRACKS}
 use Rattle.eg_answer.specs.declared.modules.TheConstants.{PAIRS, MODULES}
+use Rattle.eg_answer.specs.declared.words.TheConstants.{STORED_WORDS}
 use Rattle.eg_fault.specs.Faults.{AreFew, IsMask, IsValid, IsValidClass}
 use Rattle.eg_fault.specs.declared.class.Class.TheVariants.{Script, Offset, Bus, Plate, Skip, Disturb, Flip, Halt, Timing, Wild, Path1Closed, Path2Closed, PathOpen, Lapse}
 use Rattle.eg_fault.specs.declared.class.Fault.{Fault}
@@ -147,7 +148,7 @@ disturb-valid : (x : ℕ) → IsValidClass (Disturb (one_of PAIRS x) (drawn_mask
 unfolding IsValidClass
 disturb-valid x = (one_of-least PAIRS x, one_of-most PAIRS x (lit< tt), is_mask (next x))
 
-flip-valid : (x : ℕ) → IsValidClass (Flip (draw x % 32) (drawn_mask (next x)))
+flip-valid : (x : ℕ) → IsValidClass (Flip (draw x % STORED_WORDS) (drawn_mask (next x)))
 unfolding IsValidClass
 flip-valid x = (omega arith, is_mask (next x))
 

@@ -5,6 +5,7 @@ use Rattle.eg_num.specs.Drive.{DriveRow, driven, IsDrive}
 use Rattle.eg_sensor.specs.declared.tracks.TheConstants.{TRACKS}
 use Rattle.eg_word.specs.declared.images.TheConstants.{IDLE, FULL}
 use Rattle.eg_answer.specs.declared.modules.TheConstants.{PAIRS, MODULES}
+use Rattle.eg_answer.specs.declared.words.TheConstants.{STORED_WORDS}
 use Rattle.eg_fault.specs.Faults.{IsValid}
 use Rattle.eg_fault.specs.declared.class.Class.{Class}
 use Rattle.eg_fault.specs.declared.class.Class.TheVariants.{Script, Offset, Bus, Plate, Skip, Disturb, Flip, Halt, Timing, Wild, Path1Closed, Path2Closed, PathOpen, Lapse}
@@ -71,7 +72,7 @@ class_of class x =
     else if class == 3 then Plate (draw x % 1001)
     else if class == 4 then Skip (draw x % MODULES)
     else if class == 5 then Disturb (one_of PAIRS x) (drawn_mask (next x))
-    else if class == 6 then Flip (draw x % 32) (drawn_mask (next x))
+    else if class == 6 then Flip (draw x % STORED_WORDS) (drawn_mask (next x))
     else if class == 7 then Halt
     else if class == 8 then Timing (draw x % 10)
     else if class == 9 then Wild (draws 2 x) (false ∷ [])

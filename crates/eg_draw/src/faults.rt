@@ -2,12 +2,13 @@
 ghost use Rattle.std.specs.Prelude.{◌≡◌, ◌≤◌, ◌<◌, ◌%◌, pos, false, [], ◌∷◌, length};
 ghost use Rattle.eg_sensor.specs.declared.tracks.TheConstants.{TRACKS};
 ghost use Rattle.eg_answer.specs.declared.modules.TheConstants.{PAIRS};
+ghost use Rattle.eg_answer.specs.declared.words.TheConstants.{STORED_WORDS};
 ghost use Rattle.eg_fault.specs.declared.class.Class.TheVariants as classes;
 ghost use Rattle.eg_draw.specs.Draws.{next, draw, after, draws};
 ghost use Rattle.eg_draw.specs.Runs.{one_of, drawn_mask, four_values, first_ticks, class_of, class_draws, fault_of, fault_draws};
 
 use crate::Generator;
-use eg_answer::{MODULES, PAIRS};
+use eg_answer::{MODULES, PAIRS, STORED_WORDS};
 use eg_fault::{Class, Fault, Opens, PATH_2, Script};
 use eg_sensor::TRACKS;
 
@@ -134,10 +135,10 @@ impl Generator {
     /// Draws a word of level 2, and the bits of it that are flipped.
     #[tactic(auto, using(crate::proofs::DrawLemmas::single))]
     fn flip(&mut self) -> Class
-        ensures class { result ≡ classes.Flip (draw self.old % 32) (drawn_mask (next self.old)) }
+        ensures class { result ≡ classes.Flip (draw self.old % STORED_WORDS) (drawn_mask (next self.old)) }
         ensures state { self.new ≡ after 2 self.old }
     {
-        let word = self.below(32) as u8;
+        let word = self.below(u16::from(STORED_WORDS)) as u8;
         let mask = self.mask();
         Class::Flip { word, mask }
     }

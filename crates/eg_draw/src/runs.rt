@@ -20,8 +20,8 @@ pub struct DrawnRun {
 }
 
 impl Generator {
-    /// Draws the next run (docs/CONCEPT.md, "The generator of `soak`"). After want of memory nothing is said
-    /// of the state that it goes on from.
+    /// Draws the next run (docs/CONCEPT.md, "The generator of `soak`"). Where memory runs out nothing is
+    /// said of the state that it goes on from.
     #[tactic(auto, using(crate::proofs::ProperLemmas::proper_of))]
     pub fn run(&mut self, alloc: Global) -> Result<DrawnRun, NoMemory>
         ensures run { IfOk result (λ run. run ≡ drawn_run self.old) }

@@ -3,6 +3,7 @@
 use Rattle.std.specs.Prelude.{ℕ, ◌≡◌, ◌≢◌, ◌==◌, ◌≤◌, ◌<◌, Bool, true, false, is_some, Option, Some, None, IfSome}
 use Rattle.eg_answer.specs.Modules.{AtMostOneIsDisturbed}
 use Rattle.eg_answer.specs.declared.modules.TheConstants.{CHECK, MODULES}
+use Rattle.eg_answer.specs.declared.words.TheConstants.{STORED_WORDS}
 use Rattle.eg_fault.specs.Effects.{Effects}
 use Rattle.eg_fault.specs.Faults.{effects, IsValid, IsNoneOrValid}
 use Rattle.eg_fault.specs.Running.{LeavesOut, RunAlike, may_change_levels}
@@ -37,7 +38,7 @@ PlatesAreHeldWithin =
 
 -- a word of level 2, and at least one of its bits
 abbrev pub IsFlip : ℕ × ℕ → Type 0
-IsFlip flipped = (flipped.0 < 32) × (1 ≤ flipped.1)
+IsFlip flipped = (flipped.0 < STORED_WORDS) × (1 ≤ flipped.1)
 
 -- so it is at each tick, without a fault and under each valid one
 abbrev pub FlipsAreInWords : Type 0

@@ -5,6 +5,7 @@ use Rattle.std.specs.List.{list_any}
 use Rattle.std.specs.List.Sorted.{IsStrictlyIncreasing}
 use Rattle.eg_sensor.specs.declared.tracks.TheConstants.{TRACKS}
 use Rattle.eg_answer.specs.declared.modules.TheConstants.{PEDAL, PAIRS, MODULES}
+use Rattle.eg_answer.specs.declared.words.TheConstants.{STORED_WORDS}
 use Rattle.eg_fault.specs.Effects.{Effects, no_effects}
 use Rattle.eg_fault.specs.declared.class.Class.{Class}
 use Rattle.eg_fault.specs.declared.class.Class.TheVariants.{Script, Offset, Bus, Plate, Skip, Disturb, Flip, Halt, Timing, Wild, Path1Closed, Path2Closed, PathOpen, Lapse}
@@ -82,7 +83,7 @@ IsValidClass (Bus mask) = IsMask mask
 IsValidClass (Plate at) = at ≤ 1000
 IsValidClass (Skip index) = index < MODULES
 IsValidClass (Disturb index mask) = (PEDAL ≤ index) × (index ≤ PAIRS) × IsMask mask
-IsValidClass (Flip word mask) = (word < 32) × IsMask mask
+IsValidClass (Flip word mask) = (word < STORED_WORDS) × IsMask mask
 IsValidClass Halt = Unit {0}
 IsValidClass (Timing offset) = offset ≤ 99
 IsValidClass (Wild questions opens) =

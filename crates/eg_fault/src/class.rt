@@ -4,7 +4,7 @@ ghost use Rattle.std.specs.List.Sorted.{IsStrictlyIncreasing};
 ghost use Rattle.eg_fault.specs.Faults.{AreFew, IsValid, IsValidClass, IsOffset};
 
 use crate::{Opens, PATH_1, PATH_2, Script};
-use eg_answer::{MODULES, PAIRS, PEDAL};
+use eg_answer::{MODULES, PAIRS, PEDAL, STORED_WORDS};
 use eg_sensor::TRACKS;
 
 /// A fault outside level 1 (docs/CONCEPT.md, "Faults"): from the tick of its onset on it does what its class
@@ -126,7 +126,7 @@ impl Class {
             Class::Plate { at } => *at <= 1000,
             Class::Skip { module } => *module < MODULES,
             Class::Disturb { module, mask } => PEDAL <= *module && *module <= PAIRS && *mask != 0,
-            Class::Flip { word, mask } => *word < 32 && *mask != 0,
+            Class::Flip { word, mask } => *word < STORED_WORDS && *mask != 0,
             Class::Timing { offset } => *offset <= 99,
             Class::PathOpen { path } => PATH_1 <= *path && *path <= PATH_2,
             Class::Wild { questions, opens } => is_wild(questions, opens),

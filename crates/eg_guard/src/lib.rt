@@ -2,7 +2,7 @@
 //!
 //! Level 1 is code that nobody trusts. What it can reach is decided here, by who asks and by the address
 //! alone: each load and each store of the unit goes through `Guarded`. `FlatMemory` is one array of words;
-//! `StingyMemory` is for tests of what comes of want of memory.
+//! `StingyMemory` is for tests of what comes where memory runs out.
 #![tactic(auto)]
 
 mod flat_memory;
@@ -13,7 +13,8 @@ mod stingy_memory;
 pub use flat_memory::FlatMemory;
 pub use guarded::{Guarded, Refused, StoreRefusal};
 pub use regions::{
-    Allowed, DATA, IGNITION, IN_PORTS, LAST_IN_PORT, LAST_PROTECTED, LAST_RESULT, LINK, PROTECTED,
-    RESULTS, Region, THROTTLE, WORDS, Who, access, map_in_numbers, region_of,
+    Allowed, DATA, IGNITION, IN_PORT_COUNT, IN_PORTS, LAST_IN_PORT, LAST_PROTECTED, LAST_RESULT,
+    LINK, PROTECTED, RESULT_COUNT, RESULTS, Region, THROTTLE, WORDS, Who, access, map_in_numbers,
+    region_of,
 };
 pub use stingy_memory::StingyMemory;

@@ -8,11 +8,14 @@ pub const WORDS: u16 = 4096;
 /// The first word of level 1's own data. The code stands before it, from 0 on.
 pub const DATA: u16 = 1024;
 
-/// The first of the ten input ports.
+/// The first of the input ports.
 pub const IN_PORTS: u16 = 2048;
 
 /// The last of them.
 pub const LAST_IN_PORT: u16 = 2057;
+
+/// How many they are.
+pub const IN_PORT_COUNT: u16 = LAST_IN_PORT - IN_PORTS + 1;
 
 /// The first output port: the command to the throttle plate.
 pub const THROTTLE: u16 = 2064;
@@ -20,11 +23,14 @@ pub const THROTTLE: u16 = 2064;
 /// The second output port: the command to the ignition.
 pub const IGNITION: u16 = 2065;
 
-/// The first of the five results, which are the signals of level 2.
+/// The first of the results, which are the signals of level 2.
 pub const RESULTS: u16 = 2080;
 
 /// The last of them.
 pub const LAST_RESULT: u16 = 2084;
+
+/// How many they are.
+pub const RESULT_COUNT: u16 = LAST_RESULT - RESULTS + 1;
 
 /// The first protected word.
 pub const PROTECTED: u16 = 2096;
@@ -161,7 +167,8 @@ pub fn access(who: Who, address: u16) -> Allowed
 }
 
 /// Does nothing when it runs. Its contract is the memory map in numbers (docs/FORMATS.md, "Memory map"): the
-/// first and the last address of each region, and those next to them that have no word.
+/// first and the last address of each region, those next to them that have no word, and how many words, input
+/// ports and results there are.
 #[tactic(auto, unfolding(crate::specs::Regions::region_of))]
 pub fn map_in_numbers()
     ensures regions { map Regions.region_of
@@ -172,5 +179,5 @@ pub fn map_in_numbers()
     ensures gaps { map Regions.region_of
         (2058 ∷ 2063 ∷ 2066 ∷ 2079 ∷ 2085 ∷ 2095 ∷ 2123 ∷ 2127 ∷ 2129 ∷ 4096 ∷ [])
         ≡ replicate 10 Region.None }
-    ensures words { WORDS ≡ 4096 }
+    ensures counts { WORDS ∷ IN_PORT_COUNT ∷ RESULT_COUNT ∷ [] ≡ 4096 ∷ 10 ∷ 5 ∷ [] }
 {}

@@ -1,4 +1,4 @@
-// A guarded memory that refuses one store for want of memory.
+// A guarded memory that refuses one store, as if memory had run out.
 ghost use Rattle.std.specs.Prelude.{◌≡◌, ◌↔◌, replicate, slice_set, Some, false, IsTrue, IsFalse, OnOk, OnErr, IsErrOf, if◌then◌else◌};
 ghost use Rattle.eg_guard.specs.declared.guarded.StoreRefusal.TheVariants.{Refused as StoreRefused, Memory};
 ghost use Rattle.eg_guard.specs.Memory.{ShownMemory, AreWords};
@@ -8,8 +8,8 @@ ghost use Rattle.eg_guard.specs.Stingy.{StingyState, refuses_next, left_after};
 use crate::{FlatMemory, Guarded, Refused, StoreRefusal, WORDS, Who, access};
 use std::marker::Model;
 
-/// A memory as `FlatMemory`, but one of its stores answers Memory. It isn't sure. For tests of what comes of
-/// want of memory.
+/// A memory as `FlatMemory`, but one of its stores answers Memory. It isn't sure. For tests of what comes
+/// where memory runs out.
 ///
 /// Contracts see a `StingyState`: the words, and how many stores are still done before the one that is
 /// refused.

@@ -109,7 +109,7 @@ run-done done budget m now old new run sure = record {
   trapped_words = run.trapped_words;
 }
 
--- a slice that ended for want of memory, over a memory that isn't sure
+-- a slice that ended since memory ran out, over a memory that isn't sure
 run-failed : {T E : Type 0} (result : Result T E) (count budget : ℕ) (m now : Registers) (old new : ShownMemory) → IsErr result
     → HasRun count m old.words now new.words → count < budget → new.sure ≡ old.sure → ¬ IsTrue new.sure → IsSlice budget m now old new result
 run-failed (Ok x) count budget m now old new failed run early sure unsure = absurd (let clash : false ≡ true = failed in cc)

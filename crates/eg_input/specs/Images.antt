@@ -12,6 +12,7 @@ use Rattle.std.specs.declared.alloc.Global.{Global}
 use Rattle.hex.specs.Hex.{decode_sized, hex_digit_value}
 use Rattle.eg_input.specs.declared.fault.ImageFault.{ImageFault}
 use Rattle.eg_input.specs.declared.fault.ImageFault.TheVariants as fault
+use Rattle.eg_input.specs.declared.image.TheConstants.{MOST_WORDS}
 
 -- the bytes of a line, its line feed with them
 abbrev pub Line : Type 0
@@ -49,7 +50,7 @@ words_of most lines =
 
 -- what a file of up to 1,024 words gives
 abbrev pub image_words : List ℕ → Result (List ℕ) ImageFault
-image_words file = words_of 1024 (lines_of file)
+image_words file = words_of MOST_WORDS (lines_of file)
 
 -- what was read is what the file gives, unless memory ran out
 abbrev pub IsImageRead : Result (List ℕ) ImageFault → Result (Vec ℕ Global) ImageFault → Type 0
@@ -74,7 +75,7 @@ WritesSome line = (word : ℕ) × WritesWord line word
 pub record IsImageOf (file words : List ℕ) : Type 0 where
   pub lines : List Line
   pub parts : file ≡ concat lines
-  pub most : length lines ≤ 1024
+  pub most : length lines ≤ MOST_WORDS
   pub written : AllZip WritesWord lines words
 
 -- The file begins with lines that each write a word, and goes on with something that begins with no such
@@ -87,7 +88,7 @@ pub record HasBadLineAt (file : List ℕ) (place : ℕ) : Type 0 where
   pub more : rest ≢ []
   pub bad : (line : Line) (after : List ℕ) → rest ≡ line ++ after → WritesSome line → ⊥
   pub at : place ≡ length good + 1
-  pub within : place ≤ 1024
+  pub within : place ≤ MOST_WORDS
 
 -- the file begins with 1,024 lines that each write a word, and goes on, with whatever it may be
 pub record HasTooManyLines (file : List ℕ) : Type 0 where
@@ -95,5 +96,5 @@ pub record HasTooManyLines (file : List ℕ) : Type 0 where
   pub rest : List ℕ
   pub parts : file ≡ concat good ++ rest
   pub before : All WritesSome good
-  pub count : length good ≡ 1024
+  pub count : length good ≡ MOST_WORDS
   pub more : rest ≢ []

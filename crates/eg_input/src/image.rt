@@ -3,19 +3,20 @@ ghost use Rattle.std.specs.Prelude.{◌≡◌, ◌≢◌, ◌↔◌, ◌≤◌, 
 ghost use Rattle.eg_input.specs.Images.{IsImageRead, image_words, word_of};
 ghost use Rattle.eg_input.specs.Images.{IsImageOf, HasBadLineAt, HasTooManyLines};
 ghost use Rattle.eg_input.specs.declared.fault.ImageFault.TheVariants as fault;
+ghost use Rattle.eg_input.specs.declared.image.TheConstants.{MOST_WORDS};
 
 use crate::ImageFault;
 use hex::FromHex;
 use std::alloc::Global;
 
 /// How many words an image may have.
-const MOST_WORDS: usize = 1024;
+pub const MOST_WORDS: usize = 1024;
 
 /// The words of an image (docs/FORMATS.md, "Images"): a file of 0 to 1,024 lines, each of four hexadecimal
 /// digits. The first other line gives Line with its place; what comes after 1,024 good lines gives Long.
 pub fn read_image(alloc: Global, bytes: &[u8]) -> Result<Vec<u16>, ImageFault>
     ensures words { IsImageRead (image_words bytes.now) result }
-    ensures limits { IfOk result (λ words. length words.items ≤ 1024) }
+    ensures limits { IfOk result (λ words. length words.items ≤ MOST_WORDS) }
 {
     let mut words = Vec::new(alloc);
     for line in bytes.split_inclusive(|byte| *byte == b'\n') {
@@ -43,11 +44,13 @@ fn word_of(line: &[u8]) -> Option<u16>
 }
 
 /// What `image_words` says of an image (docs/FORMATS.md, "Images"): it gives the words exactly where the file
-/// is the lines that write them, and each fault exactly where the file has it.
+/// is the lines that write them, and each fault exactly where the file has it. An image has at most 1,024
+/// words.
 pub fn images_are_their_lines()
     ensures words { (file : List ℕ) (words : List ℕ) → (image_words file ≡ Ok words) ↔ IsImageOf file words }
     ensures line { (file : List ℕ) (place : ℕ) →
         (image_words file ≡ Err (fault.Line place)) ↔ HasBadLineAt file place }
     ensures long { (file : List ℕ) → (image_words file ≡ Err fault.Long) ↔ HasTooManyLines file }
     ensures memory { (file : List ℕ) → image_words file ≢ Err fault.Memory }
+    ensures most { MOST_WORDS ≡ 1024 }
 {}

@@ -12,5 +12,5 @@ mod trace;
 
 pub use decimal::decimal_in;
 pub use fault::{ImageFault, TraceFault};
-pub use image::{images_are_their_lines, read_image};
+pub use image::{MOST_WORDS, images_are_their_lines, read_image};
 pub use trace::{check_files_are_their_rows, read_check, read_trace, traces_are_their_rows};

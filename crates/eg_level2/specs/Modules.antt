@@ -4,13 +4,13 @@ use Rattle.std.specs.Prelude.{ℕ, ◌+◌, ◌*◌, ◌%◌, Bool, true, false,
 use Rattle.eg_num.specs.Windows.{WeightParts}
 use Rattle.eg_num.specs.Counting.{fed}
 use Rattle.eg_num.specs.declared.watches.Watches.{Watches}
-use Rattle.eg_sensor.specs.Readings.{used_pedal, has_bit}
-use Rattle.eg_sensor.specs.declared.pairs.TheConstants.{PEDAL_PAIR, PLATE_PAIR, LOAD_PAIR, SPEED_PAIR}
+use Rattle.eg_sensor.specs.Readings.{used_pedal}
 use Rattle.eg_sensor.specs.declared.readings.Readings.{Readings}
 use Rattle.eg_answer.specs.declared.modules.TheConstants.{CHECK, PEDAL, PERMITTED, ACTUAL, EXCESS, PAIRS, DEBOUNCE, REACT}
 use Rattle.eg_answer.specs.declared.rules.Rules.{Rules}
 use Rattle.eg_answer.specs.declared.rules.TestRow.{TestRow}
 use Rattle.eg_answer.specs.Answers.{pedal_result, permitted_result, estimate_result, excess_result, pairs_result}
+use Rattle.eg_answer.specs.Feeds.{pedal_feed, plate_feed, load_feed, speed_feed, torque_feed}
 use Rattle.eg_answer.specs.Folds.{mixed}
 use Rattle.eg_answer.specs.Formulas.{permitted_torque, estimated_torque, excess_number, disagreeing_pairs}
 use Rattle.eg_answer.specs.Token.{next_token_of}
@@ -110,22 +110,21 @@ pairs_step rules readings row disturbance words = record words {
 
 -- ---- module 6, debounce ----
 
--- What is fed: the bits of the four pairs for pedal, plate, load and speed, and the lowest bit of the excess
--- for the torque. Other bits don't count.
+-- what each of the five debouncers is fed with, of the words
 unfoldable pub pedal_bit : Words → Bool
-pedal_bit words = has_bit PEDAL_PAIR words.pairs
+pedal_bit words = pedal_feed words.pairs
 
 unfoldable pub plate_bit : Words → Bool
-plate_bit words = has_bit PLATE_PAIR words.pairs
+plate_bit words = plate_feed words.pairs
 
 unfoldable pub load_bit : Words → Bool
-load_bit words = has_bit LOAD_PAIR words.pairs
+load_bit words = load_feed words.pairs
 
 unfoldable pub speed_bit : Words → Bool
-speed_bit words = has_bit SPEED_PAIR words.pairs
+speed_bit words = speed_feed words.pairs
 
 unfoldable pub torque_bit : Words → Bool
-torque_bit words = has_bit 1 words.excess
+torque_bit words = torque_feed words.excess
 
 -- the counters are fed: not in a test, and not where a trip stands
 unfoldable pub feeds_now : Phase → Words → Bool

@@ -9,6 +9,7 @@ use Rattle.eg_num.specs.Counting.{fed}
 use Rattle.eg_answer.specs.Folds.{mixed}
 use Rattle.eg_answer.specs.Token.{next_token_of}
 use Rattle.eg_answer.specs.declared.rules.Rules.{Rules}
+use Rattle.eg_answer.specs.declared.words.TheConstants.{MIRRORED_WORDS}
 use Rattle.eg_level2.specs.declared.words.TheConstants.{PEDAL_COUNTER, PLATE_COUNTER, LOAD_COUNTER, SPEED_COUNTER, TORQUE_COUNTER, TRIP, TOKEN, SIGN}
 use Rattle.eg_level2.specs.declared.debounce.Fed.{Fed}
 use Rattle.eg_level2.specs.declared.debounce.Feeds.{Feeds}
@@ -21,7 +22,7 @@ put number value word k = if k == number then value else word k
 
 -- a store of a word and its complement
 unfoldable pub keep : ℕ → ℕ → (ℕ → ℕ) → ℕ → ℕ
-keep number value word = put (number + 16) (65535 - value) (put number value word)
+keep number value word = put (number + MIRRORED_WORDS) (65535 - value) (put number value word)
 
 -- the same where a test is true, and else nothing
 unfoldable pub keep_where : Bool → ℕ → ℕ → (ℕ → ℕ) → ℕ → ℕ

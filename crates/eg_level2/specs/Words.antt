@@ -5,6 +5,7 @@ use Rattle.eg_guard.specs.declared.regions.Region.TheVariants.{Results, Protecte
 use Rattle.eg_guard.specs.declared.regions.TheConstants.{RESULTS, PROTECTED}
 use Rattle.eg_guard.specs.Memory.{AreWords}
 use Rattle.eg_answer.specs.declared.rules.Rules.{Rules}
+use Rattle.eg_answer.specs.declared.words.TheConstants.{MIRRORED_WORDS, STORED_WORDS}
 use Rattle.eg_level2.specs.declared.words.TheConstants.{SIGNALS, PEDAL, PERMITTED, ACTUAL, EXCESS, PAIRS, PEDAL_COUNTER, PLATE_COUNTER, LOAD_COUNTER, SPEED_COUNTER, TORQUE_COUNTER, LIMP, TRIP, TOKEN, FLOW, LAST, SIGN, WHOLE_FLOW}
 
 -- The words by their names: the five signals, the five debounce counters, whether limited operation and
@@ -67,13 +68,14 @@ words_of memory = named (word_at memory)
 
 -- every word and its complement add up to 65535
 pub record AreMirrored (memory : List ℕ) : Type 0 where
-  pub sums : (number : ℕ) → number < 16 → word_at memory number + word_at memory (number + 16) ≡ 65535
+  pub sums : (number : ℕ) → number < MIRRORED_WORDS →
+      word_at memory number + word_at memory (number + MIRRORED_WORDS) ≡ 65535
 
 -- The law: where of mirrored words one word alone changes, or one complement alone, they are
 -- mirrored no longer.
 abbrev pub ChangeLaw : Type 0
-ChangeLaw = (memory : List ℕ) (number word : ℕ) → AreWords memory → number < 32 → AreMirrored memory →
-    word ≢ word_at memory number → ¬ AreMirrored (slice_set memory (place number) word)
+ChangeLaw = (memory : List ℕ) (number word : ℕ) → AreWords memory → number < STORED_WORDS →
+    AreMirrored memory → word ≢ word_at memory number → ¬ AreMirrored (slice_set memory (place number) word)
 
 -- the regions that level 2 may change
 unfoldable pub is_level2_own : Region → Bool

@@ -11,7 +11,7 @@ use crate::words::{
     TORQUE_COUNTER, TRIP, is_set, keep, keep_where, word,
 };
 use crate::{Phase, Step};
-use eg_answer::{Rules, next_token};
+use eg_answer::{EXCESS_BIT, Rules, next_token};
 use eg_base::NoMemory;
 use eg_guard::Guarded;
 use eg_num::{Counter, Watches, Weights};
@@ -133,7 +133,7 @@ fn feed_all<M: Guarded>(memory: &M, rules: &Rules) -> Feeds
         torque: feed(
             &rules.torque,
             word(memory, TORQUE_COUNTER),
-            has_bit(1, excess),
+            has_bit(EXCESS_BIT, excess),
         ),
     }
 }

@@ -1,7 +1,7 @@
 // What the board hands to level 2: the readings at the input ports, and the number of the question at the
 // link.
 ghost use Rattle.std.specs.Prelude.{◌≡◌, ◌+◌, ◌<◌, slice_index};
-ghost use Rattle.eg_guard.specs.declared.regions.TheConstants.{IN_PORTS};
+ghost use Rattle.eg_guard.specs.declared.regions.TheConstants.{IN_PORTS, IN_PORT_COUNT};
 ghost use Rattle.eg_level2.specs.Inputs.{readings_of, asked_of};
 
 use eg_guard::{Guarded, IN_PORTS, LINK, Who};
@@ -10,7 +10,7 @@ use eg_sensor::Readings;
 /// The word at the input port of that number, the first being 0.
 #[tactic(auto, using(crate::proofs::PortLemmas::ports))]
 fn port<M: Guarded>(memory: &M, number: u16) -> u16
-    requires { number < 10 }
+    requires { number < IN_PORT_COUNT }
     ensures { result ≡ slice_index (M.shows memory.now).words (IN_PORTS + number) }
 {
     match memory.load(Who::Level2, IN_PORTS + number) {

@@ -1,6 +1,7 @@
 // Modules 1 to 5: each computes a signal, and mixes a result of the question's row into the fold. The results
 // (`test`) were worked out by the same functions when level 2 was made.
 ghost use Rattle.std.specs.Prelude.{◌≡◌, ◌≤◌, OnOk, IfOk, bit_xor, if◌then◌else◌};
+ghost use Rattle.eg_answer.specs.declared.modules.TheConstants.{PEDAL as PEDAL_MODULE, PAIRS as PAIRS_MODULE};
 ghost use Rattle.eg_answer.specs.declared.rules.TestRow.{TestRow};
 ghost use Rattle.eg_answer.specs.Answers.{pedal_result, permitted_result, estimate_result, excess_result, pairs_result};
 ghost use Rattle.eg_answer.specs.Formulas.{permitted_torque as torque_of};
@@ -150,8 +151,8 @@ fn write<M: Guarded>(
     test: u16,
     disturbance: u16,
 ) -> Result<(), NoMemory>
-    requires first { 1 ≤ number }
-    requires last { number ≤ 5 }
+    requires first { PEDAL_MODULE ≤ number }
+    requires last { number ≤ PAIRS_MODULE }
     ensures stored { OnOk result (word_at (M.shows memory.new).words
         ≡ signalled number signal test disturbance (word_at (M.shows memory.old).words)) }
     ensures keeps { Keeps (M.shows memory.old) (M.shows memory.new) result }

@@ -1,16 +1,18 @@
 // Level 2's words in the guarded memory: each is stored with its complement.
 ghost use Rattle.std.specs.Prelude.{◌≡◌, ◌↔◌, ◌<◌, IsTrue, OnOk};
+ghost use Rattle.eg_answer.specs.declared.words.TheConstants.{MIRRORED_WORDS, STORED_WORDS};
 ghost use Rattle.eg_level2.specs.Words.{place, word_at, AreMirrored, is_set};
 ghost use Rattle.eg_level2.specs.Stores.{Keeps, Leaves, put, keep, keep_where, cleared};
 
+use eg_answer::MIRRORED_WORDS;
 use eg_base::NoMemory;
-use eg_guard::{Guarded, PROTECTED, RESULTS, StoreRefusal, Who};
+use eg_guard::{Guarded, PROTECTED, RESULT_COUNT, RESULTS, StoreRefusal, Who};
 
-/// How many words there are, each with a complement.
-const WORDS: u16 = 16;
+/// How many words there are. The complement of a word has its number and so many more.
+const WORDS: u16 = MIRRORED_WORDS as u16;
 
 /// How many of them, the first, are signals: these stand among the results.
-pub(crate) const SIGNALS: u16 = 5;
+pub(crate) const SIGNALS: u16 = RESULT_COUNT;
 
 // The numbers of the words (docs/FORMATS.md, "Words of level 2").
 pub(crate) const PEDAL: u16 = 0;
@@ -56,7 +58,7 @@ pub(crate) const BROKEN_FLOW: u16 = 0x8000;
 #[inline]
 #[tactic(auto, unfolding(crate::specs::Words::place))]
 pub fn word_address(number: u16) -> u16
-    requires { number < 32 }
+    requires { number < STORED_WORDS }
     ensures { result ≡ place number }
 {
     if number < SIGNALS {
@@ -69,7 +71,7 @@ pub fn word_address(number: u16) -> u16
 /// The word of that number, and from 16 on the complement.
 #[tactic(auto, using(crate::proofs::PlaceLemmas::places), unfolding(crate::specs::Words::word_at))]
 pub(crate) fn word<M: Guarded>(memory: &M, number: u16) -> u16
-    requires { number < 32 }
+    requires { number < STORED_WORDS }
     ensures { result ≡ word_at (M.shows memory.now).words number }
 {
     match memory.load(Who::Level2, word_address(number)) {
@@ -81,7 +83,7 @@ pub(crate) fn word<M: Guarded>(memory: &M, number: u16) -> u16
 /// Stores one word alone.
 #[tactic(auto, using(crate::proofs::PlaceLemmas::places))]
 fn put<M: Guarded>(memory: &mut M, number: u16, value: u16) -> Result<(), NoMemory>
-    requires { number < 32 }
+    requires { number < STORED_WORDS }
     ensures stored { OnOk result (word_at (M.shows memory.new).words
         ≡ put number value (word_at (M.shows memory.old).words)) }
     ensures leaves { Leaves (M.shows memory.old) (M.shows memory.new) result }
@@ -96,7 +98,7 @@ fn put<M: Guarded>(memory: &mut M, number: u16, value: u16) -> Result<(), NoMemo
 /// Stores a word and its complement.
 #[tactic(auto, using(crate::proofs::StoreLemmas::stores))]
 pub(crate) fn keep<M: Guarded>(memory: &mut M, number: u16, value: u16) -> Result<(), NoMemory>
-    requires { number < 16 }
+    requires { number < MIRRORED_WORDS }
     ensures stored { OnOk result (word_at (M.shows memory.new).words
         ≡ keep number value (word_at (M.shows memory.old).words)) }
     ensures keeps { Keeps (M.shows memory.old) (M.shows memory.new) result }
@@ -113,7 +115,7 @@ pub(crate) fn keep_where<M: Guarded>(
     number: u16,
     value: u16,
 ) -> Result<(), NoMemory>
-    requires { number < 16 }
+    requires { number < MIRRORED_WORDS }
     ensures stored { OnOk result (word_at (M.shows memory.new).words
         ≡ keep_where test number value (word_at (M.shows memory.old).words)) }
     ensures keeps { Keeps (M.shows memory.old) (M.shows memory.new) result }
@@ -127,7 +129,7 @@ pub(crate) fn keep_where<M: Guarded>(
 /// Makes all words 0.
 pub(crate) fn clear<M: Guarded>(memory: &mut M) -> Result<(), NoMemory>
     ensures stored { OnOk result (word_at (M.shows memory.new).words
-        ≡ cleared 16 (word_at (M.shows memory.old).words)) }
+        ≡ cleared MIRRORED_WORDS (word_at (M.shows memory.old).words)) }
     ensures mirrored { OnOk result (AreMirrored (M.shows memory.new).words) }
     ensures keeps { Keeps (M.shows memory.old) (M.shows memory.new) result }
 {

@@ -47,7 +47,7 @@ concat-take_more f xs i d below =
     ∙ concat-append (map f (take i xs)) (f (get_or xs i d) ∷ [])
     ∙ ap (λ ys. concat (map f (take i xs)) ++ ys) (append-nil (f (get_or xs i d))))
 
--- a refusal that isn't want of memory is a fault
+-- a refusal that isn't Memory is a fault
 pub fault_of_refusal : (Fault : Type 0) (refusal : PutRefusal) → (IsErrOf {T = Unit {0}} (Err refusal) Failed → Fault) → ¬ IsErrOf {T = Unit {0}} (Err refusal) Memory → Fault
 fault_of_refusal Fault Failed cause sure = cause refl
 fault_of_refusal Fault Memory cause sure = absurd (sure refl)

@@ -8,7 +8,7 @@ use Rattle.eg_base.specs.Outside.{ShownSink, Rose, Appends}
 use Rattle.eg_outcome.specs.Outcomes.{LineEnds}
 use Rattle.eg_outcome.specs.declared.outcome.Outcome.{Outcome}
 use Rattle.eg_outcome.specs.declared.outcome.Outcome.TheVariants as outcome
-use Rattle.eg_outcome.proofs.AppendLemmas.{AppendsPrefix-append, concat-cut, concat-take_more}
+use Rattle.eg_outcome.proofs.AppendLemmas.{Appends-append, AppendsPrefix-append, concat-cut, concat-take_more}
 
 -- ---- lines that are made ----
 
@@ -43,3 +43,27 @@ LineEnds-within before mid now whole line rest outcome.Memory refused put same e
 LineEnds-within before mid now whole line rest outcome.Usage refused put same ends = ends
 LineEnds-within before mid now whole line rest (outcome.ReadFault file) refused put same ends = ends
 LineEnds-within before mid now whole line rest (outcome.Refused why) refused put same ends = ends
+
+-- the first so many lines were put whole, and no fault was met
+pub record HasPut {X : Type 0} (text : X → List ℕ) (lines : List X) (count : ℕ) (before now : ShownSink) : Type 0 where
+  pub put : Appends before now (concat (map text (take count lines)))
+  pub faults : now.faults ≡ before.faults
+
+-- the next one is put too,
+pub HasPut-more : {X : Type 0} (text : X → List ℕ) (lines : List X) (i : ℕ) (line : X) (before mid now : ShownSink) →
+    i < length lines → line ≡ get_or lines i line → HasPut text lines i before mid →
+    LineEnds (text line) mid now outcome.Done → HasPut text lines (i + 1) before now
+HasPut-more text lines i line before mid now below is so_far ends = record {
+  put = rw (concat-front text lines i line below is)
+      (Appends-append before mid now (concat (map text (take i lines))) (text line) so_far.put ends.0);
+  faults = ends.1 ∙ so_far.faults;
+}
+
+-- or it is refused: so much of all lines was put
+pub HasPut-refused : {X : Type 0} (text : X → List ℕ) (lines : List X) (i : ℕ) (line : X) (before mid now : ShownSink) (o : Outcome) →
+    i < length lines → line ≡ get_or lines i line → HasPut text lines i before mid →
+    (o ≡ outcome.Done → ⊥) → LineEnds (text line) mid now o → LineEnds (concat (map text lines)) before now o
+HasPut-refused text lines i line before mid now o below is so_far refused ends =
+    subst (λ all. LineEnds all before now o) (sym (concat-at text lines i line below is))
+    (LineEnds-within before mid now (concat (map text (take i lines))) (text line) (concat (map text (drop (suc i) lines))) o
+    refused so_far.put so_far.faults ends)

@@ -1,5 +1,5 @@
 -- An accepted campaign keeps the rules.
-use Rattle.std.proofs.Common.{◌≡◌, ℕ, suc, ◌+◌, ◌≤◌, ◌<◌, nat_le, not, Bool, true, false, length, List, [], ◌∷◌, ◌++◌, All, bytes_eq, Option, Some, None, option_map, Result, Ok, Err, IfOk, subst, refl, sym, ap, ◌∙◌, arith}
+use Rattle.std.proofs.Common.{◌≡◌, ℕ, suc, ◌+◌, ◌-◌, ◌≤◌, ◌<◌, nat_le, not, Bool, true, false, length, List, [], ◌∷◌, ◌++◌, All, bytes_eq, Option, Some, None, option_map, Result, Ok, Err, IfOk, subst, refl, sym, ap, ◌∙◌, arith}
 use Rattle.std.specs.List.{AllPairs, AllByRecursion}
 use Rattle.std.proofs.lemmas.Bool.{and_parts, or_parts}
 use Rattle.std.proofs.lemmas.Bool.Decides.{nat_tests}
@@ -11,6 +11,7 @@ use Rattle.toml.specs.Data.{Members, Items, no_items, item}
 use Rattle.eg_toml.specs.Arrays.{count}
 use Rattle.eg_sensor.specs.declared.tracks.TheConstants.{PEDAL_1, SPEED_2, TRACKS}
 use Rattle.eg_answer.specs.declared.modules.TheConstants.{CHECK, PEDAL, PAIRS, REACT, MODULES}
+use Rattle.eg_answer.specs.declared.words.TheConstants.{STORED_WORDS}
 use Rattle.eg_fault.specs.Faults.{IsValid, IsValidClass}
 use Rattle.eg_fault.specs.Faults.{IsNoneOrValid}
 use Rattle.eg_fault.specs.declared.paths.TheConstants.{PATH_1, PATH_2}
@@ -54,7 +55,7 @@ class-valid Skip n ms h = below _ REACT MODULES refl (number-held CHECK REACT n 
 class-valid Disturb n ms h =
     let index = number-held PEDAL PAIRS n key.Module ms h.0 in
     (index.0, index.1, number-held 1 65535 n key.Mask ms h.1.0)
-class-valid Flip n ms h = (below _ 31 32 refl (number-held 0 31 n key.Word ms h.0).1, number-held 1 65535 n key.Mask ms h.1.0)
+class-valid Flip n ms h = (below _ (STORED_WORDS - 1) STORED_WORDS refl (number-held 0 (STORED_WORDS - 1) n key.Word ms h.0).1, number-held 1 65535 n key.Mask ms h.1.0)
 class-valid Halt n ms h = tt
 class-valid Timing n ms h = (number-held 0 99 n key.Offset ms h.0).1
 class-valid Wild n ms h =

@@ -1,7 +1,8 @@
 -- The keys of a campaign file, and the table of what each may hold.
-use Rattle.std.specs.Prelude.{ℕ, List, [], ◌∷◌, codes}
+use Rattle.std.specs.Prelude.{ℕ, ◌-◌, List, [], ◌∷◌, codes}
 use Rattle.eg_sensor.specs.declared.tracks.TheConstants.{PEDAL_1, SPEED_2}
 use Rattle.eg_answer.specs.declared.modules.TheConstants.{CHECK, PEDAL, PAIRS, REACT}
+use Rattle.eg_answer.specs.declared.words.TheConstants.{STORED_WORDS}
 use Rattle.eg_fault.specs.declared.paths.TheConstants.{PATH_1, PATH_2}
 use Rattle.eg_plan.specs.declared.key.RunKey.{RunKey}
 use Rattle.eg_plan.specs.declared.key.RunKey.TheVariants.{Run, Name, Trace, Image, Slices, Faults, Class, Onset, Track, Values, Add, Mask, At, Module, Word, Offset, Questions, Opens, Path, After, Every, Unknown}
@@ -100,7 +101,7 @@ abbrev pub signal_module : KeyRule
 signal_module = Module holds number PEDAL PAIRS
 
 abbrev pub word : KeyRule
-word = Word holds number 0 31
+word = Word holds number 0 (STORED_WORDS - 1)
 
 abbrev pub offset : KeyRule
 offset = Offset holds number 0 99

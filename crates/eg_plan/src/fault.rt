@@ -9,7 +9,7 @@ ghost use Rattle.eg_plan.specs.Faults.{TellsClass, fault_refusal, fault_of, name
 use crate::class_name::{ClassName, class_in};
 use crate::contents::{index, number, optional, shift, ticks, truths, words};
 use crate::{CampaignFault, RunKey};
-use eg_answer::{CHECK, PAIRS, PEDAL, REACT};
+use eg_answer::{CHECK, PAIRS, PEDAL, REACT, STORED_WORDS};
 use eg_fault::{Class, Fault, PATH_1, PATH_2};
 use eg_sensor::{PEDAL_1, SPEED_2};
 use eg_toml::has_only_names;
@@ -111,7 +111,7 @@ fn disturb(table: &Table, run: u32) -> Result<Class, CampaignFault>
 fn flip(table: &Table, run: u32) -> Result<Class, CampaignFault>
     ensures { TellsClass run ClassName.Flip (table_view table.now) result }
 {
-    let word = index(table, run, RunKey::Word, 0, 31)?;
+    let word = index(table, run, RunKey::Word, 0, STORED_WORDS - 1)?;
     let mask = number(table, run, RunKey::Mask, 1, u16::MAX)?;
     Ok(Class::Flip { word, mask })
 }

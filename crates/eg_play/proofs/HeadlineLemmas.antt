@@ -7,9 +7,11 @@ use Rattle.eg_record.specs.Detection.{first_detection, IsFirstDetection}
 use Rattle.eg_record.specs.Stages.{IsFirstOff, first_off}
 use Rattle.eg_record.specs.Summaries.{summary_of}
 use Rattle.eg_record.proofs.LawLemmas.{detection_law, off_law}
+use Rattle.eg_model.specs.Engines.{gasoline}
 use Rattle.eg_model.specs.Bench.{Run}
 use Rattle.eg_model.specs.Rows.{record_rows, report_of}
 use Rattle.eg_model.specs.Records.{IsRun}
+use Rattle.eg_model.proofs.GasolineLaws.{gasoline_keeps, gasoline_shows_one_load}
 use Rattle.eg_model.proofs.RecordLaws.{records_react, records_cut_sharply}
 use Rattle.eg_model.proofs.WholeRecord.{are_rows}
 use Rattle.eg_model.proofs.RowLaws.{records_react_at_once, records_cut_from_onset, records_cut_lapses, records_have_short_lapses}
@@ -19,24 +21,24 @@ use Rattle.eg_play.specs.Headline.{KeepsHeadline}
 
 -- ---- the headline ----
 
-detects : (r : Run) (name : List ℕ) → IsFirstDetection (record_rows r) (report_of name r).first
+detects : (r : Run) (name : List ℕ) → IsFirstDetection (record_rows gasoline r) (report_of gasoline name r).first
 unfolding report_of summary_of
-detects r name = (detection_law (record_rows r) (are_rows r) (first_detection (record_rows r))).1 refl
+detects r name = (detection_law (record_rows gasoline r) (are_rows gasoline r) (first_detection (record_rows gasoline r))).1 refl
 
-tells_off : (r : Run) (name : List ℕ) → IsFirstOff (record_rows r) (report_of name r).off
+tells_off : (r : Run) (name : List ℕ) → IsFirstOff (record_rows gasoline r) (report_of gasoline name r).off
 unfolding report_of summary_of
-tells_off r name = (off_law (record_rows r) (are_rows r) (first_off (record_rows r))).1 refl
+tells_off r name = (off_law (record_rows gasoline r) (are_rows gasoline r) (first_off (record_rows gasoline r))).1 refl
 
 -- a run by an accepted calibration, over a drive within its limits, without a fault or under a valid one, keeps
 -- it
 pub headline : (r : Run) → IsRun r → IsNoneOrValid r.setting.fault → KeepsHeadline r
 headline r run valid = record {
-  reacts = records_react r run;
-  at_once = records_react_at_once r run;
-  cuts = records_cut_sharply r run;
-  from_onset = records_cut_from_onset r run valid;
-  lapses = records_cut_lapses r run valid;
-  short = records_have_short_lapses r run valid;
+  reacts = records_react gasoline_keeps r run;
+  at_once = records_react_at_once gasoline_keeps r run;
+  cuts = records_cut_sharply gasoline_keeps gasoline_shows_one_load r run;
+  from_onset = records_cut_from_onset gasoline r run valid;
+  lapses = records_cut_lapses gasoline_keeps r run valid;
+  short = records_have_short_lapses gasoline_keeps r run valid;
   detects = detects r;
   tells_off = tells_off r;
 }

@@ -7,6 +7,7 @@ use Rattle.eg_values.specs.Calibration.{CalibrationParts}
 use Rattle.eg_record.specs.Texts.{summary_line, report_end, record_header, row_line}
 use Rattle.eg_record.specs.declared.row.Row.{Row}
 use Rattle.eg_record.specs.declared.summary.Summary.{Summary}
+use Rattle.eg_model.specs.Engines.{gasoline}
 use Rattle.eg_model.specs.Bench.{Run}
 use Rattle.eg_model.specs.Rows.{record_rows}
 use Rattle.eg_tick.specs.Weights.{TickCount}
@@ -34,7 +35,7 @@ unfolding report_text
 report_is cal inputs all is = ap (λ l. concat (map summary_line l) ++ report_end l) is
     ∙ ap (λ l. concat l ++ report_end (map (report_with cal) inputs)) (told_each cal inputs)
 
-pub record_is : (cal : CalibrationParts) (input : RunInput) (rows : List Row) → rows ≡ reverse (record_rows (run_with cal input)) →
+pub record_is : (cal : CalibrationParts) (input : RunInput) (rows : List Row) → rows ≡ reverse (record_rows gasoline (run_with cal input)) →
     record_header ++ concat (map row_line rows) ≡ record_text cal input
 unfolding record_text
 record_is cal input rows are = ap (λ l. record_header ++ concat (map row_line l)) are

@@ -3,6 +3,7 @@ use Rattle.std.specs.Prelude.{ℕ, List, ◌++◌, map, reverse}
 use Rattle.std.specs.List.{concat}
 use Rattle.eg_values.specs.Calibration.{CalibrationParts}
 use Rattle.eg_record.specs.Texts.{summary_line, report_end, record_header, row_line}
+use Rattle.eg_model.specs.Engines.{gasoline}
 use Rattle.eg_model.specs.Rows.{record_rows}
 use Rattle.eg_campaign.specs.Plays.{run_with, report_with}
 use Rattle.eg_campaign.specs.declared.play.RunInput.{RunInput}
@@ -15,4 +16,5 @@ report_text cal inputs =
 
 -- the header, and a line for each row in the order of time
 unfoldable pub record_text : CalibrationParts → RunInput → List ℕ
-record_text cal input = record_header ++ concat (map row_line (reverse (record_rows (run_with cal input))))
+record_text cal input =
+    record_header ++ concat (map row_line (reverse (record_rows gasoline (run_with cal input))))

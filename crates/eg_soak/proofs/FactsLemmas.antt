@@ -7,6 +7,7 @@ use Rattle.eg_fault.specs.Faults.{IsNoneOrValid}
 use Rattle.eg_record.specs.declared.row.Row.{Row}
 use Rattle.eg_record.specs.declared.summary.Summary.{Summary}
 use Rattle.eg_record.proofs.RowsLemmas.{so_far, so_far-more, length-so_far}
+use Rattle.eg_model.specs.Engines.{gasoline}
 use Rattle.eg_model.specs.Bench.{Run}
 use Rattle.eg_model.specs.Rows.{record_rows, report_of}
 use Rattle.eg_model.proofs.WholeRecord.{newest_first}
@@ -29,7 +30,7 @@ any_fault None valid = tt
 any_fault (Some fault) valid = valid
 
 -- what counts of a run by the report on it
-pub facts_told : (r : Run) (rows : List Row) (report : Summary) → rows ≡ reverse (record_rows r) →
-    report ≡ report_of [] r → facts_in report (reverse rows) ≡ facts_of r
+pub facts_told : (r : Run) (rows : List Row) (report : Summary) → rows ≡ reverse (record_rows gasoline r) →
+    report ≡ report_of gasoline [] r → facts_in report (reverse rows) ≡ facts_of r
 unfolding facts_of
-facts_told r rows report are told = ap₂ facts_in told (sym (newest_first r rows are))
+facts_told r rows report are told = ap₂ facts_in told (sym (newest_first gasoline r rows are))

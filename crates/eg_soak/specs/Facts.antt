@@ -4,6 +4,7 @@ use Rattle.eg_record.specs.declared.row.Row.{Row}
 use Rattle.eg_record.specs.declared.summary.Summary.{Summary}
 use Rattle.eg_record.specs.declared.watch.Watch.{Watch}
 use Rattle.eg_record.specs.Detection.{rank}
+use Rattle.eg_model.specs.Engines.{gasoline}
 use Rattle.eg_model.specs.Bench.{Run}
 use Rattle.eg_model.specs.Rows.{record_rows, report_of}
 use Rattle.eg_soak.specs.declared.facts.RunFacts.{RunFacts}
@@ -30,7 +31,7 @@ facts_in report rows = record {
 
 -- what counts of a run; its name doesn't matter
 unfoldable pub facts_of : Run → RunFacts
-facts_of r = facts_in (report_of [] r) (record_rows r)
+facts_of r = facts_in (report_of gasoline [] r) (record_rows gasoline r)
 
 -- a watch, if any, is this one
 unfoldable pub is_watch : Watch → Option Watch → Bool

@@ -2,6 +2,7 @@
 ghost use Rattle.std.specs.Prelude.{◌≡◌, ◌≤◌, ◌∷◌, [], ℕ, length, reverse, IfOk, OnOk, OnErr, ◌+◌, ◌%◌, ◌^◌, if◌then◌else◌};
 ghost use Rattle.eg_values.specs.Reference.{reference_parts};
 ghost use Rattle.eg_draw.specs.Runs.{IsDrawn};
+ghost use Rattle.eg_model.specs.Engines.{gasoline};
 ghost use Rattle.eg_model.specs.Rows.{record_rows, record_trap, report_of};
 ghost use Rattle.eg_campaign.specs.Plays.{count_after};
 ghost use Rattle.eg_soak.specs.Facts.{facts_in, facts_of, is_first, on_until, reaction};
@@ -68,8 +69,8 @@ fn record_drawn(
 ) -> Result<RunRecord, NoMemory>
     requires calibration { calibration.now ≡ reference_parts }
     requires drawn { IsDrawn drawn.now }
-    ensures rows { IfOk result (λ made. made.rows ≡ reverse (record_rows (run_drawn drawn.now))) }
-    ensures trap { IfOk result (λ made. made.trap ≡ record_trap (run_drawn drawn.now)) }
+    ensures rows { IfOk result (λ made. made.rows ≡ reverse (record_rows gasoline (run_drawn drawn.now))) }
+    ensures trap { IfOk result (λ made. made.trap ≡ record_trap gasoline (run_drawn drawn.now)) }
     ensures counted { OnOk result (steps.new ≡ count_after steps.old (run_drawn drawn.now ∷ [])) }
     ensures count { OnErr result ((n : ℕ) × (n ≤ 2000)
         × (steps.new.count ≡ (steps.old.count + n) % 2 ^ 64)) }
@@ -92,8 +93,8 @@ fn facts_of(
 ) -> Result<RunFacts, NoMemory>
     requires calibration { calibration.now ≡ reference_parts }
     requires drawn { IsDrawn drawn.now }
-    requires rows { made.now.rows ≡ reverse (record_rows (run_drawn drawn.now)) }
-    requires trap { made.now.trap ≡ record_trap (run_drawn drawn.now) }
+    requires rows { made.now.rows ≡ reverse (record_rows gasoline (run_drawn drawn.now)) }
+    requires trap { made.now.trap ≡ record_trap gasoline (run_drawn drawn.now) }
     ensures { IfOk result (λ facts. facts ≡ facts_of (run_drawn drawn.now)) }
 {
     let report = report_on(alloc, calibration, drawn, made)?;
@@ -109,9 +110,9 @@ fn report_on(
     made: &RunRecord,
 ) -> Result<Summary, NoMemory>
     requires calibration { calibration.now ≡ reference_parts }
-    requires rows { made.now.rows ≡ reverse (record_rows (run_drawn drawn.now)) }
-    requires trap { made.now.trap ≡ record_trap (run_drawn drawn.now) }
-    ensures { IfOk result (λ report. report ≡ report_of [] (run_drawn drawn.now)) }
+    requires rows { made.now.rows ≡ reverse (record_rows gasoline (run_drawn drawn.now)) }
+    requires trap { made.now.trap ≡ record_trap gasoline (run_drawn drawn.now) }
+    ensures { IfOk result (λ report. report ≡ report_of gasoline [] (run_drawn drawn.now)) }
 {
     let (rules, bound) = (calibration.rules(), reaction_time(calibration.times()));
     let rows = made.rows.as_slice();

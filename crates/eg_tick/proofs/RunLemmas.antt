@@ -17,10 +17,11 @@ use Rattle.eg_model.specs.History.{Moment}
 use Rattle.eg_model.specs.Paths.{on_at}
 use Rattle.eg_model.specs.Level1.{last_world}
 use Rattle.eg_model.specs.Moments.{moment, moments, next}
-use Rattle.eg_model.specs.Bench.{Run, no_drive, last_engine, shown_at, drive_at, slices_at, entry_at, moments_to, entries_to}
+use Rattle.eg_model.specs.Engines.{gasoline}
+use Rattle.eg_model.specs.Bench.{Run, no_drive, stepped, engine_after, shown_at, drive_at, slices_at, entry_at, moments_to, entries_to}
 use Rattle.eg_model.specs.Rows.{row_of, first_trap, record_rows, record_trap}
 use Rattle.eg_model.specs.Records.{row_at, rows_to}
-use Rattle.eg_model.proofs.RecordLaws.{length-entries, records_are_histories}
+use Rattle.eg_model.proofs.RecordTicks.{length-entries, length-moments_to, records_are_histories}
 use Rattle.eg_tick.specs.Kept.{ControllerParts}
 use Rattle.eg_tick.specs.Stands.{Stands}
 use Rattle.eg_tick.specs.Working.{effects_after}
@@ -42,64 +43,73 @@ module _ (r : Run) (t : ℕ) (old new : ControllerParts GasolinePlant) (at : IsA
   x = effects r.setting.fault t
 
   past : List Moment
-  past = moments_to r t
+  past = moments_to gasoline r t
 
   rests : GasolinePlant
-  rests = record { parts = r.setting.cal.plant; state = last_engine r.setting.cal.plant past }
+  rests = record { parts = r.setting.cal.plant; state = engine_after gasoline r.setting past }
 
-  effects-are : effects_after r.setting (entries_to r t) ≡ effects r.setting.fault t
-  effects-are = unfold effects_after in ap (effects r.setting.fault) (length-entries r t)
+  effects-are : effects_after r.setting (entries_to gasoline r t) ≡ effects r.setting.fault t
+  effects-are = unfold effects_after in ap (effects r.setting.fault) (length-entries gasoline r t)
 
   -- the step that a controller's tick tells of is that of the bench
-  module _ (steps : StepsAsGasoline old.engine (last_world (moments r.setting (entries_to r t))).throttle
-      (last_world (moments r.setting (entries_to r t))).ignition
-      (on_at (effects_after r.setting (entries_to r t)) (moments r.setting (entries_to r t)))
-      (effects_after r.setting (entries_to r t)).held new.engine)
+  module _ (steps : StepsAsGasoline old.engine (last_world (moments r.setting (entries_to gasoline r t))).throttle
+      (last_world (moments r.setting (entries_to gasoline r t))).ignition
+      (on_at (effects_after r.setting (entries_to gasoline r t)) (moments r.setting (entries_to gasoline r t)))
+      (effects_after r.setting (entries_to gasoline r t)).held new.engine)
       (shows : new.kept.shown ≡ shown_of new.engine.state) where
     engine-is : new.engine ≡ after_step rests x past
     unfolding x past rests after_step
     engine-is = steps
-        ∙ ap (λ e. after_step e (effects_after r.setting (entries_to r t)) (moments r.setting (entries_to r t))) at.engine
-        ∙ ap (λ y. after_step rests y (moments r.setting (entries_to r t))) effects-are
-        ∙ ap (after_step rests (effects r.setting.fault t)) (sym (records_are_histories r t))
+        ∙ ap (λ e. after_step e (effects_after r.setting (entries_to gasoline r t)) (moments r.setting (entries_to gasoline r t))) at.engine
+        ∙ ap (λ y. after_step rests y (moments r.setting (entries_to gasoline r t))) effects-are
+        ∙ ap (after_step rests (effects r.setting.fault t)) (sym (records_are_histories gasoline r t))
 
-    shown-is : new.kept.shown ≡ (entry_at r t (moments_to r t)).shown
-    unfolding x past rests after_step entry_at shown_at
+    shown-is : new.kept.shown ≡ (entry_at gasoline r t (moments_to gasoline r t)).shown
+    unfolding x past rests after_step entry_at shown_at stepped gasoline
     shown-is = shows ∙ ap (λ (e : GasolinePlant). shown_of e.state) engine-is
 
     module _ (drive : DriveRow) (slices : List ℕ) (drives : drive_at r t ≡ drive) (sliced : slices ≡ slices_at r t) where
-      entry-is : entry_of drive slices new.kept.shown ≡ entry_at r t (moments_to r t)
+      entry-is : entry_of drive slices new.kept.shown ≡ entry_at gasoline r t (moments_to gasoline r t)
       unfolding entry_of entry_at
       entry-is = ap (λ d. entry_of d slices new.kept.shown) (sym drives)
           ∙ ap (λ l. entry_of (drive_at r t) l new.kept.shown) sliced
           ∙ ap (entry_of (drive_at r t) (slices_at r t)) shown-is
 
       engine_next : after_step rests x past
-          ≡ record { parts = r.setting.cal.plant; state = last_engine r.setting.cal.plant (moments_to r (suc t)) }
-      unfolding x past rests after_step moments_to last_engine moment entry_at shown_at gasoline_step
-      engine_next = refl
+          ≡ record { parts = r.setting.cal.plant; state = engine_after gasoline r.setting (moments_to gasoline r (suc t)) }
+      unfolding x past rests after_step moments_to engine_after stepped gasoline moment
+      engine_next = ap (λ n. held_by (effects r.setting.fault n)) (sym (length-moments_to gasoline r t))
+        where
+          -- the engine after the tick, where the plate is held by these
+          held_by : Effects → GasolinePlant
+          held_by y = record {
+            parts = r.setting.cal.plant;
+            state = gasoline_step r.setting.cal.plant (engine_after gasoline r.setting past) (last_world past).throttle
+                (last_world past).ignition (on_at x past) y.held;
+          }
 
-      at_suc : Stands r.setting new.kept (entry_of drive slices new.kept.shown ∷ entries_to r t) → IsAt r (suc t) new
+      at_suc : Stands r.setting new.kept (entry_of drive slices new.kept.shown ∷ entries_to gasoline r t) → IsAt r (suc t) new
       unfolding entries_to
       at_suc stands = record {
-        stands = subst (λ e. Stands r.setting new.kept (e ∷ entries_to r t)) entry-is stands;
+        stands = subst (λ e. Stands r.setting new.kept (e ∷ entries_to gasoline r t)) entry-is stands;
         engine = engine-is ∙ engine_next;
       }
 
-      pub next_at : Stands r.setting new.kept (entry_of drive slices new.kept.shown ∷ entries_to r t) → IsAt r (t + 1) new
+      pub next_at : Stands r.setting new.kept (entry_of drive slices new.kept.shown ∷ entries_to gasoline r t) → IsAt r (t + 1) new
       next_at stands = subst (λ n. IsAt r n new) (one_more t) (at_suc stands)
         where
           one_more : (t : ℕ) → suc t ≡ t + 1
           one_more t = omega arith
 
-      pub next_row : (row : Row) → row ≡ row_of (next r.setting (entry_of drive slices new.kept.shown) (entries_to r t)) →
-          row ≡ row_at r t
+      pub next_row : (row : Row) →
+          row ≡ row_of (length (entries_to gasoline r t)) (next r.setting (entry_of drive slices new.kept.shown) (entries_to gasoline r t)) →
+          row ≡ row_at gasoline r t
       unfolding next row_at
       next_row row is = is
-          ∙ ap (λ e. row_of (moment r.setting (effects r.setting.fault (length (entries_to r t))) e
-          (moments r.setting (entries_to r t)))) entry-is
-          ∙ ap₂ (λ n before. row_of (moment r.setting (effects r.setting.fault n) (entry_at r t (moments_to r t)) before))
-          (length-entries r t) (sym (records_are_histories r t))
+          ∙ ap (λ e. row_of (length (entries_to gasoline r t)) (moment r.setting (effects r.setting.fault (length (entries_to gasoline r t))) e
+          (moments r.setting (entries_to gasoline r t)))) entry-is
+          ∙ ap₂ (λ n before. row_of n (moment r.setting (effects r.setting.fault n) (entry_at gasoline r t (moments_to gasoline r t)) before))
+          (length-entries gasoline r t) (sym (records_are_histories gasoline r t))
 
 -- ---- how a run begins ----
 
@@ -114,7 +124,7 @@ started cal cal' image fault fault' engine same same' still (Ok c) stands is = �
   stands = unfold entries_to in
       subst (λ k. Stands (record { cal = k; image = image; fault = fault }) c.kept []) same
       (subst (λ f. Stands (record { cal = cal'; image = image; fault = f }) c.kept []) same' stands);
-  engine = unfold moments_to last_engine in is ∙ still;
+  engine = unfold moments_to engine_after gasoline in is ∙ still;
 }
 
 -- ---- what a run is asked ----
@@ -137,10 +147,10 @@ unfolding slices_at
 slices-at r plan t row is at = at ∙ ap (λ p. slice_index_or p (t % length p) []) (sym is)
 
 pub recorded : (r : Run) (c : ControllerParts GasolinePlant) (rows : List Row) (trap : Option (Trap × ℕ)) →
-    IsAt r (length r.drive) c → rows ≡ reverse (rows_to r (length r.drive)) → trap ≡ c.kept.trap → IsRecordOf r rows trap
+    IsAt r (length r.drive) c → rows ≡ reverse (rows_to gasoline r (length r.drive)) → trap ≡ c.kept.trap → IsRecordOf r rows trap
 recorded r c rows trap at are is = record {
   rows_are = unfold record_rows in (unfold rows_to in are);
-  trap_is = unfold record_trap in is ∙ at.stands.trap ∙ ap first_trap (sym (records_are_histories r (length r.drive)));
+  trap_is = unfold record_trap in is ∙ at.stands.trap ∙ ap first_trap (sym (records_are_histories gasoline r (length r.drive)));
   proper = at.stands.engine.proper;
 }
 

@@ -9,7 +9,8 @@ use Rattle.eg_word.specs.declared.registers.Trap.{Trap}
 use Rattle.eg_record.specs.declared.row.Row.{Row}
 use Rattle.eg_model.specs.Premises.{AreProper}
 use Rattle.eg_model.specs.Moments.{ticks}
-use Rattle.eg_model.specs.Bench.{Run, last_engine, moments_to, entries_to}
+use Rattle.eg_model.specs.Engines.{gasoline}
+use Rattle.eg_model.specs.Bench.{Run, engine_after, moments_to, entries_to}
 use Rattle.eg_model.specs.Rows.{record_rows, record_trap}
 use Rattle.eg_tick.specs.Kept.{ControllerParts}
 use Rattle.eg_tick.specs.Stands.{Stands}
@@ -25,12 +26,14 @@ run_by cal image fault plan drive = record {
 -- After so many ticks of a run a controller stands for what came in at them, and its engine is that of the
 -- model.
 pub record IsAt (r : Run) (t : ℕ) (c : ControllerParts GasolinePlant) : Type 0 where
-  pub stands : Stands r.setting c.kept (entries_to r t)
-  pub engine : c.engine
-      ≡ record { parts = r.setting.cal.plant; state = last_engine r.setting.cal.plant (moments_to r t) }
+  pub stands : Stands r.setting c.kept (entries_to gasoline r t)
+  pub engine : c.engine ≡ record {
+    parts = r.setting.cal.plant;
+    state = engine_after gasoline r.setting (moments_to gasoline r t);
+  }
 
 -- The record of a run: its rows in the order of time, and its trap. What came in at each tick was proper.
 pub record IsRecordOf (r : Run) (rows : List Row) (trap : Option (Trap × ℕ)) : Type 0 where
-  pub rows_are : rows ≡ reverse (record_rows r)
-  pub trap_is : trap ≡ record_trap r
-  pub proper : AreProper r.setting (ticks r.setting (entries_to r (length r.drive)))
+  pub rows_are : rows ≡ reverse (record_rows gasoline r)
+  pub trap_is : trap ≡ record_trap gasoline r
+  pub proper : AreProper r.setting (ticks r.setting (entries_to gasoline r (length r.drive)))

@@ -4,6 +4,7 @@ ghost use Rattle.eg_guard.specs.declared.regions.Who.TheVariants.{Board};
 ghost use Rattle.eg_guard.specs.Memory.{AreWords, SameOutside, KeepsMemory};
 ghost use Rattle.eg_guard.specs.declared.regions.TheConstants.{DATA as CODE_END, WORDS};
 ghost use Rattle.eg_guard.specs.Regions;
+ghost use Rattle.eg_answer.specs.declared.words.TheConstants.{STORED_WORDS};
 ghost use Rattle.eg_level2.specs.Words.{place, word_at, AreMirrored, is_level2_own};
 ghost use Rattle.eg_level2.specs.Inputs.{readings_of, asked_of};
 ghost use Rattle.eg_tick.specs.Board.{IsWritten, is_board_own, by_tracks};
@@ -105,7 +106,7 @@ pub(crate) fn show<M: Guarded>(
 /// Flips bits of a word of level 2 (docs/CONCEPT.md, "Faults").
 #[tactic(auto, using(crate::proofs::BoardLemmas::board))]
 pub(crate) fn flip<M: Guarded>(memory: &mut M, word: u8, mask: u16) -> Result<(), NoMemory>
-    requires word { word < 32 }
+    requires word { word < STORED_WORDS }
     requires some { 1 ≤ mask }
     ensures flipped { OnOk result ((M.shows memory.new).words
         ≡ slice_set (M.shows memory.old).words (place word)

@@ -4,6 +4,7 @@ ghost use Rattle.std.specs.Option.{option_copied};
 ghost use Rattle.eg_guard.specs.Memory.{KeepsMemory};
 ghost use Rattle.eg_answer.specs.declared.rules.Rules.{Rules};
 ghost use Rattle.eg_answer.specs.declared.modules.TheConstants.{MODULES};
+ghost use Rattle.eg_answer.specs.declared.words.TheConstants.{STORED_WORDS};
 ghost use Rattle.eg_word.specs.declared.instruction.Instruction.{Instruction};
 ghost use Rattle.eg_word.specs.declared.registers.Registers.{Registers};
 ghost use Rattle.eg_word.specs.Program.{IsProgramOf};
@@ -120,7 +121,7 @@ fn first_module<M: Guarded>(
 fn scheduled_flip(fault: Option<&Fault>, tick: u16) -> Option<(u8, u16)>
     requires fault { IsNoneOrValid (option_copied fault) }
     ensures flip { result ≡ (effects (option_copied fault.entry) tick).flip }
-    ensures word { IfSome result (λ flipped. flipped.0 < 32) }
+    ensures word { IfSome result (λ flipped. flipped.0 < STORED_WORDS) }
     ensures some { IfSome result (λ flipped. 1 ≤ flipped.1) }
 {
     eg_fault::flip(fault, u32::from(tick))

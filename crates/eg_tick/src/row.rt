@@ -4,6 +4,7 @@ ghost use Rattle.eg_guard.specs.declared.regions.TheConstants.{THROTTLE, IGNITIO
 ghost use Rattle.eg_num.specs.Drive.{IsDrive};
 ghost use Rattle.eg_num.specs.Interpolation.{Grid, grid_at};
 ghost use Rattle.eg_torque.specs.Permit.{drive_permits};
+ghost use Rattle.eg_answer.specs.declared.words.TheConstants.{STORED_WORDS};
 ghost use Rattle.eg_level2.specs.Words.{word_at, words_of};
 ghost use Rattle.eg_model.specs.Rows.{signal_list};
 ghost use Rattle.eg_agree.specs.Standing.{signals_of};
@@ -59,7 +60,7 @@ pub(crate) fn limit(lookup: &Lookup, drive: &Drive) -> u16
 /// A word of level 2, as it stands in the memory.
 #[tactic(auto, using(crate::proofs::BoardLemmas::board), unfolding(eg_level2::specs::Words::word_at))]
 fn word<M: Guarded>(memory: &M, number: u8) -> u16
-    requires { number < 32 }
+    requires { number < STORED_WORDS }
     ensures { result ≡ word_at (M.shows memory.now).words number }
 {
     load(memory, word_address(u16::from(number)))

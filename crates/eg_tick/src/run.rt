@@ -6,6 +6,7 @@ ghost use Rattle.eg_guard.specs.declared.regions.TheConstants.{DATA as CODE_END}
 ghost use Rattle.eg_num.specs.Drive.{DriveRow};
 ghost use Rattle.eg_answer.specs.Times.{HasLapseBound, reaction_of};
 ghost use Rattle.eg_fault.specs.Faults.{IsListed};
+ghost use Rattle.eg_model.specs.Engines.{gasoline};
 ghost use Rattle.eg_model.specs.Bench.{Run, drive_at};
 ghost use Rattle.eg_model.specs.Rows.{record_rows, record_trap};
 ghost use Rattle.eg_model.specs.Records.{row_at, rows_to, ReactWithin, CutOneTickAfter, ReactAtOnce, CutLapses, LapsesAreShort};
@@ -50,9 +51,9 @@ pub fn run_one(
     requires image { length image.now ≤ CODE_END }
     requires fault { IsNoneOrValid (option_copied fault) }
     // The record is that of the run in the model.
-    ensures rows { IfOk result (λ made. made.rows ≡ reverse (record_rows
+    ensures rows { IfOk result (λ made. made.rows ≡ reverse (record_rows gasoline
         (run_by calibration.now image.now (option_copied fault.entry) plan.now drive.now))) }
-    ensures trap { IfOk result (λ made. made.trap ≡ record_trap
+    ensures trap { IfOk result (λ made. made.trap ≡ record_trap gasoline
         (run_by calibration.now image.now (option_copied fault.entry) plan.now drive.now)) }
     // The reaction theorem: after a confirmed torque excess the stages are off in time, and under most faults
     // at once.
@@ -168,7 +169,7 @@ fn make_rows(
     ensures at { (r : Run) → r.plan ≡ plan.now → r.drive ≡ drive.now → IsAt r 0 controller.old →
         OnOk result (IsAt r (length drive.now) controller.new) }
     ensures rows { (r : Run) → r.plan ≡ plan.now → r.drive ≡ drive.now → IsAt r 0 controller.old →
-        IfOk result (λ rows. rows.items ≡ reverse (rows_to r (length drive.now))) }
+        IfOk result (λ rows. rows.items ≡ reverse (rows_to gasoline r (length drive.now))) }
     ensures counted { IfOk result (λ rows. steps.new ≡ record {
       count = (steps.old.count + length drive.now) % 2 ^ 64;
       weights = (steps.old.weights + sum (map weight_of rows.items)) % 2 ^ 64;
@@ -199,7 +200,7 @@ fn make_row(
     ensures at { (r : Run) → r.plan ≡ plan.now → drive_at r tick ≡ drive.now → IsAt r tick controller.old →
         OnOk result (IsAt r (tick + 1) controller.new) }
     ensures row { (r : Run) → r.plan ≡ plan.now → drive_at r tick ≡ drive.now → IsAt r tick controller.old →
-        IfOk result (λ row. row ≡ row_at r tick) }
+        IfOk result (λ row. row ≡ row_at gasoline r tick) }
     ensures ticks { OnOk result (controller.new.kept.ticks ≡ tick + 1) }
     ensures count { steps.new.count ≡ (steps.old.count + 1) % 2 ^ 64 }
     ensures weight { IfOk result (λ row.

@@ -19,6 +19,11 @@ pub record CalibrationParts : Type 0 where
   pub times : TimeParts
   pub questions : List Question
 
+-- those of a calibration that is made of these four
+abbrev pub made_of : Rules → PlantParts → TimeParts → List Question → CalibrationParts
+made_of rules plant times questions =
+    record { rules = rules; plant = plant; times = times; questions = questions }
+
 -- the question's answer is the fold of its row
 abbrev pub IsAnswered : Rules → Question → Type 0
 IsAnswered rules question = question.answer ≡ expected_of rules question.row

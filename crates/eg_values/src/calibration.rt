@@ -1,6 +1,6 @@
 // The values of a calibration.
 ghost use Rattle.std.specs.Prelude.{◌≡◌, ◌↔◌, ◌<◌, ◌^◌, All, IsOk, IfOk, IfErr, IsSome, IfSome, IfNone};
-ghost use Rattle.eg_values.specs.Calibration.{CalibrationParts, AreAnswered, IsFirstWrong, GoTogether, IsApart, IsAccepted};
+ghost use Rattle.eg_values.specs.Calibration.{made_of, AreAnswered, IsFirstWrong, GoTogether, IsApart, IsAccepted};
 
 use eg_answer::{Questions, Rules, Times, expected};
 use eg_plant::PlantData;
@@ -29,23 +29,13 @@ pub struct Calibration {
 }
 
 impl Model for Calibration {
-    ghost use Rattle.eg_values.specs.Calibration.{CalibrationParts, IsAccepted};
+    ghost use Rattle.eg_values.specs.Calibration.{CalibrationParts, made_of, IsAccepted};
 
     ghost Value = { CalibrationParts };
 
-    ghost view = { λ c. record {
-      rules = c.rules;
-      plant = c.plant;
-      times = c.times;
-      questions = c.questions;
-    } };
+    ghost view = { λ c. made_of c.rules c.plant c.times c.questions };
 
-    ghost invariant = { λ c. IsAccepted (record {
-      rules = c.rules;
-      plant = c.plant;
-      times = c.times;
-      questions = c.questions;
-    }) };
+    ghost invariant = { λ c. IsAccepted (made_of c.rules c.plant c.times c.questions) };
 }
 
 impl Calibration {
@@ -58,11 +48,8 @@ impl Calibration {
         times: Times,
         questions: Questions,
     ) -> Option<Calibration>
-        ensures accepted { let parts : CalibrationParts =
-            record { rules = rules; plant = plant; times = times; questions = questions } in
-            IsSome result ↔ GoTogether parts }
-        ensures kept { let parts : CalibrationParts =
-            record { rules = rules; plant = plant; times = times; questions = questions } in
+        ensures accepted { IsSome result ↔ GoTogether (made_of rules plant times questions) }
+        ensures kept { let parts = made_of rules plant times questions in
             IfSome result (λ calibration. (calibration ≡ parts) × IsAccepted parts) }
     {
         Calibration::of_parts(rules, plant, times, questions).ok()
@@ -75,15 +62,10 @@ impl Calibration {
         times: Times,
         questions: Questions,
     ) -> Result<Calibration, Apart>
-        ensures accepted { let parts : CalibrationParts =
-            record { rules = rules; plant = plant; times = times; questions = questions } in
-            IsOk result ↔ GoTogether parts }
-        ensures kept { let parts : CalibrationParts =
-            record { rules = rules; plant = plant; times = times; questions = questions } in
+        ensures accepted { IsOk result ↔ GoTogether (made_of rules plant times questions) }
+        ensures kept { let parts = made_of rules plant times questions in
             IfOk result (λ calibration. (calibration ≡ parts) × IsAccepted parts) }
-        ensures refused { let parts : CalibrationParts =
-            record { rules = rules; plant = plant; times = times; questions = questions } in
-            IfErr result (IsApart parts) }
+        ensures refused { IfErr result (IsApart (made_of rules plant times questions)) }
     {
         if rules.kt != plant.kt() {
             return Err(Apart::Torque);

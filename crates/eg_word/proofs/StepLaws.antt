@@ -13,14 +13,14 @@ use Rattle.eg_word.proofs.WorldLemmas.{step-world}
 pub outside-after : (old new : List ℕ) (m : Registers) → new ≡ words_after old m → SameOutside is_level1_own old new
 outside-after old new m is = λ address outside. ap (λ words. slice_index words address) is ∙ step-outside old m address outside
 
--- a trap leaves registers and pc; want of memory leaves all
+-- a trap leaves registers and pc; where memory ran out all is left
 pub trap-after : {E : Type 0} (result : Result (Unit {0}) E) (old : List ℕ) (m now : Registers) (trap : Trap)
     → OnOk result (now ≡ registers_after old m) → OnErr result (now ≡ m) → now.state ≡ Trapped trap
     → now ≡ record m { state = Trapped trap }
 trap-after (Ok _) old m now trap is same state = is ∙ trap-registers old m trap (ap (λ r. r.state) (sym is) ∙ state)
 trap-after (Err _) old m now trap is same state = same ∙ ap (λ s. record m { state = s }) (ap (λ r. r.state) (sym same) ∙ state)
 
--- a trap leaves the words; want of memory leaves all
+-- a trap leaves the words; where memory ran out all is left
 pub trap_words-after : {E : Type 0} (result : Result (Unit {0}) E) (old new : List ℕ) (m now : Registers) (trap : Trap)
     → OnOk result (now ≡ registers_after old m) → OnOk result (new ≡ words_after old m) → OnErr result (new ≡ old)
     → now.state ≡ Trapped trap → new ≡ old

@@ -1,7 +1,7 @@
 -- Level 1's private world: its machine, its words and its two outputs; and what it is shown besides.
 use Rattle.std.specs.Prelude.{◌≡◌, ℕ, ◌+◌, ◌-◌, ◌<◌, if◌then◌else◌, ◌==◌, List, slice_index, slice_set, replicate, Option, Some, None}
 use Rattle.std.specs.List.{slice_range}
-use Rattle.eg_guard.specs.declared.regions.TheConstants.{DATA, IN_PORTS, THROTTLE, IGNITION, RESULTS}
+use Rattle.eg_guard.specs.declared.regions.TheConstants.{DATA, IN_PORTS, IN_PORT_COUNT, THROTTLE, IGNITION, RESULTS, RESULT_COUNT}
 use Rattle.eg_guard.specs.declared.regions.Region.{Region}
 use Rattle.eg_guard.specs.declared.regions.Region.TheVariants.{Code, Data, InPorts, OutPorts, Results, Protected, Link, None as NoRegion}
 use Rattle.eg_guard.specs.Regions.{region_of}
@@ -89,5 +89,5 @@ world_of m words = record {
 pub record Shows (words : List ℕ) (view : View) : Type 0 where
   pub are_words : AreWords words
   pub image : (k : ℕ) → k < DATA → slice_index words k ≡ slice_index view.image k
-  pub ports : (k : ℕ) → k < 10 → slice_index words (IN_PORTS + k) ≡ slice_index view.ports k
-  pub results : (k : ℕ) → k < 5 → slice_index words (RESULTS + k) ≡ slice_index view.results k
+  pub ports : (k : ℕ) → k < IN_PORT_COUNT → slice_index words (IN_PORTS + k) ≡ slice_index view.ports k
+  pub results : (k : ℕ) → k < RESULT_COUNT → slice_index words (RESULTS + k) ≡ slice_index view.results k

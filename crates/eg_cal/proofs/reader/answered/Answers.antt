@@ -1,5 +1,5 @@
 use Rattle.std.proofs.Common.{ap, option_map, refl}
-use Rattle.eg_values.specs.Calibration.{CalibrationParts}
+use Rattle.eg_values.specs.Calibration.{made_of}
 use Rattle.eg_cal.specs.declared.key.CalFault.TheVariants as fault
 use Rattle.eg_cal.proofs.TogetherLemmas.{answered-none, apart-answer}
 use Rattle.eg_cal.proofs.reader.answered.Goals as goal
@@ -9,5 +9,5 @@ returns-in-Ok c = (ap (option_map fault.Answer) (answered-none _ _ (c.in-Ok.ensu
 
 pub returns-in-Err-Answer : goal.returns-in-Err-Answer
 returns-in-Err-Answer c =
-    let parts : CalibrationParts = record { rules = c.args.rules; plant = c.args.plant; times = c.args.times; questions = c.args.questions } in
+    let parts = made_of c.args.rules c.args.plant c.args.times c.args.questions in
     ap (option_map fault.Answer) (apart-answer parts _ _ c.in-Err-Answer.field-0-is c.in-Err-Answer.ensures.refused)

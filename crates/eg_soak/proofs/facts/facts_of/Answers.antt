@@ -1,4 +1,5 @@
 use Rattle.std.proofs.Common.{◌∙◌, arith}
+use Rattle.eg_model.specs.Engines.{gasoline}
 use Rattle.eg_model.proofs.WholeRecord.{length-rows}
 use Rattle.eg_soak.specs.Soak.{run_drawn}
 use Rattle.eg_soak.proofs.FactsLemmas.{facts_told}
@@ -6,7 +7,7 @@ use Rattle.eg_soak.proofs.facts.facts_of.Goals as goal
 
 pub facts_in-requires : goal.facts_in-requires
 facts_in-requires c =
-    let rows = length-rows (run_drawn c.args.drawn.now) _ (c.as_slice.ensures ∙ c.requires.rows) in
+    let rows = length-rows gasoline (run_drawn c.args.drawn.now) _ (c.as_slice.ensures ∙ c.requires.rows) in
     let drive = c.requires.drawn.rows in
     omega (arith, rows, drive)
 

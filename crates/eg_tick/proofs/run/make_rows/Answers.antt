@@ -1,6 +1,7 @@
 use Rattle.std.proofs.Common.{◌≡◌, ◌∙◌, sym, ap, subst, ◌+◌, ◌<◌, [], ◌∷◌, ◌++◌, length, arith}
 use Rattle.std.specs.Prelude.{reverse}
 use Rattle.std.proofs.lemmas.Grind.{common_steps}
+use Rattle.eg_model.specs.Engines.{gasoline}
 use Rattle.eg_model.specs.Records.{rows_to}
 use Rattle.eg_model.proofs.WholeRecord.{rows-none, rows-suc}
 use Rattle.eg_tick.specs.Weights.{TickCount}
@@ -12,7 +13,7 @@ pub loop-tick-init : goal.loop-tick-init
 loop-tick-init c = record {
   ticks = c.requires.none;
   at = λ r plan drive at. at;
-  rows = λ r plan drive at. c.new-rows.ensures.items ∙ rows-none r;
+  rows = λ r plan drive at. c.new-rows.ensures.items ∙ rows-none gasoline r;
   counts = counted-none c.args.steps.now c.new-rows.result.items c.new-rows.ensures.items
       (let e = c.count.ensures in let l = c.count.type_inv in subst (λ n. n < 18446744073709551616) e l)
       (let e = c.sum.ensures in let l = c.sum.type_inv in subst (λ n. n < 18446744073709551616) e l);
@@ -45,7 +46,7 @@ loop-tick-preserved c =
       ticks = c.in_ok-row.ensures.ticks;
       at = λ r plan drive at. c.in_ok-row.ensures.at r plan
           (drive-at r c.args.drive.now c.loop-tick.tick _ drive c.loop-tick-test.true c.index-drive-tick.is) (c.loop-tick.invariant.at r plan drive at);
-      rows = λ r plan drive at. sym pushed ∙ rows-suc r c.loop-tick.tick c.loop-tick.rows.items c.in_ok-row.row (c.loop-tick.invariant.rows r plan drive at)
+      rows = λ r plan drive at. sym pushed ∙ rows-suc gasoline r c.loop-tick.tick c.loop-tick.rows.items c.in_ok-row.row (c.loop-tick.invariant.rows r plan drive at)
           (c.in_ok-row.ensures.row r plan
           (drive-at r c.args.drive.now c.loop-tick.tick _ drive c.loop-tick-test.true c.index-drive-tick.is) (c.loop-tick.invariant.at r plan drive at));
       counts = counted-more c.args.steps.now c.loop-tick.steps c.make_row.new.steps c.loop-tick.tick c.loop-tick.rows.items c.in_ok-row.row
@@ -61,7 +62,7 @@ returns-clause-at c = λ r plan drive at.
 pub returns-clause-rows : goal.returns-clause-rows
 returns-clause-rows c = λ r plan drive at.
     let end : c.loop-tick.tick ≡ length c.args.drive.now = omega (arith, c.loop-tick-test.false, c.loop-tick.auto.tick-end) in
-    c.loop-tick.invariant.rows r plan drive at ∙ ap (λ n. reverse (rows_to r n)) end
+    c.loop-tick.invariant.rows r plan drive at ∙ ap (λ n. reverse (rows_to gasoline r n)) end
 
 pub returns-clause-counted : goal.returns-clause-counted
 returns-clause-counted c =

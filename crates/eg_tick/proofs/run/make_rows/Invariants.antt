@@ -1,5 +1,6 @@
 use Rattle.std.proofs.Common.{◌≡◌}
 use Rattle.std.specs.Prelude.{reverse}
+use Rattle.eg_model.specs.Engines.{gasoline}
 use Rattle.eg_model.specs.Bench.{Run}
 use Rattle.eg_model.specs.Records.{rows_to}
 use Rattle.eg_tick.specs.Run.{IsAt}
@@ -11,6 +12,6 @@ abbrev pub invariant-loop-tick : goal.invariant-loop-tick
 invariant-loop-tick l = record {
   ticks : l.controller.kept.ticks ≡ l.tick;
   at : (r : Run) → r.plan ≡ l.plan → r.drive ≡ l.drive → IsAt r 0 l.fn.controller → IsAt r l.tick l.controller;
-  rows : (r : Run) → r.plan ≡ l.plan → r.drive ≡ l.drive → IsAt r 0 l.fn.controller → l.rows.items ≡ reverse (rows_to r l.tick);
+  rows : (r : Run) → r.plan ≡ l.plan → r.drive ≡ l.drive → IsAt r 0 l.fn.controller → l.rows.items ≡ reverse (rows_to gasoline r l.tick);
   counts : l.steps ≡ counted l.fn.steps l.tick l.rows.items;
 }

@@ -1,8 +1,10 @@
 use Rattle.std.proofs.Common.{subst}
 use Rattle.std.specs.Option.{option_copied}
 use Rattle.eg_answer.specs.Times.{reaction_of}
+use Rattle.eg_model.specs.Engines.{gasoline}
 use Rattle.eg_model.specs.Bench.{Run}
 use Rattle.eg_model.specs.Records.{ReactWithin, CutOneTickAfter, ReactAtOnce, CutLapses, LapsesAreShort}
+use Rattle.eg_model.proofs.GasolineLaws.{gasoline_keeps, gasoline_shows_one_load}
 use Rattle.eg_model.proofs.RecordLaws.{records_react, records_cut_sharply}
 use Rattle.eg_model.proofs.RowLaws.{records_react_at_once, records_cut_lapses, records_have_short_lapses}
 use Rattle.eg_model.proofs.WholeRecord.{newest_first}
@@ -15,31 +17,31 @@ pub returns-clause-reacts : goal.returns-clause-reacts
 returns-clause-reacts c = λ listed. if_ok _ _ c.record_run.result (λ made m.
     let r : Run = run_by c.args.calibration.now c.args.image.now (option_copied c.args.fault) c.args.plan.now c.args.drive.now in
     subst (ReactWithin (reaction_of r.setting.cal.times) r.setting.cal.rules.torque r.setting.cal.rules.threshold)
-    (newest_first r made.rows m.rows_are)
-    (records_react r (is_run r made.rows made.trap c.rules-rules.ensures.accepted m) listed)) c.record_run.ensures.made
+    (newest_first gasoline r made.rows m.rows_are)
+    (records_react gasoline_keeps r (is_run r made.rows made.trap c.rules-rules.ensures.accepted m) listed)) c.record_run.ensures.made
 
 pub returns-clause-at_once : goal.returns-clause-at_once
 returns-clause-at_once c = λ listed. if_ok _ _ c.record_run.result (λ made m.
     let r : Run = run_by c.args.calibration.now c.args.image.now (option_copied c.args.fault) c.args.plan.now c.args.drive.now in
     subst (ReactAtOnce r.setting.fault r.setting.cal.rules.torque r.setting.cal.rules.threshold)
-    (newest_first r made.rows m.rows_are)
-    (records_react_at_once r (is_run r made.rows made.trap c.rules-rules.ensures.accepted m) listed)) c.record_run.ensures.made
+    (newest_first gasoline r made.rows m.rows_are)
+    (records_react_at_once gasoline_keeps r (is_run r made.rows made.trap c.rules-rules.ensures.accepted m) listed)) c.record_run.ensures.made
 
 pub returns-clause-cuts : goal.returns-clause-cuts
 returns-clause-cuts c = λ none. if_ok _ _ c.record_run.result (λ made m.
     let r : Run = run_by c.args.calibration.now c.args.image.now (option_copied c.args.fault) c.args.plan.now c.args.drive.now in
     subst (CutOneTickAfter r.setting.cal.rules.torque r.setting.cal.rules.kt r.setting.cal.rules.threshold)
-    (newest_first r made.rows m.rows_are)
-    (records_cut_sharply r (is_run r made.rows made.trap c.rules-rules.ensures.accepted m) none)) c.record_run.ensures.made
+    (newest_first gasoline r made.rows m.rows_are)
+    (records_cut_sharply gasoline_keeps gasoline_shows_one_load r (is_run r made.rows made.trap c.rules-rules.ensures.accepted m) none)) c.record_run.ensures.made
 
 pub returns-clause-lapses : goal.returns-clause-lapses
 returns-clause-lapses c = λ bound lapse. if_ok _ _ c.record_run.result (λ made m.
     let r : Run = run_by c.args.calibration.now c.args.image.now (option_copied c.args.fault) c.args.plan.now c.args.drive.now in
-    subst (CutLapses r.setting.cal) (newest_first r made.rows m.rows_are)
-    (records_cut_lapses r (is_run r made.rows made.trap c.rules-rules.ensures.accepted m) c.requires.fault bound lapse)) c.record_run.ensures.made
+    subst (CutLapses r.setting.cal) (newest_first gasoline r made.rows m.rows_are)
+    (records_cut_lapses gasoline_keeps r (is_run r made.rows made.trap c.rules-rules.ensures.accepted m) c.requires.fault bound lapse)) c.record_run.ensures.made
 
 pub returns-clause-short : goal.returns-clause-short
 returns-clause-short c = λ bound lapse. if_ok _ _ c.record_run.result (λ made m.
     let r : Run = run_by c.args.calibration.now c.args.image.now (option_copied c.args.fault) c.args.plan.now c.args.drive.now in
-    subst (LapsesAreShort r.setting.cal) (newest_first r made.rows m.rows_are)
-    (records_have_short_lapses r (is_run r made.rows made.trap c.rules-rules.ensures.accepted m) c.requires.fault bound lapse)) c.record_run.ensures.made
+    subst (LapsesAreShort r.setting.cal) (newest_first gasoline r made.rows m.rows_are)
+    (records_have_short_lapses gasoline_keeps r (is_run r made.rows made.trap c.rules-rules.ensures.accepted m) c.requires.fault bound lapse)) c.record_run.ensures.made

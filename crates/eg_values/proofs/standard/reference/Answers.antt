@@ -3,14 +3,14 @@ use Rattle.eg_plant.specs.PlantParts.{PlantParts}
 use Rattle.eg_answer.specs.Times.{TimeParts}
 use Rattle.eg_answer.specs.declared.rules.Rules.{Rules}
 use Rattle.eg_answer.specs.declared.questions.Question.{Question}
-use Rattle.eg_values.specs.Calibration.{GoTogether}
+use Rattle.eg_values.specs.Calibration.{made_of, GoTogether}
 use Rattle.eg_values.specs.Reference.{reference_plant, reference_times, reference_questions}
 use Rattle.eg_values.proofs.ReferenceLemmas.{reference_goes_together}
 use Rattle.eg_values.proofs.standard.reference.Goals as goal
 
 -- these parts go together
 abbrev Together : Rules → PlantParts → TimeParts → List Question → Type 0
-Together r p t q = GoTogether (record { rules = r; plant = p; times = t; questions = q })
+Together r p t q = GoTogether (made_of r p t q)
 
 pub unreachable-requires : goal.unreachable-requires
 unreachable-requires c =
