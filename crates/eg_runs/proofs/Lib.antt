@@ -2,3 +2,4 @@ pub mod WorkedRuns
 pub mod WorkedFaults
 pub mod WorkedImages
 pub mod WorkedLapses
+pub mod WorkedUnusual

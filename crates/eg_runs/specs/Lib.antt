@@ -1,1 +1,2 @@
 pub mod WorkedLapses
+pub mod UnusualRuns

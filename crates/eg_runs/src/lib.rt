@@ -6,6 +6,7 @@
 mod examples;
 mod faulty_runs;
 mod lapses;
+mod unusual_runs;
 
 pub use examples::{
     empty_image, following_run, full_run_in_detail, idle_run, looping_image, refused_store,
@@ -16,3 +17,6 @@ pub use faulty_runs::{
     path_1_closes_run, raised_pedal_run, reaction_is_met, skipped_run,
 };
 pub use lapses::a_run_with_lapses_is_cut;
+pub use unusual_runs::{
+    early_answers_run, reading_that_is_cut_off_run, signal_that_stays_run, two_answers_run,
+};
