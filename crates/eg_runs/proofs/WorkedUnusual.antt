@@ -1,18 +1,16 @@
 -- Runs that show what the usual ones don't, computed from the definitions.
 use Rattle.std.proofs.Common.{◌≡◌, [], ◌∷◌, map, replicate, Some, None, refl}
-use Rattle.std.specs.Prelude.{codes}
 use Rattle.eg_answer.specs.declared.marks.AnswerMark.TheVariants.{Good}
 use Rattle.eg_answer.specs.declared.marks.Verdict.TheVariants.{Right, Wrong}
 use Rattle.eg_fault.specs.declared.class.Class.TheVariants.{Skip, Timing}
 use Rattle.eg_record.specs.declared.watch.Watch.TheVariants as found
-use Rattle.eg_model.specs.Rows.{report_of}
-use Rattle.eg_model.specs.Examples.{idle, full, fault_from, bench_run, reported, moments_in_time, answers_of, verdicts_of}
+use Rattle.eg_model.specs.Examples.{idle, full, fault_from, bench_run, report_on, reported, moments_in_time, answers_of, verdicts_of}
 use Rattle.eg_model.proofs.WholeModel.{whole_model}
 use Rattle.eg_runs.specs.UnusualRuns.{overflowing_run}
 
 -- ---- answers before the window ----
 
-pub early : report_of (codes "a") (bench_run idle (fault_from 0 (Timing 3)) 40)
+pub early : report_on (bench_run idle (fault_from 0 (Timing 3)) 40)
     ≡ reported (Some (found.Answers, 29)) (Some 30) None None
 unfolding whole_model
 early = refl

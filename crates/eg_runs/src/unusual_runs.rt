@@ -1,19 +1,18 @@
 // Runs on the bench that show what the usual ones don't, worked out from the definitions: answers that come
 // before the window, two of them in one period, a signal that stays though it isn't 0, and a reading that is
 // cut off. None of these functions does anything when it runs.
-ghost use Rattle.std.specs.Prelude.{◌≡◌, [], ◌∷◌, ◌++◌, map, replicate, Some, None, codes};
+ghost use Rattle.std.specs.Prelude.{◌≡◌, [], ◌∷◌, ◌++◌, map, replicate, Some, None};
 ghost use Rattle.eg_answer.specs.declared.marks.AnswerMark.TheVariants.{Good};
 ghost use Rattle.eg_answer.specs.declared.marks.Verdict.TheVariants.{Right, Wrong};
 ghost use Rattle.eg_fault.specs.declared.class.Class.TheVariants.{Skip, Timing};
 ghost use Rattle.eg_record.specs.declared.watch.Watch.TheVariants as found;
-ghost use Rattle.eg_model.specs.Rows.{report_of};
-ghost use Rattle.eg_model.specs.Examples.{idle, full, fault_from, bench_run, reported, moments_in_time, answers_of, verdicts_of};
+ghost use Rattle.eg_model.specs.Examples.{idle, full, fault_from, bench_run, report_on, reported, moments_in_time, answers_of, verdicts_of};
 ghost use Rattle.eg_runs.specs.UnusualRuns.{overflowing_run};
 
 /// Answers that are sent at tick 3 of their period come before the answer window: each of them is good, each
 /// verdict is wrong, and path 2 cuts at tick 30.
 pub fn early_answers_run()
-    ensures report { report_of (codes "a") (bench_run idle (fault_from 0 (Timing 3)) 40)
+    ensures report { report_on (bench_run idle (fault_from 0 (Timing 3)) 40)
         ≡ reported (Some (found.Answers, 29)) (Some 30) None None }
     ensures answers { answers_of (bench_run idle (fault_from 0 (Timing 3)) 30)
         ≡ (3, Good) ∷ (13, Good) ∷ (23, Good) ∷ [] }
