@@ -13,7 +13,7 @@ use Rattle.eg_answer.specs.declared.marks.Verdict.{Verdict}
 use Rattle.eg_answer.specs.declared.marks.Verdict.TheVariants.{Right, Wrong}
 use Rattle.eg_record.specs.declared.row.Row.{Row}
 use Rattle.eg_record.specs.declared.watch.Watch.{Watch}
-use Rattle.eg_record.specs.declared.watch.Watch.TheVariants.{Mirror, Pedal, Plate, Load, Speed, Torque, Answers}
+use Rattle.eg_record.specs.declared.watch.Watch.TheVariants.{Mirror, Pedal, Plate, Load, Speed, Torque, Answers, Start}
 use Rattle.eg_record.specs.Detection.{watches, is_found}
 use Rattle.eg_record.specs.Ascii.{AreAscii}
 use Rattle.eg_record.specs.Texts.{comma, plus, bit, watch_name, names, found_text, answer_text, verdict_text, drive_columns, engine_columns, path_columns, signal_columns, command_columns, value_columns, event_columns, columns, row_line}
@@ -72,6 +72,7 @@ name Load = small (codes "load") refl
 name Speed = small (codes "speed") refl
 name Torque = small (codes "torque") refl
 name Answers = small (codes "answers") refl
+name Start = small (codes "start") refl
 
 each_name : (ws : List Watch) → AreAscii (map watch_name ws)
 each_name [] = tt

@@ -6,7 +6,7 @@ use Rattle.std.proofs.lemmas.Bool.{cases_Bool, cases_order, both_ways}
 use Rattle.std.proofs.lemmas.Option.{none-some, same_Some}
 use Rattle.eg_num.specs.declared.watches.Watches.{Watches}
 use Rattle.eg_record.specs.declared.watch.Watch.{Watch}
-use Rattle.eg_record.specs.declared.watch.Watch.TheVariants.{Mirror, Pedal, Plate, Load, Speed, Torque, Answers}
+use Rattle.eg_record.specs.declared.watch.Watch.TheVariants.{Mirror, Pedal, Plate, Load, Speed, Torque, Answers, Start}
 use Rattle.eg_record.specs.Detection.{watches, is_found, first_watch, rank}
 
 -- ---- the order ----
@@ -21,12 +21,13 @@ watches-rank Load = refl
 watches-rank Speed = refl
 watches-rank Torque = refl
 watches-rank Answers = refl
+watches-rank Start = refl
 
 -- two watches don't share a place
 rank-same : (v w : Watch) → rank v ≡ rank w → v ≡ w
 rank-same v w same = sym (watches-rank v) ∙ ap (λ (n : ℕ). get_or watches n Mirror) same ∙ watches-rank w
 
-rank_below : (w : Watch) → rank w < 7
+rank_below : (w : Watch) → rank w < 8
 unfolding rank
 rank_below Mirror = omega arith
 rank_below Pedal = omega arith
@@ -35,6 +36,7 @@ rank_below Load = omega arith
 rank_below Speed = omega arith
 rank_below Torque = omega arith
 rank_below Answers = omega arith
+rank_below Start = omega arith
 
 -- the watches of a list stand at the places from n on
 abbrev StandFrom : ℕ → List Watch → Type 0
@@ -73,7 +75,7 @@ find-none p n (v ∷ ws) end upto stand none nothing = elim (cases_Bool (p v)) [
 
 watches-stand : StandFrom 0 watches
 unfolding rank
-watches-stand = (refl, (refl, (refl, (refl, (refl, (refl, (refl, tt)))))))
+watches-stand = (refl, (refl, (refl, (refl, (refl, (refl, (refl, (refl, tt))))))))
 
 none_at_first : (p : Watch → Bool) → NoneBefore p 0
 none_at_first p w below = absurd (omega arith)
@@ -86,7 +88,7 @@ first_watch-some found w first = find-first (is_found found) 0 watches w watches
 pub first_watch-none : (found : Watches) → first_watch found ≡ None → (w : Watch) → is_found found w ≡ false
 unfolding first_watch
 first_watch-none found none w =
-    find-none (is_found found) 0 watches 7 refl watches-stand (none_at_first (is_found found)) none w (rank_below w)
+    find-none (is_found found) 0 watches 8 refl watches-stand (none_at_first (is_found found)) none w (rank_below w)
 
 -- where none is found there is no first watch
 pub first_watch-nothing : (found : Watches) → ((w : Watch) → is_found found w ≡ false) → first_watch found ≡ None

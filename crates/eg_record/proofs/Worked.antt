@@ -2,6 +2,7 @@
 use Rattle.std.proofs.Common.{◌≡◌, ◌∷◌, [], ◌*◌, ℕ, List, true, false, None, Some, refl, codes}
 use Rattle.std.specs.Prelude.{Option, ◌+◌, ◌==◌, length, count_by}
 use Rattle.std.specs.Fmt.{digits}
+use Rattle.eg_num.specs.Drive.{driven}
 use Rattle.eg_num.specs.declared.watches.Watches.{Watches}
 use Rattle.eg_num.specs.Windows.{WeightParts, weight, windows, is_reached, is_confirmed, is_first, first_place}
 use Rattle.eg_torque.specs.Excess.{is_excess}
@@ -29,7 +30,7 @@ unfolding weight windows is_reached is_confirmed is_first first_place is_excess 
 recording = 0
 
 abbrev nothing : Watches
-nothing = record { mirror = false; pedal = false; plate = false; load = false; speed = false; torque = false; answers = false }
+nothing = record { mirror = false; pedal = false; plate = false; load = false; speed = false; torque = false; answers = false; start = false }
 
 -- ---- lines of rows ----
 
@@ -37,7 +38,7 @@ nothing = record { mirror = false; pedal = false; plate = false; load = false; s
 abbrev plain : (tick raise plate charge limit actual throttle : ℕ) → Row
 plain tick raise plate charge limit actual throttle = record {
   tick = tick;
-  drive = record { pedal = 0; speed = 800; raise = raise };
+  drive = driven 0 800 raise;
   plate = plate;
   charge = charge;
   torque = 0;
@@ -51,6 +52,8 @@ plain tick raise plate charge limit actual throttle = record {
   found = nothing;
   answer = Absent;
   verdict = None;
+  testing = false;
+  fresh = false;
 }
 
 probe_0 : row_line (plain 0 0 0 40 200 100 100) ≡ codes "0,0,800,0,0,40,0,200,1,1,1,0,200,100,0,0,100,0,-,-,-\n"

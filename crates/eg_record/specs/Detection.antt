@@ -5,12 +5,12 @@ use Rattle.std.specs.List.{All, Contains, find}
 use Rattle.eg_num.specs.declared.watches.Watches.{Watches}
 use Rattle.eg_record.specs.declared.row.Row.{Row}
 use Rattle.eg_record.specs.declared.watch.Watch.{Watch}
-use Rattle.eg_record.specs.declared.watch.Watch.TheVariants.{Mirror, Pedal, Plate, Load, Speed, Torque, Answers}
+use Rattle.eg_record.specs.declared.watch.Watch.TheVariants.{Mirror, Pedal, Plate, Load, Speed, Torque, Answers, Start}
 use Rattle.eg_record.specs.Rows.{AreRows, first_given}
 
 -- the watches in their order
 abbrev pub watches : List Watch
-watches = Mirror ∷ Pedal ∷ Plate ∷ Load ∷ Speed ∷ Torque ∷ Answers ∷ []
+watches = Mirror ∷ Pedal ∷ Plate ∷ Load ∷ Speed ∷ Torque ∷ Answers ∷ Start ∷ []
 
 -- whether a watch is found, where these are found
 unfoldable pub is_found : Watches → Watch → Bool
@@ -21,6 +21,7 @@ is_found found Load = found.load
 is_found found Speed = found.speed
 is_found found Torque = found.torque
 is_found found Answers = found.answers
+is_found found Start = found.start
 
 -- the first in their order that is found, or none
 unfoldable pub first_watch : Watches → Option Watch
@@ -45,6 +46,7 @@ rank Load = 3
 rank Speed = 4
 rank Torque = 5
 rank Answers = 6
+rank Start = 7
 
 -- no watch is found at this row
 abbrev pub FindsNothing : Row → Type 0

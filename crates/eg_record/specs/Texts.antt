@@ -12,7 +12,7 @@ use Rattle.eg_word.specs.declared.registers.Trap.TheVariants as kind
 use Rattle.eg_record.specs.declared.row.Row.{Row}
 use Rattle.eg_record.specs.declared.summary.Summary.{Summary}
 use Rattle.eg_record.specs.declared.watch.Watch.{Watch}
-use Rattle.eg_record.specs.declared.watch.Watch.TheVariants.{Mirror, Pedal, Plate, Load, Speed, Torque, Answers}
+use Rattle.eg_record.specs.declared.watch.Watch.TheVariants.{Mirror, Pedal, Plate, Load, Speed, Torque, Answers, Start}
 use Rattle.eg_record.specs.Detection.{watches, is_found}
 
 -- the bytes between columns, and between names
@@ -35,6 +35,7 @@ watch_name Load = codes "load"
 watch_name Speed = codes "speed"
 watch_name Torque = codes "torque"
 watch_name Answers = codes "answers"
+watch_name Start = codes "start"
 
 -- ---- the record ----
 

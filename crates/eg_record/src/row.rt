@@ -36,4 +36,8 @@ pub struct Row {
     pub answer: AnswerMark,
     /// The verdict over the answers of the period that ends with the tick.
     pub verdict: Option<Verdict>,
+    /// Whether a start-up test of the shut-off paths is running at the tick.
+    pub testing: bool,
+    /// Whether the tick is the first of its span: a power cycle begins, or the engine is driven from here on.
+    pub fresh: bool,
 }

@@ -23,11 +23,13 @@ pub enum Watch {
     Torque,
     /// Answers are wrong.
     Answers,
+    /// A start-up test of the shut-off paths failed.
+    Start,
 }
 
 impl Watch {
     /// The watches in their order.
-    pub const ORDER: [Watch; 7] = [
+    pub const ORDER: [Watch; 8] = [
         Watch::Mirror,
         Watch::Pedal,
         Watch::Plate,
@@ -35,6 +37,7 @@ impl Watch {
         Watch::Speed,
         Watch::Torque,
         Watch::Answers,
+        Watch::Start,
     ];
 
     /// Its name (docs/FORMATS.md, "The record").
@@ -50,6 +53,7 @@ impl Watch {
             Watch::Speed => "speed",
             Watch::Torque => "torque",
             Watch::Answers => "answers",
+            Watch::Start => "start",
         }
     }
 
@@ -66,6 +70,7 @@ impl Watch {
             Watch::Speed => found.speed,
             Watch::Torque => found.torque,
             Watch::Answers => found.answers,
+            Watch::Start => found.start,
         }
     }
 

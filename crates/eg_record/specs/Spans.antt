@@ -1,0 +1,38 @@
+-- The spans of a run, by its rows. A span begins at each row that is fresh, and lasts to the row before the
+-- next such one. In a drive span the engine is driven; in a test span the shut-off paths are tested, which its
+-- first row tells.
+use Rattle.std.specs.Prelude.{◌≡◌, ℕ, true, false, List, [], ◌∷◌, ◌++◌, length, if◌then◌else◌}
+use Rattle.std.specs.List.{All}
+use Rattle.eg_record.specs.declared.row.Row.{Row}
+
+-- of these rows, those of the span that the last one belongs to
+unfoldable pub this_span : List Row → List Row
+this_span [] = []
+this_span (row ∷ before) = row ∷ (if row.fresh then [] else this_span before)
+
+-- These rows are a span, or its part up to some tick: the earliest is fresh, and no other is.
+pub record IsSpan (rows : List Row) : Type 0 where
+  pub later : List Row
+  pub first : Row
+  pub is : rows ≡ later ++ first ∷ []
+  pub begins : first.fresh ≡ true
+  pub goes_on : All (λ row. row.fresh ≡ false) later
+
+-- it is a drive span, or a test span
+pub record IsDriveSpan (rows : List Row) : Type 0 where
+  pub span : IsSpan rows
+  pub drives : span.first.testing ≡ false
+
+pub record IsTestSpan (rows : List Row) : Type 0 where
+  pub span : IsSpan rows
+  pub tests : span.first.testing ≡ true
+
+-- P holds of each drive span of these rows, or of its part up to any tick, and of the tick at which it begins
+abbrev pub EachDriveSpan : (ℕ → List Row → Type 0) → List Row → Type 0
+EachDriveSpan P rows =
+    (newer span older : List Row) → rows ≡ newer ++ (span ++ older) → IsDriveSpan span → P (length older) span
+
+-- and likewise of each test span
+abbrev pub EachTestSpan : (ℕ → List Row → Type 0) → List Row → Type 0
+EachTestSpan P rows =
+    (newer span older : List Row) → rows ≡ newer ++ (span ++ older) → IsTestSpan span → P (length older) span
