@@ -15,6 +15,7 @@ use Rattle.eg_model.specs.History.{Setting, Entry, Tick, Moment}
 use Rattle.eg_model.specs.Signals.{tripped}
 use Rattle.eg_model.specs.Detection.{fed_bits, torque_bit}
 use Rattle.eg_model.specs.Paths.{latch2, path2_at, on_at}
+use Rattle.eg_model.specs.Paths.{on_at}
 use Rattle.eg_model.specs.Moments.{moment, moments_of}
 use Rattle.eg_model.specs.Rows.{row_of, rows_of}
 use Rattle.eg_model.specs.Premises.{AreProper, IsProper, Follows, is_on_after, true_excesses}
@@ -219,7 +220,7 @@ cuts_lapses s accepted bounded lapse start periods h at exceed more x follows pr
 -- ---- no stretch is longer ----
 
 -- where the stages are off there is no excess
-off_no_excess : (s : Setting) (x : Tick) (past : List Moment) → IsProper s x past →
+off_no_excess : (s : Setting) (x : Tick) (past : List Moment) → IsProper s (on_at x.effects past) x.entry →
     (moment s x.effects x.entry past).on ≡ false →
     exceeds s (moment s x.effects x.entry past) ≡ true → ⊥
 unfolding is_excess

@@ -19,6 +19,7 @@ use Rattle.eg_fault.specs.Classes.{IsSound}
 use Rattle.eg_model.specs.History.{Setting, Entry, Tick, Moment}
 use Rattle.eg_model.specs.Signals.{tripped, is_limited, signal}
 use Rattle.eg_model.specs.Detection.{torque_bit}
+use Rattle.eg_model.specs.Paths.{on_at}
 use Rattle.eg_model.specs.Moments.{readings_at, limit_at, moment, moments_of}
 use Rattle.eg_model.specs.Premises.{AreProper, IsProper}
 use Rattle.eg_model.proofs.TickLemmas.{Each, Runs, moment-limit, moment-pedal_signal, moment-permitted, moment-actual, moment-excess, moment-exceeds}
@@ -67,7 +68,7 @@ lower_second : (a b p : ℕ) → b ≡ 1000 - p → min a (1000 - b) ≤ p
 lower_second a b p h = omega arith
 
 -- one sound track of each pair is enough
-pub errs_safely : (s : Setting) (x : Tick) (past : List Moment) → SeesExcess x.effects → IsProper s x past →
+pub errs_safely : (s : Setting) (x : Tick) (past : List Moment) → SeesExcess x.effects → IsProper s (on_at x.effects past) x.entry →
     ErrsSafely s.cal.rules.kt (readings_at s.cal x.effects x.entry) x.entry
 unfolding readings_at readings_under
 errs_safely s x past sees proper = record {

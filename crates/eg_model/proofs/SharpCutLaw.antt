@@ -315,7 +315,7 @@ unfolding full_excesses moments_of rows_of
 full_excesses-cons s x h = refl
 
 module _ (s : Setting) (a : IsAccepted s.cal) (e : Entry) (h : List Tick)
-    (proper : IsProper s (plain e) (moments_of s h)) (loads : e.shown.load_2 ≡ e.shown.load_1)
+    (proper : IsProper s (on_at no_effects (moments_of s h)) e) (loads : e.shown.load_2 ≡ e.shown.load_1)
     (calm : Calm s h) where
   abbrev past : List Moment
   past = moments_of s h
@@ -434,7 +434,7 @@ calm_until s a (x ∷ h) each proper quiet =
     let before = not_before s.cal.rules.torque _ (full_excesses s h)
     (subst (λ l. is_confirmed s.cal.rules.torque l ≡ false) (full_excesses-cons s x h) quiet) in
     as_plain (λ y. Calm s (y ∷ h)) x none
-    (step_calm s a x.entry h (to_plain (λ y. IsProper s y (moments_of s h)) x none proper.0) each.0.loads
+    (step_calm s a x.entry h (to_plain (λ y. IsProper s (on_at y.effects (moments_of s h)) y.entry) x none proper.0) each.0.loads
     (calm_until s a h each.1 proper.1 before)
     (to_plain (λ y. is_confirmed s.cal.rules.torque (full_excesses s (y ∷ h)) ≡ false) x none quiet))
 
@@ -466,7 +466,7 @@ trip_once_confirmed s a (x ∷ h) each proper c =
           as_plain (λ y. tripped (moment s y.effects y.entry (moments_of s h) ∷ moments_of s h)
           ≡ true) x none
           (step_trip s a x.entry h
-          (to_plain (λ y. IsProper s y (moments_of s h)) x none proper.0) each.0.loads
+          (to_plain (λ y. IsProper s (on_at y.effects (moments_of s h)) y.entry) x none proper.0) each.0.loads
           (calm_until s a h each.1 proper.1 now.0)
           (to_plain (λ y. is_first s.cal.rules.torque (full_excesses s (y ∷ h)) ≡ true) x none
           (subst (λ l. is_first s.cal.rules.torque l ≡ true) (sym (full_excesses-cons s x h)) now.1)))

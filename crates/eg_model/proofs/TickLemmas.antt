@@ -13,7 +13,7 @@ use Rattle.eg_model.specs.History.{Setting, Entry, Tick, drives, Moment}
 use Rattle.eg_model.specs.Signals.{tripped, is_limited, last_signals, signal, signals_at}
 use Rattle.eg_model.specs.Detection.{feeds_at, fed_bits, finds, pedal_bit, plate_bit, load_bit, speed_bit, torque_bit}
 use Rattle.eg_model.specs.Answers.{is_whole, mark_at, verdict_at, confirms_at}
-use Rattle.eg_model.specs.Paths.{orders_open, path1_at, path2_at, on_at}
+use Rattle.eg_model.specs.Paths.{is_told_to_open, orders_open, path1_at, path2_at, on_at}
 use Rattle.eg_model.specs.Level1.{world_at}
 use Rattle.eg_model.specs.Moments.{readings_at, limit_at, moment_in, moment, moments_of}
 use Rattle.eg_model.specs.Rows.{row_of}
@@ -146,7 +146,7 @@ module _ (s : Setting) (x : Effects) (e : Entry) (past : List Moment) where
   moment-trip = refl
 
   pub moment-orders : (moment s x e past).orders ≡ (x.ran REACT && tripped ((moment s x e past) ∷ past))
-  unfolding moment moment_in drives orders_open tripped
+  unfolding moment moment_in drives is_told_to_open orders_open tripped
   moment-orders = refl
 
   pub moment-whole : (moment s x e past).whole ≡ is_whole x

@@ -1,15 +1,15 @@
 -- The run of an engine on the bench: from its rest on, under level 1's two outputs as the tick before left
 -- them.
-use Rattle.std.specs.Prelude.{ℕ, zero, suc, ◌%◌, Bool, List, [], ◌∷◌, length, slice_index_or, Option}
-use Rattle.eg_num.specs.Drive.{DriveRow}
+use Rattle.std.specs.Prelude.{ℕ, zero, suc, ◌%◌, Bool, ◌&&◌, if◌then◌else◌, List, [], ◌∷◌, length, slice_index_or, Option}
+use Rattle.eg_num.specs.Drive.{DriveRow, driven}
 use Rattle.eg_plant.specs.PlantParts.{PlantParts}
 use Rattle.eg_plant.specs.Engine.{Shown}
 use Rattle.eg_fault.specs.Effects.{Effects}
 use Rattle.eg_fault.specs.Faults.{effects}
-use Rattle.eg_model.specs.History.{Setting, Entry, Moment}
+use Rattle.eg_model.specs.History.{Setting, Entry, drives, Moment}
 use Rattle.eg_model.specs.Paths.{on_at}
 use Rattle.eg_model.specs.Level1.{last_world}
-use Rattle.eg_model.specs.Moments.{moment}
+use Rattle.eg_model.specs.Spans.{kind_at, before_at, next_after}
 use Rattle.eg_model.specs.Engines.{BenchEngine}
 
 -- an engine after a step, by level 1's outputs as these ticks left them, whether the stages are on, and where
@@ -19,16 +19,20 @@ unfoldable pub stepped : {E : Type 0} → BenchEngine E → PlantParts → E →
 stepped b plant e past on held =
     let world = last_world past in b.step plant e world.throttle world.ignition on held
 
--- The engine after these ticks: it has made a step at each, from its rest on. Nothing is read off what it
--- showed.
+-- The engine after these ticks of a run: it has made a step at each, from its rest on, also from span to span.
+-- At the first tick of a span nothing is commanded yet. Nothing is read off what it showed.
 unfoldable pub engine_after : {E : Type 0} → BenchEngine E → Setting → List Moment → E
 engine_after b s [] = b.rest s.cal.plant
 engine_after b s (m ∷ past) =
-    stepped b s.cal.plant (engine_after b s past) past m.on (effects s.fault (length past)).held
+    stepped b s.cal.plant (engine_after b s past) (if m.fresh then [] else past) m.on
+    (effects s.fault (length past)).held
 
--- what it shows after its step at the tick after these
-unfoldable pub shown_at : {E : Type 0} → BenchEngine E → Setting → Effects → List Moment → Shown
-shown_at b s x past = b.shows (stepped b s.cal.plant (engine_after b s past) past (on_at x past) x.held)
+-- what it shows after its step at the tick after these, whose drive row this is
+unfoldable pub shown_at : {E : Type 0} → BenchEngine E → Setting → Effects → DriveRow → List Moment → Shown
+shown_at b s x drive past =
+    let before = before_at drive past in
+    let on = drives (kind_at drive past) && on_at x before in
+    b.shows (stepped b s.cal.plant (engine_after b s past) before on x.held)
 
 -- a run: its setting, the slice plan and the drive, both in the order of time
 pub record Run : Type 0 where
@@ -38,7 +42,7 @@ pub record Run : Type 0 where
 
 -- the drive row past the end of the drive
 unfoldable pub no_drive : DriveRow
-no_drive = record { pedal = 0; speed = 0; raise = 0 }
+no_drive = driven 0 0 0
 
 -- the drive row of a tick, and its slice row: the rows of the plan come in turn, again and again
 unfoldable pub drive_at : Run → ℕ → DriveRow
@@ -52,15 +56,14 @@ unfoldable pub entry_at : {E : Type 0} → BenchEngine E → Run → ℕ → Lis
 entry_at b r t past = record {
   drive = drive_at r t;
   slices = slices_at r t;
-  shown = shown_at b r.setting (effects r.setting.fault t) past;
+  shown = shown_at b r.setting (effects r.setting.fault t) (drive_at r t) past;
 }
 
 -- the moments of the first so many ticks
 unfoldable pub moments_to : {E : Type 0} → BenchEngine E → Run → ℕ → List Moment
 moments_to b r zero = []
 moments_to b r (suc t) =
-    let past = moments_to b r t in
-    moment r.setting (effects r.setting.fault t) (entry_at b r t past) past ∷ past
+    let past = moments_to b r t in next_after r.setting (entry_at b r t past) past ∷ past
 
 -- what came in at them
 unfoldable pub entries_to : {E : Type 0} → BenchEngine E → Run → ℕ → List Entry

@@ -1,7 +1,7 @@
 -- Runs on the bench that are worked out: images of level 1, drives, and runs of them with the reference
 -- calibration.
-use Rattle.std.specs.Prelude.{ℕ, negsuc, Bool, true, false, is_some, List, [], ◌∷◌, ◌++◌, map, filter, reverse, length, replicate, codes, Option, Some, None}
-use Rattle.eg_num.specs.Drive.{DriveRow}
+use Rattle.std.specs.Prelude.{ℕ, negsuc, ◌==◌, Bool, true, false, is_some, List, [], ◌∷◌, ◌++◌, map, filter, reverse, length, replicate, codes, Option, Some, None}
+use Rattle.eg_num.specs.Drive.{DriveRow, driven}
 use Rattle.eg_answer.specs.declared.marks.AnswerMark.{AnswerMark}
 use Rattle.eg_answer.specs.declared.marks.AnswerMark.TheVariants.{Absent}
 use Rattle.eg_answer.specs.declared.marks.Verdict.{Verdict}
@@ -40,7 +40,7 @@ probe =
 
 -- the pedal at rest, at 800 rpm
 abbrev pub at_rest : DriveRow
-at_rest = record { pedal = 0; speed = 800; raise = 0 }
+at_rest = driven 0 800 0
 
 -- the usual slices: a hundred instructions each
 abbrev pub usual_slices : List ℕ
@@ -66,7 +66,7 @@ bench_run image fault count = run_of image fault (replicate count at_rest)
 abbrev pub raised_run : Run
 raised_run =
     run_of full (fault_from 0 Path1Closed)
-    (replicate 12 (record { pedal = 0; speed = 800; raise = 10000 }) ++ replicate 48 at_rest)
+    (replicate 12 (driven 0 800 10000) ++ replicate 48 at_rest)
 
 -- four ticks of the probe, which runs in slices 3 and 4 alone
 abbrev pub probe_run : Run
@@ -93,35 +93,36 @@ probe_row tick plate charge actual throttle = record {
     plate = false;
     load = false;
     speed = false;
-    torque =
-        false;
+    torque = false;
     answers = false;
+    start = false;
   };
   answer = Absent;
   verdict = None;
+  testing = false;
+  fresh = tick == 0;
 }
 
 -- the pedal at 200 from tick 5 to tick 24, and else at 0
 abbrev pub follow_run : Run
 follow_run =
-    run_of follow None (replicate 5 at_rest ++ replicate 20
-    (record { pedal = 200; speed = 800; raise = 0 }) ++ replicate 15 at_rest)
+    run_of follow None (replicate 5 at_rest ++ replicate 20 (driven 200 800 0) ++ replicate 15 at_rest)
 
 -- the first pedal track reads 1000 where the pedal stands at 500, for ten ticks
 abbrev pub pressed_run : Run
 pressed_run =
     run_of idle (fault_from 0 (Script 0 (1000 ∷ [])))
-    (replicate 10 (record { pedal = 500; speed = 800; raise = 0 }))
+    (replicate 10 (driven 500 800 0))
 
 -- the first pedal track reads 100 less where the pedal stands at 50, for one tick
 abbrev pub offset_run : Run
 offset_run =
-    run_of idle (fault_from 0 (Offset 0 (negsuc 99))) (record { pedal = 50; speed = 800; raise = 0 } ∷ [])
+    run_of idle (fault_from 0 (Offset 0 (negsuc 99))) (driven 50 800 0 ∷ [])
 
 -- a raise of 600 whose lowest bit is flipped on its way, for one tick
 abbrev pub disturbed_raise_run : Run
 disturbed_raise_run =
-    run_of idle (fault_from 0 (Bus 1)) (record { pedal = 0; speed = 800; raise = 600 } ∷ [])
+    run_of idle (fault_from 0 (Bus 1)) (driven 0 800 600 ∷ [])
 
 -- a slice plan of two rows: nothing in the first tick, and the usual slices in the second
 abbrev pub alternating_run : Run
@@ -138,7 +139,7 @@ raise_reader = 0x1210 ∷ 0x2210 ∷ 0x1410 ∷ 0x2408 ∷ 0xb680 ∷ 0xc640 ∷
 
 -- one tick of it, with a raise of 7
 abbrev pub raise_run : Run
-raise_run = run_of raise_reader None (record { pedal = 0; speed = 800; raise = 7 } ∷ [])
+raise_run = run_of raise_reader None (driven 0 800 7 ∷ [])
 
 -- stores to the word of a signal
 abbrev pub storing : List ℕ

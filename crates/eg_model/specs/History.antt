@@ -1,7 +1,7 @@
 -- A run, tick by tick: what comes in, and what is true of each tick. A history is a list of ticks from a
 -- start on; it stands newest first, so the past of a tick is the rest of the list behind it, and the number
 -- of a tick is the length of its past.
-use Rattle.std.specs.Prelude.{ℕ, Bool, true, List, Option}
+use Rattle.std.specs.Prelude.{ℕ, Bool, true, false, List, Option}
 use Rattle.eg_num.specs.Drive.{DriveRow}
 use Rattle.eg_num.specs.declared.watches.Watches.{Watches}
 use Rattle.eg_sensor.specs.declared.readings.Readings.{Readings}
@@ -31,13 +31,15 @@ pub record Tick : Type 0 where
   pub effects : Effects
   pub entry : Entry
 
--- what a span of a run's ticks is for: so far the engine is driven in each
+-- what a span of a run's ticks is for: the engine is driven in it, or the two shut-off paths are tested
 pub data SpanKind : Type 0 where
   Drive : SpanKind
+  Test : SpanKind
 
--- whether the engine is driven in it: the stages have power, the debouncers are fed and answers are sent
+-- whether the engine is driven in it: the stages may have power, the debouncers are fed and answers are sent
 unfoldable pub drives : SpanKind → Bool
 drives Drive = true
+drives Test = false
 
 -- the five signals of level 2
 pub record Signals : Type 0 where
@@ -49,12 +51,17 @@ pub record Signals : Type 0 where
 
 -- what is true of one tick
 pub record Moment : Type 0 where
-  -- its number, and what came in
+  -- what its span is for, whether it is the first tick of it, its number in it, and what came in
+  pub kind : SpanKind
+  pub fresh : Bool
   pub tick : ℕ
   pub entry : Entry
   -- what the sensors read, and the permitted torque of the drive row
   pub reads : Readings
   pub limit : ℕ
+  -- whether a start-up test is running, and whether it is passed now
+  pub testing : Bool
+  pub passes : Bool
   -- whether each path conducts, and whether the power stages are on
   pub path1 : Bool
   pub path2 : Bool

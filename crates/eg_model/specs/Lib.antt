@@ -5,6 +5,7 @@ pub mod Answers
 pub mod Paths
 pub mod Level1
 pub mod Moments
+pub mod Spans
 pub mod Engines
 pub mod Bench
 pub mod Rows
@@ -13,4 +14,5 @@ pub mod Premises
 pub mod Reaction
 pub mod SharpCut
 pub mod Records
+pub mod StartUp
 pub mod Lapses

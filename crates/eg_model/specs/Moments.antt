@@ -1,19 +1,18 @@
--- What is true of a tick, from what is out of order at it, what comes in, and what was true of the ticks
--- before; and so of each tick of a history.
-use Rattle.std.specs.Prelude.{ℕ, ◌&&◌, ◌||◌, is_some, List, [], ◌∷◌, length, if◌then◌else◌}
+-- What is true of a tick, from what is out of order at it, what comes in, and what was true of the ticks of
+-- its span before; and so of each tick of a span.
+use Rattle.std.specs.Prelude.{ℕ, ◌==◌, not, ◌&&◌, ◌||◌, is_some, List, [], ◌∷◌, length, if◌then◌else◌}
 use Rattle.eg_num.specs.Drive.{DriveRow}
 use Rattle.eg_sensor.specs.Readings.{sound_readings}
 use Rattle.eg_sensor.specs.declared.readings.Readings.{Readings}
 use Rattle.eg_torque.specs.Permit.{drive_permits}
 use Rattle.eg_answer.specs.declared.marks.AnswerMark.TheVariants.{Absent}
 use Rattle.eg_fault.specs.Effects.{Effects, readings_under}
-use Rattle.eg_fault.specs.Faults.{effects}
 use Rattle.eg_values.specs.Calibration.{CalibrationParts}
 use Rattle.eg_model.specs.History.{Setting, Entry, Tick, SpanKind, Drive, drives, Moment}
 use Rattle.eg_model.specs.Signals.{signals_at}
 use Rattle.eg_model.specs.Detection.{pedal_bit, plate_bit, load_bit, speed_bit, torque_bit, feeds_at, finds}
 use Rattle.eg_model.specs.Answers.{is_whole, mark_at, verdict_at, confirms_at}
-use Rattle.eg_model.specs.Paths.{orders_open, path1_at, path2_at, on_at}
+use Rattle.eg_model.specs.Paths.{is_testing, reads_back, orders_open, path1_at, path2_at, on_at}
 use Rattle.eg_model.specs.Level1.{world_at}
 
 -- what the sensors read, under this calibration
@@ -26,8 +25,10 @@ readings_at cal x e =
 unfoldable pub limit_at : CalibrationParts → DriveRow → ℕ
 limit_at cal drive = drive_permits cal.rules.permit drive
 
--- The moment of one tick, in a span of this kind. Where the engine isn't driven the stages have no power, the
--- debouncers aren't fed, no answer is sent, and wrong answers that are confirmed aren't found.
+-- The moment of one tick, in a span of this kind, of which these ticks came before. Where the engine isn't
+-- driven the stages have no power, the debouncers aren't fed, no answer is sent, and wrong answers that are
+-- confirmed aren't found. A start-up test is passed where neither path conducts as they are read back, and else
+-- it fails, which is found.
 unfoldable pub moment_in : SpanKind → Setting → Effects → Entry → List Moment → Moment
 moment_in kind s x e past =
     let rules = s.cal.rules in
@@ -44,13 +45,20 @@ moment_in kind s x e past =
     let mark = if drives kind then mark_at times x trip past else Absent in
     let verdict = verdict_at times x mark past in
     let confirms = confirms_at times verdict past in
+    let path1 = path1_at x past in
+    let path2 = path2_at x past in
+    let read_back = reads_back kind times (length past) in
     record {
+      kind = kind;
+      fresh = length past == 0;
       tick = length past;
       entry = e;
       reads = reads;
       limit = limit_at s.cal e.drive;
-      path1 = path1_at x past;
-      path2 = path2_at x past;
+      testing = is_testing kind times (length past);
+      passes = read_back && not (path1 || path2);
+      path1 = path1;
+      path2 = path2;
       on = drives kind && on_at x past;
       signals = signals;
       feeds = feeds;
@@ -62,9 +70,10 @@ moment_in kind s x e past =
         speed = speed;
         torque = torque;
         answers = drives kind && confirms;
+        start = read_back && (path1 || path2);
       };
       trip = trip;
-      orders = orders_open x trip past;
+      orders = orders_open kind times x trip past;
       whole = is_whole x;
       mark = mark;
       verdict = verdict;
@@ -87,16 +96,3 @@ moment = moment_in Drive
 unfoldable pub moments_of : Setting → List Tick → List Moment
 unfolding moments_in moment
 moments_of = moments_in Drive
-
--- the ticks of a history from power-on: what is out of order at each is what the setting's fault does
-unfoldable pub ticks : Setting → List Entry → List Tick
-ticks s [] = []
-ticks s (e ∷ before) = record { effects = effects s.fault (length before); entry = e } ∷ ticks s before
-
--- the moments of a history from power-on
-unfoldable pub moments : Setting → List Entry → List Moment
-moments s h = moments_of s (ticks s h)
-
--- the moment of one tick more
-unfoldable pub next : Setting → Entry → List Entry → Moment
-next s e h = moment s (effects s.fault (length h)) e (moments s h)

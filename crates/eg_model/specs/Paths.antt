@@ -1,15 +1,38 @@
--- The two shut-off paths. Their latches aren't kept: they are read off the past.
-use Rattle.std.specs.Prelude.{Bool, ◌&&◌, ◌||◌, List}
+-- The two shut-off paths, and the start-up test of them. Their latches aren't kept: they are read off the past
+-- of the span.
+use Rattle.std.specs.Prelude.{ℕ, ◌+◌, ◌==◌, nat_le, Bool, false, not, ◌&&◌, ◌||◌, List, length}
 use Rattle.std.specs.List.{list_any}
+use Rattle.eg_answer.specs.Times.{TimeParts, test_ticks_of}
 use Rattle.eg_answer.specs.declared.modules.TheConstants.{REACT}
 use Rattle.eg_fault.specs.Effects.{Effects}
 use Rattle.eg_fault.specs.declared.paths.TheConstants.{PATH_1, PATH_2}
-use Rattle.eg_model.specs.History.{Moment}
+use Rattle.eg_model.specs.History.{SpanKind, Drive, Test, Moment}
 use Rattle.eg_model.specs.Signals.{tripped}
 
--- react orders path 1 open at a tick where it runs and a trip has come by then
-unfoldable pub orders_open : Effects → Bool → List Moment → Bool
-orders_open x trip past = x.ran REACT && (trip || tripped past)
+-- ---- the start-up test, by the number of a tick in its span ----
+
+-- a test is running up to the tick at which the paths are read back, which takes so long that path 2 is open
+-- by then
+unfoldable pub is_testing : SpanKind → TimeParts → ℕ → Bool
+is_testing Drive times local = false
+is_testing Test times local = nat_le local (test_ticks_of times)
+
+-- react is told to order path 1 open at the tick before that one
+unfoldable pub is_told_to_open : SpanKind → TimeParts → ℕ → Bool
+is_told_to_open Drive times local = false
+is_told_to_open Test times local = local + 1 == test_ticks_of times
+
+-- the paths are read back
+unfoldable pub reads_back : SpanKind → TimeParts → ℕ → Bool
+reads_back Drive times local = false
+reads_back Test times local = local == test_ticks_of times
+
+-- ---- orders and latches ----
+
+-- react orders path 1 open at a tick where it runs, and a trip has come by then or it is told to
+unfoldable pub orders_open : SpanKind → TimeParts → Effects → Bool → List Moment → Bool
+orders_open kind times x trip past =
+    x.ran REACT && (is_told_to_open kind times (length past) || (trip || tripped past))
 
 -- the latch of path 1 was opened at one of these ticks: react ordered it
 unfoldable pub latch1 : List Moment → Bool
@@ -27,6 +50,6 @@ path1_at x past = x.conducts PATH_1 (latch1 past)
 unfoldable pub path2_at : Effects → List Moment → Bool
 path2_at x past = x.conducts PATH_2 (latch2 past)
 
--- the power stages are on where both do
+-- the power stages are on where both do, while the engine is driven
 unfoldable pub on_at : Effects → List Moment → Bool
 on_at x past = path1_at x past && path2_at x past

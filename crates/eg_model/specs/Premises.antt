@@ -7,22 +7,29 @@ use Rattle.eg_plant.specs.Engine.{KeepsLaws}
 use Rattle.eg_fault.specs.Faults.{effects}
 use Rattle.eg_fault.specs.declared.class.Fault.{Fault}
 use Rattle.eg_record.specs.Excess.{true_excess, full_excess}
-use Rattle.eg_model.specs.History.{Setting, Tick, Moment}
+use Rattle.eg_model.specs.History.{Setting, Entry, Tick}
 use Rattle.eg_model.specs.Paths.{on_at}
 use Rattle.eg_model.specs.Moments.{moment, moments_of}
+use Rattle.eg_model.specs.Spans.{next}
 use Rattle.eg_model.specs.Rows.{rows_of}
 
--- What comes in at a tick after these moments is proper: the drive row keeps its limits; the plate has an
--- angle within its range, and neither load hides torque; and where the stages are off there is no torque.
-pub record IsProper (s : Setting) (x : Tick) (past : List Moment) : Type 0 where
-  pub drive : IsDrive x.entry.drive
-  pub engine : KeepsLaws s.cal.rules.kt x.entry.shown
-  pub no_torque : on_at x.effects past ≡ false → x.entry.shown.torque ≡ 0
+-- What comes in at a tick is proper: the drive row keeps its limits; the plate has an angle within its range,
+-- and neither load hides torque; and where the stages are off there is no torque.
+pub record IsProper (s : Setting) (on : Bool) (e : Entry) : Type 0 where
+  pub drive : IsDrive e.drive
+  pub engine : KeepsLaws s.cal.rules.kt e.shown
+  pub no_torque : on ≡ false → e.shown.torque ≡ 0
 
--- it is so at each tick of a history
+-- it is so at each tick of a history in which the engine is driven
 unfoldable pub AreProper : Setting → List Tick → Type 0
 AreProper s [] = Unit {0}
-AreProper s (x ∷ before) = IsProper s x (moments_of s before) × AreProper s before
+AreProper s (x ∷ before) =
+    IsProper s (on_at x.effects (moments_of s before)) x.entry × AreProper s before
+
+-- and at each tick of a run
+unfoldable pub IsProperRun : Setting → List Entry → Type 0
+IsProperRun s [] = Unit {0}
+IsProperRun s (e ∷ before) = IsProper s (next s e before).on e × IsProperRun s before
 
 -- a history that begins at tick `start` of a run with this fault, if any
 unfoldable pub Follows : Option Fault → ℕ → List Tick → Type 0

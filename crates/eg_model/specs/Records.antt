@@ -1,19 +1,20 @@
--- The laws for the record of a run on the bench: what the report says, and what the rows keep. They are said
--- of any engine.
-use Rattle.std.specs.Prelude.{◌≡◌, ℕ, ◌+◌, ◌*◌, ◌≤◌, ◌<◌, Bool, true, false, not, nat_lt, nat_le, List, ◌++◌, All, map, take, length, Option, Some, None, IfSome, MatchOption}
+-- The laws for the record of a run on the bench, span by span: what the report says, and what the rows keep.
+-- They are said of any engine.
+use Rattle.std.specs.Prelude.{◌≡◌, ℕ, ◌+◌, ◌*◌, ◌≤◌, ◌<◌, Bool, true, false, not, nat_lt, nat_le, max, List, ◌∷◌, ◌++◌, All, map, take, length, Option, Some, None, IfSome, MatchOption}
 use Rattle.std.specs.List.{list_all}
 use Rattle.eg_num.specs.Drive.{IsDrive}
 use Rattle.eg_num.specs.Windows.{WeightParts, is_confirmed, first_place}
 use Rattle.eg_answer.specs.Times.{reaction_of, HasLapseBound, lapse_periods, lapse_bound_of}
 use Rattle.eg_values.specs.Calibration.{CalibrationParts, IsAccepted}
-use Rattle.eg_fault.specs.Faults.{effects, IsNoneOrValid, IsListed}
+use Rattle.eg_fault.specs.Faults.{IsNoneOrValid, IsListed}
 use Rattle.eg_fault.specs.declared.class.Fault.{Fault}
 use Rattle.eg_record.specs.declared.row.Row.{Row}
 use Rattle.eg_record.specs.Rows.{AreRows}
-use Rattle.eg_record.specs.Excess.{true_excess, full_excess, first_confirmed}
+use Rattle.eg_record.specs.Excess.{true_excess, full_excess}
+use Rattle.eg_record.specs.Spans.{EachDriveSpan, EachTestSpan}
 use Rattle.eg_model.specs.Reaction.{is_at_once, spoils_answers}
 use Rattle.eg_model.specs.Lapses.{IsLapse}
-use Rattle.eg_model.specs.Moments.{moment, moments}
+use Rattle.eg_model.specs.Spans.{moments, next_after}
 use Rattle.eg_model.specs.Engines.{BenchEngine}
 use Rattle.eg_model.specs.Bench.{Run, entry_at, moments_to, entries_to}
 use Rattle.eg_model.specs.Rows.{row_of, rows_of, record_rows}
@@ -26,8 +27,7 @@ pub record IsRun (r : Run) : Type 0 where
 -- the row of tick t, and the rows of the first n ticks
 unfoldable pub row_at : {E : Type 0} → BenchEngine E → Run → ℕ → Row
 row_at b r t =
-    let past = moments_to b r t in
-    row_of t (moment r.setting (effects r.setting.fault t) (entry_at b r t past) past)
+    let past = moments_to b r t in row_of t (next_after r.setting (entry_at b r t past) past)
 
 unfoldable pub rows_to : {E : Type 0} → BenchEngine E → Run → ℕ → List Row
 rows_to b r n = rows_of (moments_to b r n)
@@ -40,79 +40,41 @@ RecordsAreHistories b = (r : Run) (n : ℕ) → moments_to b r n ≡ moments r.s
 abbrev pub RecordsAreRows : {E : Type 0} → BenchEngine E → Type 0
 RecordsAreRows b = (r : Run) (n : ℕ) → AreRows (rows_to b r n) × (length (rows_to b r n) ≡ n)
 
--- ---- tick by tick ----
+-- ---- the rows of a drive span that begins at tick `start`, or of its part up to any tick ----
 
--- the true excess is confirmed by tick c
-abbrev pub IsConfirmedBy : {E : Type 0} → BenchEngine E → Run → ℕ → Type 0
-IsConfirmedBy b r c =
-    is_confirmed r.setting.cal.rules.torque
-    (map (true_excess r.setting.cal.rules.threshold) (rows_to b r (c + 1)))
-    ≡ true
+-- from `bound` ticks after the first tick by which the true excess is confirmed in it, the stages are off
+abbrev pub ReactWithin : (bound : ℕ) → WeightParts → (threshold start : ℕ) → List Row → Type 0
+ReactWithin bound weights threshold start rows =
+    (c : ℕ) → first_place weights (map (true_excess threshold) rows) ≡ Some c →
+    All (λ row. start + c + bound ≤ row.tick → row.on ≡ false) rows
 
--- the reaction theorem: where the true excess is confirmed by tick c, the stages are off at each tick from
--- c + R on
-abbrev pub RunsReact : {E : Type 0} → BenchEngine E → Type 0
-RunsReact b =
-    (r : Run) → IsRun r → IsListed r.setting.fault → (c t : ℕ) → IsConfirmedBy b r c →
-    c + reaction_of r.setting.cal.times ≤ t → (row_at b r t).on ≡ false
+-- Wherever the true excess is confirmed by the rows before a tick, and the fault, if any, is one under which
+-- the reaction is then at once, the stages are off from that tick on.
+abbrev pub ReactAtOnce : Option Fault → WeightParts → (threshold start : ℕ) → List Row → Type 0
+ReactAtOnce fault weights threshold start rows =
+    (later before : List Row) → rows ≡ later ++ before →
+    is_confirmed weights (map (true_excess threshold) before) ≡ true →
+    is_at_once fault (start + length before) ≡ true → All (λ row. row.on ≡ false) later
 
--- and under most faults already at each tick after c
-abbrev pub RunsReactAtOnce : {E : Type 0} → BenchEngine E → Type 0
-RunsReactAtOnce b =
-    (r : Run) → IsRun r → IsListed r.setting.fault → (c t : ℕ) → IsConfirmedBy b r c →
-    is_at_once r.setting.fault (c + 1) ≡ true → c < t → (row_at b r t).on ≡ false
+-- the stages are on at each tick up to the first by which the full-efficiency excess is confirmed in it, and
+-- off at each later one; and where it is never confirmed, they are on at every tick
+abbrev pub CutOneTickAfter : WeightParts → (kt threshold start : ℕ) → List Row → Type 0
+CutOneTickAfter weights kt threshold start rows =
+    MatchOption (first_place weights (map (full_excess kt threshold) rows))
+    (All (λ row. row.on ≡ true) rows) (λ c. All (λ row. row.on ≡ nat_le row.tick (start + c)) rows)
 
 -- no fault has begun by a tick
 unfoldable pub is_before_onset : Option Fault → ℕ → Bool
 is_before_onset None t = true
 is_before_onset (Some fault) t = nat_lt t fault.onset
 
--- the sharp cut: where no fault has begun by tick t, the stages are on at it exactly where the
--- full-efficiency excess isn't confirmed before it
-abbrev pub RunsCutSharply : {E : Type 0} → BenchEngine E → Type 0
-RunsCutSharply b =
-    (r : Run) → IsRun r → (t : ℕ) → is_before_onset r.setting.fault t ≡ true →
-    (row_at b r t).on
-    ≡ not (is_confirmed r.setting.cal.rules.torque
-    (map (full_excess r.setting.cal.rules.kt r.setting.cal.rules.threshold) (rows_to b r t)))
-
--- ---- by the rows of the whole record ----
-
--- from `bound` ticks after the first tick by which the true excess is confirmed, the stages are off
-abbrev pub ReactWithin : (bound : ℕ) → WeightParts → (threshold : ℕ) → List Row → Type 0
-ReactWithin bound weights threshold rows =
-    (c : ℕ) → first_confirmed weights threshold rows ≡ Some c →
-    All (λ row. c + bound ≤ row.tick → row.on ≡ false) rows
-
--- the stages are on at each tick up to the first by which the full-efficiency excess is confirmed, and off
--- at each later one; and where it is never confirmed, they are on at every tick
-abbrev pub CutOneTickAfter : WeightParts → (kt threshold : ℕ) → List Row → Type 0
-CutOneTickAfter weights kt threshold rows =
-    MatchOption (first_place weights (map (full_excess kt threshold) rows))
-    (All (λ row. row.on ≡ true) rows) (λ c. All (λ row. row.on ≡ nat_le row.tick c) rows)
-
--- so it is for every record
-abbrev pub RecordsReact : {E : Type 0} → BenchEngine E → Type 0
-RecordsReact b =
-    (r : Run) → IsRun r → IsListed r.setting.fault →
-    ReactWithin (reaction_of r.setting.cal.times) r.setting.cal.rules.torque r.setting.cal.rules.threshold
-    (record_rows b r)
-
-abbrev pub RecordsCutSharply : {E : Type 0} → BenchEngine E → Type 0
-RecordsCutSharply b =
-    (r : Run) → IsRun r → r.setting.fault ≡ None →
-    CutOneTickAfter r.setting.cal.rules.torque r.setting.cal.rules.kt r.setting.cal.rules.threshold
-    (record_rows b r)
-
--- ---- by parts of the rows ----
-
--- Wherever the true excess is confirmed by the rows before a tick, and the fault, if any, is one under which
--- the reaction is then at once, the stages are off from that tick on.
-abbrev pub ReactAtOnce : Option Fault → WeightParts → (threshold : ℕ) → List Row → Type 0
-ReactAtOnce fault weights threshold rows =
-    (later before : List Row) → rows ≡ later ++ before →
-    is_confirmed weights (map (true_excess threshold) before) ≡ true →
-    is_at_once fault (length before) ≡ true → All (λ row. row.on ≡ false) later
+-- where no fault has begun by a tick, the stages are on at it exactly where the full-efficiency excess isn't
+-- confirmed before it
+abbrev pub CutSharplyBefore : Option Fault → WeightParts → (kt threshold start : ℕ) → List Row → Type 0
+CutSharplyBefore fault weights kt threshold start rows =
+    (later before : List Row) (row : Row) → rows ≡ later ++ row ∷ before →
+    is_before_onset fault row.tick ≡ true →
+    row.on ≡ not (is_confirmed weights (map (full_excess kt threshold) before))
 
 -- there is true excess at each of the last n of these rows
 pub record ExceedLast (threshold n : ℕ) (rows : List Row) : Type 0 where
@@ -121,44 +83,79 @@ pub record ExceedLast (threshold n : ℕ) (rows : List Row) : Type 0 where
 
 -- A lapse is cut: wherever a period ends at which there was true excess through so many whole periods, the
 -- stages are off from the next tick on.
-abbrev pub CutLapses : CalibrationParts → List Row → Type 0
-CutLapses cal rows =
+abbrev pub CutLapses : CalibrationParts → (start : ℕ) → List Row → Type 0
+CutLapses cal start rows =
     (later before : List Row) (periods : ℕ) → rows ≡ later ++ before →
     length before ≡ periods * cal.times.period →
     ExceedLast cal.rules.threshold (lapse_periods cal.rules.torque cal.times * cal.times.period) before →
     All (λ row. row.on ≡ false) later
 
 -- each stretch of rows in a row with true excess is shorter than the bound for lapses
-abbrev pub LapsesAreShort : CalibrationParts → List Row → Type 0
-LapsesAreShort cal rows =
+abbrev pub LapsesAreShort : CalibrationParts → (start : ℕ) → List Row → Type 0
+LapsesAreShort cal start rows =
     (later before : List Row) (n : ℕ) → rows ≡ later ++ before →
     ExceedLast cal.rules.threshold n before → n < lapse_bound_of cal.rules.torque cal.times
 
 -- where a module is skipped or disturbed, or the controller halts, the stages are off from `bound` ticks
--- after the onset, whatever the torque
-abbrev pub CutFromOnset : Option Fault → (bound : ℕ) → List Row → Type 0
-CutFromOnset fault bound rows = IfSome fault (λ f. spoils_answers f.class ≡ true →
-    All (λ row. f.onset + bound ≤ row.tick → row.on ≡ false) rows)
+-- after the onset, or after the span's begin if that is later, whatever the torque
+abbrev pub CutFromOnset : Option Fault → (bound start : ℕ) → List Row → Type 0
+CutFromOnset fault bound start rows = IfSome fault (λ f. spoils_answers f.class ≡ true →
+    All (λ row. max f.onset start + bound ≤ row.tick → row.on ≡ false) rows)
 
--- so it is for every record
+-- ---- the rows of a test span ----
+
+-- the stages are off at each tick
+abbrev pub AreOff : (start : ℕ) → List Row → Type 0
+AreOff start rows = All (λ row. row.on ≡ false) rows
+
+-- ---- so it is for every record ----
+
+abbrev pub RecordsReact : {E : Type 0} → BenchEngine E → Type 0
+RecordsReact b =
+    (r : Run) → IsRun r → IsListed r.setting.fault →
+    EachDriveSpan (ReactWithin (reaction_of r.setting.cal.times) r.setting.cal.rules.torque
+    r.setting.cal.rules.threshold) (record_rows b r)
+
 abbrev pub RecordsReactAtOnce : {E : Type 0} → BenchEngine E → Type 0
 RecordsReactAtOnce b =
     (r : Run) → IsRun r → IsListed r.setting.fault →
-    ReactAtOnce r.setting.fault r.setting.cal.rules.torque r.setting.cal.rules.threshold (record_rows b r)
+    EachDriveSpan (ReactAtOnce r.setting.fault r.setting.cal.rules.torque r.setting.cal.rules.threshold)
+    (record_rows b r)
+
+abbrev pub RecordsCutSharply : {E : Type 0} → BenchEngine E → Type 0
+RecordsCutSharply b =
+    (r : Run) → IsRun r → r.setting.fault ≡ None →
+    EachDriveSpan (CutOneTickAfter r.setting.cal.rules.torque r.setting.cal.rules.kt
+    r.setting.cal.rules.threshold) (record_rows b r)
+
+abbrev pub RecordsCutSharplyBefore : {E : Type 0} → BenchEngine E → Type 0
+RecordsCutSharplyBefore b =
+    (r : Run) → IsRun r →
+    EachDriveSpan (CutSharplyBefore r.setting.fault r.setting.cal.rules.torque r.setting.cal.rules.kt
+    r.setting.cal.rules.threshold) (record_rows b r)
 
 abbrev pub RecordsCutLapses : {E : Type 0} → BenchEngine E → Type 0
 RecordsCutLapses b =
     (r : Run) → IsRun r → IsNoneOrValid r.setting.fault →
     HasLapseBound r.setting.cal.rules.torque r.setting.cal.times → IsLapse r.setting.fault →
-    CutLapses r.setting.cal (record_rows b r)
+    EachDriveSpan (CutLapses r.setting.cal) (record_rows b r)
 
 abbrev pub RecordsHaveShortLapses : {E : Type 0} → BenchEngine E → Type 0
 RecordsHaveShortLapses b =
     (r : Run) → IsRun r → IsNoneOrValid r.setting.fault →
     HasLapseBound r.setting.cal.rules.torque r.setting.cal.times → IsLapse r.setting.fault →
-    LapsesAreShort r.setting.cal (record_rows b r)
+    EachDriveSpan (LapsesAreShort r.setting.cal) (record_rows b r)
 
 abbrev pub RecordsCutFromOnset : {E : Type 0} → BenchEngine E → Type 0
 RecordsCutFromOnset b =
     (r : Run) → IsRun r → IsNoneOrValid r.setting.fault →
-    CutFromOnset r.setting.fault (reaction_of r.setting.cal.times) (record_rows b r)
+    EachDriveSpan (CutFromOnset r.setting.fault (reaction_of r.setting.cal.times)) (record_rows b r)
+
+-- in each test span the stages are off
+abbrev pub RecordsTestUnpowered : {E : Type 0} → BenchEngine E → Type 0
+RecordsTestUnpowered b = (r : Run) → EachTestSpan AreOff (record_rows b r)
+
+-- without a fault no test fails
+abbrev pub RecordsPassTests : {E : Type 0} → BenchEngine E → Type 0
+RecordsPassTests b =
+    (r : Run) → IsRun r → r.setting.fault ≡ None → All (λ row. row.found.start ≡ false) (record_rows b r)

@@ -34,6 +34,8 @@ row_of tick m = record {
   found = m.found;
   answer = m.mark;
   verdict = m.verdict;
+  testing = m.testing;
+  fresh = m.fresh;
 }
 
 -- the rows of these ticks
