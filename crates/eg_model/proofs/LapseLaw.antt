@@ -15,7 +15,6 @@ use Rattle.eg_model.specs.History.{Setting, Entry, Tick, Moment}
 use Rattle.eg_model.specs.Signals.{tripped}
 use Rattle.eg_model.specs.Detection.{fed_bits, torque_bit}
 use Rattle.eg_model.specs.Paths.{latch2, path2_at, on_at}
-use Rattle.eg_model.specs.Paths.{on_at}
 use Rattle.eg_model.specs.Moments.{moment, moments_of}
 use Rattle.eg_model.specs.Rows.{row_of, rows_of}
 use Rattle.eg_model.specs.Premises.{AreProper, IsProper, Follows, is_on_after, true_excesses}

@@ -19,3 +19,4 @@ pub mod LapseAnswers
 pub mod LapseWeights
 pub mod LapseLaw
 pub mod RowLaws
+pub mod WorkedCycles
