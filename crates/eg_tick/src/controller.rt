@@ -242,7 +242,7 @@ impl<E: Engine + Drop, M: Guarded + Drop> Controller<E, M> {
         step_engine(&mut self.engine, &self.memory, begins.paths.on, held);
         let task = Task {
             tick: tick as u16,
-            sends: sends(fault, tick, self.calibration.times()),
+            sends: sends(fault, tick, tick, self.calibration.times()),
             asked: question(&self.monitor, questions, fault, tick),
             readings: readings(&self.engine, drive, fault, tick),
             lookup,
