@@ -23,8 +23,7 @@ use Rattle.eg_model.specs.Records.{row_at, rows_to}
 use Rattle.eg_model.proofs.RecordLaws.{length-entries, records_are_histories}
 use Rattle.eg_tick.specs.Kept.{ControllerParts}
 use Rattle.eg_tick.specs.Stands.{Stands}
-use Rattle.eg_tick.specs.Working.{effects_after}
-use Rattle.eg_tick.specs.Advancing.{entry_of}
+use Rattle.eg_tick.specs.Advancing.{effects_after, entry_of}
 use Rattle.eg_tick.specs.Weights.{TickCount, weight_of}
 use Rattle.eg_tick.specs.Run.{run_by, IsAt, IsRecordOf}
 
