@@ -8,9 +8,8 @@ use Rattle.eg_fault.specs.Effects.{sends_at, asked_at}
 use Rattle.eg_fault.specs.Faults.{effects, IsNoneOrValid}
 use Rattle.eg_fault.specs.Classes.{IsHeldWithin}
 use Rattle.eg_fault.proofs.ClassLemmas.{plates_are_held_within}
-use Rattle.eg_values.specs.Calibration.{IsAccepted}
+use Rattle.eg_values.specs.Calibration.{CalibrationParts, IsAccepted}
 use Rattle.eg_guard.specs.Memory.{AreWords}
-use Rattle.eg_torque.specs.Permit.{drive_permits}
 use Rattle.eg_word.specs.World.{World, world_of}
 use Rattle.eg_record.specs.declared.row.Row.{Row}
 use Rattle.eg_level2.specs.Words.{AreWithin, words_of}
@@ -19,7 +18,7 @@ use Rattle.eg_level2.specs.declared.step.Step.{Step}
 use Rattle.eg_model.specs.History.{Setting, Entry, Tick}
 use Rattle.eg_model.specs.Paths.{on_at}
 use Rattle.eg_model.specs.Level1.{last_world}
-use Rattle.eg_model.specs.Moments.{readings_at, moments, ticks, next}
+use Rattle.eg_model.specs.Moments.{readings_at, limit_at, moments, ticks, next}
 use Rattle.eg_model.specs.Rows.{trap_in, row_of, signal_list}
 use Rattle.eg_agree.specs.Standing.{signals_of}
 use Rattle.eg_agree.specs.Replies.{moment_after}
@@ -85,7 +84,7 @@ pub record Advance (old new : Kept) (drive : DriveRow) (budgets : List ℕ) (und
   pub place : task.local ≡ old.local
   pub sends : task.sends ≡ sends_at (effects under old.ticks) old.cal.times old.local
   pub asked : task.asked ≡ asked_at (effects under old.ticks) old.monitor.times (length old.cal.questions) old.local
-  pub readings : (e : Entry) → e.drive ≡ drive → e.shown ≡ new.shown → task.readings ≡ readings_at (effects under old.ticks) e
+  pub readings : (cal : CalibrationParts) (e : Entry) → e.drive ≡ drive → e.shown ≡ new.shown → task.readings ≡ readings_at cal (effects under old.ticks) e
   pub slices : task.slices ≡ budgets
   pub served : (s : Setting) (x : Tick) (h : List Tick) → Serves s x h made under task old.registers old.memory.words
       → Served s x h new.registers new.memory.words
@@ -100,7 +99,7 @@ pub record Advance (old new : Kept) (drive : DriveRow) (budgets : List ℕ) (und
   pub local : new.local ≡ old.local + 1
   pub are_words : AreWords new.memory.words
   pub open1 : new.open1 ≡ (done.open_path || old.open1)
-  pub open2 : new.open2 ≡ ((judged.answers || judged.opens) || old.open2)
+  pub open2 : new.open2 ≡ ((judged.confirms || judged.opens) || old.open2)
   pub kt : new.kt ≡ old.kt
   pub laws : KeepsLaws new.kt new.shown
   pub off : paths.on ≡ false → new.shown.torque ≡ 0
@@ -140,7 +139,7 @@ module _ (old new : Kept) (drive : DriveRow) (budgets : List ℕ) (made : Level2
       local = advance.place ∙ stands.local;
       sends = advance.sends ∙ ap₂ (λ t l. sends_at (effects old.fault t) old.cal.times l) stands.count stands.local;
       asked = advance.asked ∙ stands-asked s old h stands;
-      readings = advance.readings e refl refl ∙ ap (λ t. readings_at (effects old.fault t) e) stands.count;
+      readings = advance.readings old.cal e refl refl ∙ ap (λ t. readings_at old.cal (effects old.fault t) e) stands.count;
       slices = sym advance.slices;
     };
     short = let few = advance.few in let count = stands.count in let same = length-ticks s h in omega arith;
@@ -178,7 +177,7 @@ module _ (old new : Kept) (drive : DriveRow) (budgets : List ℕ) (made : Level2
   }
 
   -- its row is the model's
-  pub row-told : (row : Row) (allowed : ℕ) → allowed ≡ drive_permits old.cal.rules.permit drive → row ≡ record {
+  pub row-told : (row : Row) (allowed : ℕ) → allowed ≡ limit_at old.cal drive → row ≡ record {
     tick = old.ticks;
     drive = drive;
     plate = new.shown.position;
@@ -191,7 +190,7 @@ module _ (old new : Kept) (drive : DriveRow) (budgets : List ℕ) (made : Level2
     signals = signal_list (signals_of (words_of new.memory.words));
     throttle = slice_index new.memory.words 2064;
     ignition = slice_index new.memory.words 2065;
-    found = record done.found { answers = judged.answers };
+    found = record done.found { answers = judged.confirms };
     answer = judged.mark;
     verdict = judged.verdict;
   } → row ≡ row_of (next s e h)
@@ -212,7 +211,7 @@ module _ (old new : Kept) (drive : DriveRow) (budgets : List ℕ) (made : Level2
         signals = signal_list (signals_of (words_of new.memory.words));
         throttle = slice_index new.memory.words 2064;
         ignition = slice_index new.memory.words 2065;
-        found = record done.found { answers = judged.answers };
+        found = record done.found { answers = judged.confirms };
         answer = judged.mark;
         verdict = judged.verdict;
       }))

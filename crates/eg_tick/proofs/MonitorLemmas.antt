@@ -23,10 +23,10 @@ use Rattle.eg_fault.specs.Faults.{effects}
 use Rattle.eg_fault.specs.declared.class.Fault.{Fault}
 use Rattle.eg_fault.proofs.ClassLemmas.{wild_stays_wild}
 use Rattle.eg_model.specs.History.{Setting, Entry, Tick, Moment}
-use Rattle.eg_model.specs.Answers.{with_answer, answers_in, verdict_at, verdicts_in, finds_answers}
+use Rattle.eg_model.specs.Answers.{with_answer, answers_in, verdict_at, verdicts_in, confirms_at}
 use Rattle.eg_model.specs.Premises.{Follows}
 use Rattle.eg_model.specs.Moments.{moment, moments_of, ticks}
-use Rattle.eg_model.proofs.TickLemmas.{length-moments, moment-tick, moment-verdict, moment-answers, moment-opens}
+use Rattle.eg_model.proofs.TickLemmas.{length-moments, moment-tick, moment-verdict, moment-confirms, moment-opens}
 use Rattle.eg_agree.specs.Replies.{moment_after, number_expected, mark_of}
 use Rattle.eg_agree.proofs.ReplyLaws.{number_expected-usual}
 use Rattle.eg_tick.specs.Stands.{was_wild, IsOrderly, HoldsMonitor, Stands}
@@ -196,7 +196,7 @@ verdict-given times x mark past tick n heard None same tame told gives = elim (c
   | inr other ↦ sym (verdict-other times x mark past tick same other)
 ]
 
--- ---- wrong answers are found ----
+-- ---- wrong answers are confirmed ----
 
 still : (now before : Bool) → now ≡ before → (now && not before) ≡ false
 still true true e = refl
@@ -204,13 +204,13 @@ still false false e = refl
 still true false e = cc
 still false true e = cc
 
-found : (times : TimeParts) (verdict : Option Verdict) (past : List Moment) (before now : Bool) →
+confirmed : (times : TimeParts) (verdict : Option Verdict) (past : List Moment) (before now : Bool) →
     before ≡ is_confirmed times.weights (map is_wrong (verdicts_in past)) →
     now ≡ is_confirmed times.weights (map is_wrong (with_verdict verdict (verdicts_in past))) →
-    (now && not before) ≡ finds_answers times verdict past
-unfolding finds_answers with_verdict
-found times None past before now was is = still now before (is ∙ sym was)
-found times (Some verdict) past before now was is =
+    (now && not before) ≡ confirms_at times verdict past
+unfolding confirms_at with_verdict
+confirmed times None past before now was is = still now before (is ∙ sym was)
+confirmed times (Some verdict) past before now was is =
     ap₂ (λ a b. a && not b) is was ∙ sym (is_first-cons times.weights (is_wrong verdict) (map is_wrong (verdicts_in past)))
 
 -- ---- the moment of a tick, and the moments with it ----
@@ -357,18 +357,18 @@ module _ (s : Setting) (x : Tick) (h : List Tick) (fault : Option Fault) (tick l
       ∙ ap (λ k. mark_of k answer) (number_so ∙ ap (λ i. answer_number (question_at questions i).answer) asked_so ∙ number-is questions same)
       ∙ comes.marked
 
-  pub judged-answers : (now : MonitorParts) (answers was is : Bool) → HoldsMonitor s now (x ∷ h) → answers ≡ (is && not was) →
+  pub judged-confirms : (now : MonitorParts) (confirms was is : Bool) → HoldsMonitor s now (x ∷ h) → confirms ≡ (is && not was) →
       ((verdicts : List Verdict) → HasGiven before verdicts → was ≡ is_confirmed before.times.weights (map is_wrong verdicts)) →
       ((verdicts : List Verdict) → HasGiven now verdicts → is ≡ is_confirmed now.times.weights (map is_wrong verdicts)) →
-      answers ≡ (moment_after s x h).found.answers
-  judged-answers now answers was is holds answers_so was_so is_so =
-      answers_so
-      ∙ found s.cal.times (moment_after s x h).verdict (moments_of s h) was is
+      confirms ≡ (moment_after s x h).confirms
+  judged-confirms now confirms was is holds confirms_so was_so is_so =
+      confirms_so
+      ∙ confirmed s.cal.times (moment_after s x h).verdict (moments_of s h) was is
       (was_so _ comes.holds.given ∙ ap (λ (times : TimeParts). is_confirmed times.weights (map is_wrong (verdicts_in (moments_of s h)))) comes.holds.times)
       (is_so _ holds.given
       ∙ ap (λ (times : TimeParts). is_confirmed times.weights (map is_wrong (verdicts_in (moments_of s (x ∷ h))))) holds.times
       ∙ ap (λ verdicts. is_confirmed s.cal.times.weights (map is_wrong verdicts)) (verdicts-cons s x h))
-      ∙ sym (moment-answers s x.effects x.entry (moments_of s h))
+      ∙ sym (moment-confirms s x.effects x.entry (moments_of s h))
 
 -- ---- for the controller ----
 

@@ -16,7 +16,7 @@ use Rattle.eg_record.specs.declared.row.Row.{Row}
 use Rattle.eg_model.specs.History.{Moment}
 use Rattle.eg_model.specs.Paths.{on_at}
 use Rattle.eg_model.specs.Level1.{last_world}
-use Rattle.eg_model.specs.Moments.{moment, moments, next}
+use Rattle.eg_model.specs.Moments.{moment_in, moment, moments, next}
 use Rattle.eg_model.specs.Bench.{Run, no_drive, last_engine, shown_at, drive_at, slices_at, entry_at, moments_to, entries_to}
 use Rattle.eg_model.specs.Rows.{row_of, first_trap, record_rows, record_trap}
 use Rattle.eg_model.specs.Records.{row_at, rows_to}
@@ -75,7 +75,7 @@ module _ (r : Run) (t : ℕ) (old new : ControllerParts GasolinePlant) (at : IsA
 
       engine_next : after_step rests x past
           ≡ record { parts = r.setting.cal.plant; state = last_engine r.setting.cal.plant (moments_to r (suc t)) }
-      unfolding x past rests after_step moments_to last_engine moment entry_at shown_at gasoline_step
+      unfolding x past rests after_step moments_to last_engine moment moment_in entry_at shown_at gasoline_step
       engine_next = refl
 
       at_suc : Stands r.setting new.kept (entry_of drive slices new.kept.shown ∷ entries_to r t) → IsAt r (suc t) new

@@ -4,7 +4,6 @@ use Rattle.std.specs.Option.{option_or}
 use Rattle.eg_num.specs.Drive.{IsDrive}
 use Rattle.eg_num.specs.declared.watches.Watches.{Watches}
 use Rattle.eg_plant.specs.Engine.{Shown, KeepsLaws}
-use Rattle.eg_torque.specs.Permit.{drive_permits}
 use Rattle.eg_guard.specs.Memory.{AreWords}
 use Rattle.eg_word.specs.World.{World, world_of}
 use Rattle.eg_level2.specs.Words.{words_of}
@@ -15,9 +14,9 @@ use Rattle.eg_model.specs.Signals.{last_signals}
 use Rattle.eg_model.specs.Paths.{latch1, latch2, path1_at, path2_at, on_at}
 use Rattle.eg_model.specs.Level1.{last_world}
 use Rattle.eg_model.specs.Premises.{AreProper}
-use Rattle.eg_model.specs.Moments.{moment, moments, moments_of, ticks, next}
+use Rattle.eg_model.specs.Moments.{limit_at, moments, moments_of, ticks, next}
 use Rattle.eg_model.specs.Rows.{row_of, signal_list, first_trap, trap_in}
-use Rattle.eg_model.proofs.TickLemmas.{length-moments}
+use Rattle.eg_model.proofs.TickLemmas.{length-moments, moment-tick, moment-entry, moment-limit, moment-path1, moment-path2, moment-on, moment-answers}
 use Rattle.eg_agree.specs.Standing.{signals_of}
 use Rattle.eg_agree.specs.Ticking.{found_in_level2}
 use Rattle.eg_agree.specs.Replies.{moment_after}
@@ -49,7 +48,7 @@ pub record Makes (s : Setting) (x : Tick) (h : List Tick) (old new : Kept) (done
   pub judged : Tells judgement (moment_after s x h)
   pub monitor : HoldsMonitor s new.monitor (x ∷ h)
   pub open1 : new.open1 ≡ (done.open_path || old.open1)
-  pub open2 : new.open2 ≡ ((judgement.answers || judgement.opens) || old.open2)
+  pub open2 : new.open2 ≡ ((judgement.confirms || judgement.opens) || old.open2)
   pub kt : new.kt ≡ old.kt
   pub drive : IsDrive x.entry.drive
   pub shown : x.entry.shown ≡ new.shown
@@ -98,18 +97,28 @@ module _ (s : Setting) (x : Tick) (h : List Tick) (old new : Kept) (step : Step)
     unfolding moments_of latch1 latch2
     latches-next = record {
       path1 = makes.open1 ∙ ap₂ (λ a b. a || b) makes.step.order holds.path1;
-      path2 = makes.open2 ∙ ap₂ (λ a b. a || b) (ap₂ (λ a b. a || b) makes.judged.answers makes.judged.opens) holds.path2;
+      path2 = makes.open2 ∙ ap₂ (λ a b. a || b) (ap₂ (λ a b. a || b) makes.judged.confirms makes.judged.opens) holds.path2;
     }
 
     -- ---- its row ----
 
     path1-is : x.effects.conducts 1 old.open1 ≡ m.path1
-    unfolding moment path1_at
-    path1-is = ap (x.effects.conducts 1) holds.path1
+    unfolding path1_at
+    path1-is = ap (x.effects.conducts 1) holds.path1 ∙ sym (moment-path1 s x.effects x.entry past)
 
     path2-is : x.effects.conducts 2 old.open2 ≡ m.path2
-    unfolding moment path2_at
-    path2-is = ap (x.effects.conducts 2) holds.path2
+    unfolding path2_at
+    path2-is = ap (x.effects.conducts 2) holds.path2 ∙ sym (moment-path2 s x.effects x.entry past)
+
+    both-on : (m.path1 && m.path2) ≡ m.on
+    both-on = ap₂ (λ a b. a && b) (moment-path1 s x.effects x.entry past) (moment-path2 s x.effects x.entry past)
+        ∙ sym (unfold on_at in moment-on s x.effects x.entry past)
+
+    entered : x.entry ≡ m.entry
+    entered = sym (moment-entry s x.effects x.entry past)
+
+    shown-is : new.shown ≡ m.entry.shown
+    shown-is = sym makes.shown ∙ ap (λ (e : Entry). e.shown) entered
 
     row-is : old.ticks ≡ m.tick → (row : Row) → row ≡ record {
       tick = old.ticks;
@@ -117,32 +126,32 @@ module _ (s : Setting) (x : Tick) (h : List Tick) (old new : Kept) (step : Step)
       plate = new.shown.position;
       charge = new.shown.load_1;
       torque = new.shown.torque;
-      limit = drive_permits s.cal.rules.permit x.entry.drive;
+      limit = limit_at s.cal x.entry.drive;
       path1 = x.effects.conducts 1 old.open1;
       path2 = x.effects.conducts 2 old.open2;
       on = x.effects.conducts 1 old.open1 && x.effects.conducts 2 old.open2;
       signals = signal_list (signals_of (words_of new.memory.words));
       throttle = slice_index new.memory.words 2064;
       ignition = slice_index new.memory.words 2065;
-      found = record step.found { answers = judgement.answers };
+      found = record step.found { answers = judgement.confirms };
       answer = judgement.mark;
       verdict = judgement.verdict;
     } → row ≡ row_of m
-    unfolding row_of world_of drive_permits moment on_at path1_at
+    unfolding row_of world_of
     row-is numbered row is = is ∙ (λ i. record {
       tick = numbered i;
-      drive = x.entry.drive;
-      plate = ap (λ (shown : Shown). shown.position) (sym makes.shown) i;
-      charge = ap (λ (shown : Shown). shown.load_1) (sym makes.shown) i;
-      torque = ap (λ (shown : Shown). shown.torque) (sym makes.shown) i;
-      limit = drive_permits s.cal.rules.permit x.entry.drive;
+      drive = ap (λ (e : Entry). e.drive) entered i;
+      plate = ap (λ (shown : Shown). shown.position) shown-is i;
+      charge = ap (λ (shown : Shown). shown.load_1) shown-is i;
+      torque = ap (λ (shown : Shown). shown.torque) shown-is i;
+      limit = sym (moment-limit s x.effects x.entry past) i;
       path1 = path1-is i;
       path2 = path2-is i;
-      on = ap₂ (λ a b. a && b) path1-is path2-is i;
+      on = (ap₂ (λ a b. a && b) path1-is path2-is ∙ both-on) i;
       signals = ap signal_list signals-are i;
       throttle = ap (λ (world : World). world.throttle) world-is i;
       ignition = ap (λ (world : World). world.ignition) world-is i;
-      found = watches-are step.found judgement.answers m makes.step.found makes.judged.answers i;
+      found = watches-are step.found judgement.confirms m makes.step.found (makes.judged.confirms ∙ sym (moment-answers s x.effects x.entry past)) i;
       answer = makes.judged.mark i;
       verdict = makes.judged.verdict i;
     })
@@ -151,8 +160,8 @@ module _ (s : Setting) (x : Tick) (h : List Tick) (old new : Kept) (step : Step)
 
 -- the number of the tick after a history
 pub tick-is : (s : Setting) (e : Entry) (h : List Entry) → (next s e h).tick ≡ length h
-unfolding next moment moments
-tick-is s e h = length-moments s (ticks s h) ∙ length-ticks s h
+unfolding next moments
+tick-is s e h = moment-tick s _ e (moments_of s (ticks s h)) ∙ length-moments s (ticks s h) ∙ length-ticks s h
 
 -- the stages are on where both paths conduct
 pub on-is : (s : Setting) (x : Effects) (h : List Entry) (c : Kept) → Stands s c h → (x.conducts 1 c.open1 && x.conducts 2 c.open2) ≡ on_at x (moments s h)
@@ -187,14 +196,14 @@ module _ (s : Setting) (e : Entry) (h : List Entry) (old new : Kept) (step : Ste
     plate = new.shown.position;
     charge = new.shown.load_1;
     torque = new.shown.torque;
-    limit = drive_permits s.cal.rules.permit e.drive;
+    limit = limit_at s.cal e.drive;
     path1 = (effects_after s h).conducts 1 old.open1;
     path2 = (effects_after s h).conducts 2 old.open2;
     on = (effects_after s h).conducts 1 old.open1 && (effects_after s h).conducts 2 old.open2;
     signals = signal_list (signals_of (words_of new.memory.words));
     throttle = slice_index new.memory.words 2064;
     ignition = slice_index new.memory.words 2065;
-    found = record step.found { answers = judgement.answers };
+    found = record step.found { answers = judgement.confirms };
     answer = judgement.mark;
     verdict = judgement.verdict;
   } → row ≡ row_of (next s e h)

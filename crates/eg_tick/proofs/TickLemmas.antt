@@ -5,14 +5,14 @@ use Rattle.eg_word.specs.declared.registers.Registers.{Registers}
 use Rattle.eg_word.specs.World.{View, World, world_of}
 use Rattle.eg_host.specs.Slices.{world_slice}
 use Rattle.eg_values.specs.Calibration.{IsAccepted}
-use Rattle.eg_fault.specs.Effects.{Effects}
 use Rattle.eg_level2.specs.Words.{Words, AreMirrored, words_of}
 use Rattle.eg_flow.specs.Ticks.{after_modules}
-use Rattle.eg_model.specs.History.{Setting, Entry, Tick, Moment}
+use Rattle.eg_model.specs.History.{Setting, Tick, Moment}
 use Rattle.eg_model.specs.Signals.{last_signals}
 use Rattle.eg_model.specs.Premises.{Follows}
 use Rattle.eg_model.specs.Level1.{last_world, ports_of, slices_from, view_in, world_at}
-use Rattle.eg_model.specs.Moments.{readings_at, moment, moments_of}
+use Rattle.eg_model.specs.Moments.{readings_at, moments_of}
+use Rattle.eg_model.proofs.TickLemmas.{moment-world}
 use Rattle.eg_agree.specs.Doings.{doing_at}
 use Rattle.eg_agree.specs.Standing.{KeepsWords}
 use Rattle.eg_agree.specs.Ticking.{IsTick}
@@ -39,11 +39,6 @@ tick-same : (runs : Bool) (view other : ℕ → View) (budgets : List ℕ) (worl
     → (if runs then slices_from 0 view budgets world else world) ≡ (if runs then slices_from 0 other budgets world else world)
 tick-same true view other budgets world nine same = slices-same view other budgets 0 world (omega (arith, nine)) same
 tick-same false view other budgets world nine same = refl
-
-moment-world : (s : Setting) (x : Effects) (e : Entry) (past : List Moment) →
-    (moment s x e past).world ≡ world_at s.image x e.slices (readings_at x e) (moment s x e past).signals past
-unfolding moment
-moment-world s x e past = refl
 
 -- ---- what the memory holds of level 2 ----
 
@@ -72,9 +67,9 @@ module _ (s : Setting) (accepted : IsAccepted s.cal) (begin : ℕ) (x : Tick) (h
   tick = is_tick_over s accepted begin x h follows
 
   view-is : (j : ℕ) → j ≤ 8
-      → view_at w j ≡ view_in s.image x.effects (readings_at x.effects x.entry) (last_signals past) (moment_after s x h).signals j
+      → view_at w j ≡ view_in s.image x.effects (readings_at s.cal x.effects x.entry) (last_signals past) (moment_after s x h).signals j
   unfolding view_at view_in work_at doing_after doing_at
-  view-is j within = ap (λ results. record { image = s.image; ports = ports_of (readings_at x.effects x.entry); results = results }) (tick.seen j within)
+  view-is j within = ap (λ results. record { image = s.image; ports = ports_of (readings_at s.cal x.effects x.entry); results = results }) (tick.seen j within)
 
   -- the slices make the model's world
   pub world-is : length x.entry.slices ≡ 9 → rest_of w 0 w.world ≡ (moment_after s x h).world

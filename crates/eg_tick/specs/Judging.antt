@@ -57,5 +57,5 @@ pub record ComesNext (s : Setting) (fault : Option Fault) (tick local : ℕ) (an
 pub record Tells (judgement : Judgement) (m : Moment) : Type 0 where
   pub mark : judgement.mark ≡ m.mark
   pub verdict : judgement.verdict ≡ m.verdict
-  pub answers : judgement.answers ≡ m.found.answers
+  pub confirms : judgement.confirms ≡ m.confirms
   pub opens : judgement.opens ≡ m.opens

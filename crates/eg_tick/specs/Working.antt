@@ -1,5 +1,5 @@
 -- What level 1 and level 2 are handed at a tick, and what comes of it.
-use Rattle.std.specs.Prelude.{◌≡◌, ℕ, ◌+◌, ◌<◌, ◌&&◌, Option, List, ◌∷◌, length}
+use Rattle.std.specs.Prelude.{◌≡◌, ℕ, ◌+◌, ◌<◌, Option, List, ◌∷◌, length}
 use Rattle.eg_fault.specs.declared.class.Fault.{Fault}
 use Rattle.eg_fault.specs.Effects.{sends_at, asked_at}
 use Rattle.eg_values.specs.Calibration.{IsAccepted}
@@ -7,7 +7,6 @@ use Rattle.eg_word.specs.declared.registers.Registers.{Registers}
 use Rattle.eg_level2.specs.Inputs.{Level2Parts}
 use Rattle.eg_level2.specs.declared.step.Step.{Step}
 use Rattle.eg_model.specs.History.{Setting, Tick}
-use Rattle.eg_model.specs.Signals.{tripped}
 use Rattle.eg_model.specs.Premises.{Follows}
 use Rattle.eg_model.specs.Moments.{readings_at, moments_of}
 use Rattle.eg_agree.specs.Ticking.{found_in_level2}
@@ -20,7 +19,7 @@ pub record IsTask (s : Setting) (x : Tick) (h : List Tick) (task : Task) : Type 
   pub local : task.local ≡ length h
   pub sends : task.sends ≡ sends_at x.effects s.cal.times (length h)
   pub asked : task.asked ≡ asked_at x.effects s.cal.times (length s.cal.questions) (length h)
-  pub readings : task.readings ≡ readings_at x.effects x.entry
+  pub readings : task.readings ≡ readings_at s.cal x.effects x.entry
   pub slices : x.entry.slices ≡ task.slices
 
 -- At tick x, which comes after h in a history from tick `begin` of the run on, level 2 is made of the parts
@@ -43,9 +42,8 @@ abbrev pub Served : Setting → Tick → List Tick → Registers → List ℕ �
 Served s x h m memory = HoldsLevel1 s m memory (moments_of s (x ∷ h)) × HoldsLevel2 s memory (x ∷ h)
 
 -- What the modules order, find and answer is what the model says of the tick: path 1 is ordered open where
--- react runs and a trip came; the watches are those of level 2; and what is sent has the mark of the tick.
+-- the tick orders it; the watches are those of level 2; and what is sent has the mark of the tick.
 pub record IsStep (s : Setting) (x : Tick) (h : List Tick) (step : Step) : Type 0 where
-  pub order : step.open_path
-      ≡ ((moment_after s x h).reacts && tripped (moment_after s x h ∷ moments_of s h))
+  pub order : step.open_path ≡ (moment_after s x h).orders
   pub found : step.found ≡ found_in_level2 (moment_after s x h)
   pub mark : mark_of (number_expected s x.effects (length h)) step.answer ≡ (moment_after s x h).mark

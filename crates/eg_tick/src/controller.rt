@@ -258,7 +258,7 @@ impl<E: Engine + Drop, M: Guarded + Drop> Controller<E, M> {
         let (asked, answer) = (task.asked, step.answer);
         let judged = judge(monitor, questions, fault, tick, local, asked, answer);
         self.open1 = either(step.open_path, self.open1);
-        self.open2 = either(either(judged.answers, judged.opens), self.open2);
+        self.open2 = either(either(judged.confirms, judged.opens), self.open2);
         note_trap(&mut self.trap, self.level1.host.registers.state, tick);
         let row = row(begins, &self.engine, &self.memory, step.found, judged);
         self.ticks += 1;

@@ -24,8 +24,8 @@ pub(crate) struct Judgement {
     pub mark: AnswerMark,
     /// The verdict over the answers of a period, if this is its last tick.
     pub verdict: Option<Verdict>,
-    /// Whether wrong answers are found: confirmed now for the first time.
-    pub answers: bool,
+    /// Whether wrong answers are confirmed now, for the first time.
+    pub confirms: bool,
     /// Whether a wild module orders path 2 open.
     pub opens: bool,
 }
@@ -90,7 +90,7 @@ pub(crate) fn judge(
     Judgement {
         mark,
         verdict,
-        answers: is_first(before, monitor.confirmed()),
+        confirms: is_first(before, monitor.confirmed()),
         opens: opens(fault, tick),
     }
 }

@@ -1,4 +1,4 @@
-use Rattle.eg_tick.proofs.MonitorLemmas.{judged, judged-mark, judged-answers, judged-opens}
+use Rattle.eg_tick.proofs.MonitorLemmas.{judged, judged-mark, judged-confirms, judged-opens}
 use Rattle.eg_tick.proofs.monitoring.judge.Goals as goal
 
 pub returns-clause-holds : goal.returns-clause-holds
@@ -10,6 +10,6 @@ returns-clause-tells c s x h comes =
     record {
       mark = judged-mark s x h _ _ _ _ _ comes _ _ _ _ c.requires.questions c.mark-mark.ensures c.number.ensures c.requires.asked;
       verdict = both.0;
-      answers = judged-answers s x h _ _ _ _ _ comes _ _ _ _ both.1 c.is_first.ensures c.confirmed-before.ensures.verdicts c.confirmed.ensures.verdicts;
+      confirms = judged-confirms s x h _ _ _ _ _ comes _ _ _ _ both.1 c.is_first.ensures c.confirmed-before.ensures.verdicts c.confirmed.ensures.verdicts;
       opens = judged-opens s x h _ _ _ _ _ comes _ c.opens.ensures;
     }

@@ -1,7 +1,7 @@
 use Rattle.std.proofs.Common.{◌≡◌, ◌∙◌, refl, sym, ap, subst, ◌+◌, ◌<◌, ◌||◌, Some, None, List, ◌∷◌, length, slice_index, true, false, arith}
 use Rattle.std.specs.Option.{option_copied}
 use Rattle.eg_answer.specs.declared.rules.Rules.{Rules}
-use Rattle.eg_torque.specs.Permit.{drive_permits}
+use Rattle.eg_num.specs.Interpolation.{grid_at}
 use Rattle.eg_fault.specs.Effects.{sends_at, asked_at}
 use Rattle.eg_fault.specs.Faults.{effects}
 use Rattle.eg_guard.specs.Memory.{AreWords}
@@ -189,7 +189,8 @@ pub returns-clause-row : goal.returns-clause-row
 returns-clause-row g c s h stands =
     of_setting (λ t. c.row-row.result ≡ row_of (next t (entry g c) h)) (old g c) h
     (λ image so. row-told (old g c) (new g c) _ _ _ _ (task g c) _ _ (advance g c) image h so c.row-row.result c.limit.result
-    (c.limit.ensures.limit _ c.look_up-lookup.ensures.torque ∙ ap (λ (rules : Rules). drive_permits rules.permit c.args.drive.now) c.rules.ensures.rules) c.row-row.ensures)
+    (c.limit.ensures.limit (old g c).cal (c.look_up-lookup.ensures.torque
+    ∙ ap (λ (rules : Rules). grid_at rules.permit c.look_up-lookup.result.pedal c.look_up-lookup.result.speed) c.rules.ensures.rules)) c.row-row.ensures)
     s (was g c s h stands)
 
 pub returns-clause-engine : goal.returns-clause-engine
