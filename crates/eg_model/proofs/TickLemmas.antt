@@ -145,7 +145,7 @@ module _ (s : Setting) (x : Effects) (e : Entry) (past : List Moment) where
   unfolding moment moment_in drives
   moment-trip = refl
 
-  pub moment-orders : (moment s x e past).orders ≡ (x.ran REACT && tripped ((moment s x e past) ∷ past))
+  pub moment-orders : (moment s x e past).orders ≡ (x.ran REACT && tripped (moment s x e past ∷ past))
   unfolding moment moment_in drives orders_open tripped
   moment-orders = refl
 

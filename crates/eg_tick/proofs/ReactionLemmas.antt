@@ -11,11 +11,10 @@ use Rattle.eg_model.specs.Moments.{ticks, moments, next}
 use Rattle.eg_model.specs.Rows.{row_of}
 use Rattle.eg_model.proofs.ReactionLaw.{reacts_in_time, reacts_at_once_law}
 use Rattle.eg_model.proofs.LapseLaw.{cuts_lapses, lapses_are_short}
-use Rattle.eg_agree.proofs.TickLemmas.{length-ticks}
-use Rattle.eg_agree.proofs.ReplyLaws.{ticks_follow}
 use Rattle.eg_tick.specs.Kept.{Kept}
 use Rattle.eg_tick.specs.Stands.{Stands}
 use Rattle.eg_tick.specs.Advancing.{RowReactsInTime, RowReactsAtOnce, RowCutsLapses, HistoryHasShortLapses}
+use Rattle.eg_tick.proofs.HistoryLemmas.{length-ticks, ticks_follow}
 
 -- ---- the ticks of a history that goes on ----
 

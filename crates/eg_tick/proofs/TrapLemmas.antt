@@ -11,9 +11,10 @@ use Rattle.eg_host.specs.Slices.{wake, steps, slice_start, world_slice}
 use Rattle.eg_fault.specs.Faults.{effects}
 use Rattle.eg_model.specs.History.{Setting, Entry}
 use Rattle.eg_model.specs.Level1.{last_world, slices_from, world_at}
-use Rattle.eg_model.specs.Moments.{moment, moments, moments_of, ticks, next}
+use Rattle.eg_model.specs.Moments.{moments, moments_of, ticks, next}
 use Rattle.eg_record.specs.declared.row.Row.{Row}
 use Rattle.eg_model.specs.Rows.{first_trap, trap_in, row_of}
+use Rattle.eg_model.proofs.TickLemmas.{moment-world}
 use Rattle.eg_tick.specs.Advancing.{HoldsOutputs}
 
 -- ---- a world that is trapped ----
@@ -56,8 +57,9 @@ if-same false made world same = refl
 module _ (s : Setting) (e : Entry) (h : List Entry) where
   -- the world of the next tick is the last one
   pub world-holds : IsTrapped (last_world (moments s h)) → (next s e h).world ≡ last_world (moments s h)
-  unfolding next moment world_at
-  world-holds trapped = if-same (effects s.fault (length h)).level1 _ _ (no_slices 0 _ e.slices (last_world (moments s h)) trapped)
+  unfolding next moments world_at
+  world-holds trapped = moment-world s (effects s.fault (length h)) e (moments s h)
+      ∙ if-same (effects s.fault (length h)).level1 _ _ (no_slices 0 _ e.slices (last_world (moments s h)) trapped)
 
 trapped-now : (state : State) (tick : ℕ) → IsSome (trap_in state tick) → (kind : Trap) × (state ≡ Trapped kind)
 unfolding trap_in
@@ -80,7 +82,7 @@ trapped-next s e h before some = go (first_trap (moments s h)) refl
 
 -- where the ticks so far tell a trap, the world is trapped
 pub is-trapped : (s : Setting) (h : List Entry) → IsSome (first_trap (moments s h)) → IsTrapped (last_world (moments s h))
-unfolding first_trap last_world moments moments_of ticks moment next
+unfolding first_trap last_world moments moments_of ticks next
 is-trapped s [] some = absurd (let clash : false ≡ true = some in cc)
 is-trapped s (e ∷ h) some = trapped-next s e h (is-trapped s h) some
 
