@@ -28,10 +28,10 @@ use Rattle.eg_tick.specs.Working.{effects_after, Served, IsStep}
 use Rattle.eg_tick.specs.Judging.{Tells}
 use Rattle.eg_tick.specs.declared.monitoring.Judgement.{Judgement}
 
--- the number of the tick after a history
-pub tick-is : (s : Setting) (e : Entry) (h : List Entry) → (next s e h).tick ≡ length h
-unfolding next moment moments
-tick-is s e h = length-moments s (ticks s h) ∙ length-ticks s h
+-- a history has as many moments as entries
+past-is : (s : Setting) (h : List Entry) → length (moments s h) ≡ length h
+unfolding moments
+past-is s h = length-moments s (ticks s h) ∙ length-ticks s h
 
 -- ---- the paths ----
 
@@ -104,7 +104,7 @@ module _ (s : Setting) (e : Entry) (h : List Entry) (old new : Kept) (step : Ste
 
   trap : new.trap ≡ first_trap (moments s (e ∷ h))
   unfolding moments moments_of ticks next first_trap
-  trap = makes.trap ∙ ap₂ option_or stands.trap (ap₂ trap_in world-state (stands.count ∙ sym (tick-is s e h)))
+  trap = makes.trap ∙ ap₂ option_or stands.trap (ap₂ trap_in world-state (stands.count ∙ sym (past-is s h)))
 
   pub next_stands : Stands s new (e ∷ h)
   next_stands = record {
@@ -154,10 +154,10 @@ module _ (s : Setting) (e : Entry) (h : List Entry) (old new : Kept) (step : Ste
     found = record step.found { answers = judgement.answers };
     answer = judgement.mark;
     verdict = judgement.verdict;
-  } → row ≡ row_of (next s e h)
+  } → row ≡ row_of (length h) (next s e h)
   unfolding row_of world_of next drive_permits moment on_at path1_at
   row-is row is = is ∙ (λ i. record {
-    tick = (stands.count ∙ sym (tick-is s e h)) i;
+    tick = stands.count i;
     drive = e.drive;
     plate = ap (λ (shown : Shown). shown.position) (sym makes.shown) i;
     charge = ap (λ (shown : Shown). shown.load_1) (sym makes.shown) i;
