@@ -193,7 +193,7 @@ module _ (old new : Kept) (drive : DriveRow) (budgets : List ℕ) (made : Level2
     found = record done.found { answers = judged.confirms };
     answer = judged.mark;
     verdict = judged.verdict;
-  } → row ≡ row_of (next s e h)
+  } → row ≡ row_of (length h) (next s e h)
   unfolding entry_of effects_after
   row-told row allowed permits is =
       let first : paths.path1 ≡ (effects_after s h).conducts 1 old.open1 = advance.path1 ∙ ap (λ t. (effects old.fault t).conducts 1 old.open1) stands.count in

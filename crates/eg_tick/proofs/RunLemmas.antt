@@ -13,7 +13,7 @@ use Rattle.eg_fault.specs.declared.class.Fault.{Fault}
 use Rattle.eg_values.specs.Calibration.{CalibrationParts}
 use Rattle.eg_word.specs.declared.registers.Trap.{Trap}
 use Rattle.eg_record.specs.declared.row.Row.{Row}
-use Rattle.eg_model.specs.History.{Moment}
+use Rattle.eg_model.specs.History.{drives, Moment}
 use Rattle.eg_model.specs.Paths.{on_at}
 use Rattle.eg_model.specs.Level1.{last_world}
 use Rattle.eg_model.specs.Moments.{moment_in, moment, moments, next}
@@ -76,7 +76,7 @@ module _ (r : Run) (t : ℕ) (old new : ControllerParts GasolinePlant) (at : IsA
 
       engine_next : after_step rests x past
           ≡ record { parts = r.setting.cal.plant; state = engine_after gasoline r.setting (moments_to gasoline r (suc t)) }
-      unfolding x past rests after_step moments_to engine_after stepped gasoline moment moment_in
+      unfolding x past rests after_step moments_to engine_after stepped gasoline moment moment_in drives
       engine_next = ap (λ n. held_by (effects r.setting.fault n)) (sym (length-moments_to gasoline r t))
         where
           -- the engine after the tick, where the plate is held by these

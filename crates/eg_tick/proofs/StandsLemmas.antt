@@ -88,7 +88,7 @@ module _ (s : Setting) (x : Tick) (h : List Tick) (old new : Kept) (step : Step)
     shows = makes.shown;
   }
 
-  trap-next : old.ticks ≡ m.tick → old.trap ≡ first_trap past → new.trap ≡ first_trap (moments_of s (x ∷ h))
+  trap-next : old.ticks ≡ length past → old.trap ≡ first_trap past → new.trap ≡ first_trap (moments_of s (x ∷ h))
   unfolding moments_of first_trap world_of
   trap-next numbered told = makes.trap ∙ ap₂ option_or told (ap₂ trap_in (ap (λ (world : World). world.registers.state) world-is) numbered)
 
@@ -120,7 +120,7 @@ module _ (s : Setting) (x : Tick) (h : List Tick) (old new : Kept) (step : Step)
     shown-is : new.shown ≡ m.entry.shown
     shown-is = sym makes.shown ∙ ap (λ (e : Entry). e.shown) entered
 
-    row-is : old.ticks ≡ m.tick → (row : Row) → row ≡ record {
+    row-is : (row : Row) → row ≡ record {
       tick = old.ticks;
       drive = x.entry.drive;
       plate = new.shown.position;
@@ -136,10 +136,10 @@ module _ (s : Setting) (x : Tick) (h : List Tick) (old new : Kept) (step : Step)
       found = record step.found { answers = judgement.confirms };
       answer = judgement.mark;
       verdict = judgement.verdict;
-    } → row ≡ row_of m
+    } → row ≡ row_of old.ticks m
     unfolding row_of world_of
-    row-is numbered row is = is ∙ (λ i. record {
-      tick = numbered i;
+    row-is row is = is ∙ (λ i. record {
+      tick = old.ticks;
       drive = ap (λ (e : Entry). e.drive) entered i;
       plate = ap (λ (shown : Shown). shown.position) shown-is i;
       charge = ap (λ (shown : Shown). shown.load_1) shown-is i;
@@ -158,11 +158,6 @@ module _ (s : Setting) (x : Tick) (h : List Tick) (old new : Kept) (step : Step)
 
 -- ---- what a controller stands for ----
 
--- the number of the tick after a history
-pub tick-is : (s : Setting) (e : Entry) (h : List Entry) → (next s e h).tick ≡ length h
-unfolding next moments
-tick-is s e h = moment-tick s _ e (moments_of s (ticks s h)) ∙ length-moments s (ticks s h) ∙ length-ticks s h
-
 -- the stages are on where both paths conduct
 pub on-is : (s : Setting) (x : Effects) (h : List Entry) (c : Kept) → Stands s c h → (x.conducts 1 c.open1 && x.conducts 2 c.open2) ≡ on_at x (moments s h)
 unfolding on_at path1_at path2_at
@@ -170,8 +165,8 @@ on-is s x h c stands = ap₂ (λ a b. a && b) (ap (x.conducts 1) stands.latches.
 
 module _ (s : Setting) (e : Entry) (h : List Entry) (old new : Kept) (step : Step) (judgement : Judgement) (stands : Stands s old h)
     (makes : Makes s (tick_of s e h) (ticks s h) old new step judgement) where
-  numbered : old.ticks ≡ (next s e h).tick
-  numbered = stands.count ∙ sym (tick-is s e h)
+  numbered : old.ticks ≡ length (moments_of s (ticks s h))
+  numbered = stands.count ∙ sym (length-moments s (ticks s h) ∙ length-ticks s h)
 
   pub next_stands : Stands s new (e ∷ h)
   unfolding ticks moments next
@@ -206,6 +201,7 @@ module _ (s : Setting) (e : Entry) (h : List Entry) (old new : Kept) (step : Ste
     found = record step.found { answers = judgement.confirms };
     answer = judgement.mark;
     verdict = judgement.verdict;
-  } → row ≡ row_of (next s e h)
+  } → row ≡ row_of (length h) (next s e h)
   unfolding effects_after moments next
-  next_row row is = row-is s (tick_of s e h) (ticks s h) old new step judgement makes stands.latches numbered row is
+  next_row row is = row-is s (tick_of s e h) (ticks s h) old new step judgement makes stands.latches row is
+      ∙ ap (λ tick. row_of tick (next s e h)) stands.count

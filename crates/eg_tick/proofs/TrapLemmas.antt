@@ -68,7 +68,7 @@ trapped-now Running tick some = absurd (let clash : false ≡ true = some in cc)
 trapped-now Waiting tick some = absurd (let clash : false ≡ true = some in cc)
 
 trapped-next : (s : Setting) (e : Entry) (h : List Entry) → (IsSome (first_trap (moments s h)) → IsTrapped (last_world (moments s h)))
-    → IsSome (option_or (first_trap (moments s h)) (trap_in (next s e h).world.registers.state (next s e h).tick)) → IsTrapped (next s e h).world
+    → IsSome (option_or (first_trap (moments s h)) (trap_in (next s e h).world.registers.state (length (moments s h)))) → IsTrapped (next s e h).world
 trapped-next s e h before some = go (first_trap (moments s h)) refl
   where
     go : (told : Option (Trap × ℕ)) → first_trap (moments s h) ≡ told → IsTrapped (next s e h).world
@@ -76,8 +76,8 @@ trapped-next s e h before some = go (first_trap (moments s h)) refl
         let trapped = before (ap is_some is) in
         record { kind = trapped.kind; is = ap (λ (world : World). world.registers.state) (world-holds s e h trapped) ∙ trapped.is }
     go None is =
-        let found = trapped-now (next s e h).world.registers.state (next s e h).tick
-        (subst (λ o. IsSome (option_or o (trap_in (next s e h).world.registers.state (next s e h).tick))) is some) in
+        let found = trapped-now (next s e h).world.registers.state (length (moments s h))
+        (subst (λ o. IsSome (option_or o (trap_in (next s e h).world.registers.state (length (moments s h))))) is some) in
         record { kind = found.0; is = found.1 }
 
 -- where the ticks so far tell a trap, the world is trapped
@@ -87,7 +87,7 @@ is-trapped s [] some = absurd (let clash : false ≡ true = some in cc)
 is-trapped s (e ∷ h) some = trapped-next s e h (is-trapped s h) some
 
 -- so the outputs of the next row hold
-pub outputs-hold : (s : Setting) (e : Entry) (h : List Entry) (row : Row) → IsSome (first_trap (moments s h)) → row ≡ row_of (next s e h)
+pub outputs-hold : (s : Setting) (e : Entry) (h : List Entry) (row : Row) → IsSome (first_trap (moments s h)) → row ≡ row_of (length h) (next s e h)
     → HoldsOutputs (last_world (moments s h)) row
 unfolding row_of
 outputs-hold s e h row some is =

@@ -166,7 +166,7 @@ impl<E: Engine + Drop, M: Guarded + Drop> Controller<E, M> {
         ensures stands { (s : Setting) (h : List Entry) → Stands s self.old.kept h
             → OnOk result (Stands s self.new.kept (entry_of drive.now slices.now self.new.kept.shown ∷ h)) }
         ensures row { (s : Setting) (h : List Entry) → Stands s self.old.kept h → IfOk result (λ row. row
-            ≡ row_of (next s (entry_of drive.now slices.now self.new.kept.shown) h)) }
+            ≡ row_of (length h) (next s (entry_of drive.now slices.now self.new.kept.shown) h)) }
         // The engine made a step of its own, by the commands as the tick before left them.
         ensures engine { (s : Setting) (h : List Entry) → Stands s self.old.kept h → OnOk result
             (E.steps self.old.engine (last_world (moments s h)).throttle (last_world (moments s h)).ignition
@@ -211,7 +211,7 @@ impl<E: Engine + Drop, M: Guarded + Drop> Controller<E, M> {
         ensures stands { (s : Setting) (h : List Entry) → Stands s self.old.kept h
             → OnOk result (Stands s self.new.kept (entry_of drive.now slices.now self.new.kept.shown ∷ h)) }
         ensures row { (s : Setting) (h : List Entry) → Stands s self.old.kept h → IfOk result (λ row. row
-            ≡ row_of (next s (entry_of drive.now slices.now self.new.kept.shown) h)) }
+            ≡ row_of (length h) (next s (entry_of drive.now slices.now self.new.kept.shown) h)) }
         ensures engine { (s : Setting) (h : List Entry) → Stands s self.old.kept h → OnOk result
             (E.steps self.old.engine (last_world (moments s h)).throttle (last_world (moments s h)).ignition
             (on_at (effects_after s h) (moments s h)) (effects_after s h).held self.new.engine) }

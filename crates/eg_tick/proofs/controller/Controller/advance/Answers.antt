@@ -187,7 +187,7 @@ returns-clause-stands g c = stood g c
 
 pub returns-clause-row : goal.returns-clause-row
 returns-clause-row g c s h stands =
-    of_setting (λ t. c.row-row.result ≡ row_of (next t (entry g c) h)) (old g c) h
+    of_setting (λ t. c.row-row.result ≡ row_of (length h) (next t (entry g c) h)) (old g c) h
     (λ image so. row-told (old g c) (new g c) _ _ _ _ (task g c) _ _ (advance g c) image h so c.row-row.result c.limit.result
     (c.limit.ensures.limit (old g c).cal (c.look_up-lookup.ensures.torque
     ∙ ap (λ (rules : Rules). grid_at rules.permit c.look_up-lookup.result.pedal c.look_up-lookup.result.speed) c.rules.ensures.rules)) c.row-row.ensures)
