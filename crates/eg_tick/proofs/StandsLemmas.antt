@@ -16,7 +16,7 @@ use Rattle.eg_model.specs.Level1.{last_world}
 use Rattle.eg_model.specs.Premises.{AreProper}
 use Rattle.eg_model.specs.Moments.{limit_at, moments, moments_of, ticks, next}
 use Rattle.eg_model.specs.Rows.{row_of, signal_list, first_trap, trap_in}
-use Rattle.eg_model.proofs.TickLemmas.{length-moments, moment-tick, moment-entry, moment-limit, moment-path1, moment-path2, moment-on, moment-answers}
+use Rattle.eg_model.proofs.TickLemmas.{length-moments, moment-entry, moment-limit, moment-path1, moment-path2, moment-on, moment-answers}
 use Rattle.eg_agree.specs.Standing.{signals_of}
 use Rattle.eg_agree.specs.Ticking.{found_in_level2}
 use Rattle.eg_agree.specs.Replies.{moment_after}
