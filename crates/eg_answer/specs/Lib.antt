@@ -7,3 +7,4 @@ pub mod Token
 pub mod Questions
 pub mod Times
 pub mod Periods
+pub use Rattle.eg_num.specs.Windows

@@ -15,7 +15,7 @@ use Rattle.eg_app.specs.Ends.{CheckWorks, Ends, Completes}
 use Rattle.eg_app.proofs.FileLemmas.{file_done, line_done}
 use Rattle.eg_app.proofs.PlayLemmas.{run_done, record_done}
 
--- a calibration that is found and accepted ends a call for want of memory alone
+-- where a calibration is found and accepted, a call ends only where memory runs out
 calibration_done : (calibration : Option (List ℕ)) (store later : ShownStore) (end : Outcome)
     → CalibrationComes calibration store later (Err end)
     → FindsCalibration calibration store later → AcceptsCalibration calibration store → IsDoneOrMemory end

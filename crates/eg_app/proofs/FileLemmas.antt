@@ -14,7 +14,7 @@ use Rattle.eg_outcome.specs.Reads.{FileComes, Finds, Accepts}
 not_refused : {X : Type 0} (file : Result X Refusal) (r : Refusal) → IsOk file → file ≡ Err r → ⊥
 not_refused file r accepted refused = false≢true (subst IsOk refused accepted)
 
--- a file that is found and accepted ends a call for want of memory alone
+-- where a file is found and accepted, a call ends only where memory runs out
 pub file_done : {X : Type 0} (file : Role) (says : List ℕ → Result X Refusal) (name : List ℕ) (store later : ShownStore)
     (end : Outcome) → FileComes file says name store later (Err end) → Finds name store later
     → Accepts says name store → IsDoneOrMemory end

@@ -43,7 +43,7 @@ input_drive refuses store later n plan input (Err end, comes, come) = absurd (no
 input_drive refuses store later n plan input (Ok drive, comes, come) =
     subst (λ (d : List DriveRow). ReadComes (trace_file n) plan.trace store (Ok d)) (ticks_drive (refuses (length drive)) store later n plan drive input come) comes
 
--- an image that is found and accepted ends a call for want of memory alone
+-- where an image is found and accepted, a call ends only where memory runs out
 ticks_done : (refused : Option Refusal) (store later : ShownStore) (n : ℕ) (plan : RunPlan) (drive : List DriveRow) (end : Outcome)
     → TicksCome refused store later n plan drive (Err end) → refused ≡ None → Finds plan.image store later
     → Accepts (image_file n) plan.image store → IsDoneOrMemory end

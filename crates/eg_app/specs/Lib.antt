@@ -4,3 +4,4 @@ pub mod Bound
 pub mod Notes
 pub mod Ends
 pub mod Headline
+pub use Rattle.eg_outcome.specs.Outcomes

@@ -8,3 +8,8 @@ pub mod Calibration
 pub mod Held
 pub mod Rules
 pub mod Reference
+pub use Rattle.eg_answer.specs.Times
+pub use Rattle.eg_toml.specs.Documents
+pub use Rattle.eg_toml.specs.Refusals
+pub use Rattle.eg_values.specs.Calibration as ValuesCalibration
+pub use Rattle.eg_values.specs.Reference as ValuesReference

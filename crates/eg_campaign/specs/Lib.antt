@@ -1,1 +1,2 @@
 pub mod Plays
+pub use Rattle.eg_model.specs.Rows

@@ -107,12 +107,13 @@ pub fn fault_of_levels(fault: Option<&Fault>, tick: u32) -> Option<&Fault>
     Some(fault)
 }
 
-/// Whether a tick is one at which level 2 sends its answer (docs/CONCEPT.md, "Faults").
+/// Whether a tick is one at which level 2 sends its answer (docs/CONCEPT.md, "Faults"). The fault goes by the
+/// number `tick` that it has in the run, the periods by the number `local` that it has since power-on.
 #[tactic(auto, unfolding(crate::specs::Effects::sends_at))]
-pub fn sends(fault: Option<&Fault>, tick: u32, times: &Times) -> bool
-    ensures { result ≡ sends_at (effects (option_copied fault.entry) tick) times.now tick }
+pub fn sends(fault: Option<&Fault>, tick: u32, local: u32, times: &Times) -> bool
+    ensures { result ≡ sends_at (effects (option_copied fault.entry) tick) times.now local }
 {
-    sends_in(moved_send(fault, tick), tick, times)
+    sends_in(moved_send(fault, tick), local, times)
 }
 
 /// What a wild monitoring module does at a tick: the number of the question that it asks, which counts modulo

@@ -1,1 +1,3 @@
 pub mod Slices
+pub use Rattle.eg_word.specs.Program
+pub use Rattle.eg_word.specs.World

@@ -6,3 +6,4 @@ pub mod DriveTrace
 pub mod Unread
 pub mod Plain
 pub mod Images
+pub use Rattle.eg_num.specs.Drive

@@ -4,3 +4,4 @@ pub mod Inputs
 pub mod Modules
 pub mod Stores
 pub mod Runs
+pub use Rattle.eg_guard.specs.Memory

@@ -8,3 +8,5 @@ pub mod Runs
 pub mod Campaign
 pub mod Ticks
 pub mod Rules
+pub use Rattle.eg_toml.specs.Documents
+pub use Rattle.eg_toml.specs.Refusals as TomlRefusals

@@ -4,6 +4,7 @@ ghost use Rattle.std.specs.Option.{ForSome, MatchOption};
 ghost use Rattle.eg_num.specs.Drive.{IsDrive};
 ghost use Rattle.eg_fault.specs.Faults.{IsNoneOrValid};
 ghost use Rattle.eg_campaign.specs.Plays.{IsPlayable};
+ghost use Rattle.eg_input.specs.declared.image.TheConstants.{MOST_WORDS};
 ghost use Rattle.eg_outcome.specs.Reads.{KeepsFiles, ReadsFile, Says};
 ghost use Rattle.eg_outcome.specs.Outcomes.{TellsNoMemory};
 ghost use Rattle.eg_outcome.specs.declared.outcome.Outcome.TheVariants.{Refused};
@@ -63,7 +64,7 @@ fn with_image<S: Store>(
     ensures comes { ImageComes (S.shows store.old) (S.shows store.new) run plan drive (outcomes result) }
     ensures plan { IfOk result (λ input. input.plan ≡ plan) }
     ensures drive { IfOk result (λ input. input.drive ≡ drive) }
-    ensures image { IfOk result (λ input. length input.image ≤ 1024) }
+    ensures image { IfOk result (λ input. length input.image ≤ MOST_WORDS) }
     ensures named { IfErr result (λ end. (end.file ≡ name_by plan (role_in end.outcome))
         × IsOf run (role_in end.outcome)) }
     ensures no_memory { IfErr result (λ end. TellsNoMemory end.outcome) }
@@ -162,7 +163,7 @@ fn image_for<S: Store>(
     ensures reads { ReadsFile (role.Image run) (image_file run) file.now
         (S.shows store.old) (S.shows store.new) result }
     ensures keeps { KeepsFiles (S.shows store.old) (S.shows store.new) result }
-    ensures image { IfOk result (λ image. length image ≤ 1024) }
+    ensures image { IfOk result (λ image. length image ≤ MOST_WORDS) }
     ensures role { IfErr result (λ outcome. IsOf run (role_in outcome)) }
 {
     match file_bytes(alloc, Role::Image { run }, file, store) {
@@ -174,7 +175,7 @@ fn image_for<S: Store>(
 /// The words that these bytes of an image say, or how the call ends without them.
 fn image_in(alloc: Global, run: u32, bytes: &[u8]) -> Result<Items<u16>, Outcome>
     ensures says { Says (image_or_refusal run) bytes.now result }
-    ensures image { IfOk result (λ image. length image ≤ 1024) }
+    ensures image { IfOk result (λ image. length image ≤ MOST_WORDS) }
     ensures role { IfErr result (λ outcome. IsOf run (role_in outcome)) }
 {
     match read_image(alloc, bytes) {

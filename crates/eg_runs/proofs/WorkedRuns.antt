@@ -48,8 +48,8 @@ idle-verdicts = refl
 
 -- ---- answers are found after a trip ----
 
-pub full_throttle-found : map (λ m. m.found.answers) (moments_in_time (bench_run full None 40))
-    ≡ replicate 39 false ++ true ∷ []
+pub full_throttle-found : map (λ m. m.found.answers) (moments_in_time (bench_run full None 50))
+    ≡ replicate 39 false ++ true ∷ replicate 10 false
 unfolding whole_model
 full_throttle-found = refl
 

@@ -17,8 +17,8 @@ pub fn full_run_in_detail()
     ensures answers { answers_of (bench_run full None 40) ≡ (5, Good) ∷ [] }
     ensures verdicts { verdicts_of (bench_run full None 40)
         ≡ (9, Some Right) ∷ (19, Some Wrong) ∷ (29, Some Wrong) ∷ (39, Some Wrong) ∷ [] }
-    ensures found { map (λ m. m.found.answers) (moments_in_time (bench_run full None 40))
-        ≡ replicate 39 false ++ true ∷ [] }
+    ensures found { map (λ m. m.found.answers) (moments_in_time (bench_run full None 50))
+        ≡ replicate 39 false ++ true ∷ replicate 10 false }
 {}
 
 /// Level 1 waits for ever: nothing is found in 60 ticks, and in the first 40 each answer is good and each

@@ -8,31 +8,32 @@ use Rattle.eg_fault.specs.Effects.{sends_at, asked_at}
 use Rattle.eg_fault.specs.Faults.{effects, IsNoneOrValid}
 use Rattle.eg_fault.specs.Classes.{IsHeldWithin}
 use Rattle.eg_fault.proofs.ClassLemmas.{plates_are_held_within}
-use Rattle.eg_values.specs.Calibration.{IsAccepted}
+use Rattle.eg_values.specs.Calibration.{CalibrationParts, IsAccepted}
 use Rattle.eg_guard.specs.Memory.{AreWords}
-use Rattle.eg_torque.specs.Permit.{drive_permits}
 use Rattle.eg_word.specs.World.{World, world_of}
 use Rattle.eg_record.specs.declared.row.Row.{Row}
 use Rattle.eg_level2.specs.Words.{AreWithin, words_of}
 use Rattle.eg_level2.specs.Inputs.{Level2Parts}
 use Rattle.eg_level2.specs.declared.step.Step.{Step}
-use Rattle.eg_model.specs.History.{Setting, Entry}
+use Rattle.eg_model.specs.History.{Setting, Entry, Tick}
 use Rattle.eg_model.specs.Paths.{on_at}
 use Rattle.eg_model.specs.Level1.{last_world}
-use Rattle.eg_model.specs.Moments.{readings_at, moments, next}
+use Rattle.eg_model.specs.Moments.{readings_at, limit_at, moments, ticks, next}
 use Rattle.eg_model.specs.Rows.{trap_in, row_of, signal_list}
 use Rattle.eg_agree.specs.Standing.{signals_of}
+use Rattle.eg_agree.specs.Replies.{moment_after}
 use Rattle.eg_agree.proofs.HistoryLemmas.{within_law}
 use Rattle.eg_tick.specs.Kept.{Kept}
 use Rattle.eg_tick.specs.Stands.{Stands, HoldsMonitor}
-use Rattle.eg_tick.specs.Working.{effects_after, Serves, Served, IsStep}
+use Rattle.eg_tick.specs.Working.{Serves, Served, IsStep}
 use Rattle.eg_tick.specs.Judging.{ComesNext, Tells}
-use Rattle.eg_tick.specs.Advancing.{entry_of}
+use Rattle.eg_tick.specs.Advancing.{effects_after, entry_of}
 use Rattle.eg_tick.specs.declared.monitoring.Judgement.{Judgement}
 use Rattle.eg_tick.specs.declared.paths.Paths.{Paths}
 use Rattle.eg_tick.specs.declared.working.Task.{Task}
 use Rattle.eg_tick.proofs.MonitorLemmas.{stands-asked, stands-next}
-use Rattle.eg_tick.proofs.StandsLemmas.{Makes, on-is, row-is}
+use Rattle.eg_tick.proofs.HistoryLemmas.{tick_of, length-ticks, number-of-ticks, ticks_follow}
+use Rattle.eg_tick.proofs.StandsLemmas.{Makes, on-is, next_row}
 
 -- ---- the setting of a controller ----
 
@@ -55,7 +56,13 @@ held-within fault tick x valid is = subst IsHeldWithin is (plates_are_held_withi
 -- ---- level 2's counters ----
 
 pub within : (c : Kept) (image : List ℕ) (h : List Entry) → IsAccepted c.cal → Stands (setting_of c image) c h → AreWithin c.cal.rules (words_of c.memory.words)
+unfolding moments
 within c image h accepted stands = within_law (setting_of c image) accepted (moments (setting_of c image) h) (words_of c.memory.words) stands.level2.words
+
+-- ---- the number of the tick since power-on ----
+
+pub few-local : (s : Setting) (c : Kept) (h : List Entry) → Stands s c h → c.ticks < 20000 → c.local < 20000
+few-local s c h stands few = let count = stands.count in let local = stands.local in let same = length-ticks s h in omega arith
 
 -- ---- the tick ----
 
@@ -74,21 +81,25 @@ pub record Advance (old new : Kept) (drive : DriveRow) (budgets : List ℕ) (und
   pub path2 : paths.path2 ≡ (effects under old.ticks).conducts 2 old.open2
   pub on : paths.on ≡ (paths.path1 && paths.path2)
   pub tick : task.tick ≡ old.ticks
-  pub sends : task.sends ≡ sends_at (effects under old.ticks) old.cal.times old.ticks
-  pub asked : task.asked ≡ asked_at (effects under old.ticks) old.monitor.times (length old.cal.questions) old.ticks
-  pub readings : (e : Entry) → e.drive ≡ drive → e.shown ≡ new.shown → task.readings ≡ readings_at (effects under old.ticks) e
+  pub place : task.local ≡ old.local
+  pub sends : task.sends ≡ sends_at (effects under old.ticks) old.cal.times old.local
+  pub asked : task.asked ≡ asked_at (effects under old.ticks) old.monitor.times (length old.cal.questions) old.local
+  pub readings : (cal : CalibrationParts) (e : Entry) → e.drive ≡ drive → e.shown ≡ new.shown → task.readings ≡ readings_at cal (effects under old.ticks) e
   pub slices : task.slices ≡ budgets
-  pub served : (s : Setting) (e : Entry) (h : List Entry) → Serves s e h made under task old.registers old.memory.words
-      → Served s e h new.registers new.memory.words
-  pub step : (s : Setting) (e : Entry) (h : List Entry) → Serves s e h made under task old.registers old.memory.words → IsStep s e h done
-  pub holds : (s : Setting) (e : Entry) (h : List Entry) → ComesNext s under old.ticks done.answer old.monitor e h → HoldsMonitor s new.monitor (e ∷ h)
-  pub tells : (s : Setting) (e : Entry) (h : List Entry) → ComesNext s under old.ticks done.answer old.monitor e h → Tells judged (next s e h)
+  pub served : (s : Setting) (x : Tick) (h : List Tick) → Serves s x h made under task old.registers old.memory.words
+      → Served s x h new.registers new.memory.words
+  pub step : (s : Setting) (x : Tick) (h : List Tick) → Serves s x h made under task old.registers old.memory.words → IsStep s x h done
+  pub holds : (s : Setting) (x : Tick) (h : List Tick) → ComesNext s under old.ticks old.local done.answer old.monitor x h
+      → HoldsMonitor s new.monitor (x ∷ h)
+  pub tells : (s : Setting) (x : Tick) (h : List Tick) → ComesNext s under old.ticks old.local done.answer old.monitor x h
+      → Tells judged (moment_after s x h)
   pub cal : new.cal ≡ old.cal
   pub fault : new.fault ≡ old.fault
   pub count : new.ticks ≡ old.ticks + 1
+  pub local : new.local ≡ old.local + 1
   pub are_words : AreWords new.memory.words
   pub open1 : new.open1 ≡ (done.open_path || old.open1)
-  pub open2 : new.open2 ≡ ((judged.answers || judged.opens) || old.open2)
+  pub open2 : new.open2 ≡ ((judged.confirms || judged.opens) || old.open2)
   pub kt : new.kt ≡ old.kt
   pub laws : KeepsLaws new.kt new.shown
   pub off : paths.on ≡ false → new.shown.torque ≡ 0
@@ -110,44 +121,50 @@ module _ (old new : Kept) (drive : DriveRow) (budgets : List ℕ) (made : Level2
   on-told = advance.on
       ∙ ap₂ (λ a b. a && b) (advance.path1 ∙ ap (λ t. (effects old.fault t).conducts 1 old.open1) stands.count)
       (advance.path2 ∙ ap (λ t. (effects old.fault t).conducts 2 old.open2) stands.count)
-      ∙ on-is s h old stands
+      ∙ on-is s (effects_after s h) h old stands
 
-  serves : Serves s e h made old.fault task old.registers old.memory.words
-  unfolding effects_after entry_of
+  abbrev x : Tick
+  x = tick_of s e h
+
+  serves : Serves s x (ticks s h) made old.fault task old.registers old.memory.words
+  unfolding entry_of ticks moments
   serves = record {
     accepted = advance.accepted;
     parts = advance.parts;
     fault = refl;
+    begin = 0;
+    follows = ticks_follow s (e ∷ h);
+    tick = advance.tick ∙ stands.count ∙ number-of-ticks s h;
     task = record {
-      tick = advance.tick ∙ stands.count;
-      sends = advance.sends ∙ ap (λ t. sends_at (effects old.fault t) old.cal.times t) stands.count;
+      local = advance.place ∙ stands.local;
+      sends = advance.sends ∙ ap₂ (λ t l. sends_at (effects old.fault t) old.cal.times l) stands.count stands.local;
       asked = advance.asked ∙ stands-asked s old h stands;
-      readings = advance.readings e refl refl ∙ ap (λ t. readings_at (effects old.fault t) e) stands.count;
+      readings = advance.readings old.cal e refl refl ∙ ap (λ t. readings_at old.cal (effects old.fault t) e) stands.count;
       slices = sym advance.slices;
     };
-    short = let few = advance.few in let count = stands.count in omega arith;
+    short = let few = advance.few in let count = stands.count in let same = length-ticks s h in omega arith;
     level1 = stands.level1;
     level2 = stands.level2;
   }
 
-  steps : IsStep s e h done
-  steps = advance.step s e h serves
+  steps : IsStep s x (ticks s h) done
+  steps = advance.step s x (ticks s h) serves
 
-  comes : ComesNext s old.fault old.ticks done.answer old.monitor e h
-  unfolding effects_after
+  comes : ComesNext s old.fault old.ticks old.local done.answer old.monitor x (ticks s h)
   comes = stands-next s old h stands e done.answer steps.mark
 
-  pub makes : Makes s e h old new done judged
-  unfolding entry_of
+  pub makes : Makes s x (ticks s h) old new done judged
+  unfolding entry_of effects_after moments
   makes = record {
     cal = advance.cal;
     fault = advance.fault;
     count = advance.count;
+    local = advance.local;
     are_words = advance.are_words;
-    served = advance.served s e h serves;
+    served = advance.served s x (ticks s h) serves;
     step = steps;
-    judged = advance.tells s e h comes;
-    monitor = advance.holds s e h comes;
+    judged = advance.tells s x (ticks s h) comes;
+    monitor = advance.holds s x (ticks s h) comes;
     open1 = advance.open1;
     open2 = advance.open2;
     kt = advance.kt;
@@ -160,7 +177,7 @@ module _ (old new : Kept) (drive : DriveRow) (budgets : List ℕ) (made : Level2
   }
 
   -- its row is the model's
-  pub row-told : (row : Row) (allowed : ℕ) → allowed ≡ drive_permits old.cal.rules.permit drive → row ≡ record {
+  pub row-told : (row : Row) (allowed : ℕ) → allowed ≡ limit_at old.cal drive → row ≡ record {
     tick = old.ticks;
     drive = drive;
     plate = new.shown.position;
@@ -173,15 +190,15 @@ module _ (old new : Kept) (drive : DriveRow) (budgets : List ℕ) (made : Level2
     signals = signal_list (signals_of (words_of new.memory.words));
     throttle = slice_index new.memory.words 2064;
     ignition = slice_index new.memory.words 2065;
-    found = record done.found { answers = judged.answers };
+    found = record done.found { answers = judged.confirms };
     answer = judged.mark;
     verdict = judged.verdict;
-  } → row ≡ row_of (next s e h)
+  } → row ≡ row_of (length h) (next s e h)
   unfolding entry_of effects_after
   row-told row allowed permits is =
       let first : paths.path1 ≡ (effects_after s h).conducts 1 old.open1 = advance.path1 ∙ ap (λ t. (effects old.fault t).conducts 1 old.open1) stands.count in
       let second : paths.path2 ≡ (effects_after s h).conducts 2 old.open2 = advance.path2 ∙ ap (λ t. (effects old.fault t).conducts 2 old.open2) stands.count in
-      row-is s e h old new done judged stands makes row (is ∙ (λ i. record {
+      next_row s e h old new done judged stands makes row (is ∙ (λ i. record {
         tick = old.ticks;
         drive = drive;
         plate = new.shown.position;
@@ -194,7 +211,7 @@ module _ (old new : Kept) (drive : DriveRow) (budgets : List ℕ) (made : Level2
         signals = signal_list (signals_of (words_of new.memory.words));
         throttle = slice_index new.memory.words 2064;
         ignition = slice_index new.memory.words 2065;
-        found = record done.found { answers = judged.answers };
+        found = record done.found { answers = judged.confirms };
         answer = judged.mark;
         verdict = judged.verdict;
       }))

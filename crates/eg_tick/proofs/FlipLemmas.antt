@@ -41,13 +41,13 @@ module _ (parts : Level2Parts) (fault : Option Fault) (task : Task) (w : Work) (
   runs : w.doing.ran 0 ≡ true
   runs = ap (λ (f : ℕ → Bool). f 0) meets.ran ∙ faults_check_flips fault task.tick flips
 
-  gives-up : (words : Words) → given_up task.tick ≡ after_module w.doing 0 words
+  gives-up : (words : Words) → given_up task.local ≡ after_module w.doing 0 words
   unfolding after_module
   gives-up words = ap given_up (sym meets.at) ∙ runs-flipped (w.doing.ran 0) w.doing.differs (given_up w.doing.tick) _ words runs differs
 
   pub flipped_module : {T E : Type 0} (result : Result T E) (flipped new : List ℕ) → AreWords new
       → SameOutside is_level2_own old flipped → SameOutside is_level2_own flipped new → OnOk result (AreMirrored new)
-      → OnOk result (words_of new ≡ given_up task.tick) → OnOk result (IsMidway w i 1 m new)
+      → OnOk result (words_of new ≡ given_up task.local) → OnOk result (IsMidway w i 1 m new)
   flipped_module (Ok y) flipped new are before after mirrored made =
       module-midway w i 0 m old new are (λ address outside. after address outside ∙ before address outside) mirrored (made ∙ gives-up (words_of old)) is
   flipped_module (Err y) flipped new are before after mirrored made = tt

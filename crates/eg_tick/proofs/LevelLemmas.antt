@@ -31,7 +31,7 @@ slice_result (Err x) w j budget m n old new runs within row are same made is = t
 
 -- what goes into a module is what the tick says
 inputs-same : (parts : Level2Parts) (x : Effects) (task : Task) (w : Work) (j : ℕ) (memory : List ℕ) (mixed : ℕ) → mixed ≡ x.disturbance j → Meets parts x task w.doing
-    → IsSet w memory → inputs_of parts memory task.tick task.sends mixed ≡ inputs_for w.doing j
+    → IsSet w memory → inputs_of parts memory task.local task.sends mixed ≡ inputs_for w.doing j
 unfolding inputs_of inputs_for
 inputs-same parts x task w j memory mixed mixes meets set = λ i. record {
   rules = sym meets.rules i;
@@ -71,7 +71,7 @@ module _ (parts : Level2Parts) (x : Effects) (task : Task) (w : Work) (i j : ℕ
 
   module _ (mixed : ℕ) (mixes : mixed ≡ x.disturbance j) where
     abbrev inputs : Inputs
-    inputs = inputs_of parts old task.tick task.sends mixed
+    inputs = inputs_of parts old task.local task.sends mixed
 
     inputs-are : inputs ≡ inputs_for w.doing j
     inputs-are = inputs-same parts x task w j old mixed mixes meets is.set

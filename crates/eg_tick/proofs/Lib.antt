@@ -1,3 +1,4 @@
+pub mod HistoryLemmas
 pub mod FrameLemmas
 pub mod MidwayLemmas
 pub mod TickLemmas

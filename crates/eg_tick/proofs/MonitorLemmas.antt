@@ -23,24 +23,33 @@ use Rattle.eg_fault.specs.Faults.{effects}
 use Rattle.eg_fault.specs.declared.class.Fault.{Fault}
 use Rattle.eg_fault.proofs.ClassLemmas.{wild_stays_wild}
 use Rattle.eg_model.specs.History.{Setting, Entry, Tick, Moment}
-use Rattle.eg_model.specs.Answers.{with_answer, answers_in, verdict_at, verdicts_in, finds_answers}
-use Rattle.eg_model.specs.Moments.{moment, moments_of, ticks, moments, next}
-use Rattle.eg_model.proofs.TickLemmas.{length-moments, moment-tick, moment-verdict, moment-answers, moment-opens}
-use Rattle.eg_agree.specs.Replies.{number_expected, mark_of}
-use Rattle.eg_agree.proofs.TickLemmas.{length-ticks}
+use Rattle.eg_model.specs.Answers.{with_answer, answers_in, verdict_at, verdicts_in, confirms_at}
+use Rattle.eg_model.specs.Premises.{Follows}
+use Rattle.eg_model.specs.Moments.{moment, moments_of, ticks}
+use Rattle.eg_model.proofs.TickLemmas.{length-moments, moment-tick, moment-verdict, moment-confirms, moment-opens}
+use Rattle.eg_agree.specs.Replies.{moment_after, number_expected, mark_of}
 use Rattle.eg_agree.proofs.ReplyLaws.{number_expected-usual}
 use Rattle.eg_tick.specs.Stands.{was_wild, IsOrderly, HoldsMonitor, Stands}
 use Rattle.eg_tick.specs.Kept.{Kept}
 use Rattle.eg_values.specs.Calibration.{CalibrationParts}
 use Rattle.eg_tick.specs.Judging.{with_heard, Takes, IsDeaf, ComesNext}
+use Rattle.eg_tick.proofs.HistoryLemmas.{tick_of, number-of-ticks, ticks_follow}
 
 -- ---- wild, once it has begun ----
 
-pub never_wild : (s : Setting) (h : List Entry) (t : ℕ) → length h ≤ t → (effects s.fault t).wild ≡ None → was_wild (ticks s h) ≡ false
-unfolding was_wild ticks
-never_wild s [] t before tame = refl
-never_wild s (e ∷ h) t before tame =
-    or_from _ _ (ap is_some (wild_stays_wild s.fault (length h) t (omega (arith, before)) tame)) (never_wild s h t (omega (arith, before)) tame)
+-- where it isn't wild at tick t of a run, it wasn't at any tick before
+wild_before : (fault : Option Fault) (begin : ℕ) (h : List Tick) (t : ℕ) → Follows fault begin h → begin + length h ≤ t → (effects fault t).wild ≡ None → was_wild h ≡ false
+unfolding was_wild Follows
+wild_before fault begin [] t follows before tame = refl
+wild_before fault begin (x ∷ h) t follows before tame =
+    or_from _ _ (ap (λ (y : Effects). is_some y.wild) follows.0 ∙ ap is_some (wild_stays_wild fault (begin + length h) t (omega (arith, before)) tame))
+    (wild_before fault begin h t follows.1 (omega (arith, before)) tame)
+
+-- so it wasn't before a tick at which it isn't
+never_wild : (s : Setting) (begin : ℕ) (x : Tick) (h : List Tick) → Follows s.fault begin (x ∷ h) → x.effects.wild ≡ None → was_wild h ≡ false
+unfolding Follows
+never_wild s begin x h follows tame =
+    wild_before s.fault begin h (begin + length h) follows.1 (omega arith) (ap (λ (y : Effects). y.wild) (sym follows.0) ∙ tame)
 
 -- ---- answers that were heard ----
 
@@ -67,20 +76,17 @@ heard_below n t (answer ∷ before) all =
     (heard_below n t before (All-tail (λ answer. answer.tick < t) _ (map (marked n) before) all))
 
 -- What a tick asks of a module that isn't wild at it: it has given the verdicts of the periods that are over,
-pub orderly_period : (s : Setting) (monitor : MonitorParts) (h : List Entry) → HoldsMonitor s monitor h → (effects s.fault (length h)).wild ≡ None →
+pub orderly_period : (s : Setting) (monitor : MonitorParts) (h : List Tick) → HoldsMonitor s monitor h → was_wild h ≡ false →
     monitor.verdicts ≡ period_of monitor.times (length h)
-orderly_period s monitor h holds tame =
-    (holds.orderly (never_wild s h (length h) (omega arith) tame)).period ∙ ap (λ times. period_of times (length h)) (sym holds.times)
+orderly_period s monitor h holds never = (holds.orderly never).period ∙ ap (λ times. period_of times (length h)) (sym holds.times)
 
 -- and all that it has heard came before
-pub orderly_later : (s : Setting) (monitor : MonitorParts) (h : List Entry) → HoldsMonitor s monitor h → (effects s.fault (length h)).wild ≡ None →
+pub orderly_later : (s : Setting) (monitor : MonitorParts) (h : List Tick) → HoldsMonitor s monitor h → was_wild h ≡ false →
     All (λ heard. heard.tick < length h) monitor.heard
-unfolding moments
-orderly_later s monitor h holds tame =
-    let is = (holds.orderly (never_wild s h (length h) (omega arith) tame)).heard in
+orderly_later s monitor h holds never =
     heard_below _ (length h) monitor.heard
-    (subst (λ answers. All (λ answer. answer.tick < length h) answers) (sym is)
-    (answers_below s (place_of s.cal.times (length h)) (ticks s h) (length h) (let same = length-ticks s h in omega arith)))
+    (subst (λ answers. All (λ answer. answer.tick < length h) answers) (sym (holds.orderly never).heard)
+    (answers_below s (place_of s.cal.times (length h)) h (length h) (omega arith)))
 
 -- ---- periods ----
 
@@ -190,7 +196,7 @@ verdict-given times x mark past tick n heard None same tame told gives = elim (c
   | inr other ↦ sym (verdict-other times x mark past tick same other)
 ]
 
--- ---- wrong answers are found ----
+-- ---- wrong answers are confirmed ----
 
 still : (now before : Bool) → now ≡ before → (now && not before) ≡ false
 still true true e = refl
@@ -198,44 +204,33 @@ still false false e = refl
 still true false e = cc
 still false true e = cc
 
-found : (times : TimeParts) (verdict : Option Verdict) (past : List Moment) (before now : Bool) →
+confirmed : (times : TimeParts) (verdict : Option Verdict) (past : List Moment) (before now : Bool) →
     before ≡ is_confirmed times.weights (map is_wrong (verdicts_in past)) →
     now ≡ is_confirmed times.weights (map is_wrong (with_verdict verdict (verdicts_in past))) →
-    (now && not before) ≡ finds_answers times verdict past
-unfolding finds_answers with_verdict
-found times None past before now was is = still now before (is ∙ sym was)
-found times (Some verdict) past before now was is =
+    (now && not before) ≡ confirms_at times verdict past
+unfolding confirms_at with_verdict
+confirmed times None past before now was is = still now before (is ∙ sym was)
+confirmed times (Some verdict) past before now was is =
     ap₂ (λ a b. a && not b) is was ∙ sym (is_first-cons times.weights (is_wrong verdict) (map is_wrong (verdicts_in past)))
 
 -- ---- the moment of a tick, and the moments with it ----
 
-module _ (s : Setting) (e : Entry) (h : List Entry) where
-  moments-cons : moments s (e ∷ h) ≡ next s e h ∷ moments s h
-  unfolding moments next ticks moments_of
+module _ (s : Setting) (x : Tick) (h : List Tick) where
+  abbrev m : Moment
+  m = moment_after s x h
+
+  abbrev past : List Moment
+  past = moments_of s h
+
+  moments-cons : moments_of s (x ∷ h) ≡ m ∷ past
+  unfolding moments_of
   moments-cons = refl
 
-  count-past : length (moments s h) ≡ length h
-  unfolding moments
-  count-past = length-moments s (ticks s h) ∙ length-ticks s h
+  next-tick : m.tick ≡ length h
+  next-tick = moment-tick s x.effects x.entry past ∙ length-moments s h
 
-  next-tick : (next s e h).tick ≡ length h
-  unfolding next
-  next-tick = moment-tick s (effects s.fault (length h)) e (moments s h) ∙ count-past
-
-  next-verdict : (next s e h).verdict ≡ verdict_at s.cal.times (effects s.fault (length h)) (next s e h).mark (moments s h)
-  unfolding next
-  next-verdict = moment-verdict s (effects s.fault (length h)) e (moments s h)
-
-  next-answers : (next s e h).found.answers ≡ finds_answers s.cal.times (next s e h).verdict (moments s h)
-  unfolding next
-  next-answers = moment-answers s (effects s.fault (length h)) e (moments s h)
-
-  pub next-opens : (next s e h).opens ≡ (effects s.fault (length h)).opens
-  unfolding next
-  next-opens = moment-opens s (effects s.fault (length h)) e (moments s h)
-
-  verdicts-cons : verdicts_in (moments s (e ∷ h)) ≡ with_verdict (next s e h).verdict (verdicts_in (moments s h))
-  unfolding moments next ticks moments_of verdicts_in
+  verdicts-cons : verdicts_in (moments_of s (x ∷ h)) ≡ with_verdict m.verdict (verdicts_in past)
+  unfolding moments_of verdicts_in
   verdicts-cons = refl
 
 none-more : (verdicts : List Verdict) → with_verdict None verdicts ≡ verdicts
@@ -249,27 +244,28 @@ pub record Hears (x : Effects) (tick : ℕ) (answer : Option ℕ) (before now : 
   pub wild : OnSome x.wild (IsDeaf before now verdict)
   pub orderly : x.wild ≡ None → Takes tick answer before now verdict
 
-module _ (s : Setting) (e : Entry) (h : List Entry) (answer : Option ℕ) (before now : MonitorParts) (verdict : Option Verdict) (holds : HoldsMonitor s before h) where
+module _ (s : Setting) (begin : ℕ) (x : Tick) (h : List Tick) (follows : Follows s.fault begin (x ∷ h)) (answer : Option ℕ) (before now : MonitorParts)
+    (verdict : Option Verdict) (holds : HoldsMonitor s before h) where
   abbrev n : ℕ
   n = expected_number s.cal.times s.cal.questions (length h)
 
   abbrev heard : List HeardAnswer
   heard = with_heard (length h) answer before.heard
 
-  given-on : verdict ≡ (next s e h).verdict → ((verdicts : List Verdict) → HasGiven before verdicts → HasGiven now (with_verdict verdict verdicts)) →
-      HasGiven now (verdicts_in (moments s (e ∷ h)))
+  given-on : verdict ≡ (moment_after s x h).verdict → ((verdicts : List Verdict) → HasGiven before verdicts → HasGiven now (with_verdict verdict verdicts)) →
+      HasGiven now (verdicts_in (moments_of s (x ∷ h)))
   given-on told given =
-      subst (HasGiven now) (ap (λ v. with_verdict v (verdicts_in (moments s h))) told ∙ sym (verdicts-cons s e h)) (given _ holds.given)
+      subst (HasGiven now) (ap (λ v. with_verdict v (verdicts_in (moments_of s h))) told ∙ sym (verdicts-cons s x h)) (given _ holds.given)
 
-  module _ (marked_so : mark_of (number_expected s (effects s.fault (length h)) (length h)) answer ≡ (next s e h).mark)
-      (tame : (effects s.fault (length h)).wild ≡ None) (takes : Takes (length h) answer before now verdict) where
+  module _ (marked_so : mark_of (number_expected s x.effects (length h)) answer ≡ (moment_after s x h).mark)
+      (tame : x.effects.wild ≡ None) (takes : Takes (length h) answer before now verdict) where
     orderly-now : IsOrderly s before h
-    orderly-now = holds.orderly (never_wild s h (length h) (omega arith) tame)
+    orderly-now = holds.orderly (never_wild s begin x h follows tame)
 
-    told : map (marked n) heard ≡ with_answer (length h) (next s e h).mark (answers_in (take (place_of s.cal.times (length h)) (moments s h)))
+    told : map (marked n) heard ≡ with_answer (length h) (moment_after s x h).mark (answers_in (take (place_of s.cal.times (length h)) (moments_of s h)))
     told =
         heard-marked (length h) n answer before.heard
-        ∙ ap₂ (with_answer (length h)) (ap (λ k. mark_of k answer) (sym (number_expected-usual s (effects s.fault (length h)) (length h) tame)) ∙ marked_so) orderly-now.heard
+        ∙ ap₂ (with_answer (length h)) (ap (λ k. mark_of k answer) (sym (number_expected-usual s x.effects (length h) tame)) ∙ marked_so) orderly-now.heard
 
     gives : SomeIff verdict (IsTrue (is_last_tick s.cal.times (length h))) (verdict_over s.cal.times n heard)
     gives =
@@ -278,12 +274,12 @@ module _ (s : Setting) (e : Entry) (h : List Entry) (answer : Option ℕ) (befor
         (subst (λ times. SomeIff verdict (IsTrue (is_last_tick times (length h))) (verdict_over times (expected_number times before.questions (length h)) heard))
         holds.times takes.gives)
 
-    tame-verdict : verdict ≡ (next s e h).verdict
+    tame-verdict : verdict ≡ (moment_after s x h).verdict
     tame-verdict =
-        verdict-given s.cal.times (effects s.fault (length h)) (next s e h).mark (moments s h) (length h) n heard verdict (count-past s e h) tame told gives
-        ∙ sym (next-verdict s e h)
+        verdict-given s.cal.times x.effects (moment_after s x h).mark (moments_of s h) (length h) n heard verdict (length-moments s h) tame told gives
+        ∙ sym (moment-verdict s x.effects x.entry (moments_of s h))
 
-    tame-holds : HoldsMonitor s now (e ∷ h)
+    tame-holds : HoldsMonitor s now (x ∷ h)
     tame-holds = record {
       times = takes.times ∙ holds.times;
       questions = takes.questions ∙ holds.questions;
@@ -291,21 +287,22 @@ module _ (s : Setting) (e : Entry) (h : List Entry) (answer : Option ℕ) (befor
       orderly = λ never. record {
         period = takes.period ∙ ap (λ times. period_of times (length h + 1)) holds.times ∙ ap (period_of s.cal.times) (add-one (length h));
         heard =
-            kept-marked s.cal.times s.cal.questions (length h) heard now.heard (next s e h) (moments s h) _ verdict
-            (subst AreTimes holds.times takes.are_times) (next-tick s e h) told gives takes.closed takes.goes_on
-            ∙ ap (λ m. answers_in (take (place_of s.cal.times (suc (length h))) m)) (sym (moments-cons s e h));
+            kept-marked s.cal.times s.cal.questions (length h) heard now.heard (moment_after s x h) (moments_of s h) _ verdict
+            (subst AreTimes holds.times takes.are_times) (next-tick s x h) told gives takes.closed takes.goes_on
+            ∙ ap (λ all. answers_in (take (place_of s.cal.times (suc (length h))) all)) (sym (moments-cons s x h));
       };
     }
 
-  module _ (asks : ℕ) (wild : (effects s.fault (length h)).wild ≡ Some asks) (deaf : IsDeaf before now verdict) where
-    wild-verdict : verdict ≡ (next s e h).verdict
-    wild-verdict = deaf.none ∙ sym (next-verdict s e h ∙ verdict-wild s.cal.times (effects s.fault (length h)) (next s e h).mark (moments s h) asks wild)
+  module _ (asks : ℕ) (wild : x.effects.wild ≡ Some asks) (deaf : IsDeaf before now verdict) where
+    wild-verdict : verdict ≡ (moment_after s x h).verdict
+    wild-verdict = deaf.none
+        ∙ sym (moment-verdict s x.effects x.entry (moments_of s h) ∙ verdict-wild s.cal.times x.effects (moment_after s x h).mark (moments_of s h) asks wild)
 
-    wild_now : was_wild (ticks s (e ∷ h)) ≡ true
-    unfolding was_wild ticks
+    wild_now : was_wild (x ∷ h) ≡ true
+    unfolding was_wild
     wild_now = or_left _ _ (ap is_some wild)
 
-    wild-holds : HoldsMonitor s now (e ∷ h)
+    wild-holds : HoldsMonitor s now (x ∷ h)
     wild-holds = record {
       times = ap (λ (m : MonitorParts). m.times) deaf.unchanged ∙ holds.times;
       questions = ap (λ (m : MonitorParts). m.questions) deaf.unchanged ∙ holds.questions;
@@ -316,89 +313,95 @@ module _ (s : Setting) (e : Entry) (h : List Entry) (answer : Option ℕ) (befor
         deaf-given : (v : Option Verdict) (verdicts : List Verdict) → v ≡ None → HasGiven now verdicts → HasGiven now (with_verdict v verdicts)
         deaf-given v verdicts none given = subst (HasGiven now) (sym (ap (λ v. with_verdict v verdicts) none ∙ none-more verdicts)) given
 
-  module _ (marked_so : mark_of (number_expected s (effects s.fault (length h)) (length h)) answer ≡ (next s e h).mark)
-      (hears : Hears (effects s.fault (length h)) (length h) answer before now verdict) where
-    either : (w : Option ℕ) → (effects s.fault (length h)).wild ≡ w → (verdict ≡ (next s e h).verdict) × HoldsMonitor s now (e ∷ h)
+  module _ (marked_so : mark_of (number_expected s x.effects (length h)) answer ≡ (moment_after s x h).mark)
+      (hears : Hears x.effects (length h) answer before now verdict) where
+    either : (w : Option ℕ) → x.effects.wild ≡ w → (verdict ≡ (moment_after s x h).verdict) × HoldsMonitor s now (x ∷ h)
     either None is = (tame-verdict marked_so is (hears.orderly is), tame-holds marked_so is (hears.orderly is))
     either (Some asks) is = let deaf = subst (λ w. OnSome w (IsDeaf before now verdict)) is hears.wild in (wild-verdict asks is deaf, wild-holds asks is deaf)
 
 -- ---- what is made of it ----
 
--- the number that is expected, by the fault, the times and the questions
-number_of : Option Fault → TimeParts → List Question → ℕ → ℕ
-number_of fault times questions tick = answer_number (question_at questions (asked_at (effects fault tick) times (length questions) tick)).answer
+-- the number that is expected, by what is out of order, the times and the questions
+number_of : Effects → TimeParts → List Question → ℕ → ℕ
+number_of x times questions local = answer_number (question_at questions (asked_at x times (length questions) local)).answer
 
-module _ (s : Setting) (e : Entry) (h : List Entry) (fault : Option Fault) (tick : ℕ) (answer : Option ℕ) (before : MonitorParts)
-    (comes : ComesNext s fault tick answer before e h) where
-  pub judged : (now : MonitorParts) (verdict : Option Verdict) → Hears (effects fault tick) tick answer before now verdict →
-      (verdict ≡ (next s e h).verdict) × HoldsMonitor s now (e ∷ h)
+module _ (s : Setting) (x : Tick) (h : List Tick) (fault : Option Fault) (tick local : ℕ) (answer : Option ℕ) (before : MonitorParts)
+    (comes : ComesNext s fault tick local answer before x h) where
+  effects-is : effects fault tick ≡ x.effects
+  unfolding Follows
+  effects-is = ap₂ effects (sym comes.same_fault) (sym comes.count) ∙ sym comes.follows.0
+
+  pub judged : (now : MonitorParts) (verdict : Option Verdict) → Hears (effects fault tick) local answer before now verdict →
+      (verdict ≡ (moment_after s x h).verdict) × HoldsMonitor s now (x ∷ h)
   judged now verdict hears =
-      either s e h answer before now verdict comes.holds comes.marked
-      (subst (λ t. Hears (effects s.fault t) t answer before now verdict) (sym comes.count)
-      (subst (λ fault. Hears (effects fault tick) tick answer before now verdict) (sym comes.same_fault) hears)) _ refl
+      either s comes.begin x h comes.follows answer before now verdict comes.holds comes.marked
+      (subst (λ t. Hears x.effects t answer before now verdict) (sym comes.place)
+      (subst (λ y. Hears y local answer before now verdict) effects-is hears)) _ refl
 
-  effects-is : effects fault tick ≡ effects s.fault (length h)
-  effects-is = ap₂ effects (sym comes.same_fault) (sym comes.count)
+  pub judged-opens : (opens : Bool) → opens ≡ (effects fault tick).opens → opens ≡ (moment_after s x h).opens
+  judged-opens opens is = is ∙ ap (λ (y : Effects). y.opens) effects-is ∙ sym (moment-opens s x.effects x.entry (moments_of s h))
 
-  pub judged-opens : (opens : Bool) → opens ≡ (effects fault tick).opens → opens ≡ (next s e h).opens
-  judged-opens opens is = is ∙ ap (λ (x : Effects). x.opens) effects-is ∙ sym (next-opens s e h)
-
-  number-is : (questions : List Question) → before.questions ≡ questions → number_of fault before.times questions tick ≡ number_expected s (effects s.fault (length h)) (length h)
+  number-is : (questions : List Question) → before.questions ≡ questions → number_of (effects fault tick) before.times questions local ≡ number_expected s x.effects (length h)
   unfolding number_of number_expected
   number-is questions same =
-      ap (λ questions. number_of fault before.times questions tick) (sym same ∙ comes.holds.questions)
-      ∙ ap (λ times. number_of fault times s.cal.questions tick) comes.holds.times
-      ∙ ap₂ (λ fault tick. number_of fault s.cal.times s.cal.questions tick) (sym comes.same_fault) (sym comes.count)
+      ap (λ questions. number_of (effects fault tick) before.times questions local) (sym same ∙ comes.holds.questions)
+      ∙ ap (λ times. number_of (effects fault tick) times s.cal.questions local) comes.holds.times
+      ∙ ap₂ (λ y t. number_of y s.cal.times s.cal.questions t) effects-is (sym comes.place)
 
   pub judged-mark : (mark : AnswerMark) (number asked : ℕ) (questions : List Question) → before.questions ≡ questions → mark ≡ mark_of number answer →
-      number ≡ answer_number (question_at questions asked).answer → asked ≡ asked_at (effects fault tick) before.times (length questions) tick → mark ≡ (next s e h).mark
+      number ≡ answer_number (question_at questions asked).answer → asked ≡ asked_at (effects fault tick) before.times (length questions) local →
+      mark ≡ (moment_after s x h).mark
   unfolding number_of
   judged-mark mark number asked questions same is number_so asked_so =
       is
       ∙ ap (λ k. mark_of k answer) (number_so ∙ ap (λ i. answer_number (question_at questions i).answer) asked_so ∙ number-is questions same)
       ∙ comes.marked
 
-  pub judged-answers : (now : MonitorParts) (answers was is : Bool) → HoldsMonitor s now (e ∷ h) → answers ≡ (is && not was) →
+  pub judged-confirms : (now : MonitorParts) (confirms was is : Bool) → HoldsMonitor s now (x ∷ h) → confirms ≡ (is && not was) →
       ((verdicts : List Verdict) → HasGiven before verdicts → was ≡ is_confirmed before.times.weights (map is_wrong verdicts)) →
       ((verdicts : List Verdict) → HasGiven now verdicts → is ≡ is_confirmed now.times.weights (map is_wrong verdicts)) →
-      answers ≡ (next s e h).found.answers
-  judged-answers now answers was is holds answers_so was_so is_so =
-      answers_so
-      ∙ found s.cal.times (next s e h).verdict (moments s h) was is
-      (was_so _ comes.holds.given ∙ ap (λ (times : TimeParts). is_confirmed times.weights (map is_wrong (verdicts_in (moments s h)))) comes.holds.times)
+      confirms ≡ (moment_after s x h).confirms
+  judged-confirms now confirms was is holds confirms_so was_so is_so =
+      confirms_so
+      ∙ confirmed s.cal.times (moment_after s x h).verdict (moments_of s h) was is
+      (was_so _ comes.holds.given ∙ ap (λ (times : TimeParts). is_confirmed times.weights (map is_wrong (verdicts_in (moments_of s h)))) comes.holds.times)
       (is_so _ holds.given
-      ∙ ap (λ (times : TimeParts). is_confirmed times.weights (map is_wrong (verdicts_in (moments s (e ∷ h))))) holds.times
-      ∙ ap (λ verdicts. is_confirmed s.cal.times.weights (map is_wrong verdicts)) (verdicts-cons s e h))
-      ∙ sym (next-answers s e h)
+      ∙ ap (λ (times : TimeParts). is_confirmed times.weights (map is_wrong (verdicts_in (moments_of s (x ∷ h))))) holds.times
+      ∙ ap (λ verdicts. is_confirmed s.cal.times.weights (map is_wrong verdicts)) (verdicts-cons s x h))
+      ∙ sym (moment-confirms s x.effects x.entry (moments_of s h))
 
 -- ---- for the controller ----
 
 -- what a controller knows of its module before a tick
 module _ (s : Setting) (c : Kept) (h : List Entry) (stands : Stands s c h) where
-  pub stands-questions : c.monitor.questions ≡ c.cal.questions
-  stands-questions = stands.monitor.questions ∙ ap (λ (cal : CalibrationParts). cal.questions) (sym stands.cal)
+  never-before : (effects c.fault c.ticks).wild ≡ None → was_wild (ticks s h) ≡ false
+  never-before tame = wild_before s.fault 0 (ticks s h) (length h) (ticks_follow s h) (let same = number-of-ticks s h in omega arith)
+      (ap (λ (x : Effects). x.wild) (ap₂ effects (sym stands.fault) (sym stands.count)) ∙ tame)
 
-  tame-before : (effects c.fault c.ticks).wild ≡ None → (effects s.fault (length h)).wild ≡ None
-  tame-before tame = ap (λ (x : Effects). x.wild) (ap₂ effects (sym stands.fault) (sym stands.count)) ∙ tame
+  pub stands-period : (effects c.fault c.ticks).wild ≡ None → c.monitor.verdicts ≡ period_of c.monitor.times c.local
+  stands-period tame = orderly_period s c.monitor (ticks s h) stands.monitor (never-before tame) ∙ ap (period_of c.monitor.times) (sym stands.local)
 
-  pub stands-period : (effects c.fault c.ticks).wild ≡ None → c.monitor.verdicts ≡ period_of c.monitor.times c.ticks
-  stands-period tame = orderly_period s c.monitor h stands.monitor (tame-before tame) ∙ ap (period_of c.monitor.times) (sym stands.count)
+  pub stands-later : (effects c.fault c.ticks).wild ≡ None → All (λ heard. heard.tick < c.local) c.monitor.heard
+  stands-later tame =
+      subst (λ tick. All (λ heard. heard.tick < tick) c.monitor.heard) (sym stands.local) (orderly_later s c.monitor (ticks s h) stands.monitor (never-before tame))
 
-  pub stands-later : (effects c.fault c.ticks).wild ≡ None → All (λ heard. heard.tick < c.ticks) c.monitor.heard
-  stands-later tame = subst (λ tick. All (λ heard. heard.tick < tick) c.monitor.heard) (sym stands.count) (orderly_later s c.monitor h stands.monitor (tame-before tame))
-
-  pub stands-asked : asked_at (effects c.fault c.ticks) c.monitor.times (length c.cal.questions) c.ticks
-      ≡ asked_at (effects s.fault (length h)) s.cal.times (length s.cal.questions) (length h)
+  pub stands-asked : asked_at (effects c.fault c.ticks) c.monitor.times (length c.cal.questions) c.local
+      ≡ asked_at (effects s.fault (length h)) s.cal.times (length s.cal.questions) (length (ticks s h))
   stands-asked =
-      ap (λ times. asked_at (effects c.fault c.ticks) times (length c.cal.questions) c.ticks) stands.monitor.times
-      ∙ ap (λ (cal : CalibrationParts). asked_at (effects c.fault c.ticks) s.cal.times (length cal.questions) c.ticks) stands.cal
-      ∙ ap₂ (λ fault tick. asked_at (effects fault tick) s.cal.times (length s.cal.questions) tick) stands.fault stands.count
+      ap (λ times. asked_at (effects c.fault c.ticks) times (length c.cal.questions) c.local) stands.monitor.times
+      ∙ ap (λ (cal : CalibrationParts). asked_at (effects c.fault c.ticks) s.cal.times (length cal.questions) c.local) stands.cal
+      ∙ ap₂ (λ x tick. asked_at x s.cal.times (length s.cal.questions) tick) (ap₂ effects stands.fault stands.count) stands.local
 
-  pub stands-next : (e : Entry) (answer : Option ℕ) → mark_of (number_expected s (effects s.fault (length h)) (length h)) answer ≡ (next s e h).mark →
-      ComesNext s c.fault c.ticks answer c.monitor e h
+  pub stands-next : (e : Entry) (answer : Option ℕ) →
+      mark_of (number_expected s (effects s.fault (length h)) (length (ticks s h))) answer ≡ (moment_after s (tick_of s e h) (ticks s h)).mark →
+      ComesNext s c.fault c.ticks c.local answer c.monitor (tick_of s e h) (ticks s h)
+  unfolding ticks
   stands-next e answer marked_so = record {
     same_fault = sym stands.fault;
-    count = sym stands.count;
+    begin = 0;
+    follows = ticks_follow s (e ∷ h);
+    count = sym (stands.count ∙ number-of-ticks s h);
+    place = sym stands.local;
     marked = marked_so;
     holds = stands.monitor;
   }

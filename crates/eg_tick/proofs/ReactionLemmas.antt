@@ -11,11 +11,10 @@ use Rattle.eg_model.specs.Moments.{ticks, moments, next}
 use Rattle.eg_model.specs.Rows.{row_of}
 use Rattle.eg_model.proofs.ReactionLaw.{reacts_in_time, reacts_at_once_law}
 use Rattle.eg_model.proofs.LapseLaw.{cuts_lapses, lapses_are_short}
-use Rattle.eg_agree.proofs.TickLemmas.{length-ticks}
-use Rattle.eg_agree.proofs.ReplyLaws.{ticks_follow}
 use Rattle.eg_tick.specs.Kept.{Kept}
 use Rattle.eg_tick.specs.Stands.{Stands}
 use Rattle.eg_tick.specs.Advancing.{RowReactsInTime, RowReactsAtOnce, RowCutsLapses, HistoryHasShortLapses}
+use Rattle.eg_tick.proofs.HistoryLemmas.{length-ticks, ticks_follow}
 
 -- ---- the ticks of a history that goes on ----
 
@@ -36,7 +35,7 @@ length-on s h (e ∷ more) = ap suc (length-on s h more)
 
 -- where the stages are off so many ticks after h, they are off in the row of a tick that comes as late
 off-row : (s : Setting) (e : Entry) (h more : List Entry) (after : ℕ) → OffFrom s 0 (ticks s h) after → AreProper s (ticks s (more ++ h))
-    → after ≤ length more + 1 → (row_of (next s e (more ++ h))).on ≡ false
+    → after ≤ length more + 1 → (row_of (length (more ++ h)) (next s e (more ++ h))).on ≡ false
 unfolding row_of next moments is_on_after ticks
 off-row s e h more after off proper late =
     let x : Tick = record { effects = effects s.fault (length (more ++ h)); entry = e } in
@@ -52,7 +51,7 @@ module _ (s : Setting) (c : Kept) (e : Entry) (accepted : IsAccepted c.cal) wher
   fit : (h : List Entry) → Stands s c h → IsAccepted s.cal
   fit h stands = subst IsAccepted stands.cal accepted
 
-  module _ (row : Row) (told : (h : List Entry) → Stands s c h → row ≡ row_of (next s e h)) where
+  module _ (row : Row) (told : (h : List Entry) → Stands s c h → row ≡ row_of (length h) (next s e h)) where
     pub reacts : RowReactsInTime s c row
     reacts more h stands listed confirmed late =
         ap (λ (r : Row). r.on) (told (more ++ h) stands)

@@ -13,10 +13,10 @@ use Rattle.eg_fault.specs.declared.class.Fault.{Fault}
 use Rattle.eg_values.specs.Calibration.{CalibrationParts}
 use Rattle.eg_word.specs.declared.registers.Trap.{Trap}
 use Rattle.eg_record.specs.declared.row.Row.{Row}
-use Rattle.eg_model.specs.History.{Moment}
+use Rattle.eg_model.specs.History.{drives, Moment}
 use Rattle.eg_model.specs.Paths.{on_at}
 use Rattle.eg_model.specs.Level1.{last_world}
-use Rattle.eg_model.specs.Moments.{moment, moments, next}
+use Rattle.eg_model.specs.Moments.{moment_in, moment, moments, next}
 use Rattle.eg_model.specs.Engines.{gasoline}
 use Rattle.eg_model.specs.Bench.{Run, no_drive, stepped, engine_after, shown_at, drive_at, slices_at, entry_at, moments_to, entries_to}
 use Rattle.eg_model.specs.Rows.{row_of, first_trap, record_rows, record_trap}
@@ -24,8 +24,7 @@ use Rattle.eg_model.specs.Records.{row_at, rows_to}
 use Rattle.eg_model.proofs.RecordTicks.{length-entries, length-moments_to, records_are_histories}
 use Rattle.eg_tick.specs.Kept.{ControllerParts}
 use Rattle.eg_tick.specs.Stands.{Stands}
-use Rattle.eg_tick.specs.Working.{effects_after}
-use Rattle.eg_tick.specs.Advancing.{entry_of}
+use Rattle.eg_tick.specs.Advancing.{effects_after, entry_of}
 use Rattle.eg_tick.specs.Weights.{TickCount, weight_of}
 use Rattle.eg_tick.specs.Run.{run_by, IsAt, IsRecordOf}
 
@@ -77,7 +76,7 @@ module _ (r : Run) (t : ℕ) (old new : ControllerParts GasolinePlant) (at : IsA
 
       engine_next : after_step rests x past
           ≡ record { parts = r.setting.cal.plant; state = engine_after gasoline r.setting (moments_to gasoline r (suc t)) }
-      unfolding x past rests after_step moments_to engine_after stepped gasoline moment
+      unfolding x past rests after_step moments_to engine_after stepped gasoline moment moment_in drives
       engine_next = ap (λ n. held_by (effects r.setting.fault n)) (sym (length-moments_to gasoline r t))
         where
           -- the engine after the tick, where the plate is held by these

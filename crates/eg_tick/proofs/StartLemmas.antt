@@ -20,9 +20,8 @@ use Rattle.eg_model.specs.Premises.{AreProper}
 use Rattle.eg_model.specs.Moments.{ticks, moments, moments_of}
 use Rattle.eg_model.specs.Rows.{first_trap}
 use Rattle.eg_agree.specs.Standing.{KeepsWords}
-use Rattle.eg_agree.specs.Replies.{KeepsFlow}
+use Rattle.eg_agree.specs.Replies.{words_over}
 use Rattle.eg_agree.proofs.HistoryLemmas.{start_law}
-use Rattle.eg_agree.proofs.ReplySteps.{keeps_start}
 use Rattle.eg_module.specs.Monitoring.{HasGiven}
 use Rattle.eg_tick.specs.Kept.{Kept}
 use Rattle.eg_tick.specs.Stands.{IsShown, Stands}
@@ -60,6 +59,7 @@ pub record IsNew (s : Setting) (c : Kept) : Type 0 where
   pub cal : c.cal ≡ s.cal
   pub fault : c.fault ≡ s.fault
   pub count : c.ticks ≡ 0
+  pub local : c.local ≡ 0
   pub are_words : AreWords c.memory.words
   pub code : (k : ℕ) → k < 1024 → slice_index c.memory.words k ≡ slice_index s.image k
   pub world : world_of c.registers c.memory.words ≡ new_world
@@ -77,17 +77,18 @@ pub record IsNew (s : Setting) (c : Kept) : Type 0 where
   pub not_lost : c.lost ≡ false
 
 pub new_stands : (s : Setting) (c : Kept) → IsNew s c → Stands s c []
-unfolding moments moments_of ticks last_world last_check start latch1 latch2 verdicts_in answers_in first_trap AreProper IsShown
+unfolding moments moments_of ticks last_world last_check words_over start latch1 latch2 verdicts_in answers_in first_trap AreProper IsShown
 new_stands s c is = record {
   cal = is.cal;
   fault = is.fault;
   count = is.count;
+  local = is.local;
   are_words = is.are_words;
   level1 = record { code = is.code; world = is.world };
   level2 = record {
     mirrored = is.mirrored;
+    exact = is.words;
     words = subst (λ words. KeepsWords s words []) (sym is.words) (start_law s);
-    flow = subst (λ words. KeepsFlow s words []) (sym is.words) (keeps_start s);
     last = ap (λ words. words.last) is.words;
     rests = λ unflipped whole. (ap (λ words. words.token) is.words, ap (λ words. words.flow) is.words);
   };

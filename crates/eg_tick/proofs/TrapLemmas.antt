@@ -11,9 +11,10 @@ use Rattle.eg_host.specs.Slices.{wake, steps, slice_start, world_slice}
 use Rattle.eg_fault.specs.Faults.{effects}
 use Rattle.eg_model.specs.History.{Setting, Entry}
 use Rattle.eg_model.specs.Level1.{last_world, slices_from, world_at}
-use Rattle.eg_model.specs.Moments.{moment, moments, moments_of, ticks, next}
+use Rattle.eg_model.specs.Moments.{moments, moments_of, ticks, next}
 use Rattle.eg_record.specs.declared.row.Row.{Row}
 use Rattle.eg_model.specs.Rows.{first_trap, trap_in, row_of}
+use Rattle.eg_model.proofs.TickLemmas.{moment-world}
 use Rattle.eg_tick.specs.Advancing.{HoldsOutputs}
 
 -- ---- a world that is trapped ----
@@ -56,8 +57,9 @@ if-same false made world same = refl
 module _ (s : Setting) (e : Entry) (h : List Entry) where
   -- the world of the next tick is the last one
   pub world-holds : IsTrapped (last_world (moments s h)) → (next s e h).world ≡ last_world (moments s h)
-  unfolding next moment world_at
-  world-holds trapped = if-same (effects s.fault (length h)).level1 _ _ (no_slices 0 _ e.slices (last_world (moments s h)) trapped)
+  unfolding next moments world_at
+  world-holds trapped = moment-world s (effects s.fault (length h)) e (moments s h)
+      ∙ if-same (effects s.fault (length h)).level1 _ _ (no_slices 0 _ e.slices (last_world (moments s h)) trapped)
 
 trapped-now : (state : State) (tick : ℕ) → IsSome (trap_in state tick) → (kind : Trap) × (state ≡ Trapped kind)
 unfolding trap_in
@@ -66,7 +68,7 @@ trapped-now Running tick some = absurd (let clash : false ≡ true = some in cc)
 trapped-now Waiting tick some = absurd (let clash : false ≡ true = some in cc)
 
 trapped-next : (s : Setting) (e : Entry) (h : List Entry) → (IsSome (first_trap (moments s h)) → IsTrapped (last_world (moments s h)))
-    → IsSome (option_or (first_trap (moments s h)) (trap_in (next s e h).world.registers.state (next s e h).tick)) → IsTrapped (next s e h).world
+    → IsSome (option_or (first_trap (moments s h)) (trap_in (next s e h).world.registers.state (length (moments s h)))) → IsTrapped (next s e h).world
 trapped-next s e h before some = go (first_trap (moments s h)) refl
   where
     go : (told : Option (Trap × ℕ)) → first_trap (moments s h) ≡ told → IsTrapped (next s e h).world
@@ -74,18 +76,18 @@ trapped-next s e h before some = go (first_trap (moments s h)) refl
         let trapped = before (ap is_some is) in
         record { kind = trapped.kind; is = ap (λ (world : World). world.registers.state) (world-holds s e h trapped) ∙ trapped.is }
     go None is =
-        let found = trapped-now (next s e h).world.registers.state (next s e h).tick
-        (subst (λ o. IsSome (option_or o (trap_in (next s e h).world.registers.state (next s e h).tick))) is some) in
+        let found = trapped-now (next s e h).world.registers.state (length (moments s h))
+        (subst (λ o. IsSome (option_or o (trap_in (next s e h).world.registers.state (length (moments s h))))) is some) in
         record { kind = found.0; is = found.1 }
 
 -- where the ticks so far tell a trap, the world is trapped
 pub is-trapped : (s : Setting) (h : List Entry) → IsSome (first_trap (moments s h)) → IsTrapped (last_world (moments s h))
-unfolding first_trap last_world moments moments_of ticks moment next
+unfolding first_trap last_world moments moments_of ticks next
 is-trapped s [] some = absurd (let clash : false ≡ true = some in cc)
 is-trapped s (e ∷ h) some = trapped-next s e h (is-trapped s h) some
 
 -- so the outputs of the next row hold
-pub outputs-hold : (s : Setting) (e : Entry) (h : List Entry) (row : Row) → IsSome (first_trap (moments s h)) → row ≡ row_of (next s e h)
+pub outputs-hold : (s : Setting) (e : Entry) (h : List Entry) (row : Row) → IsSome (first_trap (moments s h)) → row ≡ row_of (length h) (next s e h)
     → HoldsOutputs (last_world (moments s h)) row
 unfolding row_of
 outputs-hold s e h row some is =

@@ -4,7 +4,8 @@ use Rattle.std.specs.Prelude.{◌≡◌, ℕ, ◌+◌, ◌*◌, ◌≤◌, ◌<�
 use Rattle.eg_num.specs.Drive.{DriveRow}
 use Rattle.eg_plant.specs.Engine.{Shown}
 use Rattle.eg_answer.specs.Times.{reaction_of, HasLapseBound, lapse_periods, lapse_bound_of}
-use Rattle.eg_fault.specs.Faults.{IsListed}
+use Rattle.eg_fault.specs.Effects.{Effects}
+use Rattle.eg_fault.specs.Faults.{effects, IsListed}
 use Rattle.eg_word.specs.World.{World}
 use Rattle.eg_record.specs.declared.row.Row.{Row}
 use Rattle.eg_model.specs.History.{Setting, Entry}
@@ -14,6 +15,10 @@ use Rattle.eg_model.specs.Lapses.{IsLapse, Exceeds}
 use Rattle.eg_model.specs.Moments.{ticks}
 use Rattle.eg_tick.specs.Kept.{Kept}
 use Rattle.eg_tick.specs.Stands.{Stands}
+
+-- what is out of order at the tick after a history
+unfoldable pub effects_after : Setting → List Entry → Effects
+effects_after s h = effects s.fault (length h)
 
 -- what comes in at a tick of this drive row and this slice row, after which the engine shows this
 unfoldable pub entry_of : DriveRow → List ℕ → Shown → Entry

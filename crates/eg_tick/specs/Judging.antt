@@ -4,11 +4,10 @@ use Rattle.eg_answer.specs.Times.{AreTimes}
 use Rattle.eg_answer.specs.Periods.{HeardAnswer, period_of, is_last_tick, verdict_over, with_verdict}
 use Rattle.eg_answer.specs.declared.marks.Verdict.{Verdict}
 use Rattle.eg_module.specs.Monitoring.{MonitorParts, HasGiven, expected_at}
-use Rattle.eg_fault.specs.Faults.{effects}
 use Rattle.eg_fault.specs.declared.class.Fault.{Fault}
-use Rattle.eg_model.specs.History.{Setting, Entry, Moment}
-use Rattle.eg_model.specs.Moments.{next}
-use Rattle.eg_agree.specs.Replies.{number_expected, mark_of}
+use Rattle.eg_model.specs.History.{Setting, Tick, Moment}
+use Rattle.eg_model.specs.Premises.{Follows}
+use Rattle.eg_agree.specs.Replies.{moment_after, number_expected, mark_of}
 use Rattle.eg_tick.specs.Stands.{HoldsMonitor}
 use Rattle.eg_tick.specs.declared.monitoring.Judgement.{Judgement}
 
@@ -41,18 +40,22 @@ pub record IsDeaf (before now : MonitorParts) (verdict : Option Verdict) : Type 
 
 -- ---- a tick of a run ----
 
--- The setting has this fault. The tick comes after h, the module is as the model says of h, and what level 2
+-- The setting has this fault. Tick x comes after h in a history from tick `begin` of the run on, and has
+-- these numbers in the run and in the history. The module is as the model says of h, and what level 2
 -- answers at the tick has the mark of the model.
-pub record ComesNext (s : Setting) (fault : Option Fault) (tick : ℕ) (answer : Option ℕ)
-    (monitor : MonitorParts) (e : Entry) (h : List Entry) : Type 0 where
+pub record ComesNext (s : Setting) (fault : Option Fault) (tick local : ℕ) (answer : Option ℕ)
+    (monitor : MonitorParts) (x : Tick) (h : List Tick) : Type 0 where
   pub same_fault : s.fault ≡ fault
-  pub count : length h ≡ tick
-  pub marked : mark_of (number_expected s (effects s.fault (length h)) (length h)) answer ≡ (next s e h).mark
+  pub begin : ℕ
+  pub follows : Follows s.fault begin (x ∷ h)
+  pub count : begin + length h ≡ tick
+  pub place : length h ≡ local
+  pub marked : mark_of (number_expected s x.effects (length h)) answer ≡ (moment_after s x h).mark
   pub holds : HoldsMonitor s monitor h
 
 -- what was made of a tick is what the model says of it
 pub record Tells (judgement : Judgement) (m : Moment) : Type 0 where
   pub mark : judgement.mark ≡ m.mark
   pub verdict : judgement.verdict ≡ m.verdict
-  pub answers : judgement.answers ≡ m.found.answers
+  pub confirms : judgement.confirms ≡ m.confirms
   pub opens : judgement.opens ≡ m.opens

@@ -9,13 +9,14 @@ use Rattle.eg_fault.specs.declared.class.Fault.{Fault}
 use Rattle.eg_values.specs.Calibration.{CalibrationParts}
 
 -- All but the engine itself. The calibration and the fault, if any, are those of the run. `ticks` is how many
--- ticks were made; `open1` and `open2` tell whether the latches of the two paths are open; `trap` is level
--- 1's trap with its tick, if any. What the memory and the engine show belongs to it, and the `kt` of the
--- engine. `lost` tells that memory ran out.
+-- ticks of the run were made, and `local` how many of them since power-on; `open1` and `open2` tell whether
+-- the latches of the two paths are open; `trap` is level 1's trap with its tick of the run, if any. What the
+-- memory and the engine show belongs to it, and the `kt` of the engine. `lost` tells that memory ran out.
 pub record Kept : Type 0 where
   pub cal : CalibrationParts
   pub fault : Option Fault
   pub ticks : ℕ
+  pub local : ℕ
   pub memory : ShownMemory
   pub registers : Registers
   pub monitor : MonitorParts

@@ -8,3 +8,12 @@ pub mod Judging
 pub mod Advancing
 pub mod Inside
 pub mod Run
+pub use Rattle.eg_answer.specs.Times
+pub use Rattle.eg_fault.specs.Faults
+pub use Rattle.eg_model.specs.History
+pub use Rattle.eg_model.specs.Lapses
+pub use Rattle.eg_model.specs.Level1
+pub use Rattle.eg_model.specs.Moments
+pub use Rattle.eg_model.specs.Paths
+pub use Rattle.eg_model.specs.Records
+pub use Rattle.eg_model.specs.Rows

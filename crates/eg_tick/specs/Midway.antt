@@ -1,5 +1,5 @@
 -- Inside a tick: what the memory holds after some slices of level 1 and some modules of level 2.
-use Rattle.std.specs.Prelude.{◌≡◌, ℕ, ◌<◌, ◌==◌, ◌&&◌, ◌||◌, Bool, is_some, List, drop, length, slice_index, if◌then◌else◌}
+use Rattle.std.specs.Prelude.{◌≡◌, ℕ, ◌<◌, ◌==◌, ◌&&◌, ◌||◌, Bool, is_some, List, drop, slice_index, if◌then◌else◌}
 use Rattle.std.specs.Option.{option_or}
 use Rattle.eg_num.specs.declared.watches.Watches.{Watches}
 use Rattle.eg_word.specs.declared.registers.Registers.{Registers}
@@ -8,6 +8,7 @@ use Rattle.eg_word.specs.declared.instruction.Instruction.{Instruction}
 use Rattle.eg_word.specs.Program.{IsProgramOf}
 use Rattle.eg_guard.specs.declared.regions.TheConstants.{DATA}
 use Rattle.eg_guard.specs.Memory.{AreWords}
+use Rattle.eg_answer.specs.declared.modules.TheConstants.{CHECK}
 use Rattle.eg_answer.specs.declared.rules.Rules.{Rules}
 use Rattle.eg_level2.specs.Words.{Words, AreMirrored, AreWithin, words_of}
 use Rattle.eg_level2.specs.Inputs.{Level2Parts, readings_of, asked_of}
@@ -15,13 +16,12 @@ use Rattle.eg_level2.specs.declared.step.Step.{Step}
 use Rattle.eg_level2.specs.Modules.{step_of, finding, mirror_alone, quiet_step}
 use Rattle.eg_flow.specs.Ticks.{Doing, inputs_for, after_modules, answer_at, orders_at, finds_at}
 use Rattle.eg_fault.specs.Effects.{Effects}
-use Rattle.eg_fault.specs.Faults.{effects}
-use Rattle.eg_model.specs.History.{Setting, Entry}
+use Rattle.eg_model.specs.History.{Setting, Tick}
 use Rattle.eg_model.specs.Level1.{last_world, ports_of, slices_from}
-use Rattle.eg_model.specs.Moments.{readings_at, moments}
+use Rattle.eg_model.specs.Moments.{moments_of}
 use Rattle.eg_model.specs.Rows.{signal_list}
-use Rattle.eg_agree.specs.Doings.{doing_at}
 use Rattle.eg_agree.specs.Standing.{signals_of}
+use Rattle.eg_agree.specs.Replies.{doing_after, words_over}
 use Rattle.eg_tick.specs.declared.working.Task.{Task}
 
 -- What a tick begins with: the image, what level 2 meets (`doing`) and its words; whether level 1 runs, how
@@ -68,7 +68,7 @@ pub record IsMidway (w : Work) (slices modules : ℕ) (m : Registers) (memory : 
 pub record Meets (parts : Level2Parts) (x : Effects) (task : Task) (d : Doing) : Type 0 where
   pub rules : d.rules ≡ parts.rules
   pub questions : d.questions ≡ parts.questions
-  pub at : d.tick ≡ task.tick
+  pub at : d.tick ≡ task.local
   pub sends_now : d.sends ≡ task.sends
   pub ran : d.ran ≡ x.ran
   pub disturbance : d.disturbance ≡ x.disturbance
@@ -92,7 +92,7 @@ pub record IsReady (rules : Rules) (program : List Instruction) (memory : List �
 unfoldable pub step_at : Doing → ℕ → Words → Step
 step_at d i words =
     if d.ran i
-    then (if i == 0 && d.differs then finding mirror_alone
+    then (if i == CHECK && d.differs then finding mirror_alone
     else step_of (inputs_for d i) i (after_modules d i words))
     else quiet_step
 
@@ -124,15 +124,13 @@ tick_step d words = record {
   found = finds_at d words;
 }
 
--- the work of the tick of an entry that comes after a history, where level 2 begins with these words
-unfoldable pub work_at : Setting → Entry → List Entry → Words → Work
-work_at s e h words =
-    let x = effects s.fault (length h) in
-    record {
-      image = s.image;
-      doing = doing_at s x (readings_at x e) (length h);
-      words = words;
-      level1 = x.level1;
-      slices = e.slices;
-      world = last_world (moments s h);
-    }
+-- the work of tick x, which comes after h
+unfoldable pub work_at : Setting → Tick → List Tick → Work
+work_at s x h = record {
+  image = s.image;
+  doing = doing_after s x h;
+  words = words_over s h;
+  level1 = x.effects.level1;
+  slices = x.entry.slices;
+  world = last_world (moments_of s h);
+}

@@ -10,8 +10,7 @@ ghost use Rattle.eg_model.specs.Moments.{moments, next};
 ghost use Rattle.eg_model.specs.Rows.{row_of, trap_in, first_trap};
 ghost use Rattle.eg_fault.specs.Faults.{IsNoneOrValid};
 ghost use Rattle.eg_tick.specs.Stands.{Stands, IsController};
-ghost use Rattle.eg_tick.specs.Working.{effects_after};
-ghost use Rattle.eg_tick.specs.Advancing.{entry_of, HoldsOutputs, RowReactsInTime, RowReactsAtOnce, RowCutsLapses, HistoryHasShortLapses};
+ghost use Rattle.eg_tick.specs.Advancing.{effects_after, entry_of, HoldsOutputs, RowReactsInTime, RowReactsAtOnce, RowCutsLapses, HistoryHasShortLapses};
 ghost use Rattle.eg_tick.specs.Weights.{weight_of};
 
 use crate::Slices;
@@ -50,6 +49,7 @@ pub struct Controller<E: Engine, M: Guarded> {
     memory: M,
     engine: E,
     ticks: u32,
+    local: u32,
     open1: bool,
     open2: bool,
     trap: Option<(Trap, u32)>,
@@ -69,6 +69,7 @@ impl<E: Engine, M: Guarded> Model for Controller<E, M> {
         cal = c.calibration;
         fault = c.fault;
         ticks = c.ticks;
+        local = c.local;
         memory = M.shows c.memory;
         registers = c.level1.host.registers;
         monitor = c.monitor;
@@ -85,6 +86,7 @@ impl<E: Engine, M: Guarded> Model for Controller<E, M> {
       cal = c.calibration;
       fault = c.fault;
       ticks = c.ticks;
+      local = c.local;
       memory = M.shows c.memory;
       registers = c.level1.host.registers;
       monitor = c.monitor;
@@ -142,6 +144,7 @@ impl<E: Engine + Drop, M: Guarded + Drop> Controller<E, M> {
             memory,
             engine,
             ticks: 0,
+            local: 0,
             open1: false,
             open2: false,
             trap: None,
@@ -163,7 +166,7 @@ impl<E: Engine + Drop, M: Guarded + Drop> Controller<E, M> {
         ensures stands { (s : Setting) (h : List Entry) → Stands s self.old.kept h
             → OnOk result (Stands s self.new.kept (entry_of drive.now slices.now self.new.kept.shown ∷ h)) }
         ensures row { (s : Setting) (h : List Entry) → Stands s self.old.kept h → IfOk result (λ row. row
-            ≡ row_of (next s (entry_of drive.now slices.now self.new.kept.shown) h)) }
+            ≡ row_of (length h) (next s (entry_of drive.now slices.now self.new.kept.shown) h)) }
         // The engine made a step of its own, by the commands as the tick before left them.
         ensures engine { (s : Setting) (h : List Entry) → Stands s self.old.kept h → OnOk result
             (E.steps self.old.engine (last_world (moments s h)).throttle (last_world (moments s h)).ignition
@@ -183,7 +186,7 @@ impl<E: Engine + Drop, M: Guarded + Drop> Controller<E, M> {
             steps.new.weights ≡ (steps.old.weights + weight_of row) % 2 ^ 64) }
         ensures no_weight { OnErr result (steps.new.weights ≡ steps.old.weights) }
         ensures ticks { OnOk result (self.new.kept.ticks ≡ self.old.kept.ticks + 1) }
-        // After want of memory every later tick answers it. It never comes over a sure memory.
+        // Once memory has run out every later tick says so. Over a sure memory it never does.
         ensures lost { self.old.kept.lost ≡ true → IsErr result }
         ensures loses { OnErr result (self.new.kept.lost ≡ true) }
         ensures rests { self.old.kept.lost ≡ true → self.new ≡ self.old }
@@ -208,7 +211,7 @@ impl<E: Engine + Drop, M: Guarded + Drop> Controller<E, M> {
         ensures stands { (s : Setting) (h : List Entry) → Stands s self.old.kept h
             → OnOk result (Stands s self.new.kept (entry_of drive.now slices.now self.new.kept.shown ∷ h)) }
         ensures row { (s : Setting) (h : List Entry) → Stands s self.old.kept h → IfOk result (λ row. row
-            ≡ row_of (next s (entry_of drive.now slices.now self.new.kept.shown) h)) }
+            ≡ row_of (length h) (next s (entry_of drive.now slices.now self.new.kept.shown) h)) }
         ensures engine { (s : Setting) (h : List Entry) → Stands s self.old.kept h → OnOk result
             (E.steps self.old.engine (last_world (moments s h)).throttle (last_world (moments s h)).ignition
             (on_at (effects_after s h) (moments s h)) (effects_after s h).held self.new.engine) }
@@ -229,7 +232,7 @@ impl<E: Engine + Drop, M: Guarded + Drop> Controller<E, M> {
             return Err(NoMemory);
         }
         self.lost = true;
-        let (tick, fault) = (self.ticks, self.fault.as_ref());
+        let (tick, local, fault) = (self.ticks, self.local, self.fault.as_ref());
         let questions = self.calibration.questions();
         let lookup = look_up(&self.calibration.rules().permit, drive);
         let begins = Beginning {
@@ -241,9 +244,10 @@ impl<E: Engine + Drop, M: Guarded + Drop> Controller<E, M> {
         let held = held(fault, tick);
         step_engine(&mut self.engine, &self.memory, begins.paths.on, held);
         let task = Task {
-            tick: tick as u16,
-            sends: sends(fault, tick, self.calibration.times()),
-            asked: question(&self.monitor, questions, fault, tick),
+            tick,
+            local: local as u16,
+            sends: sends(fault, tick, local, self.calibration.times()),
+            asked: question(&self.monitor, questions, fault, tick, local),
             readings: readings(&self.engine, drive, fault, tick),
             lookup,
             slices: *slices,
@@ -251,12 +255,14 @@ impl<E: Engine + Drop, M: Guarded + Drop> Controller<E, M> {
         let (level1, memory) = (&mut self.level1, &mut self.memory);
         let step = work(&self.level2, fault, &task, level1, memory)?;
         let monitor = &mut self.monitor;
-        let judged = judge(monitor, questions, fault, tick, task.asked, step.answer);
+        let (asked, answer) = (task.asked, step.answer);
+        let judged = judge(monitor, questions, fault, tick, local, asked, answer);
         self.open1 = either(step.open_path, self.open1);
-        self.open2 = either(either(judged.answers, judged.opens), self.open2);
+        self.open2 = either(either(judged.confirms, judged.opens), self.open2);
         note_trap(&mut self.trap, self.level1.host.registers.state, tick);
         let row = row(begins, &self.engine, &self.memory, step.found, judged);
         self.ticks += 1;
+        self.local += 1;
         self.lost = false;
         Ok(row)
     }

@@ -70,15 +70,14 @@ fn module<M: Guarded>(
         → OnOk result (IsReady level2.now.rules program (M.shows memory.new).words) }
     ensures keeps { KeepsMemory (M.shows memory.old) (M.shows memory.new) result }
 {
-    let tick = u32::from(task.tick);
-    if !module_runs(fault, tick, number) {
+    if !module_runs(fault, task.tick, number) {
         return Ok(Step::quiet());
     }
-    let disturbance = disturbance(fault, tick, number);
+    let disturbance = disturbance(fault, task.tick, number);
     level2.module_with_lookup(
         number,
         memory,
-        task.tick,
+        task.local,
         task.sends,
         disturbance,
         &task.lookup,
@@ -114,17 +113,17 @@ fn first_module<M: Guarded>(
     };
     flip(memory, word, mask)?;
     // No fault that flips a word leaves module 0 out, or disturbs it.
-    level2.module_with_lookup(0, memory, task.tick, task.sends, 0, &task.lookup)
+    level2.module_with_lookup(0, memory, task.local, task.sends, 0, &task.lookup)
 }
 
 /// The word of level 2 that is flipped at a tick, and its bits.
-fn scheduled_flip(fault: Option<&Fault>, tick: u16) -> Option<(u8, u16)>
+fn scheduled_flip(fault: Option<&Fault>, tick: u32) -> Option<(u8, u16)>
     requires fault { IsNoneOrValid (option_copied fault) }
     ensures flip { result ≡ (effects (option_copied fault.entry) tick).flip }
     ensures word { IfSome result (λ flipped. flipped.0 < STORED_WORDS) }
     ensures some { IfSome result (λ flipped. 1 ≤ flipped.1) }
 {
-    eg_fault::flip(fault, u32::from(tick))
+    eg_fault::flip(fault, tick)
 }
 
 /// The slice of level 1 of that number, and then the module of level 2 of the same number (docs/CONCEPT.md,
@@ -155,12 +154,7 @@ fn turn<M: Guarded>(
     ensures keeps { KeepsMemory (M.shows memory.old) (M.shows memory.new) result }
 {
     let budget = task.slices.budget_of(number);
-    slice(
-        level1_runs(fault, u32::from(task.tick)),
-        level1,
-        memory,
-        budget,
-    )?;
+    slice(level1_runs(fault, task.tick), level1, memory, budget)?;
     if number == 0 {
         return first_module(level2, fault, task, memory);
     }
@@ -193,7 +187,7 @@ pub(crate) fn run_levels<M: Guarded>(
     ensures ready { OnOk result (IsReady level2.now.rules level1.new.program (M.shows memory.new).words) }
     ensures keeps { KeepsMemory (M.shows memory.old) (M.shows memory.new) result }
 {
-    match fault_of_levels(fault, u32::from(task.tick)) {
+    match fault_of_levels(fault, task.tick) {
         None => run_turns::<M, false>(level2, None, task, level1, memory),
         some => run_turns::<M, true>(level2, some, task, level1, memory),
     }
@@ -243,12 +237,7 @@ fn run_turns<M: Guarded, const FAULTY: bool>(
     let step = turn(level2, fault, task, 7, level1, memory)?;
     let whole = joined(&whole, &step);
     let last = task.slices.budget_of(8);
-    slice(
-        level1_runs(fault, u32::from(task.tick)),
-        level1,
-        memory,
-        last,
-    )?;
+    slice(level1_runs(fault, task.tick), level1, memory, last)?;
     Ok(whole)
 }
 

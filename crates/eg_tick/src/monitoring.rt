@@ -8,9 +8,8 @@ ghost use Rattle.eg_answer.specs.declared.marks.Verdict.{Verdict};
 ghost use Rattle.eg_module.specs.Monitoring.{HasGiven};
 ghost use Rattle.eg_fault.specs.Effects.{asked_at};
 ghost use Rattle.eg_fault.specs.Faults.{effects};
-ghost use Rattle.eg_model.specs.History.{Setting, Entry};
-ghost use Rattle.eg_model.specs.Moments.{next};
-ghost use Rattle.eg_agree.specs.Replies.{mark_of};
+ghost use Rattle.eg_model.specs.History.{Setting, Tick};
+ghost use Rattle.eg_agree.specs.Replies.{moment_after, mark_of};
 ghost use Rattle.eg_tick.specs.Stands.{HoldsMonitor};
 ghost use Rattle.eg_tick.specs.Judging.{with_heard, Takes, IsDeaf, ComesNext, Tells};
 
@@ -25,27 +24,29 @@ pub(crate) struct Judgement {
     pub mark: AnswerMark,
     /// The verdict over the answers of a period, if this is its last tick.
     pub verdict: Option<Verdict>,
-    /// Whether wrong answers are found: confirmed now for the first time.
-    pub answers: bool,
+    /// Whether wrong answers are confirmed now, for the first time.
+    pub confirms: bool,
     /// Whether a wild module orders path 2 open.
     pub opens: bool,
 }
 
 /// The number of the question that is asked at a tick, also by a wild module: it counts modulo the count of
-/// questions (docs/CONCEPT.md, "Questions and answers").
+/// questions (docs/CONCEPT.md, "Questions and answers"). A fault goes by the number `tick` that the tick has
+/// in the run, a period by the number `local` that it has since power-on.
 #[tactic(auto, unfolding(eg_fault::specs::Effects::asked_at, eg_fault::specs::Effects::asked_in))]
 pub(crate) fn question(
     monitor: &Monitor,
     questions: &Questions,
     fault: Option<&Fault>,
     tick: u32,
+    local: u32,
 ) -> u16
     requires { monitor.now.questions ≡ questions.now }
     ensures number { result ≡ asked_at (effects (option_copied fault.entry) tick) monitor.now.times
-        (length questions.now) tick }
+        (length questions.now) local }
     ensures within { result < length questions.now }
 {
-    let usual = monitor.question(tick);
+    let usual = monitor.question(local);
     match wild(fault, tick) {
         Some((number, _)) => (u32::from(number) % questions.len() as u32) as u16,
         None => usual,
@@ -55,38 +56,41 @@ pub(crate) fn question(
 /// Judges a tick at which this question was asked, and level 2 sends this answer, or none (docs/CONCEPT.md,
 /// "Questions and answers" and "A run, tick by tick"). The monitoring module hears the answer, and gives its
 /// verdict at the last tick of a period. A wild one hears nothing, gives no verdict, and may order path 2
-/// open.
+/// open. A fault goes by the number `tick` that the tick has in the run, the module by the number `local`
+/// that it has since power-on.
 pub(crate) fn judge(
     monitor: &mut Monitor,
     questions: &Questions,
     fault: Option<&Fault>,
     tick: u32,
+    local: u32,
     asked: u16,
     answer: Option<u32>,
 ) -> Judgement
     requires questions { monitor.old.questions ≡ questions.now }
     requires asked { asked ≡ asked_at (effects (option_copied fault) tick) monitor.old.times
-        (length questions.now) tick }
+        (length questions.now) local }
     requires within { asked < length questions.now }
     requires period { (effects (option_copied fault) tick).wild ≡ None
-        → monitor.old.verdicts ≡ period_of monitor.old.times tick }
+        → monitor.old.verdicts ≡ period_of monitor.old.times local }
     requires later { (effects (option_copied fault) tick).wild ≡ None
-        → All (λ heard. heard.tick < tick) monitor.old.heard }
+        → All (λ heard. heard.tick < local) monitor.old.heard }
     // The module goes on to be what the model says.
-    ensures holds { (s : Setting) (e : Entry) (h : List Entry)
-        → ComesNext s (option_copied fault.entry) tick answer monitor.old e h
-        → HoldsMonitor s monitor.new (e ∷ h) }
-    ensures tells { (s : Setting) (e : Entry) (h : List Entry)
-        → ComesNext s (option_copied fault.entry) tick answer monitor.old e h → Tells result (next s e h) }
+    ensures holds { (s : Setting) (x : Tick) (h : List Tick)
+        → ComesNext s (option_copied fault.entry) tick local answer monitor.old x h
+        → HoldsMonitor s monitor.new (x ∷ h) }
+    ensures tells { (s : Setting) (x : Tick) (h : List Tick)
+        → ComesNext s (option_copied fault.entry) tick local answer monitor.old x h
+        → Tells result (moment_after s x h) }
     ensures opens { result.opens ≡ (effects (option_copied fault.entry) tick).opens }
 {
     let mark = mark(number(questions, asked), answer);
     let before = monitor.confirmed();
-    let verdict = verdict(monitor, fault, tick, answer);
+    let verdict = verdict(monitor, fault, tick, local, answer);
     Judgement {
         mark,
         verdict,
-        answers: is_first(before, monitor.confirmed()),
+        confirms: is_first(before, monitor.confirmed()),
         opens: opens(fault, tick),
     }
 }
@@ -117,36 +121,37 @@ fn verdict(
     monitor: &mut Monitor,
     fault: Option<&Fault>,
     tick: u32,
+    local: u32,
     answer: Option<u32>,
 ) -> Option<Verdict>
     requires period { (effects (option_copied fault) tick).wild ≡ None
-        → monitor.old.verdicts ≡ period_of monitor.old.times tick }
+        → monitor.old.verdicts ≡ period_of monitor.old.times local }
     requires later { (effects (option_copied fault) tick).wild ≡ None
-        → All (λ heard. heard.tick < tick) monitor.old.heard }
+        → All (λ heard. heard.tick < local) monitor.old.heard }
     ensures wild { OnSome (effects (option_copied fault.entry) tick).wild
         (IsDeaf monitor.old monitor.new result) }
     ensures orderly { (effects (option_copied fault.entry) tick).wild ≡ None
-        → Takes tick answer monitor.old monitor.new result }
+        → Takes local answer monitor.old monitor.new result }
 {
     if is_wild(fault, tick) {
         return None;
     }
-    hear(monitor, tick, answer);
-    monitor.close(tick)
+    hear(monitor, local, answer);
+    monitor.close(local)
 }
 
 /// Hears the answer of a tick, if one came.
 #[tactic(auto, unfolding(crate::specs::Judging::with_heard))]
-fn hear(monitor: &mut Monitor, tick: u32, answer: Option<u32>)
-    requires this_period { monitor.old.verdicts ≡ period_of monitor.old.times tick }
-    requires later { All (λ heard. heard.tick < tick) monitor.old.heard }
+fn hear(monitor: &mut Monitor, local: u32, answer: Option<u32>)
+    requires this_period { monitor.old.verdicts ≡ period_of monitor.old.times local }
+    requires later { All (λ heard. heard.tick < local) monitor.old.heard }
     ensures heard { monitor.new ≡
-        record monitor.old { heard = with_heard tick answer monitor.old.heard } }
+        record monitor.old { heard = with_heard local answer monitor.old.heard } }
     ensures given { (verdicts : List Verdict) → HasGiven monitor.old verdicts
         → HasGiven monitor.new verdicts }
 {
     if let Some(number) = answer {
-        monitor.hear(tick, number);
+        monitor.hear(local, number);
     }
 }
 

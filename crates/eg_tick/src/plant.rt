@@ -4,6 +4,7 @@ ghost use Rattle.std.specs.Option.{option_copied, ForSome};
 ghost use Rattle.eg_guard.specs.declared.regions.TheConstants.{THROTTLE, IGNITION};
 ghost use Rattle.eg_plant.specs.Engine.{KeepsLaws};
 ghost use Rattle.eg_fault.specs.Faults.{effects};
+ghost use Rattle.eg_values.specs.Calibration.{CalibrationParts};
 ghost use Rattle.eg_model.specs.History.{Entry};
 ghost use Rattle.eg_model.specs.Moments.{readings_at};
 
@@ -61,8 +62,8 @@ pub(crate) fn readings<E: Engine>(
     fault: Option<&Fault>,
     tick: u32,
 ) -> Readings
-    ensures { (e : Entry) → e.drive ≡ drive.now → e.shown ≡ E.shows engine.now
-        → result ≡ readings_at (effects (option_copied fault.entry) tick) e }
+    ensures { (cal : CalibrationParts) (e : Entry) → e.drive ≡ drive.now → e.shown ≡ E.shows engine.now
+        → result ≡ readings_at cal (effects (option_copied fault.entry) tick) e }
 {
     let truth = sound(
         drive.pedal(),

@@ -2,10 +2,11 @@
 ghost use Rattle.std.specs.Prelude.{◌≡◌, ◌<◌, slice_index};
 ghost use Rattle.eg_guard.specs.declared.regions.TheConstants.{THROTTLE, IGNITION};
 ghost use Rattle.eg_num.specs.Drive.{IsDrive};
-ghost use Rattle.eg_num.specs.Interpolation.{Grid, grid_at};
-ghost use Rattle.eg_torque.specs.Permit.{drive_permits};
+ghost use Rattle.eg_num.specs.Interpolation.{grid_at};
 ghost use Rattle.eg_answer.specs.declared.words.TheConstants.{STORED_WORDS};
 ghost use Rattle.eg_level2.specs.Words.{word_at, words_of};
+ghost use Rattle.eg_values.specs.Calibration.{CalibrationParts};
+ghost use Rattle.eg_model.specs.Moments.{limit_at};
 ghost use Rattle.eg_model.specs.Rows.{signal_list};
 ghost use Rattle.eg_agree.specs.Standing.{signals_of};
 
@@ -46,13 +47,14 @@ pub(crate) fn look_up(permit: &Permit, drive: &Drive) -> Lookup
 }
 
 /// The torque that a drive row permits, in tenths of Nm (docs/CONCEPT.md, "Torque"), by what the permit table
-/// says of it.
-#[tactic(auto, unfolding(eg_torque::specs::Permit::drive_permits))]
+/// of the calibration says of it.
+#[tactic(auto, unfolding(eg_model::specs::Moments::limit_at, eg_torque::specs::Permit::drive_permits))]
 pub(crate) fn limit(lookup: &Lookup, drive: &Drive) -> u16
     requires pedal { lookup.now.pedal ≡ drive.now.pedal }
     requires speed { lookup.now.speed ≡ drive.now.speed }
-    ensures limit { (permit : Grid) → lookup.now.torque ≡ grid_at permit lookup.now.pedal lookup.now.speed
-        → result ≡ drive_permits permit drive.now }
+    ensures limit { (cal : CalibrationParts)
+        → lookup.now.torque ≡ grid_at cal.rules.permit lookup.now.pedal lookup.now.speed
+        → result ≡ limit_at cal drive.now }
 {
     lookup.torque.max(drive.raise())
 }
@@ -101,7 +103,7 @@ pub(crate) fn row<E: Engine, M: Guarded>(
       signals = signal_list (signals_of (words_of (M.shows memory.now).words));
       throttle = slice_index (M.shows memory.now).words THROTTLE;
       ignition = slice_index (M.shows memory.now).words IGNITION;
-      found = record found { answers = judgement.answers };
+      found = record found { answers = judgement.confirms };
       answer = judgement.mark;
       verdict = judgement.verdict;
     } }
@@ -121,7 +123,7 @@ pub(crate) fn row<E: Engine, M: Guarded>(
         throttle: commands.throttle,
         ignition: commands.ignition,
         found: Watches {
-            answers: judgement.answers,
+            answers: judgement.confirms,
             ..found
         },
         answer: judgement.mark,

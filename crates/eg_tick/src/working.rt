@@ -5,7 +5,7 @@ ghost use Rattle.eg_guard.specs.Memory.{KeepsMemory};
 ghost use Rattle.eg_word.specs.Program.{IsProgramOf};
 ghost use Rattle.eg_host.specs.Slices.{IsSlice};
 ghost use Rattle.eg_level2.specs.Inputs.{IsLookup};
-ghost use Rattle.eg_model.specs.History.{Setting, Entry};
+ghost use Rattle.eg_model.specs.History.{Setting, Tick};
 ghost use Rattle.eg_fault.specs.Faults.{IsNoneOrValid};
 ghost use Rattle.eg_tick.specs.Midway.{IsReady};
 ghost use Rattle.eg_tick.specs.Working.{Serves, Served, IsStep};
@@ -21,11 +21,13 @@ use eg_level2::{Level2, Lookup, Step};
 use eg_sensor::Readings;
 use eg_word::Program;
 
-/// What level 1 and level 2 are handed at a tick: its number, whether the answer is sent at it, the number of
-/// the question, the readings, what the permit table says of the drive row, and the slices of level 1.
+/// What level 1 and level 2 are handed at a tick: its number in the run, by which a fault goes; its number
+/// since power-on, by which level 2 goes; whether the answer is sent at it, the number of the question, the
+/// readings, what the permit table says of the drive row, and the slices of level 1.
 #[derive(Clone, Copy)]
 pub(crate) struct Task {
-    pub(crate) tick: u16,
+    pub(crate) tick: u32,
+    pub(crate) local: u16,
     pub(crate) sends: bool,
     pub(crate) asked: u16,
     pub(crate) readings: Readings,
@@ -53,8 +55,8 @@ impl Level1 {
     }
 }
 
-/// Writes the readings to the input ports and the number of the question to the link; then slices of level 1
-/// and modules of level 2 run in turn (docs/CONCEPT.md, "A run, tick by tick").
+/// What level 1 and level 2 do at a tick (docs/CONCEPT.md, "A run, tick by tick"). Nothing else touches the
+/// memory in it.
 pub(crate) fn work<M: Guarded>(
     level2: &Level2,
     fault: Option<&Fault>,
@@ -65,14 +67,40 @@ pub(crate) fn work<M: Guarded>(
     requires ready { IsReady level2.now.rules level1.old.program (M.shows memory.old).words }
     requires fault { IsNoneOrValid (option_copied fault) }
     requires lookup { IsLookup level2.now.rules task.now.lookup }
-    ensures served { (s : Setting) (e : Entry) (h : List Entry)
-        → Serves s e h level2.now (option_copied fault.entry) task.now level1.old.host.registers
+    ensures served { (s : Setting) (x : Tick) (h : List Tick)
+        → Serves s x h level2.now (option_copied fault.entry) task.now level1.old.host.registers
         (M.shows memory.old).words
-        → OnOk result (Served s e h level1.new.host.registers (M.shows memory.new).words) }
-    ensures step { (s : Setting) (e : Entry) (h : List Entry)
-        → Serves s e h level2.now (option_copied fault.entry) task.now level1.old.host.registers
+        → OnOk result (Served s x h level1.new.host.registers (M.shows memory.new).words) }
+    ensures step { (s : Setting) (x : Tick) (h : List Tick)
+        → Serves s x h level2.now (option_copied fault.entry) task.now level1.old.host.registers
         (M.shows memory.old).words
-        → IfOk result (IsStep s e h) }
+        → IfOk result (IsStep s x h) }
+    ensures program { OnOk result (IsProgramOf (M.shows memory.new).words level1.new.program) }
+    ensures keeps { KeepsMemory (M.shows memory.old) (M.shows memory.new) result }
+{
+    show_and_run(level2, fault, task, level1, memory)
+}
+
+/// Writes the readings to the input ports and the number of the question to the link; then slices of level 1
+/// and modules of level 2 run in turn (docs/CONCEPT.md, "A run, tick by tick").
+fn show_and_run<M: Guarded>(
+    level2: &Level2,
+    fault: Option<&Fault>,
+    task: &Task,
+    level1: &mut Level1,
+    memory: &mut M,
+) -> Result<Step, NoMemory>
+    requires ready { IsReady level2.now.rules level1.old.program (M.shows memory.old).words }
+    requires fault { IsNoneOrValid (option_copied fault) }
+    requires lookup { IsLookup level2.now.rules task.now.lookup }
+    ensures served { (s : Setting) (x : Tick) (h : List Tick)
+        → Serves s x h level2.now (option_copied fault.entry) task.now level1.old.host.registers
+        (M.shows memory.old).words
+        → OnOk result (Served s x h level1.new.host.registers (M.shows memory.new).words) }
+    ensures step { (s : Setting) (x : Tick) (h : List Tick)
+        → Serves s x h level2.now (option_copied fault.entry) task.now level1.old.host.registers
+        (M.shows memory.old).words
+        → IfOk result (IsStep s x h) }
     ensures program { OnOk result (IsProgramOf (M.shows memory.new).words level1.new.program) }
     ensures keeps { KeepsMemory (M.shows memory.old) (M.shows memory.new) result }
 {

@@ -1,2 +1,4 @@
 pub mod Permit
 pub mod Excess
+pub use Rattle.eg_num.specs.Arithmetic
+pub use Rattle.eg_num.specs.Interpolation

@@ -1,7 +1,7 @@
-use Rattle.std.proofs.Common.{◌≡◌, ◌∙◌, refl, sym, ap, subst, ◌+◌, ◌<◌, ◌||◌, Some, None, List, ◌∷◌, length, slice_index, true, false}
+use Rattle.std.proofs.Common.{◌≡◌, ◌∙◌, refl, sym, ap, subst, ◌+◌, ◌<◌, ◌||◌, Some, None, List, ◌∷◌, length, slice_index, true, false, arith}
 use Rattle.std.specs.Option.{option_copied}
 use Rattle.eg_answer.specs.declared.rules.Rules.{Rules}
-use Rattle.eg_torque.specs.Permit.{drive_permits}
+use Rattle.eg_num.specs.Interpolation.{grid_at}
 use Rattle.eg_fault.specs.Effects.{sends_at, asked_at}
 use Rattle.eg_fault.specs.Faults.{effects}
 use Rattle.eg_guard.specs.Memory.{AreWords}
@@ -13,13 +13,12 @@ use Rattle.eg_model.specs.Level1.{last_world}
 use Rattle.eg_model.specs.Moments.{moments, next}
 use Rattle.eg_model.specs.Rows.{row_of}
 use Rattle.eg_tick.specs.Kept.{Kept}
-use Rattle.eg_tick.specs.Working.{effects_after}
 use Rattle.eg_tick.specs.Stands.{Stands, IsController}
-use Rattle.eg_tick.specs.Advancing.{entry_of}
+use Rattle.eg_tick.specs.Advancing.{effects_after, entry_of}
 use Rattle.eg_tick.specs.declared.working.Task.{Task}
 use Rattle.eg_tick.proofs.MonitorLemmas.{stands-period, stands-later}
 use Rattle.eg_tick.proofs.StandsLemmas.{next_stands}
-use Rattle.eg_tick.proofs.AdvanceLemmas.{of_setting, held-within, within, Advance, makes, row-told, step-told}
+use Rattle.eg_tick.proofs.AdvanceLemmas.{of_setting, held-within, within, few-local, Advance, makes, row-told, step-told}
 use Rattle.eg_tick.proofs.controller.Controller.advance.Given.{Over}
 use Rattle.eg_tick.proofs.controller.Controller.advance.Goals as goal
 
@@ -49,13 +48,26 @@ judge-judged-requires-clause-later g c tame =
     let some = c.self.invariant.keeps.stands c.if-self.false in
     stands-later _ _ some.1 some.2 (subst (λ f. (effects f c.self.inside.ticks).wild ≡ None) c.as_ref-fault.ensures.value tame)
 
+pub overflow_cast-task : goal.overflow_cast-task
+overflow_cast-task g c =
+    let some = c.self.invariant.keeps.stands c.if-self.false in
+    let few = few-local _ _ some.1 some.2 (subst (λ v. v < 20000) (sym (ap (λ v. v.kept.ticks) c.self.view_is)) c.requires.fewer) in
+    omega (arith, few)
+
+pub overflow_add-self-2 : goal.overflow_add-self-2
+overflow_add-self-2 g c =
+    let some = c.self.invariant.keeps.stands c.if-self.false in
+    let few = few-local _ _ some.1 some.2 (subst (λ v. v < 20000) (sym (ap (λ v. v.kept.ticks) c.self.view_is)) c.requires.fewer) in
+    omega (arith, few)
+
 -- ---- the tick that was made ----
 
-abbrev old : (g : Over) → goal.After-self-5-1 g → Kept
+abbrev old : (g : Over) → goal.After-self-6-1 g → Kept
 old g c = record {
   cal = c.self.inside.calibration;
   fault = c.self.inside.fault;
   ticks = c.self.inside.ticks;
+  local = c.self.inside.local;
   memory = g.M.Guarded.shows c.self.inside.memory;
   registers = c.self.inside.level1.host.registers;
   monitor = c.self.inside.monitor;
@@ -67,11 +79,12 @@ old g c = record {
   lost = c.self.inside.lost;
 }
 
-abbrev new : (g : Over) → goal.After-self-5-1 g → Kept
+abbrev new : (g : Over) → goal.After-self-6-1 g → Kept
 new g c = record {
   cal = c.self.inside.calibration;
   fault = c.self.inside.fault;
   ticks = c.self.inside.ticks + 1;
+  local = c.self.inside.local + 1;
   memory = g.M.Guarded.shows c.work.new.memory;
   registers = c.work.new.level1.host.registers;
   monitor = c.judge-judged.new.monitor;
@@ -83,9 +96,10 @@ new g c = record {
   lost = false;
 }
 
-abbrev task : (g : Over) → goal.After-self-5-1 g → Task
+abbrev task : (g : Over) → goal.After-self-6-1 g → Task
 task g c = record {
   tick = c.self.inside.ticks;
+  local = c.self.inside.local;
   sends = c.sends.result;
   asked = c.question.result;
   readings = c.readings.result;
@@ -93,10 +107,10 @@ task g c = record {
   slices = c.args.slices.now;
 }
 
-are_words : (g : Over) (c : goal.After-self-5-1 g) → AreWords (g.M.Guarded.shows c.work.new.memory).words
+are_words : (g : Over) (c : goal.After-self-6-1 g) → AreWords (g.M.Guarded.shows c.work.new.memory).words
 are_words g c = c.work.ensures.keeps.are_words (c.self.invariant.keeps.stands c.if-self.false).2.are_words
 
-advance : (g : Over) (c : goal.After-self-5-1 g) → Advance (old g c) (new g c) c.args.drive.now c.args.slices.now c.self.inside.fault c.self.inside.level2
+advance : (g : Over) (c : goal.After-self-6-1 g) → Advance (old g c) (new g c) c.args.drive.now c.args.slices.now c.self.inside.fault c.self.inside.level2
     c.at.result (task g c) c.in_ok-step.step c.judge-judged.result
 advance g c =
     subst (λ under. Advance (old g c) (new g c) c.args.drive.now c.args.slices.now under c.self.inside.level2 c.at.result (task g c) c.in_ok-step.step c.judge-judged.result)
@@ -110,9 +124,10 @@ advance g c =
       path2 = c.at.ensures.path2;
       on = c.at.ensures.on;
       tick = refl;
-      sends = c.sends.ensures ∙ ap (λ times. sends_at (effects (option_copied c.as_ref-fault.result) c.self.inside.ticks) times c.self.inside.ticks) c.times.ensures.times;
+      place = refl;
+      sends = c.sends.ensures ∙ ap (λ times. sends_at (effects (option_copied c.as_ref-fault.result) c.self.inside.ticks) times c.self.inside.local) c.times.ensures.times;
       asked = c.question.ensures.number
-          ∙ ap (λ questions. asked_at (effects (option_copied c.as_ref-fault.result) c.self.inside.ticks) c.self.inside.monitor.times (length questions) c.self.inside.ticks) c.questions-questions.ensures.questions;
+          ∙ ap (λ questions. asked_at (effects (option_copied c.as_ref-fault.result) c.self.inside.ticks) c.self.inside.monitor.times (length questions) c.self.inside.local) c.questions-questions.ensures.questions;
       readings = c.readings.ensures;
       slices = refl;
       served = c.in_ok-step.ensures.served;
@@ -122,6 +137,7 @@ advance g c =
       cal = refl;
       fault = refl;
       count = refl;
+      local = refl;
       are_words = are_words g c;
       open1 = c.either-self-inside.ensures;
       open2 = c.either-self-inside-2.ensures ∙ ap (λ b. b || c.self.inside.open2) c.either.ensures;
@@ -132,26 +148,26 @@ advance g c =
       not_lost = refl;
     })
 
-abbrev entry : (g : Over) → goal.After-self-5-1 g → Entry
+abbrev entry : (g : Over) → goal.After-self-6-1 g → Entry
 entry g c = entry_of c.args.drive.now c.args.slices.now (g.E.Engine.shows c.step_engine.new.engine)
 
 -- what the controller stood for, by its parts
-was : (g : Over) (c : goal.After-self-5-1 g) (s : Setting) (h : List Entry) → Stands s c.args.self.now.kept h → Stands s (old g c) h
+was : (g : Over) (c : goal.After-self-6-1 g) (s : Setting) (h : List Entry) → Stands s c.args.self.now.kept h → Stands s (old g c) h
 was g c s h = subst (λ v. Stands s v h) (sym (ap (λ v. v.kept) c.self.view_is))
 
-goes : (g : Over) (c : goal.After-self-5-1 g) (s : Setting) (h : List Entry) → Stands s (old g c) h → Stands s (new g c) (entry g c ∷ h)
+goes : (g : Over) (c : goal.After-self-6-1 g) (s : Setting) (h : List Entry) → Stands s (old g c) h → Stands s (new g c) (entry g c ∷ h)
 goes g c = λ s h. of_setting (λ t. Stands t (new g c) (entry g c ∷ h)) (old g c) h
     (λ image so. next_stands _ (entry g c) h (old g c) (new g c) _ _ so (makes (old g c) (new g c) _ _ _ _ (task g c) _ _ (advance g c) image h so)) s
 
-stood : (g : Over) (c : goal.After-self-5-1 g) (s : Setting) (h : List Entry) → Stands s c.args.self.now.kept h → Stands s (new g c) (entry g c ∷ h)
+stood : (g : Over) (c : goal.After-self-6-1 g) (s : Setting) (h : List Entry) → Stands s c.args.self.now.kept h → Stands s (new g c) (entry g c ∷ h)
 stood g c s h stands = goes g c s h (was g c s h stands)
 
-still : (g : Over) (c : goal.After-self-5-1 g) → IsController (new g c)
+still : (g : Over) (c : goal.After-self-6-1 g) → IsController (new g c)
 still g c =
     let some = c.self.invariant.keeps.stands c.if-self.false in
     record { accepted = c.self.invariant.keeps.accepted; fault = c.self.invariant.keeps.fault; stands = λ held. (some.0, entry g c ∷ some.1, goes g c _ some.1 some.2); unsure = λ gone. absurd (let clash : false ≡ true = gone in cc) }
 
-steps : (g : Over) (c : goal.After-self-5-1 g) → g.E.Engine.steps c.args.self.now.engine (slice_index (g.M.Guarded.shows c.self.inside.memory).words 2064)
+steps : (g : Over) (c : goal.After-self-6-1 g) → g.E.Engine.steps c.args.self.now.engine (slice_index (g.M.Guarded.shows c.self.inside.memory).words 2064)
     (slice_index (g.M.Guarded.shows c.self.inside.memory).words 2065) c.at.result.on (effects c.self.inside.fault c.self.inside.ticks).held c.step_engine.new.engine
 steps g c =
     let words = (g.M.Guarded.shows c.self.inside.memory).words in
@@ -171,9 +187,10 @@ returns-clause-stands g c = stood g c
 
 pub returns-clause-row : goal.returns-clause-row
 returns-clause-row g c s h stands =
-    of_setting (λ t. c.row-row.result ≡ row_of (next t (entry g c) h)) (old g c) h
+    of_setting (λ t. c.row-row.result ≡ row_of (length h) (next t (entry g c) h)) (old g c) h
     (λ image so. row-told (old g c) (new g c) _ _ _ _ (task g c) _ _ (advance g c) image h so c.row-row.result c.limit.result
-    (c.limit.ensures.limit _ c.look_up-lookup.ensures.torque ∙ ap (λ (rules : Rules). drive_permits rules.permit c.args.drive.now) c.rules.ensures.rules) c.row-row.ensures)
+    (c.limit.ensures.limit (old g c).cal (c.look_up-lookup.ensures.torque
+    ∙ ap (λ (rules : Rules). grid_at rules.permit c.look_up-lookup.result.pedal c.look_up-lookup.result.speed) c.rules.ensures.rules)) c.row-row.ensures)
     s (was g c s h stands)
 
 pub returns-clause-engine : goal.returns-clause-engine
