@@ -1,16 +1,18 @@
 -- The first detection and the first tick at which the stages are off, in words and as they are computed.
-use Rattle.std.proofs.Common.{◌≡◌, ◌∙◌, ◌<◌, ◌⊎◌, ◌&&◌, not, inl, inr, List, ℕ, Bool, true, false, None, Some, refl, sym, ap, ap₂, subst}
+use Rattle.std.proofs.Common.{◌≡◌, ◌∙◌, ◌<◌, ◌⊎◌, ◌&&◌, not, inl, inr, List, [], ◌∷◌, ℕ, Bool, true, false, None, Some, refl, sym, ap, ap₂, subst}
 use Rattle.std.specs.Prelude.{Option, IsTrue, option_map, if◌then◌else◌}
-use Rattle.std.proofs.lemmas.List.Elements.{All-weaker}
+use Rattle.std.proofs.lemmas.List.Elements.{All-weaker, All-head, All-tail}
 use Rattle.std.proofs.lemmas.Bool.{false_from_ne_true, both_ways}
 use Rattle.std.proofs.lemmas.Option.{none-some, same_Some, some_pair_parts}
 use Rattle.eg_record.specs.declared.row.Row.{Row}
 use Rattle.eg_record.specs.declared.watch.Watch.{Watch}
+use Rattle.std.specs.List.{All}
+use Rattle.eg_record.specs.Rows.{first_given}
 use Rattle.eg_record.specs.Detection.{is_found, first_watch, detected_at, first_detection, FindsNothing, IsDetectedFirst, DetectionLaw}
 use Rattle.eg_record.specs.Stages.{is_off, off_at, first_off, IsOnOrTested, IsOffFirst, OffLaw}
 use Rattle.eg_record.proofs.FirstLemmas.{off_at-none, off_at-off, detected_at-none, detected_at-found}
 use Rattle.eg_record.proofs.WatchLemmas.{first_watch-some, first_watch-none, first_watch-nothing, first_watch-is}
-use Rattle.eg_record.proofs.GivenLemmas.{IsGivenFirst, first_given-none, none_given, first_given-some, given_first}
+use Rattle.eg_record.proofs.GivenLemmas.{option_or-some, IsGivenFirst, first_given-none, none_given, first_given-some, given_first}
 
 -- ---- the first detection ----
 
@@ -69,6 +71,16 @@ detection_law rows whole (Some d) = (
   λ first. sym (first_given-some detected_at rows d whole (given_detection rows d.0 d.1 first)),
   λ first. detection_given rows d.0 d.1 (given_first detected_at rows d whole (sym first)),
 )
+
+-- a watch that is found at no row isn't the first
+pub first_detection-never : (rows : List Row) (w : Watch) → All (λ row. is_found row.found w ≡ false) rows → (tick : ℕ) → first_detection rows ≡ Some (w, tick) → ⊥
+unfolding first_detection first_given
+first_detection-never [] w never tick first = none-some (w, tick) first
+first_detection-never (row ∷ before) w never tick first = elim (option_or-some (first_given detected_at before) (detected_at row) (w, tick) first) [
+  | inl earlier ↦ first_detection-never before w (All-tail (λ r. is_found r.found w ≡ false) row before never) tick earlier
+  | inr now ↦ both_ways (is_found row.found w) (All-head (λ r. is_found r.found w ≡ false) row before never)
+      (first_watch-some row.found w (detected_parts row w tick now.1).0).0
+]
 
 -- ---- the first tick at which the stages are off ----
 
