@@ -36,9 +36,11 @@ first_confirmed-append w t (row ∷ more) rows c first =
 -- ---- in one span ----
 
 -- one bit more: the first place is that of the bits before, or else the last one if the bits are confirmed now
-first_place-now : (w : WeightParts) (b : Bool) (bits : List Bool) → option_or (first_place w bits) (if is_confirmed w (b ∷ bits) then Some (length bits) else None) ≡ first_place w (b ∷ bits)
+first_place-now : (w : WeightParts) (b : Bool) (bits : List Bool) →
+    option_or (first_place w bits) (if is_confirmed w (b ∷ bits) then Some (length bits) else None) ≡ first_place w (b ∷ bits)
 first_place-now w b bits = elim (cases_Bool (is_confirmed w bits)) [
-  | inl confirmed ↦ stays (first_place w bits) (is_some-first_place w bits ∙ confirmed) (if is_confirmed w (b ∷ bits) then Some (length bits) else None) ∙ sym (first_place-cons w b bits confirmed)
+  | inl confirmed ↦ stays (first_place w bits) (is_some-first_place w bits ∙ confirmed) (if is_confirmed w (b ∷ bits) then Some (length bits) else None)
+      ∙ sym (first_place-cons w b bits confirmed)
   | inr unconfirmed ↦ (let none = no_place (first_place w bits) (is_some-first_place w bits ∙ unconfirmed) in
       ap (λ place. option_or place (if is_confirmed w (b ∷ bits) then Some (length bits) else None)) none ∙ elim (cases_Bool (is_confirmed w (b ∷ bits))) [
         | inl now ↦ ap (λ (c : Bool). if c then Some (length bits) else None) now ∙ sym (first_place-first w b bits (is_first_from w b bits now unconfirmed))
@@ -60,7 +62,8 @@ pub first_confirmed-one_span : (w : WeightParts) (t : ℕ) (rows : List Row) →
 unfolding first_confirmed is_excess_confirmed first_place
 first_confirmed-one_span w t [] one = refl
 first_confirmed-one_span w t (row ∷ before) one =
-    ap₂ (λ o rs. option_or o (if is_confirmed w (map (true_excess t) rs) then Some (length before) else None)) (first_confirmed-one_span w t before (one_span-part (row ∷ []) before one)) one
+    ap₂ (λ o rs. option_or o (if is_confirmed w (map (true_excess t) rs) then Some (length before) else None))
+    (first_confirmed-one_span w t before (one_span-part (row ∷ []) before one)) one
     ∙ ap (λ (n : ℕ). option_or (first_place w (map (true_excess t) before)) (if is_confirmed w (true_excess t row ∷ map (true_excess t) before) then Some n else None))
     (sym (length-map before (true_excess t)))
     ∙ first_place-now w (true_excess t row) (map (true_excess t) before)

@@ -102,7 +102,8 @@ unfolding recording
 busy_first = refl
 
 -- a start-up test that failed is told last
-start_line : row_line (record (plain 6 0 0 40 200 100 0) { found = record nothing { pedal = true; start = true } }) ≡ codes "6,0,800,0,0,40,0,200,1,1,1,0,200,100,0,0,0,0,pedal+start,-,-\n"
+start_line : row_line (record (plain 6 0 0 40 200 100 0) { found = record nothing { pedal = true; start = true } })
+    ≡ codes "6,0,800,0,0,40,0,200,1,1,1,0,200,100,0,0,0,0,pedal+start,-,-\n"
 unfolding recording
 start_line = refl
 

@@ -26,7 +26,8 @@ counted watch o n = if is_watch watch o then suc n else n
 unfoldable undetected : Option Watch → ℕ → ℕ
 undetected o n = if not (is_some o) then suc n else n
 
-step : (o : Option Watch) (none mirror pedal plate load speed torque answers all : ℕ) → is_watch Start o ≡ false → none + (((((((0 + mirror) + pedal) + plate) + load) + speed) + torque) + answers) ≡ all →
+step : (o : Option Watch) (none mirror pedal plate load speed torque answers all : ℕ) → is_watch Start o ≡ false →
+    none + (((((((0 + mirror) + pedal) + plate) + load) + speed) + torque) + answers) ≡ all →
     undetected o none + (((((((0 + counted Mirror o mirror) + counted Pedal o pedal) + counted Plate o plate) + counted Load o load) + counted Speed o speed) + counted Torque o torque) + counted Answers o answers) ≡ suc all
 unfolding counted undetected is_watch rank
 step None none mirror pedal plate load speed torque answers all never e = omega (arith, e)
@@ -53,11 +54,13 @@ none-cons : (f : RunFacts) (all : List RunFacts) →
 unfolding undetected is_none
 none-cons f all = count-cons is_none f all
 
-each : (all : List RunFacts) → NeverStart all → count_by is_none all + (((((((0 + count_by (is_first Mirror) all) + count_by (is_first Pedal) all) + count_by (is_first Plate) all) + count_by (is_first Load) all) + count_by (is_first Speed) all) + count_by (is_first Torque) all) + count_by (is_first Answers) all) ≡ length all
+each : (all : List RunFacts) → NeverStart all →
+    count_by is_none all + (((((((0 + count_by (is_first Mirror) all) + count_by (is_first Pedal) all) + count_by (is_first Plate) all) + count_by (is_first Load) all) + count_by (is_first Speed) all) + count_by (is_first Torque) all) + count_by (is_first Answers) all) ≡ length all
 each [] never = refl
 each (f ∷ all) never =
     let before = each all (All-tail (λ facts. is_first Start facts ≡ false) f all never) in
-    let next = step f.first (count_by is_none all) (count_by (is_first Mirror) all) (count_by (is_first Pedal) all) (count_by (is_first Plate) all) (count_by (is_first Load) all) (count_by (is_first Speed) all) (count_by (is_first Torque) all) (count_by (is_first Answers) all) (length all) (not_start f (All-head (λ facts. is_first Start facts ≡ false) f all never)) before in
+    let next = step f.first (count_by is_none all) (count_by (is_first Mirror) all) (count_by (is_first Pedal) all) (count_by (is_first Plate) all) (count_by (is_first Load) all) (count_by (is_first Speed) all) (count_by (is_first Torque) all) (count_by (is_first Answers) all) (length all)
+    (not_start f (All-head (λ facts. is_first Start facts ≡ false) f all never)) before in
     let none = none-cons f all in
     let mirror = watch-cons Mirror f all in
     let pedal = watch-cons Pedal f all in

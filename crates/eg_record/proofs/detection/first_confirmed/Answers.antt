@@ -44,10 +44,11 @@ returns-then-feed c =
     let row = c.row-item.result in
     let before = so_far rows i in
     let rest = if row.fresh then [] else this_span before in
-    let begun = begins w (true_excess t) row.fresh c.loop-row.counter.value c.counter_at-counter.result.value (this_span before) c.counter_at-counter.ensures c.loop-row.invariant.stands in
+    let begun = begins w (true_excess t) row.fresh _ _ (this_span before) c.counter_at-counter.ensures c.loop-row.invariant.stands in
     let now = fed_answers w t row before c.is_excess.result c.feed.result c.is_excess.ensures (c.feed.ensures.confirmed (map (true_excess t) rest) begun) ∙ c.if-feed.true in
     let tick : row.tick ≡ length before = AreRows-tick rows i row c.row-item.is c.loop-row-test.true c.requires ∙ sym (length-so_far rows i (omega arith)) in
-    let here = ap (first_confirmed w t) (so_far-more rows i row c.row-item.is c.loop-row-test.true) ∙ first_confirmed-here w t row before c.loop-row.invariant.unconfirmed now ∙ ap Some (sym tick) in
+    let more = so_far-more rows i row c.row-item.is c.loop-row-test.true in
+    let here = ap (first_confirmed w t) more ∙ first_confirmed-here w t row before c.loop-row.invariant.unconfirmed now ∙ ap Some (sym tick) in
     sym (ap (first_confirmed w t) (reverse-so_far rows (i + 1)) ∙ first_confirmed-append w t (reverse (drop (i + 1) rows)) (so_far rows (i + 1)) row.tick here)
 
 pub loop-row-preserved : goal.loop-row-preserved
@@ -60,7 +61,7 @@ loop-row-preserved c =
     let before = so_far rows i in
     let bits = map (true_excess t) (if row.fresh then [] else this_span before) in
     let more = so_far-more rows i row c.row-item.is c.loop-row-test.true in
-    let begun = begins w (true_excess t) row.fresh c.loop-row.counter.value c.counter_at-counter.result.value (this_span before) c.counter_at-counter.ensures c.loop-row.invariant.stands in
+    let begun = begins w (true_excess t) row.fresh _ _ (this_span before) c.counter_at-counter.ensures c.loop-row.invariant.stands in
     let stands = fed_stands w t row before c.is_excess.result c.feed.new.self.value c.is_excess.ensures (c.feed.ensures.windows bits begun) in
     let other = fed_answers w t row before c.is_excess.result c.feed.result c.is_excess.ensures (c.feed.ensures.confirmed bits begun) ∙ c.if-feed.false in
     record {
