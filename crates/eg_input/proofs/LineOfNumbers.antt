@@ -6,27 +6,27 @@ use Rattle.std.specs.List.{list_all}
 use Rattle.std.proofs.lemmas.Bool.Decides.{nat_tests}
 use Rattle.csv.specs.Machine.{next_record}
 use Rattle.std.proofs.Common.{Bor, take, drop, nat_eq}
-use Rattle.std.specs.Prelude.{codes, IfSome, MatchOption}
+use Rattle.std.specs.Prelude.{codes}
 use Rattle.std.specs.Cmp.Lexicographic.{pointwise}
+use Rattle.std.specs.Str.{bytes_eq}
 use Rattle.std.proofs.lemmas.Slice.Eq.{bytes_eq-Decides}
 use Rattle.std.proofs.lemmas.List.{take-append-drop}
 use Rattle.csv.specs.Records.{field_at}
 use Rattle.csv.specs.Reading.{default_config, strip_bom}
-use Rattle.eg_num.specs.Drive.{DriveRow}
+use Rattle.eg_num.specs.Drive.{DriveRow, driven}
 use Rattle.csv.specs.declared.parser.State.{State}
 use Rattle.csv.specs.declared.parser.State.TheVariants as st
 use Rattle.std.specs.declared.vec.Vec.{Vec}
 use Rattle.std.specs.declared.alloc.Global.{Global}
 use Rattle.std.specs.Prelude.{Result}
 use Rattle.eg_input.specs.Records.{Record, RowRule, records_of, is_same_record}
-use Rattle.eg_input.specs.Rows.{IsRead, rows_below, rows_of}
+use Rattle.eg_input.specs.Rows.{IsRead, is_header, rows_below, rows_of}
 use Rattle.eg_input.specs.declared.fault.TraceFault.{TraceFault}
-use Rattle.eg_input.specs.Fields.{decimal_value, number_of, number_at}
-use Rattle.eg_input.specs.DriveTrace.{drive_from, drive_at, drive_of, trace_header}
+use Rattle.eg_input.specs.Fields.{decimal_value, number_of, number_at, truth_of, truth_at}
+use Rattle.eg_input.specs.DriveTrace.{drive_from, drive_at, drive_of, trace_headers}
 use Rattle.eg_input.specs.CheckFile.{check_row_of, check_header}
-use Rattle.eg_input.specs.Plain.{BeginsWithNumber, BeginsWithDrive, BeginsWithRow, BeginsWithHeader, records_below}
+use Rattle.eg_input.specs.Plain.{BeginsWithField, BeginsWithNumber, BeginsWithTruth, BeginsWithDrive, BeginsWithRow, BeginsWithHeader, records_below}
 use Rattle.eg_input.proofs.UnreadLemmas.{records_after-some, records_after-none}
-use Rattle.eg_input.proofs.FieldLemmas.{is_same_record-Decides}
 
 -- a digit is no mark of the format
 record NoMark (b : ℕ) : Type 0 where
@@ -80,10 +80,13 @@ numeral-run s start fields (b ∷ rest) tail some e =
     let n = digit-no_mark b (and-left (is_ascii_digit b) (list_all is_ascii_digit rest) e) in
     digit-starts s start fields b (rest ++ tail) n ∙ digits-run fields [] (b ∷ rest) tail e
 
--- what writes a number is digits
-digits-of : (most : ℕ) (digits : List ℕ) (n : ℕ) → number_of most digits ≡ Some n → (1 ≤ length digits) × (list_all is_ascii_digit digits ≡ true)
+-- what is read as such a value is one digit or more
+abbrev pub OfDigits : {X : Type 0} → (List ℕ → Option X) → Type 0
+OfDigits {X} value_of = (field : List ℕ) (value : X) → value_of field ≡ Some value → (1 ≤ length field) × (list_all is_ascii_digit field ≡ true)
+
+pub number_of-digits : (most : ℕ) → OfDigits (number_of most)
 unfolding number_of
-digits-of most digits n e = at (nat_le 1 (length digits)) (nat_le (length digits) 5) (list_all is_ascii_digit digits) (nat_le (decimal_value digits) most) refl refl e
+number_of-digits most digits n e = at (nat_le 1 (length digits)) (nat_le (length digits) 5) (list_all is_ascii_digit digits) (nat_le (decimal_value digits) most) refl refl e
   where
     at : (a b c d : Bool) → nat_le 1 (length digits) ≡ a → list_all is_ascii_digit digits ≡ c → (if a && b && c && d then Some (decimal_value digits) else None) ≡ Some n
         → (1 ≤ length digits) × (list_all is_ascii_digit digits ≡ true)
@@ -93,89 +96,124 @@ digits-of most digits n e = at (nat_le 1 (length digits)) (nat_le (length digits
     at true false c d some is e = absurd cc
     at false b c d some is e = absurd cc
 
--- a number and a comma are a field
-pub number-comma : (s : State) → IsStart s → (fields : Record) (most : ℕ) (text : List ℕ) (n : ℕ) (rest : List ℕ) → (b : BeginsWithNumber most 44 text n rest)
-    → next_record default_config s fields [] text ≡ next_record default_config st.StartField (fields ++ b.digits ∷ []) [] rest
-unfolding next_record
-number-comma s start fields most text n rest b =
-    let d = digits-of most b.digits n b.written in
-    ap (next_record default_config s fields []) b.parts ∙ numeral-run s start fields b.digits (44 ∷ rest) d.0 d.1
+pub truth_of-digits : OfDigits truth_of
+unfolding truth_of
+truth_of-digits field value e = at (bytes_eq field (codes "0")) (bytes_eq field (codes "1")) refl refl e
+  where
+    at : (a b : Bool) → bytes_eq field (codes "0") ≡ a → bytes_eq field (codes "1") ≡ b → (if a then Some false else if b then Some true else None) ≡ Some value
+        → (1 ≤ length field) × (list_all is_ascii_digit field ≡ true)
+    at true b is _ e = rw ((bytes_eq-Decides field (codes "0")).0 is) (omega arith, refl)
+    at false true _ is e = rw ((bytes_eq-Decides field (codes "1")).0 is) (omega arith, refl)
+    at false false _ _ e = absurd cc
 
--- a number and a line feed are the last field
-pub number-feed : (s : State) → IsStart s → (fields : Record) (most : ℕ) (text : List ℕ) (n : ℕ) (rest : List ℕ) → (b : BeginsWithNumber most 10 text n rest)
-    → next_record default_config s fields [] text ≡ Some (fields ++ b.digits ∷ [], st.StartRecord, rest)
+-- digits and a comma are a field
+pub field-comma : {X : Type 0} {value_of : List ℕ → Option X} → OfDigits value_of → (s : State) → IsStart s → (fields : Record) (text : List ℕ) (value : X) (rest : List ℕ)
+    → (b : BeginsWithField value_of 44 text value rest)
+    → next_record default_config s fields [] text ≡ next_record default_config st.StartField (fields ++ b.field ∷ []) [] rest
 unfolding next_record
-number-feed s start fields most text n rest b =
-    let d = digits-of most b.digits n b.written in
-    ap (next_record default_config s fields []) b.parts ∙ numeral-run s start fields b.digits (10 ∷ rest) d.0 d.1
+field-comma digits s start fields text value rest b =
+    let d = digits b.field value b.written in
+    ap (next_record default_config s fields []) b.parts ∙ numeral-run s start fields b.field (44 ∷ rest) d.0 d.1
 
--- a line of a drive trace
-pub trace-line : (text : List ℕ) (row : DriveRow) (rest : List ℕ) → BeginsWithDrive 10 text row rest → BeginsWithRow drive_of text row rest
-unfolding drive_of drive_at drive_from number_at field_at
-trace-line text row rest b = record {
-  fields = b.pedal.digits ∷ b.speed.digits ∷ b.raise.digits ∷ [];
-  parts = records_after-some st.StartRecord text (b.pedal.digits ∷ b.speed.digits ∷ b.raise.digits ∷ [], st.StartRecord, rest) refl
-      (number-comma st.StartRecord (inl refl) [] 1000 text row.pedal b.after_pedal b.pedal
-      ∙ number-comma st.StartField (inr refl) (b.pedal.digits ∷ []) 8000 b.after_pedal row.speed b.after_speed b.speed
-      ∙ number-feed st.StartField (inr refl) (b.pedal.digits ∷ b.speed.digits ∷ []) 10000 b.after_speed row.raise rest b.raise);
+-- digits and a line feed are the last field
+pub field-feed : {X : Type 0} {value_of : List ℕ → Option X} → OfDigits value_of → (s : State) → IsStart s → (fields : Record) (text : List ℕ) (value : X) (rest : List ℕ)
+    → (b : BeginsWithField value_of 10 text value rest)
+    → next_record default_config s fields [] text ≡ Some (fields ++ b.field ∷ [], st.StartRecord, rest)
+unfolding next_record
+field-feed digits s start fields text value rest b =
+    let d = digits b.field value b.written in
+    ap (next_record default_config s fields []) b.parts ∙ numeral-run s start fields b.field (10 ∷ rest) d.0 d.1
+
+-- pedal and speed
+two-fields : (ending : ℕ) (text : List ℕ) (numbers : ℕ × ℕ × ℕ) (rest : List ℕ) → (b : BeginsWithDrive ending text numbers rest)
+    → next_record default_config st.StartRecord [] [] text ≡ next_record default_config st.StartField (b.pedal.field ∷ b.speed.field ∷ []) [] b.after_speed
+two-fields ending text numbers rest b =
+    field-comma (number_of-digits 1000) st.StartRecord (inl refl) [] text numbers.0 b.after_pedal b.pedal
+    ∙ field-comma (number_of-digits 8000) st.StartField (inr refl) (b.pedal.field ∷ []) b.after_pedal numbers.1 b.after_speed b.speed
+
+-- pedal, speed and raise, and a field behind them
+four-fields : {X : Type 0} {value_of : List ℕ → Option X} → OfDigits value_of → (text : List ℕ) (numbers : ℕ × ℕ × ℕ) (middle : List ℕ) (value : X) (rest : List ℕ)
+    → (b : BeginsWithDrive 44 text numbers middle) → (l : BeginsWithField value_of 10 middle value rest)
+    → records_below text ≡ (b.pedal.field ∷ b.speed.field ∷ b.raise.field ∷ l.field ∷ []) ∷ records_below rest
+four-fields digits text numbers middle value rest b l =
+    records_after-some st.StartRecord text (b.pedal.field ∷ b.speed.field ∷ b.raise.field ∷ l.field ∷ [], st.StartRecord, rest) refl
+    (two-fields 44 text numbers middle b
+    ∙ field-comma (number_of-digits 10000) st.StartField (inr refl) (b.pedal.field ∷ b.speed.field ∷ []) b.after_speed numbers.2 middle b.raise
+    ∙ field-feed digits st.StartField (inr refl) (b.pedal.field ∷ b.speed.field ∷ b.raise.field ∷ []) middle value rest l)
+
+-- a line of a drive trace without resets
+pub trace-line : (text : List ℕ) (pedal speed raise : ℕ) (rest : List ℕ) → BeginsWithDrive 10 text (pedal, speed, raise) rest
+    → BeginsWithRow (drive_of 3) text (driven pedal speed raise) rest
+unfolding drive_of drive_at drive_from number_at truth_at field_at
+trace-line text pedal speed raise rest b = record {
+  fields = b.pedal.field ∷ b.speed.field ∷ b.raise.field ∷ [];
+  parts = records_after-some st.StartRecord text (b.pedal.field ∷ b.speed.field ∷ b.raise.field ∷ [], st.StartRecord, rest) refl
+      (two-fields 10 text (pedal, speed, raise) rest b
+      ∙ field-feed (number_of-digits 10000) st.StartField (inr refl) (b.pedal.field ∷ b.speed.field ∷ []) b.after_speed raise rest b.raise);
   written = rw (b.pedal.written, b.speed.written, b.raise.written) refl;
 }
 
--- a line of a check file
-pub check-line : (text : List ℕ) (row : DriveRow) (middle : List ℕ) (torque : ℕ) (rest : List ℕ) → BeginsWithDrive 44 text row middle
-    → BeginsWithNumber 65535 10 middle torque rest → BeginsWithRow check_row_of text (row, torque) rest
-unfolding check_row_of drive_at drive_from number_at field_at
-check-line text row middle torque rest b t = record {
-  fields = b.pedal.digits ∷ b.speed.digits ∷ b.raise.digits ∷ t.digits ∷ [];
-  parts = records_after-some st.StartRecord text (b.pedal.digits ∷ b.speed.digits ∷ b.raise.digits ∷ t.digits ∷ [], st.StartRecord, rest) refl
-      (number-comma st.StartRecord (inl refl) [] 1000 text row.pedal b.after_pedal b.pedal
-      ∙ number-comma st.StartField (inr refl) (b.pedal.digits ∷ []) 8000 b.after_pedal row.speed b.after_speed b.speed
-      ∙ number-comma st.StartField (inr refl) (b.pedal.digits ∷ b.speed.digits ∷ []) 10000 b.after_speed row.raise middle b.raise
-      ∙ number-feed st.StartField (inr refl) (b.pedal.digits ∷ b.speed.digits ∷ b.raise.digits ∷ []) 65535 middle torque rest t);
+-- a line of a drive trace with resets
+pub reset-line : (text : List ℕ) (pedal speed raise : ℕ) (middle : List ℕ) (reset : Bool) (rest : List ℕ) → BeginsWithDrive 44 text (pedal, speed, raise) middle
+    → BeginsWithTruth 10 middle reset rest → BeginsWithRow (drive_of 4) text (record (driven pedal speed raise) { reset = reset }) rest
+unfolding drive_of drive_at drive_from number_at truth_at field_at
+reset-line text pedal speed raise middle reset rest b t = record {
+  fields = b.pedal.field ∷ b.speed.field ∷ b.raise.field ∷ t.field ∷ [];
+  parts = four-fields truth_of-digits text (pedal, speed, raise) middle reset rest b t;
   written = rw (b.pedal.written, b.speed.written, b.raise.written, t.written) refl;
+}
+
+-- a line of a check file
+pub check-line : (text : List ℕ) (pedal speed raise : ℕ) (middle : List ℕ) (row : DriveRow) (torque : ℕ) (rest : List ℕ)
+    → BeginsWithDrive 44 text (pedal, speed, raise) middle → BeginsWithNumber 65535 10 middle torque rest → row ≡ driven pedal speed raise
+    → BeginsWithRow check_row_of text (row, torque) rest
+unfolding check_row_of drive_at drive_from number_at field_at
+check-line text pedal speed raise middle row torque rest b t is = record {
+  fields = b.pedal.field ∷ b.speed.field ∷ b.raise.field ∷ t.field ∷ [];
+  parts = four-fields (number_of-digits 65535) text (pedal, speed, raise) middle torque rest b t;
+  written = rw (b.pedal.written, b.speed.written, b.raise.written, t.written, is) refl;
 }
 
 -- bytes that begin with others
 begins : (prefix text : List ℕ) → pointwise nat_eq (take (length prefix) text) prefix ≡ true → text ≡ prefix ++ drop (length prefix) text
 begins prefix text same = sym (take-append-drop (length prefix) text) ∙ ap (λ (l : List ℕ). l ++ drop (length prefix) text) ((bytes_eq-Decides (take (length prefix) text) prefix).0 same)
 
--- the header of a drive trace
-trace-header_run : (rest : List ℕ) → next_record default_config st.StartRecord [] [] (codes "pedal,speed,raise\n" ++ rest) ≡ Some (trace_header, st.StartRecord, rest)
-unfolding next_record trace_header
-trace-header_run rest = refl
-
-trace-bom : (rest : List ℕ) → strip_bom (codes "pedal,speed,raise\n" ++ rest) ≡ codes "pedal,speed,raise\n" ++ rest
-unfolding strip_bom
-trace-bom rest = refl
-
-pub trace-header_records : (rest : List ℕ) → BeginsWithHeader trace_header (codes "pedal,speed,raise\n" ++ rest) rest
+-- a file that begins with the bytes of one of the headers
+header-begins : (headers : List Record) (header : Record) (prefix rest : List ℕ) → is_header headers header ≡ true
+    → next_record default_config st.StartRecord [] [] (prefix ++ rest) ≡ Some (header, st.StartRecord, rest) → strip_bom (prefix ++ rest) ≡ prefix ++ rest
+    → BeginsWithHeader headers (prefix ++ rest) (length header) rest
 unfolding records_of
-trace-header_records rest = rw (trace-bom rest) (records_after-some st.StartRecord (codes "pedal,speed,raise\n" ++ rest) (trace_header, st.StartRecord, rest) refl (trace-header_run rest))
+header-begins headers header prefix rest known run bom = record {
+  header = header;
+  known = known;
+  long = refl;
+  parts = rw bom (records_after-some st.StartRecord (prefix ++ rest) (header, st.StartRecord, rest) refl run);
+}
+
+-- the headers of a drive trace
+pub trace-begins : (rest : List ℕ) → BeginsWithHeader trace_headers (codes "pedal,speed,raise\n" ++ rest) 3 rest
+unfolding next_record strip_bom is_header is_same_record trace_headers
+trace-begins rest = header-begins trace_headers (codes "pedal" ∷ codes "speed" ∷ codes "raise" ∷ []) (codes "pedal,speed,raise\n") rest refl refl refl
+
+pub reset-begins : (rest : List ℕ) → BeginsWithHeader trace_headers (codes "pedal,speed,raise,reset\n" ++ rest) 4 rest
+unfolding next_record strip_bom is_header is_same_record trace_headers
+reset-begins rest =
+    header-begins trace_headers (codes "pedal" ∷ codes "speed" ∷ codes "raise" ∷ codes "reset" ∷ []) (codes "pedal,speed,raise,reset\n") rest refl refl refl
 
 -- the header of a check file
-check-header_run : (rest : List ℕ) → next_record default_config st.StartRecord [] [] (codes "pedal,speed,raise,torque\n" ++ rest) ≡ Some (check_header, st.StartRecord, rest)
-unfolding next_record check_header
-check-header_run rest = refl
-
-check-bom : (rest : List ℕ) → strip_bom (codes "pedal,speed,raise,torque\n" ++ rest) ≡ codes "pedal,speed,raise,torque\n" ++ rest
-unfolding strip_bom
-check-bom rest = refl
-
-pub check-header_records : (rest : List ℕ) → BeginsWithHeader check_header (codes "pedal,speed,raise,torque\n" ++ rest) rest
-unfolding records_of
-check-header_records rest = rw (check-bom rest) (records_after-some st.StartRecord (codes "pedal,speed,raise,torque\n" ++ rest) (check_header, st.StartRecord, rest) refl (check-header_run rest))
+pub check-begins : (rest : List ℕ) → BeginsWithHeader (check_header ∷ []) (codes "pedal,speed,raise,torque\n" ++ rest) 4 rest
+unfolding next_record strip_bom is_header is_same_record check_header
+check-begins rest = header-begins (check_header ∷ []) check_header (codes "pedal,speed,raise,torque\n") rest refl refl refl
 
 -- what stands behind a prefix that is taken off
 abbrev HasPrefix : List ℕ → List ℕ → Bor (List ℕ) → Type 0
 HasPrefix prefix text rest = (pointwise nat_eq (take (length prefix) text) prefix ≡ true) × (rest.now ≡ drop (length prefix) text) × (length rest.now + length prefix ≡ length text)
 
--- a file that begins with the header's bytes
-pub below-prefix : (header : Record) (prefix text : List ℕ) → ((rest : List ℕ) → BeginsWithHeader header (prefix ++ rest) rest)
-    → (found : Option (Bor (List ℕ))) → MatchOption found (pointwise nat_eq (take (length prefix) text) prefix ≡ false) (HasPrefix prefix text)
-    → IfSome found (λ rest. BeginsWithHeader header text rest.now)
-below-prefix header prefix text reads None h = tt
-below-prefix header prefix text reads (Some rest) h =
-    let P : List ℕ → Type 0 = λ t. BeginsWithHeader header t (drop (length prefix) text) in
+-- a file that begins with a header's bytes
+pub below-prefix : (headers : List Record) (width : ℕ) (prefix text : List ℕ) → ((rest : List ℕ) → BeginsWithHeader headers (prefix ++ rest) width rest)
+    → (rest : Bor (List ℕ)) → HasPrefix prefix text rest → BeginsWithHeader headers text width rest.now
+below-prefix headers width prefix text reads rest h =
+    let P : List ℕ → Type 0 = λ t. BeginsWithHeader headers t width (drop (length prefix) text) in
     rw h.1 (subst P (sym (begins prefix text h.0)) (reads (drop (length prefix) text)))
 
 -- behind the last line there is no record
@@ -184,9 +222,7 @@ unfolding next_record
 no-records = records_after-none st.StartRecord [] refl
 
 -- below the header stand the records of the rest
-pub below-header : {X : Type 0} (header : Record) (row_of : RowRule X) (text rest : List ℕ) (read : Result (Vec X Global) TraceFault) → BeginsWithHeader header text rest
-    → IsRead (rows_below 20000 row_of (records_below rest)) read → IsRead (rows_of header row_of (records_of text)) read
+pub below-header : {X : Type 0} (headers : List Record) (row_of : ℕ → RowRule X) (text : List ℕ) (width : ℕ) (rest : List ℕ) (read : Result (Vec X Global) TraceFault)
+    → BeginsWithHeader headers text width rest → IsRead (rows_below 20000 (row_of width) (records_below rest)) read → IsRead (rows_of headers row_of (records_of text)) read
 unfolding rows_of
-below-header header row_of text rest read b h =
-    let same : is_same_record header header ≡ true = (is_same_record-Decides header header).1 refl in
-    rw (b, same) h
+below-header headers row_of text width rest read b h = rw (b.parts, b.known, b.long) h

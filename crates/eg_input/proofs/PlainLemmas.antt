@@ -26,7 +26,7 @@ pub number-ends : (most ending : ℕ) (text : List ℕ) (i d : ℕ) → 0 < i �
     → BeginsWithNumber most ending text (decimal_value (take i text)) (drop (i + 1) text)
 unfolding number_of
 number-ends most ending text i d some few room digits small here = record {
-  digits = take i text;
+  field = take i text;
   parts = sym (take-append-drop i text) ∙ ap (λ (l : List ℕ). take i text ++ l) (drop-at text i d room ∙ rw here refl);
   written =
       let long : length (take i text) ≡ i = omega (arith, length-take i text) in

@@ -1,5 +1,5 @@
 -- The file that a check of torques reads: drive rows, each with a torque.
-use Rattle.std.specs.Prelude.{ℕ, ◌==◌, ◌≤◌, List, [], ◌∷◌, length, codes, Option, None, if◌then◌else◌, Result}
+use Rattle.std.specs.Prelude.{ℕ, ◌==◌, ◌≤◌, List, [], ◌∷◌, length, codes, false, Option, Some, None, if◌then◌else◌, Result}
 use Rattle.std.specs.Option.{option_zip}
 use Rattle.eg_num.specs.Drive.{DriveRow, IsDrive}
 use Rattle.eg_input.specs.Records.{Record}
@@ -23,8 +23,8 @@ check_header = codes "pedal" ∷ codes "speed" ∷ codes "raise" ∷ codes "torq
 -- the row that a record of a check file writes: a drive row, and the torque in the fourth field
 unfoldable pub check_row_of : Record → Option CheckRow
 check_row_of fields =
-    if length fields == 4 then option_zip (drive_at fields) (number_at fields 3 65535) else None
+    if length fields == 4 then option_zip (drive_at fields (Some false)) (number_at fields 3 65535) else None
 
 -- the rows of a check file, or its fault
 abbrev pub check_rows : List Record → Result (List CheckRow) TraceFault
-check_rows = rows_of check_header check_row_of
+check_rows = rows_of (check_header ∷ []) (λ _. check_row_of)

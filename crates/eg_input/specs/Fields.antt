@@ -1,8 +1,9 @@
 -- Decimal numbers, and those in the fields of a record.
-use Rattle.std.specs.Prelude.{ℕ, ◌+◌, ◌*◌, ◌-◌, ◌&&◌, Bool, List, length, fold, Option, Some, None, option_and_then, if◌then◌else◌, nat_le}
-use Rattle.std.specs.Str.{byte}
+use Rattle.std.specs.Prelude.{ℕ, ◌+◌, ◌*◌, ◌-◌, ◌&&◌, Bool, true, false, List, length, codes, fold, Option, Some, None, option_and_then, if◌then◌else◌, nat_le}
+use Rattle.std.specs.Str.{byte, bytes_eq}
 use Rattle.std.specs.Char.{is_ascii_digit}
 use Rattle.std.specs.List.{list_all}
+use Rattle.std.specs.Option.{option_map_or}
 use Rattle.csv.specs.Records.{field_at}
 use Rattle.eg_input.specs.Records.{Record}
 
@@ -30,3 +31,14 @@ number_of most field =
 -- the number in the field at a place, the first being 0
 unfoldable pub number_at : Record → ℕ → ℕ → Option ℕ
 number_at fields i most = option_and_then (number_of most) (field_at fields i)
+
+-- the truth value that a field writes, 0 or 1
+unfoldable pub truth_of : List ℕ → Option Bool
+truth_of field =
+    if bytes_eq field (codes "0") then Some false
+    else if bytes_eq field (codes "1") then Some true
+    else None
+
+-- the truth value in the field at a place, the first being 0; false where the record has no such field
+unfoldable pub truth_at : Record → ℕ → Option Bool
+truth_at fields i = option_map_or truth_of (field_at fields i) (Some false)

@@ -1,9 +1,9 @@
 -- A file of rows: a header, and below it 1 to 20,000 records that each write a row.
--- `rows_of` says what such a file is read as, whatever its header is and whatever a record writes.
+-- `rows_of` says what such a file is read as, whatever headers it may have and whatever a record writes.
 -- `IsFileOf`, `HasNoRowAt` and `IsTooLong` say in the file's words which are accepted, and which have which
 -- fault.
-use Rattle.std.specs.Prelude.{◌≡◌, ◌⊎◌, ℕ, ◌+◌, ◌<◌, ◌≤◌, List, [], ◌∷◌, ◌++◌, length, take, All, Option, Some, None, IsSome, is_none, if◌then◌else◌, nat_lt, Result, Ok, Err, filter_map}
-use Rattle.std.specs.List.{AllZip, position_from}
+use Rattle.std.specs.Prelude.{◌≡◌, ◌⊎◌, ℕ, ◌+◌, ◌<◌, ◌≤◌, List, [], ◌∷◌, ◌++◌, length, take, Bool, All, Option, Some, None, IsSome, is_none, if◌then◌else◌, nat_lt, Result, Ok, Err, filter_map}
+use Rattle.std.specs.List.{AllZip, list_any, position_from}
 use Rattle.std.specs.declared.vec.Vec.{Vec}
 use Rattle.std.specs.declared.alloc.Global.{Global}
 use Rattle.eg_input.specs.Records.{Record, RowRule, is_same_record}
@@ -24,11 +24,17 @@ unfoldable pub rows_below : {X : Type 0} → ℕ → RowRule X → List Record �
 rows_below most row_of below =
     rows_unless most row_of below (position_from (λ r. is_none (row_of r)) 2 (take most below))
 
--- what a file with this header gives
-unfoldable pub rows_of : {X : Type 0} → Record → RowRule X → List Record → Result (List X) TraceFault
-rows_of header row_of [] = Err fault.Header
-rows_of header row_of (first ∷ below) =
-    if is_same_record first header then rows_below 20000 row_of below else Err fault.Header
+-- whether a record is one of these headers
+unfoldable pub is_header : List Record → Record → Bool
+is_header headers r = list_any (is_same_record r) headers
+
+-- what a file gives that may begin with any of these headers: the header's number of fields tells how the
+-- records below it are read
+unfoldable pub rows_of : {X : Type 0} → List Record → (ℕ → RowRule X) → List Record →
+    Result (List X) TraceFault
+rows_of headers row_of [] = Err fault.Header
+rows_of headers row_of (first ∷ below) =
+    if is_header headers first then rows_below 20000 (row_of (length first)) below else Err fault.Header
 
 -- what was read is what the file gives, unless memory ran out
 abbrev pub IsRead : {X : Type 0} → Result (List X) TraceFault → Result (Vec X Global) TraceFault → Type 0

@@ -2,7 +2,7 @@
 ghost use Rattle.std.specs.Prelude.{◌≡◌, map};
 ghost use Rattle.csv.specs.Records.{fields_of};
 ghost use Rattle.eg_input.specs.Records.{is_same_record};
-ghost use Rattle.eg_input.specs.Fields.{number_at, number_of};
+ghost use Rattle.eg_input.specs.Fields.{number_at, number_of, truth_at, truth_of};
 
 use crate::decimal_in;
 use csv::ByteRecord;
@@ -26,6 +26,29 @@ pub(crate) fn number_at(entry: &ByteRecord, i: usize, most: u16) -> Option<u16>
     ensures { result ≡ number_at (fields_of entry.now) i most }
 {
     number(entry.get(i)?, most)
+}
+
+/// The truth value that a field writes.
+#[tactic(auto, unfolding(crate::specs::Fields::truth_of))]
+fn truth(field: &[u8]) -> Option<bool>
+    ensures { result ≡ truth_of field.now }
+{
+    match field {
+        b"0" => Some(false),
+        b"1" => Some(true),
+        _ => None,
+    }
+}
+
+/// The truth value in the field at a place, or false where the record has no such field.
+#[tactic(auto, unfolding(crate::specs::Fields::truth_at))]
+pub(crate) fn truth_at(entry: &ByteRecord, i: usize) -> Option<bool>
+    ensures { result ≡ truth_at (fields_of entry.now) i }
+{
+    match entry.get(i) {
+        Some(field) => truth(field),
+        None => Some(false),
+    }
 }
 
 /// Whether a record has exactly these fields.

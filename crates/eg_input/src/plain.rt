@@ -2,12 +2,11 @@
 ghost use Rattle.std.specs.Prelude.{IfSome};
 ghost use Rattle.eg_input.specs.Records.{records_of};
 ghost use Rattle.eg_input.specs.Rows.{IsRead, rows_below, rows_of};
-ghost use Rattle.eg_input.specs.Plain.{BeginsWithNumber, BeginsWithDrive, records_below};
+ghost use Rattle.eg_input.specs.Plain.{BeginsWithDrive, BeginsWithNumber, BeginsWithTruth, records_below};
 
 use crate::TraceFault;
 use crate::reader::{MOST_ROWS, unless_empty};
 use crate::row::FileRow;
-use eg_num::Drive;
 use std::alloc::Global;
 
 /// The rows of a plain file. None may come for any file, and comes where one is not plain all through.
@@ -15,16 +14,21 @@ pub(crate) fn read_plain<R: FileRow>(
     alloc: Global,
     bytes: &[u8],
 ) -> Option<Result<Vec<R>, TraceFault>>
-    ensures { IfSome result (λ read. IsRead (rows_of R.header R.row_of (records_of bytes.now)) read) }
+    ensures { IfSome result (λ read. IsRead (rows_of R.headers R.row_of (records_of bytes.now)) read) }
 {
-    let below = R::below_header(bytes)?;
-    read_lines(alloc, below)
+    let (width, below) = R::below_header(bytes)?;
+    read_lines(alloc, width, below)
 }
 
-/// The rows of the lines below the header. None may come for any, and comes where a line isn't plain and
-/// where there are too many.
-fn read_lines<R: FileRow>(alloc: Global, bytes: &[u8]) -> Option<Result<Vec<R>, TraceFault>>
-    ensures { IfSome result (λ read. IsRead (rows_below 20000 R.row_of (records_below bytes.now)) read) }
+/// The rows of the lines below a header of so many fields. None may come for any, and comes where a line
+/// isn't plain and where there are too many.
+fn read_lines<R: FileRow>(
+    alloc: Global,
+    width: usize,
+    bytes: &[u8],
+) -> Option<Result<Vec<R>, TraceFault>>
+    ensures { IfSome result (λ read.
+        IsRead (rows_below 20000 (R.row_of width) (records_below bytes.now)) read) }
 {
     let mut rows = Vec::new(alloc);
     let mut rest = bytes;
@@ -32,7 +36,7 @@ fn read_lines<R: FileRow>(alloc: Global, bytes: &[u8]) -> Option<Result<Vec<R>, 
         if rest.is_empty() {
             return Some(unless_empty(rows));
         }
-        let Some((row, after)) = R::from_line(rest) else {
+        let Some((row, after)) = R::from_line(rest, width) else {
             return None;
         };
         if rows.push(row).is_err() {
@@ -46,15 +50,27 @@ fn read_lines<R: FileRow>(alloc: Global, bytes: &[u8]) -> Option<Result<Vec<R>, 
     Some(unless_empty(rows))
 }
 
-/// The drive row of the three numbers at the front, and what comes behind the byte that ends them. None may
+/// The numbers pedal, speed and raise at the front, and what comes behind the byte that ends them. None may
 /// come for any bytes.
-pub(crate) fn drive(bytes: &[u8], ending: u8) -> Option<(Drive, &[u8])>
+pub(crate) fn drive_numbers(bytes: &[u8], ending: u8) -> Option<((u16, u16, u16), &[u8])>
     ensures { IfSome result (λ found. BeginsWithDrive ending bytes.now found.0 found.1.now) }
 {
     let (pedal, rest) = number(bytes, 1000, b',')?;
     let (speed, rest) = number(rest, 8000, b',')?;
     let (raise, rest) = number(rest, 10_000, ending)?;
-    Some((Drive::new(pedal, speed, raise, false, false)?, rest))
+    Some(((pedal, speed, raise), rest))
+}
+
+/// The truth value at the front, and what comes behind the byte that ends it. None may come for any bytes.
+#[tactic(auto, unfolding(crate::specs::Fields::truth_of))]
+pub(crate) fn truth(bytes: &[u8], ending: u8) -> Option<(bool, &[u8])>
+    ensures { IfSome result (λ found. BeginsWithTruth ending bytes.now found.0 found.1.now) }
+{
+    let digit = *bytes.get(0)?;
+    if (digit != b'0' && digit != b'1') || *bytes.get(1)? != ending {
+        return None;
+    }
+    Some((digit == b'1', &bytes[2..]))
 }
 
 /// The number that one to five digits at the front write, and what comes behind the byte that ends them. None

@@ -18,7 +18,7 @@ pub(crate) const MOST_ROWS: u32 = 20_000;
 
 /// The rows of a file. Plain files, the usual ones, are read without csv.
 pub(crate) fn read_rows<R: FileRow>(alloc: Global, bytes: &[u8]) -> Result<Vec<R>, TraceFault>
-    ensures { IsRead (rows_of R.header R.row_of (records_of bytes.now)) result }
+    ensures { IsRead (rows_of R.headers R.row_of (records_of bytes.now)) result }
 {
     match read_plain(alloc, bytes) {
         Some(read) => read,
@@ -28,7 +28,7 @@ pub(crate) fn read_rows<R: FileRow>(alloc: Global, bytes: &[u8]) -> Result<Vec<R
 
 /// The rows of any file.
 fn read_records<R: FileRow>(alloc: Global, bytes: &[u8]) -> Result<Vec<R>, TraceFault>
-    ensures { IsRead (rows_of R.header R.row_of (records_of bytes.now)) result }
+    ensures { IsRead (rows_of R.headers R.row_of (records_of bytes.now)) result }
 {
     let mut reader = reader_of(alloc, bytes);
     let mut entry = ByteRecord::new(alloc);
@@ -65,7 +65,7 @@ fn read_file<R: FileRow>(
     entry: &mut ByteRecord,
 ) -> Result<Vec<R>, TraceFault>
     ensures { (left : List Record) → HasUnread reader.old left →
-        IsRead (rows_of R.header R.row_of left) result }
+        IsRead (rows_of R.headers R.row_of left) result }
 {
     if !next_record(reader, entry)? {
         return Err(TraceFault::Header);
@@ -73,24 +73,25 @@ fn read_file<R: FileRow>(
     if !R::is_header(entry) {
         return Err(TraceFault::Header);
     }
-    read_below(alloc, reader, entry)
+    read_below(alloc, entry.len(), reader, entry)
 }
 
-/// The rows below the header, which was read already.
+/// The rows below the header of so many fields, which was read already.
 fn read_below<R: FileRow>(
     alloc: Global,
+    width: usize,
     reader: &mut Reader<&[u8]>,
     entry: &mut ByteRecord,
 ) -> Result<Vec<R>, TraceFault>
     ensures { (left : List Record) → HasUnread reader.old left →
-        IsRead (rows_below 20000 R.row_of left) result }
+        IsRead (rows_below 20000 (R.row_of width) left) result }
 {
     let mut rows = Vec::new(alloc);
     for count in 0..MOST_ROWS {
         if !next_record(reader, entry)? {
             return unless_empty(rows);
         }
-        let Some(row) = R::from_record(entry) else {
+        let Some(row) = R::from_record(entry, width) else {
             return Err(TraceFault::Row { line: count + 2 });
         };
         rows.push(row).map_err(|_| TraceFault::Memory)?;

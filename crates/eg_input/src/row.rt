@@ -1,111 +1,146 @@
 // The rows that the records of a file write.
-ghost use Rattle.std.specs.Prelude.{◌≡◌, Option, IfSome, if◌then◌else◌};
+ghost use Rattle.std.specs.Prelude.{◌≡◌, ◌∷◌, [], ℕ, List, Some, IfSome, if◌then◌else◌};
 ghost use Rattle.csv.specs.Records.{fields_of};
 ghost use Rattle.eg_num.specs.Drive.{DriveRow};
-ghost use Rattle.eg_input.specs.Records.{Record, is_same_record};
-ghost use Rattle.eg_input.specs.DriveTrace.{drive_at, drive_of, trace_header};
+ghost use Rattle.eg_input.specs.Records.{Record, RowRule};
+ghost use Rattle.eg_input.specs.Rows.{is_header};
+ghost use Rattle.eg_input.specs.DriveTrace.{drive_at, drive_of, trace_headers};
 ghost use Rattle.eg_input.specs.CheckFile.{check_header, check_row_of};
 ghost use Rattle.eg_input.specs.Plain.{BeginsWithHeader, BeginsWithRow};
 
-use crate::field::{has_fields, number_at};
-use crate::plain::{drive, number};
+use crate::field::{has_fields, number_at, truth_at};
+use crate::plain::{drive_numbers, number, truth};
 use csv::ByteRecord;
 use eg_num::Drive;
 
 /// A row of a file, written by one record.
 pub(crate) trait FileRow: Drop {
-    /// The header of such a file.
-    ghost header: { Record };
+    /// The headers that such a file may have.
+    ghost headers: { List Record };
 
-    /// The row that a record writes.
-    ghost row_of: { Record → Option Self };
+    /// The row that a record writes below a header of so many fields.
+    ghost row_of: { ℕ → RowRule Self };
 
-    /// Whether a record is the header.
+    /// Whether a record is one of the headers.
     fn is_header(entry: &ByteRecord) -> bool
-        ensures { result ≡ is_same_record (fields_of entry.now) header };
+        ensures { result ≡ is_header headers (fields_of entry.now) };
 
-    /// The row that a record writes, or None where it writes none.
-    fn from_record(entry: &ByteRecord) -> Option<Self>
-        ensures { result ≡ row_of (fields_of entry.now) };
+    /// The row that a record writes below a header of so many fields, or None where it writes none.
+    fn from_record(entry: &ByteRecord, width: usize) -> Option<Self>
+        ensures { result ≡ row_of width (fields_of entry.now) };
 
-    /// What comes behind the line of the header, where the bytes begin with that.
-    fn below_header(bytes: &[u8]) -> Option<&[u8]>
-        ensures { IfSome result (λ rest. BeginsWithHeader header bytes.now rest.now) };
+    /// How many fields the header has, and what comes behind its line, where the bytes begin with one.
+    fn below_header(bytes: &[u8]) -> Option<(usize, &[u8])>
+        ensures { IfSome result (λ found. BeginsWithHeader headers bytes.now found.0 found.1.now) };
 
-    /// The row of the line at the front, and what comes behind it, where that is a line of plain numbers.
-    fn from_line(bytes: &[u8]) -> Option<(Self, &[u8])>
-        ensures { IfSome result (λ found. BeginsWithRow row_of bytes.now found.0 found.1.now) };
+    /// The row of the line at the front, and what comes behind it, where that is a line of plain numbers
+    /// below a header of so many fields.
+    fn from_line(bytes: &[u8], width: usize) -> Option<(Self, &[u8])>
+        ensures { IfSome result (λ found. BeginsWithRow (row_of width) bytes.now found.0 found.1.now) };
 }
+
+/// How many fields the headers of a drive trace have.
+const WITHOUT_RESET: usize = 3;
+
+const WITH_RESET: usize = 4;
 
 /// The row of a drive trace.
 impl FileRow for Drive {
-    ghost header = { trace_header };
+    ghost headers = { trace_headers };
 
     ghost row_of = { drive_of };
 
-    #[tactic(auto, unfolding(crate::specs::DriveTrace::trace_header))]
+    #[tactic(auto, unfolding(crate::specs::Rows::is_header, crate::specs::DriveTrace::trace_headers))]
     fn is_header(entry: &ByteRecord) -> bool {
         has_fields(entry, &[b"pedal", b"speed", b"raise"])
+            || has_fields(entry, &[b"pedal", b"speed", b"raise", b"reset"])
     }
 
     #[tactic(auto, unfolding(crate::specs::DriveTrace::drive_of))]
-    fn from_record(entry: &ByteRecord) -> Option<Drive> {
-        if entry.len() == 3 {
-            drive_at(entry)
+    fn from_record(entry: &ByteRecord, width: usize) -> Option<Drive> {
+        if entry.len() == width {
+            drive_at(entry, truth_at(entry, 3))
         } else {
             None
         }
     }
 
-    fn below_header(bytes: &[u8]) -> Option<&[u8]> {
-        bytes.strip_prefix(b"pedal,speed,raise\n")
+    fn below_header(bytes: &[u8]) -> Option<(usize, &[u8])> {
+        if let Some(below) = bytes.strip_prefix(b"pedal,speed,raise\n") {
+            return Some((WITHOUT_RESET, below));
+        }
+        let below = bytes.strip_prefix(b"pedal,speed,raise,reset\n")?;
+        Some((WITH_RESET, below))
     }
 
-    fn from_line(bytes: &[u8]) -> Option<(Drive, &[u8])> {
-        drive(bytes, b'\n')
+    fn from_line(bytes: &[u8], width: usize) -> Option<(Drive, &[u8])> {
+        match width {
+            WITHOUT_RESET => line(bytes),
+            WITH_RESET => line_with_reset(bytes),
+            _ => None,
+        }
     }
+}
+
+/// The drive row of the line at the front, below the header without `reset`, and what comes behind it.
+fn line(bytes: &[u8]) -> Option<(Drive, &[u8])>
+    ensures { IfSome result (λ found. BeginsWithRow (drive_of 3) bytes.now found.0 found.1.now) }
+{
+    let ((pedal, speed, raise), rest) = drive_numbers(bytes, b'\n')?;
+    Some((Drive::new(pedal, speed, raise, false, false)?, rest))
+}
+
+/// The drive row of the line at the front, below the header with `reset`, and what comes behind it.
+fn line_with_reset(bytes: &[u8]) -> Option<(Drive, &[u8])>
+    ensures { IfSome result (λ found. BeginsWithRow (drive_of 4) bytes.now found.0 found.1.now) }
+{
+    let ((pedal, speed, raise), rest) = drive_numbers(bytes, b',')?;
+    let (reset, rest) = truth(rest, b'\n')?;
+    Some((Drive::new(pedal, speed, raise, reset, false)?, rest))
 }
 
 /// The row of a check file: a drive row, and the torque that was measured.
 impl FileRow for (Drive, u16) {
-    ghost header = { check_header };
+    ghost headers = { check_header ∷ [] };
 
-    ghost row_of = { check_row_of };
+    ghost row_of = { λ _. check_row_of };
 
-    #[tactic(auto, unfolding(crate::specs::CheckFile::check_header))]
+    #[tactic(auto, unfolding(crate::specs::Rows::is_header, crate::specs::CheckFile::check_header))]
     fn is_header(entry: &ByteRecord) -> bool {
         has_fields(entry, &[b"pedal", b"speed", b"raise", b"torque"])
     }
 
     #[tactic(auto, unfolding(crate::specs::CheckFile::check_row_of))]
-    fn from_record(entry: &ByteRecord) -> Option<(Drive, u16)> {
+    fn from_record(entry: &ByteRecord, _width: usize) -> Option<(Drive, u16)> {
         if entry.len() == 4 {
-            Some((drive_at(entry)?, number_at(entry, 3, 65_535)?))
+            Some((drive_at(entry, Some(false))?, number_at(entry, 3, 65_535)?))
         } else {
             None
         }
     }
 
-    fn below_header(bytes: &[u8]) -> Option<&[u8]> {
-        bytes.strip_prefix(b"pedal,speed,raise,torque\n")
+    fn below_header(bytes: &[u8]) -> Option<(usize, &[u8])> {
+        let below = bytes.strip_prefix(b"pedal,speed,raise,torque\n")?;
+        Some((4, below))
     }
 
-    fn from_line(bytes: &[u8]) -> Option<((Drive, u16), &[u8])> {
-        let Some((drive, rest)) = drive(bytes, b',') else {
-            return None;
-        };
+    fn from_line(bytes: &[u8], _width: usize) -> Option<((Drive, u16), &[u8])> {
+        let ((pedal, speed, raise), rest) = drive_numbers(bytes, b',')?;
         let (torque, rest) = number(rest, 65_535, b'\n')?;
-        Some(((drive, torque), rest))
+        Some((
+            (Drive::new(pedal, speed, raise, false, false)?, torque),
+            rest,
+        ))
     }
 }
 
-/// The drive row that the first three fields write.
+/// The drive row of the numbers that the first three fields write, and of this reset.
 #[tactic(auto, unfolding(crate::specs::DriveTrace::drive_at, crate::specs::DriveTrace::drive_from))]
-fn drive_at(entry: &ByteRecord) -> Option<Drive>
-    ensures { result ≡ drive_at (fields_of entry.now) }
+fn drive_at(entry: &ByteRecord, reset: Option<bool>) -> Option<Drive>
+    ensures { result ≡ drive_at (fields_of entry.now) reset }
 {
     let pedal = number_at(entry, 0, 1000)?;
     let speed = number_at(entry, 1, 8000)?;
     let raise = number_at(entry, 2, 10_000)?;
-    Drive::new(pedal, speed, raise, false, false)
+    Drive::new(pedal, speed, raise, reset?, false)
 }

@@ -1,10 +1,10 @@
 // The files that the simulator reads: check files and drive traces.
-ghost use Rattle.std.specs.Prelude.{◌≡◌, ◌≢◌, ◌↔◌, ℕ, ◌≤◌, ◌∷◌, [], List, All, IfOk, Ok, Err, Some, slice_get, length};
+ghost use Rattle.std.specs.Prelude.{◌≡◌, ◌≢◌, ◌↔◌, ℕ, ◌≤◌, ◌∷◌, [], List, All, Any, IfOk, Ok, Err, Some, slice_get, length};
 ghost use Rattle.eg_num.specs.Drive.{DriveRow, IsDrive};
 ghost use Rattle.eg_input.specs.Records.{Record, records_of};
 ghost use Rattle.eg_input.specs.Rows.{IsRead, IsFileOf, HasNoRowAt, IsTooLong};
 ghost use Rattle.eg_input.specs.CheckFile.{CheckRow, IsCheckRow, check_header, check_row_of, check_rows};
-ghost use Rattle.eg_input.specs.DriveTrace.{trace_header, drive_of, drive_rows};
+ghost use Rattle.eg_input.specs.DriveTrace.{trace_headers, drive_of, drive_rows};
 ghost use Rattle.eg_input.specs.declared.fault.TraceFault.TheVariants as fault;
 
 use crate::TraceFault;
@@ -22,8 +22,9 @@ pub fn read_check(alloc: Global, bytes: &[u8]) -> Result<Vec<(Drive, u16)>, Trac
     read_rows(alloc, bytes)
 }
 
-/// The rows of a drive trace (docs/FORMATS.md, "Check files and traces"): the header `pedal,speed,raise`, and
-/// below it 1 to 20,000 records, each of which gives the drive row of one tick.
+/// The rows of a drive trace (docs/FORMATS.md, "Check files and traces"): one of the headers
+/// `pedal,speed,raise` and `pedal,speed,raise,reset`, and below it 1 to 20,000 records, each of which gives
+/// the drive row of one tick.
 pub fn read_trace(alloc: Global, bytes: &[u8]) -> Result<Vec<Drive>, TraceFault>
     ensures rows { IsRead (drive_rows (records_of bytes.now)) result }
     ensures limits { IfOk result (λ rows. All IsDrive rows.items) }
@@ -49,17 +50,18 @@ pub fn check_files_are_their_rows()
 {}
 
 /// What `drive_rows` says of a drive trace (docs/FORMATS.md, "Check files and traces"): it gives the rows
-/// exactly where the file is the header and the records that write them, and each fault exactly where the
-/// file has it.
+/// exactly where the file is one of the headers and the records that write them below that, and each fault
+/// exactly where the file has it.
 pub fn traces_are_their_rows()
-    ensures rows { (file : List Record) (rows : List DriveRow) →
-        (drive_rows file ≡ Ok rows) ↔ IsFileOf trace_header drive_of file rows }
-    ensures header { (file : List Record) →
-        (drive_rows file ≡ Err fault.Header) ↔ (slice_get file 0 ≢ Some trace_header) }
-    ensures row { (file : List Record) (place : ℕ) →
-        (drive_rows file ≡ Err (fault.Row place)) ↔ HasNoRowAt trace_header drive_of file place }
-    ensures empty { (file : List Record) → (drive_rows file ≡ Err fault.Empty) ↔ (file ≡ trace_header ∷ []) }
-    ensures long { (file : List Record) →
-        (drive_rows file ≡ Err fault.Long) ↔ IsTooLong trace_header drive_of file }
+    ensures rows { (file : List Record) (rows : List DriveRow) → (drive_rows file ≡ Ok rows) ↔
+        Any (λ header. IsFileOf header (drive_of (length header)) file rows) trace_headers }
+    ensures header { (file : List Record) → (drive_rows file ≡ Err fault.Header) ↔
+        All (λ header. slice_get file 0 ≢ Some header) trace_headers }
+    ensures row { (file : List Record) (place : ℕ) → (drive_rows file ≡ Err (fault.Row place)) ↔
+        Any (λ header. HasNoRowAt header (drive_of (length header)) file place) trace_headers }
+    ensures empty { (file : List Record) → (drive_rows file ≡ Err fault.Empty) ↔
+        Any (λ header. file ≡ header ∷ []) trace_headers }
+    ensures long { (file : List Record) → (drive_rows file ≡ Err fault.Long) ↔
+        Any (λ header. IsTooLong header (drive_of (length header)) file) trace_headers }
     ensures memory { (file : List Record) → drive_rows file ≢ Err fault.Memory }
 {}

@@ -4,4 +4,4 @@ use Rattle.eg_input.proofs.plain.read_lines.Given as goal
 
 -- each line before writes a row, and these are the rows
 abbrev pub invariant-loop-count : goal.invariant-loop-count
-invariant-loop-count g l = Seen g.R.FileRow.row_of (records_below l.bytes) (records_below l.rest) l.rows.items l.count
+invariant-loop-count g l = Seen (g.R.FileRow.row_of l.width) (records_below l.bytes) (records_below l.rest) l.rows.items l.count

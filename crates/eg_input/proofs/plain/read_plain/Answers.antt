@@ -5,5 +5,5 @@ use Rattle.eg_input.proofs.plain.read_plain.Goals as goal
 
 pub returns : goal.returns
 returns g c =
-    let b : BeginsWithHeader g.R.FileRow.header c.args.bytes.now c.in_ok-below.below.now = search rules in
+    let b : BeginsWithHeader g.R.FileRow.headers c.args.bytes.now c.in_ok-width.width c.in_ok-width.below.now = search rules in
     search (rules, below-header)

@@ -6,4 +6,4 @@ use Rattle.eg_input.proofs.reader.read_below.Given as goal
 
 abbrev pub invariant-loop-count : goal.invariant-loop-count
 invariant-loop-count g l =
-    (left : List Record) → HasUnread l.fn.reader left → (rest : List Record) × HasUnread l.reader rest × Seen g.R.FileRow.row_of left rest l.rows.items l.count
+    (left : List Record) → HasUnread l.fn.reader left → (rest : List Record) × HasUnread l.reader rest × Seen (g.R.FileRow.row_of l.fn.width) left rest l.rows.items l.count

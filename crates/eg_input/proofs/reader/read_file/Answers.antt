@@ -1,8 +1,7 @@
 use Rattle.std.proofs.Common.{◌≡◌, refl, inr, [], arith, true, false}
 use Rattle.std.proofs.lemmas.Grind.{common_steps}
 use Rattle.csv.specs.Records.{fields_of}
-use Rattle.eg_input.specs.Records.{is_same_record}
-use Rattle.eg_input.specs.Rows.{rows_of}
+use Rattle.eg_input.specs.Rows.{is_header, rows_of}
 use Rattle.eg_input.proofs.Seen.{was-none, was-some}
 use Rattle.eg_input.proofs.reader.read_file.Goals as goal
 
@@ -16,12 +15,12 @@ pub returns-then-not-is_header : goal.returns-then-not-is_header
 unfolding rows_of
 returns-then-not-is_header g c = λ left h.
     let more = was-some c.in_ok-next_record.field-0 _ _ (grind (arith, common_steps)) (c.in_ok-next_record.ensures.reads left h) in
-    let other : is_same_record (fields_of c.next_record.new.entry) g.R.FileRow.header ≡ false = grind (arith, common_steps) in
+    let other : is_header g.R.FileRow.headers (fields_of c.next_record.new.entry) ≡ false = grind (arith, common_steps) in
     inr (rw (more.1, other) refl)
 
 pub returns : goal.returns
 unfolding rows_of
 returns g c = λ left h.
     let more = was-some c.in_ok-next_record.field-0 _ _ (grind (arith, common_steps)) (c.in_ok-next_record.ensures.reads left h) in
-    let same : is_same_record (fields_of c.next_record.new.entry) g.R.FileRow.header ≡ true = grind (arith, common_steps) in
-    rw (more.1, same) (c.read_below.ensures more.0 more.2)
+    let same : is_header g.R.FileRow.headers (fields_of c.next_record.new.entry) ≡ true = grind (arith, common_steps) in
+    rw (more.1, same, ← c.len.ensures) (c.read_below.ensures more.0 more.2)
