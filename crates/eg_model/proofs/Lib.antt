@@ -10,6 +10,8 @@ pub mod ClassLemmas
 pub mod ReactionLaw
 pub mod PlainTick
 pub mod SharpCutLaw
+pub mod SpanLemmas
+pub mod StartUpLaws
 pub mod RecordTicks
 pub mod RecordLaws
 pub mod GasolineLaws

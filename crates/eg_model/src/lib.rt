@@ -9,6 +9,7 @@ mod lapses;
 mod reaction;
 mod records;
 mod sharp_cut;
+mod start_up;
 
 pub use examples::{alternating_slices, full_run, probing_run, raise_is_read};
 pub use faulty_runs::{
@@ -22,3 +23,4 @@ pub use records::{
     records_react,
 };
 pub use sharp_cut::cuts_sharply;
+pub use start_up::runs_without_reset_are_one_span;
