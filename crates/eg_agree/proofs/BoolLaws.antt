@@ -31,17 +31,20 @@ pub if-false : (runs test : Bool) → (if runs then test else false) ≡ (runs &
 if-false true test = refl
 if-false false test = refl
 
--- what has to run doesn't where it is stopped by the first, or by the second
-pub stopped : (runs trip flip : Bool) → trip ≡ true → (runs && not trip && not flip) ≡ false
-stopped true true flip e = refl
-stopped false true flip e = refl
-stopped runs false flip e = absurd (false≢true e)
+-- what has to run doesn't where it is stopped by a trip, or by a flip
+pub stopped : (driven runs trip flip : Bool) → trip ≡ true → (driven && (runs && not trip && not flip)) ≡ false
+stopped false runs trip flip e = refl
+stopped true true true flip e = refl
+stopped true false true flip e = refl
+stopped true runs false flip e = absurd (false≢true e)
 
-pub stopped_by_flip : (runs trip flip : Bool) → flip ≡ true → (runs && not trip && not flip) ≡ false
-stopped_by_flip true true true e = refl
-stopped_by_flip true false true e = refl
-stopped_by_flip false trip true e = refl
-stopped_by_flip runs trip false e = absurd (false≢true e)
+pub stopped_by_flip : (driven runs trip flip : Bool) → flip ≡ true →
+    (driven && (runs && not trip && not flip)) ≡ false
+stopped_by_flip false runs trip flip e = refl
+stopped_by_flip true true true true e = refl
+stopped_by_flip true true false true e = refl
+stopped_by_flip true false trip true e = refl
+stopped_by_flip true runs trip false e = absurd (false≢true e)
 
 pub is_set-bit : (b : Bool) → is_set (bit 1 b) ≡ b
 unfolding is_set
@@ -63,37 +66,47 @@ written-law false true false tw old before value told mask et eo ev =
     rw et (ap (λ n. bit_xor n mask) (ev refl refl))
 written-law false false trip tw old before value told mask et eo ev = eo
 
+-- whether module 6 feeds, by the word for the trip
+pub feeding-law : (feeding driven flip trip : Bool) (trip_word : ℕ) → feeding ≡ (driven && not (is_set trip_word)) →
+    trip_word ≡ bit 1 (flip || trip) → feeding ≡ (driven && not (flip || trip))
+feeding-law feeding driven flip trip word ef et = ef ∙ ap (λ b. driven && not b) (ap is_set et ∙ is_set-bit (flip || trip))
+
 -- a counter that module 6 feeds
-pub counted-law : (weights : WeightParts) (flip runs trip : Bool) (trip_word value kept : ℕ)
-    (bad told : Bool) → trip_word ≡ bit 1 (flip || trip) → value ≡ (if flip then 0 else kept)
+pub counted-law : (weights : WeightParts) (feeding driven flip runs trip : Bool) (value kept : ℕ)
+    (bad told : Bool) → feeding ≡ (driven && not (flip || trip)) → value ≡ (if flip then 0 else kept)
     → (flip ≡ false → bad ≡ told)
-    → (if runs then (if is_set trip_word then value else fed weights value bad) else value)
-    ≡ (if flip then 0 else if runs && not trip && not flip then fed weights kept told else kept)
-unfolding is_set
-counted-law weights true true trip tw value kept bad told et ev eb = rw (et, ev) refl
-counted-law weights true false trip tw value kept bad told et ev eb = ev
-counted-law weights false true true tw value kept bad told et ev eb = rw et ev
-counted-law weights false true false tw value kept bad told et ev eb = rw (et, ev, eb refl) refl
-counted-law weights false false trip tw value kept bad told et ev eb = ev
+    → (if runs then (if feeding then fed weights value bad else value) else value)
+    ≡ (if flip then 0 else if driven && (runs && not trip && not flip) then fed weights kept told else kept)
+counted-law weights feeding driven true true trip value kept bad told ef ev eb = rw ef (never driven)
+  where
+    never : (driven : Bool) → (if driven && false then fed weights value bad else value) ≡ 0
+    never true = ev
+    never false = ev
+counted-law weights feeding driven true false trip value kept bad told ef ev eb = ev
+counted-law weights feeding false false true trip value kept bad told ef ev eb = rw ef ev
+counted-law weights feeding true false true true value kept bad told ef ev eb = rw ef ev
+counted-law weights feeding true false true false value kept bad told ef ev eb = rw (ef, ev, eb refl) refl
+counted-law weights feeding false false false trip value kept bad told ef ev eb = ev
+counted-law weights feeding true false false trip value kept bad told ef ev eb = ev
 
 -- a watch that module 6 finds
-pub found-law : (weights : WeightParts) (flip runs trip mirror : Bool) (trip_word value : ℕ)
+pub found-law : (weights : WeightParts) (feeding driven flip runs trip mirror : Bool) (value : ℕ)
     (bits : List Bool) (bad told : Bool) → 1 ≤ weights.limit
-    → (mirror ≡ true → trip ≡ true) → trip_word ≡ bit 1 (flip || trip) →
+    → (mirror ≡ true → trip ≡ true) → feeding ≡ (driven && not (flip || trip)) →
     value ≡ (if flip then 0 else if mirror then 0 else counted weights bits) →
     (flip ≡ false → bad ≡ told)
-    → (runs && (not (is_set trip_word) &&
-    (nat_lt value weights.limit && fed weights value bad == weights.limit)))
-    ≡ ((runs && not trip && not flip) && is_first weights (told ∷ bits))
-unfolding is_set
-found-law weights true true true mirror tw value bits bad told positive em et ev eb = rw et refl
-found-law weights true true false mirror tw value bits bad told positive em et ev eb = rw et refl
-found-law weights flip false trip mirror tw value bits bad told positive em et ev eb = refl
-found-law weights false true true mirror tw value bits bad told positive em et ev eb = rw et refl
-found-law weights false true false true tw value bits bad told positive em et ev eb =
+    → (runs && (feeding && (nat_lt value weights.limit && fed weights value bad == weights.limit)))
+    ≡ ((driven && (runs && not trip && not flip)) && is_first weights (told ∷ bits))
+found-law weights feeding false flip true trip mirror value bits bad told positive em ef ev eb = rw ef refl
+found-law weights feeding false flip false trip mirror value bits bad told positive em ef ev eb = refl
+found-law weights feeding true true true true mirror value bits bad told positive em ef ev eb = rw ef refl
+found-law weights feeding true true true false mirror value bits bad told positive em ef ev eb = rw ef refl
+found-law weights feeding true flip false trip mirror value bits bad told positive em ef ev eb = refl
+found-law weights feeding true false true true mirror value bits bad told positive em ef ev eb = rw ef refl
+found-law weights feeding true false true false true value bits bad told positive em ef ev eb =
     absurd (false≢true (em refl))
-found-law weights false true false false tw value bits bad told positive em et ev eb =
-    rw (et, eb refl) (sym (StandsFor-first weights value told bits positive ev))
+found-law weights feeding true false true false false value bits bad told positive em ef ev eb =
+    rw (ef, eb refl) (sym (StandsFor-first weights value told bits positive ev))
 
 -- limited operation, of which module 6 finds the pedal
 pub limp-law : (flip runs mirror limited pedal told : Bool) (word : ℕ) →
@@ -145,16 +158,20 @@ trip-law flip false trip plate load speed turn plate' load' speed' turn' word ew
     go false ew = ew
 
 -- whether module 7 sends an answer
-pub sent-law : {T : Type 0} (runs sends tripped : Bool) (word : ℕ) (answer : T) → word ≡ bit 1 tripped
+pub sent-law : {T : Type 0} (runs sends driven due tripped : Bool) (word : ℕ) (answer : T) → word ≡ bit 1 tripped
+    → sends ≡ (driven && due)
     → is_some (if runs then (if sends && not (is_set word) then Some answer else None) else None)
-    ≡ (sends && runs && not tripped)
-sent-law runs sends tripped word answer ew = rw (ew, is_set-bit tripped) (go runs sends tripped)
+    ≡ (driven && (due && runs && not tripped))
+sent-law runs sends driven due tripped word answer ew es =
+    rw (ew, is_set-bit tripped, es) (go runs driven due tripped)
   where
-    go : (runs sends tripped : Bool) →
-        is_some (if runs then (if sends && not tripped then Some answer else None) else None)
-        ≡ (sends && runs && not tripped)
-    go true true true = refl
-    go true true false = refl
-    go true false tripped = refl
-    go false true tripped = refl
-    go false false tripped = refl
+    go : (runs driven due tripped : Bool) →
+        is_some (if runs then (if (driven && due) && not tripped then Some answer else None) else None)
+        ≡ (driven && (due && runs && not tripped))
+    go true true true true = refl
+    go true true true false = refl
+    go true true false tripped = refl
+    go true false due tripped = refl
+    go false true true tripped = refl
+    go false true false tripped = refl
+    go false false due tripped = refl

@@ -7,23 +7,23 @@ use Rattle.eg_num.specs.Windows.{WeightParts}
 use Rattle.eg_num.specs.Counting.{fed, counted}
 use Rattle.eg_num.proofs.CounterLemmas.{counted-nil, counted-cons, counted_within}
 use Rattle.eg_level2.specs.Words.{start}
-use Rattle.eg_model.specs.History.{Setting, Tick, Moment, Signals}
+use Rattle.eg_model.specs.History.{Setting, Tick, SpanKind, Moment, Signals}
 use Rattle.eg_model.specs.Signals.{tripped, is_limited, no_signals, last_signals}
 use Rattle.eg_model.specs.Detection.{fed_bits}
-use Rattle.eg_model.specs.Moments.{moments_of}
-use Rattle.eg_model.proofs.TickLemmas.{trip_from_mirror}
+use Rattle.eg_model.specs.Moments.{moments_in}
 use Rattle.eg_agree.specs.Standing.{signals_of, mirror_found, counter_after, limp_after, trip_after}
 use Rattle.eg_agree.specs.Ticking.{StartLaw, WithinLaw}
+use Rattle.eg_agree.proofs.MomentLemmas.{trips_from_mirror}
 
 -- a word that was found to differ tripped the unit
-pub mirror_trips : (s : Setting) (h : List Tick) → mirror_found (moments_of s h) ≡ true →
-    tripped (moments_of s h) ≡ true
-unfolding moments_of mirror_found tripped
-mirror_trips s [] found = found
-mirror_trips s (x ∷ h) found =
+pub mirror_trips : (kind : SpanKind) (s : Setting) (h : List Tick) → mirror_found (moments_in kind s h) ≡ true →
+    tripped (moments_in kind s h) ≡ true
+unfolding moments_in mirror_found tripped
+mirror_trips kind s [] found = found
+mirror_trips kind s (x ∷ h) found =
     elim (or_cases _ _ found) [
-      | inl now ↦ or_left _ _ (trip_from_mirror s x.effects x.entry (moments_of s h) now)
-      | inr before ↦ or_right _ _ (mirror_trips s h before)
+      | inl now ↦ or_left _ _ (trips_from_mirror kind s x.effects x.entry (moments_in kind s h) now)
+      | inr before ↦ or_right _ _ (mirror_trips kind s h before)
     ]
 
 -- a counter after one tick more, where nothing is fed once a word was found to differ

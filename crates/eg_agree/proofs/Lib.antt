@@ -1,4 +1,5 @@
 pub mod BoolLaws
+pub mod MomentLemmas
 pub mod HistoryLemmas
 pub mod ModuleLemmas
 pub mod SignalLemmas

@@ -3,18 +3,18 @@ use Rattle.std.proofs.Common.{◌≡◌, ℕ, refl}
 use Rattle.std.specs.Prelude.{if◌then◌else◌, is_some, length}
 use Rattle.eg_sensor.specs.declared.readings.Readings.{Readings}
 use Rattle.eg_answer.specs.declared.rules.TestRow.{TestRow}
-use Rattle.eg_fault.specs.Effects.{Effects, sends_at, asked_at}
+use Rattle.eg_fault.specs.Effects.{Effects, asked_at}
 use Rattle.eg_level2.specs.Words.{Words}
 use Rattle.eg_level2.specs.Inputs.{row_of}
 use Rattle.eg_level2.specs.Modules.{check_step, given_up, pedal_step, permitted_step, actual_step, excess_step, pairs_step, debounce_step, react_step, module_step}
 use Rattle.eg_flow.specs.Ticks.{inputs_for, after_module, after_modules}
-use Rattle.eg_model.specs.History.{Setting}
-use Rattle.eg_agree.specs.Doings.{doing_at}
+use Rattle.eg_model.specs.History.{Setting, SpanKind}
+use Rattle.eg_agree.specs.Doings.{phase_at, doing_at}
 
-module _ (s : Setting) (x : Effects) (reads : Readings) (l : ℕ) (w : Words) where
+module _ (kind : SpanKind) (s : Setting) (x : Effects) (reads : Readings) (l : ℕ) (w : Words) where
   -- the words after the first so many modules
   abbrev pub after : ℕ → Words
-  after j = after_modules (doing_at s x reads l) j w
+  after j = after_modules (doing_at kind s x reads l) j w
 
   -- the row of the question that is asked
   abbrev pub row : TestRow
@@ -50,10 +50,11 @@ module _ (s : Setting) (x : Effects) (reads : Readings) (l : ℕ) (w : Words) wh
   unfolding doing_at after_modules after_module inputs_for module_step
   after-pairs = refl
 
-  pub after-debounce : after 7 ≡ (if x.ran 6 then debounce_step s.cal.rules (after 6) else after 6)
+  pub after-debounce : after 7
+      ≡ (if x.ran 6 then debounce_step s.cal.rules (phase_at kind s.cal.times x l) (after 6) else after 6)
   unfolding doing_at after_modules after_module inputs_for module_step
   after-debounce = refl
 
-  pub after-react : after 8 ≡ (if x.ran 7 then react_step (sends_at x s.cal.times l) (after 7) else after 7)
+  pub after-react : after 8 ≡ (if x.ran 7 then react_step (phase_at kind s.cal.times x l) (after 7) else after 7)
   unfolding doing_at after_modules after_module inputs_for module_step
   after-react = refl

@@ -22,16 +22,17 @@ use Rattle.eg_flow.specs.Laws.{at_react}
 use Rattle.eg_flow.proofs.FlowSteps.{answer-is}
 use Rattle.eg_flow.proofs.SteadyLemmas.{steady_answers, gap_answers, all_told, out_told}
 use Rattle.eg_flow.proofs.RowLemmas.{fits_words}
-use Rattle.eg_model.specs.History.{Setting, Entry, Tick, Moment}
+use Rattle.eg_model.specs.History.{Setting, Entry, Tick, SpanKind, Moment}
 use Rattle.eg_model.specs.Signals.{tripped}
 use Rattle.eg_model.specs.Answers.{is_undisturbed, is_answer, whole_since_answer, is_sent, is_good}
-use Rattle.eg_model.specs.Moments.{moment, moments_of}
+use Rattle.eg_model.specs.Moments.{moment_in, moments_in}
 use Rattle.eg_model.specs.Premises.{Follows}
-use Rattle.eg_model.proofs.TickLemmas.{tripped-cons, moment-whole, moment-mirror, moment-trip}
+use Rattle.eg_model.proofs.TickLemmas.{tripped-cons}
 use Rattle.eg_agree.specs.Doings.{doing_at}
 use Rattle.eg_fault.specs.Faults.{IsNoneOrValid}
 use Rattle.eg_agree.specs.Replies.{doing_after, IsReady, FlowMarks, moment_after, number_expected, mark_of, is_flipped, RanTogether, ReactRan, has_just_answered, KeepsFlow}
 use Rattle.eg_fault.proofs.ClassLemmas.{at_most_one_is_disturbed}
+use Rattle.eg_agree.proofs.MomentLemmas.{sent_in, moment_in-whole, moment_in-mirror, moment_in-trip}
 use Rattle.eg_agree.proofs.ReplyShapes.{shape, LeavesOneOut}
 use Rattle.eg_agree.proofs.ReplySteps.{whole_same, undisturbed_same, sent_same, mark-is}
 
@@ -43,7 +44,7 @@ unfolding asked_in asked
 asked_in-below times count tick some None = mod-lt _ some
 asked_in-below times count tick some (Some question) = mod-lt _ some
 
-module _ (s : Setting) (accepted : IsAccepted s.cal) (x : Tick) (h : List Tick) where
+module _ (kind : SpanKind) (s : Setting) (accepted : IsAccepted s.cal) (x : Tick) (h : List Tick) where
   abbrev place : ℕ
   place = asked_at x.effects s.cal.times (length s.cal.questions) (length h)
 
@@ -52,17 +53,17 @@ module _ (s : Setting) (accepted : IsAccepted s.cal) (x : Tick) (h : List Tick) 
   place-below = asked_in-below s.cal.times (length s.cal.questions) (length h)
       (let two = accepted.together.two_questions in omega arith) x.effects.wild
 
-  pub row-is : row_asked (doing_after s x h) ≡ (question_at s.cal.questions place).row
+  pub row-is : row_asked (doing_after kind s x h) ≡ (question_at s.cal.questions place).row
   unfolding row_asked row_of doing_after doing_at
   row-is = ap (λ n. (question_at s.cal.questions n).row) (mod-eq_of_lt place-below)
 
-  pub row_fits : FitsWords s.cal.rules (row_asked (doing_after s x h))
+  pub row_fits : FitsWords s.cal.rules (row_asked (doing_after kind s x h))
   row_fits = subst (FitsWords s.cal.rules) (sym row-is)
       (fits_words s.cal.rules (question_at s.cal.questions place).row accepted.words.values
       (accepted.words.seeds place _ place-below))
 
   -- the number that is expected is that of the row that is asked
-  pub number-is : number_expected s x.effects (length h) ≡ expected_number (doing_after s x h)
+  pub number-is : number_expected s x.effects (length h) ≡ expected_number (doing_after kind s x h)
   unfolding number_expected expected_number expected_fold doing_after doing_at
   number-is = ap answer_number
       (accepted.together.answered place _ place-below ∙ ap (expected_of s.cal.rules) (sym row-is))
@@ -75,29 +76,28 @@ number_expected-usual s x tick e = rw e refl
 
 -- ---- no flip without a trip ----
 
-flip_trips : (s : Setting) (x : Effects) (e : Entry) (past : List Moment) →
-    (moment s x e past).trip ≡ false → is_some x.flip ≡ false
-flip_trips s x e past none = sym (moment-mirror s x e past)
-    ∙ (or_parts _ _ (or_parts _ _ (or_parts _ _ (or_parts _ _ (sym (moment-trip s x e past) ∙ none)).0).0).0).0
+flip_trips : (kind : SpanKind) (s : Setting) (x : Effects) (e : Entry) (past : List Moment) →
+    (moment_in kind s x e past).trip ≡ false → is_some x.flip ≡ false
+flip_trips kind s x e past none = sym (moment_in-mirror kind s x e past)
+    ∙ (or_parts _ _ (or_parts _ _ (or_parts _ _ (or_parts _ _ (sym (moment_in-trip kind s x e past) ∙ none)).0).0).0).0
 
-unflipped : (s : Setting) (h : List Tick) → tripped (moments_of s h) ≡ false → is_flipped h ≡ false
-unfolding moments_of is_flipped
-unflipped s [] none = refl
-unflipped s (x ∷ h) none =
-    let parts = or_parts _ _ (sym (tripped-cons (moment_after s x h) (moments_of s h)) ∙ none) in
-    or_from _ _ (flip_trips s x.effects x.entry (moments_of s h) parts.0) (unflipped s h parts.1)
+unflipped : (kind : SpanKind) (s : Setting) (h : List Tick) → tripped (moments_in kind s h) ≡ false → is_flipped h ≡ false
+unfolding moments_in is_flipped
+unflipped kind s [] none = refl
+unflipped kind s (x ∷ h) none =
+    let parts = or_parts _ _ (sym (tripped-cons (moment_after kind s x h) (moments_in kind s h)) ∙ none) in
+    or_from _ _ (flip_trips kind s x.effects x.entry (moments_in kind s h) parts.0) (unflipped kind s h parts.1)
 
-sent_untripped : (s : Setting) (x : Tick) (h : List Tick) →
-    is_sent s.cal.times x.effects (moment_after s x h).trip (moments_of s h) ≡ true →
-    tripped (moments_of s (x ∷ h)) ≡ false
-unfolding is_sent moments_of
-sent_untripped s x h sent = tripped-cons (moment_after s x h) (moments_of s h)
-    ∙ not-true _ (and_parts _ _ sent).1
+sent_untripped : (kind : SpanKind) (s : Setting) (x : Tick) (h : List Tick) →
+    sent_in kind s x.effects x.entry (moments_in kind s h) ≡ true → tripped (moments_in kind s (x ∷ h)) ≡ false
+unfolding is_sent moments_in
+sent_untripped kind s x h sent = tripped-cons (moment_after kind s x h) (moments_in kind s h)
+    ∙ not-true _ (and_parts _ _ (and_parts _ _ sent).1).1
 
-sent_react : (s : Setting) (x : Tick) (h : List Tick) →
-    is_sent s.cal.times x.effects (moment_after s x h).trip (moments_of s h) ≡ true → x.effects.ran 7 ≡ true
+sent_react : (kind : SpanKind) (s : Setting) (x : Tick) (h : List Tick) →
+    sent_in kind s x.effects x.entry (moments_in kind s h) ≡ true → x.effects.ran 7 ≡ true
 unfolding is_sent
-sent_react s x h sent = (and_parts _ _ (and_parts _ _ sent).0).1
+sent_react kind s x h sent = (and_parts _ _ (and_parts _ _ (and_parts _ _ sent).1).0).1
 
 -- ---- which ticks ran together ----
 
@@ -153,12 +153,13 @@ mark_law (Some n) false good number expected same is tells = absurd (let e : tru
 mark_law (Some n) true good number expected same is tells = ap (mark_of expected) (is refl)
     ∙ ap (λ b. if b then Good else Bad) (tells refl)
 
-module _ (s : Setting) (start : ℕ) (x : Tick) (h : List Tick) (w : Words) (g : IsReady s start x h w) where
+module _ (kind : SpanKind) (s : Setting) (start : ℕ) (x : Tick) (h : List Tick) (w : Words)
+    (g : IsReady kind s start x h w) where
   abbrev d : Doing
-  d = doing_after s x h
+  d = doing_after kind s x h
 
   abbrev past : List Moment
-  past = moments_of s h
+  past = moments_in kind s h
 
   -- the number that is sent, if one is, is the expected one exactly where the model calls the answer good
   abbrev Tells : Type 0
@@ -170,7 +171,7 @@ module _ (s : Setting) (start : ℕ) (x : Tick) (h : List Tick) (w : Words) (g :
       (at_most_one_is_disturbed s.fault g.fault (start + length h))
 
   expects : (n : ℕ) → (n == number_expected s x.effects (length h)) ≡ (n == expected_number d)
-  expects n = ap (λ k. n == k) (number-is s g.accepted x h)
+  expects n = ap (λ k. n == k) (number-is kind s g.accepted x h)
 
   -- where all modules ran together so far, and now
   tells_all : AllRun x.effects.ran → is_flipped (x ∷ h) ≡ false → RanTogether h → Tells
@@ -178,11 +179,11 @@ module _ (s : Setting) (start : ℕ) (x : Tick) (h : List Tick) (w : Words) (g :
   tells_all all unflipped together =
       let parts = or_parts _ _ unflipped in
       expects _
-      ∙ steady_answers d w (whole_since_answer past) parts.0 all (row_fits s g.accepted x h) few
+      ∙ steady_answers d w (whole_since_answer past) parts.0 all (row_fits kind s g.accepted x h) few
       (g.keeps.steady parts.1 together)
-      ∙ ap (λ b. whole_since_answer past && b) (undisturbed_same s x h)
+      ∙ ap (λ b. whole_since_answer past && b) (undisturbed_same kind s x h)
       ∙ ap (λ b. b && whole_since_answer past && is_undisturbed x.effects)
-      (sym (sym (whole_same s x h) ∙ all_told d all))
+      (sym (sym (whole_same kind s x h) ∙ all_told d all))
 
   -- where one before react is left out now
   tells_out : (one : ℕ) → one < 7 → OthersRun one x.effects.ran → is_flipped (x ∷ h) ≡ false → w.token ≡ 0 →
@@ -191,9 +192,9 @@ module _ (s : Setting) (start : ℕ) (x : Tick) (h : List Tick) (w : Words) (g :
   tells_out one below others unflipped z =
       let parts = or_parts _ _ unflipped in
       expects _
-      ∙ gap_answers d w one parts.0 others below (row_fits s g.accepted x h) z
+      ∙ gap_answers d w one parts.0 others below (row_fits kind s g.accepted x h) z
       ∙ ap (λ b. b && whole_since_answer past && is_undisturbed x.effects)
-      (sym (sym (whole_same s x h) ∙ out_told d one (omega arith) others))
+      (sym (sym (whole_same kind s x h) ∙ out_told d one (omega arith) others))
 
   seven : (one : ℕ) → one < 8 → (one < 7) ⊎ (one ≡ 7)
   seven one below = grind arith
@@ -222,18 +223,18 @@ module _ (s : Setting) (start : ℕ) (x : Tick) (h : List Tick) (w : Words) (g :
       after others (inr is7) =
           absurd (let e : true ≡ false = sym ran ∙ others 7 ∙ ap not (eq-eqb 7 out.one (sym is7)) in cc)
 
-  number-tells : is_sent s.cal.times x.effects (moment_after s x h).trip past ≡ true → Tells
+  number-tells : sent_in kind s x.effects x.entry past ≡ true → Tells
   number-tells sent =
-      by_shape (shape s.fault g.fault) (unflipped s (x ∷ h) (sent_untripped s x h sent))
-      (sent_react s x h sent)
+      by_shape (shape s.fault g.fault) (unflipped kind s (x ∷ h) (sent_untripped kind s x h sent))
+      (sent_react kind s x h sent)
 
   -- the mark of what is sent is the mark of the tick
-  pub marks : mark_of (number_expected s x.effects (length h)) (answer_at d w) ≡ (moment_after s x h).mark
+  pub marks : mark_of (number_expected s x.effects (length h)) (answer_at d w) ≡ (moment_after kind s x h).mark
   marks =
-      mark_law (answer_at d w) (is_sent s.cal.times x.effects (moment_after s x h).trip past)
+      mark_law (answer_at d w) (sent_in kind s x.effects x.entry past)
       (is_good x.effects past) (number_of (at_react d w)) (number_expected s x.effects (length h))
-      (sent_same s x h w g.trip) (answer-is d w) number-tells
-      ∙ sym (mark-is s x h)
+      (sent_same kind s x h w g.trip) (answer-is d w) number-tells
+      ∙ sym (mark-is kind s x h)
 
 -- ---- between answers ----
 
@@ -251,34 +252,34 @@ answered_now m past part e = cases (is_answer m.mark) m.whole part e
     cases true b p q = refl
     cases false b p q = absurd (let f : false ≡ true = sym (and_left b _ p) ∙ q in cc)
 
-module _ (s : Setting) (fault : IsNoneOrValid s.fault) (start : ℕ) (w : Words) where
+module _ (kind : SpanKind) (s : Setting) (fault : IsNoneOrValid s.fault) (start : ℕ) (w : Words) where
   -- the tick isn't whole
   part_of : (one : ℕ) (x : Tick) (h : List Tick) → one < 8 → OthersRun one x.effects.ran →
-      (moment_after s x h).whole ≡ false
+      (moment_after kind s x h).whole ≡ false
   unfolding doing_after doing_at
-  part_of one x h below others = moment-whole s x.effects x.entry (moments_of s h) ∙ sym (whole_same s x h)
-      ∙ out_told (doing_after s x h) one below others
+  part_of one x h below others = moment_in-whole kind s x.effects x.entry (moments_in kind s h) ∙ sym (whole_same kind s x h)
+      ∙ out_told (doing_after kind s x h) one below others
 
   -- where one module is left out
-  rest_out : (out : LeavesOneOut s.fault) (h : List Tick) → Follows s.fault start h → KeepsFlow s w h →
-      is_flipped h ≡ false → whole_since_answer (moments_of s h) ≡ true → (w.token ≡ 0) × (w.flow ≡ 255)
-  unfolding moments_of has_just_answered Follows
+  rest_out : (out : LeavesOneOut s.fault) (h : List Tick) → Follows s.fault start h → KeepsFlow kind s w h →
+      is_flipped h ≡ false → whole_since_answer (moments_in kind s h) ≡ true → (w.token ≡ 0) × (w.flow ≡ 255)
+  unfolding moments_in has_just_answered Follows
   rest_out out [] follows keeps unflipped whole =
       rest_of w 0 _ whole (keeps.steady unflipped (unfold RanTogether in tt))
   rest_out out (x ∷ h) follows keeps unflipped whole =
       elim (cases_lt (start + length h) out.onset) [
         | inl early ↦ rest_of w (length (x ∷ h)) _ whole
             (keeps.steady unflipped (early_together s out start (x ∷ h) follows (omega arith)))
-        | inr late ↦ keeps.anew (answered_now (moment_after s x h) (moments_of s h) (part late) whole)
+        | inr late ↦ keeps.anew (answered_now (moment_after kind s x h) (moments_in kind s h) (part late) whole)
       ]
     where
-      part : out.onset ≤ start + length h → (moment_after s x h).whole ≡ false
+      part : out.onset ≤ start + length h → (moment_after kind s x h).whole ≡ false
       part late = part_of out.one x h out.below
           (run_as (λ y. OthersRun out.one y.ran) s start x h follows (out.after (start + length h) late))
 
   -- where no word was flipped and all ran at each tick since the last answer, token and flow rest
-  pub rests : (h : List Tick) → Follows s.fault start h → KeepsFlow s w h → is_flipped h ≡ false →
-      whole_since_answer (moments_of s h) ≡ true → (w.token ≡ 0) × (w.flow ≡ 255)
+  pub rests : (h : List Tick) → Follows s.fault start h → KeepsFlow kind s w h → is_flipped h ≡ false →
+      whole_since_answer (moments_in kind s h) ≡ true → (w.token ≡ 0) × (w.flow ≡ 255)
   rests h follows keeps unflipped whole =
       elim (shape s.fault fault) [
         | inl together ↦ rest_of w (length h) _ whole
@@ -289,4 +290,4 @@ module _ (s : Setting) (fault : IsNoneOrValid s.fault) (start : ℕ) (w : Words)
 -- ---- one tick ----
 
 pub flow_marks : FlowMarks
-flow_marks s start x h w g = marks s start x h w g
+flow_marks kind s start x h w g = marks kind s start x h w g

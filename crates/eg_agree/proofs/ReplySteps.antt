@@ -13,40 +13,37 @@ use Rattle.eg_flow.specs.Flow.{IsSteady, whole_after}
 use Rattle.eg_flow.specs.Laws.{at_react}
 use Rattle.eg_flow.proofs.FlowSteps.{answers, flow-after, react_clears}
 use Rattle.eg_flow.proofs.SteadyLemmas.{steady_stays, start_steady}
-use Rattle.eg_model.specs.History.{Setting, Tick, Moment}
+use Rattle.eg_model.specs.History.{Setting, Tick, SpanKind, drives, Moment}
 use Rattle.eg_model.specs.Signals.{tripped}
-use Rattle.eg_model.specs.Answers.{is_whole, is_undisturbed, is_answer, whole_since_answer, is_sent, is_good, mark_at}
-use Rattle.eg_model.specs.Moments.{moments_of}
-use Rattle.eg_model.proofs.TickLemmas.{length-moments, moment-mark, moment-whole, tripped-cons}
+use Rattle.eg_model.specs.Answers.{is_whole, is_undisturbed, is_answer, whole_since_answer, is_sent, is_good}
+use Rattle.eg_model.specs.Moments.{moments_in}
+use Rattle.eg_model.proofs.TickLemmas.{tripped-cons}
 use Rattle.eg_agree.specs.Doings.{doing_at}
+use Rattle.eg_agree.proofs.MomentLemmas.{length-moments_in, phase-sends, sent_in, moment_in-mark, moment_in-answer, moment_in-whole}
 use Rattle.eg_agree.specs.Replies.{doing_after, moment_after, TellsTrip, is_flipped, RanTogether, ReactRan, has_just_answered, KeepsFlow, FlowBegins, FlowIsKept}
 
 -- ---- Bool alone ----
 
-in_turn : (r sends t : Bool) → (r && (sends && not t)) ≡ (sends && r && not t)
-in_turn true true t = refl
-in_turn true false t = refl
-in_turn false true t = refl
-in_turn false false t = refl
+in_turn : (r driven due t : Bool) → (r && ((driven && due) && not t)) ≡ (driven && (due && r && not t))
+in_turn true true true t = refl
+in_turn true true false t = refl
+in_turn true false due t = refl
+in_turn false true true t = refl
+in_turn false true false t = refl
+in_turn false false due t = refl
 
-marks_answer : (sent good : Bool) → is_answer (if sent then (if good then Good else Bad) else Absent) ≡ sent
-unfolding is_answer
-marks_answer true true = refl
-marks_answer true false = refl
-marks_answer false good = refl
-
-module _ (s : Setting) (x : Tick) (h : List Tick) where
+module _ (kind : SpanKind) (s : Setting) (x : Tick) (h : List Tick) where
   abbrev past : List Moment
-  past = moments_of s h
+  past = moments_in kind s h
 
   abbrev m : Moment
-  m = moment_after s x h
+  m = moment_after kind s x h
 
   abbrev d : Doing
-  d = doing_after s x h
+  d = doing_after kind s x h
 
   abbrev sent : Bool
-  sent = is_sent s.cal.times x.effects m.trip past
+  sent = sent_in kind s x.effects x.entry past
 
   -- ---- what is the same on both sides ----
 
@@ -58,31 +55,33 @@ module _ (s : Setting) (x : Tick) (h : List Tick) where
   unfolding flow.is_undisturbed eight.modules_before_react eight.modules is_undisturbed doing_after doing_at
   undisturbed_same = refl
 
-  answers_as_sent : (w : Words) → TellsTrip s w x h → (d.ran 7 && answers_now d.sends (at_react d w)) ≡ sent
+  answers_as_sent : (w : Words) → TellsTrip kind s w x h → (d.ran 7 && answers_now d.phase (at_react d w)) ≡ sent
   unfolding answers_now is_sent doing_after doing_at
   answers_as_sent w told =
-      in_turn _ _ (is_set (at_react d w).trip)
-      ∙ ap (λ t. sends_at x.effects s.cal.times (length h) && x.effects.ran 7 && not t)
+      ap (λ sends. x.effects.ran 7 && (sends && not (is_set (at_react d w).trip)))
+      (phase-sends kind s.cal.times x.effects (length h))
+      ∙ in_turn _ _ _ (is_set (at_react d w).trip)
+      ∙ ap (λ t. drives kind && (sends_at x.effects s.cal.times (length h) && x.effects.ran 7 && not t))
       (told ∙ tripped-cons m past)
-      ∙ ap (λ n. sends_at x.effects s.cal.times n && x.effects.ran 7 && not (m.trip || tripped past))
-      (sym (length-moments s h))
+      ∙ ap (λ n. drives kind &&
+      (sends_at x.effects s.cal.times n && x.effects.ran 7 && not (m.trip || tripped past)))
+      (sym (length-moments_in kind s h))
 
   -- an answer is sent exactly where the model has one
-  pub sent_same : (w : Words) → TellsTrip s w x h → is_some (answer_at d w) ≡ sent
+  pub sent_same : (w : Words) → TellsTrip kind s w x h → is_some (answer_at d w) ≡ sent
   sent_same w told = answers d w ∙ answers_as_sent w told
 
   pub mark-is : m.mark ≡ (if sent then (if is_good x.effects past then Good else Bad) else Absent)
-  unfolding mark_at
-  mark-is = moment-mark s x.effects x.entry past
+  mark-is = moment_in-mark kind s x.effects x.entry past
 
   pub answer-is : is_answer m.mark ≡ sent
-  answer-is = ap is_answer mark-is ∙ marks_answer sent (is_good x.effects past)
+  answer-is = moment_in-answer kind s x.effects x.entry past
 
-  since_answer : (w : Words) → TellsTrip s w x h →
+  since_answer : (w : Words) → TellsTrip kind s w x h →
       flow.whole_after d w (whole_since_answer past) ≡ whole_since_answer (m ∷ past)
   unfolding flow.whole_after whole_since_answer
   since_answer w told = ap₂ (λ a b. a || (b && whole_since_answer past)) (sent_same w told ∙ sym answer-is)
-      (whole_same ∙ sym (moment-whole s x.effects x.entry past))
+      (whole_same ∙ sym (moment_in-whole kind s x.effects x.entry past))
 
   -- ---- what the words tell after it ----
 
@@ -94,7 +93,7 @@ module _ (s : Setting) (x : Tick) (h : List Tick) where
   unfolding is_flipped doing_after doing_at
   unflipped_now e = or_parts _ _ e
 
-  next_steady : (w : Words) → TellsTrip s w x h → length h < 65535 → KeepsFlow s w h →
+  next_steady : (w : Words) → TellsTrip kind s w x h → length h < 65535 → KeepsFlow kind s w h →
       is_flipped (x ∷ h) ≡ false → RanTogether (x ∷ h) →
       IsSteady (suc (length h)) (whole_since_answer (m ∷ past)) (after_tick d w)
   unfolding RanTogether doing_after doing_at
@@ -109,7 +108,7 @@ module _ (s : Setting) (x : Tick) (h : List Tick) where
   reacts ran = ran.0
 
   -- where an answer was sent the token and the flow begin anew
-  begins_anew : (w : Words) → TellsTrip s w x h → is_answer m.mark ≡ true →
+  begins_anew : (w : Words) → TellsTrip kind s w x h → is_answer m.mark ≡ true →
       ((after_tick d w).token ≡ 0) × ((after_tick d w).flow ≡ 255)
   begins_anew w told answer =
       let some : is_some (answer_at d w) ≡ true = sent_same w told ∙ sym answer-is ∙ answer in
@@ -117,9 +116,9 @@ module _ (s : Setting) (x : Tick) (h : List Tick) where
       (react_clears d w ran, flow-after d w ∙ rw some refl)
 
   -- one tick keeps what the words tell
-  pub keeps_next : (w : Words) → TellsTrip s w x h → length h < 65535 → KeepsFlow s w h →
-      KeepsFlow s (after_tick (doing_after s x h) w) (x ∷ h)
-  unfolding moments_of has_just_answered
+  pub keeps_next : (w : Words) → TellsTrip kind s w x h → length h < 65535 → KeepsFlow kind s w h →
+      KeepsFlow kind s (after_tick (doing_after kind s x h) w) (x ∷ h)
+  unfolding moments_in has_just_answered
   keeps_next w told small keeps = record {
     steady = next_steady w told small keeps;
     token = λ ran. react_clears d w (reacts ran);
@@ -128,12 +127,12 @@ module _ (s : Setting) (x : Tick) (h : List Tick) where
 
 -- at the start they tell nothing wrong
 pub keeps_start : FlowBegins
-unfolding start moments_of whole_since_answer has_just_answered
-keeps_start s = record {
+unfolding start moments_in whole_since_answer has_just_answered
+keeps_start kind s = record {
   steady = λ unflipped together. start_steady;
   token = λ ran. refl;
   anew = λ answer. absurd (let e : false ≡ true = answer in cc);
 }
 
 pub keeps_tick : FlowIsKept
-keeps_tick s x h w told small keeps = keeps_next s x h w told small keeps
+keeps_tick kind s x h w told small keeps = keeps_next kind s x h w told small keeps

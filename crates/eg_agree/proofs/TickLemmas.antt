@@ -6,24 +6,25 @@ use Rattle.eg_num.specs.declared.watches.Watches.{Watches}
 use Rattle.eg_sensor.specs.declared.readings.Readings.{Readings}
 use Rattle.eg_answer.specs.declared.rules.Rules.{Rules}
 use Rattle.eg_answer.specs.declared.rules.TestRow.{TestRow}
-use Rattle.eg_answer.specs.declared.marks.AnswerMark.TheVariants.{Absent, Good, Bad}
 use Rattle.eg_values.specs.Calibration.{IsAccepted}
-use Rattle.eg_fault.specs.Effects.{Effects, sends_at}
+use Rattle.eg_fault.specs.Effects.{Effects}
 use Rattle.eg_fault.specs.Classes.{ChecksFlips}
+use Rattle.eg_level2.specs.declared.phase.Phase.{Phase}
 use Rattle.eg_level2.specs.Words.{Words, is_set}
-use Rattle.eg_level2.specs.Modules.{debounced, no_watches, answers_now, answer_of, number_of, debounce_step, react_step}
+use Rattle.eg_level2.specs.Modules.{debounced, no_watches, opens_now, answers_now, answer_of, number_of, debounce_step, react_step}
 use Rattle.eg_flow.specs.Ticks.{Doing, after_modules, after_tick, answer_at, orders_at, finds_at}
-use Rattle.eg_model.specs.History.{Setting, Entry, Signals, Moment}
+use Rattle.eg_model.specs.History.{Setting, Entry, SpanKind, Signals, Moment}
 use Rattle.eg_model.specs.Signals.{tripped, last_signals, signal, signals_at}
-use Rattle.eg_model.specs.Answers.{is_answer, is_sent, is_good, mark_at}
+use Rattle.eg_model.specs.Answers.{is_answer, is_sent}
+use Rattle.eg_model.specs.Paths.{orders_open}
 use Rattle.eg_model.specs.Level1.{seen, seen_signals}
-use Rattle.eg_model.specs.Moments.{readings_at, moment, moments_of}
+use Rattle.eg_model.specs.Moments.{readings_at, moment_in, moments_in}
 use Rattle.eg_model.specs.Rows.{signal_list}
-use Rattle.eg_agree.specs.Doings.{doing_at}
+use Rattle.eg_agree.specs.Doings.{phase_at, doing_at}
 use Rattle.eg_agree.specs.Standing.{signals_of, trip_after, KeepsWords}
 use Rattle.eg_agree.specs.Ticking.{found_in_level2, IsTick, TickLaw}
 use Rattle.eg_agree.proofs.BoolLaws.{if-part, if-same, if-false, is_set-bit, sent-law}
-use Rattle.eg_model.proofs.TickLemmas.{length-moments, moment-signals, moment-pedal_signal, moment-permitted, moment-actual, moment-excess, moment-pairs, moment-mirror, moment-orders, moment-mark}
+use Rattle.eg_agree.proofs.MomentLemmas.{length-moments_in, phase-sends, phase-orders, moment_in-signals, moment_in-pedal_signal, moment_in-permitted, moment_in-actual, moment_in-excess, moment_in-pairs, moment_in-mirror, moment_in-orders, moment_in-answer}
 use Rattle.eg_agree.proofs.HistoryLemmas.{mirror_trips}
 use Rattle.eg_agree.proofs.ModuleLemmas.{row, after-check, after-pedal, after-permitted, after-actual, after-excess, after-pairs, after-debounce, after-react}
 use Rattle.eg_agree.proofs.SignalLemmas.{AreSeen, MirrorTrips, Between, seen-same, seen-list, seen-begin, check-between, pedal-between, permitted-between, actual-between, excess-between, pairs-between}
@@ -58,27 +59,27 @@ seen-8 flip before now w are =
           are.pairs;
     }
 
-debounce-seen : (flip : Bool) (before now : Signals) (rules : Rules) (runs : Bool) (w : Words) →
+debounce-seen : (flip : Bool) (before now : Signals) (rules : Rules) (phase : Phase) (runs : Bool) (w : Words) →
     AreSeen flip before now 6 w
-    → AreSeen flip before now 7 (if runs then debounce_step rules w else w)
+    → AreSeen flip before now 7 (if runs then debounce_step rules phase w else w)
 unfolding debounce_step
-debounce-seen flip before now rules runs w are =
-    seen-same flip before now 7 runs (debounce_step rules w) w refl refl refl refl refl
+debounce-seen flip before now rules phase runs w are =
+    seen-same flip before now 7 runs (debounce_step rules phase w) w refl refl refl refl refl
     (seen-7 flip before now w are)
 
-react-seen : (flip : Bool) (before now : Signals) (sends runs : Bool) (w : Words) →
+react-seen : (flip : Bool) (before now : Signals) (phase : Phase) (runs : Bool) (w : Words) →
     AreSeen flip before now 7 w
-    → AreSeen flip before now 8 (if runs then react_step sends w else w)
+    → AreSeen flip before now 8 (if runs then react_step phase w else w)
 unfolding react_step
-react-seen flip before now sends runs w are =
-    seen-same flip before now 8 runs (react_step sends w) w refl refl refl refl refl
+react-seen flip before now phase runs w are =
+    seen-same flip before now 8 runs (react_step phase w) w refl refl refl refl refl
     (seen-8 flip before now w are)
 
-react-fed : (rules : Rules) (past : List Moment) (sends runs : Bool) (w : Words) → AreFed rules past w →
-    AreFed rules past (if runs then react_step sends w else w)
+react-fed : (rules : Rules) (past : List Moment) (phase : Phase) (runs : Bool) (w : Words) → AreFed rules past w →
+    AreFed rules past (if runs then react_step phase w else w)
 unfolding react_step
-react-fed rules past sends false w are = are
-react-fed rules past sends true w are =
+react-fed rules past phase false w are = are
+react-fed rules past phase true w are =
     record {
       pedal = are.pedal;
       plate = are.plate;
@@ -116,13 +117,17 @@ up_to_8 P p0 p1 p2 p3 p4 p5 p6 p7 p8 (suc (suc (suc (suc (suc (suc (suc (suc zer
 up_to_8 P p0 p1 p2 p3 p4 p5 p6 p7 p8 (suc (suc (suc (suc (suc (suc (suc (suc (suc j))))))))) within =
     absurd (omega arith)
 
--- an answer is sent where the mark says so
-is_answer-mark : (sent good : Bool) →
-    is_answer (if sent then (if good then Good else Bad) else Absent) ≡ sent
-unfolding is_answer
-is_answer-mark true true = refl
-is_answer-mark true false = refl
-is_answer-mark false good = refl
+-- path 1 is ordered open where a trip stands, or react is told to
+turned : (runs set told opens tripped : Bool) → set ≡ tripped → opens ≡ told →
+    (runs && (set || opens)) ≡ (runs && (told || tripped))
+turned runs set told opens tripped es eo = rw (es, eo) (go runs told tripped)
+  where
+    go : (runs told tripped : Bool) → (runs && (tripped || told)) ≡ (runs && (told || tripped))
+    go false told tripped = refl
+    go true true true = refl
+    go true true false = refl
+    go true false true = refl
+    go true false false = refl
 
 -- a flip is met by module 0, which runs
 met : (flip runs : Bool) → (flip ≡ true → runs ≡ true) → (runs && flip) ≡ flip
@@ -131,22 +136,26 @@ met true false checks = absurd (false≢true (checks refl))
 met false true checks = refl
 met false false checks = refl
 
-module _ (s : Setting) (accepted : IsAccepted s.cal) (x : Effects) (e : Entry) (past : List Moment)
-    (trips : MirrorTrips past) (checks : ChecksFlips x) (w : Words) (keeps : KeepsWords s w past) where
+module _ (kind : SpanKind) (s : Setting) (accepted : IsAccepted s.cal) (x : Effects) (e : Entry)
+    (past : List Moment) (trips : MirrorTrips past) (checks : ChecksFlips x) (w : Words)
+    (keeps : KeepsWords s w past) where
   abbrev reads : Readings
   reads = readings_at s.cal x e
 
+  abbrev phase : Phase
+  phase = phase_at kind s.cal.times x (length past)
+
   abbrev d : Doing
-  d = doing_at s x reads (length past)
+  d = doing_at kind s x reads (length past)
 
   abbrev m : Moment
-  m = moment s x e past
+  m = moment_in kind s x e past
 
   abbrev after : ℕ → Words
   after j = after_modules d j w
 
   abbrev test : TestRow
-  test = row s x reads (length past) w
+  test = row kind s x reads (length past) w
 
   abbrev Stands : ℕ → Words → Type 0
   Stands = Between s x reads past
@@ -154,27 +163,27 @@ module _ (s : Setting) (accepted : IsAccepted s.cal) (x : Effects) (e : Entry) (
   -- ---- the words after each module ----
 
   stands-1 : Stands 1 (after 1)
-  stands-1 = subst (Stands 1) (sym (after-check s x reads (length past) w))
+  stands-1 = subst (Stands 1) (sym (after-check kind s x reads (length past) w))
       (check-between s x reads past checks w test.seed (length past) keeps)
 
   stands-2 : Stands 2 (after 2)
-  stands-2 = subst (Stands 2) (sym (after-pedal s x reads (length past) w))
+  stands-2 = subst (Stands 2) (sym (after-pedal kind s x reads (length past) w))
       (pedal-between s x reads past trips (after 1) test stands-1)
 
   stands-3 : Stands 3 (after 3)
-  stands-3 = subst (Stands 3) (sym (after-permitted s x reads (length past) w))
+  stands-3 = subst (Stands 3) (sym (after-permitted kind s x reads (length past) w))
       (permitted-between s x reads past (after 2) test stands-2)
 
   stands-4 : Stands 4 (after 4)
-  stands-4 = subst (Stands 4) (sym (after-actual s x reads (length past) w))
+  stands-4 = subst (Stands 4) (sym (after-actual kind s x reads (length past) w))
       (actual-between s x reads past (after 3) test stands-3)
 
   stands-5 : Stands 5 (after 5)
-  stands-5 = subst (Stands 5) (sym (after-excess s x reads (length past) w))
+  stands-5 = subst (Stands 5) (sym (after-excess kind s x reads (length past) w))
       (excess-between s x reads past (after 4) test stands-4)
 
   stands-6 : Stands 6 (after 6)
-  stands-6 = subst (Stands 6) (sym (after-pairs s x reads (length past) w))
+  stands-6 = subst (Stands 6) (sym (after-pairs kind s x reads (length past) w))
       (pairs-between s x reads past (after 5) test stands-5)
 
   abbrev Seen : ℕ → Words → Type 0
@@ -183,34 +192,34 @@ module _ (s : Setting) (accepted : IsAccepted s.cal) (x : Effects) (e : Entry) (
   seen-at : (j : ℕ) (v : Words) →
       AreSeen (is_some x.flip) (last_signals past) (signals_at s.cal.rules x reads past) j v → Seen j v
   seen-at j v are =
-      subst (λ g. AreSeen (is_some x.flip) (last_signals past) g j v) (sym (moment-signals s x e past)) are
+      subst (λ g. AreSeen (is_some x.flip) (last_signals past) g j v) (sym (moment_in-signals kind s x e past)) are
 
   signals-7 : Seen 7 (after 7)
-  signals-7 = subst (Seen 7) (sym (after-debounce s x reads (length past) w))
-      (debounce-seen _ _ _ s.cal.rules (x.ran 6) (after 6) (seen-at 6 (after 6) stands-6.signals))
+  signals-7 = subst (Seen 7) (sym (after-debounce kind s x reads (length past) w))
+      (debounce-seen _ _ _ s.cal.rules phase (x.ran 6) (after 6) (seen-at 6 (after 6) stands-6.signals))
 
   fed-7 : AreFed s.cal.rules (m ∷ past) (after 7)
-  fed-7 = subst (AreFed s.cal.rules (m ∷ past)) (sym (after-debounce s x reads (length past) w))
-      (debounce-fed s accepted x e past trips (after 6) stands-6)
+  fed-7 = subst (AreFed s.cal.rules (m ∷ past)) (sym (after-debounce kind s x reads (length past) w))
+      (debounce-fed kind s accepted x e past trips (after 6) stands-6)
 
   signals-8 : Seen 8 (after 8)
-  signals-8 = subst (Seen 8) (sym (after-react s x reads (length past) w))
-      (react-seen _ _ _ (sends_at x s.cal.times (length past)) (x.ran 7) (after 7) signals-7)
+  signals-8 = subst (Seen 8) (sym (after-react kind s x reads (length past) w))
+      (react-seen _ _ _ phase (x.ran 7) (after 7) signals-7)
 
   fed-8 : AreFed s.cal.rules (m ∷ past) (after 8)
-  fed-8 = subst (AreFed s.cal.rules (m ∷ past)) (sym (after-react s x reads (length past) w))
-      (react-fed s.cal.rules (m ∷ past) (sends_at x s.cal.times (length past)) (x.ran 7) (after 7) fed-7)
+  fed-8 = subst (AreFed s.cal.rules (m ∷ past)) (sym (after-react kind s x reads (length past) w))
+      (react-fed s.cal.rules (m ∷ past) phase (x.ran 7) (after 7) fed-7)
 
   -- ---- what the tick tells ----
 
   settles : signals_of (after 8) ≡ last_signals (m ∷ past)
   unfolding signals_of last_signals seen
   settles =
-      let pedal = signals-8.pedal ∙ stays 1 _ _ _ (moment-pedal_signal s x e past) in
-      let permitted = signals-8.permitted ∙ stays 2 _ _ _ (moment-permitted s x e past) in
-      let actual = signals-8.actual ∙ stays 3 _ _ _ (moment-actual s x e past) in
-      let excess = signals-8.excess ∙ stays 4 _ _ _ (moment-excess s x e past) in
-      let pairs = signals-8.pairs ∙ stays 5 _ _ _ (moment-pairs s x e past) in
+      let pedal = signals-8.pedal ∙ stays 1 _ _ _ (moment_in-pedal_signal kind s x e past) in
+      let permitted = signals-8.permitted ∙ stays 2 _ _ _ (moment_in-permitted kind s x e past) in
+      let actual = signals-8.actual ∙ stays 3 _ _ _ (moment_in-actual kind s x e past) in
+      let excess = signals-8.excess ∙ stays 4 _ _ _ (moment_in-excess kind s x e past) in
+      let pairs = signals-8.pairs ∙ stays 5 _ _ _ (moment_in-pairs kind s x e past) in
       λ i. record {
         pedal = pedal i;
         permitted = permitted i;
@@ -244,45 +253,52 @@ module _ (s : Setting) (accepted : IsAccepted s.cal) (x : Effects) (e : Entry) (
   trip-is = ap is_set fed-7.trip ∙ is_set-bit (tripped (m ∷ past))
 
   order-is : orders_at d w ≡ m.orders
-  unfolding orders_at doing_at
-  order-is = ap (λ b. x.ran 7 && b) trip-is ∙ sym (moment-orders s x e past)
+  unfolding orders_at doing_at opens_now orders_open tripped
+  order-is =
+      turned (x.ran 7) (is_set (after 7).trip) _ _ (m.trip || tripped past) trip-is
+      (phase-orders kind s.cal.times x (length past))
+      ∙ sym (moment_in-orders kind s x e past)
 
   answer-is : is_some (answer_at d w) ≡ is_answer m.mark
-  unfolding answer_at doing_at answer_of answers_now trip_after tripped mark_at is_sent
+  unfolding answer_at doing_at answer_of answers_now trip_after tripped is_sent
   answer-is =
-      sent-law (x.ran 7) (sends_at x s.cal.times (length past)) (m.trip || tripped past) (after 7).trip
-      (number_of (after 7)) fed-7.trip
-      ∙ sym (is_answer-mark (is_sent s.cal.times x m.trip past) (is_good x past))
-      ∙ ap is_answer (sym (moment-mark s x e past))
+      sent-law (x.ran 7) _ _ _ (m.trip || tripped past) (after 7).trip
+      (number_of (after 7)) fed-7.trip (phase-sends kind s.cal.times x (length past))
+      ∙ sym (moment_in-answer kind s x e past)
 
   -- a watch by what debounce finds of it where it runs
   watch-is : (part : Watches → Bool) (told : Bool) → part no_watches ≡ false →
-      (x.ran 6 && part (debounced s.cal.rules (after 6))) ≡ told
-      → part (if x.ran 6 then debounced s.cal.rules (after 6) else no_watches) ≡ told
+      (x.ran 6 && part (debounced s.cal.rules phase (after 6))) ≡ told
+      → part (if x.ran 6 then debounced s.cal.rules phase (after 6) else no_watches) ≡ told
   watch-is part told none found =
       if-part part (x.ran 6) _ _
-      ∙ ap (λ b. if x.ran 6 then part (debounced s.cal.rules (after 6)) else b) none
+      ∙ ap (λ b. if x.ran 6 then part (debounced s.cal.rules phase (after 6)) else b) none
       ∙ if-false (x.ran 6) _ ∙ found
 
-  no_answers : (if x.ran 6 then debounced s.cal.rules (after 6) else no_watches).answers ≡ false
+  no_answers : (if x.ran 6 then debounced s.cal.rules phase (after 6) else no_watches).answers ≡ false
   unfolding debounced no_watches
   no_answers = if-same (λ (f : Watches). f.answers) (x.ran 6) _ _ false refl refl
+
+  no_start : (if x.ran 6 then debounced s.cal.rules phase (after 6) else no_watches).start ≡ false
+  unfolding debounced no_watches
+  no_start = if-same (λ (f : Watches). f.start) (x.ran 6) _ _ false refl refl
 
   found-is : finds_at d w ≡ found_in_level2 m
   unfolding finds_at doing_at found_in_level2 no_watches
   found-is =
-      let mirror = met (is_some x.flip) (x.ran 0) checks ∙ sym (moment-mirror s x e past) in
+      let mirror = met (is_some x.flip) (x.ran 0) checks ∙ sym (moment_in-mirror kind s x e past) in
       let pedal = watch-is (λ f. f.pedal) m.found.pedal refl
-      (found-pedal s accepted x e past trips (after 6) stands-6) in
+      (found-pedal kind s accepted x e past trips (after 6) stands-6) in
       let plate = watch-is (λ f. f.plate) m.found.plate refl
-      (found-plate s accepted x e past trips (after 6) stands-6) in
+      (found-plate kind s accepted x e past trips (after 6) stands-6) in
       let load = watch-is (λ f. f.load) m.found.load refl
-      (found-load s accepted x e past trips (after 6) stands-6) in
+      (found-load kind s accepted x e past trips (after 6) stands-6) in
       let speed = watch-is (λ f. f.speed) m.found.speed refl
-      (found-speed s accepted x e past trips (after 6) stands-6) in
+      (found-speed kind s accepted x e past trips (after 6) stands-6) in
       let torque = watch-is (λ f. f.torque) m.found.torque refl
-      (found-torque s accepted x e past trips (after 6) stands-6) in
+      (found-torque kind s accepted x e past trips (after 6) stands-6) in
       let answers = no_answers in
+      let start = no_start in
       λ i. record {
         mirror = mirror i;
         pedal = pedal i;
@@ -292,6 +308,7 @@ module _ (s : Setting) (accepted : IsAccepted s.cal) (x : Effects) (e : Entry) (
             speed i;
         torque = torque i;
         answers = answers i;
+        start = start i;
       }
 
   seen-is : (j : ℕ) → j ≤ 8 → signal_list (signals_of (after j))
@@ -330,15 +347,15 @@ module _ (s : Setting) (accepted : IsAccepted s.cal) (x : Effects) (e : Entry) (
 -- ---- the laws ----
 
 -- the tick that comes after these, by the number that it has
-at-number : (s : Setting) (x : Effects) (e : Entry) (w : Words) (past : List Moment) (n : ℕ) →
+at-number : (kind : SpanKind) (s : Setting) (x : Effects) (e : Entry) (w : Words) (past : List Moment) (n : ℕ) →
     length past ≡ n
-    → IsTick s x (doing_at s x (readings_at s.cal x e) (length past)) w (moment s x e past) past →
-    IsTick s x (doing_at s x (readings_at s.cal x e) n) w (moment s x e past) past
-at-number s x e w past n same is =
-    subst (λ n. IsTick s x (doing_at s x (readings_at s.cal x e) n) w (moment s x e past) past) same is
+    → IsTick s x (doing_at kind s x (readings_at s.cal x e) (length past)) w (moment_in kind s x e past) past →
+    IsTick s x (doing_at kind s x (readings_at s.cal x e) n) w (moment_in kind s x e past) past
+at-number kind s x e w past n same is =
+    subst (λ n. IsTick s x (doing_at kind s x (readings_at s.cal x e) n) w (moment_in kind s x e past) past) same is
 
 pub tick_law : TickLaw
-tick_law s accepted h x e checks w keeps =
-    let past = moments_of s h in
-    at-number s x e w past (length h) (length-moments s h)
-    (is_tick s accepted x e past (mirror_trips s h) checks w keeps)
+tick_law kind s accepted h x e checks w keeps =
+    let past = moments_in kind s h in
+    at-number kind s x e w past (length h) (length-moments_in kind s h)
+    (is_tick kind s accepted x e past (mirror_trips kind s h) checks w keeps)

@@ -1,11 +1,11 @@
--- Level 2 and the model agree over whole runs.
+-- Level 2 and the model agree over whole spans.
 use Rattle.std.proofs.Common.{◌≡◌, ℕ, ◌+◌, Bool, true, false, List, [], ◌∷◌, length, refl, sym, ap, subst, ◌∙◌, arith}
 use Rattle.std.specs.Prelude.{if◌then◌else◌}
 use Rattle.eg_level2.specs.Words.{Words, start}
 use Rattle.eg_level2.specs.Modules.{check_step, given_up, pedal_step, permitted_step, actual_step, excess_step, pairs_step, debounce_step, react_step, module_step}
 use Rattle.eg_flow.specs.Ticks.{Doing, inputs_for, after_module, after_modules, after_tick}
-use Rattle.eg_model.specs.History.{Setting, Tick}
-use Rattle.eg_model.specs.Moments.{moments_of}
+use Rattle.eg_model.specs.History.{Setting, Tick, SpanKind}
+use Rattle.eg_model.specs.Moments.{moments_in}
 use Rattle.eg_model.specs.Premises.{Follows}
 use Rattle.eg_fault.specs.Classes.{ChecksFlips}
 use Rattle.eg_fault.proofs.ClassLemmas.{faults_check_flips}
@@ -28,46 +28,46 @@ checks_flips s begin x h follows =
 
 -- the words stand for every history
 pub words_stand : WordsStand
-unfolding Follows words_over doing_after moments_of
-words_stand s accepted begin [] follows = start_law s
-words_stand s accepted begin (x ∷ h) follows =
-    (tick_law s accepted h x.effects x.entry (checks_flips s begin x h follows) (words_over s h)
-    (words_stand s accepted begin h follows.1)).words
+unfolding Follows words_over doing_after moments_in
+words_stand kind s accepted begin [] follows = start_law s
+words_stand kind s accepted begin (x ∷ h) follows =
+    (tick_law kind s accepted h x.effects x.entry (checks_flips s begin x h follows) (words_over kind s h)
+    (words_stand kind s accepted begin h follows.1)).words
 
 -- and a tick more of the modules is the model's
-pub is_tick_over : (s : Setting) → IsAccepted s.cal → (begin : ℕ) (x : Tick) (h : List Tick) →
+pub is_tick_over : (kind : SpanKind) (s : Setting) → IsAccepted s.cal → (begin : ℕ) (x : Tick) (h : List Tick) →
     Follows s.fault begin (x ∷ h) →
-    IsTick s x.effects (doing_after s x h) (words_over s h) (moment_after s x h) (moments_of s h)
+    IsTick s x.effects (doing_after kind s x h) (words_over kind s h) (moment_after kind s x h) (moments_in kind s h)
 unfolding Follows doing_after
-is_tick_over s accepted begin x h follows =
-    tick_law s accepted h x.effects x.entry (checks_flips s begin x h follows) (words_over s h)
-    (words_stand s accepted begin h follows.1)
+is_tick_over kind s accepted begin x h follows =
+    tick_law kind s accepted h x.effects x.entry (checks_flips s begin x h follows) (words_over kind s h)
+    (words_stand kind s accepted begin h follows.1)
 
 -- so the words tell of the program flow over every history,
 pub flow_stands : FlowStands
 unfolding Follows words_over
-flow_stands s accepted begin [] follows small = keeps_start s
-flow_stands s accepted begin (x ∷ h) follows small =
-    keeps_next s x h (words_over s h) (is_tick_over s accepted begin x h follows).trip (omega arith)
-    (flow_stands s accepted begin h follows.1 (omega arith))
+flow_stands kind s accepted begin [] follows small = keeps_start kind s
+flow_stands kind s accepted begin (x ∷ h) follows small =
+    keeps_next kind s x h (words_over kind s h) (is_tick_over kind s accepted begin x h follows).trip (omega arith)
+    (flow_stands kind s accepted begin h follows.1 (omega arith))
 
 -- and what is sent has the mark of the model
 pub each_answer_holds : EachAnswerHolds
 unfolding Follows
-each_answer_holds s accepted fault begin x h follows short =
-    flow_marks s begin x h (words_over s h)
+each_answer_holds kind s accepted fault begin x h follows short =
+    flow_marks kind s begin x h (words_over kind s h)
     (record {
       accepted = accepted;
       fault = fault;
       follows = follows;
       short = short;
-      keeps = flow_stands s accepted begin h follows.1 (omega arith);
-      trip = (is_tick_over s accepted begin x h follows).trip;
+      keeps = flow_stands kind s accepted begin h follows.1 (omega arith);
+      trip = (is_tick_over kind s accepted begin x h follows).trip;
     })
 
 pub words_rest : WordsRest
-words_rest s accepted fault begin h follows short =
-    rests s fault begin (words_over s h) h follows (flow_stands s accepted begin h follows short)
+words_rest kind s accepted fault begin h follows short =
+    rests kind s fault begin (words_over kind s h) h follows (flow_stands kind s accepted begin h follows short)
 
 -- ---- the last tick of check ----
 
@@ -128,10 +128,10 @@ tick_last d w =
     ∙ checked_last d w
 
 pub last_check_is_kept : LastCheckIsKept
-last_check_is_kept s x h words = tick_last (doing_after s x h) words ∙ (unfold doing_after doing_at in refl)
+last_check_is_kept kind s x h words = tick_last (doing_after kind s x h) words ∙ (unfold doing_after doing_at in refl)
 
 pub last_checks_stand : LastChecksStand
 unfolding words_over last_check
-last_checks_stand s [] = unfold start in refl
-last_checks_stand s (x ∷ h) = last_check_is_kept s x h (words_over s h)
-    ∙ ap (λ n. if x.effects.ran 0 then length h else n) (last_checks_stand s h)
+last_checks_stand kind s [] = unfold start in refl
+last_checks_stand kind s (x ∷ h) = last_check_is_kept kind s x h (words_over kind s h)
+    ∙ ap (λ n. if x.effects.ran 0 then length h else n) (last_checks_stand kind s h)

@@ -1,6 +1,5 @@
 -- What the words stand for after some histories with the reference calibration, and the words that eight
--- modules a tick
--- make of the start over the same histories: both computed from the definitions alone.
+-- modules a tick make of the start over the same histories: both computed from the definitions alone.
 use Rattle.std.proofs.Common.{◌≡◌, ℕ, false, List, [], ◌∷◌, map, replicate, refl}
 use Rattle.std.specs.Prelude.{if◌then◌else◌, ◌==◌, length, Some, None}
 use Rattle.eg_num.specs.Windows.{greatest_of, greatest}
@@ -10,14 +9,15 @@ use Rattle.eg_answer.specs.Formulas.{permitted_torque, estimated_torque, excess_
 use Rattle.eg_values.specs.Reference.{reference_parts}
 use Rattle.eg_fault.specs.Effects.{Effects, no_effects}
 use Rattle.eg_level2.specs.Words.{Words, is_set, start}
+use Rattle.eg_level2.specs.Phases.{feeds, sends, orders}
 use Rattle.eg_level2.specs.Modules as module_of
 use Rattle.eg_flow.specs.Ticks.{inputs_for, after_module, after_modules, after_tick}
 use Rattle.eg_model.specs.Detection.{pedal_bit, load_bit}
-use Rattle.eg_model.specs.History.{Setting, Tick}
-use Rattle.eg_model.specs.Moments.{readings_at, moments_of}
+use Rattle.eg_model.specs.History.{Setting, Tick, SpanKind, Drive, Test}
+use Rattle.eg_model.specs.Moments.{readings_at, moments_in}
 use Rattle.eg_model.specs.Examples.{idle, at_rest}
 use Rattle.eg_model.proofs.WholeModel.{whole_model}
-use Rattle.eg_agree.specs.Doings.{doing_at}
+use Rattle.eg_agree.specs.Doings.{phase_at, doing_at}
 use Rattle.eg_agree.specs.Standing.{mirror_found, counter_after, limp_after, trip_after}
 
 -- ticks at which nothing happens, a pedal track reads 1000, a load track reads 0, a word is flipped, or
@@ -56,23 +56,24 @@ abbrev left_out : Tick
 left_out = tick (record no_effects { ran = λ i. false })
 
 -- two counters, limp and trip, as they stand for a history, newest first
-abbrev standing : List Tick → List ℕ
-standing h =
-    let past = moments_of setting h in
+abbrev standing : SpanKind → List Tick → List ℕ
+standing kind h =
+    let past = moments_in kind setting h in
     counter_after reference_parts.rules.pair pedal_bit past ∷ counter_after reference_parts.rules.pair load_bit past ∷ limp_after past ∷ trip_after past ∷ []
 
 -- the words after it, by eight modules a tick
-words_after : List Tick → Words
-words_after [] = start
-words_after (x ∷ h) = after_tick (doing_at setting x.effects (readings_at setting.cal x.effects x.entry) (length h))
-    (words_after h)
+words_after : SpanKind → List Tick → Words
+words_after kind [] = start
+words_after kind (x ∷ h) =
+    after_tick (doing_at kind setting x.effects (readings_at setting.cal x.effects x.entry) (length h))
+    (words_after kind h)
 
 abbrev holding : Words → List ℕ
 holding w = w.pedal_counter ∷ w.load_counter ∷ w.limp ∷ w.trip ∷ []
 
 -- every definition of the eight modules that these words go through
 modules : ℕ
-unfolding start is_set doing_at inputs_for after_module after_modules after_tick module_of.module_step module_of.check_step module_of.given_up module_of.written module_of.pedal_step module_of.permitted_step module_of.actual_step module_of.excess_step module_of.pairs_step has_bit module_of.pedal_bit module_of.plate_bit module_of.load_bit module_of.speed_bit module_of.torque_bit module_of.counted module_of.is_found module_of.debounced module_of.limits module_of.trips module_of.debounce_step module_of.react_step permitted_torque estimated_torque excess_number disagreeing_pairs fed
+unfolding start is_set feeds sends orders phase_at doing_at inputs_for after_module after_modules after_tick module_of.module_step module_of.check_step module_of.given_up module_of.written module_of.pedal_step module_of.permitted_step module_of.actual_step module_of.excess_step module_of.pairs_step has_bit module_of.pedal_bit module_of.plate_bit module_of.load_bit module_of.speed_bit module_of.torque_bit module_of.feeds_now module_of.counted module_of.is_found module_of.debounced module_of.limits module_of.trips module_of.debounce_step module_of.react_step permitted_torque estimated_torque excess_number disagreeing_pairs fed
 modules = 0
 
 -- the histories: up 2, down 1, limit 10
@@ -98,10 +99,25 @@ expected =
     ∷ (0 ∷ 0 ∷ 0 ∷ 1 ∷ [])
     ∷ []
 
-stands : map standing histories ≡ expected
+stands : map (standing Drive) histories ≡ expected
 unfolding whole_model mirror_found counter_after limp_after trip_after counted greatest greatest_of
 stands = refl
 
-holds : map (λ h. holding (words_after h)) histories ≡ expected
+holds : map (λ h. holding (words_after Drive h)) histories ≡ expected
 unfolding whole_model words_after modules
 holds = refl
+
+-- in a test of the shut-off paths no counter is fed, but a word that differs trips the unit
+abbrev tests : List (List Tick)
+tests = (replicate 5 load_off) ∷ (flip ∷ replicate 5 pedal_off) ∷ []
+
+abbrev tested : List (List ℕ)
+tested = (0 ∷ 0 ∷ 0 ∷ 0 ∷ []) ∷ (0 ∷ 0 ∷ 0 ∷ 1 ∷ []) ∷ []
+
+stands-test : map (standing Test) tests ≡ tested
+unfolding whole_model mirror_found counter_after limp_after trip_after counted greatest greatest_of
+stands-test = refl
+
+holds-test : map (λ h. holding (words_after Test h)) tests ≡ tested
+unfolding whole_model words_after modules
+holds-test = refl

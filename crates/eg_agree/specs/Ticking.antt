@@ -7,18 +7,19 @@ use Rattle.eg_fault.specs.Effects.{Effects}
 use Rattle.eg_fault.specs.Classes.{ChecksFlips}
 use Rattle.eg_level2.specs.Words.{Words, AreWithin, is_set, start}
 use Rattle.eg_flow.specs.Ticks.{Doing, after_modules, after_tick, answer_at, orders_at, finds_at}
-use Rattle.eg_model.specs.History.{Setting, Entry, Tick, Moment}
+use Rattle.eg_model.specs.History.{Setting, Entry, Tick, SpanKind, Moment}
 use Rattle.eg_model.specs.Signals.{tripped, last_signals}
 use Rattle.eg_model.specs.Answers.{is_answer}
 use Rattle.eg_model.specs.Level1.{seen_signals}
-use Rattle.eg_model.specs.Moments.{readings_at, moment, moments_of}
+use Rattle.eg_model.specs.Moments.{readings_at, moment_in, moments_in}
 use Rattle.eg_model.specs.Rows.{signal_list}
 use Rattle.eg_agree.specs.Doings.{doing_at}
 use Rattle.eg_agree.specs.Standing.{signals_of, KeepsWords}
 
--- the watches that level 2 finds at a tick: all but the wrong answers, which the monitoring module finds
+-- the watches that level 2 finds at a tick: all but the wrong answers, which the monitoring module finds,
+-- and a start-up test that fails, which is found as the paths are read back
 unfoldable pub found_in_level2 : Moment → Watches
-found_in_level2 m = record m.found { answers = false }
+found_in_level2 m = record m.found { answers = false; start = false }
 
 -- What eight modules make of the words w at a tick is what the model says of the tick m after these ticks:
 -- the words stand for one tick more; the signals that they hold after the first j modules are those that
@@ -47,11 +48,13 @@ WithinLaw =
     (s : Setting) → IsAccepted s.cal → (past : List Moment) (w : Words) → KeepsWords s w past →
     AreWithin s.cal.rules w
 
--- where the words stand for a history that stands by itself, a tick of level 2 is the model's tick after it
+-- where the words stand for a history that stands by itself, as a span of either kind, a tick of level 2 is
+-- the model's tick after it
 abbrev pub TickLaw : Type 0
 TickLaw =
-    (s : Setting) → IsAccepted s.cal → (h : List Tick) (x : Effects) (e : Entry) → ChecksFlips x →
+    (kind : SpanKind) (s : Setting) → IsAccepted s.cal → (h : List Tick) (x : Effects) (e : Entry) →
+    ChecksFlips x →
     (w : Words) →
-    (let past = moments_of s h in
+    (let past = moments_in kind s h in
     KeepsWords s w past →
-    IsTick s x (doing_at s x (readings_at s.cal x e) (length h)) w (moment s x e past) past)
+    IsTick s x (doing_at kind s x (readings_at s.cal x e) (length h)) w (moment_in kind s x e past) past)
