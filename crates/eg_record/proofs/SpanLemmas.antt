@@ -112,6 +112,35 @@ test_span-part newer row before test =
     let part = span-part (λ first. first.testing ≡ true) newer row before test.span test.tests in
     record { span = part.0; tests = part.1 }
 
+-- a drive span and a test span begin and go on as any span
+pub drive_span-begins : (row : Row) → row.fresh ≡ true → row.testing ≡ false → IsDriveSpan (row ∷ [])
+unfolding span-begins
+drive_span-begins row fresh drives = record { span = span-begins row fresh; drives = drives }
+
+pub drive_span-goes_on : (row : Row) (span : List Row) → row.fresh ≡ false → IsDriveSpan span → IsDriveSpan (row ∷ span)
+unfolding span-goes_on
+drive_span-goes_on row span goes_on drive = record { span = span-goes_on row span goes_on drive.span; drives = drive.drives }
+
+pub test_span-begins : (row : Row) → row.fresh ≡ true → row.testing ≡ true → IsTestSpan (row ∷ [])
+unfolding span-begins
+test_span-begins row fresh tests = record { span = span-begins row fresh; tests = tests }
+
+pub test_span-goes_on : (row : Row) (span : List Row) → row.fresh ≡ false → IsTestSpan span → IsTestSpan (row ∷ span)
+unfolding span-goes_on
+test_span-goes_on row span goes_on test = record { span = span-goes_on row span goes_on test.span; tests = test.tests }
+
+-- the first row of a span is the last of the list, so that the list tells which it is
+pub span-first : (later : List Row) (first : Row) (span : IsSpan (later ++ first ∷ [])) → span.first ≡ first
+span-first later first span = same later span.later span.is
+  where
+    same : (xs ys : List Row) → xs ++ first ∷ [] ≡ ys ++ span.first ∷ [] → span.first ≡ first
+    same [] [] e = cc
+    same [] (y ∷ []) e = absurd cc
+    same [] (y ∷ z ∷ ys) e = absurd cc
+    same (x ∷ []) [] e = absurd cc
+    same (x ∷ z ∷ xs) [] e = absurd cc
+    same (x ∷ xs) (y ∷ ys) e = same xs ys (tail x y (xs ++ first ∷ []) (ys ++ span.first ∷ []) e)
+
 -- ---- each span of a run ----
 
 -- It is enough that P holds of the span of each row, as it stands at the row. `older` is what stands before it.

@@ -1,5 +1,5 @@
--- Lines of rows and of summaries, a whole summary, and the two excesses, computed from the definitions.
-use Rattle.std.proofs.Common.{◌≡◌, ◌∷◌, [], ◌*◌, ℕ, List, true, false, None, Some, refl, codes}
+-- Lines of rows and of summaries, a whole summary, the two excesses, and spans, computed from the definitions.
+use Rattle.std.proofs.Common.{◌≡◌, ◌∷◌, ◌++◌, [], ◌*◌, ℕ, List, true, false, None, Some, refl, codes}
 use Rattle.std.specs.Prelude.{Option, ◌+◌, ◌==◌, length, count_by}
 use Rattle.std.specs.Fmt.{digits}
 use Rattle.eg_num.specs.Drive.{driven}
@@ -15,7 +15,8 @@ use Rattle.eg_record.specs.declared.summary.Summary.{Summary}
 use Rattle.eg_record.specs.declared.watch.Watch.{Watch}
 use Rattle.eg_record.specs.declared.watch.Watch.TheVariants.{Mirror, Pedal, Torque, Start}
 use Rattle.eg_record.specs.Rows.{first_given}
-use Rattle.eg_record.specs.Spans.{this_span}
+use Rattle.eg_record.specs.Spans.{this_span, IsDriveSpan, IsTestSpan}
+use Rattle.eg_record.proofs.SpanLemmas.{drive_span-begins, drive_span-goes_on, test_span-begins, test_span-goes_on}
 use Rattle.eg_record.specs.Excess.{true_excess, full_excess, is_excess_confirmed, first_confirmed}
 use Rattle.eg_record.specs.Detection.{is_found, first_watch, detected_at, first_detection}
 use Rattle.eg_record.specs.Stages.{is_off, off_at, first_off}
@@ -169,6 +170,23 @@ test_hides = refl
 test_hides_no_later : first_off (fallen 4 ∷ rising 3 ∷ fallen 2 ∷ tested 1 ∷ tested 0 ∷ []) ≡ Some 2
 unfolding recording
 test_hides_no_later = refl
+
+-- a start-up test of two ticks, and the first two ticks of the drive after it: two spans
+abbrev test : List Row
+test = tested 1 ∷ record (tested 0) { fresh = true } ∷ []
+
+abbrev drive : List Row
+drive = rising 3 ∷ record (rising 2) { fresh = true } ∷ []
+
+last_span : (this_span (drive ++ test) ≡ drive) × (this_span test ≡ test)
+unfolding recording
+last_span = (refl, refl)
+
+tests : IsTestSpan test
+tests = test_span-goes_on (tested 1) _ refl (test_span-begins (record (tested 0) { fresh = true }) refl refl)
+
+drives : IsDriveSpan drive
+drives = drive_span-goes_on (rising 3) _ refl (drive_span-begins (record (rising 2) { fresh = true }) refl refl)
 
 -- Four ticks of an excess at the end of one span, and four at the beginning of the next, don't confirm it: it
 -- takes a fifth. In one span the fifth tick of it would.
