@@ -20,7 +20,7 @@ pub use lapses::lapses_are_cut;
 pub use reaction::{cuts_from_onset, reacts_in_time};
 pub use records::{
     records_are_histories, records_cut_from_onset, records_cut_lapses, records_cut_sharply,
-    records_react,
+    records_react, records_test_the_paths,
 };
 pub use sharp_cut::cuts_sharply;
-pub use start_up::runs_without_reset_are_one_span;
+pub use start_up::{runs_without_reset_are_one_span, tests_pass};
