@@ -4,15 +4,15 @@ use Rattle.std.specs.Prelude.{if◌then◌else◌, option_map}
 use Rattle.eg_record.specs.declared.row.Row.{Row}
 use Rattle.eg_record.specs.declared.watch.Watch.{Watch}
 use Rattle.eg_record.specs.Detection.{first_watch, detected_at}
-use Rattle.eg_record.specs.Stages.{off_at}
+use Rattle.eg_record.specs.Stages.{is_off, off_at}
 
-pub off_at-on : (row : Row) → row.on ≡ true → off_at row ≡ None
+pub off_at-none : (row : Row) → is_off row ≡ false → off_at row ≡ None
 unfolding off_at
-off_at-on row on = ap (λ b. if b then None else Some row.tick) on
+off_at-none row other = ap (λ b. if b then Some row.tick else None) other
 
-pub off_at-off : (row : Row) → row.on ≡ false → off_at row ≡ Some row.tick
+pub off_at-off : (row : Row) → is_off row ≡ true → off_at row ≡ Some row.tick
 unfolding off_at
-off_at-off row off = ap (λ b. if b then None else Some row.tick) off
+off_at-off row off = ap (λ b. if b then Some row.tick else None) off
 
 pub detected_at-none : (row : Row) → first_watch row.found ≡ None → detected_at row ≡ None
 unfolding detected_at

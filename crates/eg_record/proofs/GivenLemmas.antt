@@ -37,7 +37,7 @@ option_or-none : {X : Type 0} (o p : Option X) → option_or o p ≡ None → (o
 option_or-none None p none = (refl, none)
 option_or-none (Some x) p none = absurd (none-some x (sym none))
 
-option_or-some : {X : Type 0} (o p : Option X) (x : X) → option_or o p ≡ Some x → (o ≡ Some x) ⊎ ((o ≡ None) × (p ≡ Some x))
+pub option_or-some : {X : Type 0} (o p : Option X) (x : X) → option_or o p ≡ Some x → (o ≡ Some x) ⊎ ((o ≡ None) × (p ≡ Some x))
 option_or-some None p x some = inr (refl, some)
 option_or-some (Some y) p x some = inl some
 

@@ -1,16 +1,18 @@
 -- The first detection and the first tick at which the stages are off, in words and as they are computed.
-use Rattle.std.proofs.Common.{◌≡◌, ◌∙◌, ◌<◌, List, ℕ, Bool, true, false, None, Some, refl, sym, ap, subst}
+use Rattle.std.proofs.Common.{◌≡◌, ◌∙◌, ◌<◌, ◌⊎◌, ◌&&◌, not, inl, inr, List, [], ◌∷◌, ℕ, Bool, true, false, None, Some, refl, sym, ap, ap₂, subst}
 use Rattle.std.specs.Prelude.{Option, IsTrue, option_map, if◌then◌else◌}
-use Rattle.std.proofs.lemmas.List.Elements.{All-weaker}
+use Rattle.std.proofs.lemmas.List.Elements.{All-weaker, All-head, All-tail}
 use Rattle.std.proofs.lemmas.Bool.{false_from_ne_true, both_ways}
 use Rattle.std.proofs.lemmas.Option.{none-some, same_Some, some_pair_parts}
 use Rattle.eg_record.specs.declared.row.Row.{Row}
 use Rattle.eg_record.specs.declared.watch.Watch.{Watch}
+use Rattle.std.specs.List.{All}
+use Rattle.eg_record.specs.Rows.{first_given}
 use Rattle.eg_record.specs.Detection.{is_found, first_watch, detected_at, first_detection, FindsNothing, IsDetectedFirst, DetectionLaw}
-use Rattle.eg_record.specs.Stages.{off_at, first_off, IsOffFirst, OffLaw}
-use Rattle.eg_record.proofs.FirstLemmas.{off_at-on, off_at-off, detected_at-none, detected_at-found}
+use Rattle.eg_record.specs.Stages.{is_off, off_at, first_off, IsOnOrTested, IsOffFirst, OffLaw}
+use Rattle.eg_record.proofs.FirstLemmas.{off_at-none, off_at-off, detected_at-none, detected_at-found}
 use Rattle.eg_record.proofs.WatchLemmas.{first_watch-some, first_watch-none, first_watch-nothing, first_watch-is}
-use Rattle.eg_record.proofs.GivenLemmas.{IsGivenFirst, first_given-none, none_given, first_given-some, given_first}
+use Rattle.eg_record.proofs.GivenLemmas.{option_or-some, IsGivenFirst, first_given-none, none_given, first_given-some, given_first}
 
 -- ---- the first detection ----
 
@@ -70,31 +72,57 @@ detection_law rows whole (Some d) = (
   λ first. detection_given rows d.0 d.1 (given_first detected_at rows d whole (sym first)),
 )
 
+-- a watch that is found at no row isn't the first
+pub first_detection-never : (rows : List Row) (w : Watch) → All (λ row. is_found row.found w ≡ false) rows → (tick : ℕ) → first_detection rows ≡ Some (w, tick) → ⊥
+unfolding first_detection first_given
+first_detection-never [] w never tick first = none-some (w, tick) first
+first_detection-never (row ∷ before) w never tick first = elim (option_or-some (first_given detected_at before) (detected_at row) (w, tick) first) [
+  | inl earlier ↦ first_detection-never before w (All-tail (λ r. is_found r.found w ≡ false) row before never) tick earlier
+  | inr now ↦ both_ways (is_found row.found w) (All-head (λ r. is_found r.found w ≡ false) row before never)
+      (first_watch-some row.found w (detected_parts row w tick now.1).0).0
+]
+
 -- ---- the first tick at which the stages are off ----
 
-stays_on : (row : Row) → off_at row ≡ None → row.on ≡ true
-unfolding off_at
-stays_on row none = on row.on none
+-- a row at which the stages are on or a test is running gives nothing, and the other way
+nothing_off : (row : Row) → IsOnOrTested row → off_at row ≡ None
+unfolding is_off
+nothing_off row (inl on) = off_at-none row (ap (λ b. not b && not row.testing) on)
+nothing_off row (inr tested) = off_at-none row (neither row.on row.testing tested)
   where
-    on : (b : Bool) → (if b then None else Some row.tick) ≡ None → b ≡ true
-    on true e = refl
-    on false e = absurd (none-some row.tick (sym e))
+    neither : (on testing : Bool) → testing ≡ true → (not on && not testing) ≡ false
+    neither true testing e = refl
+    neither false testing e = ap not e
 
-goes_off : (row : Row) (tick : ℕ) → off_at row ≡ Some tick → (row.on ≡ false) × (row.tick ≡ tick)
-unfolding off_at
-goes_off row tick some = off row.on some
+on_or_tested : (row : Row) → off_at row ≡ None → IsOnOrTested row
+unfolding off_at is_off
+on_or_tested row none = either row.on row.testing none
   where
-    off : (b : Bool) → (if b then None else Some row.tick) ≡ Some tick → (b ≡ false) × (row.tick ≡ tick)
-    off true e = absurd (none-some tick e)
-    off false e = (refl, same_Some row.tick tick e)
+    either : (on testing : Bool) → (if not on && not testing then Some row.tick else None) ≡ None → IsTrue on ⊎ IsTrue testing
+    either true testing e = inl refl
+    either false true e = inr refl
+    either false false e = absurd (none-some row.tick (sym e))
+
+goes_off : (row : Row) (tick : ℕ) → off_at row ≡ Some tick → (row.on ≡ false) × (row.testing ≡ false) × (row.tick ≡ tick)
+unfolding off_at is_off
+goes_off row tick some = off row.on row.testing some
+  where
+    off : (on testing : Bool) → (if not on && not testing then Some row.tick else None) ≡ Some tick → (on ≡ false) × (testing ≡ false) × (row.tick ≡ tick)
+    off true testing e = absurd (none-some tick e)
+    off false true e = absurd (none-some tick e)
+    off false false e = (refl, refl, same_Some row.tick tick e)
+
+is_off-parts : (row : Row) → row.on ≡ false → row.testing ≡ false → is_off row ≡ true
+unfolding is_off
+is_off-parts row off untested = ap₂ (λ on testing. not on && not testing) off untested
 
 given_off : (rows : List Row) (tick : ℕ) → IsOffFirst rows tick → IsGivenFirst off_at rows tick
 given_off rows tick first = record {
   row = first.row;
   stands = first.stands;
-  here = off_at-off first.row first.off ∙ ap Some first.at_tick;
-  none_earlier = All-weaker (λ other. other.tick < tick → IsTrue other.on) (λ other. other.tick < first.row.tick → off_at other ≡ None)
-      (λ other on earlier. off_at-on other (on (subst (λ (t : ℕ). other.tick < t) first.at_tick earlier))) rows first.on_earlier;
+  here = off_at-off first.row (is_off-parts first.row first.off first.untested) ∙ ap Some first.at_tick;
+  none_earlier = All-weaker (λ other. other.tick < tick → IsOnOrTested other) (λ other. other.tick < first.row.tick → off_at other ≡ None)
+      (λ other on earlier. nothing_off other (on (subst (λ (t : ℕ). other.tick < t) first.at_tick earlier))) rows first.none_earlier;
 }
 
 off_given : (rows : List Row) (tick : ℕ) → IsGivenFirst off_at rows tick → IsOffFirst rows tick
@@ -103,17 +131,18 @@ off_given rows tick given =
     record {
       row = given.row;
       stands = given.stands;
-      at_tick = parts.1;
+      at_tick = parts.2;
       off = parts.0;
-      on_earlier = All-weaker (λ other. other.tick < given.row.tick → off_at other ≡ None) (λ other. other.tick < tick → IsTrue other.on)
-          (λ other none earlier. stays_on other (none (subst (λ (t : ℕ). other.tick < t) (sym parts.1) earlier))) rows given.none_earlier;
+      untested = parts.1;
+      none_earlier = All-weaker (λ other. other.tick < given.row.tick → off_at other ≡ None) (λ other. other.tick < tick → IsOnOrTested other)
+          (λ other none earlier. on_or_tested other (none (subst (λ (t : ℕ). other.tick < t) (sym parts.2) earlier))) rows given.none_earlier;
     }
 
 pub off_law : OffLaw
 unfolding first_off
 off_law rows whole None = (
-  λ on. sym (first_given-none off_at rows (All-weaker (λ row. IsTrue row.on) (λ row. off_at row ≡ None) off_at-on rows on)),
-  λ none. All-weaker (λ row. off_at row ≡ None) (λ row. IsTrue row.on) stays_on rows (none_given off_at rows (sym none)),
+  λ on. sym (first_given-none off_at rows (All-weaker IsOnOrTested (λ row. off_at row ≡ None) nothing_off rows on)),
+  λ none. All-weaker (λ row. off_at row ≡ None) IsOnOrTested on_or_tested rows (none_given off_at rows (sym none)),
 )
 off_law rows whole (Some tick) = (
   λ first. sym (first_given-some off_at rows tick whole (given_off rows tick first)),

@@ -1,4 +1,6 @@
 pub mod RowsLemmas
+pub mod SpanLemmas
+pub mod ExcessLemmas
 pub mod FirstLemmas
 pub mod ColumnsLemmas
 pub mod NamesLemmas

@@ -4,7 +4,7 @@ use Rattle.std.specs.Prelude.{Option, ◌+◌, ◌==◌, length, count_by}
 use Rattle.std.specs.Fmt.{digits}
 use Rattle.eg_num.specs.Drive.{driven}
 use Rattle.eg_num.specs.declared.watches.Watches.{Watches}
-use Rattle.eg_num.specs.Windows.{WeightParts, weight, windows, is_reached, is_confirmed, is_first, first_place}
+use Rattle.eg_num.specs.Windows.{WeightParts, weight, windows, is_reached, is_confirmed}
 use Rattle.eg_torque.specs.Excess.{is_excess}
 use Rattle.eg_answer.specs.declared.marks.AnswerMark.TheVariants.{Absent, Good, Bad}
 use Rattle.eg_answer.specs.declared.marks.Verdict.TheVariants.{Right, Wrong}
@@ -13,18 +13,19 @@ use Rattle.eg_word.specs.declared.registers.Trap.TheVariants as kind
 use Rattle.eg_record.specs.declared.row.Row.{Row}
 use Rattle.eg_record.specs.declared.summary.Summary.{Summary}
 use Rattle.eg_record.specs.declared.watch.Watch.{Watch}
-use Rattle.eg_record.specs.declared.watch.Watch.TheVariants.{Mirror, Pedal, Torque}
+use Rattle.eg_record.specs.declared.watch.Watch.TheVariants.{Mirror, Pedal, Torque, Start}
 use Rattle.eg_record.specs.Rows.{first_given}
-use Rattle.eg_record.specs.Excess.{true_excess, full_excess, first_confirmed}
+use Rattle.eg_record.specs.Spans.{this_span}
+use Rattle.eg_record.specs.Excess.{true_excess, full_excess, is_excess_confirmed, first_confirmed}
 use Rattle.eg_record.specs.Detection.{is_found, first_watch, detected_at, first_detection}
-use Rattle.eg_record.specs.Stages.{off_at, first_off}
+use Rattle.eg_record.specs.Stages.{is_off, off_at, first_off}
 use Rattle.eg_record.specs.Summaries.{summary_of}
 use Rattle.eg_record.specs.Texts.{comma, bit, watch_name, names, found_text, answer_text, verdict_text, drive_columns, engine_columns, path_columns, signal_columns, command_columns, value_columns, event_columns, columns, row_line, record_header, at_text, first_text, trap_name, trap_text, summary_line, report_end}
 
 -- every definition that these need
 unfoldable recording : ℕ
-unfolding weight windows is_reached is_confirmed is_first first_place is_excess first_given true_excess full_excess first_confirmed
-    is_found first_watch detected_at first_detection off_at first_off summary_of bit watch_name names found_text answer_text
+unfolding weight windows is_reached is_confirmed is_excess first_given true_excess full_excess this_span
+    is_excess_confirmed first_confirmed is_found first_watch detected_at first_detection is_off off_at first_off summary_of bit watch_name names found_text answer_text
     verdict_text drive_columns engine_columns path_columns signal_columns command_columns value_columns event_columns columns row_line
     record_header at_text first_text trap_name trap_text summary_line report_end digits
 recording = 0
@@ -100,6 +101,16 @@ busy_first : first_detection (busy ∷ []) ≡ Some (Pedal, 19)
 unfolding recording
 busy_first = refl
 
+-- a start-up test that failed is told last
+start_line : row_line (record (plain 6 0 0 40 200 100 0) { found = record nothing { pedal = true; start = true } })
+    ≡ codes "6,0,800,0,0,40,0,200,1,1,1,0,200,100,0,0,0,0,pedal+start,-,-\n"
+unfolding recording
+start_line = refl
+
+start_first : first_detection (record (plain 6 0 0 40 200 100 0) { found = record nothing { start = true } } ∷ []) ≡ Some (Start, 6)
+unfolding recording
+start_first = refl
+
 -- the header has a name for each column
 header_columns : count_by (λ b. b == comma) record_header + 1 ≡ length (columns busy)
 unfolding recording
@@ -145,6 +156,39 @@ full_alone : (true_excess 200 (record (rising 5) { torque = 0 }) ≡ false) × (
 unfolding recording
 full_alone = (refl, refl)
 
+-- ---- several spans ----
+
+-- while a test is running the stages are off, and that isn't told; what is told is the first tick after it
+abbrev tested : (tick : ℕ) → Row
+tested tick = record (fallen tick) { testing = true }
+
+test_hides : first_off (tested 1 ∷ tested 0 ∷ []) ≡ None
+unfolding recording
+test_hides = refl
+
+test_hides_no_later : first_off (fallen 4 ∷ rising 3 ∷ fallen 2 ∷ tested 1 ∷ tested 0 ∷ []) ≡ Some 2
+unfolding recording
+test_hides_no_later = refl
+
+-- Four ticks of an excess at the end of one span, and four at the beginning of the next, don't confirm it: it
+-- takes a fifth. In one span the fifth tick of it would.
+abbrev exceeding : (tick : ℕ) → Row
+exceeding tick = record (plain tick 0 0 200 200 500 1000) { torque = 500; ignition = 1000 }
+
+abbrev four : List Row
+four = exceeding 3 ∷ exceeding 2 ∷ exceeding 1 ∷ record (exceeding 0) { fresh = true } ∷ []
+
+abbrev four_and_four : List Row
+four_and_four = exceeding 7 ∷ exceeding 6 ∷ exceeding 5 ∷ record (exceeding 4) { fresh = true } ∷ four
+
+anew : (first_confirmed torque_weights 200 four_and_four ≡ None) × (first_confirmed torque_weights 200 (exceeding 8 ∷ four_and_four) ≡ Some 8)
+unfolding recording
+anew = (refl, refl)
+
+not_anew : first_confirmed torque_weights 200 (exceeding 5 ∷ exceeding 4 ∷ four) ≡ Some 4
+unfolding recording
+not_anew = refl
+
 -- ---- lines of summaries ----
 
 run_line : summary_line (told (Some (Torque, 9)) (Some 10) None (Some 9)) ≡ codes "a: first torque at 9; off at 10; trap none; excess at 9; bound 34\n"
@@ -162,6 +206,10 @@ mirror_line = refl
 trap_line : summary_line (told None None (Some (kind.Store, 0)) None) ≡ codes "a: first none; off never; trap store at 0; excess none; bound 34\n"
 unfolding recording
 trap_line = refl
+
+start_summary : summary_line (told (Some (Start, 6)) (Some 7) None None) ≡ codes "a: first start at 6; off at 7; trap none; excess none; bound 34\n"
+unfolding recording
+start_summary = refl
 
 end_line : report_end (told (Some (Torque, 9)) (Some 10) None (Some 9) ∷ told None None (Some (kind.Fetch, 1)) None ∷ []) ≡ codes "runs 2; detected 1; off 1\n"
 unfolding recording

@@ -1,11 +1,13 @@
 -- The excess of the torque of a row over what its drive permits: the true one by the torque of the engine,
 -- and the full-efficiency one by the torque that its charge would give at full ignition efficiency. Both are
--- debounced by the weights of the torque.
-use Rattle.std.specs.Prelude.{ℕ, Bool, List, map, Option}
+-- debounced by the weights of the torque, in each span anew.
+use Rattle.std.specs.Prelude.{ℕ, Bool, List, [], ◌∷◌, length, map, Option, Some, None, if◌then◌else◌}
+use Rattle.std.specs.Option.{option_or}
 use Rattle.eg_num.specs.Arithmetic.{estimate}
-use Rattle.eg_num.specs.Windows.{WeightParts, first_place}
+use Rattle.eg_num.specs.Windows.{WeightParts, is_confirmed}
 use Rattle.eg_torque.specs.Excess.{is_excess}
 use Rattle.eg_record.specs.declared.row.Row.{Row}
+use Rattle.eg_record.specs.Spans.{this_span}
 
 -- the torque of the engine is more than what is permitted and the threshold together
 unfoldable pub true_excess : (threshold : ℕ) → Row → Bool
@@ -15,6 +17,14 @@ true_excess threshold row = is_excess row.torque row.limit threshold
 unfoldable pub full_excess : (kt threshold : ℕ) → Row → Bool
 full_excess kt threshold row = is_excess (estimate kt row.charge) row.limit threshold
 
--- the first tick by which the true excess is confirmed, or none
+-- the true excess is confirmed at the last of these rows, by the rows of its span
+unfoldable pub is_excess_confirmed : WeightParts → (threshold : ℕ) → List Row → Bool
+is_excess_confirmed weights threshold rows =
+    is_confirmed weights (map (true_excess threshold) (this_span rows))
+
+-- the first tick at which it is, or none
 unfoldable pub first_confirmed : WeightParts → (threshold : ℕ) → List Row → Option ℕ
-first_confirmed weights threshold rows = first_place weights (map (true_excess threshold) rows)
+first_confirmed weights threshold [] = None
+first_confirmed weights threshold (row ∷ before) =
+    option_or (first_confirmed weights threshold before)
+    (if is_excess_confirmed weights threshold (row ∷ before) then Some (length before) else None)

@@ -1,6 +1,6 @@
 -- The spans of a run, by its rows. A span begins at each row that is fresh, and lasts to the row before the
--- next such one. In a drive span the engine is driven; in a test span the shut-off paths are tested, which its
--- first row tells.
+-- next such one. In a drive span the engine is driven; in a test span the shut-off paths are tested, which
+-- its first row tells.
 use Rattle.std.specs.Prelude.{◌≡◌, ℕ, true, false, List, [], ◌∷◌, ◌++◌, length, if◌then◌else◌}
 use Rattle.std.specs.List.{All}
 use Rattle.eg_record.specs.declared.row.Row.{Row}

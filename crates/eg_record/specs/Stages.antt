@@ -1,30 +1,40 @@
--- When the power stages of a run are first off.
-use Rattle.std.specs.Prelude.{◌≡◌, ◌↔◌, ℕ, ◌<◌, IsTrue, IsFalse, List, Option, Some, None, if◌then◌else◌}
+-- When the power stages of a run are first off. While a start-up test is running they are off in any case, so
+-- that its ticks don't count. Those after a test that failed do.
+use Rattle.std.specs.Prelude.{◌≡◌, ◌↔◌, ◌⊎◌, ℕ, ◌<◌, Bool, not, ◌&&◌, IsTrue, IsFalse, List, Option, Some, None, if◌then◌else◌}
 use Rattle.std.specs.List.{All, Contains}
 use Rattle.eg_record.specs.declared.row.Row.{Row}
 use Rattle.eg_record.specs.Rows.{AreRows, first_given}
 
--- the tick of a row at which the stages are off, and none where they are on
-unfoldable pub off_at : Row → Option ℕ
-off_at row = if row.on then None else Some row.tick
+-- whether the stages are off at a row, and no test is running
+unfoldable pub is_off : Row → Bool
+is_off row = not row.on && not row.testing
 
--- the first tick at which they are off, or none
+-- the tick of a row, where that is so
+unfoldable pub off_at : Row → Option ℕ
+off_at row = if is_off row then Some row.tick else None
+
+-- the first tick at which it is so, or none
 unfoldable pub first_off : List Row → Option ℕ
 first_off rows = first_given off_at rows
 
 -- ---- the same in words ----
 
--- at this tick the stages are off, and at each earlier tick they are on
+-- at this row the stages are on, or a test is running
+abbrev pub IsOnOrTested : Row → Type 0
+IsOnOrTested row = IsTrue row.on ⊎ IsTrue row.testing
+
+-- at this tick the stages are off and no test is running; at each earlier tick they are on, or one is running
 pub record IsOffFirst (rows : List Row) (tick : ℕ) : Type 0 where
   pub row : Row
   pub stands : Contains rows row
   pub at_tick : row.tick ≡ tick
   pub off : IsFalse row.on
-  pub on_earlier : All (λ other. other.tick < tick → IsTrue other.on) rows
+  pub untested : IsFalse row.testing
+  pub none_earlier : All (λ other. other.tick < tick → IsOnOrTested other) rows
 
--- this is the first tick at which they are off, or they are on at each tick
+-- this is the first tick at which they are off and no test is running, or there is none
 abbrev pub IsFirstOff : List Row → Option ℕ → Type 0
-IsFirstOff rows None = All (λ row. IsTrue row.on) rows
+IsFirstOff rows None = All IsOnOrTested rows
 IsFirstOff rows (Some tick) = IsOffFirst rows tick
 
 -- the law: the words say of each run exactly what is computed

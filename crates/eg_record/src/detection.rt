@@ -1,8 +1,8 @@
 // What is first in the rows of a run.
-ghost use Rattle.std.specs.Prelude.{◌≡◌, reverse};
+ghost use Rattle.std.specs.Prelude.{◌≡◌, reverse, if◌then◌else◌};
 ghost use Rattle.eg_record.specs.Rows.{AreRows};
 ghost use Rattle.eg_record.specs.Detection.{first_detection, DetectionLaw};
-ghost use Rattle.eg_record.specs.Stages.{first_off, OffLaw};
+ghost use Rattle.eg_record.specs.Stages.{is_off, first_off, OffLaw};
 ghost use Rattle.eg_record.specs.Excess.{true_excess, first_confirmed};
 
 use crate::{Row, Watch};
@@ -21,19 +21,19 @@ pub(crate) fn first_detection(rows: &[Row]) -> Option<(Watch, u32)>
     None
 }
 
-/// The first tick of these rows at which the stages are off.
+/// The first tick of these rows at which the stages are off and no start-up test is running.
 pub(crate) fn first_off(rows: &[Row]) -> Option<u32>
     ensures { result ≡ first_off (reverse rows.now) }
 {
     for row in rows {
-        if !row.on {
+        if is_off(row) {
             return Some(row.tick);
         }
     }
     None
 }
 
-/// The first tick of these rows by which the true excess is confirmed.
+/// The first tick of these rows at which the true excess is confirmed within its span.
 pub(crate) fn first_confirmed(rows: &[Row], threshold: u16, weights: &Weights) -> Option<u32>
     requires { AreRows (reverse rows.now) }
     ensures { result ≡ first_confirmed weights.now threshold (reverse rows.now) }
@@ -43,6 +43,7 @@ pub(crate) fn first_confirmed(rows: &[Row], threshold: u16, weights: &Weights) -
     prove!(limit >= 1);
     let mut counter = Counter::new();
     for row in rows {
+        counter = counter_at(row, counter);
         if counter.feed(weights, is_excess(row, threshold)) {
             return Some(row.tick);
         }
@@ -58,10 +59,19 @@ pub fn detections_are_first()
 {}
 
 /// Does nothing when it runs. Its contract is a law: at the tick that is told as the first at which the
-/// stages are off they are off, and at each earlier one on (docs/CONCEPT.md, "The report of a run").
+/// stages are off they are off and no start-up test is running, and at each earlier one they are on or a test
+/// is running (docs/CONCEPT.md, "The report of a run").
 pub fn off_ticks_are_first()
     ensures { OffLaw }
 {}
+
+/// Whether the stages are off at a row, and no start-up test is running.
+#[tactic(auto, unfolding(crate::specs::Stages::is_off))]
+fn is_off(row: &Row) -> bool
+    ensures { result ≡ is_off row.now }
+{
+    !row.on && !row.testing
+}
 
 /// Whether the torque of a row exceeds what is permitted.
 #[tactic(auto, unfolding(crate::specs::Excess::true_excess))]
@@ -69,4 +79,11 @@ fn is_excess(row: &Row, threshold: u16) -> bool
     ensures { result ≡ true_excess threshold row.now }
 {
     excess(row.torque, row.limit, threshold)
+}
+
+/// The counter that a row is fed to: a new one where a span begins with the row.
+fn counter_at(row: &Row, counter: Counter) -> Counter
+    ensures { result.value ≡ if row.now.fresh then 0 else counter.value }
+{
+    if row.fresh { Counter::new() } else { counter }
 }

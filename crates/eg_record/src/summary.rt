@@ -17,11 +17,11 @@ pub struct Summary {
     pub name: Text,
     /// The first watch that is found, and the tick at which it is, or None.
     pub first: Option<(Watch, u32)>,
-    /// The first tick at which the power stages are off, or None.
+    /// The first tick at which the power stages are off and no start-up test is running, or None.
     pub off: Option<u32>,
     /// Why level 1 trapped, and the tick at which it did, or None.
     pub trap: Option<(Trap, u32)>,
-    /// The first tick by which the true excess is confirmed, or None.
+    /// The first tick at which the true excess is confirmed within its span, or None.
     pub confirmed: Option<u32>,
     /// The reaction time, in ticks.
     pub bound: u32,

@@ -2,3 +2,4 @@ pub mod RunsLemmas
 pub mod FactsLemmas
 pub mod TextLemmas
 pub mod SumLemmas
+pub mod StartLemmas

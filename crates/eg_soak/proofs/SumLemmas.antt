@@ -1,14 +1,19 @@
--- Each run is counted once.
-use Rattle.std.proofs.Common.{◌≡◌, refl, ℕ, suc, ◌+◌, Bool, not, is_some, List, [], ◌∷◌, length, arith}
+-- Each run is counted once: in none is the watch of the start-up test the first, and each other watch has its count.
+use Rattle.std.proofs.Common.{◌≡◌, refl, ℕ, suc, ◌+◌, Bool, false, not, is_some, List, [], ◌∷◌, length, arith}
 use Rattle.std.specs.Prelude.{Option, Some, None, count_by, if◌then◌else◌}
-use Rattle.std.specs.List.{sum}
+use Rattle.std.specs.List.{sum, All}
+use Rattle.std.proofs.lemmas.List.Elements.{All-head, All-tail}
 use Rattle.eg_record.specs.declared.watch.Watch.{Watch}
-use Rattle.eg_record.specs.declared.watch.Watch.TheVariants.{Mirror, Pedal, Plate, Load, Speed, Torque, Answers}
+use Rattle.eg_record.specs.declared.watch.Watch.TheVariants.{Mirror, Pedal, Plate, Load, Speed, Torque, Answers, Start}
 use Rattle.eg_record.specs.Detection.{rank}
 use Rattle.eg_model.proofs.LapseRuns.{count-cons}
 use Rattle.eg_soak.specs.declared.facts.RunFacts.{RunFacts}
 use Rattle.eg_soak.specs.Facts.{is_first, is_watch}
 use Rattle.eg_soak.specs.Soak.{summary_of}
+
+-- in none of these runs is the watch of the start-up test the first
+abbrev pub NeverStart : List RunFacts → Type 0
+NeverStart all = All (λ facts. is_first Start facts ≡ false) all
 
 -- no watch was found
 unfoldable is_none : RunFacts → Bool
@@ -21,17 +26,23 @@ counted watch o n = if is_watch watch o then suc n else n
 unfoldable undetected : Option Watch → ℕ → ℕ
 undetected o n = if not (is_some o) then suc n else n
 
-step : (o : Option Watch) (none mirror pedal plate load speed torque answers all : ℕ) → none + (((((((0 + mirror) + pedal) + plate) + load) + speed) + torque) + answers) ≡ all →
+step : (o : Option Watch) (none mirror pedal plate load speed torque answers all : ℕ) → is_watch Start o ≡ false →
+    none + (((((((0 + mirror) + pedal) + plate) + load) + speed) + torque) + answers) ≡ all →
     undetected o none + (((((((0 + counted Mirror o mirror) + counted Pedal o pedal) + counted Plate o plate) + counted Load o load) + counted Speed o speed) + counted Torque o torque) + counted Answers o answers) ≡ suc all
 unfolding counted undetected is_watch rank
-step None none mirror pedal plate load speed torque answers all e = omega (arith, e)
-step (Some Mirror) none mirror pedal plate load speed torque answers all e = omega (arith, e)
-step (Some Pedal) none mirror pedal plate load speed torque answers all e = omega (arith, e)
-step (Some Plate) none mirror pedal plate load speed torque answers all e = omega (arith, e)
-step (Some Load) none mirror pedal plate load speed torque answers all e = omega (arith, e)
-step (Some Speed) none mirror pedal plate load speed torque answers all e = omega (arith, e)
-step (Some Torque) none mirror pedal plate load speed torque answers all e = omega (arith, e)
-step (Some Answers) none mirror pedal plate load speed torque answers all e = omega (arith, e)
+step None none mirror pedal plate load speed torque answers all never e = omega (arith, e)
+step (Some Mirror) none mirror pedal plate load speed torque answers all never e = omega (arith, e)
+step (Some Pedal) none mirror pedal plate load speed torque answers all never e = omega (arith, e)
+step (Some Plate) none mirror pedal plate load speed torque answers all never e = omega (arith, e)
+step (Some Load) none mirror pedal plate load speed torque answers all never e = omega (arith, e)
+step (Some Speed) none mirror pedal plate load speed torque answers all never e = omega (arith, e)
+step (Some Torque) none mirror pedal plate load speed torque answers all never e = omega (arith, e)
+step (Some Answers) none mirror pedal plate load speed torque answers all never e = omega (arith, e)
+step (Some Start) none mirror pedal plate load speed torque answers all never e = absurd cc
+
+not_start : (f : RunFacts) → is_first Start f ≡ false → is_watch Start f.first ≡ false
+unfolding is_first
+not_start f never = never
 
 watch-cons : (watch : Watch) (f : RunFacts) (all : List RunFacts) →
     count_by (is_first watch) (f ∷ all) ≡ counted watch f.first (count_by (is_first watch) all)
@@ -43,11 +54,13 @@ none-cons : (f : RunFacts) (all : List RunFacts) →
 unfolding undetected is_none
 none-cons f all = count-cons is_none f all
 
-each : (all : List RunFacts) → count_by is_none all + (((((((0 + count_by (is_first Mirror) all) + count_by (is_first Pedal) all) + count_by (is_first Plate) all) + count_by (is_first Load) all) + count_by (is_first Speed) all) + count_by (is_first Torque) all) + count_by (is_first Answers) all) ≡ length all
-each [] = refl
-each (f ∷ all) =
-    let before = each all in
-    let next = step f.first (count_by is_none all) (count_by (is_first Mirror) all) (count_by (is_first Pedal) all) (count_by (is_first Plate) all) (count_by (is_first Load) all) (count_by (is_first Speed) all) (count_by (is_first Torque) all) (count_by (is_first Answers) all) (length all) before in
+each : (all : List RunFacts) → NeverStart all →
+    count_by is_none all + (((((((0 + count_by (is_first Mirror) all) + count_by (is_first Pedal) all) + count_by (is_first Plate) all) + count_by (is_first Load) all) + count_by (is_first Speed) all) + count_by (is_first Torque) all) + count_by (is_first Answers) all) ≡ length all
+each [] never = refl
+each (f ∷ all) never =
+    let before = each all (All-tail (λ facts. is_first Start facts ≡ false) f all never) in
+    let next = step f.first (count_by is_none all) (count_by (is_first Mirror) all) (count_by (is_first Pedal) all) (count_by (is_first Plate) all) (count_by (is_first Load) all) (count_by (is_first Speed) all) (count_by (is_first Torque) all) (count_by (is_first Answers) all) (length all)
+    (not_start f (All-head (λ facts. is_first Start facts ≡ false) f all never)) before in
     let none = none-cons f all in
     let mirror = watch-cons Mirror f all in
     let pedal = watch-cons Pedal f all in
@@ -58,9 +71,9 @@ each (f ∷ all) =
     let answers = watch-cons Answers f all in
     omega (arith, next, none, mirror, pedal, plate, load, speed, torque, answers)
 
-pub sums_up : (all : List RunFacts) → (summary_of all).none + sum (summary_of all).by_watch ≡ length all
+pub sums_up : (all : List RunFacts) → NeverStart all → (summary_of all).none + sum (summary_of all).by_watch ≡ length all
 unfolding summary_of is_none
-sums_up all = each all
+sums_up all never = each all never
 
 pub runs_counted : (all : List RunFacts) → (summary_of all).runs ≡ length all
 unfolding summary_of

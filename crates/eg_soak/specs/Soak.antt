@@ -2,7 +2,8 @@
 use Rattle.std.specs.Prelude.{ℕ, zero, suc, not, is_some, max, List, [], ◌∷◌, map, length, count_by}
 use Rattle.std.specs.List.{fold}
 use Rattle.eg_values.specs.Reference.{reference_parts}
-use Rattle.eg_record.specs.Detection.{watches}
+use Rattle.eg_record.specs.declared.watch.Watch.{Watch}
+use Rattle.eg_record.specs.declared.watch.Watch.TheVariants.{Mirror, Pedal, Plate, Load, Speed, Torque, Answers}
 use Rattle.eg_model.specs.Bench.{Run}
 use Rattle.eg_tick.specs.Run.{run_by}
 use Rattle.eg_plan.specs.Contents.{usual_slices}
@@ -22,12 +23,16 @@ unfoldable pub drawn_runs : (count x : ℕ) → List Run
 drawn_runs zero x = []
 drawn_runs (suc count) x = run_drawn (drawn_run x) ∷ drawn_runs count (state_after x)
 
+-- the watches that a run without a reset can find, in their order: it has no start-up test
+abbrev pub drive_watches : List Watch
+drive_watches = Mirror ∷ Pedal ∷ Plate ∷ Load ∷ Speed ∷ Torque ∷ Answers ∷ []
+
 -- the summary of runs of which this counts
 unfoldable pub summary_of : List RunFacts → SoakSummary
 summary_of all = record {
   runs = length all;
   none = count_by (λ facts. not (is_some facts.first)) all;
-  by_watch = map (λ watch. count_by (is_first watch) all) watches;
+  by_watch = map (λ watch. count_by (is_first watch) all) drive_watches;
   trapped = count_by (λ facts. facts.is_trapped) all;
   off = count_by (λ facts. facts.goes_off) all;
   longest = fold (λ most facts. max most facts.reaction) 0 all;

@@ -14,7 +14,8 @@ pub struct SoakSummary {
     pub runs: u32,
     /// In how many no watch was found.
     pub none: u32,
-    /// In how many each watch was the first that was found, in the order of the watches.
+    /// In how many each watch was the first that was found, in the order of the watches. That of the start-up
+    /// test isn't among them: no drawn run has a test.
     pub by_watch: [u32; 7],
     /// In how many level 1 trapped.
     pub trapped: u32,
@@ -26,7 +27,7 @@ pub struct SoakSummary {
 
 impl SoakSummary {
     /// The summary of runs of which this counts.
-    #[tactic(auto, unfolding(crate::specs::Soak::summary_of, eg_record::specs::Detection::watches))]
+    #[tactic(auto, unfolding(crate::specs::Soak::summary_of))]
     pub(crate) fn of(all: &[RunFacts]) -> SoakSummary
         requires { length all.now ≤ 500 }
         ensures { result ≡ summary_of all.now }

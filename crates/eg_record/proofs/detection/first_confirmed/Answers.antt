@@ -1,21 +1,34 @@
-use Rattle.std.proofs.Common.{◌≡◌, ◌∙◌, ◌+◌, ◌∷◌, ℕ, Bool, true, false, Some, None, reverse, map, drop, length, sym, ap, subst, arith, refl}
-use Rattle.std.proofs.lemmas.List.{map-append, length-map}
-use Rattle.std.specs.Prelude.{Option, is_some}
-use Rattle.eg_num.specs.Windows.{is_confirmed, first_place}
+use Rattle.std.proofs.Common.{◌≡◌, ◌∙◌, ◌+◌, ◌∷◌, [], List, ℕ, Bool, true, false, Some, reverse, map, drop, length, sym, ap, subst, arith, refl}
+use Rattle.std.specs.Prelude.{if◌then◌else◌}
+use Rattle.eg_num.specs.Windows.{WeightParts, is_confirmed}
 use Rattle.eg_num.specs.Counting.{StandsFor}
 use Rattle.eg_num.proofs.CounterLemmas.{counted-nil}
-use Rattle.eg_num.proofs.FirstPlaceLemmas.{is_first_from, first_place-first, first_place-append, is_some-first_place}
-use Rattle.eg_record.specs.Excess.{true_excess, first_confirmed}
+use Rattle.eg_record.specs.declared.row.Row.{Row}
+use Rattle.eg_record.specs.Spans.{this_span}
+use Rattle.eg_record.specs.Excess.{true_excess, is_excess_confirmed, first_confirmed}
 use Rattle.eg_record.proofs.RowsLemmas.{so_far, so_far-more, so_far-all, length-so_far, reverse-so_far, AreRows-tick}
+use Rattle.eg_record.proofs.ExcessLemmas.{first_confirmed-here, first_confirmed-none, first_confirmed-append}
 use Rattle.eg_record.proofs.detection.first_confirmed.Goals as goal
 
--- an option without a value
-no_place : (place : Option ℕ) → is_some place ≡ false → place ≡ None
-no_place None e = refl
-no_place (Some t) e = absurd cc
+-- a counter that begins anew at a fresh row stands for the part of the span before the row
+begins : (w : WeightParts) (f : Row → Bool) (fresh : Bool) (old new : ℕ) (before : List Row) → new ≡ (if fresh then 0 else old) → StandsFor w old (map f before) →
+    StandsFor w new (map f (if fresh then [] else before))
+begins w f true old new before same stands = same ∙ sym (counted-nil w)
+begins w f false old new before same stands = same ∙ stands
+
+-- fed the bit of the row, it stands for the span up to the row, and answers whether the excess is confirmed
+fed_stands : (w : WeightParts) (t : ℕ) (row : Row) (before : List Row) (bit : Bool) (value : ℕ) → bit ≡ true_excess t row →
+    StandsFor w value (bit ∷ map (true_excess t) (if row.fresh then [] else this_span before)) → StandsFor w value (map (true_excess t) (this_span (row ∷ before)))
+unfolding this_span
+fed_stands w t row before bit value same stands = subst (λ (b : Bool). StandsFor w value (b ∷ map (true_excess t) (if row.fresh then [] else this_span before))) same stands
+
+fed_answers : (w : WeightParts) (t : ℕ) (row : Row) (before : List Row) (bit answer : Bool) → bit ≡ true_excess t row →
+    answer ≡ is_confirmed w (bit ∷ map (true_excess t) (if row.fresh then [] else this_span before)) → is_excess_confirmed w t (row ∷ before) ≡ answer
+unfolding this_span is_excess_confirmed
+fed_answers w t row before bit answer same told = sym (told ∙ ap (λ (b : Bool). is_confirmed w (b ∷ map (true_excess t) (if row.fresh then [] else this_span before))) same)
 
 pub loop-row-init : goal.loop-row-init
-unfolding so_far is_confirmed
+unfolding so_far this_span first_confirmed
 loop-row-init c = record {
   within = omega arith;
   stands = c.new-counter.ensures ∙ sym (counted-nil c.args.weights.now);
@@ -23,45 +36,41 @@ loop-row-init c = record {
 }
 
 pub returns-then-feed : goal.returns-then-feed
-unfolding first_confirmed
 returns-then-feed c =
     let w = c.args.weights.now in
-    let f = true_excess c.args.threshold in
+    let t = c.args.threshold in
     let rows = c.args.rows.now in
     let i = c.loop-row.row-index in
     let row = c.row-item.result in
-    let b = c.is_excess.result in
-    let bits = map f (so_far rows i) in
-    let tick : row.tick ≡ i = AreRows-tick rows i row c.row-item.is c.loop-row-test.true c.requires in
-    let more : map f (so_far rows (i + 1)) ≡ b ∷ bits = ap (map f) (so_far-more rows i row c.row-item.is c.loop-row-test.true) ∙ ap (λ (x : Bool). x ∷ bits) (sym c.is_excess.ensures) in
-    let now : is_confirmed w (b ∷ bits) ≡ true = sym (c.feed.ensures.confirmed bits c.loop-row.invariant.stands) ∙ c.if-feed.true in
-    let count : length bits ≡ i = simp length-map (length-so_far rows i (omega arith)) in
-    let here : first_place w (map f (so_far rows (i + 1))) ≡ Some row.tick =
-    ap (first_place w) more ∙ first_place-first w b bits (is_first_from w b bits now c.loop-row.invariant.unconfirmed) ∙ ap Some (count ∙ sym tick) in
-    sym (ap (λ (rs : _). first_place w (map f rs)) (reverse-so_far rows (i + 1))
-    ∙ ap (first_place w) (map-append f (reverse (drop (i + 1) rows)) (so_far rows (i + 1)))
-    ∙ first_place-append w (map f (reverse (drop (i + 1) rows))) (map f (so_far rows (i + 1))) row.tick here)
+    let before = so_far rows i in
+    let rest = if row.fresh then [] else this_span before in
+    let begun = begins w (true_excess t) row.fresh _ _ (this_span before) c.counter_at-counter.ensures c.loop-row.invariant.stands in
+    let now = fed_answers w t row before c.is_excess.result c.feed.result c.is_excess.ensures (c.feed.ensures.confirmed (map (true_excess t) rest) begun) ∙ c.if-feed.true in
+    let tick : row.tick ≡ length before = AreRows-tick rows i row c.row-item.is c.loop-row-test.true c.requires ∙ sym (length-so_far rows i (omega arith)) in
+    let more = so_far-more rows i row c.row-item.is c.loop-row-test.true in
+    let here = ap (first_confirmed w t) more ∙ first_confirmed-here w t row before c.loop-row.invariant.unconfirmed now ∙ ap Some (sym tick) in
+    sym (ap (first_confirmed w t) (reverse-so_far rows (i + 1)) ∙ first_confirmed-append w t (reverse (drop (i + 1) rows)) (so_far rows (i + 1)) row.tick here)
 
 pub loop-row-preserved : goal.loop-row-preserved
 loop-row-preserved c =
     let w = c.args.weights.now in
-    let f = true_excess c.args.threshold in
+    let t = c.args.threshold in
     let rows = c.args.rows.now in
     let i = c.loop-row.row-index in
-    let b = c.is_excess.result in
-    let bits = map f (so_far rows i) in
-    let more : map f (so_far rows (i + 1)) ≡ b ∷ bits = ap (map f) (so_far-more rows i c.row-item.result c.row-item.is c.loop-row-test.true) ∙ ap (λ (x : Bool). x ∷ bits) (sym c.is_excess.ensures) in
+    let row = c.row-item.result in
+    let before = so_far rows i in
+    let bits = map (true_excess t) (if row.fresh then [] else this_span before) in
+    let more = so_far-more rows i row c.row-item.is c.loop-row-test.true in
+    let begun = begins w (true_excess t) row.fresh _ _ (this_span before) c.counter_at-counter.ensures c.loop-row.invariant.stands in
+    let stands = fed_stands w t row before c.is_excess.result c.feed.new.self.value c.is_excess.ensures (c.feed.ensures.windows bits begun) in
+    let other = fed_answers w t row before c.is_excess.result c.feed.result c.is_excess.ensures (c.feed.ensures.confirmed bits begun) ∙ c.if-feed.false in
     record {
       within = c.feed.ensures.within;
-      stands = subst (StandsFor w c.feed.new.self.value) (sym more) (c.feed.ensures.windows bits c.loop-row.invariant.stands);
-      unconfirmed = ap (is_confirmed w) more ∙ sym (c.feed.ensures.confirmed bits c.loop-row.invariant.stands) ∙ c.if-feed.false;
+      stands = subst (λ (rs : List Row). StandsFor w c.feed.new.self.value (map (true_excess t) (this_span rs))) (sym more) stands;
+      unconfirmed = ap (first_confirmed w t) more ∙ first_confirmed-none w t row before c.loop-row.invariant.unconfirmed other;
     }
 
 pub returns : goal.returns
-unfolding first_confirmed
 returns c =
-    let w = c.args.weights.now in
-    let f = true_excess c.args.threshold in
-    let bits = map f (reverse c.args.rows.now) in
-    let none : is_confirmed w bits ≡ false = ap (λ (rs : _). is_confirmed w (map f rs)) (sym (so_far-all c.args.rows.now c.loop-row.row-index c.loop-row-test.false)) ∙ c.loop-row.invariant.unconfirmed in
-    sym (no_place (first_place w bits) (is_some-first_place w bits ∙ none))
+    let rows = c.args.rows.now in
+    sym (ap (first_confirmed c.args.weights.now c.args.threshold) (sym (so_far-all rows c.loop-row.row-index c.loop-row-test.false)) ∙ c.loop-row.invariant.unconfirmed)

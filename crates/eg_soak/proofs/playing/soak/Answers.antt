@@ -1,8 +1,11 @@
-use Rattle.std.proofs.Common.{◌∙◌, ap, ◌+◌, length}
+use Rattle.std.proofs.Common.{◌≡◌, ◌∙◌, sym, ap, subst, ◌+◌, length, map}
 use Rattle.std.specs.List.{sum}
+use Rattle.eg_soak.specs.Facts.{facts_of}
+use Rattle.eg_soak.specs.Soak.{drawn_runs}
 use Rattle.eg_soak.specs.declared.summary.SoakSummary.{SoakSummary}
 use Rattle.eg_soak.proofs.RunsLemmas.{runs-ticks}
-use Rattle.eg_soak.proofs.SumLemmas.{sums_up, runs_counted}
+use Rattle.eg_soak.proofs.SumLemmas.{NeverStart, sums_up, runs_counted}
+use Rattle.eg_soak.proofs.StartLemmas.{drawn_never_start}
 use Rattle.eg_soak.proofs.playing.soak.Goals as goal
 
 pub returns-in_err-all-clause-ticks : goal.returns-in_err-all-clause-ticks
@@ -13,7 +16,10 @@ returns-clause-runs c = ap (λ (s : SoakSummary). s.runs) c.of.ensures ∙ runs_
     ∙ ap length c.deref.ensures.value ∙ c.in_ok-all.ensures.length
 
 pub returns-clause-sums : goal.returns-clause-sums
-returns-clause-sums c = ap (λ (s : SoakSummary). s.none + sum s.by_watch) c.of.ensures ∙ sums_up c.deref.result.now
+returns-clause-sums c =
+    let facts : c.deref.result.now ≡ map facts_of (drawn_runs c.args.runs c.args.seed) = c.deref.ensures.value ∙ c.in_ok-all.ensures.facts in
+    ap (λ (s : SoakSummary). s.none + sum s.by_watch) c.of.ensures
+    ∙ sums_up c.deref.result.now (subst NeverStart (sym facts) (drawn_never_start c.args.runs c.args.seed))
     ∙ ap length c.deref.ensures.value ∙ c.in_ok-all.ensures.length
 
 pub returns-clause-ticks : goal.returns-clause-ticks

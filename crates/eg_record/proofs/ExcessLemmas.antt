@@ -1,0 +1,69 @@
+-- The first tick at which the true excess is confirmed within its span.
+use Rattle.std.proofs.Common.{◌≡◌, ◌∙◌, ◌++◌, ◌∷◌, [], ◌&&◌, not, inl, inr, List, ℕ, Bool, true, false, None, Some, map, length, refl, sym, ap, ap₂}
+use Rattle.std.specs.Prelude.{if◌then◌else◌}
+use Rattle.std.specs.Option.{option_or}
+use Rattle.std.specs.Prelude.{Option, is_some}
+use Rattle.std.proofs.lemmas.Bool.{cases_Bool}
+use Rattle.std.proofs.lemmas.List.{length-map}
+use Rattle.eg_num.specs.Windows.{WeightParts, is_confirmed, first_place}
+use Rattle.eg_num.proofs.FirstPlaceLemmas.{is_first_from, is_first-cons, is_some-first_place, first_place-cons, first_place-first, first_place-other}
+use Rattle.eg_record.specs.declared.row.Row.{Row}
+use Rattle.eg_record.specs.Spans.{this_span}
+use Rattle.eg_record.specs.Excess.{true_excess, is_excess_confirmed, first_confirmed}
+use Rattle.eg_record.proofs.SpanLemmas.{one_span-part}
+
+-- ---- one row more ----
+
+-- where it isn't confirmed before, and is at this row
+pub first_confirmed-here : (w : WeightParts) (t : ℕ) (row : Row) (before : List Row) → first_confirmed w t before ≡ None → is_excess_confirmed w t (row ∷ before) ≡ true →
+    first_confirmed w t (row ∷ before) ≡ Some (length before)
+unfolding first_confirmed
+first_confirmed-here w t row before none now = ap₂ (λ o (b : Bool). option_or o (if b then Some (length before) else None)) none now
+
+-- where it isn't at this row either
+pub first_confirmed-none : (w : WeightParts) (t : ℕ) (row : Row) (before : List Row) → first_confirmed w t before ≡ None → is_excess_confirmed w t (row ∷ before) ≡ false →
+    first_confirmed w t (row ∷ before) ≡ None
+unfolding first_confirmed
+first_confirmed-none w t row before none other = ap₂ (λ o (b : Bool). option_or o (if b then Some (length before) else None)) none other
+
+-- what is the first tick stays it as the rows go on
+pub first_confirmed-append : (w : WeightParts) (t : ℕ) (more rows : List Row) (c : ℕ) → first_confirmed w t rows ≡ Some c → first_confirmed w t (more ++ rows) ≡ Some c
+unfolding first_confirmed
+first_confirmed-append w t [] rows c first = first
+first_confirmed-append w t (row ∷ more) rows c first =
+    ap (λ o. option_or o (if is_excess_confirmed w t (row ∷ (more ++ rows)) then Some (length (more ++ rows)) else None)) (first_confirmed-append w t more rows c first)
+
+-- ---- in one span ----
+
+-- one bit more: the first place is that of the bits before, or else the last one if the bits are confirmed now
+first_place-now : (w : WeightParts) (b : Bool) (bits : List Bool) →
+    option_or (first_place w bits) (if is_confirmed w (b ∷ bits) then Some (length bits) else None) ≡ first_place w (b ∷ bits)
+first_place-now w b bits = elim (cases_Bool (is_confirmed w bits)) [
+  | inl confirmed ↦ stays (first_place w bits) (is_some-first_place w bits ∙ confirmed) (if is_confirmed w (b ∷ bits) then Some (length bits) else None)
+      ∙ sym (first_place-cons w b bits confirmed)
+  | inr unconfirmed ↦ (let none = no_place (first_place w bits) (is_some-first_place w bits ∙ unconfirmed) in
+      ap (λ place. option_or place (if is_confirmed w (b ∷ bits) then Some (length bits) else None)) none ∙ elim (cases_Bool (is_confirmed w (b ∷ bits))) [
+        | inl now ↦ ap (λ (c : Bool). if c then Some (length bits) else None) now ∙ sym (first_place-first w b bits (is_first_from w b bits now unconfirmed))
+        | inr never ↦ ap (λ (c : Bool). if c then Some (length bits) else None) never
+            ∙ sym (first_place-other w b bits (is_first-cons w b bits ∙ ap (λ (c : Bool). c && not (is_confirmed w bits)) never) ∙ none)
+      ])
+]
+  where
+    stays : (place : Option ℕ) → is_some place ≡ true → (more : Option ℕ) → option_or place more ≡ place
+    stays None e more = absurd cc
+    stays (Some n) e more = refl
+
+    no_place : (place : Option ℕ) → is_some place ≡ false → place ≡ None
+    no_place None e = refl
+    no_place (Some n) e = absurd cc
+
+-- where all rows are of one span, it is the first place of the bits of all rows
+pub first_confirmed-one_span : (w : WeightParts) (t : ℕ) (rows : List Row) → this_span rows ≡ rows → first_confirmed w t rows ≡ first_place w (map (true_excess t) rows)
+unfolding first_confirmed is_excess_confirmed first_place
+first_confirmed-one_span w t [] one = refl
+first_confirmed-one_span w t (row ∷ before) one =
+    ap₂ (λ o rs. option_or o (if is_confirmed w (map (true_excess t) rs) then Some (length before) else None))
+    (first_confirmed-one_span w t before (one_span-part (row ∷ []) before one)) one
+    ∙ ap (λ (n : ℕ). option_or (first_place w (map (true_excess t) before)) (if is_confirmed w (true_excess t row ∷ map (true_excess t) before) then Some n else None))
+    (sym (length-map before (true_excess t)))
+    ∙ first_place-now w (true_excess t row) (map (true_excess t) before)
