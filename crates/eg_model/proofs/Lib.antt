@@ -1,6 +1,7 @@
 pub mod WholeModel
 pub mod WorkedFaults
 pub mod WorkedImages
+pub mod WorkedTests
 pub mod TickLemmas
 pub mod TripLemmas
 pub mod Seeing

@@ -5,7 +5,7 @@ use Rattle.std.specs.Prelude.{slice_index_or}
 use Rattle.std.proofs.lemmas.List.Elements.{All-head, All-tail, All-cons, All-nil}
 use Rattle.std.proofs.lemmas.Bool.{ltb-true, lt-ltb}
 use Rattle.eg_num.specs.Drive.{DriveRow, IsDrive}
-use Rattle.eg_num.specs.Windows.{WeightParts, is_confirmed}
+use Rattle.eg_num.specs.Windows.{is_confirmed}
 use Rattle.eg_answer.specs.Times.{reaction_of}
 use Rattle.eg_values.specs.Calibration.{IsAccepted}
 use Rattle.eg_plant.specs.PlantParts.{PlantParts}
@@ -30,12 +30,12 @@ use Rattle.eg_model.specs.Rows.{row_of, rows_of, record_rows}
 use Rattle.eg_model.specs.Premises.{IsProper, AreProper, IsProperRun, Follows}
 use Rattle.eg_model.specs.SharpCut.{ArePlain}
 use Rattle.eg_model.specs.StartUp.{IsUndisturbed}
-use Rattle.eg_model.specs.Records.{IsRun, rows_to, is_before_onset, ReactWithin, ReactAtOnce, CutOneTickAfter, CutLapses, LapsesAreShort, CutFromOnset, RecordsReact, RecordsReactAtOnce, RecordsCutSharply, RecordsCutSharplyBefore, RecordsCutLapses, RecordsHaveShortLapses, RecordsCutFromOnset, RecordsTestUnpowered, RecordsPassTests}
+use Rattle.eg_model.specs.Records.{IsRun, is_before_onset, ReactWithin, ReactAtOnce, CutOneTickAfter, CutLapses, LapsesAreShort, CutFromOnset, RecordsReact, RecordsReactAtOnce, RecordsCutSharply, RecordsCutSharplyBefore, RecordsCutLapses, RecordsHaveShortLapses, RecordsCutFromOnset, RecordsTestUnpowered, RecordsPassTests}
 use Rattle.eg_model.proofs.StartUpLaws.{tests_pass}
 use Rattle.eg_model.proofs.SpanLemmas.{tick_after, ticks_before, Continues, continues, begin_of, ends_in, proper_drive}
-use Rattle.eg_model.proofs.SpanRows.{rows_after, SpanRows, RowAfter, row_tick, rows_off, BitsOf, bits_after, full_unnumbered}
+use Rattle.eg_model.proofs.SpanRows.{rows_after, SpanRows, RowAfter, row_tick, rows_off, bits_after, full_unnumbered}
 use Rattle.eg_model.proofs.SpanLaws.{react_within, react_at_once, cut_lapses, short_lapses, cut_from_onset, sharp_after, cut_one_tick_after}
-use Rattle.eg_model.proofs.RecordTicks.{length-moments_to, records_are_histories, record_rows-is}
+use Rattle.eg_model.proofs.RecordTicks.{length-moments_to, records_are_histories}
 use Rattle.eg_model.proofs.RecordSpans.{kind_by, head_of, tail_of, part_of, SpanTo, SpanIn, span_in}
 
 -- ---- the drive, and faults that haven't begun ----

@@ -1,31 +1,24 @@
 -- The spans of a record: the rows of each are those of a history that stands by itself and begins at its tick.
-use Rattle.std.proofs.Common.{◌≡◌, ◌∙◌, refl, sym, ap, ap₂, subst, ℕ, zero, suc, ◌+◌, ◌≤◌, ◌<◌, Bool, true, false, ◌&&◌, ◌||◌, List, [], ◌∷◌, ◌++◌, All, map, length, length-append, arith, append_assoc, Some, None}
-use Rattle.std.specs.Prelude.{slice_index_or, ◌==◌, nat_le, if◌then◌else◌}
+use Rattle.std.proofs.Common.{◌≡◌, ◌∙◌, refl, sym, ap, ap₂, subst, ℕ, suc, ◌+◌, ◌≤◌, Bool, true, false, ◌||◌, List, [], ◌∷◌, ◌++◌, All, length, length-append, arith}
+use Rattle.std.specs.Prelude.{◌==◌}
 use Rattle.std.proofs.lemmas.Bool.{le-leb, eqb-true}
-use Rattle.std.proofs.lemmas.List.Elements.{All-head, All-tail, All-cons, All-nil}
-use Rattle.eg_num.specs.Drive.{DriveRow, IsDrive}
-use Rattle.eg_plant.specs.PlantParts.{PlantParts}
-use Rattle.eg_plant.specs.Engine.{KeepsLaws}
+use Rattle.std.proofs.lemmas.List.Elements.{All-head, All-tail}
 use Rattle.eg_answer.specs.Times.{test_ticks_of}
 use Rattle.eg_fault.specs.Effects.{Effects}
-use Rattle.eg_fault.specs.Faults.{effects, IsNoneOrValid}
-use Rattle.eg_fault.specs.Classes.{IsHeldWithin}
-use Rattle.eg_fault.proofs.ClassLemmas.{plates_are_held_within}
+use Rattle.eg_fault.specs.Faults.{effects}
 use Rattle.eg_record.specs.declared.row.Row.{Row}
 use Rattle.eg_record.specs.Spans.{IsSpan, IsDriveSpan}
-use Rattle.eg_model.specs.History.{Setting, Entry, Tick, SpanKind, Drive, Test, drives, Moment}
-use Rattle.eg_model.specs.Paths.{is_testing, on_at}
-use Rattle.eg_model.specs.Level1.{last_world}
-use Rattle.eg_model.specs.Moments.{moment_in, moments_in, moments_of}
-use Rattle.eg_model.specs.Spans.{span_so_far, span_kind, has_passed, kind_at, before_at, moment_at, next_after, moments, next, ticks, span_ticks}
-use Rattle.eg_model.specs.Engines.{BenchEngine, KeepsBenchLaws, ShowsOneLoad}
-use Rattle.eg_model.specs.Bench.{Run, no_drive, stepped, engine_after, shown_at, drive_at, entry_at, moments_to, entries_to}
+use Rattle.eg_model.specs.History.{Setting, Entry, Tick, SpanKind, Drive, Test, Moment}
+use Rattle.eg_model.specs.Paths.{is_testing}
+use Rattle.eg_model.specs.Moments.{moment_in, moments_in}
+use Rattle.eg_model.specs.Spans.{span_so_far, span_kind, has_passed, kind_at, before_at, moment_at, next_after, moments, span_ticks}
+use Rattle.eg_model.specs.Engines.{BenchEngine}
+use Rattle.eg_model.specs.Bench.{Run, entries_to}
 use Rattle.eg_model.specs.Rows.{row_of, rows_of, record_rows}
-use Rattle.eg_model.specs.Premises.{IsProper, IsProperRun, AreProper, Follows}
-use Rattle.eg_model.specs.Records.{IsRun}
-use Rattle.eg_model.proofs.SpanLemmas.{length-run_moments, length-moments_in, before-begins, kind-goes_on, by_ticks, follows_at, proper_drive}
+use Rattle.eg_model.specs.Premises.{Follows}
+use Rattle.eg_model.proofs.SpanLemmas.{length-moments_in, before-begins, kind-goes_on, by_ticks, follows_at}
 use Rattle.eg_model.proofs.SpanRows.{rows_after, length-rows_after, Between, between}
-use Rattle.eg_model.proofs.RecordTicks.{length-entries, length-moments_to, records_are_histories, rows_of_entries}
+use Rattle.eg_model.proofs.RecordTicks.{length-entries, rows_of_entries}
 
 -- ---- the kind of a span, by its first row ----
 

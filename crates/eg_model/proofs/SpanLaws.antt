@@ -1,5 +1,5 @@
 -- The laws by the rows of a history in which the engine is driven, and that begins at any tick of a run.
-use Rattle.std.proofs.Common.{◌≡◌, ◌∙◌, refl, sym, ap, ap₂, subst, ℕ, zero, suc, ◌+◌, ◌-◌, ◌*◌, ◌≤◌, ◌<◌, Bool, true, false, not, List, [], ◌∷◌, ◌++◌, All, map, length, length-append, append_assoc, arith, inl, inr, ◌⊎◌, Option, Some, None, nat_le, max}
+use Rattle.std.proofs.Common.{◌≡◌, ◌∙◌, refl, sym, ap, subst, ℕ, zero, suc, ◌+◌, ◌-◌, ◌*◌, ◌≤◌, ◌<◌, Bool, true, false, not, List, [], ◌∷◌, ◌++◌, All, map, length, length-append, append_assoc, arith, inl, inr, ◌⊎◌, Option, Some, None, nat_le, max}
 use Rattle.std.proofs.lemmas.Bool.{lt-leb, le-leb}
 use Rattle.eg_num.specs.Windows.{WeightParts, AreWeights, is_confirmed, first_place}
 use Rattle.eg_answer.specs.Times.{TimeParts, AreTimes, verdicts_to_confirm, reaction_of, HasLapseBound, lapse_periods}
@@ -10,10 +10,10 @@ use Rattle.eg_fault.specs.declared.class.Fault.{Fault}
 use Rattle.eg_record.specs.declared.row.Row.{Row}
 use Rattle.eg_record.specs.Excess.{true_excess, full_excess}
 use Rattle.eg_model.specs.History.{Setting, Tick}
-use Rattle.eg_model.specs.Moments.{moment, moments_in, moments_of}
+use Rattle.eg_model.specs.Moments.{moments_of}
 use Rattle.eg_model.specs.Premises.{AreProper, Follows, is_on_after, true_excesses, full_excesses}
 use Rattle.eg_model.specs.Reaction.{OffFrom, is_at_once, spoils_answers}
-use Rattle.eg_model.specs.SharpCut.{IsPlain, ArePlain}
+use Rattle.eg_model.specs.SharpCut.{ArePlain}
 use Rattle.eg_model.specs.Lapses.{IsLapse}
 use Rattle.eg_model.specs.Records.{ExceedLast, ReactWithin, ReactAtOnce, CutOneTickAfter, CutLapses, LapsesAreShort, CutFromOnset}
 use Rattle.eg_model.proofs.Silence.{enough_weight}
@@ -21,7 +21,7 @@ use Rattle.eg_model.proofs.ReactionLaw.{reacts_in_time, reacts_at_once_law, cuts
 use Rattle.eg_model.proofs.SharpCutLaw.{cuts_sharply}
 use Rattle.eg_model.proofs.LapseLaw.{cuts_lapses, lapses_are_short}
 use Rattle.eg_model.proofs.TickLemmas.{length-moments}
-use Rattle.eg_model.proofs.SpanRows.{Between, between, EndOf, end_of, follows-end, proper-end, SpanRows, RowAfter, rows_after, length-rows_after, row_on, row_tick, all_rows, Split, split, BitsOf, bits_after, true_unnumbered, full_unnumbered, confirmed_later, quiet_earlier, IsFirstAt, first_confirms, never_confirms, exceed}
+use Rattle.eg_model.proofs.SpanRows.{Between, between, EndOf, end_of, follows-end, proper-end, SpanRows, RowAfter, length-rows_after, row_on, row_tick, all_rows, Split, split, BitsOf, bits_after, true_unnumbered, full_unnumbered, confirmed_later, quiet_earlier, IsFirstAt, first_confirms, never_confirms, exceed}
 
 -- the reaction time is at least one tick
 reaction_least : (times : TimeParts) → AreTimes times → AreWeights times.weights → 1 ≤ reaction_of times

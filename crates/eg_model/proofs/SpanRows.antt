@@ -1,18 +1,17 @@
 -- The rows of a history in which the engine is driven, and that begins at any tick of a run: what is said of
 -- parts of the rows is said of parts of the history.
-use Rattle.std.proofs.Common.{◌≡◌, ◌∙◌, refl, sym, ap, ap₂, subst, ℕ, zero, suc, ◌+◌, ◌≤◌, Bool, true, false, List, [], ◌∷◌, ◌++◌, All, map, take, length, length-append, arith, inl, inr, ◌⊎◌, Option, Some, None, is_some}
+use Rattle.std.proofs.Common.{◌≡◌, ◌∙◌, refl, sym, ap, ap₂, subst, ℕ, suc, ◌+◌, ◌≤◌, Bool, true, false, List, [], ◌∷◌, ◌++◌, All, map, take, length, length-append, arith, inl, inr, ◌⊎◌, Option, Some, None, is_some}
 use Rattle.std.specs.List.{list_all}
 use Rattle.std.proofs.lemmas.List.Elements.{All-cons, All-nil}
 use Rattle.eg_num.specs.Windows.{WeightParts, is_confirmed, is_first, first_place}
 use Rattle.eg_num.proofs.FirstPlaceLemmas.{is_first-parts, first_place-first, first_place-other, is_some-first_place, is_reached_confirmed, is_confirmed-cons}
-use Rattle.eg_torque.specs.Excess.{is_excess}
 use Rattle.eg_fault.specs.declared.class.Fault.{Fault}
 use Rattle.eg_record.specs.declared.row.Row.{Row}
 use Rattle.eg_record.specs.Excess.{true_excess, full_excess}
-use Rattle.eg_model.specs.History.{Setting, Tick, SpanKind, Drive, Test, drives, Moment}
+use Rattle.eg_model.specs.History.{Setting, Tick, Test, drives, Moment}
 use Rattle.eg_model.specs.Moments.{moment, moment_in, moments_in, moments_of}
 use Rattle.eg_model.specs.Rows.{row_of, rows_of}
-use Rattle.eg_model.specs.Premises.{AreProper, Follows, is_on_after, true_excesses, full_excesses}
+use Rattle.eg_model.specs.Premises.{AreProper, Follows, is_on_after, true_excesses}
 use Rattle.eg_model.specs.Records.{ExceedLast}
 use Rattle.eg_model.specs.Lapses.{Exceeds}
 use Rattle.eg_model.proofs.TickLemmas.{length-moments}

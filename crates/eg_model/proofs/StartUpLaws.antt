@@ -15,7 +15,7 @@ use Rattle.eg_model.specs.History.{Setting, Entry, Tick, Drive, Test, drives, Mo
 use Rattle.eg_model.specs.Answers.{with_answer, answers_in, verdict_at, confirms_at}
 use Rattle.eg_model.specs.Paths.{is_told_to_open, reads_back, orders_open, latch1, latch2, path1_at, path2_at}
 use Rattle.eg_model.specs.Moments.{moment_in, moments_in, moments_of}
-use Rattle.eg_model.specs.Spans.{span_so_far, span_kind, has_passed, kind_at, before_at, moment_at, next_after, moments, next, ticks}
+use Rattle.eg_model.specs.Spans.{span_so_far, span_kind, has_passed, kind_at, before_at, moment_at, next_after, moments, ticks}
 use Rattle.eg_model.specs.StartUp.{IsUndisturbed, TestsPass, RunsWithoutReset}
 use Rattle.eg_model.proofs.TripLemmas.{latch1-cons}
 use Rattle.eg_model.proofs.PeriodLemmas.{quotient, period_closes, period_open}
@@ -240,7 +240,7 @@ one_more : (s : Setting) (e : Entry) (past : List Moment) → e.drive.reset ≡ 
 unfolding span_kind has_passed
 one_more s e past quiet one = record {
   kind = ap (λ (m : Moment). m.kind) (next-same s e past quiet one) ∙ (unfold moment_in in refl);
-  passed = ap (λ (m : Moment). m.passes) (next-same s e past quiet one) ∙ (unfold moment_in reads_back in refl);
+  passed = ap (λ (m : Moment). has_passed (m ∷ past)) (next-same s e past quiet one) ∙ (unfold moment_in reads_back in refl);
   whole = span_so_far-next s e past ∙ ap (λ before. next_after s e past ∷ before) (before-same e past quiet one);
 }
 

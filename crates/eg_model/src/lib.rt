@@ -11,10 +11,10 @@ mod records;
 mod sharp_cut;
 mod start_up;
 
-pub use examples::{alternating_slices, full_run, probing_run, raise_is_read};
+pub use examples::{alternating_slices, full_run, passed_test, probing_run, raise_is_read};
 pub use faulty_runs::{
-    disturbed_raise, flip_seen_by_level_1, halted_and_held_runs, lapsed_run, latched_run,
-    limited_run, offset_track, path_2_runs, wild_run,
+    disturbed_raise, failed_test, flip_seen_by_level_1, halted_and_held_runs, lapsed_run,
+    latched_run, limited_run, offset_track, path_2_runs, wild_run,
 };
 pub use lapses::lapses_are_cut;
 pub use reaction::{cuts_from_onset, reacts_in_time};

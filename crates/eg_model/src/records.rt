@@ -17,16 +17,16 @@ pub fn records_react()
     ensures at_once { RecordsReactAtOnce gasoline }
 {}
 
-/// By the rows of each drive span of the record of a run on the bench: where a module of level 2 is skipped or
-/// disturbed, or the controller halts, the stages are off from R ticks after the onset, or after the span's
+/// By the rows of each drive span of the record of a run on the bench: where a module of level 2 is skipped
+/// or disturbed, or the controller halts, the stages are off from R ticks after the onset, or after the span's
 /// begin if that is later, whatever the torque (docs/CONCEPT.md, "Reaction time"). It does nothing when it
 /// runs.
 pub fn records_cut_from_onset()
     ensures { RecordsCutFromOnset gasoline }
 {}
 
-/// The sharp cut for runs on the bench, by the rows of each drive span of the record: at all of them without a
-/// fault, and at those before the onset of a fault, whatever the fault. It does nothing when it runs.
+/// The sharp cut for runs on the bench, by the rows of each drive span of the record: at all of them without
+/// a fault, and at those before the onset of a fault, whatever the fault. It does nothing when it runs.
 pub fn records_cut_sharply()
     ensures rows { RecordsCutSharply gasoline }
     ensures before { RecordsCutSharplyBefore gasoline }
