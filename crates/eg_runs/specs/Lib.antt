@@ -1,2 +1,3 @@
 pub mod WorkedLapses
 pub mod UnusualRuns
+pub mod PowerCycles
