@@ -6,12 +6,12 @@ use Rattle.std.proofs.lemmas.List.Elements.{All-cons, All-nil}
 use Rattle.eg_num.specs.Drive.{DriveRow, IsDrive}
 use Rattle.eg_record.specs.declared.row.Row.{Row}
 use Rattle.eg_record.specs.Rows.{AreRows}
-use Rattle.eg_model.specs.Premises.{AreProper}
+use Rattle.eg_model.specs.Premises.{IsProperRun}
 use Rattle.eg_model.specs.Engines.{BenchEngine}
-use Rattle.eg_model.specs.Bench.{Run, no_drive, drive_at, entry_at}
+use Rattle.eg_model.specs.Bench.{Run, no_drive, drive_at, entry_at, entries_to}
 use Rattle.eg_model.specs.Rows.{record_rows}
 use Rattle.eg_model.specs.Records.{row_at, rows_to}
-use Rattle.eg_model.proofs.RecordTicks.{ticks_to, tick_at, ticks_to-suc, no_rows, rows_to-suc, records_are_rows, record_rows-is}
+use Rattle.eg_model.proofs.RecordTicks.{no_rows, rows_to-suc, records_are_rows, record_rows-is}
 
 now_or_before : (t n : ℕ) → t < suc n → (n ≡ t) ⊎ (t < n)
 now_or_before t n l = grind arith
@@ -56,17 +56,14 @@ module _ {E : Type 0} (b : BenchEngine E) where
   -- ---- the drive ----
 
   -- where what comes in is proper, so is the drive row of each tick
-  drives : (r : Run) (n : ℕ) → AreProper r.setting (ticks_to b r n) → (t : ℕ) → t < n → IsDrive (drive_at r t)
-  drives r zero proper t l = absurd (omega arith)
-  drives r (suc n) proper t l = last (drives r n) (subst (AreProper r.setting) (ticks_to-suc b r n) proper)
-    where
-      last : (AreProper r.setting (ticks_to b r n) → (u : ℕ) → u < n → IsDrive (drive_at r u)) →
-          AreProper r.setting (tick_at b r n ∷ ticks_to b r n) → IsDrive (drive_at r t)
-      last before p = elim (now_or_before t n l) [
-        | inl now ↦ subst (λ k. IsDrive (drive_at r k)) now (unfold AreProper tick_at entry_at in p.0.drive)
-        | inr earlier ↦ before (unfold AreProper in p.1) t earlier
-      ]
+  keeps_drive : (r : Run) (n : ℕ) → IsProperRun r.setting (entries_to b r n) → (t : ℕ) → t < n → IsDrive (drive_at r t)
+  unfolding entries_to IsProperRun
+  keeps_drive r zero proper t l = absurd (omega arith)
+  keeps_drive r (suc n) proper t l = elim (now_or_before t n l) [
+    | inl now ↦ subst (λ k. IsDrive (drive_at r k)) now (unfold entry_at in proper.0.drive)
+    | inr earlier ↦ keeps_drive r n proper.1 t earlier
+  ]
 
   -- and the whole drive keeps its limits
-  pub drive_keeps : (r : Run) → AreProper r.setting (ticks_to b r (length r.drive)) → All IsDrive r.drive
-  drive_keeps r proper = all_places r.drive (λ t l. unfold drive_at in drives r (length r.drive) proper t l)
+  pub drive_keeps : (r : Run) → IsProperRun r.setting (entries_to b r (length r.drive)) → All IsDrive r.drive
+  drive_keeps r proper = all_places r.drive (λ t l. unfold drive_at in keeps_drive r (length r.drive) proper t l)

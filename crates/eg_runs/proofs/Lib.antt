@@ -3,3 +3,4 @@ pub mod WorkedFaults
 pub mod WorkedImages
 pub mod WorkedLapses
 pub mod WorkedUnusual
+pub mod WorkedCycles

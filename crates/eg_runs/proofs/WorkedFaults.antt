@@ -4,6 +4,7 @@ use Rattle.eg_answer.specs.declared.marks.AnswerMark.TheVariants.{Absent}
 use Rattle.eg_answer.specs.declared.marks.Verdict.TheVariants.{Right, Wrong}
 use Rattle.eg_fault.specs.declared.class.Class.TheVariants.{Script, Bus, Skip, Disturb, Flip, Timing, Path1Closed}
 use Rattle.eg_record.specs.declared.watch.Watch.TheVariants as found
+use Rattle.eg_num.specs.Drive.{driven}
 use Rattle.eg_model.specs.Examples.{idle, full, fault_from, run_of, bench_run, raised_run, moments_in_time, rows_in_time, verdicts_of, stages_of, report_on, reported}
 use Rattle.eg_model.proofs.WholeModel.{whole_model}
 
@@ -110,10 +111,10 @@ skipped-actual = refl
 -- ---- the raise is disturbed on its way ----
 
 pub bus_disturbed : rows_in_time
-    (run_of idle (fault_from 0 (Bus 1)) (record { pedal = 0; speed = 800; raise = 600 } ∷ [])) ≡
+    (run_of idle (fault_from 0 (Bus 1)) (driven 0 800 600 ∷ [])) ≡
     record {
       tick = 0;
-      drive = record { pedal = 0; speed = 800; raise = 600 };
+      drive = driven 0 800 600;
       plate = 0;
       charge = 40;
       torque = 0;
@@ -132,9 +133,12 @@ pub bus_disturbed : rows_in_time
         speed = false;
         torque = false;
         answers = false;
+        start = false;
       };
       answer = Absent;
       verdict = None;
+      testing = false;
+      fresh = true;
     } ∷ []
 unfolding whole_model
 bus_disturbed = refl

@@ -1,5 +1,6 @@
 pub mod WorkedLapses
 pub mod UnusualRuns
+pub mod PowerCycles
 pub use Rattle.eg_answer.specs.Times
 pub use Rattle.eg_model.specs.Examples
 pub use Rattle.eg_model.specs.Rows

@@ -6,6 +6,7 @@
 mod examples;
 mod faulty_runs;
 mod lapses;
+mod power_cycles;
 mod unusual_runs;
 
 pub use examples::{
@@ -17,6 +18,11 @@ pub use faulty_runs::{
     path_1_closes_run, raised_pedal_run, reaction_is_met, skipped_run,
 };
 pub use lapses::a_run_with_lapses_is_cut;
+pub use power_cycles::{
+    excess_over_two_cycles, faults_go_on, flip_in_a_test, full_run_with_a_reset,
+    resets_near_a_test, test_that_fails, test_that_is_begun_anew, test_that_is_cut,
+    test_that_passes, tests_under_faults, two_traps,
+};
 pub use unusual_runs::{
     early_answers_run, reading_that_is_cut_off_run, signal_that_stays_run, two_answers_run,
 };

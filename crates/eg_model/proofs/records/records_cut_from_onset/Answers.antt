@@ -1,5 +1,5 @@
 use Rattle.eg_model.specs.Engines.{gasoline}
-use Rattle.eg_model.proofs.RowLaws.{records_cut_from_onset}
+use Rattle.eg_model.proofs.RecordLaws.{records_cut_from_onset}
 use Rattle.eg_model.proofs.records.records_cut_from_onset.Goals as goal
 
 pub returns : goal.returns

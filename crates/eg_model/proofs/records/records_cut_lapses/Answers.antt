@@ -1,5 +1,5 @@
 use Rattle.eg_model.proofs.GasolineLaws.{gasoline_keeps}
-use Rattle.eg_model.proofs.RowLaws.{records_cut_lapses, records_have_short_lapses}
+use Rattle.eg_model.proofs.RecordLaws.{records_cut_lapses, records_have_short_lapses}
 use Rattle.eg_model.proofs.records.records_cut_lapses.Goals as goal
 
 pub returns : goal.returns
