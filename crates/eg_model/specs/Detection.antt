@@ -1,29 +1,28 @@
 -- Detection in level 2: the debouncers of the four pairs and of the torque.
 use Rattle.std.specs.Prelude.{Bool, not, ◌&&◌, is_some, List, ◌∷◌, map, filter}
 use Rattle.eg_num.specs.Windows.{WeightParts, is_first}
-use Rattle.eg_sensor.specs.Readings.{has_bit}
-use Rattle.eg_sensor.specs.declared.pairs.TheConstants.{PEDAL_PAIR, PLATE_PAIR, LOAD_PAIR, SPEED_PAIR}
+use Rattle.eg_answer.specs.Feeds.{pedal_feed, plate_feed, load_feed, speed_feed, torque_feed}
 use Rattle.eg_answer.specs.declared.modules.TheConstants.{DEBOUNCE}
 use Rattle.eg_fault.specs.Effects.{Effects}
 use Rattle.eg_model.specs.History.{Signals, Moment}
 use Rattle.eg_model.specs.Signals.{tripped}
 
--- ---- what each debouncer is fed with: a pair's bit of the pairs, and bit 0 of the excess ----
+-- ---- what each debouncer is fed with, by the signals of a tick ----
 
 unfoldable pub pedal_bit : Signals → Bool
-pedal_bit s = has_bit PEDAL_PAIR s.pairs
+pedal_bit s = pedal_feed s.pairs
 
 unfoldable pub plate_bit : Signals → Bool
-plate_bit s = has_bit PLATE_PAIR s.pairs
+plate_bit s = plate_feed s.pairs
 
 unfoldable pub load_bit : Signals → Bool
-load_bit s = has_bit LOAD_PAIR s.pairs
+load_bit s = load_feed s.pairs
 
 unfoldable pub speed_bit : Signals → Bool
-speed_bit s = has_bit SPEED_PAIR s.pairs
+speed_bit s = speed_feed s.pairs
 
 unfoldable pub torque_bit : Signals → Bool
-torque_bit s = has_bit 1 s.excess
+torque_bit s = torque_feed s.excess
 
 -- they are fed at a tick where debounce runs, no trip stands and no word is flipped
 unfoldable pub feeds_at : Effects → List Moment → Bool
