@@ -13,6 +13,7 @@ pub mod PlainTick
 pub mod SharpCutLaw
 pub mod SpanLemmas
 pub mod StartUpLaws
+pub mod SpanRuns
 pub mod RecordTicks
 pub mod SpanRows
 pub mod SpanLaws

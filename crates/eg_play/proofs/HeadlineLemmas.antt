@@ -12,9 +12,8 @@ use Rattle.eg_model.specs.Bench.{Run}
 use Rattle.eg_model.specs.Rows.{record_rows, report_of}
 use Rattle.eg_model.specs.Records.{IsRun}
 use Rattle.eg_model.proofs.GasolineLaws.{gasoline_keeps, gasoline_shows_one_load}
-use Rattle.eg_model.proofs.RecordLaws.{records_react, records_cut_sharply}
+use Rattle.eg_model.proofs.RecordLaws.{records_react, records_react_at_once, records_cut_sharply, records_cut_from_onset, records_cut_lapses, records_have_short_lapses, records_test_unpowered, records_pass_tests}
 use Rattle.eg_model.proofs.WholeRecord.{are_rows}
-use Rattle.eg_model.proofs.RowLaws.{records_react_at_once, records_cut_from_onset, records_cut_lapses, records_have_short_lapses}
 use Rattle.eg_campaign.specs.Plays.{IsPlayable, run_with}
 use Rattle.eg_campaign.specs.declared.play.RunInput.{RunInput}
 use Rattle.eg_play.specs.Headline.{KeepsHeadline}
@@ -35,6 +34,8 @@ pub headline : (r : Run) → IsRun r → IsNoneOrValid r.setting.fault → Keeps
 headline r run valid = record {
   reacts = records_react gasoline_keeps r run;
   at_once = records_react_at_once gasoline_keeps r run;
+  unpowered = records_test_unpowered gasoline r;
+  passes = records_pass_tests gasoline r run;
   cuts = records_cut_sharply gasoline_keeps gasoline_shows_one_load r run;
   from_onset = records_cut_from_onset gasoline r run valid;
   lapses = records_cut_lapses gasoline_keeps r run valid;
