@@ -45,7 +45,7 @@ fn is_made(
 /// Which of three ticks are made.
 fn made(refuse: u32) -> Result<[bool; 3], Fail> {
     let mut controller = controller(refuse)?;
-    let drive = Drive::new(0, 800, 0).ok_or("no drive row")?;
+    let drive = Drive::new(0, 800, 0, false, false).ok_or("no drive row")?;
     let slices = Slices::new([1; 9]).ok_or("no slices")?;
     let mut steps = Ticks::new();
     Ok([

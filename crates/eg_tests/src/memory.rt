@@ -2,7 +2,7 @@
 
 use eg_guard::{Guarded, StingyMemory, Who};
 use eg_host::Host;
-use eg_level2::Level2;
+use eg_level2::{Level2, Phase};
 use eg_values::reference;
 use eg_word::{Registers, State, step};
 
@@ -52,6 +52,6 @@ fn level_2_keeps_what_was_stored_before_a_refusal(rt: HostRuntime) {
     assert!(rt; memory.load(Who::Level2, 2121) == Ok(65535));
     let mut memory = StingyMemory::new(36);
     assert!(rt; level2.reset(&mut memory).is_ok());
-    assert!(rt; level2.module(0, &mut memory, 0, false, 0).is_err());
-    assert!(rt; level2.module(0, &mut memory, 0, false, 0).is_ok());
+    assert!(rt; level2.module(0, &mut memory, 0, Phase::Quiet, 0).is_err());
+    assert!(rt; level2.module(0, &mut memory, 0, Phase::Quiet, 0).is_ok());
 }
