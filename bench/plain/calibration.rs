@@ -80,6 +80,8 @@ pub struct Drive {
     pub pedal: u16,
     pub speed: u16,
     pub raise: u16,
+    /// Whether a power cycle begins.
+    pub reset: bool,
 }
 
 fn row(seed: u16, pairs: [[u16; 2]; 4], raise: [u16; 2], test: [u16; 3]) -> TestRow {
@@ -164,10 +166,19 @@ pub fn folded(sign: u16, result: u16) -> u16 {
 }
 
 impl Times {
+    /// How many wrong verdicts in a row confirm.
+    fn wrong_verdicts(&self) -> u32 {
+        u32::from(self.weights.limit).div_ceil(u32::from(self.weights.up))
+    }
+
     /// The reaction time.
     pub fn reaction(&self) -> u32 {
-        let confirm = u32::from(self.weights.limit).div_ceil(u32::from(self.weights.up));
-        (confirm + 1) * self.period - self.send - 1
+        (self.wrong_verdicts() + 1) * self.period - self.send - 1
+    }
+
+    /// The tick of a test span at which the paths are read back.
+    pub fn test_ticks(&self) -> u32 {
+        self.wrong_verdicts() * self.period
     }
 }
 

@@ -90,7 +90,15 @@ impl<'a> Records<'a> {
         let speed = self.number(8000)?;
         self.comma()?;
         let raise = self.number(10000)?;
-        Some(Drive { pedal, speed, raise })
+        Some(Drive { pedal, speed, raise, reset: false })
+    }
+
+    /// A field that tells whether a power cycle begins.
+    #[inline(always)]
+    fn reset(&mut self) -> Option<bool> {
+        let [digit @ (b'0' | b'1'), rest @ ..] = self.rest else { return None };
+        self.rest = rest;
+        Some(*digit == b'1')
     }
 
     /// Whether there were rows, and not too many.
@@ -101,10 +109,26 @@ impl<'a> Records<'a> {
 
 /// The rows of a trace.
 pub fn trace(bytes: &[u8]) -> Option<Vec<Drive>> {
-    let mut records = Records::below(bytes, "pedal,speed,raise")?;
-    let mut drives = Vec::with_capacity(MOST_ROWS.min(bytes.len() / 6));
+    match Records::below(bytes, "pedal,speed,raise,reset") {
+        Some(records) => rows(records, bytes.len() / 8, |records| {
+            let drive = records.drive()?;
+            records.comma()?;
+            Some(Drive { reset: records.reset()?, ..drive })
+        }),
+        None => rows(Records::below(bytes, "pedal,speed,raise")?, bytes.len() / 6, Records::drive),
+    }
+}
+
+/// The rows of these records, of which there are at most so many.
+#[inline(always)]
+fn rows<'a>(
+    mut records: Records<'a>,
+    most: usize,
+    row: impl Fn(&mut Records<'a>) -> Option<Drive>,
+) -> Option<Vec<Drive>> {
+    let mut drives = Vec::with_capacity(MOST_ROWS.min(most));
     while !records.rest.is_empty() {
-        drives.push(records.drive()?);
+        drives.push(row(&mut records)?);
         records.end()?;
     }
     records.counted().then_some(drives)

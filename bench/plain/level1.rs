@@ -99,6 +99,13 @@ impl Machine {
         Machine { code, registers: [0; 256], pc: 0, state: State::Running }
     }
 
+    /// Begins the code from the start, as when it was new.
+    pub fn restart(&mut self) {
+        self.registers.fill(0);
+        self.pc = 0;
+        self.state = State::Running;
+    }
+
     /// Wakes a machine that waits, and does at most so many instructions.
     pub fn slice(&mut self, words: &mut Words, budget: u16) {
         if let State::Trapped(_) = self.state {

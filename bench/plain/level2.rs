@@ -5,6 +5,8 @@ use crate::calibration::{
 };
 use crate::level1::Words;
 
+/// Level 1's data begin here, right behind its code.
+pub const DATA: usize = 1024;
 pub const PORTS: usize = 2048;
 pub const THROTTLE: usize = 2064;
 pub const IGNITION: usize = 2065;
@@ -31,8 +33,8 @@ pub const WHOLE: u16 = 0x00ff;
 const BROKEN: u16 = 0x8000;
 
 /// The watches, in their order; `Watches` has a place for each.
-pub const WATCHES: [&str; 7] = ["mirror", "pedal", "plate", "load", "speed", "torque", "answers"];
-pub type Watches = [bool; 7];
+pub const WATCHES: [&str; 8] = ["mirror", "pedal", "plate", "load", "speed", "torque", "answers", "start"];
+pub type Watches = [bool; 8];
 
 /// Where a word stands, or, from 16 on, the complement of the word 16 below.
 fn address(word: usize) -> usize {
@@ -97,6 +99,8 @@ pub struct Rules<'a> {
     pub drive: &'a Drive,
     /// What the permit table gives for the drive row: mostly that is asked for again.
     pub table: u16,
+    /// Whether the engine is driven. Else the paths are tested: no debouncer is fed, and no answer is sent.
+    pub drives: bool,
 }
 
 impl Rules<'_> {
@@ -169,7 +173,7 @@ impl Rules<'_> {
     /// Module 6. Marks what is found.
     #[inline(always)]
     pub fn debounce(&self, words: &mut Words, found: &mut Watches) {
-        if words[TRIP] == 0 {
+        if words[TRIP] == 0 && self.drives {
             let bits = words[PAIRS] & 15 | (words[EXCESS] & 1) << 4;
             for k in 0..5 {
                 let weights = if k < 4 { &self.cal.pairs } else { &self.cal.torque };
@@ -199,14 +203,14 @@ fn give_up(words: &mut Words, tick: u16) {
     keep(words, LAST, tick);
 }
 
-/// Module 7. Answers whether path 1 is ordered open, and the answer.
+/// Module 7, which may be told to order path 1 open. Answers whether it does, and the answer.
 #[inline(always)]
-pub fn react(words: &mut Words, send: bool) -> (bool, Option<u32>) {
+pub fn react(words: &mut Words, send: bool, told: bool) -> (bool, Option<u32>) {
     let trip = words[TRIP] != 0;
     let whole = next_token(words[TOKEN], 7) == WHOLE;
     let flow = words[FLOW] | if whole { 0 } else { BROKEN };
     let sends = send && !trip;
     keep(words, TOKEN, 0);
     keep(words, FLOW, if sends { WHOLE } else { flow });
-    (trip, sends.then(|| u32::from(flow) << 16 | u32::from(words[SIGN])))
+    (trip || told, sends.then(|| u32::from(flow) << 16 | u32::from(words[SIGN])))
 }

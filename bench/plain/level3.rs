@@ -23,8 +23,8 @@ pub struct Judgement {
     pub mark: Mark,
     /// Whether it is right, where there is one.
     pub verdict: Option<bool>,
-    /// Whether wrong answers are found.
-    pub found: bool,
+    /// Whether wrong answers are confirmed now.
+    pub confirmed: bool,
 }
 
 pub fn mark(asked: &Question, answer: Option<u32>) -> Mark {
@@ -45,13 +45,13 @@ impl Monitor {
             self.right = mark == Mark::Good && times.first <= phase && phase <= times.last;
         }
         if phase + 1 != times.period {
-            return Judgement { mark, verdict: None, found: false };
+            return Judgement { mark, verdict: None, confirmed: false };
         }
         let right = self.heard == 1 && self.right;
         let before = self.counter;
         self.counter = times.weights.feed(before, !right);
         self.heard = 0;
         let limit = times.weights.limit;
-        Judgement { mark, verdict: Some(right), found: before < limit && self.counter == limit }
+        Judgement { mark, verdict: Some(right), confirmed: before < limit && self.counter == limit }
     }
 }

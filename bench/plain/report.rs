@@ -10,9 +10,9 @@ use crate::unit::{Row, Run, play};
 pub struct Summary {
     /// The number of the first watch that found something, and its tick.
     pub first: Option<(usize, u32)>,
-    /// The first tick at which the stages are off.
+    /// The first tick at which the stages are off and no test is running.
     pub off: Option<u32>,
-    /// The first tick by which the true excess is confirmed.
+    /// The first tick at which the true excess is confirmed within its span.
     pub confirmed: Option<u32>,
     pub trap: Option<(Trap, u32)>,
     /// The tick after the last one at which the stages were on, and the count of all ticks.
@@ -35,8 +35,11 @@ impl Summary {
         self.ticks += 1;
         if row.on {
             self.after_on = self.ticks;
-        } else if self.off.is_none() {
+        } else if self.off.is_none() && !row.testing {
             self.off = Some(row.tick);
+        }
+        if row.fresh {
+            self.counter = 0;
         }
         let bad = exceeds(row.torque, row.limit, cal.threshold);
         self.counter = cal.torque.feed(self.counter, bad);

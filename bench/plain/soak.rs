@@ -63,7 +63,7 @@ impl Draws {
         let mut drives = Vec::with_capacity(2000);
         for _ in 0..20 {
             let (pedal, speed, raise) = (self.word(1001), 800 + self.word(5201), self.word(500));
-            drives.extend([Drive { pedal, speed, raise }; 100]);
+            drives.extend([Drive { pedal, speed, raise, reset: false }; 100]);
         }
         drives
     }
@@ -109,8 +109,8 @@ impl Draws {
 #[derive(Default)]
 struct Counts {
     none: u32,
-    /// By the first watch that found something.
-    first: [u32; 7],
+    /// By the first watch that found something. No drawn run has a reset, so none finds the last, `start`.
+    first: [u32; WATCHES.len() - 1],
     trapped: u32,
     off: u32,
     longest: u32,

@@ -3,7 +3,7 @@
 use crate::calibration::{Calibration, Drive, Question, moved_toward};
 use crate::fault::{Effects, Fault, Reading};
 use crate::level1::{Machine, State, Trap, Words};
-use crate::level2::{self, IGNITION, PORTS, Rules, SIGNALS, THROTTLE, Watches};
+use crate::level2::{self, DATA, IGNITION, PORTS, Rules, SIGNALS, THROTTLE, Watches};
 use crate::level3::{self, Judgement, Mark, Monitor};
 
 struct Engine {
@@ -60,6 +60,9 @@ pub struct Row {
     pub found: Watches,
     pub answer: Mark,
     pub verdict: Option<bool>,
+    /// Whether a test of the paths is running, and whether a span begins. Neither is printed.
+    pub testing: bool,
+    pub fresh: bool,
 }
 
 /// What level 2 says of a tick.
@@ -75,10 +78,17 @@ pub struct Unit<'a> {
     machine: Machine,
     engine: Engine,
     monitor: Monitor,
+    /// The tick of the run.
     ticks: u32,
-    /// The tick of the period, and the number of the period's question.
+    /// The tick of the span, the tick of its period, and the number of the period's question.
+    local: u32,
     phase: u32,
     question: usize,
+    /// Whether the engine is driven in the span, or the paths are tested, and how long that takes.
+    drives: bool,
+    test_ticks: u32,
+    /// Whether a test was passed at the tick before.
+    passed: bool,
     open1: bool,
     open2: bool,
     trap: Option<(Trap, u32)>,
@@ -96,36 +106,78 @@ impl<'a> Unit<'a> {
             engine: Engine { plate: 0, charge: cal.charge.at(0), torque: 0 },
             monitor: Monitor::default(),
             ticks: 0,
+            local: 0,
             phase: 0,
             question: 0,
+            drives: true,
+            test_ticks: cal.times.test_ticks(),
+            passed: false,
             open1: false,
             open2: false,
             trap: None,
         }
     }
 
-    /// One tick of all three levels, and its row.
+    /// Begins a span: all is as new but the engine, and the trap that is told of the run.
+    #[cold]
+    #[inline(never)]
+    fn begin_span(&mut self, drives: bool) {
+        self.words[DATA..].fill(0);
+        level2::reset(&mut self.words);
+        self.machine.restart();
+        self.monitor = Monitor::default();
+        (self.local, self.phase, self.question) = (0, 0, 0);
+        (self.drives, self.passed) = (drives, false);
+        (self.open1, self.open2) = (false, false);
+    }
+
+    /// One tick of all three levels: shows its row.
     #[inline(always)]
-    fn tick(&mut self, drive: &Drive, budget: &[u16; 9], effects: &Effects) -> Row {
+    fn tick(&mut self, drive: &Drive, budget: &[u16; 9], effects: &Effects, show: &mut impl FnMut(&Row)) {
+        if drive.reset || self.passed {
+            self.begin_span(!drive.reset);
+        }
+        if self.drives {
+            show(&self.tick_in::<true>(drive, budget, effects));
+        } else {
+            show(&self.test(drive, budget, effects));
+        }
+    }
+
+    /// A tick at which the paths are tested, and its row.
+    #[inline(never)]
+    fn test(&mut self, drive: &Drive, budget: &[u16; 9], effects: &Effects) -> Row {
+        self.tick_in::<false>(drive, budget, effects)
+    }
+
+    /// A tick at which the engine is driven, or the paths are tested, and its row.
+    #[inline(always)]
+    fn tick_in<const DRIVES: bool>(&mut self, drive: &Drive, budget: &[u16; 9], effects: &Effects) -> Row {
         let path1 = effects.path1.unwrap_or(!self.open1);
         let path2 = effects.path2.unwrap_or(!self.open2);
-        let on = path1 && path2;
+        let on = DRIVES && path1 && path2;
         let commands = [self.words[THROTTLE], self.words[IGNITION]];
         self.engine.step(self.cal, commands, on, effects.held);
         self.words[PORTS..PORTS + 10].copy_from_slice(&self.engine.ports(drive, effects));
         let asked = self.asked(effects);
         let table = self.cal.permit.table(drive);
-        let rules = Rules { cal: self.cal, asked, drive, table };
+        let rules = Rules { cal: self.cal, asked, drive, table, drives: DRIVES };
         let mut orders = self.levels(budget, &rules, effects);
         self.open1 |= orders.opens;
         let mark = level3::mark(asked, orders.answer);
         let judged = self.judge(mark, effects);
-        self.open2 |= judged.found || effects.wild.is_some_and(|wild| wild.1);
+        self.open2 |= judged.confirmed || effects.wild.is_some_and(|wild| wild.1);
         if let (None, State::Trapped(kind)) = (self.trap, self.machine.state) {
             self.trap = Some((kind, self.ticks));
         }
-        orders.found[6] = judged.found;
-        let row = self.row(drive, table.max(drive.raise), [path1, path2, on], orders.found, &judged);
+        orders.found[6] = judged.confirmed && DRIVES;
+        if !DRIVES && self.local == self.test_ticks {
+            self.passed = !(path1 || path2);
+            orders.found[7] = !self.passed;
+        }
+        let testing = !DRIVES && self.local <= self.test_ticks;
+        let limit = table.max(drive.raise);
+        let row = Row { testing, ..self.row(drive, limit, [path1, path2, on], orders.found, &judged) };
         self.advance();
         row
     }
@@ -144,7 +196,7 @@ impl<'a> Unit<'a> {
     #[inline(always)]
     fn judge(&mut self, mark: Mark, effects: &Effects) -> Judgement {
         if effects.wild.is_some() {
-            return Judgement { mark, verdict: None, found: false };
+            return Judgement { mark, verdict: None, confirmed: false };
         }
         self.monitor.judge(&self.cal.times, mark, self.phase)
     }
@@ -152,7 +204,7 @@ impl<'a> Unit<'a> {
     /// Nine slices of level 1, and the eight modules of level 2 between them.
     #[inline(always)]
     fn levels(&mut self, budget: &[u16; 9], rules: &Rules, effects: &Effects) -> Orders {
-        let mut orders = Orders { found: [false; 7], opens: false, answer: None };
+        let mut orders = Orders { found: [false; 8], opens: false, answer: None };
         self.slice(budget[0], effects);
         if let Some((word, mask)) = effects.flip {
             level2::flip(&mut self.words, word, mask);
@@ -188,7 +240,7 @@ impl<'a> Unit<'a> {
             let words = &mut self.words;
             let disturbance = effects.disturbances[MODULE];
             match MODULE {
-                0 => orders.found[0] = rules.check(words, self.ticks as u16),
+                0 => orders.found[0] = rules.check(words, self.local as u16),
                 1 => rules.pedal(words, disturbance),
                 2 => rules.permitted(words, disturbance),
                 3 => rules.actual(words, disturbance),
@@ -197,14 +249,15 @@ impl<'a> Unit<'a> {
                 6 => rules.debounce(words, &mut orders.found),
                 _ => {
                     let send = self.phase == effects.send.unwrap_or(self.cal.times.send);
-                    (orders.opens, orders.answer) = level2::react(words, send);
+                    let told = !rules.drives && self.local + 1 == self.test_ticks;
+                    (orders.opens, orders.answer) = level2::react(words, send && rules.drives, told);
                 }
             }
         }
         self.slice(budget[MODULE + 1], effects);
     }
 
-    /// The row; the paths are path 1, path 2 and both.
+    /// The row, where no test is running; the paths are path 1, path 2, and whether the stages are on.
     #[inline(always)]
     fn row(&self, drive: &Drive, limit: u16, paths: [bool; 3], found: Watches, judged: &Judgement) -> Row {
         let words = &self.words;
@@ -226,6 +279,8 @@ impl<'a> Unit<'a> {
             found,
             answer: judged.mark,
             verdict: judged.verdict,
+            testing: false,
+            fresh: self.local == 0,
         }
     }
 
@@ -233,6 +288,7 @@ impl<'a> Unit<'a> {
     #[inline(always)]
     fn advance(&mut self) {
         self.ticks += 1;
+        self.local += 1;
         self.phase += 1;
         if self.phase == self.cal.times.period {
             self.phase = 0;
@@ -260,13 +316,13 @@ pub fn play(cal: &Calibration, run: &Run, mut show: impl FnMut(&Row)) -> Option<
     match run.fault {
         None => {
             for (drive, budget) in run.drives.iter().zip(budgets) {
-                show(&unit.tick(drive, budget, &Effects::NONE));
+                unit.tick(drive, budget, &Effects::NONE, &mut show);
             }
         }
         Some(fault) => {
             for (drive, budget) in run.drives.iter().zip(budgets) {
                 let effects = fault.effects(unit.ticks);
-                show(&unit.tick(drive, budget, &effects));
+                unit.tick(drive, budget, &effects, &mut show);
             }
         }
     }

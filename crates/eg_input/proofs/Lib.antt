@@ -10,3 +10,4 @@ pub mod WordLemmas
 pub mod WritesLemmas
 pub mod ImageLaws
 pub mod DecimalLemmas
+mod Worked

@@ -51,7 +51,8 @@ fn read_lines<R: FileRow>(
 }
 
 /// The numbers pedal, speed and raise at the front, and what comes behind the byte that ends them. None may
-/// come for any bytes.
+/// come for any bytes. Each caller has it inline, so that `Drive::new` finds the limits looked at already.
+#[inline(always)]
 pub(crate) fn drive_numbers(bytes: &[u8], ending: u8) -> Option<((u16, u16, u16), &[u8])>
     ensures { IfSome result (λ found. BeginsWithDrive ending bytes.now found.0 found.1.now) }
 {
