@@ -20,7 +20,7 @@ WordsStand =
     (kind : SpanKind) (s : Setting) → IsAccepted s.cal → (begin : ℕ) (h : List Tick) →
     Follows s.fault begin h → KeepsWords s (words_over kind s h) (moments_in kind s h)
 
--- and after every one shorter than 65,536 ticks they tell of the program flow what is so
+-- and after every one shorter than 65,536 ticks token, flow and last tick are what `KeepsFlow` says of it
 abbrev pub FlowStands : Type 0
 FlowStands =
     (kind : SpanKind) (s : Setting) → IsAccepted s.cal → (begin : ℕ) (h : List Tick) →

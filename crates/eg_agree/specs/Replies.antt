@@ -50,7 +50,7 @@ unfoldable pub mark_of : ℕ → Option ℕ → AnswerMark
 mark_of expected None = Absent
 mark_of expected (Some number) = if number == expected then Good else Bad
 
--- ---- what a tick asks for ----
+-- ---- what the law of one tick asks for ----
 
 -- As react begins at tick x, the word for the trip tells whether a trip came by this tick.
 abbrev pub TellsTrip : SpanKind → Setting → Words → Tick → List Tick → Type 0

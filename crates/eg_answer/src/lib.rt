@@ -23,4 +23,4 @@ pub use questions::{Question, Questions};
 pub use rules::{Rules, TestRow};
 pub use times::{Times, lapse_bound, reaction, verdicts_to_confirm};
 pub use token::{next_token, token_counts_modules};
-pub use words::{MIRRORED_WORDS, STORED_WORDS};
+pub use words::{MIRRORED_WORDS, STORED_WORDS, words_in_numbers};

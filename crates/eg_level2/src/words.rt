@@ -8,7 +8,7 @@ use eg_answer::MIRRORED_WORDS;
 use eg_base::NoMemory;
 use eg_guard::{Guarded, PROTECTED, RESULT_COUNT, RESULTS, StoreRefusal, Who};
 
-/// How many words there are. The complement of a word has its number and so many more.
+/// How many words there are. The complement of word `n` has the number `n + WORDS`.
 const WORDS: u16 = MIRRORED_WORDS as u16;
 
 /// How many of them, the first, are signals: these stand among the results.

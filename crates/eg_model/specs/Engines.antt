@@ -1,5 +1,5 @@
--- Engines on the bench: what the bench knows of an engine, the gasoline engine, and what an engine brings so
--- that the laws of records hold of it.
+-- Engines on the bench: what the bench knows of an engine, the gasoline engine, and what is asked of an
+-- engine so that the laws of records hold of it.
 use Rattle.std.specs.Prelude.{◌≡◌, ℕ, Bool, false, Option}
 use Rattle.eg_plant.specs.PlantParts.{PlantParts, ArePlantParts}
 use Rattle.eg_plant.specs.Engine.{Shown, KeepsLaws}
@@ -20,7 +20,8 @@ pub record BenchEngine (E : Type 0) : Type 0 where
 unfoldable pub gasoline : BenchEngine Gasoline
 gasoline = record { rest = at_rest; step = gasoline_step; shows = shown_of }
 
--- What an engine brings, where `Keeps` is what its states keep from step to step, whatever that is.
+-- What the laws of records ask of an engine, where `Keeps` is what its states keep from step to step, whatever
+-- that is.
 pub record KeepsBenchLaws {E : Type 0} (b : BenchEngine E) (Keeps : PlantParts → E → Type 0) : Type 0 where
   -- the state before the first tick keeps it
   pub at_first : (plant : PlantParts) → ArePlantParts plant → Keeps plant (b.rest plant)

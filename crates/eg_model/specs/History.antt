@@ -31,12 +31,13 @@ pub record Tick : Type 0 where
   pub effects : Effects
   pub entry : Entry
 
--- what a span of a run's ticks is for: the engine is driven in it, or the two shut-off paths are tested
+-- A span is a stretch of a run's ticks that is a history of its own. What it is for: the engine is driven in
+-- it, or the two shut-off paths are tested.
 pub data SpanKind : Type 0 where
   Drive : SpanKind
   Test : SpanKind
 
--- whether the engine is driven in it: the stages may have power, the debouncers are fed and answers are sent
+-- whether the engine is driven in it: the stages may have power, the debouncers be fed and answers be sent
 unfoldable pub drives : SpanKind → Bool
 drives Drive = true
 drives Test = false

@@ -1,5 +1,5 @@
 -- The laws for the record of a run on the bench, span by span: what the report says, and what the rows keep.
--- They are said of any engine.
+-- Each is a statement about an engine; it holds of those that keep what `KeepsBenchLaws` says.
 use Rattle.std.specs.Prelude.{◌≡◌, ℕ, ◌+◌, ◌*◌, ◌≤◌, ◌<◌, Bool, true, false, not, nat_lt, nat_le, max, List, ◌∷◌, ◌++◌, All, map, take, length, Option, Some, None, IfSome, MatchOption}
 use Rattle.std.specs.List.{list_all}
 use Rattle.eg_num.specs.Drive.{IsDrive}
@@ -108,7 +108,7 @@ CutFromOnset fault bound start rows = IfSome fault (λ f. spoils_answers f.class
 abbrev pub AreOff : (start : ℕ) → List Row → Type 0
 AreOff start rows = All (λ row. row.on ≡ false) rows
 
--- ---- so it is for every record ----
+-- ---- of every record ----
 
 abbrev pub RecordsReact : {E : Type 0} → BenchEngine E → Type 0
 RecordsReact b =

@@ -17,7 +17,7 @@ pub enum DocumentFault {
 }
 
 /// The document that a file's bytes are (docs/FORMATS.md, "Calibration files"). It answers Text exactly where
-/// they are none, but where memory runs out, which may be at any bytes.
+/// they are no document, unless memory runs out, which may be at any bytes.
 pub fn read_document(alloc: Global, bytes: &[u8]) -> Result<Table, DocumentFault>
     ensures read { IfOk result (λ t. document_of bytes.now ≡ Some (table_view t)) }
     ensures refused { result ≡ Err fault.Text → document_of bytes.now ≡ None }

@@ -19,7 +19,7 @@ pub record CalibrationParts : Type 0 where
   pub times : TimeParts
   pub questions : List Question
 
--- those of a calibration that is made of these four
+-- the parts of a calibration that is made of these four
 abbrev pub made_of : Rules → PlantParts → TimeParts → List Question → CalibrationParts
 made_of rules plant times questions =
     record { rules = rules; plant = plant; times = times; questions = questions }
