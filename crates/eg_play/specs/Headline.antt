@@ -1,5 +1,5 @@
--- The headline, for the record of one run with its power cycles; its rows stand newest first. That no image changes a protected
--- word is said of each slice, by the clause `outside` of `eg_host::Host::slice`.
+-- The headline, for the record of one run with its power cycles; its rows stand newest first. That no image
+-- changes a protected word is said of each slice, by the clause `outside` of `eg_host::Host::slice`.
 use Rattle.std.specs.Prelude.{◌≡◌, ℕ, false, List, All, None}
 use Rattle.eg_answer.specs.Times.{reaction_of, HasLapseBound}
 use Rattle.eg_fault.specs.Faults.{IsListed}
@@ -9,7 +9,8 @@ use Rattle.eg_record.specs.Spans.{EachDriveSpan, EachTestSpan}
 use Rattle.eg_model.specs.Engines.{gasoline}
 use Rattle.eg_model.specs.Bench.{Run}
 use Rattle.eg_model.specs.Rows.{record_rows, report_of}
-use Rattle.eg_model.specs.Records.{ReactWithin, ReactAtOnce, CutOneTickAfter, CutLapses, LapsesAreShort, CutFromOnset, AreOff}
+use Rattle.eg_model.specs.Records.{ReactWithin, ReactAtOnce, CutFromOnset, CutOneTickAfter}
+use Rattle.eg_model.specs.Records.{CutLapses, LapsesAreShort, AreOff}
 use Rattle.eg_model.specs.Lapses.{IsLapse}
 
 pub record KeepsHeadline (r : Run) : Type 0 where
