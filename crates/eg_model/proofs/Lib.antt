@@ -12,13 +12,8 @@ pub mod PlainTick
 pub mod SharpCutLaw
 pub mod SpanLemmas
 pub mod StartUpLaws
-pub mod RecordTicks
-pub mod RecordLaws
-pub mod GasolineLaws
-pub mod WholeRecord
 pub mod LapseRuns
 pub mod LapseAnswers
 pub mod LapseWeights
 pub mod LapseLaw
-pub mod RowLaws
 pub mod WorkedCycles

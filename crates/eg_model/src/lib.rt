@@ -7,7 +7,6 @@ mod examples;
 mod faulty_runs;
 mod lapses;
 mod reaction;
-mod records;
 mod sharp_cut;
 mod start_up;
 
@@ -18,9 +17,5 @@ pub use faulty_runs::{
 };
 pub use lapses::lapses_are_cut;
 pub use reaction::{cuts_from_onset, reacts_in_time};
-pub use records::{
-    records_are_histories, records_cut_from_onset, records_cut_lapses, records_cut_sharply,
-    records_react,
-};
 pub use sharp_cut::cuts_sharply;
 pub use start_up::runs_without_reset_are_one_span;

@@ -1,9 +1,0 @@
-use Rattle.eg_model.proofs.GasolineLaws.{gasoline_keeps, gasoline_shows_one_load}
-use Rattle.eg_model.proofs.RecordLaws.{runs_cut_sharply, records_cut_sharply}
-use Rattle.eg_model.proofs.records.records_cut_sharply.Goals as goal
-
-pub returns-clause-ticks : goal.returns-clause-ticks
-returns-clause-ticks c = runs_cut_sharply gasoline_keeps gasoline_shows_one_load
-
-pub returns-clause-rows : goal.returns-clause-rows
-returns-clause-rows c = records_cut_sharply gasoline_keeps gasoline_shows_one_load
