@@ -1,6 +1,7 @@
 pub mod WholeModel
 pub mod WorkedFaults
 pub mod WorkedImages
+pub mod WorkedTests
 pub mod TickLemmas
 pub mod TripLemmas
 pub mod Seeing
@@ -12,8 +13,14 @@ pub mod PlainTick
 pub mod SharpCutLaw
 pub mod SpanLemmas
 pub mod StartUpLaws
+pub mod RecordTicks
+pub mod SpanRows
+pub mod SpanLaws
+pub mod RecordSpans
+pub mod RecordLaws
+pub mod GasolineLaws
+pub mod WholeRecord
 pub mod LapseRuns
 pub mod LapseAnswers
 pub mod LapseWeights
 pub mod LapseLaw
-pub mod WorkedCycles

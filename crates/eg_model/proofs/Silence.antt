@@ -15,7 +15,7 @@ use Rattle.eg_answer.specs.declared.marks.Verdict.TheVariants.{Right, Wrong}
 use Rattle.eg_fault.specs.Effects.{Effects, sends_in, sends_at}
 use Rattle.eg_fault.specs.Classes.{IsRegular}
 use Rattle.eg_fault.specs.declared.paths.TheConstants.{PATH_2}
-use Rattle.eg_model.specs.History.{Setting, Entry, Tick, Moment}
+use Rattle.eg_model.specs.History.{Setting, Tick, Moment}
 use Rattle.eg_model.specs.Answers.{is_sent, mark_at, with_answer, answers_in, verdict_at, verdicts_in, confirms_at}
 use Rattle.eg_model.specs.Paths.{latch2, path2_at, on_at}
 use Rattle.eg_model.specs.Moments.{moment, moments_of}
@@ -222,7 +222,7 @@ wrongs-cons m past = go m.verdict
     go (Some v) = unfold with_verdict with_wrong in refl
 
 -- one tick more
-runs_on : (n k : ℕ) (v : Option Verdict) (bits : List Bool) → TrueRun n bits →
+pub runs_on : (n k : ℕ) (v : Option Verdict) (bits : List Bool) → TrueRun n bits →
     ((v ≡ None) × (k ≡ n)) ⊎ (((v ≡ Some Wrong) × (k ≡ suc n)) ⊎ (k ≡ 0)) → TrueRun k (with_wrong v bits)
 unfolding TrueRun with_wrong is_wrong
 runs_on n k v bits run (inl h) = rw (h.0, h.1) run
@@ -334,21 +334,20 @@ confirmed_now times None past before now = absurd (cc)
 confirmed_now times (Some v) past before now = unfold wrongs in
     is_first_from times.weights (is_wrong v) (wrongs past) now before
 
-opens_step : (s : Setting) (x : Effects) (e : Entry) (past : List Moment) →
-    (is_confirmed s.cal.times.weights (wrongs past) ≡ true → latch2 past ≡ true) →
-    is_confirmed s.cal.times.weights (with_wrong (moment s x e past).verdict (wrongs past)) ≡ true →
-    latch2 (moment s x e past ∷ past) ≡ true
-opens_step s x e past ih now = go (is_confirmed s.cal.times.weights (wrongs past)) refl
+pub opens_step : (times : TimeParts) (m : Moment) (past : List Moment) → m.confirms ≡ confirms_at times m.verdict past →
+    (is_confirmed times.weights (wrongs past) ≡ true → latch2 past ≡ true) →
+    is_confirmed times.weights (wrongs (m ∷ past)) ≡ true → latch2 (m ∷ past) ≡ true
+opens_step times m past confirms ih now = go (is_confirmed times.weights (wrongs past)) refl
   where
-    m : Moment
-    m = moment s x e past
+    now' : is_confirmed times.weights (with_wrong m.verdict (wrongs past)) ≡ true
+    now' = rw (wrongs-cons m past) at now
 
-    go : (b : Bool) → is_confirmed s.cal.times.weights (wrongs past) ≡ b → latch2 (m ∷ past) ≡ true
+    go : (b : Bool) → is_confirmed times.weights (wrongs past) ≡ b → latch2 (m ∷ past) ≡ true
     go true c = latch2-cons m past ∙ or_right _ _ (ih c)
     go false c = latch2-cons m past
-        ∙ or_left _ _ (or_left _ _ (moment-confirms s x e past ∙ confirmed_now s.cal.times m.verdict past c now))
+        ∙ or_left _ _ (or_left _ _ (confirms ∙ confirmed_now times m.verdict past c now'))
 
-confirmed_nothing : (w : WeightParts) → is_confirmed w (wrongs []) ≡ true → ⊥
+pub confirmed_nothing : (w : WeightParts) → is_confirmed w (wrongs []) ≡ true → ⊥
 unfolding is_confirmed wrongs verdicts_in
 confirmed_nothing w c = let c' : false ≡ true = c in cc
 
@@ -358,8 +357,8 @@ pub opens_when_confirmed : (s : Setting) (h : List Tick) →
 unfolding moments_of
 opens_when_confirmed s [] c = absurd (confirmed_nothing s.cal.times.weights c)
 opens_when_confirmed s (x ∷ h) c =
-    opens_step s x.effects x.entry (moments_of s h) (opens_when_confirmed s h)
-    (rw (wrongs-cons (moment s x.effects x.entry (moments_of s h)) (moments_of s h)) at c)
+    opens_step s.cal.times (moment s x.effects x.entry (moments_of s h)) (moments_of s h)
+    (moment-confirms s x.effects x.entry (moments_of s h)) (opens_when_confirmed s h) c
 
 pub enough_weight : (w : WeightParts) → 0 < w.up → w.limit ≤ verdicts_to_confirm w * w.up
 unfolding verdicts_to_confirm

@@ -39,7 +39,7 @@ length-span (m ∷ past) = go m.fresh (length-span past)
     go true l = omega arith
     go false l = omega arith
 
-length-span_ticks : (s : Setting) (h : List Entry) → length (span_ticks s h) ≡ length (span_so_far (moments s h))
+pub length-span_ticks : (s : Setting) (h : List Entry) → length (span_ticks s h) ≡ length (span_so_far (moments s h))
 length-span_ticks s h = unfold span_ticks in
     length-take-le (length (span_so_far (moments s h))) (ticks s h) (within (length-span (moments s h)) (length-run_moments s h) (length-ticks s h))
   where
@@ -126,7 +126,7 @@ pub record Continues (s : Setting) (e : Entry) (h : List Entry) (kind : SpanKind
 
 module _ (s : Setting) where
   -- the moments of a span, as those of its ticks
-  abbrev ByTicks : List Entry → Type 0
+  abbrev pub ByTicks : List Entry → Type 0
   ByTicks h = span_so_far (moments s h) ≡ moments_in (span_kind (moments s h)) s (span_ticks s h)
 
   before_from : (e : Entry) (h : List Entry) → ByTicks h →
@@ -158,7 +158,7 @@ module _ (s : Setting) where
       ap₂ (λ n past. moment_in (kind_at e.drive (moments s h)) s (effects s.fault n) e past) (length-run_moments s h)
       (before_from e h is)
 
-  by_ticks : (h : List Entry) → ByTicks h
+  pub by_ticks : (h : List Entry) → ByTicks h
   by_ticks [] = unfold moments span_so_far span_ticks ticks moments_in in refl
   by_ticks (e ∷ h) = step (by_ticks h)
     where
@@ -198,6 +198,13 @@ module _ (s : Setting) where
       now : (a b begin n : ℕ) → a ≡ n → begin + suc n ≡ suc b → b ≡ begin + a
       now a b begin n same e = omega arith
 
+  -- and so do those of the span that it ends in
+  pub follows_at : (h : List Entry) (begin : ℕ) → begin + length (span_ticks s h) ≡ length h →
+      Follows s.fault begin (span_ticks s h)
+  unfolding span_ticks
+  follows_at h begin e = follows_from h (length (span_so_far (moments s h))) begin
+      (ap (λ n. begin + n) (sym (length-span_ticks s h)) ∙ (unfold span_ticks in e))
+
   -- where the span that a run ends in begins
   pub begin_of : List Entry → ℕ
   begin_of h = length h - length (span_ticks s h)
@@ -207,7 +214,7 @@ module _ (s : Setting) where
     kind_is = refl;
     ticks_are = refl;
     moments_are = by_ticks h;
-    follows = (unfold span_ticks in follows_from h (length (span_so_far (moments s h))) (begin_of h) size');
+    follows = follows_at h (begin_of h) size;
     size = size;
   }
     where
@@ -220,9 +227,6 @@ module _ (s : Setting) where
 
       size : begin_of h + length (span_ticks s h) ≡ length h
       size = unfold begin_of in sum (length h) (length (span_ticks s h)) within
-
-      size' : begin_of h + length (span_so_far (moments s h)) ≡ length h
-      size' = ap (λ n. begin_of h + n) (sym (length-span_ticks s h)) ∙ size
 
   -- ---- where the engine is driven, what comes in is proper ----
 

@@ -19,8 +19,8 @@ unfoldable pub stepped : {E : Type 0} → BenchEngine E → PlantParts → E →
 stepped b plant e past on held =
     let world = last_world past in b.step plant e world.throttle world.ignition on held
 
--- The engine after these ticks of a run: it has made a step at each, from its rest on, also from span to span.
--- At the first tick of a span nothing is commanded yet. Nothing is read off what it showed.
+-- The engine after these ticks of a run: it has made a step at each, from its rest on, and goes on from span
+-- to span. At the first tick of a span nothing is commanded yet. Nothing is read off what it showed.
 unfoldable pub engine_after : {E : Type 0} → BenchEngine E → Setting → List Moment → E
 engine_after b s [] = b.rest s.cal.plant
 engine_after b s (m ∷ past) =

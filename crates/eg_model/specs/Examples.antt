@@ -10,7 +10,8 @@ use Rattle.eg_word.specs.declared.registers.Trap.{Trap}
 use Rattle.eg_fault.specs.declared.class.Class.{Class}
 use Rattle.eg_fault.specs.declared.class.Class.TheVariants.{Script, Offset, Bus, Flip, Path1Closed}
 use Rattle.eg_fault.specs.declared.class.Fault.{Fault}
-use Rattle.eg_values.specs.Reference.{reference_parts}
+use Rattle.eg_values.specs.Calibration.{CalibrationParts}
+use Rattle.eg_values.specs.Reference.{reference_times, reference_parts}
 use Rattle.eg_record.specs.declared.row.Row.{Row}
 use Rattle.eg_record.specs.declared.summary.Summary.{Summary}
 use Rattle.eg_record.specs.declared.watch.Watch.{Watch}
@@ -61,6 +62,22 @@ run_of image fault drive = record {
 -- so many ticks of it with the pedal at rest
 abbrev pub bench_run : List ℕ → Option Fault → ℕ → Run
 bench_run image fault count = run_of image fault (replicate count at_rest)
+
+-- the pedal at rest, and the unit is reset
+abbrev pub resetting : DriveRow
+resetting = record at_rest { reset = true }
+
+-- the reference calibration, but that one wrong verdict is enough: so a test of the paths takes one period,
+-- ten ticks
+abbrev pub short_test : CalibrationParts
+short_test = record reference_parts {
+  times = record reference_times { weights = record { up = 9; down = 1; limit = 9 } };
+}
+
+-- a run with it
+abbrev pub tested_run : List ℕ → Option Fault → List DriveRow → Run
+tested_run image fault drive =
+    record (run_of image fault drive) { setting = record { cal = short_test; image = image; fault = fault } }
 
 -- path 1 is closed from the start, and a raise permits all torque at the first 12 of 60 ticks
 abbrev pub raised_run : Run

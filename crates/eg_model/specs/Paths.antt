@@ -1,5 +1,5 @@
--- The two shut-off paths, and the start-up test of them. Their latches aren't kept: they are read off the past
--- of the span.
+-- The two shut-off paths, and the start-up test of them. Their latches aren't kept: they are read off the
+-- past of the span.
 use Rattle.std.specs.Prelude.{ℕ, ◌+◌, ◌==◌, nat_le, Bool, false, ◌&&◌, ◌||◌, List, length}
 use Rattle.std.specs.List.{list_any}
 use Rattle.eg_answer.specs.Times.{TimeParts, test_ticks_of}

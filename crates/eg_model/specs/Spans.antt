@@ -1,8 +1,8 @@
 -- A run, span by span. A power cycle begins at each tick whose drive row resets the unit, and with it a test
 -- span, in which the two shut-off paths are tested and the stages have no power. Where the test is passed, a
--- drive span begins at the next tick; where it fails, the test span lasts to the next power cycle. A run whose
--- first row doesn't reset begins with a drive span. In each span all is as after power-on but for the engine,
--- which goes on: so what is true of a tick goes by the ticks of its span before it alone.
+-- drive span begins at the next tick; where it fails, the test span lasts to the next power cycle. A run
+-- whose first row doesn't reset begins with a drive span. In each span all is as after power-on but for the
+-- engine, which goes on: so what is true of a tick goes by the ticks of its span before it alone.
 use Rattle.std.specs.Prelude.{Bool, false, ◌||◌, List, [], ◌∷◌, take, length, if◌then◌else◌}
 use Rattle.eg_num.specs.Drive.{DriveRow}
 use Rattle.eg_fault.specs.Effects.{Effects}

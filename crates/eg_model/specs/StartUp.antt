@@ -27,4 +27,5 @@ TestsPass =
 -- a run whose rows never reset the unit is one drive span from power-on
 abbrev pub RunsWithoutReset : Type 0
 RunsWithoutReset =
-    (s : Setting) (h : List Entry) → All (λ e. e.drive.reset ≡ false) h → moments s h ≡ moments_of s (ticks s h)
+    (s : Setting) (h : List Entry) → All (λ e. e.drive.reset ≡ false) h →
+    moments s h ≡ moments_of s (ticks s h)

@@ -1,8 +1,8 @@
 // Runs on the bench without a fault, worked out from the definitions. None of these functions does anything
 // when it runs.
-ghost use Rattle.std.specs.Prelude.{◌≡◌, [], ◌∷◌, ◌++◌, map, replicate, Some, None, codes};
+ghost use Rattle.std.specs.Prelude.{◌≡◌, true, false, [], ◌∷◌, ◌++◌, map, replicate, Some, None, codes};
 ghost use Rattle.eg_record.specs.declared.watch.Watch.TheVariants as found;
-ghost use Rattle.eg_model.specs.Examples.{full, bench_run, probe_row, probe_run, alternating_run, raise_run, report_on, reported, moments_in_time, rows_in_time};
+ghost use Rattle.eg_model.specs.Examples.{idle, full, at_rest, resetting, bench_run, tested_run, stages_of, probe_row, probe_run, alternating_run, raise_run, report_on, reported, moments_in_time, rows_in_time};
 
 /// Level 1 at full throttle, for 20 ticks: the torque is found at tick 9, where the excess is confirmed,
 /// and the stages go off at tick 10. From that tick on the signals are 0, as the permitted torque is. The
@@ -35,4 +35,11 @@ pub fn probing_run()
     ensures { rows_in_time probe_run
         ≡ probe_row 0 0 40 100 100 ∷ probe_row 1 50 40 100 0
         ∷ probe_row 2 0 80 200 100 ∷ probe_row 3 50 40 100 65436 ∷ [] }
+{}
+
+/// The first row resets the unit, and a test of the paths takes ten ticks: it is passed at tick 10, and the
+/// stages are on from tick 11.
+pub fn passed_test()
+    ensures { stages_of (tested_run idle None (resetting ∷ replicate 13 at_rest))
+        ≡ replicate 11 false ++ replicate 3 true }
 {}

@@ -3,10 +3,10 @@
 ghost use Rattle.std.specs.Prelude.{◌≡◌, true, false, [], ◌∷◌, ◌++◌, map, replicate, Some, None, codes};
 ghost use Rattle.eg_answer.specs.declared.marks.AnswerMark.TheVariants.{Good, Bad};
 ghost use Rattle.eg_answer.specs.declared.marks.Verdict.TheVariants.{Right, Wrong};
-ghost use Rattle.eg_fault.specs.declared.class.Class.TheVariants.{Plate, Skip, Halt, Wild, Path2Closed, PathOpen, Lapse};
+ghost use Rattle.eg_fault.specs.declared.class.Class.TheVariants.{Plate, Skip, Halt, Wild, Path1Closed, Path2Closed, PathOpen, Lapse};
 ghost use Rattle.eg_record.specs.declared.watch.Watch.TheVariants as found;
 ghost use Rattle.eg_model.specs.Rows.{signal_list};
-ghost use Rattle.eg_model.specs.Examples.{idle, full, fault_from, bench_run, pressed_run, offset_run, disturbed_raise_run, flipped_probe_run, report_on, reported, moments_in_time, answers_of, verdicts_of, stages_of};
+ghost use Rattle.eg_model.specs.Examples.{idle, full, at_rest, resetting, fault_from, bench_run, tested_run, pressed_run, offset_run, disturbed_raise_run, flipped_probe_run, report_on, reported, moments_in_time, answers_of, verdicts_of, stages_of};
 
 /// Path 2 conducts whatever its latch says, and a path that is open doesn't conduct.
 pub fn path_2_runs()
@@ -79,4 +79,10 @@ pub fn disturbed_raise()
     ensures limit { map (λ m. m.limit) (moments_in_time disturbed_raise_run) ≡ 600 ∷ [] }
     ensures signals { map (λ m. signal_list m.signals) (moments_in_time disturbed_raise_run)
         ≡ (0 ∷ 200 ∷ 100 ∷ 0 ∷ 0 ∷ []) ∷ [] }
+{}
+
+/// Path 1 conducts whatever its latch says: the test of the paths fails at tick 10, and the stages stay off.
+pub fn failed_test()
+    ensures { stages_of (tested_run idle (fault_from 0 Path1Closed) (resetting ∷ replicate 13 at_rest))
+        ≡ replicate 14 false }
 {}

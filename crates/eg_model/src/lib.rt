@@ -7,15 +7,20 @@ mod examples;
 mod faulty_runs;
 mod lapses;
 mod reaction;
+mod records;
 mod sharp_cut;
 mod start_up;
 
-pub use examples::{alternating_slices, full_run, probing_run, raise_is_read};
+pub use examples::{alternating_slices, full_run, passed_test, probing_run, raise_is_read};
 pub use faulty_runs::{
-    disturbed_raise, flip_seen_by_level_1, halted_and_held_runs, lapsed_run, latched_run,
-    limited_run, offset_track, path_2_runs, wild_run,
+    disturbed_raise, failed_test, flip_seen_by_level_1, halted_and_held_runs, lapsed_run,
+    latched_run, limited_run, offset_track, path_2_runs, wild_run,
 };
 pub use lapses::lapses_are_cut;
 pub use reaction::{cuts_from_onset, reacts_in_time};
+pub use records::{
+    records_are_histories, records_cut_from_onset, records_cut_lapses, records_cut_sharply,
+    records_react, records_test_the_paths,
+};
 pub use sharp_cut::cuts_sharply;
-pub use start_up::runs_without_reset_are_one_span;
+pub use start_up::{runs_without_reset_are_one_span, tests_pass};

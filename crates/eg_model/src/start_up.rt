@@ -1,7 +1,13 @@
-// The start-up test, and runs without one.
-ghost use Rattle.eg_model.specs.StartUp.{RunsWithoutReset};
+// The start-up test of the shut-off paths, and runs without one.
+ghost use Rattle.eg_model.specs.StartUp.{TestsPass, RunsWithoutReset};
 
-/// A run whose drive rows never reset the unit is one drive span. It does nothing when it runs.
+/// Where nothing is out of order the start-up test of the shut-off paths is passed, for every accepted
+/// calibration. It does nothing when it runs.
+pub fn tests_pass()
+    ensures { TestsPass }
+{}
+
+/// A run whose drive rows never reset the unit is one drive span from power-on. It does nothing when it runs.
 pub fn runs_without_reset_are_one_span()
     ensures { RunsWithoutReset }
 {}

@@ -1,0 +1,375 @@
+-- The laws for the record of a run on the bench, span by span, for any engine that brings what every engine
+-- owes.
+use Rattle.std.proofs.Common.{◌≡◌, ℕ, zero, suc, ◌+◌, ◌≤◌, ◌<◌, Bool, true, false, not, ◌&&◌, List, [], ◌∷◌, ◌++◌, All, map, take, length, refl, sym, ap, ap₂, ◌∙◌, arith, Option, Some, None, subst, append_assoc}
+use Rattle.std.specs.Prelude.{slice_index_or}
+use Rattle.std.proofs.lemmas.List.Elements.{All-head, All-tail, All-cons, All-nil}
+use Rattle.std.proofs.lemmas.Bool.{ltb-true, lt-ltb}
+use Rattle.eg_num.specs.Drive.{DriveRow, IsDrive}
+use Rattle.eg_num.specs.Windows.{is_confirmed}
+use Rattle.eg_answer.specs.Times.{reaction_of}
+use Rattle.eg_values.specs.Calibration.{IsAccepted}
+use Rattle.eg_plant.specs.PlantParts.{PlantParts}
+use Rattle.eg_plant.specs.Engine.{KeepsLaws}
+use Rattle.eg_fault.specs.Effects.{Effects, no_effects}
+use Rattle.eg_fault.specs.Faults.{effects, IsNoneOrValid}
+use Rattle.eg_fault.specs.Classes.{IsHeldWithin}
+use Rattle.eg_fault.specs.declared.class.Fault.{Fault}
+use Rattle.eg_fault.proofs.ActingLemmas.{before_onset, listed_valid}
+use Rattle.eg_fault.proofs.ClassLemmas.{plates_are_held_within}
+use Rattle.eg_record.specs.declared.row.Row.{Row}
+use Rattle.eg_record.specs.Excess.{full_excess}
+use Rattle.eg_record.specs.Spans.{IsDriveSpan, EachDriveSpan}
+use Rattle.eg_model.specs.History.{Setting, Entry, Tick, SpanKind, Drive, Test, drives, Moment}
+use Rattle.eg_model.specs.Paths.{reads_back, on_at}
+use Rattle.eg_model.specs.Level1.{last_world}
+use Rattle.eg_model.specs.Moments.{moment_in, moments_in, moments_of}
+use Rattle.eg_model.specs.Spans.{kind_at, before_at, moment_at, next_after, moments, next, ticks, span_ticks}
+use Rattle.eg_model.specs.Engines.{BenchEngine, KeepsBenchLaws, ShowsOneLoad}
+use Rattle.eg_model.specs.Bench.{Run, no_drive, stepped, engine_after, shown_at, drive_at, entry_at, moments_to, entries_to}
+use Rattle.eg_model.specs.Rows.{row_of, rows_of, record_rows}
+use Rattle.eg_model.specs.Premises.{IsProper, AreProper, IsProperRun, Follows}
+use Rattle.eg_model.specs.SharpCut.{ArePlain}
+use Rattle.eg_model.specs.StartUp.{IsUndisturbed}
+use Rattle.eg_model.specs.Records.{IsRun, is_before_onset, ReactWithin, ReactAtOnce, CutOneTickAfter, CutLapses, LapsesAreShort, CutFromOnset, RecordsReact, RecordsReactAtOnce, RecordsCutSharply, RecordsCutSharplyBefore, RecordsCutLapses, RecordsHaveShortLapses, RecordsCutFromOnset, RecordsTestUnpowered, RecordsPassTests}
+use Rattle.eg_model.proofs.StartUpLaws.{tests_pass}
+use Rattle.eg_model.proofs.SpanLemmas.{tick_after, ticks_before, Continues, continues, begin_of, ends_in, proper_drive}
+use Rattle.eg_model.proofs.SpanRows.{rows_after, SpanRows, RowAfter, row_tick, rows_off, bits_after, full_unnumbered}
+use Rattle.eg_model.proofs.SpanLaws.{react_within, react_at_once, cut_lapses, short_lapses, cut_from_onset, sharp_after, cut_one_tick_after}
+use Rattle.eg_model.proofs.RecordTicks.{length-moments_to, records_are_histories}
+use Rattle.eg_model.proofs.RecordSpans.{kind_by, head_of, tail_of, part_of, SpanTo, SpanIn, span_in}
+
+-- ---- the drive, and faults that haven't begun ----
+
+all_or : {X : Type 0} (P : X → Type 0) (xs : List X) (i : ℕ) (d : X) → P d → All P xs →
+    P (slice_index_or xs i d)
+all_or P [] i d none all = none
+all_or P (x ∷ xs) zero d none all = All-head P x xs all
+all_or P (x ∷ xs) (suc i) d none all = all_or P xs i d none (All-tail P x xs all)
+
+-- the drive row of each tick is one that may be, also past the end of the drive
+drive_is : (r : Run) (t : ℕ) → All IsDrive r.drive → IsDrive (drive_at r t)
+unfolding drive_at no_drive
+drive_is r t all = all_or IsDrive r.drive t no_drive (omega arith, omega arith, omega arith) all
+
+-- while no fault has begun nothing is out of order
+quiet_tick : (f : Option Fault) (t : ℕ) → is_before_onset f t ≡ true → effects f t ≡ no_effects
+quiet_tick None t quiet = unfold effects in refl
+quiet_tick (Some f) t quiet = before_onset f t (ltb-true _ _ (unfold is_before_onset in quiet))
+
+-- and so at each tick up to it
+quiet_up_to : (f : Option Fault) (t u : ℕ) → is_before_onset f t ≡ true → u ≤ t → is_before_onset f u ≡ true
+quiet_up_to None t u quiet l = unfold is_before_onset in refl
+quiet_up_to (Some f) t u quiet l = unfold is_before_onset in
+    lt-ltb _ _ (earlier (ltb-true _ _ (unfold is_before_onset in quiet)))
+  where
+    earlier : t < f.onset → u < f.onset
+    earlier m = omega (arith, m, l)
+
+-- what comes in before the onset is proper, whatever the fault
+quiet_held : (f : Option Fault) (t : ℕ) → is_before_onset f t ≡ true → IsHeldWithin (effects f t).held
+quiet_held f t quiet = subst (λ x. IsHeldWithin x.held) (sym (quiet_tick f t quiet))
+    (unfold no_effects in tt)
+
+-- a plate that is held at one of the first n ticks has an angle within its range
+abbrev pub HoldsTo : Run → ℕ → Type 0
+HoldsTo r n = (t : ℕ) → t < n → IsHeldWithin (effects r.setting.fault t).held
+
+All-take : {X : Type 0} (P : X → Type 0) (n : ℕ) (xs : List X) → All P xs → All P (take n xs)
+All-take P zero xs all = All-nil P
+All-take P (suc n) [] all = All-nil P
+All-take P (suc n) (x ∷ xs) all = All-cons P x (take n xs) (All-head P x xs all) (All-take P n xs (All-tail P x xs all))
+
+-- ---- without a fault no test fails ----
+
+quiet_ticks : (s : Setting) → s.fault ≡ None → (start : ℕ) (h : List Tick) → Follows s.fault start h → All IsUndisturbed h
+unfolding Follows
+quiet_ticks s none start [] follows = All-nil IsUndisturbed
+quiet_ticks s none start (x ∷ h) follows = All-cons IsUndisturbed x h
+    (follows.0 ∙ ap (λ f. effects f (start + length h)) none ∙ nothing (start + length h)) (quiet_ticks s none start h follows.1)
+  where
+    nothing : (t : ℕ) → effects None t ≡ no_effects
+    nothing t = unfold effects in refl
+
+never_fails : (kind : SpanKind) (s : Setting) → IsAccepted s.cal → (x : Tick) (h : List Tick) → All IsUndisturbed (x ∷ h) →
+    (moment_in kind s x.effects x.entry (moments_in kind s h)).found.start ≡ false
+never_fails Drive s accepted x h plain = unfold moment_in reads_back in refl
+never_fails Test s accepted x h plain = (tests_pass s accepted x h plain).never_fails
+
+next_passes : (s : Setting) → IsAccepted s.cal → s.fault ≡ None → (e : Entry) (h : List Entry) → (next s e h).found.start ≡ false
+next_passes s accepted none e h = ap (λ (m : Moment). m.found.start) c.moment_is
+    ∙ (unfold tick_after in never_fails (kind_at e.drive (moments s h)) s accepted (tick_after s e h) (ticks_before s e h) plain)
+  where
+    c : Continues s e h (kind_at e.drive (moments s h)) (ticks_before s e h)
+    c = continues s e h
+
+    plain : All IsUndisturbed (tick_after s e h ∷ ticks_before s e h)
+    plain = subst (All IsUndisturbed) c.ticks_are (quiet_ticks s none (begin_of s (e ∷ h)) (span_ticks s (e ∷ h)) (ends_in s (e ∷ h)).follows)
+
+abbrev NeverFails : Row → Type 0
+NeverFails row = row.found.start ≡ false
+
+none_fails : (s : Setting) → IsAccepted s.cal → s.fault ≡ None → (h : List Entry) → All NeverFails (rows_of (moments s h))
+unfolding rows_of moments
+none_fails s accepted none [] = All-nil NeverFails
+none_fails s accepted none (e ∷ h) = All-cons NeverFails (row_of (length (moments s h)) (next_after s e (moments s h))) (rows_of (moments s h))
+    (unfold row_of in (unfold next in next_passes s accepted none e h)) (none_fails s accepted none h)
+
+-- ---- each drive span ----
+
+module _ {E : Type 0} (b : BenchEngine E) where
+  -- a law for the rows of a history holds for each drive span of a record
+  each_drive : (P : ℕ → List Row → Type 0) (r : Run) →
+      ((start count : ℕ) (span : List Row) → SpanIn b r start count Drive span → P start (SpanRows r.setting start (SpanTo b r count))) →
+      EachDriveSpan P (record_rows b r)
+  each_drive P r law newer span older e is = subst (P (length older)) (sym (rows_are known))
+      (law (length older) (length (span ++ older)) span known)
+    where
+      known : SpanIn b r (length older) (length (span ++ older)) Drive span
+      known = unfold kind_by in span_in b r newer span older e is.span false is.drives
+
+      rows_are : SpanIn b r (length older) (length (span ++ older)) Drive span → span ≡ SpanRows r.setting (length older) (SpanTo b r (length (span ++ older)))
+      rows_are s = unfold moments_of in s.rows_are
+
+  pub records_cut_from_onset : RecordsCutFromOnset b
+  records_cut_from_onset r run valid = each_drive (CutFromOnset r.setting.fault (reaction_of r.setting.cal.times)) r
+      (λ start count span is. cut_from_onset r.setting start (SpanTo b r count) run.accepted valid is.follows)
+
+  -- ---- the start-up test ----
+
+  pub records_test_unpowered : RecordsTestUnpowered b
+  records_test_unpowered r newer span older e is = subst (All (λ row. row.on ≡ false)) (sym (rows_are known))
+      (rows_off r.setting (length older) (SpanTo b r (length (span ++ older))))
+    where
+      known : SpanIn b r (length older) (length (span ++ older)) Test span
+      known = unfold kind_by in span_in b r newer span older e is.span true is.tests
+
+      rows_are : SpanIn b r (length older) (length (span ++ older)) Test span →
+          span ≡ rows_after (length older) (moments_in Test r.setting (SpanTo b r (length (span ++ older))))
+      rows_are s = s.rows_are
+
+  pub records_pass_tests : RecordsPassTests b
+  records_pass_tests r run none = subst (All NeverFails) (ap rows_of (sym (records_are_histories b r (length r.drive))) ∙ (unfold record_rows in refl))
+      (none_fails r.setting run.accepted none (entries_to b r (length r.drive)))
+
+module _ {E : Type 0} {b : BenchEngine E} {Keeps : PlantParts → E → Type 0} (keeps : KeepsBenchLaws b Keeps) where
+  -- ---- what comes in on the bench is proper ----
+
+  -- one step more keeps what the engine kept
+  kept_next : (s : Setting) (x : Effects) (engine : E) (past : List Moment) (on : Bool) → IsHeldWithin x.held →
+      Keeps s.cal.plant engine → Keeps s.cal.plant (stepped b s.cal.plant engine past on x.held)
+  unfolding stepped
+  kept_next s x engine past on held kept = keeps.goes_on s.cal.plant engine kept
+      (last_world past).throttle (last_world past).ignition on x.held held
+
+  -- so it keeps it after each of the first n ticks
+  kept_to : (r : Run) → IsRun r → (n : ℕ) → HoldsTo r n →
+      Keeps r.setting.cal.plant (engine_after b r.setting (moments_to b r n))
+  unfolding moments_to engine_after
+  kept_to r run zero holds = keeps.at_first r.setting.cal.plant run.accepted.plant
+  kept_to r run (suc t) holds = kept_next r.setting (effects r.setting.fault (length (moments_to b r t)))
+      (engine_after b r.setting (moments_to b r t)) _ _
+      (subst (λ u. IsHeldWithin (effects r.setting.fault u).held) (sym (length-moments_to b r t)) (holds t (omega arith)))
+      (kept_to r run t (λ u l. holds u (omega arith)))
+
+  -- whether the stages are on at the tick with this drive row
+  abbrev OnNext : Effects → DriveRow → List Moment → Bool
+  OnNext x drive past = drives (kind_at drive past) && on_at x (before_at drive past)
+
+  -- after a step with the stages off there is no torque
+  shown_off : (s : Setting) (x : Effects) (drive : DriveRow) (past : List Moment) →
+      Keeps s.cal.plant (engine_after b s past) → OnNext x drive past ≡ false → (shown_at b s x drive past).torque ≡ 0
+  unfolding shown_at stepped
+  shown_off s x drive past kept off = ap (λ on. (b.shows (b.step s.cal.plant (engine_after b s past)
+      (last_world (before_at drive past)).throttle (last_world (before_at drive past)).ignition on x.held)).torque) off
+      ∙ keeps.off s.cal.plant (engine_after b s past) kept (last_world (before_at drive past)).throttle
+      (last_world (before_at drive past)).ignition x.held
+
+  proper_entry : (r : Run) → IsRun r → (t : ℕ) → HoldsTo r (suc t) →
+      IsProper r.setting (OnNext (effects r.setting.fault t) (drive_at r t) (moments_to b r t)) (entry_at b r t (moments_to b r t))
+  unfolding entry_at
+  proper_entry r run t holds = record {
+    drive = drive_is r t run.drive;
+    engine = subst (λ k. KeepsLaws k (shown_at b r.setting x (drive_at r t) past)) (sym run.accepted.together.one_kt)
+        (unfold shown_at in keeps.laws r.setting.cal.plant _
+        (kept_next r.setting x (engine_after b r.setting past) (before_at (drive_at r t) past) (OnNext x (drive_at r t) past)
+        (holds t (omega arith)) kept));
+    no_torque = shown_off r.setting x (drive_at r t) past kept;
+  }
+    where
+      x : Effects
+      x = effects r.setting.fault t
+
+      past : List Moment
+      past = moments_to b r t
+
+      kept : Keeps r.setting.cal.plant (engine_after b r.setting past)
+      kept = kept_to r run t (λ u l. holds u (omega arith))
+
+  next_on : (s : Setting) (e : Entry) (past : List Moment) →
+      (next_after s e past).on ≡ OnNext (effects s.fault (length past)) e.drive past
+  unfolding next_after moment_at moment_in
+  next_on s e past = refl
+
+  proper_at : (r : Run) → IsRun r → (t : ℕ) → HoldsTo r (suc t) →
+      IsProper r.setting (next r.setting (entry_at b r t (moments_to b r t)) (entries_to b r t)).on (entry_at b r t (moments_to b r t))
+  unfolding next
+  proper_at r run t holds = subst (λ past. IsProper r.setting (next_after r.setting e past).on e) (records_are_histories b r t)
+      (subst (λ on. IsProper r.setting on e) (sym (next_on r.setting e past ∙ same)) (proper_entry r run t holds))
+    where
+      past : List Moment
+      past = moments_to b r t
+
+      e : Entry
+      e = entry_at b r t past
+
+      drive_same : e.drive ≡ drive_at r t
+      drive_same = unfold entry_at in refl
+
+      same : OnNext (effects r.setting.fault (length past)) e.drive past ≡ OnNext (effects r.setting.fault t) (drive_at r t) past
+      same = ap₂ (λ n drive. OnNext (effects r.setting.fault n) drive past) (length-moments_to b r t) drive_same
+
+  pub proper_to : (r : Run) → IsRun r → (n : ℕ) → HoldsTo r n → IsProperRun r.setting (entries_to b r n)
+  unfolding entries_to IsProperRun
+  proper_to r run zero holds = tt
+  proper_to r run (suc t) holds = (proper_at r run t holds, proper_to r run t (λ u l. holds u (omega arith)))
+
+  -- so it is under each valid fault
+  proper_under : (r : Run) → IsRun r → IsNoneOrValid r.setting.fault → (n : ℕ) → IsProperRun r.setting (entries_to b r n)
+  proper_under r run valid n = proper_to r run n (λ t l. plates_are_held_within r.setting.fault valid t)
+
+  -- and so the ticks of each drive span are proper
+  proper_span : (r : Run) → IsRun r → IsNoneOrValid r.setting.fault → (start count : ℕ) (span : List Row) →
+      SpanIn b r start count Drive span → AreProper r.setting (SpanTo b r count)
+  proper_span r run valid start count span is =
+      proper_drive r.setting (entries_to b r count) (proper_under r run valid count) is.kind_is
+
+  -- ---- the laws of each drive span ----
+
+  pub records_react : RecordsReact b
+  records_react r run listed = each_drive b (ReactWithin (reaction_of r.setting.cal.times) r.setting.cal.rules.torque r.setting.cal.rules.threshold) r (λ start count span is.
+      react_within r.setting start (SpanTo b r count) run.accepted listed is.follows
+      (proper_span r run (listed_valid r.setting.fault listed) start count span is))
+
+  pub records_react_at_once : RecordsReactAtOnce b
+  records_react_at_once r run listed = each_drive b (ReactAtOnce r.setting.fault r.setting.cal.rules.torque r.setting.cal.rules.threshold) r (λ start count span is.
+      react_at_once r.setting start (SpanTo b r count) run.accepted listed is.follows
+      (proper_span r run (listed_valid r.setting.fault listed) start count span is))
+
+  pub records_cut_lapses : RecordsCutLapses b
+  records_cut_lapses r run valid bound lapse = each_drive b (CutLapses r.setting.cal) r (λ start count span is.
+      cut_lapses r.setting start (SpanTo b r count) run.accepted bound lapse is.follows
+      (proper_span r run valid start count span is))
+
+  pub records_have_short_lapses : RecordsHaveShortLapses b
+  records_have_short_lapses r run valid bound lapse = each_drive b (LapsesAreShort r.setting.cal) r (λ start count span is.
+      short_lapses r.setting start (SpanTo b r count) run.accepted bound lapse is.follows
+      (proper_span r run valid start count span is))
+
+  -- ---- the sharp cut ----
+
+  module _ (once : ShowsOneLoad b) where
+    -- the ticks of a span, each with one load, at none of which a fault has begun
+    plain_ticks : (r : Run) (start : ℕ) (h : List Tick) → Follows r.setting.fault start h → All (λ x. x.entry.shown.load_2 ≡ x.entry.shown.load_1) h →
+        ((t : ℕ) → t < start + length h → is_before_onset r.setting.fault t ≡ true) → ArePlain h
+    unfolding ArePlain Follows
+    plain_ticks r start [] follows loads quiet = tt
+    plain_ticks r start (x ∷ h) follows loads quiet = (
+      record {
+        effects = follows.0 ∙ quiet_tick r.setting.fault (start + length h) (quiet (start + length h) (omega arith));
+        loads = All-head (λ x. x.entry.shown.load_2 ≡ x.entry.shown.load_1) x h loads;
+      },
+      plain_ticks r start h follows.1 (All-tail (λ x. x.entry.shown.load_2 ≡ x.entry.shown.load_1) x h loads)
+          (λ t l. quiet t (omega arith)),
+    )
+
+    loads_to : (r : Run) (n : ℕ) → All (λ x. x.entry.shown.load_2 ≡ x.entry.shown.load_1) (ticks r.setting (entries_to b r n))
+    unfolding ticks entries_to
+    loads_to r zero = All-nil (λ x. x.entry.shown.load_2 ≡ x.entry.shown.load_1)
+    loads_to r (suc t) = All-cons (λ x. x.entry.shown.load_2 ≡ x.entry.shown.load_1)
+        (record { effects = effects r.setting.fault (length (entries_to b r t)); entry = entry_at b r t (moments_to b r t) })
+        (ticks r.setting (entries_to b r t)) (unfold entry_at shown_at in once.loads _) (loads_to r t)
+
+    plain_span : (r : Run) (start count : ℕ) (span : List Row) → SpanIn b r start count Drive span →
+        ((t : ℕ) → t < count → is_before_onset r.setting.fault t ≡ true) → ArePlain (SpanTo b r count)
+    plain_span r start count span is quiet = plain_ticks r start (SpanTo b r count) is.follows
+        (unfold span_ticks in All-take (λ x. x.entry.shown.load_2 ≡ x.entry.shown.load_1) _ (ticks r.setting (entries_to b r count)) (loads_to r count))
+        (λ t l. quiet t (let size = is.size in omega (arith, l, size)))
+
+    proper_quiet : (r : Run) → IsRun r → (start count : ℕ) (span : List Row) → SpanIn b r start count Drive span →
+        ((t : ℕ) → t < count → is_before_onset r.setting.fault t ≡ true) → AreProper r.setting (SpanTo b r count)
+    proper_quiet r run start count span is quiet = proper_drive r.setting (entries_to b r count)
+        (proper_to r run count (λ t l. quiet_held r.setting.fault t (quiet t l))) is.kind_is
+
+    pub records_cut_sharply : RecordsCutSharply b
+    records_cut_sharply r run none = each_drive b (CutOneTickAfter r.setting.cal.rules.torque r.setting.cal.rules.kt r.setting.cal.rules.threshold) r (λ start count span is.
+        cut_one_tick_after r.setting start (SpanTo b r count) run.accepted
+        (plain_span r start count span is (λ t l. quiet t)) (proper_quiet r run start count span is (λ t l. quiet t)))
+      where
+        quiet : (t : ℕ) → is_before_onset r.setting.fault t ≡ true
+        quiet t = rw none (unfold is_before_onset in refl)
+
+    -- the last row of a part of a span, at a tick at which no fault has begun
+    sharp_last : (r : Run) → IsRun r → (start count : ℕ) (row : Row) (before : List Row) →
+        SpanIn b r start count Drive (row ∷ before) → is_before_onset r.setting.fault row.tick ≡ true →
+        row.on ≡ not (is_confirmed r.setting.cal.rules.torque (map (full_excess r.setting.cal.rules.kt r.setting.cal.rules.threshold) before))
+    sharp_last r run start count row before is quiet = go (SpanTo b r count) refl
+      where
+        s : Setting
+        s = r.setting
+
+        bit : Row → Bool
+        bit = full_excess s.cal.rules.kt s.cal.rules.threshold
+
+        Sharp : Type 0
+        Sharp = row.on ≡ not (is_confirmed s.cal.rules.torque (map bit before))
+
+        rows_are : (h : List Tick) → SpanTo b r count ≡ h → row ∷ before ≡ SpanRows s start h
+        rows_are h e = is.rows_are ∙ (unfold moments_of in ap (λ g. rows_after start (moments_in Drive s g)) e)
+
+        last : (x : Tick) (h : List Tick) → SpanTo b r count ≡ x ∷ h → row ∷ before ≡ RowAfter s start x h ∷ SpanRows s start h → Sharp
+        last x h e rows = ap (λ (r : Row). r.on) first
+            ∙ sharp_after s start run.accepted x h (unfold ArePlain in plain.0.effects) (unfold ArePlain in plain.1) (unfold AreProper in proper.1)
+            ∙ ap (λ bits. not (is_confirmed s.cal.rules.torque bits))
+            (sym (ap (map bit) rest ∙ bits_after bit (full_unnumbered s.cal.rules.kt s.cal.rules.threshold) s start h))
+          where
+            first : row ≡ RowAfter s start x h
+            first = head_of row (RowAfter s start x h) before (SpanRows s start h) rows
+
+            rest : before ≡ SpanRows s start h
+            rest = tail_of row (RowAfter s start x h) before (SpanRows s start h) rows
+
+            place : count ≡ suc row.tick
+            place = let size = is.size in let long = ap length e in let at = ap (λ (r : Row). r.tick) first ∙ row_tick s start x h in
+                omega (arith, size, long, at)
+
+            still : (t : ℕ) → t < count → is_before_onset s.fault t ≡ true
+            still t l = up_to (omega (arith, l, place))
+              where
+                up_to : t ≤ row.tick → is_before_onset s.fault t ≡ true
+                up_to m = quiet_up_to s.fault row.tick t quiet m
+
+            plain : ArePlain (x ∷ h)
+            plain = subst ArePlain e (plain_span r start count (row ∷ before) is still)
+
+            proper : AreProper s (x ∷ h)
+            proper = subst (AreProper s) e (proper_quiet r run start count (row ∷ before) is still)
+
+        go : (h : List Tick) → SpanTo b r count ≡ h → Sharp
+        go [] e = absurd (none (rows_are [] e ∙ (unfold rows_after moments_of moments_in in refl)))
+          where
+            none : row ∷ before ≡ [] → ⊥
+            none f = cc
+        go (x ∷ h) e = last x h e (rows_are (x ∷ h) e ∙ (unfold rows_after moments_of moments_in in refl))
+
+    pub records_cut_sharply_before : RecordsCutSharplyBefore b
+    records_cut_sharply_before r run newer span older e is later before row split quiet =
+        sharp_last r run (length older) (length ((row ∷ before) ++ older)) row before
+        (unfold kind_by in span_in b r (newer ++ later) (row ∷ before) older longer part.span false part.drives) quiet
+      where
+        part : IsDriveSpan (row ∷ before)
+        part = part_of later row before (subst IsDriveSpan split is)
+
+        longer : record_rows b r ≡ (newer ++ later) ++ ((row ∷ before) ++ older)
+        longer = e ∙ ap (λ rows. newer ++ (rows ++ older)) split
+            ∙ ap (λ rows. newer ++ rows) (append_assoc later (row ∷ before) older)
+            ∙ sym (append_assoc newer later ((row ∷ before) ++ older))

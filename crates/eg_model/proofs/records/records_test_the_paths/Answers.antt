@@ -1,0 +1,9 @@
+use Rattle.eg_model.specs.Engines.{gasoline}
+use Rattle.eg_model.proofs.RecordLaws.{records_test_unpowered, records_pass_tests}
+use Rattle.eg_model.proofs.records.records_test_the_paths.Goals as goal
+
+pub returns-clause-unpowered : goal.returns-clause-unpowered
+returns-clause-unpowered c = records_test_unpowered gasoline
+
+pub returns-clause-passes : goal.returns-clause-passes
+returns-clause-passes c = records_pass_tests gasoline

@@ -1,0 +1,48 @@
+// The laws of records of runs on the bench, for the gasoline engine. They are proved of any engine that
+// brings what `KeepsBenchLaws` says.
+ghost use Rattle.eg_model.specs.Engines.{gasoline};
+ghost use Rattle.eg_model.specs.Records.{RecordsAreHistories, RecordsAreRows, RecordsReact, RecordsReactAtOnce, RecordsCutFromOnset, RecordsCutSharply, RecordsCutSharplyBefore, RecordsCutLapses, RecordsHaveShortLapses, RecordsTestUnpowered, RecordsPassTests};
+
+/// The record of a run on the bench is a history from power-on, and its rows are numbered from 0 on. It
+/// does nothing when it runs.
+pub fn records_are_histories()
+    ensures histories { RecordsAreHistories gasoline }
+    ensures rows { RecordsAreRows gasoline }
+{}
+
+/// The reaction theorem for runs on the bench, by the rows of each drive span of the record. It does nothing
+/// when it runs.
+pub fn records_react()
+    ensures in_time { RecordsReact gasoline }
+    ensures at_once { RecordsReactAtOnce gasoline }
+{}
+
+/// By the rows of each drive span of the record of a run on the bench: where a module of level 2 is skipped
+/// or disturbed, or the controller halts, the stages are off from R ticks after the onset, or after the span's
+/// begin if that is later, whatever the torque (docs/CONCEPT.md, "Reaction time"). It does nothing when it
+/// runs.
+pub fn records_cut_from_onset()
+    ensures { RecordsCutFromOnset gasoline }
+{}
+
+/// The sharp cut for runs on the bench, by the rows of each drive span of the record: at all of them without
+/// a fault, and at those before the onset of a fault, whatever the fault. It does nothing when it runs.
+pub fn records_cut_sharply()
+    ensures rows { RecordsCutSharply gasoline }
+    ensures before { RecordsCutSharplyBefore gasoline }
+{}
+
+/// The laws of lapses by the rows of each drive span of the record of a run on the bench, for a calibration
+/// that has a bound (docs/CONCEPT.md, "Lapses"): a lapse is cut, and each stretch of true excess is shorter
+/// than the bound. It does nothing when it runs.
+pub fn records_cut_lapses()
+    ensures cut { RecordsCutLapses gasoline }
+    ensures short { RecordsHaveShortLapses gasoline }
+{}
+
+/// By the rows of the record of a run on the bench: while the shut-off paths are tested the stages are off,
+/// whatever the fault, and without a fault no test fails. It does nothing when it runs.
+pub fn records_test_the_paths()
+    ensures unpowered { RecordsTestUnpowered gasoline }
+    ensures passes { RecordsPassTests gasoline }
+{}
