@@ -15,6 +15,7 @@ mod paths;
 mod plant;
 mod row;
 mod run;
+mod span;
 mod working;
 
 pub use controller::{Controller, Ticks};
