@@ -41,7 +41,7 @@ use Rattle.eg_tick.specs.declared.span.Place.{Place}
 use Rattle.eg_tick.specs.declared.span.Span.{Span}
 use Rattle.eg_tick.specs.declared.working.Task.{Task}
 use Rattle.eg_tick.proofs.MonitorLemmas.{span-period, span-later, span-asked}
-use Rattle.eg_tick.proofs.StandsLemmas.{Enters, entered, ComesIn, enters, Makes, moment-is, next-on, next_row}
+use Rattle.eg_tick.proofs.StandsLemmas.{Enters, entered, ComesIn, enters, Makes, next-on, next_row}
 
 -- ---- the setting of a controller ----
 

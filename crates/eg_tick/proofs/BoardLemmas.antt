@@ -164,7 +164,7 @@ module _ (old mid new : List ℕ) (words : IsWritten old mid 1024 (replicate 102
           within : ((1024 ≤ address) × (address < 2048)) ⊎ ((address ≡ 2064) ⊎ (address ≡ 2065)) → address < 4096
           within own = elim own [
             | inl inside ↦ (let to = inside.1 in omega arith)
-            | inr out ↦ elim out [ | inl first ↦ omega (arith, first) | inr next ↦ omega (arith, next) ]
+            | inr out ↦ elim out [ inl first ↦ omega (arith, first) | inr next ↦ omega (arith, next) ]
           ]
 
   pub cleared-outside : SameOutside is_level1_own old new

@@ -102,13 +102,7 @@ impl Span {
 
     /// What level 2 is to do at its next tick, which is this tick of the run (docs/CONCEPT.md, "Level 2").
     #[tactic(auto, unfolding(crate::specs::Stands::kind_of, eg_agree::specs::Doings::phase_at, eg_model::specs::History::drives))]
-    pub(crate) fn phase(
-        &self,
-        fault: Option<&Fault>,
-        tick: u32,
-        times: &Times,
-        told: bool,
-    ) -> Phase
+    pub(crate) fn phase(&self, fault: Option<&Fault>, tick: u32, times: &Times, told: bool) -> Phase
         requires { told ≡ is_told_to_open (kind_of self.now.tests) times.now self.now.local }
         ensures { result ≡ phase_at (kind_of self.now.tests) times.now
             (effects (option_copied fault.entry) tick) self.now.local }

@@ -1,4 +1,4 @@
-use Rattle.std.proofs.Common.{◌≡◌, ◌∙◌, refl, sym, ap, subst, ◌+◌, ◌<◌, ◌||◌, Some, None, List, ◌∷◌, length, slice_index, true, false, arith}
+use Rattle.std.proofs.Common.{◌≡◌, ◌∙◌, refl, sym, ap, subst, ◌+◌, ◌<◌, Some, None, List, ◌∷◌, length, slice_index, true, false, arith}
 use Rattle.std.specs.Option.{option_copied}
 use Rattle.eg_answer.specs.declared.rules.Rules.{Rules}
 use Rattle.eg_num.specs.Interpolation.{grid_at}
@@ -31,7 +31,6 @@ enter-requires g c =
           (within _ some.0 some.1 c.self.invariant.keeps.accepted some.2);
       decoded = c.self.invariant.decoded c.if-self.false;
     }
-
 
 pub place-requires : goal.place-requires
 place-requires g c =
