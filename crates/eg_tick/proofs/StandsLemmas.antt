@@ -1,6 +1,6 @@
 -- From what a controller stands for before a tick to what it stands for after it.
-use Rattle.std.proofs.Common.{◌≡◌, ◌∙◌, refl, sym, ap, ap₂, subst, ℕ, ◌+◌, not, ◌||◌, ◌&&◌, Bool, false, List, ◌∷◌, length, slice_index, arith}
-use Rattle.std.specs.Prelude.{◌==◌}
+use Rattle.std.proofs.Common.{◌≡◌, ◌∙◌, refl, sym, ap, ap₂, subst, ℕ, ◌+◌, not, ◌||◌, ◌&&◌, Bool, true, false, List, ◌∷◌, length, slice_index, arith}
+use Rattle.std.specs.Prelude.{◌==◌, if◌then◌else◌}
 use Rattle.std.specs.Option.{option_or}
 use Rattle.eg_num.specs.Drive.{IsDrive}
 use Rattle.eg_num.specs.declared.watches.Watches.{Watches}
@@ -11,7 +11,7 @@ use Rattle.eg_word.specs.World.{World, world_of}
 use Rattle.eg_level2.specs.Words.{words_of}
 use Rattle.eg_level2.specs.declared.step.Step.{Step}
 use Rattle.eg_record.specs.declared.row.Row.{Row}
-use Rattle.eg_model.specs.History.{Setting, Entry, Tick, SpanKind, drives, Moment}
+use Rattle.eg_model.specs.History.{Setting, Entry, Tick, SpanKind, Drive, Test, drives, Moment}
 use Rattle.eg_model.specs.Signals.{last_signals}
 use Rattle.eg_model.specs.Paths.{is_testing, reads_back, latch1, latch2, path1_at, path2_at, on_at}
 use Rattle.eg_model.specs.Level1.{last_world}
@@ -55,17 +55,26 @@ ComesIn c reset span m memory =
     (kind : SpanKind) (s : Setting) (h : List Tick) → HoldsSpan kind s c.span c.registers c.memory.words h →
     HoldsSpan (kind_from reset c.span.passed kind) s span m memory.words (ticks_from reset c.span.passed h)
 
+kind_from-is : (reset passed : Bool) (kind : SpanKind) →
+    kind_from reset passed kind ≡ (if reset then Test else if passed then Drive else kind)
+unfolding kind_from kind_of
+kind_from-is true passed kind = refl
+kind_from-is false true kind = refl
+kind_from-is false false kind = refl
+
 pub enters : (s : Setting) (c : Kept) (e : Entry) (h : List Entry) (reset : Bool) (span : Span) (m : Registers) (memory : ShownMemory) →
     Stands s c h → reset ≡ e.drive.reset → ComesIn c reset span m memory → Enters s (entered c span m memory) e h
-unfolding kind_from ticks_from kind_at ticks_before
+unfolding ticks_from kind_at ticks_before
 enters s c e h reset span m memory stands resets comes = record {
   cal = stands.cal;
   fault = stands.fault;
   count = stands.count;
-  span = subst (λ b. HoldsSpan (kind_from b (has_passed (moments s h)) (span_kind (moments s h))) s span m memory.words
+  span = subst (λ kind. HoldsSpan kind s span m memory.words (ticks_from e.drive.reset (has_passed (moments s h)) (span_ticks s h)))
+      (kind_from-is e.drive.reset (has_passed (moments s h)) (span_kind (moments s h)))
+      (subst (λ b. HoldsSpan (kind_from b (has_passed (moments s h)) (span_kind (moments s h))) s span m memory.words
       (ticks_from b (has_passed (moments s h)) (span_ticks s h))) resets
       (subst (λ b. HoldsSpan (kind_from reset b (span_kind (moments s h))) s span m memory.words (ticks_from reset b (span_ticks s h))) stands.passed
-      (comes (span_kind (moments s h)) s (span_ticks s h) stands.span));
+      (comes (span_kind (moments s h)) s (span_ticks s h) stands.span)));
   engine = stands.engine;
   trap = stands.trap;
 }

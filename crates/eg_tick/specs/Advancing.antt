@@ -49,8 +49,8 @@ abbrev pub RowIsUnpowered : Setting → Kept → DriveRow → Row → Type 0
 RowIsUnpowered s c drive row =
     (h : List Entry) → Stands s c h → kind_at drive (moments s h) ≡ Test → row.on ≡ false
 
--- The controller c stood for the history h before the tick of this row, which goes on with a drive span: these
--- are the ticks of it so far.
+-- The controller c stood for the history h before the tick of this row, which goes on with a drive span:
+-- these are the ticks of it so far.
 pub record DrivesOn (s : Setting) (c : Kept) (row : Row) (h : List Entry) (span : List Tick) : Type 0 where
   pub stands : Stands s c h
   pub kind : span_kind (moments s h) ≡ Drive
@@ -58,8 +58,8 @@ pub record DrivesOn (s : Setting) (c : Kept) (row : Row) (h : List Entry) (span 
   pub goes_on : row.fresh ≡ false
 
 -- In the laws the span is cut in two: `before` ends with the tick by which the true excess is confirmed, and
--- `more` are the ticks since then, newest first. So the tick of the row comes length more + 1 ticks after that
--- one.
+-- `more` are the ticks since then, newest first. So the tick of the row comes length more + 1 ticks after
+-- that one.
 
 -- The reaction theorem: where that is R ticks or more, the stages are off at the row, under each listed
 -- fault.
@@ -69,8 +69,8 @@ RowReactsInTime s c row =
     IsListed s.fault → IsExcessConfirmed s before →
     reaction_of s.cal.times ≤ length more + 1 → row.on ≡ false
 
--- Under most faults they are off already at each tick after the one by which it was confirmed. (The tick after
--- `before` has the number length h - length more in the run.)
+-- Under most faults they are off already at each tick after the one by which it was confirmed. (The tick
+-- after `before` has the number length h - length more in the run.)
 abbrev pub RowReactsAtOnce : Setting → Kept → Row → Type 0
 RowReactsAtOnce s c row =
     (h : List Entry) (more before : List Tick) → DrivesOn s c row h (more ++ before) →

@@ -8,8 +8,8 @@ use Rattle.eg_level2.specs.Inputs.{Level2Parts}
 use Rattle.eg_tick.specs.Kept.{Kept}
 use Rattle.eg_tick.specs.Stands.{IsController}
 
--- Level 2 is made of the parts of the calibration, whose times say how long a start-up test takes; the program
--- is that of the memory's code, unless memory ran out; and all else is a controller.
+-- Level 2 is made of the parts of the calibration, whose times say how long a start-up test takes; the
+-- program is that of the memory's code, unless memory ran out; and all else is a controller.
 pub record IsWhole (cal : CalibrationParts) (level2 : Level2Parts) (test_ticks : ℕ)
     (program : List Instruction) (c : Kept) : Type 0 where
   pub parts : level2 ≡ record { rules = cal.rules; questions = cal.questions }

@@ -40,9 +40,9 @@ pub record IsDeaf (before now : MonitorParts) (verdict : Option Verdict) : Type 
 
 -- ---- a tick of a run ----
 
--- The setting has this fault. Tick x comes after h in a span of this kind, from tick `begin` of the run on, and
--- has these numbers in the run and in the span. The module is as the model says of h, and what level 2 answers
--- at the tick has the mark of the model.
+-- The setting has this fault. Tick x comes after h in a span of this kind, from tick `begin` of the run on,
+-- and has these numbers in the run and in the span. The module is as the model says of h, and what level 2
+-- answers at the tick has the mark of the model.
 pub record ComesNext (kind : SpanKind) (s : Setting) (fault : Option Fault) (tick local : ℕ)
     (answer : Option ℕ) (monitor : MonitorParts) (x : Tick) (h : List Tick) : Type 0 where
   pub same_fault : s.fault ≡ fault

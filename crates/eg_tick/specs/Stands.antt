@@ -102,8 +102,9 @@ unfoldable pub IsShown : Shown → List Entry → Type 0
 IsShown shown [] = Unit {0}
 IsShown shown (e ∷ before) = e.shown ≡ shown
 
--- The engine has the `kt` of the calibration. At each tick of the run the drive row kept its limits, the plate
--- had an angle within its range, neither load hid torque, and there was no torque where the stages were off.
+-- The engine has the `kt` of the calibration. At each tick of the run the drive row kept its limits, the
+-- plate had an angle within its range, neither load hid torque, and there was no torque where the stages were
+-- off.
 pub record HoldsEngine (s : Setting) (kt : ℕ) (shown : Shown) (h : List Entry) : Type 0 where
   pub one_kt : kt ≡ s.cal.rules.kt
   pub proper : IsProperRun s h
@@ -111,9 +112,9 @@ pub record HoldsEngine (s : Setting) (kt : ℕ) (shown : Shown) (h : List Entry)
 
 -- ---- the controller ----
 
--- A controller stands for a history of a run: calibration, fault, the count of ticks, the engine and the first
--- trap are those of the run, and all else is that of the span which it ends in. The memory has 4,096 words, and
--- it hasn't run out.
+-- A controller stands for a history of a run: calibration, fault, the count of ticks, the engine and the
+-- first trap are those of the run, and all else is that of the span which it ends in. The memory has 4,096
+-- words, and it hasn't run out.
 pub record Stands (s : Setting) (c : Kept) (h : List Entry) : Type 0 where
   pub cal : c.cal ≡ s.cal
   pub fault : c.fault ≡ s.fault

@@ -56,8 +56,8 @@ pub fn run_one(
         (run_by calibration.now image.now (option_copied fault.entry) plan.now drive.now))) }
     ensures trap { IfOk result (λ made. made.trap ≡ record_trap gasoline
         (run_by calibration.now image.now (option_copied fault.entry) plan.now drive.now)) }
-    // The reaction theorem: in each drive span the stages are off in time after a confirmed torque excess, and
-    // under most faults at once.
+    // The reaction theorem: in each drive span the stages are off in time after a confirmed torque excess,
+    // and under most faults at once.
     ensures reacts { IsListed (option_copied fault.entry) → IfOk result (λ made.
         EachDriveSpan (ReactWithin (reaction_of calibration.now.times) calibration.now.rules.torque
         calibration.now.rules.threshold) (reverse made.rows)) }

@@ -22,8 +22,8 @@ use eg_host::Host;
 use eg_level2::{Level2, Phase};
 use eg_module::Monitor;
 
-/// What a controller keeps of the span of ticks that it is in, beside level 1 and the memory (docs/CONCEPT.md,
-/// "The controller").
+/// What a controller keeps of the span of ticks that it is in, beside level 1 and the memory
+/// (docs/CONCEPT.md, "The controller").
 #[derive(Drop)]
 pub(crate) struct Span {
     /// Whether the shut-off paths are tested in it. Else the engine is driven.
@@ -78,7 +78,6 @@ impl Span {
     }
 
     /// The place of its next tick, where a start-up test takes so many ticks.
-    #[tactic(auto, unfolding(crate::specs::Stands::kind_of, eg_model::specs::Paths::is_testing, eg_model::specs::Paths::is_told_to_open, eg_model::specs::Paths::reads_back))]
     pub(crate) fn place(&self, test_ticks: u32) -> Place
         requires { self.now.local < 20000 }
         ensures tests { result.tests ≡ self.now.tests }
@@ -90,18 +89,44 @@ impl Span {
         ensures reads_back { (times : TimeParts) → test_ticks ≡ test_ticks_of times
             → result.reads_back ≡ reads_back (kind_of self.now.tests) times self.now.local }
     {
-        let (tests, local) = (self.tests, self.local);
         Place {
-            tests,
-            fresh: local == 0,
-            testing: tests && local <= test_ticks,
-            told: tests && local + 1 == test_ticks,
-            reads_back: tests && local == test_ticks,
+            tests: self.tests,
+            fresh: self.local == 0,
+            testing: self.testing(test_ticks),
+            told: self.told(test_ticks),
+            reads_back: self.reads_back(test_ticks),
         }
     }
 
+    /// Whether a start-up test is running at it.
+    #[tactic(auto, unfolding(crate::specs::Stands::kind_of, eg_model::specs::Paths::is_testing))]
+    fn testing(&self, test_ticks: u32) -> bool
+        ensures { (times : TimeParts) → test_ticks ≡ test_ticks_of times
+            → result ≡ is_testing (kind_of self.now.tests) times self.now.local }
+    {
+        self.tests && self.local <= test_ticks
+    }
+
+    /// Whether react is told at it to order path 1 open.
+    #[tactic(auto, unfolding(crate::specs::Stands::kind_of, eg_model::specs::Paths::is_told_to_open))]
+    fn told(&self, test_ticks: u32) -> bool
+        requires { self.now.local < 20000 }
+        ensures { (times : TimeParts) → test_ticks ≡ test_ticks_of times
+            → result ≡ is_told_to_open (kind_of self.now.tests) times self.now.local }
+    {
+        self.tests && self.local + 1 == test_ticks
+    }
+
+    /// Whether the paths are read back at it.
+    #[tactic(auto, unfolding(crate::specs::Stands::kind_of, eg_model::specs::Paths::reads_back))]
+    fn reads_back(&self, test_ticks: u32) -> bool
+        ensures { (times : TimeParts) → test_ticks ≡ test_ticks_of times
+            → result ≡ reads_back (kind_of self.now.tests) times self.now.local }
+    {
+        self.tests && self.local == test_ticks
+    }
+
     /// What level 2 is to do at its next tick, which is this tick of the run (docs/CONCEPT.md, "Level 2").
-    #[tactic(auto, unfolding(crate::specs::Stands::kind_of, eg_agree::specs::Doings::phase_at, eg_model::specs::History::drives))]
     pub(crate) fn phase(&self, fault: Option<&Fault>, tick: u32, times: &Times, told: bool) -> Phase
         requires { told ≡ is_told_to_open (kind_of self.now.tests) times.now self.now.local }
         ensures { result ≡ phase_at (kind_of self.now.tests) times.now
@@ -144,7 +169,7 @@ fn either(first: bool, second: bool) -> bool
 
 /// Comes into the span of the next tick (docs/CONCEPT.md, "A run, tick by tick"): one begins where the tick's
 /// drive row resets the unit, or a start-up test was passed at the tick before; else the span goes on.
-#[tactic(auto, unfolding(crate::specs::Stands::kind_of, crate::specs::Entering::kind_from, crate::specs::Entering::ticks_from))]
+#[tactic(auto, unfolding(crate::specs::Entering::kind_from, crate::specs::Entering::ticks_from))]
 pub(crate) fn enter<M: Guarded>(
     span: &mut Span,
     level2: &Level2,
@@ -166,8 +191,8 @@ pub(crate) fn enter<M: Guarded>(
     Ok(())
 }
 
-/// Begins a span, in which all is as after power-on but for the engine, which goes on (docs/CONCEPT.md, "A run,
-/// tick by tick"). The code stays, since nobody changes it.
+/// Begins a span, in which all is as after power-on but for the engine, which goes on (docs/CONCEPT.md, "A
+/// run, tick by tick"). The code stays, since nobody changes it.
 #[inline(never)]
 fn begin<M: Guarded>(
     span: &mut Span,

@@ -116,7 +116,8 @@ advance : (g : Over) (c : goal.After-row g) → Advance (old g c) (new g c) c.ar
 advance g c =
     let noted = c.note.ensures in
     let test_ticks = c.self.invariant.test_ticks_are in
-    subst (λ under. Advance (old g c) (new g c) c.args.drive.now c.args.slices.now under c.self.inside.level2 c.at.result c.place.result (task g c) c.in_ok-step.step c.judge-judged.result)
+    subst (λ under. Advance (old g c) (new g c) c.args.drive.now c.args.slices.now under c.self.inside.level2 c.at.result c.place.result
+    (task g c) c.in_ok-step.step c.judge-judged.result)
     c.as_ref-fault.ensures.value
     (record {
       accepted = c.self.invariant.keeps.accepted;
@@ -133,9 +134,11 @@ advance g c =
       tick = refl;
       at = refl;
       phase = c.phase.ensures
-          ∙ ap (λ times. phase_at (kind_of c.enter.new.span.tests) times (effects (option_copied c.as_ref-fault.result) c.self.inside.ticks) c.enter.new.span.local) c.times-times.ensures.times;
+          ∙ ap (λ times. phase_at (kind_of c.enter.new.span.tests) times (effects (option_copied c.as_ref-fault.result) c.self.inside.ticks)
+          c.enter.new.span.local) c.times-times.ensures.times;
       asked = c.question-asked.ensures.number
-          ∙ ap (λ questions. asked_at (effects (option_copied c.as_ref-fault.result) c.self.inside.ticks) c.enter.new.span.monitor.times (length questions) c.enter.new.span.local) c.questions-questions.ensures.questions;
+          ∙ ap (λ questions. asked_at (effects (option_copied c.as_ref-fault.result) c.self.inside.ticks) c.enter.new.span.monitor.times
+          (length questions) c.enter.new.span.local) c.questions-questions.ensures.questions;
       readings = c.readings.ensures;
       slices = refl;
       served = c.in_ok-step.ensures.served;
@@ -182,7 +185,12 @@ stood g c s h stands = goes g c s h (was g c s h stands)
 still : (g : Over) (c : goal.After-row g) → IsController (new g c)
 still g c =
     let some = c.self.invariant.keeps.stands c.if-self.false in
-    record { accepted = c.self.invariant.keeps.accepted; fault = c.self.invariant.keeps.fault; stands = λ held. (some.0, entry g c ∷ some.1, goes g c _ some.1 some.2); unsure = λ gone. absurd (let clash : false ≡ true = gone in cc) }
+    record {
+      accepted = c.self.invariant.keeps.accepted;
+      fault = c.self.invariant.keeps.fault;
+      stands = λ held. (some.0, entry g c ∷ some.1, goes g c _ some.1 some.2);
+      unsure = λ gone. absurd (let clash : false ≡ true = gone in cc);
+    }
 
 steps : (g : Over) (c : goal.After-row g) → g.E.Engine.steps c.args.self.now.engine (slice_index (g.M.Guarded.shows c.enter.new.memory).words 2064)
     (slice_index (g.M.Guarded.shows c.enter.new.memory).words 2065) c.at.result.on (effects c.self.inside.fault c.self.inside.ticks).held c.step_engine.new.engine
