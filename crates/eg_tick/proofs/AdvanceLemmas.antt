@@ -1,39 +1,47 @@
 -- A tick, from what each of its parts says of itself.
-use Rattle.std.proofs.Common.{◌≡◌, ◌∙◌, refl, sym, ap, ap₂, subst, ℕ, ◌+◌, ◌≤◌, ◌<◌, ◌||◌, ◌&&◌, Bool, false, Option, Some, List, ◌∷◌, length, slice_index, arith}
+use Rattle.std.proofs.Common.{◌≡◌, ◌∙◌, refl, sym, ap, ap₂, subst, ℕ, ◌+◌, ◌≤◌, ◌<◌, not, ◌||◌, ◌&&◌, All, Bool, false, None, Option, Some, List, [], ◌∷◌, length, slice_index, arith}
+use Rattle.std.specs.Prelude.{◌==◌}
 use Rattle.std.specs.Option.{option_or}
 use Rattle.eg_num.specs.Drive.{DriveRow, IsDrive}
 use Rattle.eg_plant.specs.Engine.{KeepsLaws}
 use Rattle.eg_fault.specs.declared.class.Fault.{Fault}
-use Rattle.eg_fault.specs.Effects.{sends_at, asked_at}
+use Rattle.eg_answer.specs.Periods.{period_of}
+use Rattle.eg_fault.specs.Effects.{asked_at}
 use Rattle.eg_fault.specs.Faults.{effects, IsNoneOrValid}
 use Rattle.eg_fault.specs.Classes.{IsHeldWithin}
 use Rattle.eg_fault.proofs.ClassLemmas.{plates_are_held_within}
 use Rattle.eg_values.specs.Calibration.{CalibrationParts, IsAccepted}
-use Rattle.eg_guard.specs.Memory.{AreWords}
+use Rattle.eg_guard.specs.Memory.{ShownMemory, AreWords}
+use Rattle.eg_word.specs.declared.registers.Registers.{Registers}
 use Rattle.eg_word.specs.World.{World, world_of}
 use Rattle.eg_record.specs.declared.row.Row.{Row}
 use Rattle.eg_level2.specs.Words.{AreWithin, words_of}
 use Rattle.eg_level2.specs.Inputs.{Level2Parts}
 use Rattle.eg_level2.specs.declared.step.Step.{Step}
-use Rattle.eg_model.specs.History.{Setting, Entry, Tick}
-use Rattle.eg_model.specs.Paths.{on_at}
+use Rattle.eg_model.specs.History.{Setting, Entry, Tick, SpanKind, drives}
+use Rattle.eg_model.specs.Paths.{is_testing, reads_back}
 use Rattle.eg_model.specs.Level1.{last_world}
-use Rattle.eg_model.specs.Moments.{readings_at, limit_at, moments, ticks, next}
+use Rattle.eg_model.specs.Moments.{readings_at, limit_at, moments_in}
+use Rattle.eg_model.specs.Spans.{span_kind, kind_at, moments, next, span_ticks}
+use Rattle.eg_model.specs.Premises.{Follows}
+use Rattle.eg_model.proofs.SpanLemmas.{tick_after, ticks_before, Continues, continues, begin_of, EndsIn, ends_in}
+use Rattle.eg_agree.specs.Doings.{phase_at}
 use Rattle.eg_model.specs.Rows.{trap_in, row_of, signal_list}
 use Rattle.eg_agree.specs.Standing.{signals_of}
 use Rattle.eg_agree.specs.Replies.{moment_after}
 use Rattle.eg_agree.proofs.HistoryLemmas.{within_law}
 use Rattle.eg_tick.specs.Kept.{Kept}
-use Rattle.eg_tick.specs.Stands.{Stands, HoldsMonitor}
+use Rattle.eg_tick.specs.Stands.{kind_of, Stands, HoldsMonitor}
 use Rattle.eg_tick.specs.Working.{Serves, Served, IsStep}
 use Rattle.eg_tick.specs.Judging.{ComesNext, Tells}
-use Rattle.eg_tick.specs.Advancing.{effects_after, entry_of}
+use Rattle.eg_tick.specs.Advancing.{effects_after, entry_of, world_before}
 use Rattle.eg_tick.specs.declared.monitoring.Judgement.{Judgement}
 use Rattle.eg_tick.specs.declared.paths.Paths.{Paths}
+use Rattle.eg_tick.specs.declared.span.Place.{Place}
+use Rattle.eg_tick.specs.declared.span.Span.{Span}
 use Rattle.eg_tick.specs.declared.working.Task.{Task}
-use Rattle.eg_tick.proofs.MonitorLemmas.{stands-asked, stands-next}
-use Rattle.eg_tick.proofs.HistoryLemmas.{tick_of, length-ticks, number-of-ticks, ticks_follow}
-use Rattle.eg_tick.proofs.StandsLemmas.{Makes, on-is, next_row}
+use Rattle.eg_tick.proofs.MonitorLemmas.{span-period, span-later, span-asked}
+use Rattle.eg_tick.proofs.StandsLemmas.{Enters, entered, ComesIn, enters, Makes, next-on, next_row}
 
 -- ---- the setting of a controller ----
 
@@ -56,13 +64,77 @@ held-within fault tick x valid is = subst IsHeldWithin is (plates_are_held_withi
 -- ---- level 2's counters ----
 
 pub within : (c : Kept) (image : List ℕ) (h : List Entry) → IsAccepted c.cal → Stands (setting_of c image) c h → AreWithin c.cal.rules (words_of c.memory.words)
-unfolding moments
-within c image h accepted stands = within_law (setting_of c image) accepted (moments (setting_of c image) h) (words_of c.memory.words) stands.level2.words
+within c image h accepted stands =
+    within_law (setting_of c image) accepted (moments_in (span_kind (moments s h)) s (span_ticks s h)) (words_of c.memory.words) stands.span.level2.words
+  where
+    s : Setting
+    s = setting_of c image
 
--- ---- the number of the tick since power-on ----
+-- ---- as a tick begins ----
 
-pub few-local : (s : Setting) (c : Kept) (h : List Entry) → Stands s c h → c.ticks < 20000 → c.local < 20000
-few-local s c h stands few = let count = stands.count in let local = stands.local in let same = length-ticks s h in omega arith
+module _ (s : Setting) (e : Entry) (h : List Entry) (c : Kept) (enter : Enters s c e h) where
+  abbrev kind : SpanKind
+  kind = kind_at e.drive (moments s h)
+
+  abbrev before : List Tick
+  before = ticks_before s e h
+
+  goes : Continues s e h kind before
+  goes = continues s e h
+
+  ends : EndsIn s (e ∷ h) (span_kind (moments s (e ∷ h))) (begin_of s (e ∷ h)) (span_ticks s (e ∷ h))
+  ends = ends_in s (e ∷ h)
+
+  -- where the span of the tick begins
+  pub begin : ℕ
+  begin = begin_of s (e ∷ h)
+
+  pub follows-now : Follows s.fault begin (tick_after s e h ∷ before)
+  unfolding begin
+  follows-now = subst (Follows s.fault (begin_of s (e ∷ h))) goes.ticks_are ends.follows
+
+  pub placed : begin + length before ≡ length h
+  unfolding begin
+  placed = let size = ends.size in let long = ap length goes.ticks_are in omega arith
+
+  pub counted : begin + length before ≡ c.ticks
+  counted = placed ∙ sym enter.count
+
+  -- the number of the tick in its span
+  pub few-local : c.ticks < 20000 → c.span.local < 20000
+  few-local few = let count = counted in let local = enter.span.local in omega arith
+
+  follows-before : Follows s.fault begin before
+  unfolding Follows
+  follows-before = follows-now.1
+
+  pub enters-period : (effects c.fault c.ticks).wild ≡ None → c.span.monitor.verdicts ≡ period_of c.span.monitor.times c.span.local
+  enters-period = span-period kind s c begin before enter.cal enter.fault follows-before counted enter.span
+
+  pub enters-later : (effects c.fault c.ticks).wild ≡ None → All (λ heard. heard.tick < c.span.local) c.span.monitor.heard
+  enters-later = span-later kind s c begin before enter.cal enter.fault follows-before counted enter.span
+
+  pub enters-asked : asked_at (effects c.fault c.ticks) c.span.monitor.times (length c.cal.questions) c.span.local
+      ≡ asked_at (effects s.fault c.ticks) s.cal.times (length s.cal.questions) (length before)
+  enters-asked = span-asked kind s c begin before enter.cal enter.fault follows-before counted enter.span
+
+-- the same of a controller that stands for some history, and has come into the span of a tick with this drive row
+module _ (c : Kept) (some : (image : List ℕ) × (h : List Entry) × Stands (setting_of c image) c h) (drive : DriveRow) (reset : Bool)
+    (span : Span) (m : Registers) (memory : ShownMemory) (resets : reset ≡ drive.reset) (comes_in : ComesIn c reset span m memory) where
+  abbrev row-in : Entry
+  row-in = record { drive = drive; slices = []; shown = c.shown }
+
+  come : Enters (setting_of c some.0) (entered c span m memory) row-in some.1
+  come = enters (setting_of c some.0) c row-in some.1 reset span m memory some.2 resets comes_in
+
+  pub few-in : c.ticks < 20000 → span.local < 20000
+  few-in few = few-local (setting_of c some.0) row-in some.1 (entered c span m memory) come few
+
+  pub period-in : (effects c.fault c.ticks).wild ≡ None → span.monitor.verdicts ≡ period_of span.monitor.times span.local
+  period-in = enters-period (setting_of c some.0) row-in some.1 (entered c span m memory) come
+
+  pub later-in : (effects c.fault c.ticks).wild ≡ None → All (λ heard. heard.tick < span.local) span.monitor.heard
+  later-in = enters-later (setting_of c some.0) row-in some.1 (entered c span m memory) come
 
 -- ---- the tick ----
 
@@ -70,108 +142,158 @@ four : (P : ℕ → ℕ → Bool → Option ℕ → Type 0) {a a′ b b′ : ℕ
 four P {a} {a′} {b} {b′} {o} {o′} {k} {k′} first second third fourth told =
     subst (λ n. P n b′ o′ k′) first (subst (λ n. P a n o′ k′) second (subst (λ n. P a b n k′) third (subst (λ n. P a b o n) fourth told)))
 
--- What the parts of a tick say: `under` is the fault, and level 2 is `made` of these parts.
+-- What the parts of a tick say, where `old` is the controller as it begins: `under` is the fault, and level 2 is `made` of these parts.
 pub record Advance (old new : Kept) (drive : DriveRow) (budgets : List ℕ) (under : Option Fault) (made : Level2Parts)
-    (paths : Paths) (task : Task) (done : Step) (judged : Judgement) : Type 0 where
+    (paths : Paths) (place : Place) (task : Task) (done : Step) (judged : Judgement) : Type 0 where
   pub accepted : IsAccepted old.cal
   pub parts : made ≡ record { rules = old.cal.rules; questions = old.cal.questions }
   pub few : old.ticks < 20000
   pub is_drive : IsDrive drive
-  pub path1 : paths.path1 ≡ (effects under old.ticks).conducts 1 old.open1
-  pub path2 : paths.path2 ≡ (effects under old.ticks).conducts 2 old.open2
-  pub on : paths.on ≡ (paths.path1 && paths.path2)
+  pub path1 : paths.path1 ≡ (effects under old.ticks).conducts 1 old.span.open1
+  pub path2 : paths.path2 ≡ (effects under old.ticks).conducts 2 old.span.open2
+  pub on : paths.on ≡ (drives (kind_of old.span.tests) && (paths.path1 && paths.path2))
+  pub placed : place.tests ≡ old.span.tests
+  pub fresh : place.fresh ≡ (old.span.local == 0)
+  pub testing : place.testing ≡ is_testing (kind_of old.span.tests) old.cal.times old.span.local
+  pub read : place.reads_back ≡ reads_back (kind_of old.span.tests) old.cal.times old.span.local
   pub tick : task.tick ≡ old.ticks
-  pub place : task.local ≡ old.local
-  pub sends : task.sends ≡ sends_at (effects under old.ticks) old.cal.times old.local
-  pub asked : task.asked ≡ asked_at (effects under old.ticks) old.monitor.times (length old.cal.questions) old.local
+  pub at : task.local ≡ old.span.local
+  pub phase : task.phase ≡ phase_at (kind_of old.span.tests) old.cal.times (effects under old.ticks) old.span.local
+  pub asked : task.asked ≡ asked_at (effects under old.ticks) old.span.monitor.times (length old.cal.questions) old.span.local
   pub readings : (cal : CalibrationParts) (e : Entry) → e.drive ≡ drive → e.shown ≡ new.shown → task.readings ≡ readings_at cal (effects under old.ticks) e
   pub slices : task.slices ≡ budgets
-  pub served : (s : Setting) (x : Tick) (h : List Tick) → Serves s x h made under task old.registers old.memory.words
-      → Served s x h new.registers new.memory.words
-  pub step : (s : Setting) (x : Tick) (h : List Tick) → Serves s x h made under task old.registers old.memory.words → IsStep s x h done
-  pub holds : (s : Setting) (x : Tick) (h : List Tick) → ComesNext s under old.ticks old.local done.answer old.monitor x h
-      → HoldsMonitor s new.monitor (x ∷ h)
-  pub tells : (s : Setting) (x : Tick) (h : List Tick) → ComesNext s under old.ticks old.local done.answer old.monitor x h
-      → Tells judged (moment_after s x h)
+  pub served : (kind : SpanKind) (s : Setting) (x : Tick) (h : List Tick) → Serves kind s x h made under task old.registers old.memory.words
+      → Served kind s x h new.registers new.memory.words
+  pub step : (kind : SpanKind) (s : Setting) (x : Tick) (h : List Tick) → Serves kind s x h made under task old.registers old.memory.words
+      → IsStep kind s x h done
+  pub holds : (kind : SpanKind) (s : Setting) (x : Tick) (h : List Tick)
+      → ComesNext kind s under old.ticks old.span.local done.answer old.span.monitor x h → HoldsMonitor kind s new.span.monitor (x ∷ h)
+  pub tells : (kind : SpanKind) (s : Setting) (x : Tick) (h : List Tick)
+      → ComesNext kind s under old.ticks old.span.local done.answer old.span.monitor x h → Tells judged (moment_after kind s x h)
   pub cal : new.cal ≡ old.cal
   pub fault : new.fault ≡ old.fault
   pub count : new.ticks ≡ old.ticks + 1
-  pub local : new.local ≡ old.local + 1
   pub are_words : AreWords new.memory.words
-  pub open1 : new.open1 ≡ (done.open_path || old.open1)
-  pub open2 : new.open2 ≡ ((judged.confirms || judged.opens) || old.open2)
+  pub tests : new.span.tests ≡ old.span.tests
+  pub local : new.span.local ≡ old.span.local + 1
+  pub passed : new.span.passed ≡ (place.reads_back && not (paths.path1 || paths.path2))
+  pub open1 : new.span.open1 ≡ (done.open_path || old.span.open1)
+  pub open2 : new.span.open2 ≡ ((judged.confirms || judged.opens) || old.span.open2)
   pub kt : new.kt ≡ old.kt
   pub laws : KeepsLaws new.kt new.shown
   pub off : paths.on ≡ false → new.shown.torque ≡ 0
   pub trap : new.trap ≡ option_or old.trap (trap_in new.registers.state old.ticks)
   pub not_lost : new.lost ≡ false
 
-module _ (old new : Kept) (drive : DriveRow) (budgets : List ℕ) (made : Level2Parts) (paths : Paths) (task : Task) (done : Step) (judged : Judgement)
-    (advance : Advance old new drive budgets old.fault made paths task done judged) (image : List ℕ) (h : List Entry)
-    (stands : Stands (setting_of old image) old h) where
+module _ (old new : Kept) (drive : DriveRow) (budgets : List ℕ) (made : Level2Parts) (paths : Paths) (place : Place) (task : Task) (done : Step)
+    (judged : Judgement) (advance : Advance old new drive budgets old.fault made paths place task done judged) (image : List ℕ) (h : List Entry)
+    (enter : Enters (setting_of old image) old (entry_of drive budgets new.shown) h) where
   abbrev s : Setting
   s = setting_of old image
 
   abbrev e : Entry
   e = entry_of drive budgets new.shown
 
-  -- the stages are on as the model says
-  pub on-told : paths.on ≡ on_at (effects_after s h) (moments s h)
-  unfolding effects_after
-  on-told = advance.on
-      ∙ ap₂ (λ a b. a && b) (advance.path1 ∙ ap (λ t. (effects old.fault t).conducts 1 old.open1) stands.count)
-      (advance.path2 ∙ ap (λ t. (effects old.fault t).conducts 2 old.open2) stands.count)
-      ∙ on-is s (effects_after s h) h old stands
+  abbrev kind-now : SpanKind
+  kind-now = kind_at e.drive (moments s h)
 
   abbrev x : Tick
-  x = tick_of s e h
+  x = tick_after s e h
 
-  serves : Serves s x (ticks s h) made old.fault task old.registers old.memory.words
-  unfolding entry_of ticks moments
+  abbrev span-now : List Tick
+  span-now = ticks_before s e h
+
+  -- what goes by the tick of the run, and by the tick of the span
+  effects-now : effects old.fault old.ticks ≡ x.effects
+  unfolding tick_after
+  effects-now = ap (effects old.fault) enter.count
+
+  entry-now : x.entry ≡ e
+  unfolding tick_after
+  entry-now = refl
+
+  readings-now : task.readings ≡ readings_at s.cal x.effects x.entry
+  unfolding tick_after entry_of
+  readings-now = advance.readings old.cal e refl refl ∙ ap (λ t. readings_at old.cal (effects old.fault t) e) enter.count
+
+  slices-now : x.entry.slices ≡ task.slices
+  unfolding tick_after entry_of
+  slices-now = sym advance.slices
+
+  asked-now : task.asked ≡ asked_at x.effects s.cal.times (length s.cal.questions) (length span-now)
+  unfolding tick_after
+  asked-now = advance.asked ∙ enters-asked s e h old enter ∙ ap (λ t. asked_at (effects old.fault t) s.cal.times (length s.cal.questions) (length span-now)) enter.count
+
+  serves : Serves kind-now s x span-now made old.fault task old.registers old.memory.words
   serves = record {
     accepted = advance.accepted;
     parts = advance.parts;
     fault = refl;
-    begin = 0;
-    follows = ticks_follow s (e ∷ h);
-    tick = advance.tick ∙ stands.count ∙ number-of-ticks s h;
+    begin = begin s e h old enter;
+    follows = follows-now s e h old enter;
+    tick = advance.tick ∙ sym (counted s e h old enter);
     task = record {
-      local = advance.place ∙ stands.local;
-      sends = advance.sends ∙ ap₂ (λ t l. sends_at (effects old.fault t) old.cal.times l) stands.count stands.local;
-      asked = advance.asked ∙ stands-asked s old h stands;
-      readings = advance.readings old.cal e refl refl ∙ ap (λ t. readings_at old.cal (effects old.fault t) e) stands.count;
-      slices = sym advance.slices;
+      local = advance.at ∙ enter.span.local;
+      phase = advance.phase ∙ ap₂ (λ k l. phase_at k old.cal.times (effects old.fault old.ticks) l) enter.span.kind_is enter.span.local
+          ∙ ap (λ y. phase_at kind-now old.cal.times y (length span-now)) effects-now;
+      asked = asked-now;
+      readings = readings-now;
+      slices = slices-now;
     };
-    short = let few = advance.few in let count = stands.count in let same = length-ticks s h in omega arith;
-    level1 = stands.level1;
-    level2 = stands.level2;
+    short = let few = advance.few in let count = counted s e h old enter in omega arith;
+    level1 = enter.span.level1;
+    level2 = enter.span.level2;
   }
 
-  steps : IsStep s x (ticks s h) done
-  steps = advance.step s x (ticks s h) serves
+  steps : IsStep kind-now s x span-now done
+  steps = advance.step kind-now s x span-now serves
 
-  comes : ComesNext s old.fault old.ticks old.local done.answer old.monitor x (ticks s h)
-  comes = stands-next s old h stands e done.answer steps.mark
+  comes : ComesNext kind-now s old.fault old.ticks old.span.local done.answer old.span.monitor x span-now
+  comes = record {
+    same_fault = refl;
+    begin = begin s e h old enter;
+    follows = follows-now s e h old enter;
+    count = counted s e h old enter;
+    place = sym enter.span.local;
+    marked = steps.mark;
+    holds = enter.span.monitor;
+  }
 
-  pub makes : Makes s x (ticks s h) old new done judged
-  unfolding entry_of effects_after moments
+  shown-now : x.entry.shown ≡ new.shown
+  unfolding tick_after entry_of
+  shown-now = refl
+
+  drive-now : IsDrive x.entry.drive
+  unfolding tick_after entry_of
+  drive-now = advance.is_drive
+
+  pub makes : Makes kind-now s x span-now old new paths place done judged
   makes = record {
     cal = advance.cal;
     fault = advance.fault;
     count = advance.count;
-    local = advance.local;
     are_words = advance.are_words;
-    served = advance.served s x (ticks s h) serves;
+    path1 = advance.path1 ∙ ap (λ y. y.conducts 1 old.span.open1) effects-now;
+    path2 = advance.path2 ∙ ap (λ y. y.conducts 2 old.span.open2) effects-now;
+    on = advance.on;
+    placed = advance.placed;
+    fresh = advance.fresh;
+    testing = advance.testing;
+    read = advance.read;
+    served = advance.served kind-now s x span-now serves;
     step = steps;
-    judged = advance.tells s x (ticks s h) comes;
-    monitor = advance.holds s x (ticks s h) comes;
+    judged = advance.tells kind-now s x span-now comes;
+    monitor = advance.holds kind-now s x span-now comes;
+    tests = advance.tests;
+    local = advance.local;
+    passed = advance.passed;
     open1 = advance.open1;
     open2 = advance.open2;
     kt = advance.kt;
-    drive = advance.is_drive;
-    shown = refl;
+    drive = drive-now;
+    shown = shown-now;
     laws = advance.laws;
-    off = λ off. advance.off (on-told ∙ off);
+    off = advance.off;
     trap = advance.trap;
     not_lost = advance.not_lost;
   }
@@ -190,38 +312,28 @@ module _ (old new : Kept) (drive : DriveRow) (budgets : List ℕ) (made : Level2
     signals = signal_list (signals_of (words_of new.memory.words));
     throttle = slice_index new.memory.words 2064;
     ignition = slice_index new.memory.words 2065;
-    found = record done.found { answers = judged.confirms };
+    found = record done.found {
+      answers = drives (kind_of place.tests) && judged.confirms;
+      start = place.reads_back && (paths.path1 || paths.path2);
+    };
     answer = judged.mark;
     verdict = judged.verdict;
+    testing = place.testing;
+    fresh = place.fresh;
   } → row ≡ row_of (length h) (next s e h)
-  unfolding entry_of effects_after
-  row-told row allowed permits is =
-      let first : paths.path1 ≡ (effects_after s h).conducts 1 old.open1 = advance.path1 ∙ ap (λ t. (effects old.fault t).conducts 1 old.open1) stands.count in
-      let second : paths.path2 ≡ (effects_after s h).conducts 2 old.open2 = advance.path2 ∙ ap (λ t. (effects old.fault t).conducts 2 old.open2) stands.count in
-      next_row s e h old new done judged stands makes row (is ∙ (λ i. record {
-        tick = old.ticks;
-        drive = drive;
-        plate = new.shown.position;
-        charge = new.shown.load_1;
-        torque = new.shown.torque;
-        limit = permits i;
-        path1 = first i;
-        path2 = second i;
-        on = (advance.on ∙ ap₂ (λ a b. a && b) first second) i;
-        signals = signal_list (signals_of (words_of new.memory.words));
-        throttle = slice_index new.memory.words 2064;
-        ignition = slice_index new.memory.words 2065;
-        found = record done.found { answers = judged.confirms };
-        answer = judged.mark;
-        verdict = judged.verdict;
-      }))
+  unfolding entry_of
+  row-told row allowed permits is = next_row s e h old new paths place done judged enter makes row allowed permits is
 
-  -- the engine's step is by the commands as the tick before left them
+  -- the engine's step is by the commands as the tick before left them, or by none where a span begins
+  world-now : world_of old.registers old.memory.words ≡ world_before s drive h
+  unfolding world_before entry_of
+  world-now = enter.span.level1.world ∙ ap last_world (sym (continues s e h).before_are)
+
   pub step-told : (P : ℕ → ℕ → Bool → Option ℕ → Type 0) → P (slice_index old.memory.words 2064) (slice_index old.memory.words 2065) paths.on (effects old.fault old.ticks).held
-      → P (last_world (moments s h)).throttle (last_world (moments s h)).ignition (on_at (effects_after s h) (moments s h)) (effects_after s h).held
+      → P (world_before s drive h).throttle (world_before s drive h).ignition (next s e h).on (effects_after s h).held
   unfolding effects_after world_of
   step-told P told =
-      let throttle : slice_index old.memory.words 2064 ≡ (last_world (moments s h)).throttle = ap (λ (world : World). world.throttle) stands.level1.world in
-      let ignition : slice_index old.memory.words 2065 ≡ (last_world (moments s h)).ignition = ap (λ (world : World). world.ignition) stands.level1.world in
-      let held : (effects old.fault old.ticks).held ≡ (effects_after s h).held = ap (λ t. (effects old.fault t).held) stands.count in
-      four P throttle ignition on-told held told
+      let throttle : slice_index old.memory.words 2064 ≡ (world_before s drive h).throttle = ap (λ (world : World). world.throttle) world-now in
+      let ignition : slice_index old.memory.words 2065 ≡ (world_before s drive h).ignition = ap (λ (world : World). world.ignition) world-now in
+      let held : (effects old.fault old.ticks).held ≡ (effects_after s h).held = ap (λ t. (effects old.fault t).held) enter.count in
+      four P throttle ignition (next-on s e h old new paths place done judged enter makes) held told

@@ -1,20 +1,31 @@
 -- The board may store wherever a word stands; and what its stores make of the memory.
-use Rattle.std.proofs.Common.{◌≡◌, ◌≢◌, ◌∙◌, refl, sym, ap, subst, inl, inr, ℕ, ◌+◌, ◌≤◌, ◌<◌, ◌⊎◌, true, false, IsTrue, List, [], ◌∷◌, length, slice_index, slice_set, arith}
-use Rattle.std.specs.Prelude.{bit_xor}
+use Rattle.std.proofs.Common.{◌≡◌, ◌≢◌, ◌∙◌, refl, sym, ap, subst, inl, inr, ℕ, ◌+◌, ◌-◌, ◌≤◌, ◌<◌, ◌⊎◌, true, false, IsTrue, List, [], ◌∷◌, length, replicate, slice_index, slice_set, arith}
+use Rattle.std.specs.Prelude.{bit_xor, Result, Ok, Err, OnOk}
 use Rattle.std.specs.Int.Bits.{xor_self, xor_zero_l, xor_assoc}
 use Rattle.std.proofs.lemmas.Bool.{cases_lt}
 use Rattle.std.proofs.lemmas.Bool.Decides.{eqb_tells}
-use Rattle.std.proofs.lemmas.List.{get_or-set_same, get_or-set_other}
+use Rattle.std.proofs.lemmas.List.{get_or-set_same, get_or-set_other, get_or-replicate}
 use Rattle.eg_guard.specs.declared.regions.Who.TheVariants.{Board}
 use Rattle.eg_guard.specs.Regions.{both, allows, access, region_of}
 use Rattle.eg_guard.specs.Memory.{AreWords, SameOutside}
-use Rattle.eg_guard.proofs.AccessLemmas.{code-is, in_ports-is, results-is}
+use Rattle.eg_guard.specs.declared.regions.Region.{Region}
+use Rattle.eg_guard.specs.declared.regions.Region.TheVariants.{Code, Data, InPorts, OutPorts, Results, Protected, Link, None as NoRegion}
+use Rattle.eg_guard.proofs.AccessLemmas.{code-is, data-is, data-span, in_ports-is, out_ports-is, out_ports-span, results-is}
+use Rattle.eg_guard.proofs.WordsLemmas.{zeros_are_words}
+use Rattle.eg_word.specs.Memory.{is_level1_own}
+use Rattle.eg_word.specs.World.{world_of, new_registers, new_world}
+use Rattle.eg_word.proofs.WorldLemmas.{world_of-elsewhere, world_of-new}
 use Rattle.eg_sensor.specs.declared.readings.Readings.{Readings}
 use Rattle.eg_level2.specs.Words.{place, word_at, AreMirrored, is_level2_own}
 use Rattle.eg_level2.specs.Inputs.{readings_of, asked_of}
 use Rattle.eg_level2.proofs.PlaceLemmas.{place_is, change_law}
 use Rattle.eg_tick.specs.Board.{IsWritten, is_board_own, by_tracks}
 use Rattle.eg_tick.proofs.FrameLemmas.{protected-is}
+
+-- what a fact of a call that answers Ok gives
+pub on_ok : {T E : Type 0} (result : Result T E) {P Q : Type 0} → (P → Q) → OnOk result P → OnOk result Q
+on_ok (Ok x) gives p = gives p
+on_ok (Err x) gives p = tt
 
 -- ---- where it may store ----
 
@@ -25,6 +36,17 @@ code-store count most k below = ap (λ region. (allows region Board).store) (cod
 pub ports-store : (k : ℕ) → k < 10 → IsTrue (access Board (2048 + k)).store
 unfolding access allows
 ports-store k below = ap (λ region. (allows region Board).store) (in_ports-is (2048 + k) (omega arith) (omega arith))
+
+pub data-store : (k : ℕ) → k < 1024 → IsTrue (access Board (1024 + k)).store
+unfolding access allows
+data-store k below = ap (λ region. (allows region Board).store) (data-is (1024 + k) (omega arith) (omega arith))
+
+pub outs-store : (k : ℕ) → k < 2 → IsTrue (access Board (2064 + k)).store
+unfolding access allows
+outs-store k below = ap (λ region. (allows region Board).store) (out_ports-is (2064 + k) (first_or_next k below))
+  where
+    first_or_next : (k : ℕ) → k < 2 → (2064 + k ≡ 2064) ⊎ (2064 + k ≡ 2065)
+    first_or_next k below = grind arith
 
 pub throttle-load : IsTrue (access Board 2064).load
 unfolding access allows region_of
@@ -83,6 +105,94 @@ pub more_written : (old mid new : List ℕ) (first i address value : ℕ) (value
 more_written old mid new first i address value values e at is size within so =
     subst (λ memory. IsWritten old memory first values (i + 1)) (sym (e ∙ ap (λ a. slice_set mid a value) at ∙ ap (slice_set mid (first + i)) is))
     (set-written old mid first i values size (omega (arith, at)) so)
+
+-- ---- level 1's data and outputs, cleared ----
+
+data_own : is_level1_own Data ≡ true
+unfolding is_level1_own
+data_own = refl
+
+outs_own : is_level1_own OutPorts ≡ true
+unfolding is_level1_own
+outs_own = refl
+
+-- level 1's own words are these
+own-words : (address : ℕ) → is_level1_own (region_of address) ≡ true →
+    ((1024 ≤ address) × (address < 2048)) ⊎ ((address ≡ 2064) ⊎ (address ≡ 2065))
+own-words address = go (region_of address) refl
+  where
+    none : false ≡ true → ⊥
+    none e = cc
+
+    go : (region : Region) → region_of address ≡ region → is_level1_own region ≡ true →
+        ((1024 ≤ address) × (address < 2048)) ⊎ ((address ≡ 2064) ⊎ (address ≡ 2065))
+    go Data is own = inl (data-span address is)
+    go OutPorts is own = inr (out_ports-span address is)
+    go Code is own = absurd (none (unfold is_level1_own in own))
+    go InPorts is own = absurd (none (unfold is_level1_own in own))
+    go Results is own = absurd (none (unfold is_level1_own in own))
+    go Protected is own = absurd (none (unfold is_level1_own in own))
+    go Link is own = absurd (none (unfold is_level1_own in own))
+    go NoRegion is own = absurd (none (unfold is_level1_own in own))
+
+module _ (old mid new : List ℕ) (words : IsWritten old mid 1024 (replicate 1024 0) 1024) (outs : IsWritten mid new 2064 (0 ∷ 0 ∷ []) 2) where
+  cleared-at : (address : ℕ) → is_level1_own (region_of address) ≡ true → slice_index new address ≡ 0
+  cleared-at address own = elim (own-words address own) [
+    | inl inside ↦ (let from = inside.0 in let to = inside.1 in
+        outs.elsewhere address (inl (omega arith)) ∙ datum address from to)
+    | inr out ↦ elim out [
+      | inl first ↦ ap (slice_index new) first ∙ outs.told 0 (omega arith)
+      | inr next ↦ ap (slice_index new) next ∙ outs.told 1 (omega arith)
+    ]
+  ]
+    where
+      datum : (address : ℕ) → 1024 ≤ address → address < 2048 → slice_index mid address ≡ 0
+      datum address from to = ap (slice_index mid) (place address from) ∙ words.told (address - 1024) (omega (arith, from, to))
+          ∙ get_or-replicate 1024 (address - 1024) 0 0 (omega (arith, from, to))
+        where
+          place : (address : ℕ) → 1024 ≤ address → address ≡ 1024 + (address - 1024)
+          place address from = omega (arith, from)
+
+  pub cleared-world : AreWords new → world_of new_registers new ≡ new_world
+  cleared-world are = world_of-elsewhere new_registers (replicate 4096 0) new zeros_are_words are
+      (λ address own. cleared-at address own ∙ sym (zero_at address (own-words address own))) ∙ world_of-new
+    where
+      zero_at : (address : ℕ) → ((1024 ≤ address) × (address < 2048)) ⊎ ((address ≡ 2064) ⊎ (address ≡ 2065)) →
+          slice_index (replicate 4096 0) address ≡ 0
+      zero_at address own = get_or-replicate 4096 address 0 0 (within own)
+        where
+          within : ((1024 ≤ address) × (address < 2048)) ⊎ ((address ≡ 2064) ⊎ (address ≡ 2065)) → address < 4096
+          within own = elim own [
+            | inl inside ↦ (let to = inside.1 in omega arith)
+            | inr out ↦ elim out [ inl first ↦ omega (arith, first) | inr next ↦ omega (arith, next) ]
+          ]
+
+  pub cleared-outside : SameOutside is_level1_own old new
+  cleared-outside address outside = outs.elsewhere address (not_out address outside) ∙ words.elsewhere address (not_data address outside)
+    where
+      clash : true ≡ false → ⊥
+      clash e = cc
+
+      not_data : (address : ℕ) → is_level1_own (region_of address) ≡ false → (address < 1024) ⊎ (1024 + 1024 ≤ address)
+      not_data address outside = elim (cases_lt address 1024) [
+        | inl below ↦ inl below
+        | inr from ↦ elim (cases_lt address 2048) [
+          | inl to ↦ absurd (clash (sym (ap is_level1_own (data-is address from to) ∙ data_own) ∙ outside))
+          | inr above ↦ inr above
+        ]
+      ]
+
+      not_out : (address : ℕ) → is_level1_own (region_of address) ≡ false → (address < 2064) ⊎ (2064 + 2 ≤ address)
+      not_out address outside = elim (cases_lt address 2064) [
+        | inl below ↦ inl below
+        | inr from ↦ elim (cases_lt address 2066) [
+          | inl to ↦ absurd (clash (sym (ap is_level1_own (out_ports-is address (one_of address from to)) ∙ outs_own) ∙ outside))
+          | inr above ↦ inr above
+        ]
+      ]
+        where
+          one_of : (address : ℕ) → 2064 ≤ address → address < 2066 → (address ≡ 2064) ⊎ (address ≡ 2065)
+          one_of address from to = grind arith
 
 -- ---- what is shown at a tick ----
 
@@ -172,4 +282,4 @@ flipped_outside old new number address word e at within other outside =
     apart : other ≢ address
     apart same = let clash : true ≡ false = sym (own-place number within) ∙ ap (λ a. is_level2_own (region_of a)) (sym (same ∙ at)) ∙ outside in absurd (cc)
 
-pub ruleset board = (code-store, ports-store, link-store, place-store, place-load, throttle-load, ignition-load)
+pub ruleset board = (code-store, data-store, outs-store, ports-store, link-store, place-store, place-load, throttle-load, ignition-load)

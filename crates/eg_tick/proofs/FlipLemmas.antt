@@ -53,7 +53,7 @@ module _ (parts : Level2Parts) (fault : Option Fault) (task : Task) (w : Work) (
   flipped_module (Err y) flipped new are before after mirrored made = tt
 
   pub flipped_step : {E : Type 0} (result : Result Step E) (inputs : Inputs) (words : Words) → IfOk result (λ step. step.answer ≡ answer_after inputs 0 words)
-      → IfOk result (λ step. step.open_path ≡ order_after 0 words) → IfOk result (λ step. step.found ≡ mirror_alone)
+      → IfOk result (λ step. step.open_path ≡ order_after inputs 0 words) → IfOk result (λ step. step.found ≡ mirror_alone)
       → IfOk result (λ step. step ≡ step_at w.doing 0 w.words)
   unfolding step_at answer_after order_after
   flipped_step (Ok step) inputs words answer order found =

@@ -31,7 +31,7 @@ slice_result (Err x) w j budget m n old new runs within row are same made is = t
 
 -- what goes into a module is what the tick says
 inputs-same : (parts : Level2Parts) (x : Effects) (task : Task) (w : Work) (j : ℕ) (memory : List ℕ) (mixed : ℕ) → mixed ≡ x.disturbance j → Meets parts x task w.doing
-    → IsSet w memory → inputs_of parts memory task.local task.sends mixed ≡ inputs_for w.doing j
+    → IsSet w memory → inputs_of parts memory task.local task.phase mixed ≡ inputs_for w.doing j
 unfolding inputs_of inputs_for
 inputs-same parts x task w j memory mixed mixes meets set = λ i. record {
   rules = sym meets.rules i;
@@ -39,7 +39,7 @@ inputs-same parts x task w j memory mixed mixes meets set = λ i. record {
   readings = set.readings i;
   asked = set.asked i;
   tick = sym meets.at i;
-  sends = sym meets.sends_now i;
+  phase = sym meets.phase_now i;
   disturbance = (mixes ∙ ap (λ (f : ℕ → ℕ). f j) (sym meets.disturbance)) i;
 }
 
@@ -71,7 +71,7 @@ module _ (parts : Level2Parts) (x : Effects) (task : Task) (w : Work) (i j : ℕ
 
   module _ (mixed : ℕ) (mixes : mixed ≡ x.disturbance j) where
     abbrev inputs : Inputs
-    inputs = inputs_of parts old task.local task.sends mixed
+    inputs = inputs_of parts old task.local task.phase mixed
 
     inputs-are : inputs ≡ inputs_for w.doing j
     inputs-are = inputs-same parts x task w j old mixed mixes meets is.set
@@ -87,7 +87,7 @@ module _ (parts : Level2Parts) (x : Effects) (task : Task) (w : Work) (i j : ℕ
     module_result (Err y) new runs are same mirrored made = tt
 
     pub step_result : {E : Type 0} (result : Result Step E) → x.ran j ≡ true → IfOk result (λ step. step.answer ≡ answer_after inputs j (words_of old))
-        → IfOk result (λ step. step.open_path ≡ order_after j (words_of old)) → (AreMirrored old → IfOk result (λ step. step.found ≡ found_by inputs j (words_of old)))
+        → IfOk result (λ step. step.open_path ≡ order_after inputs j (words_of old)) → (AreMirrored old → IfOk result (λ step. step.found ≡ found_by inputs j (words_of old)))
         → IfOk result (λ step. step ≡ step_at w.doing j w.words)
     unfolding step_at step_of
     step_result (Ok step) runs answer order found =

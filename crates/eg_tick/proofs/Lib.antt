@@ -1,4 +1,4 @@
-pub mod HistoryLemmas
+pub mod MomentLemmas
 pub mod FrameLemmas
 pub mod MidwayLemmas
 pub mod TickLemmas

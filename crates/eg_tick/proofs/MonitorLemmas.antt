@@ -22,18 +22,18 @@ use Rattle.eg_fault.specs.Effects.{Effects, asked_at}
 use Rattle.eg_fault.specs.Faults.{effects}
 use Rattle.eg_fault.specs.declared.class.Fault.{Fault}
 use Rattle.eg_fault.proofs.ClassLemmas.{wild_stays_wild}
-use Rattle.eg_model.specs.History.{Setting, Entry, Tick, Moment}
+use Rattle.eg_model.specs.History.{Setting, Tick, SpanKind, Moment}
 use Rattle.eg_model.specs.Answers.{with_answer, answers_in, verdict_at, verdicts_in, confirms_at}
 use Rattle.eg_model.specs.Premises.{Follows}
-use Rattle.eg_model.specs.Moments.{moment, moments_of, ticks}
-use Rattle.eg_model.proofs.TickLemmas.{length-moments, moment-tick, moment-verdict, moment-confirms, moment-opens}
+use Rattle.eg_model.specs.Moments.{moment_in, moments_in}
+use Rattle.eg_model.proofs.SpanLemmas.{length-moments_in}
 use Rattle.eg_agree.specs.Replies.{moment_after, number_expected, mark_of}
 use Rattle.eg_agree.proofs.ReplyLaws.{number_expected-usual}
-use Rattle.eg_tick.specs.Stands.{was_wild, IsOrderly, HoldsMonitor, Stands}
+use Rattle.eg_tick.specs.Stands.{was_wild, IsOrderly, HoldsMonitor, HoldsSpan}
 use Rattle.eg_tick.specs.Kept.{Kept}
 use Rattle.eg_values.specs.Calibration.{CalibrationParts}
 use Rattle.eg_tick.specs.Judging.{with_heard, Takes, IsDeaf, ComesNext}
-use Rattle.eg_tick.proofs.HistoryLemmas.{tick_of, number-of-ticks, ticks_follow}
+use Rattle.eg_tick.proofs.MomentLemmas.{moment_in-tick, moment_in-verdict, moment_in-confirms, moment_in-opens}
 
 -- ---- wild, once it has begun ----
 
@@ -60,13 +60,13 @@ with_answer-below tick t Absent before here all = all
 with_answer-below tick t Good before here all = All-cons (λ answer. answer.tick < t) _ before here all
 with_answer-below tick t Bad before here all = All-cons (λ answer. answer.tick < t) _ before here all
 
-answers_below : (s : Setting) (n : ℕ) (h : List Tick) (t : ℕ) → length h ≤ t → All (λ answer. answer.tick < t) (answers_in (take n (moments_of s h)))
-unfolding moments_of answers_in
-answers_below s zero h t before = All-nil (λ answer. answer.tick < t)
-answers_below s (suc n) [] t before = All-nil (λ answer. answer.tick < t)
-answers_below s (suc n) (x ∷ h) t before =
-    let is : (moment s x.effects x.entry (moments_of s h)).tick ≡ length h = moment-tick s x.effects x.entry (moments_of s h) ∙ length-moments s h in
-    with_answer-below _ t _ _ (omega (arith, is, before)) (answers_below s n h t (omega (arith, before)))
+answers_below : (kind : SpanKind) (s : Setting) (n : ℕ) (h : List Tick) (t : ℕ) → length h ≤ t → All (λ answer. answer.tick < t) (answers_in (take n (moments_in kind s h)))
+unfolding moments_in answers_in
+answers_below kind s zero h t before = All-nil (λ answer. answer.tick < t)
+answers_below kind s (suc n) [] t before = All-nil (λ answer. answer.tick < t)
+answers_below kind s (suc n) (x ∷ h) t before =
+    let is : (moment_in kind s x.effects x.entry (moments_in kind s h)).tick ≡ length h = moment_in-tick kind s x.effects x.entry (moments_in kind s h) ∙ length-moments_in kind s h in
+    with_answer-below _ t _ _ (omega (arith, is, before)) (answers_below kind s n h t (omega (arith, before)))
 
 heard_below : (n t : ℕ) (heard : List HeardAnswer) → All (λ answer. answer.tick < t) (map (marked n) heard) → All (λ answer. answer.tick < t) heard
 unfolding marked
@@ -76,17 +76,17 @@ heard_below n t (answer ∷ before) all =
     (heard_below n t before (All-tail (λ answer. answer.tick < t) _ (map (marked n) before) all))
 
 -- What a tick asks of a module that isn't wild at it: it has given the verdicts of the periods that are over,
-pub orderly_period : (s : Setting) (monitor : MonitorParts) (h : List Tick) → HoldsMonitor s monitor h → was_wild h ≡ false →
+pub orderly_period : (kind : SpanKind) (s : Setting) (monitor : MonitorParts) (h : List Tick) → HoldsMonitor kind s monitor h → was_wild h ≡ false →
     monitor.verdicts ≡ period_of monitor.times (length h)
-orderly_period s monitor h holds never = (holds.orderly never).period ∙ ap (λ times. period_of times (length h)) (sym holds.times)
+orderly_period kind s monitor h holds never = (holds.orderly never).period ∙ ap (λ times. period_of times (length h)) (sym holds.times)
 
 -- and all that it has heard came before
-pub orderly_later : (s : Setting) (monitor : MonitorParts) (h : List Tick) → HoldsMonitor s monitor h → was_wild h ≡ false →
+pub orderly_later : (kind : SpanKind) (s : Setting) (monitor : MonitorParts) (h : List Tick) → HoldsMonitor kind s monitor h → was_wild h ≡ false →
     All (λ heard. heard.tick < length h) monitor.heard
-orderly_later s monitor h holds never =
+orderly_later kind s monitor h holds never =
     heard_below _ (length h) monitor.heard
     (subst (λ answers. All (λ answer. answer.tick < length h) answers) (sym (holds.orderly never).heard)
-    (answers_below s (place_of s.cal.times (length h)) h (length h) (omega arith)))
+    (answers_below kind s (place_of s.cal.times (length h)) h (length h) (omega arith)))
 
 -- ---- periods ----
 
@@ -215,22 +215,22 @@ confirmed times (Some verdict) past before now was is =
 
 -- ---- the moment of a tick, and the moments with it ----
 
-module _ (s : Setting) (x : Tick) (h : List Tick) where
+module _ (kind : SpanKind) (s : Setting) (x : Tick) (h : List Tick) where
   abbrev m : Moment
-  m = moment_after s x h
+  m = moment_after kind s x h
 
   abbrev past : List Moment
-  past = moments_of s h
+  past = moments_in kind s h
 
-  moments-cons : moments_of s (x ∷ h) ≡ m ∷ past
-  unfolding moments_of
+  moments-cons : moments_in kind s (x ∷ h) ≡ m ∷ past
+  unfolding moments_in
   moments-cons = refl
 
   next-tick : m.tick ≡ length h
-  next-tick = moment-tick s x.effects x.entry past ∙ length-moments s h
+  next-tick = moment_in-tick kind s x.effects x.entry past ∙ length-moments_in kind s h
 
-  verdicts-cons : verdicts_in (moments_of s (x ∷ h)) ≡ with_verdict m.verdict (verdicts_in past)
-  unfolding moments_of verdicts_in
+  verdicts-cons : verdicts_in (moments_in kind s (x ∷ h)) ≡ with_verdict m.verdict (verdicts_in past)
+  unfolding moments_in verdicts_in
   verdicts-cons = refl
 
 none-more : (verdicts : List Verdict) → with_verdict None verdicts ≡ verdicts
@@ -244,25 +244,25 @@ pub record Hears (x : Effects) (tick : ℕ) (answer : Option ℕ) (before now : 
   pub wild : OnSome x.wild (IsDeaf before now verdict)
   pub orderly : x.wild ≡ None → Takes tick answer before now verdict
 
-module _ (s : Setting) (begin : ℕ) (x : Tick) (h : List Tick) (follows : Follows s.fault begin (x ∷ h)) (answer : Option ℕ) (before now : MonitorParts)
-    (verdict : Option Verdict) (holds : HoldsMonitor s before h) where
+module _ (kind : SpanKind) (s : Setting) (begin : ℕ) (x : Tick) (h : List Tick) (follows : Follows s.fault begin (x ∷ h)) (answer : Option ℕ) (before now : MonitorParts)
+    (verdict : Option Verdict) (holds : HoldsMonitor kind s before h) where
   abbrev n : ℕ
   n = expected_number s.cal.times s.cal.questions (length h)
 
   abbrev heard : List HeardAnswer
   heard = with_heard (length h) answer before.heard
 
-  given-on : verdict ≡ (moment_after s x h).verdict → ((verdicts : List Verdict) → HasGiven before verdicts → HasGiven now (with_verdict verdict verdicts)) →
-      HasGiven now (verdicts_in (moments_of s (x ∷ h)))
+  given-on : verdict ≡ (moment_after kind s x h).verdict → ((verdicts : List Verdict) → HasGiven before verdicts → HasGiven now (with_verdict verdict verdicts)) →
+      HasGiven now (verdicts_in (moments_in kind s (x ∷ h)))
   given-on told given =
-      subst (HasGiven now) (ap (λ v. with_verdict v (verdicts_in (moments_of s h))) told ∙ sym (verdicts-cons s x h)) (given _ holds.given)
+      subst (HasGiven now) (ap (λ v. with_verdict v (verdicts_in (moments_in kind s h))) told ∙ sym (verdicts-cons kind s x h)) (given _ holds.given)
 
-  module _ (marked_so : mark_of (number_expected s x.effects (length h)) answer ≡ (moment_after s x h).mark)
+  module _ (marked_so : mark_of (number_expected s x.effects (length h)) answer ≡ (moment_after kind s x h).mark)
       (tame : x.effects.wild ≡ None) (takes : Takes (length h) answer before now verdict) where
-    orderly-now : IsOrderly s before h
+    orderly-now : IsOrderly kind s before h
     orderly-now = holds.orderly (never_wild s begin x h follows tame)
 
-    told : map (marked n) heard ≡ with_answer (length h) (moment_after s x h).mark (answers_in (take (place_of s.cal.times (length h)) (moments_of s h)))
+    told : map (marked n) heard ≡ with_answer (length h) (moment_after kind s x h).mark (answers_in (take (place_of s.cal.times (length h)) (moments_in kind s h)))
     told =
         heard-marked (length h) n answer before.heard
         ∙ ap₂ (with_answer (length h)) (ap (λ k. mark_of k answer) (sym (number_expected-usual s x.effects (length h) tame)) ∙ marked_so) orderly-now.heard
@@ -274,12 +274,12 @@ module _ (s : Setting) (begin : ℕ) (x : Tick) (h : List Tick) (follows : Follo
         (subst (λ times. SomeIff verdict (IsTrue (is_last_tick times (length h))) (verdict_over times (expected_number times before.questions (length h)) heard))
         holds.times takes.gives)
 
-    tame-verdict : verdict ≡ (moment_after s x h).verdict
+    tame-verdict : verdict ≡ (moment_after kind s x h).verdict
     tame-verdict =
-        verdict-given s.cal.times x.effects (moment_after s x h).mark (moments_of s h) (length h) n heard verdict (length-moments s h) tame told gives
-        ∙ sym (moment-verdict s x.effects x.entry (moments_of s h))
+        verdict-given s.cal.times x.effects (moment_after kind s x h).mark (moments_in kind s h) (length h) n heard verdict (length-moments_in kind s h) tame told gives
+        ∙ sym (moment_in-verdict kind s x.effects x.entry (moments_in kind s h))
 
-    tame-holds : HoldsMonitor s now (x ∷ h)
+    tame-holds : HoldsMonitor kind s now (x ∷ h)
     tame-holds = record {
       times = takes.times ∙ holds.times;
       questions = takes.questions ∙ holds.questions;
@@ -287,22 +287,22 @@ module _ (s : Setting) (begin : ℕ) (x : Tick) (h : List Tick) (follows : Follo
       orderly = λ never. record {
         period = takes.period ∙ ap (λ times. period_of times (length h + 1)) holds.times ∙ ap (period_of s.cal.times) (add-one (length h));
         heard =
-            kept-marked s.cal.times s.cal.questions (length h) heard now.heard (moment_after s x h) (moments_of s h) _ verdict
-            (subst AreTimes holds.times takes.are_times) (next-tick s x h) told gives takes.closed takes.goes_on
-            ∙ ap (λ all. answers_in (take (place_of s.cal.times (suc (length h))) all)) (sym (moments-cons s x h));
+            kept-marked s.cal.times s.cal.questions (length h) heard now.heard (moment_after kind s x h) (moments_in kind s h) _ verdict
+            (subst AreTimes holds.times takes.are_times) (next-tick kind s x h) told gives takes.closed takes.goes_on
+            ∙ ap (λ all. answers_in (take (place_of s.cal.times (suc (length h))) all)) (sym (moments-cons kind s x h));
       };
     }
 
   module _ (asks : ℕ) (wild : x.effects.wild ≡ Some asks) (deaf : IsDeaf before now verdict) where
-    wild-verdict : verdict ≡ (moment_after s x h).verdict
+    wild-verdict : verdict ≡ (moment_after kind s x h).verdict
     wild-verdict = deaf.none
-        ∙ sym (moment-verdict s x.effects x.entry (moments_of s h) ∙ verdict-wild s.cal.times x.effects (moment_after s x h).mark (moments_of s h) asks wild)
+        ∙ sym (moment_in-verdict kind s x.effects x.entry (moments_in kind s h) ∙ verdict-wild s.cal.times x.effects (moment_after kind s x h).mark (moments_in kind s h) asks wild)
 
     wild_now : was_wild (x ∷ h) ≡ true
     unfolding was_wild
     wild_now = or_left _ _ (ap is_some wild)
 
-    wild-holds : HoldsMonitor s now (x ∷ h)
+    wild-holds : HoldsMonitor kind s now (x ∷ h)
     wild-holds = record {
       times = ap (λ (m : MonitorParts). m.times) deaf.unchanged ∙ holds.times;
       questions = ap (λ (m : MonitorParts). m.questions) deaf.unchanged ∙ holds.questions;
@@ -313,9 +313,9 @@ module _ (s : Setting) (begin : ℕ) (x : Tick) (h : List Tick) (follows : Follo
         deaf-given : (v : Option Verdict) (verdicts : List Verdict) → v ≡ None → HasGiven now verdicts → HasGiven now (with_verdict v verdicts)
         deaf-given v verdicts none given = subst (HasGiven now) (sym (ap (λ v. with_verdict v verdicts) none ∙ none-more verdicts)) given
 
-  module _ (marked_so : mark_of (number_expected s x.effects (length h)) answer ≡ (moment_after s x h).mark)
+  module _ (marked_so : mark_of (number_expected s x.effects (length h)) answer ≡ (moment_after kind s x h).mark)
       (hears : Hears x.effects (length h) answer before now verdict) where
-    either : (w : Option ℕ) → x.effects.wild ≡ w → (verdict ≡ (moment_after s x h).verdict) × HoldsMonitor s now (x ∷ h)
+    either : (w : Option ℕ) → x.effects.wild ≡ w → (verdict ≡ (moment_after kind s x h).verdict) × HoldsMonitor kind s now (x ∷ h)
     either None is = (tame-verdict marked_so is (hears.orderly is), tame-holds marked_so is (hears.orderly is))
     either (Some asks) is = let deaf = subst (λ w. OnSome w (IsDeaf before now verdict)) is hears.wild in (wild-verdict asks is deaf, wild-holds asks is deaf)
 
@@ -325,21 +325,21 @@ module _ (s : Setting) (begin : ℕ) (x : Tick) (h : List Tick) (follows : Follo
 number_of : Effects → TimeParts → List Question → ℕ → ℕ
 number_of x times questions local = answer_number (question_at questions (asked_at x times (length questions) local)).answer
 
-module _ (s : Setting) (x : Tick) (h : List Tick) (fault : Option Fault) (tick local : ℕ) (answer : Option ℕ) (before : MonitorParts)
-    (comes : ComesNext s fault tick local answer before x h) where
+module _ (kind : SpanKind) (s : Setting) (x : Tick) (h : List Tick) (fault : Option Fault) (tick local : ℕ) (answer : Option ℕ) (before : MonitorParts)
+    (comes : ComesNext kind s fault tick local answer before x h) where
   effects-is : effects fault tick ≡ x.effects
   unfolding Follows
   effects-is = ap₂ effects (sym comes.same_fault) (sym comes.count) ∙ sym comes.follows.0
 
   pub judged : (now : MonitorParts) (verdict : Option Verdict) → Hears (effects fault tick) local answer before now verdict →
-      (verdict ≡ (moment_after s x h).verdict) × HoldsMonitor s now (x ∷ h)
+      (verdict ≡ (moment_after kind s x h).verdict) × HoldsMonitor kind s now (x ∷ h)
   judged now verdict hears =
-      either s comes.begin x h comes.follows answer before now verdict comes.holds comes.marked
+      either kind s comes.begin x h comes.follows answer before now verdict comes.holds comes.marked
       (subst (λ t. Hears x.effects t answer before now verdict) (sym comes.place)
       (subst (λ y. Hears y local answer before now verdict) effects-is hears)) _ refl
 
-  pub judged-opens : (opens : Bool) → opens ≡ (effects fault tick).opens → opens ≡ (moment_after s x h).opens
-  judged-opens opens is = is ∙ ap (λ (y : Effects). y.opens) effects-is ∙ sym (moment-opens s x.effects x.entry (moments_of s h))
+  pub judged-opens : (opens : Bool) → opens ≡ (effects fault tick).opens → opens ≡ (moment_after kind s x h).opens
+  judged-opens opens is = is ∙ ap (λ (y : Effects). y.opens) effects-is ∙ sym (moment_in-opens kind s x.effects x.entry (moments_in kind s h))
 
   number-is : (questions : List Question) → before.questions ≡ questions → number_of (effects fault tick) before.times questions local ≡ number_expected s x.effects (length h)
   unfolding number_of number_expected
@@ -350,58 +350,46 @@ module _ (s : Setting) (x : Tick) (h : List Tick) (fault : Option Fault) (tick l
 
   pub judged-mark : (mark : AnswerMark) (number asked : ℕ) (questions : List Question) → before.questions ≡ questions → mark ≡ mark_of number answer →
       number ≡ answer_number (question_at questions asked).answer → asked ≡ asked_at (effects fault tick) before.times (length questions) local →
-      mark ≡ (moment_after s x h).mark
+      mark ≡ (moment_after kind s x h).mark
   unfolding number_of
   judged-mark mark number asked questions same is number_so asked_so =
       is
       ∙ ap (λ k. mark_of k answer) (number_so ∙ ap (λ i. answer_number (question_at questions i).answer) asked_so ∙ number-is questions same)
       ∙ comes.marked
 
-  pub judged-confirms : (now : MonitorParts) (confirms was is : Bool) → HoldsMonitor s now (x ∷ h) → confirms ≡ (is && not was) →
+  pub judged-confirms : (now : MonitorParts) (confirms was is : Bool) → HoldsMonitor kind s now (x ∷ h) → confirms ≡ (is && not was) →
       ((verdicts : List Verdict) → HasGiven before verdicts → was ≡ is_confirmed before.times.weights (map is_wrong verdicts)) →
       ((verdicts : List Verdict) → HasGiven now verdicts → is ≡ is_confirmed now.times.weights (map is_wrong verdicts)) →
-      confirms ≡ (moment_after s x h).confirms
+      confirms ≡ (moment_after kind s x h).confirms
   judged-confirms now confirms was is holds confirms_so was_so is_so =
       confirms_so
-      ∙ confirmed s.cal.times (moment_after s x h).verdict (moments_of s h) was is
-      (was_so _ comes.holds.given ∙ ap (λ (times : TimeParts). is_confirmed times.weights (map is_wrong (verdicts_in (moments_of s h)))) comes.holds.times)
+      ∙ confirmed s.cal.times (moment_after kind s x h).verdict (moments_in kind s h) was is
+      (was_so _ comes.holds.given ∙ ap (λ (times : TimeParts). is_confirmed times.weights (map is_wrong (verdicts_in (moments_in kind s h)))) comes.holds.times)
       (is_so _ holds.given
-      ∙ ap (λ (times : TimeParts). is_confirmed times.weights (map is_wrong (verdicts_in (moments_of s (x ∷ h))))) holds.times
-      ∙ ap (λ verdicts. is_confirmed s.cal.times.weights (map is_wrong verdicts)) (verdicts-cons s x h))
-      ∙ sym (moment-confirms s x.effects x.entry (moments_of s h))
+      ∙ ap (λ (times : TimeParts). is_confirmed times.weights (map is_wrong (verdicts_in (moments_in kind s (x ∷ h))))) holds.times
+      ∙ ap (λ verdicts. is_confirmed s.cal.times.weights (map is_wrong verdicts)) (verdicts-cons kind s x h))
+      ∙ sym (moment_in-confirms kind s x.effects x.entry (moments_in kind s h))
 
 -- ---- for the controller ----
 
--- what a controller knows of its module before a tick
-module _ (s : Setting) (c : Kept) (h : List Entry) (stands : Stands s c h) where
-  never-before : (effects c.fault c.ticks).wild ≡ None → was_wild (ticks s h) ≡ false
-  never-before tame = wild_before s.fault 0 (ticks s h) (length h) (ticks_follow s h) (let same = number-of-ticks s h in omega arith)
-      (ap (λ (x : Effects). x.wild) (ap₂ effects (sym stands.fault) (sym stands.count)) ∙ tame)
+-- what a controller knows of its module as a tick begins, which comes after h in a span that begins at tick `begin` of the run
+module _ (kind : SpanKind) (s : Setting) (c : Kept) (begin : ℕ) (h : List Tick) (cal : c.cal ≡ s.cal) (fault : c.fault ≡ s.fault)
+    (follows : Follows s.fault begin h) (count : begin + length h ≡ c.ticks)
+    (holds : HoldsSpan kind s c.span c.registers c.memory.words h) where
+  never-before : (effects c.fault c.ticks).wild ≡ None → was_wild h ≡ false
+  never-before tame = wild_before s.fault begin h c.ticks follows (omega (arith, count))
+      (ap (λ f. (effects f c.ticks).wild) (sym fault) ∙ tame)
 
-  pub stands-period : (effects c.fault c.ticks).wild ≡ None → c.monitor.verdicts ≡ period_of c.monitor.times c.local
-  stands-period tame = orderly_period s c.monitor (ticks s h) stands.monitor (never-before tame) ∙ ap (period_of c.monitor.times) (sym stands.local)
+  pub span-period : (effects c.fault c.ticks).wild ≡ None → c.span.monitor.verdicts ≡ period_of c.span.monitor.times c.span.local
+  span-period tame = orderly_period kind s c.span.monitor h holds.monitor (never-before tame) ∙ ap (period_of c.span.monitor.times) (sym holds.local)
 
-  pub stands-later : (effects c.fault c.ticks).wild ≡ None → All (λ heard. heard.tick < c.local) c.monitor.heard
-  stands-later tame =
-      subst (λ tick. All (λ heard. heard.tick < tick) c.monitor.heard) (sym stands.local) (orderly_later s c.monitor (ticks s h) stands.monitor (never-before tame))
+  pub span-later : (effects c.fault c.ticks).wild ≡ None → All (λ heard. heard.tick < c.span.local) c.span.monitor.heard
+  span-later tame =
+      subst (λ tick. All (λ heard. heard.tick < tick) c.span.monitor.heard) (sym holds.local) (orderly_later kind s c.span.monitor h holds.monitor (never-before tame))
 
-  pub stands-asked : asked_at (effects c.fault c.ticks) c.monitor.times (length c.cal.questions) c.local
-      ≡ asked_at (effects s.fault (length h)) s.cal.times (length s.cal.questions) (length (ticks s h))
-  stands-asked =
-      ap (λ times. asked_at (effects c.fault c.ticks) times (length c.cal.questions) c.local) stands.monitor.times
-      ∙ ap (λ (cal : CalibrationParts). asked_at (effects c.fault c.ticks) s.cal.times (length cal.questions) c.local) stands.cal
-      ∙ ap₂ (λ x tick. asked_at x s.cal.times (length s.cal.questions) tick) (ap₂ effects stands.fault stands.count) stands.local
-
-  pub stands-next : (e : Entry) (answer : Option ℕ) →
-      mark_of (number_expected s (effects s.fault (length h)) (length (ticks s h))) answer ≡ (moment_after s (tick_of s e h) (ticks s h)).mark →
-      ComesNext s c.fault c.ticks c.local answer c.monitor (tick_of s e h) (ticks s h)
-  unfolding ticks
-  stands-next e answer marked_so = record {
-    same_fault = sym stands.fault;
-    begin = 0;
-    follows = ticks_follow s (e ∷ h);
-    count = sym (stands.count ∙ number-of-ticks s h);
-    place = sym stands.local;
-    marked = marked_so;
-    holds = stands.monitor;
-  }
+  pub span-asked : asked_at (effects c.fault c.ticks) c.span.monitor.times (length c.cal.questions) c.span.local
+      ≡ asked_at (effects s.fault c.ticks) s.cal.times (length s.cal.questions) (length h)
+  span-asked =
+      ap (λ times. asked_at (effects c.fault c.ticks) times (length c.cal.questions) c.span.local) holds.monitor.times
+      ∙ ap (λ (parts : CalibrationParts). asked_at (effects c.fault c.ticks) s.cal.times (length parts.questions) c.span.local) cal
+      ∙ ap₂ (λ f tick. asked_at (effects f c.ticks) s.cal.times (length s.cal.questions) tick) fault holds.local

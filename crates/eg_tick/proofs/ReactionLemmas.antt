@@ -1,76 +1,146 @@
 -- The laws of a run, on the row of a tick of a controller that stands for a history.
-use Rattle.std.proofs.Common.{◌≡◌, ◌∙◌, refl, sym, ap, subst, ℕ, suc, ◌+◌, ◌≤◌, true, false, List, [], ◌∷◌, ◌++◌, length, arith}
+use Rattle.std.proofs.Common.{◌≡◌, ◌∙◌, refl, sym, ap, subst, ℕ, ◌+◌, ◌-◌, ◌≤◌, ◌||◌, Bool, true, false, List, ◌∷◌, ◌++◌, length, length-append, arith}
+use Rattle.std.specs.Prelude.{◌==◌}
+use Rattle.eg_num.specs.Drive.{DriveRow}
+use Rattle.eg_plant.specs.Engine.{Shown}
 use Rattle.eg_answer.specs.Times.{reaction_of}
 use Rattle.eg_fault.specs.Faults.{effects}
 use Rattle.eg_values.specs.Calibration.{IsAccepted}
 use Rattle.eg_record.specs.declared.row.Row.{Row}
-use Rattle.eg_model.specs.History.{Setting, Entry, Tick}
-use Rattle.eg_model.specs.Premises.{AreProper, Follows, is_on_after}
+use Rattle.eg_model.specs.History.{Setting, Entry, Tick, SpanKind, Drive, Test, drives, Moment}
+use Rattle.eg_model.specs.Moments.{moment, moment_in, moments_in, moments_of}
+use Rattle.eg_model.specs.Premises.{AreProper, IsProperRun, Follows, is_on_after}
 use Rattle.eg_model.specs.Reaction.{OffFrom, is_at_once}
-use Rattle.eg_model.specs.Moments.{ticks, moments, next}
+use Rattle.eg_model.specs.Spans.{span_kind, has_passed, kind_at, before_at, moments, next, span_ticks}
 use Rattle.eg_model.specs.Rows.{row_of}
 use Rattle.eg_model.proofs.ReactionLaw.{reacts_in_time, reacts_at_once_law}
 use Rattle.eg_model.proofs.LapseLaw.{cuts_lapses, lapses_are_short}
+use Rattle.eg_model.proofs.SpanLemmas.{length-moments_in, kind-goes_on, ticks_before-begins, ticks_before-goes_on, tick_after, ticks_before, Continues, continues, begin_of, EndsIn, ends_in, proper_drive}
 use Rattle.eg_tick.specs.Kept.{Kept}
 use Rattle.eg_tick.specs.Stands.{Stands}
-use Rattle.eg_tick.specs.Advancing.{RowReactsInTime, RowReactsAtOnce, RowCutsLapses, HistoryHasShortLapses}
-use Rattle.eg_tick.proofs.HistoryLemmas.{length-ticks, ticks_follow}
+use Rattle.eg_tick.specs.Advancing.{entry_of, RowIsUnpowered, DrivesOn, RowReactsInTime, RowReactsAtOnce, RowCutsLapses, HistoryHasShortLapses}
+use Rattle.eg_tick.proofs.MomentLemmas.{moment_in-fresh}
 
--- ---- the ticks of a history that goes on ----
+-- ---- the next row of a run ----
 
--- the ticks of the entries that come after a history
-ticks_on : Setting → List Entry → List Entry → List Tick
-ticks_on s h [] = []
-ticks_on s h (e ∷ more) = record { effects = effects s.fault (length (more ++ h)); entry = e } ∷ ticks_on s h more
+module _ (s : Setting) (e : Entry) (h : List Entry) where
+  goes : Continues s e h (kind_at e.drive (moments s h)) (ticks_before s e h)
+  goes = continues s e h
 
-ticks-split : (s : Setting) (h more : List Entry) → ticks s (more ++ h) ≡ ticks_on s h more ++ ticks s h
-unfolding ticks_on ticks
-ticks-split s h [] = refl
-ticks-split s h (e ∷ more) = ap (λ rest. record { effects = effects s.fault (length (more ++ h)); entry = e } ∷ rest) (ticks-split s h more)
+  row_fresh : (row_of (length h) (next s e h)).fresh ≡ (length (ticks_before s e h) == 0)
+  unfolding row_of
+  row_fresh = ap (λ (m : Moment). m.fresh) goes.moment_is ∙ moment_in-fresh _ s _ e _
+      ∙ ap (λ n. n == 0) (length-moments_in (kind_at e.drive (moments s h)) s (ticks_before s e h))
 
-length-on : (s : Setting) (h more : List Entry) → length (ticks_on s h more) ≡ length more
-unfolding ticks_on
-length-on s h [] = refl
-length-on s h (e ∷ more) = ap suc (length-on s h more)
+  row_on : (row_of (length h) (next s e h)).on
+      ≡ (moment_in (kind_at e.drive (moments s h)) s (effects s.fault (length h)) e (before_at e.drive (moments s h))).on
+  unfolding row_of
+  row_on = ap (λ (m : Moment). m.on) (goes.moment_is
+      ∙ ap (moment_in (kind_at e.drive (moments s h)) s (effects s.fault (length h)) e) (sym goes.before_are))
 
--- where the stages are off so many ticks after h, they are off in the row of a tick that comes as late
-off-row : (s : Setting) (e : Entry) (h more : List Entry) (after : ℕ) → OffFrom s 0 (ticks s h) after → AreProper s (ticks s (more ++ h))
-    → after ≤ length more + 1 → (row_of (length (more ++ h)) (next s e (more ++ h))).on ≡ false
-unfolding row_of next moments is_on_after ticks
-off-row s e h more after off proper late =
-    let x : Tick = record { effects = effects s.fault (length (more ++ h)); entry = e } in
-    let split = ticks-split s h more in
-    let long = length-on s h more in
-    subst (λ all. is_on_after s all x ≡ false) (sym split)
-    (off (ticks_on s h more) x (subst (λ all. Follows s.fault 0 (x ∷ all)) split (ticks_follow s (e ∷ more ++ h)))
-    (subst (AreProper s) split proper) (omega (arith, late, long)))
+  -- a row of a test span is off
+  pub unpowered_row : kind_at e.drive (moments s h) ≡ Test → (row_of (length h) (next s e h)).on ≡ false
+  unpowered_row tests = row_on ∙ ap (λ kind. (moment_in kind s (effects s.fault (length h)) e (before_at e.drive (moments s h))).on) tests
+      ∙ (unfold moment_in drives in refl)
+
+  -- where the tick isn't the first of its span, this goes on
+  goes_on : (row_of (length h) (next s e h)).fresh ≡ false → (e.drive.reset || has_passed (moments s h)) ≡ false
+  goes_on later = go (e.drive.reset || has_passed (moments s h)) refl
+    where
+      clash : true ≡ false → ⊥
+      clash f = cc
+
+      go : (b : Bool) → (e.drive.reset || has_passed (moments s h)) ≡ b → (e.drive.reset || has_passed (moments s h)) ≡ false
+      go false is = is
+      go true is = absurd (clash (sym (row_fresh ∙ ap (λ (ticks : List Tick). length ticks == 0) (ticks_before-begins s e h is)) ∙ later))
+
+  module _ (more before : List Tick) (driven : span_kind (moments s h) ≡ Drive) (are : span_ticks s h ≡ more ++ before)
+      (later : (row_of (length h) (next s e h)).fresh ≡ false) where
+    ends : EndsIn s h (span_kind (moments s h)) (begin_of s h) (span_ticks s h)
+    ends = ends_in s h
+
+    -- where the span begins
+    pub start : ℕ
+    start = begin_of s h
+
+    ticks_are : ticks_before s e h ≡ more ++ before
+    ticks_are = ticks_before-goes_on s e h (goes_on later) ∙ are
+
+    kind_is : kind_at e.drive (moments s h) ≡ Drive
+    kind_is = kind-goes_on e.drive (moments s h) (goes_on later) ∙ driven
+
+    follows : Follows s.fault start (tick_after s e h ∷ (more ++ before))
+    unfolding Follows tick_after start
+    follows = (
+      ap (effects s.fault) (sym (let size = ends.size in let long = ap length are in number (length (span_ticks s h)) (length (more ++ before)) long size)),
+      subst (Follows s.fault (begin_of s h)) are ends.follows,
+    )
+      where
+        number : (a b : ℕ) → a ≡ b → begin_of s h + a ≡ length h → begin_of s h + b ≡ length h
+        number a b same size = omega (arith, same, size)
+
+    -- the number of the tick after `before`
+    pub number_is : start + length before ≡ length h - length more
+    unfolding start
+    number_is = law (length more) (length before) (length h) (begin_of s h)
+        (ap (λ n. begin_of s h + n) (sym (ap length are ∙ length-append more before)) ∙ ends.size)
+      where
+        law : (a b n begin : ℕ) → begin + (a + b) ≡ n → begin + b ≡ n - a
+        law a b n begin size = omega (arith, size)
+
+    is_on : (row_of (length h) (next s e h)).on ≡ is_on_after s (more ++ before) (tick_after s e h)
+    unfolding row_of is_on_after tick_after moment moments_of
+    is_on = ap (λ (m : Moment). m.on) goes.moment_is ∙ both kind_is ticks_are
+      where
+        both : {kind : SpanKind} {ticks : List Tick} → kind ≡ Drive → ticks ≡ more ++ before →
+            (moment_in kind s (effects s.fault (length h)) e (moments_in kind s ticks)).on
+            ≡ (moment_in Drive s (effects s.fault (length h)) e (moments_in Drive s (more ++ before))).on
+        both {kind} {ticks} driven same = ap (λ kind. (moment_in kind s (effects s.fault (length h)) e (moments_in kind s ticks)).on) driven
+            ∙ ap (λ ticks. (moment_in Drive s (effects s.fault (length h)) e (moments_in Drive s ticks)).on) same
+
+    -- where the stages are off so many ticks after `before`, they are off in the row of a tick that comes as late
+    pub off_row : (after : ℕ) → IsProperRun s h → OffFrom s start before after → after ≤ length more + 1 →
+        (row_of (length h) (next s e h)).on ≡ false
+    off_row after proper off late = is_on
+        ∙ off more (tick_after s e h) follows (subst (AreProper s) are (proper_drive s h proper driven)) late
 
 -- ---- what a row owes ----
 
-module _ (s : Setting) (c : Kept) (e : Entry) (accepted : IsAccepted c.cal) where
+module _ (s : Setting) (c : Kept) (drive : DriveRow) (slices : List ℕ) (shown : Shown) (accepted : IsAccepted c.cal) (row : Row)
+    (told : (h : List Entry) → Stands s c h → row ≡ row_of (length h) (next s (entry_of drive slices shown) h)) where
+  abbrev e : Entry
+  e = entry_of drive slices shown
+
+  pub unpowered : RowIsUnpowered s c drive row
+  unfolding entry_of
+  unpowered h stands tests = ap (λ (r : Row). r.on) (told h stands) ∙ unpowered_row s e h tests
+
+  -- as late a row is off
+  owes : (h : List Entry) (more before : List Tick) (after : ℕ) → DrivesOn s c row h (more ++ before) → after ≤ length more + 1 →
+      ((start : ℕ) → start + length before ≡ length h - length more → OffFrom s start before after) → row.on ≡ false
+  owes h more before after on late law =
+      let is = told h on.stands in
+      let later = sym (ap (λ (r : Row). r.fresh) is) ∙ on.goes_on in
+      ap (λ (r : Row). r.on) is ∙ off_row s e h more before on.kind on.ticks_are later after on.stands.engine.proper
+      (law (start s e h more before on.kind on.ticks_are later) (number_is s e h more before on.kind on.ticks_are later)) late
+
   fit : (h : List Entry) → Stands s c h → IsAccepted s.cal
   fit h stands = subst IsAccepted stands.cal accepted
 
-  module _ (row : Row) (told : (h : List Entry) → Stands s c h → row ≡ row_of (length h) (next s e h)) where
-    pub reacts : RowReactsInTime s c row
-    reacts more h stands listed confirmed late =
-        ap (λ (r : Row). r.on) (told (more ++ h) stands)
-        ∙ off-row s e h more (reaction_of s.cal.times) (reacts_in_time s (fit (more ++ h) stands) listed 0 (ticks s h) confirmed) stands.engine.proper late
+  pub reacts : RowReactsInTime s c row
+  reacts h more before on listed confirmed late =
+      owes h more before (reaction_of s.cal.times) on late (λ start is. reacts_in_time s (fit h on.stands) listed start before confirmed)
 
-    pub at_once : RowReactsAtOnce s c row
-    at_once more h stands listed confirmed soon =
-        ap (λ (r : Row). r.on) (told (more ++ h) stands)
-        ∙ off-row s e h more 1
-        (reacts_at_once_law s (fit (more ++ h) stands) listed 0 (ticks s h)
-        (subst (λ n. is_at_once s.fault n ≡ true) (let long = length-ticks s h in let same : length h ≡ 0 + length (ticks s h) = omega arith in same) soon) confirmed)
-        stands.engine.proper (omega arith)
+  pub at_once : RowReactsAtOnce s c row
+  at_once h more before on listed confirmed soon =
+      owes h more before 1 on (omega arith)
+      (λ start is. reacts_at_once_law s (fit h on.stands) listed start before (subst (λ n. is_at_once s.fault n ≡ true) (sym is) soon) confirmed)
 
-    pub cuts : RowCutsLapses s c row
-    cuts more h periods stands bounded lapse whole exceeds =
-        ap (λ (r : Row). r.on) (told (more ++ h) stands)
-        ∙ off-row s e h more 1 (cuts_lapses s (fit (more ++ h) stands) bounded lapse 0 periods (ticks s h) (length-ticks s h ∙ whole) exceeds)
-        stands.engine.proper (omega arith)
+  pub cuts : RowCutsLapses s c row
+  cuts h more before periods on bounded lapse whole exceeds =
+      owes h more before 1 on (omega arith) (λ start is. cuts_lapses s (fit h on.stands) bounded lapse start periods before whole exceeds)
 
 pub short : (s : Setting) (c : Kept) → IsAccepted c.cal → HistoryHasShortLapses s c
-short s c accepted h stands bounded lapse n exceeds =
-    lapses_are_short s (subst IsAccepted stands.cal accepted) bounded lapse 0 (ticks s h) (ticks_follow s h) stands.engine.proper n exceeds
+short s c accepted h stands driven bounded lapse n exceeds =
+    lapses_are_short s (subst IsAccepted stands.cal accepted) bounded lapse (begin_of s h) (span_ticks s h) (ends_in s h).follows
+    (proper_drive s h stands.engine.proper driven) n exceeds

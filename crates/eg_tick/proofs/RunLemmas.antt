@@ -1,8 +1,9 @@
 -- One tick of a run on the bench, and what its ticks come to.
-use Rattle.std.proofs.Common.{◌≡◌, ◌∙◌, refl, sym, ap, ap₂, subst, ℕ, zero, suc, ◌+◌, ◌%◌, ◌^◌, ◌<◌, List, [], ◌∷◌, ◌++◌, map, length, arith, Option, Result, Ok, Err}
-use Rattle.std.specs.Prelude.{reverse, slice_index_or, IfOk, OnErr}
+use Rattle.std.proofs.Common.{◌≡◌, ◌∙◌, refl, sym, ap, ap₂, subst, ℕ, zero, suc, ◌+◌, ◌%◌, ◌^◌, ◌<◌, ◌&&◌, ◌||◌, Bool, true, false, List, [], ◌∷◌, ◌++◌, map, length, arith, Option, Result, Ok, Err}
+use Rattle.std.specs.Prelude.{reverse, slice_index_or, IfOk, OnErr, ◌==◌, if◌then◌else◌}
 use Rattle.std.specs.List.{sum}
 use Rattle.std.proofs.Math.Nat.{mod-add-mod, mod-eq_of_lt}
+use Rattle.std.proofs.lemmas.Bool.{ne_eqb}
 use Rattle.std.proofs.lemmas.List.{map-append}
 use Rattle.std.proofs.lemmas.List.Sums.{fold-append}
 use Rattle.eg_num.specs.Drive.{DriveRow}
@@ -12,103 +13,169 @@ use Rattle.eg_fault.specs.Faults.{effects}
 use Rattle.eg_fault.specs.declared.class.Fault.{Fault}
 use Rattle.eg_values.specs.Calibration.{CalibrationParts}
 use Rattle.eg_word.specs.declared.registers.Trap.{Trap}
+use Rattle.eg_word.specs.World.{World}
 use Rattle.eg_record.specs.declared.row.Row.{Row}
-use Rattle.eg_model.specs.History.{drives, Moment}
+use Rattle.eg_model.specs.History.{Setting, Entry, drives, Moment}
 use Rattle.eg_model.specs.Paths.{on_at}
 use Rattle.eg_model.specs.Level1.{last_world}
-use Rattle.eg_model.specs.Moments.{moment_in, moment, moments, next}
+use Rattle.eg_model.specs.Moments.{moment_in}
+use Rattle.eg_model.specs.Spans.{kind_at, before_at, moment_at, next_after, moments, next, has_passed, span_so_far}
 use Rattle.eg_model.specs.Engines.{gasoline}
 use Rattle.eg_model.specs.Bench.{Run, no_drive, stepped, engine_after, shown_at, drive_at, slices_at, entry_at, moments_to, entries_to}
 use Rattle.eg_model.specs.Rows.{row_of, first_trap, record_rows, record_trap}
 use Rattle.eg_model.specs.Records.{row_at, rows_to}
+use Rattle.eg_model.proofs.SpanLemmas.{before-begins, before-goes_on}
 use Rattle.eg_model.proofs.RecordTicks.{length-entries, length-moments_to, records_are_histories}
 use Rattle.eg_tick.specs.Kept.{ControllerParts}
 use Rattle.eg_tick.specs.Stands.{Stands}
-use Rattle.eg_tick.specs.Advancing.{effects_after, entry_of}
+use Rattle.eg_tick.specs.Advancing.{effects_after, entry_of, world_before}
 use Rattle.eg_tick.specs.Weights.{TickCount, weight_of}
 use Rattle.eg_tick.specs.Run.{run_by, IsAt, IsRecordOf}
 
 -- ---- one tick ----
 
--- the engine after a step by what these moments command
-after_step : GasolinePlant → Effects → List Moment → GasolinePlant
-after_step e x past = record {
+-- at the first tick of a span nothing is commanded yet, and else it goes by what the tick before left
+commands : (drive : DriveRow) (past : List Moment) →
+    last_world (if length (before_at drive past) == 0 then [] else past) ≡ last_world (before_at drive past)
+unfolding span_so_far last_world
+commands drive past = go (drive.reset || has_passed past) refl past refl
+  where
+    none : (before : List Moment) → before ≡ [] → last_world (if length before == 0 then [] else past) ≡ last_world before
+    none before is = rw is refl
+
+    some : (m : Moment) (rest : List Moment) → past ≡ m ∷ rest →
+        last_world (if length (span_so_far (m ∷ rest)) == 0 then [] else past) ≡ last_world (span_so_far (m ∷ rest))
+    some m rest is = ap (λ b. last_world (if b then [] else past)) (ne_eqb (length (span_so_far (m ∷ rest))) 0 (λ f. omega arith)) ∙ ap last_world is
+
+    go : (b : Bool) → (drive.reset || has_passed past) ≡ b → (all : List Moment) → past ≡ all →
+        last_world (if length (before_at drive past) == 0 then [] else past) ≡ last_world (before_at drive past)
+    go true begins all is = none (before_at drive past) (before-begins drive past begins)
+    go false on [] is = none (before_at drive past) (before-goes_on drive past on ∙ ap span_so_far is)
+    go false on (m ∷ rest) is = subst (λ before. last_world (if length before == 0 then [] else past) ≡ last_world before)
+        (sym (before-goes_on drive past on ∙ ap span_so_far is)) (some m rest is)
+
+-- the engine after a step by this world's outputs, with the stages on or off, and the plate held or not
+after_step : GasolinePlant → World → (on : Bool) → (held : Option ℕ) → GasolinePlant
+after_step e world on held = record {
   parts = e.parts;
-  state = gasoline_step e.parts e.state (last_world past).throttle (last_world past).ignition (on_at x past) x.held;
+  state = gasoline_step e.parts e.state world.throttle world.ignition on held;
 }
 
-module _ (r : Run) (t : ℕ) (old new : ControllerParts GasolinePlant) (at : IsAt r t old) where
-  x : Effects
-  x = effects r.setting.fault t
+module _ (r : Run) (t : ℕ) (old new : ControllerParts GasolinePlant) (at : IsAt r t old) (drive : DriveRow) (slices : List ℕ)
+    (drives-at : drive_at r t ≡ drive) (sliced : slices ≡ slices_at r t) where
+  s : Setting
+  s = r.setting
+
+  h : List Entry
+  h = entries_to gasoline r t
 
   past : List Moment
   past = moments_to gasoline r t
 
-  rests : GasolinePlant
-  rests = record { parts = r.setting.cal.plant; state = engine_after gasoline r.setting past }
+  past-is : past ≡ moments s h
+  unfolding s h past
+  past-is = records_are_histories gasoline r t
 
-  effects-are : effects_after r.setting (entries_to gasoline r t) ≡ effects r.setting.fault t
-  effects-are = unfold effects_after in ap (effects r.setting.fault) (length-entries gasoline r t)
+  length-past : length past ≡ t
+  unfolding past
+  length-past = length-moments_to gasoline r t
+
+  rests : GasolinePlant
+  rests = record { parts = s.cal.plant; state = engine_after gasoline s past }
+
+  -- the entry of the tick on the bench
+  e : Entry
+  e = entry_at gasoline r t past
+
+  -- what it begins with: its world, whether the stages are on, and where the plate is held
+  world : World
+  world = last_world (before_at drive past)
+
+  on : Bool
+  on = drives (kind_at drive past) && on_at (effects s.fault t) (before_at drive past)
+
+  held : Option ℕ
+  held = (effects s.fault t).held
 
   -- the step that a controller's tick tells of is that of the bench
-  module _ (steps : StepsAsGasoline old.engine (last_world (moments r.setting (entries_to gasoline r t))).throttle
-      (last_world (moments r.setting (entries_to gasoline r t))).ignition
-      (on_at (effects_after r.setting (entries_to gasoline r t)) (moments r.setting (entries_to gasoline r t)))
+  module _ (steps : StepsAsGasoline old.engine (world_before r.setting drive (entries_to gasoline r t)).throttle
+      (world_before r.setting drive (entries_to gasoline r t)).ignition
+      (next r.setting (entry_of drive slices new.kept.shown) (entries_to gasoline r t)).on
       (effects_after r.setting (entries_to gasoline r t)).held new.engine)
       (shows : new.kept.shown ≡ shown_of new.engine.state) where
-    engine-is : new.engine ≡ after_step rests x past
-    unfolding x past rests after_step
+    world-same : world_before s drive h ≡ world
+    unfolding world_before world
+    world-same = ap (λ p. last_world (before_at drive p)) (sym past-is)
+
+    effects-same : effects_after s h ≡ effects s.fault t
+    unfolding s h effects_after
+    effects-same = ap (effects r.setting.fault) (length-entries gasoline r t)
+
+    on-same : (next s (entry_of drive slices new.kept.shown) h).on ≡ on
+    unfolding on next next_after moment_at moment_in entry_of
+    on-same = ap (λ p. drives (kind_at drive p) && on_at (effects s.fault (length p)) (before_at drive p)) (sym past-is)
+        ∙ ap (λ n. drives (kind_at drive past) && on_at (effects s.fault n) (before_at drive past)) length-past
+
+    engine-is : new.engine ≡ after_step rests world on held
+    unfolding s h past rests held after_step
     engine-is = steps
-        ∙ ap (λ e. after_step e (effects_after r.setting (entries_to gasoline r t)) (moments r.setting (entries_to gasoline r t))) at.engine
-        ∙ ap (λ y. after_step rests y (moments r.setting (entries_to gasoline r t))) effects-are
-        ∙ ap (after_step rests (effects r.setting.fault t)) (sym (records_are_histories gasoline r t))
+        ∙ ap (λ (w : World). after_step old.engine w (next s (entry_of drive slices new.kept.shown) h).on (effects_after s h).held) world-same
+        ∙ ap₂ (λ b (x : Effects). after_step old.engine world b x.held) on-same effects-same
+        ∙ ap (λ g. after_step g world on held) at.engine
 
-    shown-is : new.kept.shown ≡ (entry_at gasoline r t (moments_to gasoline r t)).shown
-    unfolding x past rests after_step entry_at shown_at stepped gasoline
-    shown-is = shows ∙ ap (λ (e : GasolinePlant). shown_of e.state) engine-is
+    shown-is : new.kept.shown ≡ shown_at gasoline s (effects s.fault t) drive past
+    unfolding rests after_step world on held shown_at stepped gasoline
+    shown-is = shows ∙ ap (λ (g : GasolinePlant). shown_of g.state) engine-is
 
-    module _ (drive : DriveRow) (slices : List ℕ) (drives : drive_at r t ≡ drive) (sliced : slices ≡ slices_at r t) where
-      entry-is : entry_of drive slices new.kept.shown ≡ entry_at gasoline r t (moments_to gasoline r t)
-      unfolding entry_of entry_at
-      entry-is = ap (λ d. entry_of d slices new.kept.shown) (sym drives)
-          ∙ ap (λ l. entry_of (drive_at r t) l new.kept.shown) sliced
-          ∙ ap (entry_of (drive_at r t) (slices_at r t)) shown-is
+    entry-is : entry_of drive slices new.kept.shown ≡ e
+    unfolding s past e entry_of entry_at
+    entry-is = ap (λ d. entry_of d slices new.kept.shown) (sym drives-at)
+        ∙ ap (λ l. entry_of (drive_at r t) l new.kept.shown) sliced
+        ∙ ap (entry_of (drive_at r t) (slices_at r t))
+        (shown-is ∙ ap (λ d. shown_at gasoline s (effects s.fault t) d past) (sym drives-at))
 
-      engine_next : after_step rests x past
-          ≡ record { parts = r.setting.cal.plant; state = engine_after gasoline r.setting (moments_to gasoline r (suc t)) }
-      unfolding x past rests after_step moments_to engine_after stepped gasoline moment moment_in drives
-      engine_next = ap (λ n. held_by (effects r.setting.fault n)) (sym (length-moments_to gasoline r t))
-        where
-          -- the engine after the tick, where the plate is held by these
-          held_by : Effects → GasolinePlant
-          held_by y = record {
-            parts = r.setting.cal.plant;
-            state = gasoline_step r.setting.cal.plant (engine_after gasoline r.setting past) (last_world past).throttle
-                (last_world past).ignition (on_at x past) y.held;
-          }
+    -- the engine of the bench has made the same step
+    next_engine : (d : DriveRow) → drive_at r t ≡ d →
+        engine_after gasoline s (next_after s e past ∷ past)
+        ≡ gasoline_step s.cal.plant (engine_after gasoline s past) (last_world (before_at d past)).throttle (last_world (before_at d past)).ignition
+        (drives (kind_at d past) && on_at (effects s.fault t) (before_at d past)) (effects s.fault t).held
+    unfolding engine_after stepped gasoline next_after moment_at moment_in e entry_at
+    next_engine d is =
+        ap (λ (w : World). gasoline_step s.cal.plant (engine_after gasoline s past) w.throttle w.ignition (next_after s e past).on
+        (effects s.fault (length past)).held) (commands (drive_at r t) past)
+        ∙ ap (λ n. gasoline_step s.cal.plant (engine_after gasoline s past) (last_world (before_at (drive_at r t) past)).throttle
+        (last_world (before_at (drive_at r t) past)).ignition
+        (drives (kind_at (drive_at r t) past) && on_at (effects s.fault n) (before_at (drive_at r t) past)) (effects s.fault n).held)
+        length-past
+        ∙ ap (λ row. gasoline_step s.cal.plant (engine_after gasoline s past) (last_world (before_at row past)).throttle
+        (last_world (before_at row past)).ignition (drives (kind_at row past) && on_at (effects s.fault t) (before_at row past)) (effects s.fault t).held) is
 
-      at_suc : Stands r.setting new.kept (entry_of drive slices new.kept.shown ∷ entries_to gasoline r t) → IsAt r (suc t) new
-      unfolding entries_to
-      at_suc stands = record {
-        stands = subst (λ e. Stands r.setting new.kept (e ∷ entries_to gasoline r t)) entry-is stands;
-        engine = engine-is ∙ engine_next;
-      }
+    engine-next : after_step rests world on held
+        ≡ record { parts = r.setting.cal.plant; state = engine_after gasoline r.setting (moments_to gasoline r (suc t)) }
+    unfolding s past rests after_step world on held e moments_to
+    engine-next = ap (λ g. record { parts = r.setting.cal.plant; state = g }) (sym (next_engine drive drives-at))
 
-      pub next_at : Stands r.setting new.kept (entry_of drive slices new.kept.shown ∷ entries_to gasoline r t) → IsAt r (t + 1) new
-      next_at stands = subst (λ n. IsAt r n new) (one_more t) (at_suc stands)
-        where
-          one_more : (t : ℕ) → suc t ≡ t + 1
-          one_more t = omega arith
+    at_suc : Stands r.setting new.kept (entry_of drive slices new.kept.shown ∷ entries_to gasoline r t) → IsAt r (suc t) new
+    unfolding s past e entries_to
+    at_suc stands = record {
+      stands = subst (λ entry. Stands r.setting new.kept (entry ∷ entries_to gasoline r t)) entry-is stands;
+      engine = engine-is ∙ engine-next;
+    }
 
-      pub next_row : (row : Row) →
-          row ≡ row_of (length (entries_to gasoline r t)) (next r.setting (entry_of drive slices new.kept.shown) (entries_to gasoline r t)) →
-          row ≡ row_at gasoline r t
-      unfolding next row_at
-      next_row row is = is
-          ∙ ap (λ e. row_of (length (entries_to gasoline r t)) (moment r.setting (effects r.setting.fault (length (entries_to gasoline r t))) e
-          (moments r.setting (entries_to gasoline r t)))) entry-is
-          ∙ ap₂ (λ n before. row_of n (moment r.setting (effects r.setting.fault n) (entry_at gasoline r t (moments_to gasoline r t)) before))
-          (length-entries gasoline r t) (sym (records_are_histories gasoline r t))
+    pub next_at : Stands r.setting new.kept (entry_of drive slices new.kept.shown ∷ entries_to gasoline r t) → IsAt r (t + 1) new
+    next_at stands = subst (λ n. IsAt r n new) (one_more t) (at_suc stands)
+      where
+        one_more : (t : ℕ) → suc t ≡ t + 1
+        one_more t = omega arith
+
+    pub next_row : (row : Row) →
+        row ≡ row_of (length (entries_to gasoline r t)) (next r.setting (entry_of drive slices new.kept.shown) (entries_to gasoline r t)) →
+        row ≡ row_at gasoline r t
+    unfolding s h past e next row_at
+    next_row row is = is
+        ∙ ap (λ entry. row_of (length (entries_to gasoline r t)) (next_after r.setting entry (moments r.setting (entries_to gasoline r t)))) entry-is
+        ∙ ap₂ (λ n before. row_of n (next_after r.setting (entry_at gasoline r t (moments_to gasoline r t)) before))
+        (length-entries gasoline r t) (sym past-is)
 
 -- ---- how a run begins ----
 

@@ -1,207 +1,341 @@
 -- From what a controller stands for before a tick to what it stands for after it.
-use Rattle.std.proofs.Common.{◌≡◌, ◌∙◌, sym, ap, ap₂, subst, ◌+◌, ◌||◌, ◌&&◌, Bool, false, List, ◌∷◌, length, slice_index, arith}
+use Rattle.std.proofs.Common.{◌≡◌, ◌∙◌, refl, sym, ap, ap₂, subst, ℕ, ◌+◌, not, ◌||◌, ◌&&◌, Bool, true, false, List, ◌∷◌, length, slice_index, arith}
+use Rattle.std.specs.Prelude.{◌==◌, if◌then◌else◌}
 use Rattle.std.specs.Option.{option_or}
 use Rattle.eg_num.specs.Drive.{IsDrive}
 use Rattle.eg_num.specs.declared.watches.Watches.{Watches}
 use Rattle.eg_plant.specs.Engine.{Shown, KeepsLaws}
-use Rattle.eg_guard.specs.Memory.{AreWords}
+use Rattle.eg_guard.specs.Memory.{AreWords, ShownMemory}
+use Rattle.eg_word.specs.declared.registers.Registers.{Registers}
 use Rattle.eg_word.specs.World.{World, world_of}
 use Rattle.eg_level2.specs.Words.{words_of}
 use Rattle.eg_level2.specs.declared.step.Step.{Step}
 use Rattle.eg_record.specs.declared.row.Row.{Row}
-use Rattle.eg_model.specs.History.{Setting, Entry, Tick, Moment}
+use Rattle.eg_model.specs.History.{Setting, Entry, Tick, SpanKind, Drive, Test, drives, Moment}
 use Rattle.eg_model.specs.Signals.{last_signals}
-use Rattle.eg_model.specs.Paths.{latch1, latch2, path1_at, path2_at, on_at}
+use Rattle.eg_model.specs.Paths.{is_testing, reads_back, latch1, latch2, path1_at, path2_at, on_at}
 use Rattle.eg_model.specs.Level1.{last_world}
-use Rattle.eg_model.specs.Premises.{AreProper}
-use Rattle.eg_model.specs.Moments.{limit_at, moments, moments_of, ticks, next}
+use Rattle.eg_model.specs.Premises.{IsProperRun}
+use Rattle.eg_model.specs.Moments.{limit_at, moments_in}
+use Rattle.eg_model.specs.Spans.{span_kind, has_passed, kind_at, moments, next, span_ticks}
 use Rattle.eg_model.specs.Rows.{row_of, signal_list, first_trap, trap_in}
-use Rattle.eg_model.proofs.TickLemmas.{length-moments, moment-entry, moment-limit, moment-path1, moment-path2, moment-on, moment-answers}
+use Rattle.eg_model.proofs.SpanLemmas.{length-moments_in, length-run_moments, tick_after, ticks_before, Continues, continues}
 use Rattle.eg_agree.specs.Standing.{signals_of}
 use Rattle.eg_agree.specs.Ticking.{found_in_level2}
 use Rattle.eg_agree.specs.Replies.{moment_after}
 use Rattle.eg_tick.specs.Kept.{Kept}
-use Rattle.eg_tick.specs.Stands.{HoldsLatches, HoldsMonitor, HoldsEngine, IsShown, Stands}
+use Rattle.eg_tick.specs.Stands.{kind_of, HoldsLatches, HoldsMonitor, HoldsSpan, HoldsEngine, IsShown, Stands}
+use Rattle.eg_tick.specs.Entering.{kind_from, ticks_from}
 use Rattle.eg_tick.specs.Working.{Served, IsStep}
 use Rattle.eg_tick.specs.Judging.{Tells}
-use Rattle.eg_tick.specs.Advancing.{effects_after}
-use Rattle.eg_fault.specs.Effects.{Effects}
 use Rattle.eg_tick.specs.declared.monitoring.Judgement.{Judgement}
-use Rattle.eg_tick.proofs.HistoryLemmas.{tick_of, length-ticks}
+use Rattle.eg_tick.specs.declared.paths.Paths.{Paths}
+use Rattle.eg_tick.specs.declared.span.Place.{Place}
+use Rattle.eg_tick.specs.declared.span.Span.{Span}
+use Rattle.eg_tick.proofs.MomentLemmas.{moment_in-entry, moment_in-limit, moment_in-path1, moment_in-path2, moment_in-on, moment_in-testing, moment_in-fresh, moment_in-passes, moment_in-start, moment_in-answers}
 
--- the watches of level 2 with those of the monitoring module are those of the tick
-watches-are : (found : Watches) (answers : Bool) (m : Moment) → found ≡ found_in_level2 m → answers ≡ m.found.answers → record found { answers = answers } ≡ m.found
-unfolding found_in_level2
-watches-are found answers m is same = ap₂ (λ (f : Watches) a. record f { answers = a }) is same
+-- ---- as a tick begins ----
+
+-- A controller as the tick of this entry begins: it stood for the history h, and has come into the span of the tick.
+pub record Enters (s : Setting) (c : Kept) (e : Entry) (h : List Entry) : Type 0 where
+  pub cal : c.cal ≡ s.cal
+  pub fault : c.fault ≡ s.fault
+  pub count : c.ticks ≡ length h
+  pub span : HoldsSpan (kind_at e.drive (moments s h)) s c.span c.registers c.memory.words (ticks_before s e h)
+  pub engine : HoldsEngine s c.kt c.shown h
+  pub trap : c.trap ≡ first_trap (moments s h)
+
+-- its span, level 1's registers and the memory are these then,
+abbrev pub entered : Kept → Span → Registers → ShownMemory → Kept
+entered c span m memory = record c { span = span; registers = m; memory = memory }
+
+-- by what the call for it promises
+abbrev pub ComesIn : Kept → (reset : Bool) → Span → Registers → ShownMemory → Type 0
+ComesIn c reset span m memory =
+    (kind : SpanKind) (s : Setting) (h : List Tick) → HoldsSpan kind s c.span c.registers c.memory.words h →
+    HoldsSpan (kind_from reset c.span.passed kind) s span m memory.words (ticks_from reset c.span.passed h)
+
+kind_from-is : (reset passed : Bool) (kind : SpanKind) →
+    kind_from reset passed kind ≡ (if reset then Test else if passed then Drive else kind)
+unfolding kind_from kind_of
+kind_from-is true passed kind = refl
+kind_from-is false true kind = refl
+kind_from-is false false kind = refl
+
+pub enters : (s : Setting) (c : Kept) (e : Entry) (h : List Entry) (reset : Bool) (span : Span) (m : Registers) (memory : ShownMemory) →
+    Stands s c h → reset ≡ e.drive.reset → ComesIn c reset span m memory → Enters s (entered c span m memory) e h
+unfolding ticks_from kind_at ticks_before
+enters s c e h reset span m memory stands resets comes = record {
+  cal = stands.cal;
+  fault = stands.fault;
+  count = stands.count;
+  span = subst (λ kind. HoldsSpan kind s span m memory.words (ticks_from e.drive.reset (has_passed (moments s h)) (span_ticks s h)))
+      (kind_from-is e.drive.reset (has_passed (moments s h)) (span_kind (moments s h)))
+      (subst (λ b. HoldsSpan (kind_from b (has_passed (moments s h)) (span_kind (moments s h))) s span m memory.words
+      (ticks_from b (has_passed (moments s h)) (span_ticks s h))) resets
+      (subst (λ b. HoldsSpan (kind_from reset b (span_kind (moments s h))) s span m memory.words (ticks_from reset b (span_ticks s h))) stands.passed
+      (comes (span_kind (moments s h)) s (span_ticks s h) stands.span)));
+  engine = stands.engine;
+  trap = stands.trap;
+}
 
 -- ---- a tick that was made ----
 
--- What the parts of a tick made of a controller: tick x came after h. `open1` and `open2` are the latches as the tick began.
-pub record Makes (s : Setting) (x : Tick) (h : List Tick) (old new : Kept) (done : Step) (judgement : Judgement) : Type 0 where
+-- the watches of level 2 with those of the monitoring module and of the start-up test are those of the tick
+watches-are : (found : Watches) (answers start : Bool) (m : Moment) → found ≡ found_in_level2 m → answers ≡ m.found.answers → start ≡ m.found.start →
+    record found { answers = answers; start = start } ≡ m.found
+unfolding found_in_level2
+watches-are found answers start m is same fails = λ i. record (is i) { answers = same i; start = fails i }
+
+-- What the parts of a tick made of a controller: tick x came after h in a span of this kind, and `old` is the controller as it began.
+pub record Makes (kind : SpanKind) (s : Setting) (x : Tick) (h : List Tick) (old new : Kept) (paths : Paths) (place : Place) (done : Step)
+    (judgement : Judgement) : Type 0 where
   pub cal : new.cal ≡ old.cal
   pub fault : new.fault ≡ old.fault
   pub count : new.ticks ≡ old.ticks + 1
-  pub local : new.local ≡ old.local + 1
   pub are_words : AreWords new.memory.words
-  pub served : Served s x h new.registers new.memory.words
-  pub step : IsStep s x h done
-  pub judged : Tells judgement (moment_after s x h)
-  pub monitor : HoldsMonitor s new.monitor (x ∷ h)
-  pub open1 : new.open1 ≡ (done.open_path || old.open1)
-  pub open2 : new.open2 ≡ ((judgement.confirms || judgement.opens) || old.open2)
+  pub path1 : paths.path1 ≡ x.effects.conducts 1 old.span.open1
+  pub path2 : paths.path2 ≡ x.effects.conducts 2 old.span.open2
+  pub on : paths.on ≡ (drives (kind_of old.span.tests) && (paths.path1 && paths.path2))
+  pub placed : place.tests ≡ old.span.tests
+  pub fresh : place.fresh ≡ (old.span.local == 0)
+  pub testing : place.testing ≡ is_testing (kind_of old.span.tests) s.cal.times old.span.local
+  pub read : place.reads_back ≡ reads_back (kind_of old.span.tests) s.cal.times old.span.local
+  pub served : Served kind s x h new.registers new.memory.words
+  pub step : IsStep kind s x h done
+  pub judged : Tells judgement (moment_after kind s x h)
+  pub monitor : HoldsMonitor kind s new.span.monitor (x ∷ h)
+  pub tests : new.span.tests ≡ old.span.tests
+  pub local : new.span.local ≡ old.span.local + 1
+  pub passed : new.span.passed ≡ (place.reads_back && not (paths.path1 || paths.path2))
+  pub open1 : new.span.open1 ≡ (done.open_path || old.span.open1)
+  pub open2 : new.span.open2 ≡ ((judgement.confirms || judgement.opens) || old.span.open2)
   pub kt : new.kt ≡ old.kt
   pub drive : IsDrive x.entry.drive
   pub shown : x.entry.shown ≡ new.shown
   pub laws : KeepsLaws new.kt new.shown
-  pub off : on_at x.effects (moments_of s h) ≡ false → new.shown.torque ≡ 0
+  pub off : paths.on ≡ false → new.shown.torque ≡ 0
   pub trap : new.trap ≡ option_or old.trap (trap_in new.registers.state old.ticks)
   pub not_lost : new.lost ≡ false
 
-module _ (s : Setting) (x : Tick) (h : List Tick) (old new : Kept) (step : Step) (judgement : Judgement) (makes : Makes s x h old new step judgement) where
+module _ (kind : SpanKind) (s : Setting) (x : Tick) (h : List Tick) (old new : Kept) (paths : Paths) (place : Place) (step : Step)
+    (judgement : Judgement) (makes : Makes kind s x h old new paths place step judgement)
+    (holds : HoldsSpan kind s old.span old.registers old.memory.words h) where
   abbrev m : Moment
-  m = moment_after s x h
+  m = moment_after kind s x h
 
   abbrev past : List Moment
-  past = moments_of s h
+  past = moments_in kind s h
 
   world-is : world_of new.registers new.memory.words ≡ m.world
-  unfolding moments_of last_world
+  unfolding moments_in last_world
   world-is = makes.served.0.world
 
   signals-are : signals_of (words_of new.memory.words) ≡ m.signals
-  unfolding moments_of last_signals
+  unfolding moments_in last_signals
   signals-are = makes.served.1.words.signals
 
-  engine-next : HoldsEngine s old.kt old.shown h → HoldsEngine s new.kt new.shown (x ∷ h)
-  unfolding AreProper IsShown
-  engine-next holds = record {
-    one_kt = makes.kt ∙ holds.one_kt;
+  local-is : old.span.local ≡ length past
+  local-is = holds.local ∙ sym (length-moments_in kind s h)
+
+  -- ---- the paths, and the start-up test ----
+
+  path1-is : paths.path1 ≡ m.path1
+  unfolding path1_at
+  path1-is = makes.path1 ∙ ap (x.effects.conducts 1) holds.latches.path1 ∙ sym (moment_in-path1 kind s x.effects x.entry past)
+
+  path2-is : paths.path2 ≡ m.path2
+  unfolding path2_at
+  path2-is = makes.path2 ∙ ap (x.effects.conducts 2) holds.latches.path2 ∙ sym (moment_in-path2 kind s x.effects x.entry past)
+
+  both-are : (paths.path1 && paths.path2) ≡ on_at x.effects past
+  unfolding on_at
+  both-are = ap₂ (λ a b. a && b) (path1-is ∙ moment_in-path1 kind s x.effects x.entry past) (path2-is ∙ moment_in-path2 kind s x.effects x.entry past)
+
+  pub on-is : paths.on ≡ m.on
+  on-is = makes.on ∙ ap₂ (λ k b. drives k && b) holds.kind_is both-are ∙ sym (moment_in-on kind s x.effects x.entry past)
+
+  read-is : place.reads_back ≡ reads_back kind s.cal.times (length past)
+  read-is = makes.read ∙ ap₂ (λ k n. reads_back k s.cal.times n) holds.kind_is local-is
+
+  passes-is : new.span.passed ≡ m.passes
+  passes-is = makes.passed ∙ ap₂ (λ r b. r && not b) read-is (ap₂ (λ a b. a || b) path1-is path2-is)
+      ∙ sym (moment_in-passes kind s x.effects x.entry past)
+
+  fails-is : (place.reads_back && (paths.path1 || paths.path2)) ≡ m.found.start
+  fails-is = ap₂ (λ r b. r && b) read-is (ap₂ (λ a b. a || b) path1-is path2-is) ∙ sym (moment_in-start kind s x.effects x.entry past)
+
+  -- ---- the span ----
+
+  latches-next : HoldsLatches new.span.open1 new.span.open2 (moments_in kind s (x ∷ h))
+  unfolding moments_in latch1 latch2
+  latches-next = record {
+    path1 = makes.open1 ∙ ap₂ (λ a b. a || b) makes.step.order holds.latches.path1;
+    path2 = makes.open2 ∙ ap₂ (λ a b. a || b) (ap₂ (λ a b. a || b) makes.judged.confirms makes.judged.opens) holds.latches.path2;
+  }
+
+  pub span-next : HoldsSpan kind s new.span new.registers new.memory.words (x ∷ h)
+  span-next = record {
+    kind_is = ap kind_of makes.tests ∙ holds.kind_is;
+    local = makes.local ∙ (let local = holds.local in omega arith);
+    level1 = makes.served.0;
+    level2 = makes.served.1;
+    latches = latches-next;
+    monitor = makes.monitor;
+  }
+
+  -- ---- its row ----
+
+  entered-is : x.entry ≡ m.entry
+  entered-is = sym (moment_in-entry kind s x.effects x.entry past)
+
+  shown-is : new.shown ≡ m.entry.shown
+  shown-is = sym makes.shown ∙ ap (λ (e : Entry). e.shown) entered-is
+
+  answers-are : (drives (kind_of place.tests) && judgement.confirms) ≡ m.found.answers
+  answers-are = ap₂ (λ k b. drives k && b) (ap kind_of makes.placed ∙ holds.kind_is) makes.judged.confirms
+      ∙ sym (moment_in-answers kind s x.effects x.entry past)
+
+  pub row-is : (row : Row) (allowed : ℕ) → allowed ≡ limit_at s.cal x.entry.drive → row ≡ record {
+    tick = old.ticks;
+    drive = x.entry.drive;
+    plate = new.shown.position;
+    charge = new.shown.load_1;
+    torque = new.shown.torque;
+    limit = allowed;
+    path1 = paths.path1;
+    path2 = paths.path2;
+    on = paths.on;
+    signals = signal_list (signals_of (words_of new.memory.words));
+    throttle = slice_index new.memory.words 2064;
+    ignition = slice_index new.memory.words 2065;
+    found = record step.found {
+      answers = drives (kind_of place.tests) && judgement.confirms;
+      start = place.reads_back && (paths.path1 || paths.path2);
+    };
+    answer = judgement.mark;
+    verdict = judgement.verdict;
+    testing = place.testing;
+    fresh = place.fresh;
+  } → row ≡ row_of old.ticks m
+  unfolding row_of world_of
+  row-is row allowed permits is = is ∙ (λ i. record {
+    tick = old.ticks;
+    drive = ap (λ (e : Entry). e.drive) entered-is i;
+    plate = ap (λ (shown : Shown). shown.position) shown-is i;
+    charge = ap (λ (shown : Shown). shown.load_1) shown-is i;
+    torque = ap (λ (shown : Shown). shown.torque) shown-is i;
+    limit = (permits ∙ sym (moment_in-limit kind s x.effects x.entry past)) i;
+    path1 = path1-is i;
+    path2 = path2-is i;
+    on = on-is i;
+    signals = ap signal_list signals-are i;
+    throttle = ap (λ (world : World). world.throttle) world-is i;
+    ignition = ap (λ (world : World). world.ignition) world-is i;
+    found = watches-are step.found _ _ m makes.step.found answers-are fails-is i;
+    answer = makes.judged.mark i;
+    verdict = makes.judged.verdict i;
+    testing = (makes.testing ∙ ap₂ (λ k n. is_testing k s.cal.times n) holds.kind_is local-is ∙ sym (moment_in-testing kind s x.effects x.entry past)) i;
+    fresh = (makes.fresh ∙ ap (λ n. n == 0) local-is ∙ sym (moment_in-fresh kind s x.effects x.entry past)) i;
+  })
+
+-- ---- what a controller stands for ----
+
+module _ (s : Setting) (e : Entry) (h : List Entry) (old new : Kept) (paths : Paths) (place : Place) (step : Step) (judgement : Judgement)
+    (enter : Enters s old e h)
+    (makes : Makes (kind_at e.drive (moments s h)) s (tick_after s e h) (ticks_before s e h) old new paths place step judgement) where
+  abbrev kind : SpanKind
+  kind = kind_at e.drive (moments s h)
+
+  abbrev x : Tick
+  x = tick_after s e h
+
+  abbrev before : List Tick
+  before = ticks_before s e h
+
+  goes : Continues s e h kind before
+  goes = continues s e h
+
+  -- the tick is the next moment of the run
+  pub moment-is : next s e h ≡ moment_after kind s x before
+  unfolding tick_after
+  moment-is = goes.moment_is
+
+  pub next-on : paths.on ≡ (next s e h).on
+  next-on = on-is kind s x before old new paths place step judgement makes enter.span ∙ ap (λ (m : Moment). m.on) (sym moment-is)
+
+  entry-is : x.entry ≡ e
+  unfolding tick_after
+  entry-is = refl
+
+  engine-next : HoldsEngine s new.kt new.shown (e ∷ h)
+  unfolding IsProperRun IsShown tick_after
+  engine-next = record {
+    one_kt = makes.kt ∙ enter.engine.one_kt;
     proper = (
       record {
         drive = makes.drive;
         engine = subst (λ shown. KeepsLaws s.cal.rules.kt shown) (sym makes.shown)
-            (subst (λ kt. KeepsLaws kt new.shown) (makes.kt ∙ holds.one_kt) makes.laws);
-        no_torque = λ off. ap (λ (shown : Shown). shown.torque) makes.shown ∙ makes.off off;
+            (subst (λ kt. KeepsLaws kt new.shown) (makes.kt ∙ enter.engine.one_kt) makes.laws);
+        no_torque = λ off. ap (λ (shown : Shown). shown.torque) makes.shown ∙ makes.off (next-on ∙ off);
       },
-      holds.proper,
+      enter.engine.proper,
     );
     shows = makes.shown;
   }
 
-  trap-next : old.ticks ≡ length past → old.trap ≡ first_trap past → new.trap ≡ first_trap (moments_of s (x ∷ h))
-  unfolding moments_of first_trap world_of
-  trap-next numbered told = makes.trap ∙ ap₂ option_or told (ap₂ trap_in (ap (λ (world : World). world.registers.state) world-is) numbered)
+  moments-next : moments s (e ∷ h) ≡ next s e h ∷ moments s h
+  unfolding moments next
+  moments-next = refl
 
-  module _ (holds : HoldsLatches old.open1 old.open2 past) where
-    latches-next : HoldsLatches new.open1 new.open2 (moments_of s (x ∷ h))
-    unfolding moments_of latch1 latch2
-    latches-next = record {
-      path1 = makes.open1 ∙ ap₂ (λ a b. a || b) makes.step.order holds.path1;
-      path2 = makes.open2 ∙ ap₂ (λ a b. a || b) (ap₂ (λ a b. a || b) makes.judged.confirms makes.judged.opens) holds.path2;
-    }
+  trap-next : new.trap ≡ first_trap (next s e h ∷ moments s h)
+  unfolding first_trap world_of
+  trap-next = makes.trap ∙ ap₂ option_or enter.trap (ap₂ trap_in
+      (ap (λ (world : World). world.registers.state)
+      (world-is kind s x before old new paths place step judgement makes enter.span ∙ ap (λ (m : Moment). m.world) (sym moment-is)))
+      (enter.count ∙ sym (length-run_moments s h)))
 
-    -- ---- its row ----
-
-    path1-is : x.effects.conducts 1 old.open1 ≡ m.path1
-    unfolding path1_at
-    path1-is = ap (x.effects.conducts 1) holds.path1 ∙ sym (moment-path1 s x.effects x.entry past)
-
-    path2-is : x.effects.conducts 2 old.open2 ≡ m.path2
-    unfolding path2_at
-    path2-is = ap (x.effects.conducts 2) holds.path2 ∙ sym (moment-path2 s x.effects x.entry past)
-
-    both-on : (m.path1 && m.path2) ≡ m.on
-    both-on = ap₂ (λ a b. a && b) (moment-path1 s x.effects x.entry past) (moment-path2 s x.effects x.entry past)
-        ∙ sym (unfold on_at in moment-on s x.effects x.entry past)
-
-    entered : x.entry ≡ m.entry
-    entered = sym (moment-entry s x.effects x.entry past)
-
-    shown-is : new.shown ≡ m.entry.shown
-    shown-is = sym makes.shown ∙ ap (λ (e : Entry). e.shown) entered
-
-    row-is : (row : Row) → row ≡ record {
-      tick = old.ticks;
-      drive = x.entry.drive;
-      plate = new.shown.position;
-      charge = new.shown.load_1;
-      torque = new.shown.torque;
-      limit = limit_at s.cal x.entry.drive;
-      path1 = x.effects.conducts 1 old.open1;
-      path2 = x.effects.conducts 2 old.open2;
-      on = x.effects.conducts 1 old.open1 && x.effects.conducts 2 old.open2;
-      signals = signal_list (signals_of (words_of new.memory.words));
-      throttle = slice_index new.memory.words 2064;
-      ignition = slice_index new.memory.words 2065;
-      found = record step.found { answers = judgement.confirms };
-      answer = judgement.mark;
-      verdict = judgement.verdict;
-    } → row ≡ row_of old.ticks m
-    unfolding row_of world_of
-    row-is row is = is ∙ (λ i. record {
-      tick = old.ticks;
-      drive = ap (λ (e : Entry). e.drive) entered i;
-      plate = ap (λ (shown : Shown). shown.position) shown-is i;
-      charge = ap (λ (shown : Shown). shown.load_1) shown-is i;
-      torque = ap (λ (shown : Shown). shown.torque) shown-is i;
-      limit = sym (moment-limit s x.effects x.entry past) i;
-      path1 = path1-is i;
-      path2 = path2-is i;
-      on = (ap₂ (λ a b. a && b) path1-is path2-is ∙ both-on) i;
-      signals = ap signal_list signals-are i;
-      throttle = ap (λ (world : World). world.throttle) world-is i;
-      ignition = ap (λ (world : World). world.ignition) world-is i;
-      found = watches-are step.found judgement.confirms m makes.step.found (makes.judged.confirms ∙ sym (moment-answers s x.effects x.entry past)) i;
-      answer = makes.judged.mark i;
-      verdict = makes.judged.verdict i;
-    })
-
--- ---- what a controller stands for ----
-
--- the stages are on where both paths conduct
-pub on-is : (s : Setting) (x : Effects) (h : List Entry) (c : Kept) → Stands s c h → (x.conducts 1 c.open1 && x.conducts 2 c.open2) ≡ on_at x (moments s h)
-unfolding on_at path1_at path2_at
-on-is s x h c stands = ap₂ (λ a b. a && b) (ap (x.conducts 1) stands.latches.path1) (ap (x.conducts 2) stands.latches.path2)
-
-module _ (s : Setting) (e : Entry) (h : List Entry) (old new : Kept) (step : Step) (judgement : Judgement) (stands : Stands s old h)
-    (makes : Makes s (tick_of s e h) (ticks s h) old new step judgement) where
-  numbered : old.ticks ≡ length (moments_of s (ticks s h))
-  numbered = stands.count ∙ sym (length-moments s (ticks s h) ∙ length-ticks s h)
+  passed-next : new.span.passed ≡ has_passed (next s e h ∷ moments s h)
+  unfolding has_passed
+  passed-next = passes-is kind s x before old new paths place step judgement makes enter.span ∙ ap (λ (m : Moment). m.passes) (sym moment-is)
 
   pub next_stands : Stands s new (e ∷ h)
-  unfolding ticks moments next
   next_stands = record {
-    cal = makes.cal ∙ stands.cal;
-    fault = makes.fault ∙ stands.fault;
-    count = makes.count ∙ (let count = stands.count in omega arith);
-    local = makes.local ∙ (let local = stands.local in omega arith);
+    cal = makes.cal ∙ enter.cal;
+    fault = makes.fault ∙ enter.fault;
+    count = makes.count ∙ (let count = enter.count in omega arith);
     are_words = makes.are_words;
-    level1 = makes.served.0;
-    level2 = makes.served.1;
-    latches = latches-next s (tick_of s e h) (ticks s h) old new step judgement makes stands.latches;
-    monitor = makes.monitor;
-    engine = engine-next s (tick_of s e h) (ticks s h) old new step judgement makes stands.engine;
-    trap = trap-next s (tick_of s e h) (ticks s h) old new step judgement makes numbered stands.trap;
+    span = subst (λ k. HoldsSpan k s new.span new.registers new.memory.words (span_ticks s (e ∷ h))) (sym goes.kind_is)
+        (subst (HoldsSpan kind s new.span new.registers new.memory.words) (sym goes.ticks_are)
+        (span-next kind s x before old new paths place step judgement makes enter.span));
+    passed = passed-next ∙ ap has_passed (sym moments-next);
+    engine = engine-next;
+    trap = trap-next ∙ ap first_trap (sym moments-next);
     not_lost = makes.not_lost;
   }
 
-  pub next_row : (row : Row) → row ≡ record {
+  pub next_row : (row : Row) (allowed : ℕ) → allowed ≡ limit_at s.cal e.drive → row ≡ record {
     tick = old.ticks;
     drive = e.drive;
     plate = new.shown.position;
     charge = new.shown.load_1;
     torque = new.shown.torque;
-    limit = limit_at s.cal e.drive;
-    path1 = (effects_after s h).conducts 1 old.open1;
-    path2 = (effects_after s h).conducts 2 old.open2;
-    on = (effects_after s h).conducts 1 old.open1 && (effects_after s h).conducts 2 old.open2;
+    limit = allowed;
+    path1 = paths.path1;
+    path2 = paths.path2;
+    on = paths.on;
     signals = signal_list (signals_of (words_of new.memory.words));
     throttle = slice_index new.memory.words 2064;
     ignition = slice_index new.memory.words 2065;
-    found = record step.found { answers = judgement.confirms };
+    found = record step.found {
+      answers = drives (kind_of place.tests) && judgement.confirms;
+      start = place.reads_back && (paths.path1 || paths.path2);
+    };
     answer = judgement.mark;
     verdict = judgement.verdict;
+    testing = place.testing;
+    fresh = place.fresh;
   } → row ≡ row_of (length h) (next s e h)
-  unfolding effects_after moments next
-  next_row row is = row-is s (tick_of s e h) (ticks s h) old new step judgement makes stands.latches row is
-      ∙ ap (λ tick. row_of tick (next s e h)) stands.count
+  unfolding tick_after
+  next_row row allowed permits is = row-is kind s x before old new paths place step judgement makes enter.span row allowed permits is
+      ∙ ap₂ row_of enter.count (sym moment-is)

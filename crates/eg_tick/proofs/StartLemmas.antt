@@ -1,5 +1,5 @@
--- A new controller stands for the history without a tick.
-use Rattle.std.proofs.Common.{◌≡◌, ◌∙◌, sym, ap, subst, inl, inr, ℕ, ◌+◌, ◌≤◌, ◌<◌, true, false, List, [], map, length, replicate, slice_index, None, arith}
+-- A span as it begins, and a new controller, which stands for the history without a tick.
+use Rattle.std.proofs.Common.{◌≡◌, ◌∙◌, refl, sym, ap, subst, inl, inr, ℕ, ◌+◌, ◌≤◌, ◌<◌, true, false, List, [], map, length, replicate, slice_index, None, arith}
 use Rattle.std.proofs.Math.Seq.{take-nil}
 use Rattle.std.proofs.lemmas.Bool.{cases_lt}
 use Rattle.std.proofs.lemmas.List.{get_or_past, get_or-replicate}
@@ -7,27 +7,34 @@ use Rattle.eg_guard.specs.Regions.{region_of}
 use Rattle.eg_guard.specs.Memory.{AreWords, SameOutside}
 use Rattle.eg_guard.proofs.AccessLemmas.{code-is}
 use Rattle.eg_guard.proofs.WordsLemmas.{zeros_are_words}
+use Rattle.eg_word.specs.declared.instruction.Instruction.{Instruction}
+use Rattle.eg_word.specs.declared.registers.Registers.{Registers}
 use Rattle.eg_word.specs.Memory.{is_level1_own}
 use Rattle.eg_word.specs.World.{world_of, new_registers, new_world}
+use Rattle.eg_word.proofs.ProgramLemmas.{program-stays}
 use Rattle.eg_word.proofs.WorldLemmas.{world_of-elsewhere, world_of-new}
 use Rattle.eg_answer.specs.Periods.{marked, expected_number, period_of, place_of}
-use Rattle.eg_level2.specs.Words.{words_of, start, AreMirrored, is_level2_own}
-use Rattle.eg_model.specs.History.{Setting}
+use Rattle.eg_level2.specs.Words.{words_of, start, AreMirrored, AreWithin, is_level2_own}
+use Rattle.eg_answer.specs.declared.rules.Rules.{Rules}
+use Rattle.eg_model.specs.History.{Setting, Tick, SpanKind}
 use Rattle.eg_model.specs.Answers.{answers_in, verdicts_in}
 use Rattle.eg_model.specs.Paths.{latch1, latch2}
 use Rattle.eg_model.specs.Level1.{last_world}
-use Rattle.eg_model.specs.Premises.{AreProper}
-use Rattle.eg_model.specs.Moments.{ticks, moments, moments_of}
+use Rattle.eg_model.specs.Premises.{IsProperRun}
+use Rattle.eg_model.specs.Moments.{moments_in}
+use Rattle.eg_model.specs.Spans.{span_so_far, span_kind, has_passed, moments, ticks, span_ticks}
 use Rattle.eg_model.specs.Rows.{first_trap}
 use Rattle.eg_agree.specs.Standing.{KeepsWords}
 use Rattle.eg_agree.specs.Replies.{words_over}
 use Rattle.eg_agree.proofs.HistoryLemmas.{start_law}
-use Rattle.eg_module.specs.Monitoring.{HasGiven}
+use Rattle.eg_module.specs.Monitoring.{MonitorParts, HasGiven}
 use Rattle.eg_tick.specs.Kept.{Kept}
-use Rattle.eg_tick.specs.Stands.{IsShown, Stands}
+use Rattle.eg_tick.specs.Stands.{kind_of, HoldsSpan, IsShown, Stands}
+use Rattle.eg_tick.specs.declared.span.Span.{Span}
+use Rattle.eg_tick.specs.Midway.{IsReady}
 use Rattle.eg_agree.specs.Agreement.{last_check}
 use Rattle.eg_tick.specs.Board.{IsWritten}
-use Rattle.eg_tick.proofs.FrameLemmas.{level2_leaves, world-stays, code-stays}
+use Rattle.eg_tick.proofs.FrameLemmas.{level1_leaves, level2_leaves, world-stays, code-stays}
 
 -- ---- the image ----
 
@@ -52,38 +59,29 @@ module _ (image new : List ℕ) (fits : length image ≤ 1024) (are : AreWords n
   loaded-world = world_of-elsewhere new_registers (replicate 4096 0) new zeros_are_words are
       (λ address own. let from = beyond address own in so.elsewhere address (inr (omega arith))) ∙ world_of-new
 
--- ---- the controller ----
+-- ---- a span without a tick ----
 
--- what a new controller is made of
-pub record IsNew (s : Setting) (c : Kept) : Type 0 where
-  pub cal : c.cal ≡ s.cal
-  pub fault : c.fault ≡ s.fault
-  pub count : c.ticks ≡ 0
-  pub local : c.local ≡ 0
-  pub are_words : AreWords c.memory.words
-  pub code : (k : ℕ) → k < 1024 → slice_index c.memory.words k ≡ slice_index s.image k
-  pub world : world_of c.registers c.memory.words ≡ new_world
-  pub mirrored : AreMirrored c.memory.words
-  pub words : words_of c.memory.words ≡ start
-  pub open1 : c.open1 ≡ false
-  pub open2 : c.open2 ≡ false
-  pub times : c.monitor.times ≡ s.cal.times
-  pub questions : c.monitor.questions ≡ s.cal.questions
-  pub given : HasGiven c.monitor []
-  pub period : c.monitor.verdicts ≡ period_of c.monitor.times 0
-  pub heard : c.monitor.heard ≡ []
-  pub kt : c.kt ≡ s.cal.rules.kt
-  pub trap : c.trap ≡ None
-  pub not_lost : c.lost ≡ false
+-- what a span is made of as it begins, whatever it is for
+pub record IsNew (s : Setting) (span : Span) (m : Registers) (memory : List ℕ) : Type 0 where
+  pub local : span.local ≡ 0
+  pub code : (k : ℕ) → k < 1024 → slice_index memory k ≡ slice_index s.image k
+  pub world : world_of m memory ≡ new_world
+  pub mirrored : AreMirrored memory
+  pub words : words_of memory ≡ start
+  pub open1 : span.open1 ≡ false
+  pub open2 : span.open2 ≡ false
+  pub times : span.monitor.times ≡ s.cal.times
+  pub questions : span.monitor.questions ≡ s.cal.questions
+  pub given : HasGiven span.monitor []
+  pub period : span.monitor.verdicts ≡ period_of span.monitor.times 0
+  pub heard : span.monitor.heard ≡ []
 
-pub new_stands : (s : Setting) (c : Kept) → IsNew s c → Stands s c []
-unfolding moments moments_of ticks last_world last_check words_over start latch1 latch2 verdicts_in answers_in first_trap AreProper IsShown
-new_stands s c is = record {
-  cal = is.cal;
-  fault = is.fault;
-  count = is.count;
+pub new_span : (s : Setting) (span : Span) (m : Registers) (memory : List ℕ) → IsNew s span m memory →
+    HoldsSpan (kind_of span.tests) s span m memory []
+unfolding moments_in last_world last_check words_over start latch1 latch2 verdicts_in answers_in
+new_span s span m memory is = record {
+  kind_is = refl;
   local = is.local;
-  are_words = is.are_words;
   level1 = record { code = is.code; world = is.world };
   level2 = record {
     mirrored = is.mirrored;
@@ -102,9 +100,64 @@ new_stands s c is = record {
       heard = ap (map (marked (expected_number s.cal.times s.cal.questions 0))) is.heard ∙ ap answers_in (sym (take-nil (place_of s.cal.times 0)));
     };
   };
-  engine = record { one_kt = is.kt; proper = tt; shows = tt };
-  trap = is.trap;
-  not_lost = is.not_lost;
+}
+
+-- ---- a span that begins in a run ----
+
+-- from the calls by which it begins: level 1's data and outputs are cleared, and level 2's words are put to their start
+pub begun_span : (kind : SpanKind) (s : Setting) (old span : Span) (h : List Tick) (m n : Registers) (before cleared memory : List ℕ) →
+    HoldsSpan kind s old m before h → AreWords cleared → AreWords memory → SameOutside is_level1_own before cleared →
+    world_of new_registers cleared ≡ new_world → SameOutside is_level2_own cleared memory → AreMirrored memory → words_of memory ≡ start →
+    n ≡ new_registers → span.local ≡ 0 → span.open1 ≡ false → span.open2 ≡ false →
+    span.monitor ≡ record old.monitor { verdicts = 0; heard = []; value = 0 } → HasGiven span.monitor [] →
+    span.monitor.verdicts ≡ period_of span.monitor.times 0 → HoldsSpan (kind_of span.tests) s span n memory []
+begun_span kind s old span h m n before cleared memory holds are are_new clears world resets mirrored words fresh none open1 open2 restarted given period =
+    new_span s span n memory (record {
+      local = none;
+      code = λ k within. code-stays is_level2_own level2_leaves cleared memory resets k within
+          ∙ code-stays is_level1_own level1_leaves before cleared clears k within ∙ holds.level1.code k within;
+      world = ap (λ r. world_of r memory) fresh ∙ world-stays new_registers cleared memory are are_new resets ∙ world;
+      mirrored = mirrored;
+      words = words;
+      open1 = open1;
+      open2 = open2;
+      times = ap (λ (parts : MonitorParts). parts.times) restarted ∙ holds.monitor.times;
+      questions = ap (λ (parts : MonitorParts). parts.questions) restarted ∙ holds.monitor.questions;
+      given = given;
+      period = period;
+      heard = ap (λ (parts : MonitorParts). parts.heard) restarted;
+    })
+
+-- the memory stays ready
+pub begun_ready : (rules : Rules) (program : List Instruction) (before cleared memory : List ℕ) → SameOutside is_level1_own before cleared →
+    SameOutside is_level2_own cleared memory → AreWords memory → AreMirrored memory → AreWithin rules (words_of memory) →
+    IsReady rules program before → IsReady rules program memory
+begun_ready rules program before cleared memory clears resets are mirrored within ready = record {
+  are_words = are;
+  mirrored = mirrored;
+  within = within;
+  decoded = program-stays before memory program
+      (λ k below. code-stays is_level2_own level2_leaves cleared memory resets k below
+      ∙ code-stays is_level1_own level1_leaves before cleared clears k below) ready.decoded;
+}
+
+-- ---- the controller ----
+
+-- a new controller stands for the history without a tick
+pub new_stands : (s : Setting) (c : Kept) → c.cal ≡ s.cal → c.fault ≡ s.fault → c.ticks ≡ 0 → AreWords c.memory.words →
+    c.span.tests ≡ false → c.span.passed ≡ false → IsNew s c.span c.registers c.memory.words → c.kt ≡ s.cal.rules.kt → c.trap ≡ None →
+    c.lost ≡ false → Stands s c []
+unfolding moments span_kind has_passed span_ticks span_so_far ticks first_trap IsProperRun IsShown kind_of
+new_stands s c cal fault count are_words drives passed new kt trap not_lost = record {
+  cal = cal;
+  fault = fault;
+  count = count;
+  are_words = are_words;
+  span = subst (λ kind. HoldsSpan kind s c.span c.registers c.memory.words []) (ap kind_of drives) (new_span s c.span c.registers c.memory.words new);
+  passed = passed;
+  engine = record { one_kt = kt; proper = tt; shows = tt };
+  trap = trap;
+  not_lost = not_lost;
 }
 
 -- the same from the calls of which a controller is made: the image is loaded, and level 2's words are put to their start

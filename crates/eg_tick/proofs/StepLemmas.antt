@@ -5,9 +5,10 @@ use Rattle.std.specs.Prelude.{if◌then◌else◌, Option, Some, None}
 use Rattle.std.specs.Option.{option_or}
 use Rattle.eg_num.specs.declared.watches.Watches.{Watches}
 use Rattle.eg_answer.specs.declared.rules.Rules.{Rules}
+use Rattle.eg_level2.specs.declared.phase.Phase.{Phase}
 use Rattle.eg_level2.specs.declared.step.Step.{Step}
-use Rattle.eg_level2.specs.Words.{Words, is_set}
-use Rattle.eg_level2.specs.Modules.{step_of, answer_after, order_after, found_by, answer_of, debounced, no_watches, mirror_alone, finding, quiet_step}
+use Rattle.eg_level2.specs.Words.{Words}
+use Rattle.eg_level2.specs.Modules.{step_of, answer_after, order_after, found_by, answer_of, opens_now, debounced, no_watches, mirror_alone, finding, quiet_step}
 use Rattle.eg_flow.specs.Ticks.{Doing, inputs_for, after_modules, answer_at, orders_at, finds_at}
 use Rattle.eg_tick.specs.Midway.{step_at, found_in_both, joined, tick_step}
 
@@ -48,6 +49,7 @@ found-more found = λ k. record {
   speed = or-false found.speed k;
   torque = or-false found.torque k;
   answers = or-false found.answers k;
+  start = or-false found.start k;
 }
 
 -- a step that neither orders nor answers nor finds anything adds nothing
@@ -103,16 +105,16 @@ steps-6 d words =
     ∙ after-quiet (steps_at d 1 words) (step_at d 1 words) (step-1 d words)
 
 -- debounce's watches come beside the mirror
-with-mirror : (ran differs late : Bool) (rules : Rules) (words : Words)
-    → joined (if ran then (if differs then finding mirror_alone else quiet_step) else quiet_step) (if late then finding (debounced rules words) else quiet_step)
-    ≡ finding (let found = if late then debounced rules words else no_watches in record found { mirror = ran && differs })
+with-mirror : (ran differs late : Bool) (rules : Rules) (phase : Phase) (words : Words)
+    → joined (if ran then (if differs then finding mirror_alone else quiet_step) else quiet_step) (if late then finding (debounced rules phase words) else quiet_step)
+    ≡ finding (let found = if late then debounced rules phase words else no_watches in record found { mirror = ran && differs })
 unfolding joined found_in_both mirror_alone no_watches debounced
-with-mirror true true true rules words = refl
-with-mirror true true false rules words = refl
-with-mirror true false true rules words = refl
-with-mirror true false false rules words = refl
-with-mirror false differs true rules words = refl
-with-mirror false differs false rules words = refl
+with-mirror true true true rules phase words = refl
+with-mirror true true false rules phase words = refl
+with-mirror true false true rules phase words = refl
+with-mirror true false false rules phase words = refl
+with-mirror false differs true rules phase words = refl
+with-mirror false differs false rules phase words = refl
 
 -- react's order and answer come last
 with-react : (ran trip : Bool) (answer : Option ℕ) (found : Watches)
@@ -124,15 +126,15 @@ with-react false trip answer found = λ k. record { open_path = false; answer = 
 
 -- ---- all eight ----
 
-step-6 : (d : Doing) (words : Words) → step_at d 6 words ≡ (if d.ran 6 then finding (debounced d.rules (after_modules d 6 words)) else quiet_step)
+step-6 : (d : Doing) (words : Words) → step_at d 6 words ≡ (if d.ran 6 then finding (debounced d.rules d.phase (after_modules d 6 words)) else quiet_step)
 unfolding step_at step_of answer_after order_after found_by inputs_for
 step-6 d words = refl
 
 step-7 : (d : Doing) (words : Words) → step_at d 7 words
     ≡ (if d.ran 7
     then record {
-      open_path = is_set (after_modules d 7 words).trip;
-      answer = answer_of d.sends (after_modules d 7 words);
+      open_path = opens_now d.phase (after_modules d 7 words);
+      answer = answer_of d.phase (after_modules d 7 words);
       found = no_watches;
     }
     else quiet_step)
@@ -143,10 +145,10 @@ steps-7 : (d : Doing) (words : Words) → steps_at d 7 words ≡ finding (finds_
 unfolding steps_at finds_at
 steps-7 d words =
     ap₂ joined (steps-6 d words ∙ steps-1 d words) (step-6 d words)
-    ∙ with-mirror (d.ran 0) d.differs (d.ran 6) d.rules (after_modules d 6 words)
+    ∙ with-mirror (d.ran 0) d.differs (d.ran 6) d.rules d.phase (after_modules d 6 words)
 
 pub steps-all : (d : Doing) (words : Words) → steps_at d 8 words ≡ tick_step d words
 unfolding steps_at tick_step orders_at answer_at
 steps-all d words =
     ap₂ joined (steps-7 d words) (step-7 d words)
-    ∙ with-react (d.ran 7) (is_set (after_modules d 7 words).trip) (answer_of d.sends (after_modules d 7 words)) (finds_at d words)
+    ∙ with-react (d.ran 7) (opens_now d.phase (after_modules d 7 words)) (answer_of d.phase (after_modules d 7 words)) (finds_at d words)

@@ -7,12 +7,11 @@ use Rattle.eg_host.specs.Slices.{world_slice}
 use Rattle.eg_values.specs.Calibration.{IsAccepted}
 use Rattle.eg_level2.specs.Words.{Words, AreMirrored, words_of}
 use Rattle.eg_flow.specs.Ticks.{after_modules}
-use Rattle.eg_model.specs.History.{Setting, Tick, Moment}
+use Rattle.eg_model.specs.History.{Setting, Tick, SpanKind, Moment}
 use Rattle.eg_model.specs.Signals.{last_signals}
 use Rattle.eg_model.specs.Premises.{Follows}
 use Rattle.eg_model.specs.Level1.{last_world, ports_of, slices_from, view_in, world_at}
-use Rattle.eg_model.specs.Moments.{readings_at, moments_of}
-use Rattle.eg_model.proofs.TickLemmas.{moment-world}
+use Rattle.eg_model.specs.Moments.{readings_at, moments_in}
 use Rattle.eg_agree.specs.Doings.{doing_at}
 use Rattle.eg_agree.specs.Standing.{KeepsWords}
 use Rattle.eg_agree.specs.Ticking.{IsTick}
@@ -22,6 +21,7 @@ use Rattle.eg_agree.proofs.WholeRuns.{words_stand, is_tick_over, last_checks_sta
 use Rattle.eg_tick.specs.Stands.{HoldsLevel1, HoldsLevel2}
 use Rattle.eg_tick.specs.Midway.{Work, view_at, rest_of, IsSet, IsMidway, work_at}
 use Rattle.eg_tick.proofs.MidwayLemmas.{all-words, all-world}
+use Rattle.eg_tick.proofs.MomentLemmas.{moment_in-world}
 
 -- ---- level 1's world ----
 
@@ -43,51 +43,51 @@ tick-same false view other budgets world nine same = refl
 -- ---- what the memory holds of level 2 ----
 
 -- words that are exactly those of the ticks mean what the model says of them
-pub holds_level2 : (s : Setting) → IsAccepted s.cal → IsNoneOrValid s.fault → (begin : ℕ) (h : List Tick) → Follows s.fault begin h → length h < 65536 →
-    (memory : List ℕ) → AreMirrored memory → words_of memory ≡ words_over s h → HoldsLevel2 s memory h
-holds_level2 s accepted valid begin h follows short memory mirrored same = record {
+pub holds_level2 : (kind : SpanKind) (s : Setting) → IsAccepted s.cal → IsNoneOrValid s.fault → (begin : ℕ) (h : List Tick) → Follows s.fault begin h → length h < 65536 →
+    (memory : List ℕ) → AreMirrored memory → words_of memory ≡ words_over kind s h → HoldsLevel2 kind s memory h
+holds_level2 kind s accepted valid begin h follows short memory mirrored same = record {
   mirrored = mirrored;
   exact = same;
-  words = subst (λ words. KeepsWords s words (moments_of s h)) (sym same) (words_stand s accepted begin h follows);
-  last = ap (λ (words : Words). words.last) same ∙ last_checks_stand s h;
+  words = subst (λ words. KeepsWords s words (moments_in kind s h)) (sym same) (words_stand kind s accepted begin h follows);
+  last = ap (λ (words : Words). words.last) same ∙ last_checks_stand kind s h;
   rests = λ unflipped whole. subst (λ (words : Words). (words.token ≡ 0) × (words.flow ≡ 255)) (sym same)
-      (words_rest s accepted valid begin h follows short unflipped whole);
+      (words_rest kind s accepted valid begin h follows short unflipped whole);
 }
 
 -- ---- one tick more ----
 
-module _ (s : Setting) (accepted : IsAccepted s.cal) (begin : ℕ) (x : Tick) (h : List Tick) (follows : Follows s.fault begin (x ∷ h)) where
+module _ (kind : SpanKind) (s : Setting) (accepted : IsAccepted s.cal) (begin : ℕ) (x : Tick) (h : List Tick) (follows : Follows s.fault begin (x ∷ h)) where
   abbrev past : List Moment
-  past = moments_of s h
+  past = moments_in kind s h
 
   abbrev w : Work
-  w = work_at s x h
+  w = work_at kind s x h
 
-  tick : IsTick s x.effects (doing_after s x h) (words_over s h) (moment_after s x h) past
-  tick = is_tick_over s accepted begin x h follows
+  tick : IsTick s x.effects (doing_after kind s x h) (words_over kind s h) (moment_after kind s x h) past
+  tick = is_tick_over kind s accepted begin x h follows
 
   view-is : (j : ℕ) → j ≤ 8
-      → view_at w j ≡ view_in s.image x.effects (readings_at s.cal x.effects x.entry) (last_signals past) (moment_after s x h).signals j
+      → view_at w j ≡ view_in s.image x.effects (readings_at s.cal x.effects x.entry) (last_signals past) (moment_after kind s x h).signals j
   unfolding view_at view_in work_at doing_after doing_at
   view-is j within = ap (λ results. record { image = s.image; ports = ports_of (readings_at s.cal x.effects x.entry); results = results }) (tick.seen j within)
 
   -- the slices make the model's world
-  pub world-is : length x.entry.slices ≡ 9 → rest_of w 0 w.world ≡ (moment_after s x h).world
+  pub world-is : length x.entry.slices ≡ 9 → rest_of w 0 w.world ≡ (moment_after kind s x h).world
   unfolding rest_of work_at world_at
-  world-is nine = tick-same x.effects.level1 (view_at w) _ x.entry.slices (last_world past) nine view-is ∙ sym (moment-world s x.effects x.entry past)
+  world-is nine = tick-same x.effects.level1 (view_at w) _ x.entry.slices (last_world past) nine view-is ∙ sym (moment_in-world kind s x.effects x.entry past)
 
   -- ---- what the memory holds as the tick begins, and after it ----
 
-  pub begins : (m : Registers) (memory : List ℕ) → IsSet w memory → AreMirrored memory → words_of memory ≡ words_over s h
+  pub begins : (m : Registers) (memory : List ℕ) → IsSet w memory → AreMirrored memory → words_of memory ≡ words_over kind s h
       → world_of m memory ≡ last_world past → IsMidway w 0 0 m memory
   unfolding after_modules work_at
   begins m memory set mirrored same world = record { set = set; mirrored = mirrored; words = same; world = ap (rest_of w 0) world }
 
-  pub level1-next : (m : Registers) (memory : List ℕ) → length x.entry.slices ≡ 9 → IsMidway w 9 8 m memory → HoldsLevel1 s m memory (moments_of s (x ∷ h))
-  unfolding last_world moments_of work_at
+  pub level1-next : (m : Registers) (memory : List ℕ) → length x.entry.slices ≡ 9 → IsMidway w 9 8 m memory → HoldsLevel1 s m memory (moments_in kind s (x ∷ h))
+  unfolding last_world moments_in work_at
   level1-next m memory nine is = record { code = is.set.code; world = all-world w 8 m memory nine is ∙ world-is nine }
 
-  pub level2-next : (m : Registers) (memory : List ℕ) → IsNoneOrValid s.fault → length h < 65535 → IsMidway w 9 8 m memory → HoldsLevel2 s memory (x ∷ h)
+  pub level2-next : (m : Registers) (memory : List ℕ) → IsNoneOrValid s.fault → length h < 65535 → IsMidway w 9 8 m memory → HoldsLevel2 kind s memory (x ∷ h)
   unfolding words_over work_at
   level2-next m memory valid short is =
-      holds_level2 s accepted valid begin (x ∷ h) follows (omega arith) memory is.mirrored (all-words w 9 m memory is)
+      holds_level2 kind s accepted valid begin (x ∷ h) follows (omega arith) memory is.mirrored (all-words w 9 m memory is)

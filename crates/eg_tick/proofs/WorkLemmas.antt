@@ -10,9 +10,9 @@ use Rattle.eg_level2.specs.Inputs.{Level2Parts, readings_of, asked_of}
 use Rattle.eg_level2.specs.declared.step.Step.{Step}
 use Rattle.eg_sensor.specs.declared.readings.Readings.{Readings}
 use Rattle.eg_fault.specs.Effects.{readings_under}
-use Rattle.eg_model.specs.History.{Setting, Tick}
+use Rattle.eg_model.specs.History.{Setting, Tick, SpanKind}
 use Rattle.eg_model.specs.Premises.{Follows}
-use Rattle.eg_model.specs.Moments.{readings_at, moments_of}
+use Rattle.eg_model.specs.Moments.{readings_at, moments_in}
 use Rattle.eg_agree.specs.Doings.{doing_at}
 use Rattle.eg_agree.specs.Ticking.{IsTick}
 use Rattle.eg_fault.specs.Faults.{IsNoneOrValid}
@@ -35,10 +35,10 @@ tracks-are : (x : Effects) (truth : Readings) → by_tracks (readings_under x tr
 unfolding by_tracks readings_under
 tracks-are x truth = refl
 
-module _ (s : Setting) (x : Tick) (h : List Tick) (made : Level2Parts) (under : Option Fault) (given : Task) (m : Registers) (old : List ℕ)
-    (serves : Serves s x h made under given m old) where
+module _ (kind : SpanKind) (s : Setting) (x : Tick) (h : List Tick) (made : Level2Parts) (under : Option Fault) (given : Task) (m : Registers) (old : List ℕ)
+    (serves : Serves kind s x h made under given m old) where
   abbrev w : Work
-  w = work_at s x h
+  w = work_at kind s x h
 
   -- ---- as the tick begins ----
 
@@ -52,7 +52,7 @@ module _ (s : Setting) (x : Tick) (h : List Tick) (made : Level2Parts) (under : 
     rules = ap (λ (p : Level2Parts). p.rules) (sym serves.parts);
     questions = ap (λ (p : Level2Parts). p.questions) (sym serves.parts);
     at = sym serves.task.local;
-    sends_now = sym serves.task.sends;
+    phase_now = sym serves.task.phase;
     ran = ap (λ (y : Effects). y.ran) effects-same;
     disturbance = ap (λ (y : Effects). y.disturbance) effects-same;
     differs = ap (λ (y : Effects). is_some y.flip) effects-same;
@@ -66,7 +66,7 @@ module _ (s : Setting) (x : Tick) (h : List Tick) (made : Level2Parts) (under : 
       → readings_of shown ≡ by_tracks given.readings → asked_of shown ≡ given.asked → IsMidway w 0 0 m shown
   unfolding work_at doing_after doing_at readings_at
   midway shown are_old are same readings asked =
-      begins s serves.accepted serves.begin x h serves.follows m shown
+      begins kind s serves.accepted serves.begin x h serves.follows m shown
       (record {
         are_words = are;
         code = λ k within. shown-code old shown same k within ∙ serves.level1.code k within;
@@ -84,22 +84,22 @@ module _ (s : Setting) (x : Tick) (h : List Tick) (made : Level2Parts) (under : 
   short-still : length h < 65535
   short-still = let short = serves.short in omega arith
 
-  pub served : (n : Registers) (new : List ℕ) → IsNoneOrValid under → length given.slices ≡ 9 → IsMidway w 9 8 n new → Served s x h n new
+  pub served : (n : Registers) (new : List ℕ) → IsNoneOrValid under → length given.slices ≡ 9 → IsMidway w 9 8 n new → Served kind s x h n new
   served n new valid nine is = (
-    level1-next s serves.accepted serves.begin x h serves.follows n new (ap length serves.task.slices ∙ nine) is,
-    level2-next s serves.accepted serves.begin x h serves.follows n new (valid-still valid) short-still is,
+    level1-next kind s serves.accepted serves.begin x h serves.follows n new (ap length serves.task.slices ∙ nine) is,
+    level2-next kind s serves.accepted serves.begin x h serves.follows n new (valid-still valid) short-still is,
   )
 
   -- ---- what it orders, finds and answers ----
 
-  tells : IsTick s x.effects (doing_after s x h) (words_over s h) (moment_after s x h) (moments_of s h)
-  tells = is_tick_over s serves.accepted serves.begin x h serves.follows
+  tells : IsTick s x.effects (doing_after kind s x h) (words_over kind s h) (moment_after kind s x h) (moments_in kind s h)
+  tells = is_tick_over kind s serves.accepted serves.begin x h serves.follows
 
-  pub stepped : (step : Step) → IsNoneOrValid under → step ≡ tick_step w.doing w.words → IsStep s x h step
+  pub stepped : (step : Step) → IsNoneOrValid under → step ≡ tick_step w.doing w.words → IsStep kind s x h step
   unfolding tick_step work_at
   stepped step valid is = record {
     order = ap (λ (t : Step). t.open_path) is ∙ tells.order;
     found = ap (λ (t : Step). t.found) is ∙ tells.found;
     mark = ap (λ (t : Step). mark_of (number_expected s x.effects (length h)) t.answer) is
-        ∙ each_answer_holds s serves.accepted (valid-still valid) serves.begin x h serves.follows short-still;
+        ∙ each_answer_holds kind s serves.accepted (valid-still valid) serves.begin x h serves.follows short-still;
   }

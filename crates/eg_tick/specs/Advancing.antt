@@ -1,18 +1,21 @@
 -- A tick of a controller, from a history that it stands for to the history with one entry more; and what its
 -- row owes to the laws of a run.
-use Rattle.std.specs.Prelude.{◌≡◌, ℕ, ◌+◌, ◌*◌, ◌≤◌, ◌<◌, true, false, List, ◌++◌, length}
+use Rattle.std.specs.Prelude.{◌≡◌, ℕ, ◌+◌, ◌-◌, ◌*◌, ◌≤◌, ◌<◌, true, false, List, ◌++◌, length}
 use Rattle.eg_num.specs.Drive.{DriveRow}
 use Rattle.eg_plant.specs.Engine.{Shown}
 use Rattle.eg_answer.specs.Times.{reaction_of, HasLapseBound, lapse_periods, lapse_bound_of}
 use Rattle.eg_fault.specs.Effects.{Effects}
 use Rattle.eg_fault.specs.Faults.{effects, IsListed}
+use Rattle.eg_word.specs.declared.registers.Trap.{Trap}
+use Rattle.eg_word.specs.declared.registers.State.TheVariants.{Trapped}
 use Rattle.eg_word.specs.World.{World}
 use Rattle.eg_record.specs.declared.row.Row.{Row}
-use Rattle.eg_model.specs.History.{Setting, Entry}
+use Rattle.eg_model.specs.History.{Setting, Entry, Tick, Drive, Test}
+use Rattle.eg_model.specs.Level1.{last_world}
 use Rattle.eg_model.specs.Premises.{IsExcessConfirmed}
 use Rattle.eg_model.specs.Reaction.{is_at_once}
 use Rattle.eg_model.specs.Lapses.{IsLapse, Exceeds}
-use Rattle.eg_model.specs.Moments.{ticks}
+use Rattle.eg_model.specs.Spans.{span_kind, kind_at, before_at, moments, span_ticks}
 use Rattle.eg_tick.specs.Kept.{Kept}
 use Rattle.eg_tick.specs.Stands.{Stands}
 
@@ -24,6 +27,16 @@ effects_after s h = effects s.fault (length h)
 unfoldable pub entry_of : DriveRow → List ℕ → Shown → Entry
 entry_of drive slices shown = record { drive = drive; slices = slices; shown = shown }
 
+-- Level 1's world as the tick of this drive row begins, after a history: as the tick before left it, or anew
+-- where a span begins.
+unfoldable pub world_before : Setting → DriveRow → List Entry → World
+world_before s drive h = last_world (before_at drive (moments s h))
+
+-- its machine is trapped
+pub record IsTrapped (world : World) : Type 0 where
+  pub kind : Trap
+  pub is : world.registers.state ≡ Trapped kind
+
 -- the outputs of a row are those of this world
 pub record HoldsOutputs (world : World) (row : Row) : Type 0 where
   pub throttle : row.throttle ≡ world.throttle
@@ -31,36 +44,53 @@ pub record HoldsOutputs (world : World) (row : Row) : Type 0 where
 
 -- ---- the laws of a run, for a row ----
 
--- The controller c stood for a history before the tick of this row. The history is cut in two: h ends with
--- the tick by which the true excess is confirmed, and `more` are the ticks since then, newest first. So the
--- tick of the row comes length more + 1 ticks after that one.
+-- At each tick of a test span the stages are off.
+abbrev pub RowIsUnpowered : Setting → Kept → DriveRow → Row → Type 0
+RowIsUnpowered s c drive row =
+    (h : List Entry) → Stands s c h → kind_at drive (moments s h) ≡ Test → row.on ≡ false
+
+-- The controller c stood for the history h before the tick of this row, which goes on with a drive span:
+-- these are the ticks of it so far.
+pub record DrivesOn (s : Setting) (c : Kept) (row : Row) (h : List Entry) (span : List Tick) : Type 0 where
+  pub stands : Stands s c h
+  pub kind : span_kind (moments s h) ≡ Drive
+  pub ticks_are : span_ticks s h ≡ span
+  pub goes_on : row.fresh ≡ false
+
+-- In the laws the span is cut in two: `before` ends with the tick by which the true excess is confirmed, and
+-- `more` are the ticks since then, newest first. So the tick of the row comes length more + 1 ticks after
+-- that one.
 
 -- The reaction theorem: where that is R ticks or more, the stages are off at the row, under each listed
 -- fault.
 abbrev pub RowReactsInTime : Setting → Kept → Row → Type 0
 RowReactsInTime s c row =
-    (more h : List Entry) → Stands s c (more ++ h) → IsListed s.fault → IsExcessConfirmed s (ticks s h) →
+    (h : List Entry) (more before : List Tick) → DrivesOn s c row h (more ++ before) →
+    IsListed s.fault → IsExcessConfirmed s before →
     reaction_of s.cal.times ≤ length more + 1 → row.on ≡ false
 
--- Under most faults they are off already at each tick after the one by which it was confirmed.
+-- Under most faults they are off already at each tick after the one by which it was confirmed. (The tick
+-- after `before` has the number length h - length more in the run.)
 abbrev pub RowReactsAtOnce : Setting → Kept → Row → Type 0
 RowReactsAtOnce s c row =
-    (more h : List Entry) → Stands s c (more ++ h) → IsListed s.fault → IsExcessConfirmed s (ticks s h) →
-    is_at_once s.fault (length h) ≡ true → row.on ≡ false
+    (h : List Entry) (more before : List Tick) → DrivesOn s c row h (more ++ before) →
+    IsListed s.fault → IsExcessConfirmed s before →
+    is_at_once s.fault (length h - length more) ≡ true → row.on ≡ false
 
--- A lapse is cut: where h ends with the last tick of a period, and there was true excess at each tick of its
--- last `lapse_periods` periods, the stages are off at the row.
+-- A lapse is cut: where `before` ends with the last tick of a period, and there was true excess at each tick
+-- of its last `lapse_periods` periods, the stages are off at the row.
 abbrev pub RowCutsLapses : Setting → Kept → Row → Type 0
 RowCutsLapses s c row =
-    (more h : List Entry) (periods : ℕ) → Stands s c (more ++ h) →
+    (h : List Entry) (more before : List Tick) (periods : ℕ) → DrivesOn s c row h (more ++ before) →
     HasLapseBound s.cal.rules.torque s.cal.times → IsLapse s.fault →
-    length h ≡ periods * s.cal.times.period →
-    Exceeds s (lapse_periods s.cal.rules.torque s.cal.times * s.cal.times.period) (ticks s h) →
+    length before ≡ periods * s.cal.times.period →
+    Exceeds s (lapse_periods s.cal.rules.torque s.cal.times * s.cal.times.period) before →
     row.on ≡ false
 
 -- And in whichever history a controller stands for, each stretch of ticks in a row with true excess that
--- reaches to its end is shorter than the bound for lapses.
+-- reaches to its end in a drive span is shorter than the bound for lapses.
 abbrev pub HistoryHasShortLapses : Setting → Kept → Type 0
 HistoryHasShortLapses s c =
-    (h : List Entry) → Stands s c h → HasLapseBound s.cal.rules.torque s.cal.times → IsLapse s.fault →
-    (n : ℕ) → Exceeds s n (ticks s h) → n < lapse_bound_of s.cal.rules.torque s.cal.times
+    (h : List Entry) → Stands s c h → span_kind (moments s h) ≡ Drive →
+    HasLapseBound s.cal.rules.torque s.cal.times → IsLapse s.fault →
+    (n : ℕ) → Exceeds s n (span_ticks s h) → n < lapse_bound_of s.cal.rules.torque s.cal.times

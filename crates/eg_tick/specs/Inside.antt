@@ -1,5 +1,6 @@
 -- What a controller keeps of its private parts.
-use Rattle.std.specs.Prelude.{◌≡◌, false, List}
+use Rattle.std.specs.Prelude.{◌≡◌, ℕ, false, List}
+use Rattle.eg_answer.specs.Times.{test_ticks_of}
 use Rattle.eg_values.specs.Calibration.{CalibrationParts}
 use Rattle.eg_word.specs.declared.instruction.Instruction.{Instruction}
 use Rattle.eg_word.specs.Program.{IsProgramOf}
@@ -7,10 +8,11 @@ use Rattle.eg_level2.specs.Inputs.{Level2Parts}
 use Rattle.eg_tick.specs.Kept.{Kept}
 use Rattle.eg_tick.specs.Stands.{IsController}
 
--- Level 2 is made of the parts of the calibration; the program is that of the memory's code, unless memory
--- ran out; and all else is a controller.
-pub record IsWhole (cal : CalibrationParts) (level2 : Level2Parts) (program : List Instruction)
-    (c : Kept) : Type 0 where
+-- Level 2 is made of the parts of the calibration, whose times say how long a start-up test takes; the
+-- program is that of the memory's code, unless memory ran out; and all else is a controller.
+pub record IsWhole (cal : CalibrationParts) (level2 : Level2Parts) (test_ticks : ℕ)
+    (program : List Instruction) (c : Kept) : Type 0 where
   pub parts : level2 ≡ record { rules = cal.rules; questions = cal.questions }
+  pub test_ticks_are : test_ticks ≡ test_ticks_of cal.times
   pub decoded : c.lost ≡ false → IsProgramOf c.memory.words program
   pub keeps : IsController c

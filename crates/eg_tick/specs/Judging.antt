@@ -5,7 +5,7 @@ use Rattle.eg_answer.specs.Periods.{HeardAnswer, period_of, is_last_tick, verdic
 use Rattle.eg_answer.specs.declared.marks.Verdict.{Verdict}
 use Rattle.eg_module.specs.Monitoring.{MonitorParts, HasGiven, expected_at}
 use Rattle.eg_fault.specs.declared.class.Fault.{Fault}
-use Rattle.eg_model.specs.History.{Setting, Tick, Moment}
+use Rattle.eg_model.specs.History.{Setting, Tick, SpanKind, Moment}
 use Rattle.eg_model.specs.Premises.{Follows}
 use Rattle.eg_agree.specs.Replies.{moment_after, number_expected, mark_of}
 use Rattle.eg_tick.specs.Stands.{HoldsMonitor}
@@ -40,18 +40,19 @@ pub record IsDeaf (before now : MonitorParts) (verdict : Option Verdict) : Type 
 
 -- ---- a tick of a run ----
 
--- The setting has this fault. Tick x comes after h in a history from tick `begin` of the run on, and has
--- these numbers in the run and in the history. The module is as the model says of h, and what level 2
+-- The setting has this fault. Tick x comes after h in a span of this kind, from tick `begin` of the run on,
+-- and has these numbers in the run and in the span. The module is as the model says of h, and what level 2
 -- answers at the tick has the mark of the model.
-pub record ComesNext (s : Setting) (fault : Option Fault) (tick local : ℕ) (answer : Option ℕ)
-    (monitor : MonitorParts) (x : Tick) (h : List Tick) : Type 0 where
+pub record ComesNext (kind : SpanKind) (s : Setting) (fault : Option Fault) (tick local : ℕ)
+    (answer : Option ℕ) (monitor : MonitorParts) (x : Tick) (h : List Tick) : Type 0 where
   pub same_fault : s.fault ≡ fault
   pub begin : ℕ
   pub follows : Follows s.fault begin (x ∷ h)
   pub count : begin + length h ≡ tick
   pub place : length h ≡ local
-  pub marked : mark_of (number_expected s x.effects (length h)) answer ≡ (moment_after s x h).mark
-  pub holds : HoldsMonitor s monitor h
+  pub marked : mark_of (number_expected s x.effects (length h)) answer
+      ≡ (moment_after kind s x h).mark
+  pub holds : HoldsMonitor kind s monitor h
 
 -- what was made of a tick is what the model says of it
 pub record Tells (judgement : Judgement) (m : Moment) : Type 0 where

@@ -5,6 +5,7 @@ pub mod Board
 pub mod Midway
 pub mod Working
 pub mod Judging
+pub mod Entering
 pub mod Advancing
 pub mod Inside
 pub mod Run
@@ -17,3 +18,4 @@ pub use Rattle.eg_model.specs.Moments
 pub use Rattle.eg_model.specs.Paths
 pub use Rattle.eg_model.specs.Records
 pub use Rattle.eg_model.specs.Rows
+pub use Rattle.eg_model.specs.Spans

@@ -16,9 +16,9 @@ use Rattle.eg_level2.specs.declared.step.Step.{Step}
 use Rattle.eg_level2.specs.Modules.{step_of, finding, mirror_alone, quiet_step}
 use Rattle.eg_flow.specs.Ticks.{Doing, inputs_for, after_modules, answer_at, orders_at, finds_at}
 use Rattle.eg_fault.specs.Effects.{Effects}
-use Rattle.eg_model.specs.History.{Setting, Tick}
+use Rattle.eg_model.specs.History.{Setting, Tick, SpanKind}
 use Rattle.eg_model.specs.Level1.{last_world, ports_of, slices_from}
-use Rattle.eg_model.specs.Moments.{moments_of}
+use Rattle.eg_model.specs.Moments.{moments_in}
 use Rattle.eg_model.specs.Rows.{signal_list}
 use Rattle.eg_agree.specs.Standing.{signals_of}
 use Rattle.eg_agree.specs.Replies.{doing_after, words_over}
@@ -69,7 +69,7 @@ pub record Meets (parts : Level2Parts) (x : Effects) (task : Task) (d : Doing) :
   pub rules : d.rules ≡ parts.rules
   pub questions : d.questions ≡ parts.questions
   pub at : d.tick ≡ task.local
-  pub sends_now : d.sends ≡ task.sends
+  pub phase_now : d.phase ≡ task.phase
   pub ran : d.ran ≡ x.ran
   pub disturbance : d.disturbance ≡ x.disturbance
   pub differs : d.differs ≡ is_some x.flip
@@ -106,6 +106,7 @@ found_in_both first next = record {
   speed = first.speed || next.speed;
   torque = first.torque || next.torque;
   answers = first.answers || next.answers;
+  start = first.start || next.start;
 }
 
 -- what is ordered, answered and found by a step and by the next
@@ -124,13 +125,13 @@ tick_step d words = record {
   found = finds_at d words;
 }
 
--- the work of tick x, which comes after h
-unfoldable pub work_at : Setting → Tick → List Tick → Work
-work_at s x h = record {
+-- the work of tick x, which comes after h in a span of this kind
+unfoldable pub work_at : SpanKind → Setting → Tick → List Tick → Work
+work_at kind s x h = record {
   image = s.image;
-  doing = doing_after s x h;
-  words = words_over s h;
+  doing = doing_after kind s x h;
+  words = words_over kind s h;
   level1 = x.effects.level1;
   slices = x.entry.slices;
-  world = last_world (moments_of s h);
+  world = last_world (moments_in kind s h);
 }

@@ -7,8 +7,7 @@ use Rattle.eg_fault.specs.declared.class.Fault.{Fault}
 use Rattle.eg_values.specs.Calibration.{CalibrationParts}
 use Rattle.eg_word.specs.declared.registers.Trap.{Trap}
 use Rattle.eg_record.specs.declared.row.Row.{Row}
-use Rattle.eg_model.specs.Premises.{AreProper}
-use Rattle.eg_model.specs.Moments.{ticks}
+use Rattle.eg_model.specs.Premises.{IsProperRun}
 use Rattle.eg_model.specs.Engines.{gasoline}
 use Rattle.eg_model.specs.Bench.{Run, engine_after, moments_to, entries_to}
 use Rattle.eg_model.specs.Rows.{record_rows, record_trap}
@@ -36,4 +35,4 @@ pub record IsAt (r : Run) (t : ℕ) (c : ControllerParts GasolinePlant) : Type 0
 pub record IsRecordOf (r : Run) (rows : List Row) (trap : Option (Trap × ℕ)) : Type 0 where
   pub rows_are : rows ≡ reverse (record_rows gasoline r)
   pub trap_is : trap ≡ record_trap gasoline r
-  pub proper : AreProper r.setting (ticks r.setting (entries_to gasoline r (length r.drive)))
+  pub proper : IsProperRun r.setting (entries_to gasoline r (length r.drive))

@@ -1,7 +1,8 @@
 -- What a controller stands for: a history from power-on, newest first, one entry a tick. What the controller
--- keeps in its memory, latches and counters is what the model says of the ticks of that history. What each
--- part holds is said of any list of ticks; `Stands` alone says which ticks those of the entries are.
-use Rattle.std.specs.Prelude.{◌≡◌, ℕ, ◌<◌, Bool, true, false, is_some, List, [], ◌∷◌, map, take, length, slice_index}
+-- keeps in its memory, latches and counters is what the model says of the ticks of the span that this history
+-- ends in. What each part holds is said of any list of ticks, as a span of either kind; `Stands` alone says
+-- which ticks of the history these are.
+use Rattle.std.specs.Prelude.{◌≡◌, ℕ, ◌<◌, Bool, true, false, is_some, List, [], ◌∷◌, map, take, length, slice_index, if◌then◌else◌}
 use Rattle.std.specs.List.{list_any}
 use Rattle.eg_plant.specs.Engine.{Shown}
 use Rattle.eg_values.specs.Calibration.{IsAccepted}
@@ -12,17 +13,19 @@ use Rattle.eg_guard.specs.declared.regions.TheConstants.{DATA}
 use Rattle.eg_guard.specs.Memory.{AreWords}
 use Rattle.eg_level2.specs.Words.{AreMirrored, words_of}
 use Rattle.eg_module.specs.Monitoring.{MonitorParts, HasGiven}
-use Rattle.eg_model.specs.History.{Setting, Entry, Tick, Moment}
+use Rattle.eg_model.specs.History.{Setting, Entry, Tick, SpanKind, Drive, Test, Moment}
 use Rattle.eg_model.specs.Answers.{answers_in, verdicts_in, whole_since_answer}
 use Rattle.eg_model.specs.Paths.{latch1, latch2}
 use Rattle.eg_model.specs.Level1.{last_world}
-use Rattle.eg_model.specs.Premises.{AreProper}
-use Rattle.eg_model.specs.Moments.{moments_of, ticks, moments}
+use Rattle.eg_model.specs.Premises.{IsProperRun}
+use Rattle.eg_model.specs.Moments.{moments_in}
+use Rattle.eg_model.specs.Spans.{span_kind, has_passed, moments, span_ticks}
 use Rattle.eg_model.specs.Rows.{first_trap}
 use Rattle.eg_agree.specs.Standing.{KeepsWords}
 use Rattle.eg_fault.specs.Faults.{IsNoneOrValid}
 use Rattle.eg_agree.specs.Replies.{words_over, is_flipped}
 use Rattle.eg_agree.specs.Agreement.{last_check}
+use Rattle.eg_tick.specs.declared.span.Span.{Span}
 use Rattle.eg_tick.specs.Kept.{Kept}
 
 -- ---- level 1 ----
@@ -38,12 +41,12 @@ pub record HoldsLevel1 (s : Setting) (m : Registers) (memory : List ℕ) (past :
 -- complement. What they mean: signals, counters, limited operation and trip are those of the model; `last`
 -- is the last tick at which check ran, or 65535; and where no word was flipped, and all eight modules ran at
 -- each tick since the last answer, the token is 0 and the flow is unmarked.
-pub record HoldsLevel2 (s : Setting) (memory : List ℕ) (h : List Tick) : Type 0 where
+pub record HoldsLevel2 (kind : SpanKind) (s : Setting) (memory : List ℕ) (h : List Tick) : Type 0 where
   pub mirrored : AreMirrored memory
-  pub exact : words_of memory ≡ words_over s h
-  pub words : KeepsWords s (words_of memory) (moments_of s h)
+  pub exact : words_of memory ≡ words_over kind s h
+  pub words : KeepsWords s (words_of memory) (moments_in kind s h)
   pub last : (words_of memory).last ≡ last_check h
-  pub rests : is_flipped h ≡ false → whole_since_answer (moments_of s h) ≡ true →
+  pub rests : is_flipped h ≡ false → whole_since_answer (moments_in kind s h) ≡ true →
       ((words_of memory).token ≡ 0) × ((words_of memory).flow ≡ 0x00ff)
 
 -- ---- latches and the monitoring module ----
@@ -60,48 +63,66 @@ was_wild h = list_any (λ x. is_some x.effects.wild) h
 -- In an orderly module the verdicts are as many as the periods that are over, and the answers that it holds
 -- are those that were sent in the period that isn't over yet, each at its tick, and each with the expected
 -- number exactly where it is good.
-pub record IsOrderly (s : Setting) (monitor : MonitorParts) (h : List Tick) : Type 0 where
+pub record IsOrderly (kind : SpanKind) (s : Setting) (monitor : MonitorParts)
+    (h : List Tick) : Type 0 where
   pub period : monitor.verdicts ≡ period_of s.cal.times (length h)
   pub heard : map (marked (expected_number s.cal.times s.cal.questions (length h))) monitor.heard
-      ≡ answers_in (take (place_of s.cal.times (length h)) (moments_of s h))
+      ≡ answers_in (take (place_of s.cal.times (length h)) (moments_in kind s h))
 
 -- The module has the run's times and questions, and has given the verdicts of the model, so that its counter
 -- of wrong verdicts is that of the model. It is orderly where it was never wild.
-pub record HoldsMonitor (s : Setting) (monitor : MonitorParts) (h : List Tick) : Type 0 where
+pub record HoldsMonitor (kind : SpanKind) (s : Setting) (monitor : MonitorParts)
+    (h : List Tick) : Type 0 where
   pub times : monitor.times ≡ s.cal.times
   pub questions : monitor.questions ≡ s.cal.questions
-  pub given : HasGiven monitor (verdicts_in (moments_of s h))
-  pub orderly : was_wild h ≡ false → IsOrderly s monitor h
+  pub given : HasGiven monitor (verdicts_in (moments_in kind s h))
+  pub orderly : was_wild h ≡ false → IsOrderly kind s monitor h
+
+-- ---- a span ----
+
+-- what a span is for, by whether the shut-off paths are tested in it
+unfoldable pub kind_of : Bool → SpanKind
+kind_of tests = if tests then Test else Drive
+
+-- What a controller keeps of a span, level 1's registers and the words of the memory are what the model says
+-- of these ticks, as a span of this kind.
+pub record HoldsSpan (kind : SpanKind) (s : Setting) (span : Span) (m : Registers) (memory : List ℕ)
+    (h : List Tick) : Type 0 where
+  pub kind_is : kind_of span.tests ≡ kind
+  pub local : span.local ≡ length h
+  pub level1 : HoldsLevel1 s m memory (moments_in kind s h)
+  pub level2 : HoldsLevel2 kind s memory h
+  pub latches : HoldsLatches span.open1 span.open2 (moments_in kind s h)
+  pub monitor : HoldsMonitor kind s span.monitor h
 
 -- ---- the engine ----
 
 -- the entry of the last tick tells what the engine shows now
-unfoldable pub IsShown : Shown → List Tick → Type 0
+unfoldable pub IsShown : Shown → List Entry → Type 0
 IsShown shown [] = Unit {0}
-IsShown shown (x ∷ before) = x.entry.shown ≡ shown
+IsShown shown (e ∷ before) = e.shown ≡ shown
 
--- The engine has the `kt` of the calibration. At each tick the drive row kept its limits, the plate had an
--- angle within its range, neither load hid torque, and there was no torque where the stages were off.
-pub record HoldsEngine (s : Setting) (kt : ℕ) (shown : Shown) (h : List Tick) : Type 0 where
+-- The engine has the `kt` of the calibration. At each tick of the run the drive row kept its limits, the
+-- plate had an angle within its range, neither load hid torque, and there was no torque where the stages were
+-- off.
+pub record HoldsEngine (s : Setting) (kt : ℕ) (shown : Shown) (h : List Entry) : Type 0 where
   pub one_kt : kt ≡ s.cal.rules.kt
-  pub proper : AreProper s h
+  pub proper : IsProperRun s h
   pub shows : IsShown shown h
 
 -- ---- the controller ----
 
--- A controller stands for a history of a run: calibration, fault, the count of ticks and the count since
--- power-on are those of the run, and so is all that it holds: a memory of 4,096 words, that hasn't run out.
+-- A controller stands for a history of a run: calibration, fault, the count of ticks, the engine and the
+-- first trap are those of the run, and all else is that of the span which it ends in. The memory has 4,096
+-- words, and it hasn't run out.
 pub record Stands (s : Setting) (c : Kept) (h : List Entry) : Type 0 where
   pub cal : c.cal ≡ s.cal
   pub fault : c.fault ≡ s.fault
   pub count : c.ticks ≡ length h
-  pub local : c.local ≡ length (ticks s h)
   pub are_words : AreWords c.memory.words
-  pub level1 : HoldsLevel1 s c.registers c.memory.words (moments s h)
-  pub level2 : HoldsLevel2 s c.memory.words (ticks s h)
-  pub latches : HoldsLatches c.open1 c.open2 (moments s h)
-  pub monitor : HoldsMonitor s c.monitor (ticks s h)
-  pub engine : HoldsEngine s c.kt c.shown (ticks s h)
+  pub span : HoldsSpan (span_kind (moments s h)) s c.span c.registers c.memory.words (span_ticks s h)
+  pub passed : c.span.passed ≡ has_passed (moments s h)
+  pub engine : HoldsEngine s c.kt c.shown h
   pub trap : c.trap ≡ first_trap (moments s h)
   pub not_lost : c.lost ≡ false
 

@@ -5,12 +5,14 @@ ghost use Rattle.eg_guard.specs.Memory.{AreWords, SameOutside, KeepsMemory};
 ghost use Rattle.eg_guard.specs.declared.regions.TheConstants.{DATA as CODE_END, WORDS};
 ghost use Rattle.eg_guard.specs.Regions;
 ghost use Rattle.eg_answer.specs.declared.words.TheConstants.{STORED_WORDS};
+ghost use Rattle.eg_word.specs.Memory.{is_level1_own};
+ghost use Rattle.eg_word.specs.World.{world_of, new_registers, new_world};
 ghost use Rattle.eg_level2.specs.Words.{place, word_at, AreMirrored, is_level2_own};
 ghost use Rattle.eg_level2.specs.Inputs.{readings_of, asked_of};
 ghost use Rattle.eg_tick.specs.Board.{IsWritten, is_board_own, by_tracks};
 
 use eg_base::NoMemory;
-use eg_guard::{Guarded, IN_PORTS, LINK, StoreRefusal, Who};
+use eg_guard::{DATA, Guarded, IN_PORTS, LINK, StoreRefusal, THROTTLE, Who};
 use eg_level2::word_address;
 use eg_sensor::Readings;
 
@@ -70,6 +72,19 @@ pub(crate) fn load_image<M: Guarded>(memory: &mut M, image: &[u16]) -> Result<()
     ensures keeps { KeepsMemory (M.shows memory.old) (M.shows memory.new) result }
 {
     write(memory, CODE, image)
+}
+
+/// Clears level 1's data and its two outputs, as after power-on (docs/CONCEPT.md, "Level 1").
+#[tactic(auto, using(crate::proofs::BoardLemmas::board))]
+pub(crate) fn clear<M: Guarded>(memory: &mut M) -> Result<(), NoMemory>
+    requires are_words { AreWords (M.shows memory.old).words }
+    ensures world { OnOk result (world_of new_registers (M.shows memory.new).words ≡ new_world) }
+    ensures outside { OnOk result
+        (SameOutside is_level1_own (M.shows memory.old).words (M.shows memory.new).words) }
+    ensures keeps { KeepsMemory (M.shows memory.old) (M.shows memory.new) result }
+{
+    write(memory, DATA, &[0; 1024])?;
+    write(memory, THROTTLE, &[0, 0])
 }
 
 /// Writes the readings to the input ports, and the number of the question to the link (docs/FORMATS.md,

@@ -1,16 +1,14 @@
 // The controller: what it is made of, and how it begins.
-ghost use Rattle.std.specs.Prelude.{◌≡◌, ℕ, ◌+◌, ◌%◌, ◌^◌, ◌≤◌, ◌<◌, ◌||◌, true, false, length, replicate, List, [], ◌∷◌};
-ghost use Rattle.std.specs.Prelude.{IsTrue, IsOk, IsErr, IsSome, IfOk, OnOk, OnErr};
+ghost use Rattle.std.specs.Prelude.{◌≡◌, ℕ, ◌+◌, ◌%◌, ◌^◌, ◌≤◌, ◌<◌, true, false, length, replicate, List, [], ◌∷◌};
+ghost use Rattle.std.specs.Prelude.{IsTrue, IsOk, IsErr, IfOk, OnOk, OnErr};
 ghost use Rattle.std.specs.Option.{option_or};
 ghost use Rattle.eg_guard.specs.declared.regions.TheConstants.{DATA as CODE_END, WORDS};
 ghost use Rattle.eg_model.specs.History.{Setting, Entry};
-ghost use Rattle.eg_model.specs.Paths.{on_at};
-ghost use Rattle.eg_model.specs.Level1.{last_world};
-ghost use Rattle.eg_model.specs.Moments.{moments, next};
+ghost use Rattle.eg_model.specs.Spans.{moments, next};
 ghost use Rattle.eg_model.specs.Rows.{row_of, trap_in, first_trap};
 ghost use Rattle.eg_fault.specs.Faults.{IsNoneOrValid};
 ghost use Rattle.eg_tick.specs.Stands.{Stands, IsController};
-ghost use Rattle.eg_tick.specs.Advancing.{effects_after, entry_of, HoldsOutputs, RowReactsInTime, RowReactsAtOnce, RowCutsLapses, HistoryHasShortLapses};
+ghost use Rattle.eg_tick.specs.Advancing.{effects_after, entry_of, world_before, IsTrapped, HoldsOutputs, RowIsUnpowered, RowReactsInTime, RowReactsAtOnce, RowCutsLapses, HistoryHasShortLapses};
 ghost use Rattle.eg_tick.specs.Weights.{weight_of};
 
 use crate::Slices;
@@ -19,13 +17,14 @@ use crate::monitoring::{judge, question};
 use crate::paths::Paths;
 use crate::plant::{readings, step_engine};
 use crate::row::{Beginning, limit, look_up, row};
+use crate::span::{Span, enter};
 use crate::working::{Level1, Task, work};
 use eg_base::NoMemory;
-use eg_fault::{Fault, held, sends};
+use eg_fault::{Fault, held};
 use eg_guard::Guarded;
 use eg_host::Host;
 use eg_level2::Level2;
-use eg_module::Monitor;
+use eg_module::{Monitor, test_ticks};
 use eg_num::Drive;
 use eg_plant::Engine;
 use eg_record::Row;
@@ -44,14 +43,12 @@ pub struct Controller<E: Engine, M: Guarded> {
     calibration: Calibration,
     fault: Option<Fault>,
     level2: Level2,
-    monitor: Monitor,
+    test_ticks: u32,
+    span: Span,
     level1: Level1,
     memory: M,
     engine: E,
     ticks: u32,
-    local: u32,
-    open1: bool,
-    open2: bool,
     trap: Option<(Trap, u32)>,
     lost: bool,
 }
@@ -69,12 +66,9 @@ impl<E: Engine, M: Guarded> Model for Controller<E, M> {
         cal = c.calibration;
         fault = c.fault;
         ticks = c.ticks;
-        local = c.local;
+        span = c.span;
         memory = M.shows c.memory;
         registers = c.level1.host.registers;
-        monitor = c.monitor;
-        open1 = c.open1;
-        open2 = c.open2;
         trap = c.trap;
         kt = E.kt c.engine;
         shown = E.shows c.engine;
@@ -82,16 +76,13 @@ impl<E: Engine, M: Guarded> Model for Controller<E, M> {
       };
     } };
 
-    ghost invariant = { λ c. IsWhole c.calibration c.level2 c.level1.program (record {
+    ghost invariant = { λ c. IsWhole c.calibration c.level2 c.test_ticks c.level1.program (record {
       cal = c.calibration;
       fault = c.fault;
       ticks = c.ticks;
-      local = c.local;
+      span = c.span;
       memory = M.shows c.memory;
       registers = c.level1.host.registers;
-      monitor = c.monitor;
-      open1 = c.open1;
-      open2 = c.open2;
       trap = c.trap;
       kt = E.kt c.engine;
       shown = E.shows c.engine;
@@ -131,12 +122,15 @@ impl<E: Engine + Drop, M: Guarded + Drop> Controller<E, M> {
         let level2 = Level2::new(calibration.rules().copy(), calibration.questions().copy());
         level2.reset(&mut memory)?;
         let program = Program::new(image);
+        let test_ticks = test_ticks(calibration.times());
         let monitor = Monitor::new(calibration.times().copy(), calibration.questions().copy());
+        let span = Span::new(monitor);
         Ok(Controller {
             calibration,
             fault,
             level2,
-            monitor,
+            test_ticks,
+            span,
             level1: Level1 {
                 host: Host::new(),
                 program,
@@ -144,9 +138,6 @@ impl<E: Engine + Drop, M: Guarded + Drop> Controller<E, M> {
             memory,
             engine,
             ticks: 0,
-            local: 0,
-            open1: false,
-            open2: false,
             trap: None,
             lost: false,
         })
@@ -167,15 +158,20 @@ impl<E: Engine + Drop, M: Guarded + Drop> Controller<E, M> {
             → OnOk result (Stands s self.new.kept (entry_of drive.now slices.now self.new.kept.shown ∷ h)) }
         ensures row { (s : Setting) (h : List Entry) → Stands s self.old.kept h → IfOk result (λ row. row
             ≡ row_of (length h) (next s (entry_of drive.now slices.now self.new.kept.shown) h)) }
-        // The engine made a step of its own, by the commands as the tick before left them.
+        // The engine made a step of its own, by the commands as the tick before left them in this span.
         ensures engine { (s : Setting) (h : List Entry) → Stands s self.old.kept h → OnOk result
-            (E.steps self.old.engine (last_world (moments s h)).throttle (last_world (moments s h)).ignition
-            (on_at (effects_after s h) (moments s h)) (effects_after s h).held self.new.engine) }
+            (E.steps self.old.engine (world_before s drive.now h).throttle
+            (world_before s drive.now h).ignition
+            (next s (entry_of drive.now slices.now self.new.kept.shown) h).on
+            (effects_after s h).held self.new.engine) }
         ensures shows { self.new.kept.shown ≡ E.shows self.new.engine }
-        // Once it is trapped level 1 changes nothing any more: its outputs hold.
+        // Once it is trapped level 1 changes nothing any more in this span: its outputs hold.
         ensures trapped { (s : Setting) (h : List Entry) → Stands s self.old.kept h
-            → IsSome self.old.kept.trap → IfOk result (HoldsOutputs (last_world (moments s h))) }
-        // The stages are off in time after a confirmed torque excess, and a lapse is cut.
+            → IsTrapped (world_before s drive.now h)
+            → IfOk result (HoldsOutputs (world_before s drive.now h)) }
+        // The stages are off while the paths are tested. While the engine is driven they are off in time
+        // after a confirmed torque excess, and a lapse is cut.
+        ensures unpowered { (s : Setting) → IfOk result (RowIsUnpowered s self.old.kept drive.now) }
         ensures reacts { (s : Setting) → IfOk result (RowReactsInTime s self.old.kept) }
         ensures at_once { (s : Setting) → IfOk result (RowReactsAtOnce s self.old.kept) }
         ensures lapses { (s : Setting) → IfOk result (RowCutsLapses s self.old.kept) }
@@ -213,8 +209,10 @@ impl<E: Engine + Drop, M: Guarded + Drop> Controller<E, M> {
         ensures row { (s : Setting) (h : List Entry) → Stands s self.old.kept h → IfOk result (λ row. row
             ≡ row_of (length h) (next s (entry_of drive.now slices.now self.new.kept.shown) h)) }
         ensures engine { (s : Setting) (h : List Entry) → Stands s self.old.kept h → OnOk result
-            (E.steps self.old.engine (last_world (moments s h)).throttle (last_world (moments s h)).ignition
-            (on_at (effects_after s h) (moments s h)) (effects_after s h).held self.new.engine) }
+            (E.steps self.old.engine (world_before s drive.now h).throttle
+            (world_before s drive.now h).ignition
+            (next s (entry_of drive.now slices.now self.new.kept.shown) h).on
+            (effects_after s h).held self.new.engine) }
         ensures shows { self.new.kept.shown ≡ E.shows self.new.engine }
         ensures ticks { OnOk result (self.new.kept.ticks ≡ self.old.kept.ticks + 1) }
         ensures fault { self.new.kept.fault ≡ self.old.kept.fault }
@@ -232,39 +230,39 @@ impl<E: Engine + Drop, M: Guarded + Drop> Controller<E, M> {
             return Err(NoMemory);
         }
         self.lost = true;
-        let (tick, local, fault) = (self.ticks, self.local, self.fault.as_ref());
-        let questions = self.calibration.questions();
+        let (level1, memory) = (&mut self.level1, &mut self.memory);
+        enter(&mut self.span, &self.level2, level1, memory, drive.reset())?;
+        let (tick, local, fault) = (self.ticks, self.span.local, self.fault.as_ref());
+        let (questions, times) = (self.calibration.questions(), self.calibration.times());
         let lookup = look_up(&self.calibration.rules().permit, drive);
         let begins = Beginning {
             tick,
             drive: *drive,
             limit: limit(&lookup, drive),
-            paths: Paths::at(fault, tick, self.open1, self.open2),
+            place: self.span.place(self.test_ticks),
+            paths: Paths::at(fault, tick, &self.span),
         };
         let held = held(fault, tick);
         step_engine(&mut self.engine, &self.memory, begins.paths.on, held);
+        let asked = question(&self.span.monitor, questions, fault, tick, local);
         let task = Task {
             tick,
             local: local as u16,
-            sends: sends(fault, tick, local, self.calibration.times()),
-            asked: question(&self.monitor, questions, fault, tick, local),
+            phase: self.span.phase(fault, tick, times, begins.place.told),
+            asked,
             readings: readings(&self.engine, drive, fault, tick),
             lookup,
             slices: *slices,
         };
         let (level1, memory) = (&mut self.level1, &mut self.memory);
         let step = work(&self.level2, fault, &task, level1, memory)?;
-        let monitor = &mut self.monitor;
-        let (asked, answer) = (task.asked, step.answer);
+        let (monitor, answer) = (&mut self.span.monitor, step.answer);
         let judged = judge(monitor, questions, fault, tick, local, asked, answer);
-        self.open1 = either(step.open_path, self.open1);
-        self.open2 = either(either(judged.confirms, judged.opens), self.open2);
+        self.span.note(step.open_path, judged, begins.passes());
         note_trap(&mut self.trap, self.level1.host.registers.state, tick);
-        let row = row(begins, &self.engine, &self.memory, step.found, judged);
         self.ticks += 1;
-        self.local += 1;
         self.lost = false;
-        Ok(row)
+        Ok(row(begins, &self.engine, &self.memory, step.found, judged))
     }
 
     /// The engine. Whoever reads it learns that what is kept of it is what it shows.
@@ -284,13 +282,6 @@ impl<E: Engine + Drop, M: Guarded + Drop> Controller<E, M> {
     {
         self.trap
     }
-}
-
-/// Whether one of the two is so.
-fn either(first: bool, second: bool) -> bool
-    ensures { result ≡ (first || second) }
-{
-    first || second
 }
 
 /// Notes level 1's trap after a tick, by the state of its machine, where there was none before.

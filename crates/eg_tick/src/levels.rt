@@ -78,7 +78,7 @@ fn module<M: Guarded>(
         number,
         memory,
         task.local,
-        task.sends,
+        task.phase,
         disturbance,
         &task.lookup,
     )
@@ -113,7 +113,7 @@ fn first_module<M: Guarded>(
     };
     flip(memory, word, mask)?;
     // No fault that flips a word leaves module 0 out, or disturbs it.
-    level2.module_with_lookup(0, memory, task.local, task.sends, 0, &task.lookup)
+    level2.module_with_lookup(0, memory, task.local, task.phase, 0, &task.lookup)
 }
 
 /// The word of level 2 that is flipped at a tick, and its bits.
@@ -266,6 +266,7 @@ fn joined(first: &Step, next: &Step) -> Step
             speed: first.found.speed | next.found.speed,
             torque: first.found.torque | next.found.torque,
             answers: first.found.answers | next.found.answers,
+            start: first.found.start | next.found.start,
         },
     }
 }

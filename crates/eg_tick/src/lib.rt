@@ -2,9 +2,9 @@
 //!
 //! A tick is made of slices of level 1, which nobody trusts, between the modules of level 2, over one
 //! guarded memory; of the monitoring module, two latches and the engine. This crate has what a tick is cut
-//! into, what counts the ticks that were made, how a controller begins, what the board, a slice and a module
-//! make of the memory in a tick, and what the monitoring module makes of it. What a controller stands for is
-//! in `specs/Stands.antt`.
+//! into, what counts the ticks that were made, how a controller and how a span of ticks begins, what the
+//! board, a slice and a module make of the memory in a tick, and what the monitoring module makes of it. What
+//! a controller stands for is in `specs/Stands.antt`.
 #![tactic(auto)]
 
 mod board;
@@ -15,6 +15,7 @@ mod paths;
 mod plant;
 mod row;
 mod run;
+mod span;
 mod working;
 
 pub use controller::{Controller, Ticks};

@@ -8,7 +8,7 @@ ghost use Rattle.eg_answer.specs.declared.marks.Verdict.{Verdict};
 ghost use Rattle.eg_module.specs.Monitoring.{HasGiven};
 ghost use Rattle.eg_fault.specs.Effects.{asked_at};
 ghost use Rattle.eg_fault.specs.Faults.{effects};
-ghost use Rattle.eg_model.specs.History.{Setting, Tick};
+ghost use Rattle.eg_model.specs.History.{Setting, Tick, SpanKind};
 ghost use Rattle.eg_agree.specs.Replies.{moment_after, mark_of};
 ghost use Rattle.eg_tick.specs.Stands.{HoldsMonitor};
 ghost use Rattle.eg_tick.specs.Judging.{with_heard, Takes, IsDeaf, ComesNext, Tells};
@@ -32,7 +32,7 @@ pub(crate) struct Judgement {
 
 /// The number of the question that is asked at a tick, also by a wild module: it counts modulo the count of
 /// questions (docs/CONCEPT.md, "Questions and answers"). A fault goes by the number `tick` that the tick has
-/// in the run, a period by the number `local` that it has since power-on.
+/// in the run, a period by the number `local` that it has in its span.
 #[tactic(auto, unfolding(eg_fault::specs::Effects::asked_at, eg_fault::specs::Effects::asked_in))]
 pub(crate) fn question(
     monitor: &Monitor,
@@ -57,7 +57,7 @@ pub(crate) fn question(
 /// "Questions and answers" and "A run, tick by tick"). The monitoring module hears the answer, and gives its
 /// verdict at the last tick of a period. A wild one hears nothing, gives no verdict, and may order path 2
 /// open. A fault goes by the number `tick` that the tick has in the run, the module by the number `local`
-/// that it has since power-on.
+/// that it has in its span.
 pub(crate) fn judge(
     monitor: &mut Monitor,
     questions: &Questions,
@@ -76,12 +76,12 @@ pub(crate) fn judge(
     requires later { (effects (option_copied fault) tick).wild ≡ None
         → All (λ heard. heard.tick < local) monitor.old.heard }
     // The module goes on to be what the model says.
-    ensures holds { (s : Setting) (x : Tick) (h : List Tick)
-        → ComesNext s (option_copied fault.entry) tick local answer monitor.old x h
-        → HoldsMonitor s monitor.new (x ∷ h) }
-    ensures tells { (s : Setting) (x : Tick) (h : List Tick)
-        → ComesNext s (option_copied fault.entry) tick local answer monitor.old x h
-        → Tells result (moment_after s x h) }
+    ensures holds { (kind : SpanKind) (s : Setting) (x : Tick) (h : List Tick)
+        → ComesNext kind s (option_copied fault.entry) tick local answer monitor.old x h
+        → HoldsMonitor kind s monitor.new (x ∷ h) }
+    ensures tells { (kind : SpanKind) (s : Setting) (x : Tick) (h : List Tick)
+        → ComesNext kind s (option_copied fault.entry) tick local answer monitor.old x h
+        → Tells result (moment_after kind s x h) }
     ensures opens { result.opens ≡ (effects (option_copied fault.entry) tick).opens }
 {
     let mark = mark(number(questions, asked), answer);

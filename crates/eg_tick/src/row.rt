@@ -1,19 +1,22 @@
 // The row of a tick.
-ghost use Rattle.std.specs.Prelude.{◌≡◌, ◌<◌, slice_index};
+ghost use Rattle.std.specs.Prelude.{◌≡◌, ◌<◌, not, ◌&&◌, ◌||◌, slice_index};
 ghost use Rattle.eg_guard.specs.declared.regions.TheConstants.{THROTTLE, IGNITION};
 ghost use Rattle.eg_num.specs.Drive.{IsDrive};
 ghost use Rattle.eg_num.specs.Interpolation.{grid_at};
 ghost use Rattle.eg_answer.specs.declared.words.TheConstants.{STORED_WORDS};
 ghost use Rattle.eg_level2.specs.Words.{word_at, words_of};
 ghost use Rattle.eg_values.specs.Calibration.{CalibrationParts};
+ghost use Rattle.eg_model.specs.History.{drives};
 ghost use Rattle.eg_model.specs.Moments.{limit_at};
 ghost use Rattle.eg_model.specs.Rows.{signal_list};
 ghost use Rattle.eg_agree.specs.Standing.{signals_of};
+ghost use Rattle.eg_tick.specs.Stands.{kind_of};
 
 use crate::board::load;
 use crate::monitoring::Judgement;
 use crate::paths::Paths;
 use crate::plant::Commands;
+use crate::span::Place;
 use eg_guard::Guarded;
 use eg_level2::{Lookup, word_address};
 use eg_num::{Drive, Watches};
@@ -21,13 +24,39 @@ use eg_plant::Engine;
 use eg_record::Row;
 use eg_torque::Permit;
 
-/// What a tick begins with: its number, what the drive trace gives to it, what that permits, and the paths.
+/// What a tick begins with: its number, what the drive trace gives to it, what that permits, its place in its
+/// span, and the paths.
 #[derive(Clone, Copy)]
 pub(crate) struct Beginning {
     pub(crate) tick: u32,
     pub(crate) drive: Drive,
     pub(crate) limit: u16,
+    pub(crate) place: Place,
     pub(crate) paths: Paths,
+}
+
+impl Beginning {
+    /// Whether a start-up test is passed: the paths are read back, and neither conducts.
+    pub(crate) fn passes(&self) -> bool
+        ensures { result ≡ (self.now.place.reads_back && not (self.now.paths.path1 || self.now.paths.path2)) }
+    {
+        self.place.reads_back && !(self.paths.path1 || self.paths.path2)
+    }
+
+    /// Whether it fails.
+    fn fails(&self) -> bool
+        ensures { result ≡ (self.now.place.reads_back && (self.now.paths.path1 || self.now.paths.path2)) }
+    {
+        self.place.reads_back && (self.paths.path1 || self.paths.path2)
+    }
+
+    /// Whether wrong answers are found, where they are confirmed so: not where the paths are tested.
+    #[tactic(auto, unfolding(crate::specs::Stands::kind_of, eg_model::specs::History::drives))]
+    fn finds(&self, confirms: bool) -> bool
+        ensures { result ≡ (drives (kind_of self.now.place.tests) && confirms) }
+    {
+        !self.place.tests && confirms
+    }
 }
 
 /// What the permit table says of a drive row.
@@ -103,9 +132,14 @@ pub(crate) fn row<E: Engine, M: Guarded>(
       signals = signal_list (signals_of (words_of (M.shows memory.now).words));
       throttle = slice_index (M.shows memory.now).words THROTTLE;
       ignition = slice_index (M.shows memory.now).words IGNITION;
-      found = record found { answers = judgement.confirms };
+      found = record found {
+        answers = drives (kind_of begins.place.tests) && judgement.confirms;
+        start = begins.place.reads_back && (begins.paths.path1 || begins.paths.path2);
+      };
       answer = judgement.mark;
       verdict = judgement.verdict;
+      testing = begins.place.testing;
+      fresh = begins.place.fresh;
     } }
 {
     let commands = Commands::of(memory);
@@ -123,10 +157,13 @@ pub(crate) fn row<E: Engine, M: Guarded>(
         throttle: commands.throttle,
         ignition: commands.ignition,
         found: Watches {
-            answers: judgement.confirms,
+            answers: begins.finds(judgement.confirms),
+            start: begins.fails(),
             ..found
         },
         answer: judgement.mark,
         verdict: judgement.verdict,
+        testing: begins.place.testing,
+        fresh: begins.place.fresh,
     }
 }

@@ -1,15 +1,16 @@
 // A run of a gasoline engine on the bench.
-ghost use Rattle.std.specs.Prelude.{◌≡◌, ℕ, ◌+◌, ◌%◌, ◌^◌, ◌≤◌, ◌<◌, None, List, map, reverse, length, IfOk, OnOk, OnErr};
+ghost use Rattle.std.specs.Prelude.{◌≡◌, ℕ, ◌+◌, ◌%◌, ◌^◌, ◌≤◌, ◌<◌, false, None, List, All, map, reverse, length, IfOk, OnOk, OnErr};
 ghost use Rattle.std.specs.Option.{option_copied};
 ghost use Rattle.std.specs.List.{sum};
 ghost use Rattle.eg_guard.specs.declared.regions.TheConstants.{DATA as CODE_END};
 ghost use Rattle.eg_num.specs.Drive.{DriveRow};
 ghost use Rattle.eg_answer.specs.Times.{HasLapseBound, reaction_of};
 ghost use Rattle.eg_fault.specs.Faults.{IsListed};
+ghost use Rattle.eg_record.specs.Spans.{EachDriveSpan, EachTestSpan};
 ghost use Rattle.eg_model.specs.Engines.{gasoline};
 ghost use Rattle.eg_model.specs.Bench.{Run, drive_at};
 ghost use Rattle.eg_model.specs.Rows.{record_rows, record_trap};
-ghost use Rattle.eg_model.specs.Records.{row_at, rows_to, ReactWithin, CutOneTickAfter, ReactAtOnce, CutLapses, LapsesAreShort};
+ghost use Rattle.eg_model.specs.Records.{row_at, rows_to, ReactWithin, CutOneTickAfter, ReactAtOnce, CutLapses, LapsesAreShort, AreOff};
 ghost use Rattle.eg_model.specs.Lapses.{IsLapse};
 ghost use Rattle.eg_fault.specs.Faults.{IsNoneOrValid};
 ghost use Rattle.eg_tick.specs.Weights.{weight_of};
@@ -55,25 +56,29 @@ pub fn run_one(
         (run_by calibration.now image.now (option_copied fault.entry) plan.now drive.now))) }
     ensures trap { IfOk result (λ made. made.trap ≡ record_trap gasoline
         (run_by calibration.now image.now (option_copied fault.entry) plan.now drive.now)) }
-    // The reaction theorem: after a confirmed torque excess the stages are off in time, and under most faults
-    // at once.
+    // The reaction theorem: in each drive span the stages are off in time after a confirmed torque excess,
+    // and under most faults at once.
     ensures reacts { IsListed (option_copied fault.entry) → IfOk result (λ made.
-        ReactWithin (reaction_of calibration.now.times) calibration.now.rules.torque
-        calibration.now.rules.threshold (reverse made.rows)) }
+        EachDriveSpan (ReactWithin (reaction_of calibration.now.times) calibration.now.rules.torque
+        calibration.now.rules.threshold) (reverse made.rows)) }
     ensures at_once { IsListed (option_copied fault.entry) → IfOk result (λ made.
-        ReactAtOnce (option_copied fault.entry) calibration.now.rules.torque
-        calibration.now.rules.threshold (reverse made.rows)) }
+        EachDriveSpan (ReactAtOnce (option_copied fault.entry) calibration.now.rules.torque
+        calibration.now.rules.threshold) (reverse made.rows)) }
     // Without a fault they are cut off exactly one tick after the full-efficiency excess is confirmed.
     ensures cuts { option_copied fault.entry ≡ None → IfOk result (λ made.
-        CutOneTickAfter calibration.now.rules.torque calibration.now.rules.kt
-        calibration.now.rules.threshold (reverse made.rows)) }
+        EachDriveSpan (CutOneTickAfter calibration.now.rules.torque calibration.now.rules.kt
+        calibration.now.rules.threshold) (reverse made.rows)) }
     // Lapses are cut, and never let an excess stand for long.
     ensures lapses { HasLapseBound calibration.now.rules.torque calibration.now.times →
         IsLapse (option_copied fault.entry) → IfOk result (λ made.
-        CutLapses calibration.now (reverse made.rows)) }
+        EachDriveSpan (CutLapses calibration.now) (reverse made.rows)) }
     ensures short { HasLapseBound calibration.now.rules.torque calibration.now.times →
         IsLapse (option_copied fault.entry) → IfOk result (λ made.
-        LapsesAreShort calibration.now (reverse made.rows)) }
+        EachDriveSpan (LapsesAreShort calibration.now) (reverse made.rows)) }
+    // In each test span they are off. Without a fault no start-up test fails.
+    ensures unpowered { IfOk result (λ made. EachTestSpan AreOff (reverse made.rows)) }
+    ensures passes { option_copied fault.entry ≡ None → IfOk result (λ made.
+        All (λ row. row.found.start ≡ false) (reverse made.rows)) }
     // Each tick is counted, and each row is weighed. Where memory ran out, no more ticks are counted than the
     // drive has rows.
     ensures counted { IfOk result (λ made. steps.new ≡ record {

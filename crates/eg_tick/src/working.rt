@@ -5,7 +5,7 @@ ghost use Rattle.eg_guard.specs.Memory.{KeepsMemory};
 ghost use Rattle.eg_word.specs.Program.{IsProgramOf};
 ghost use Rattle.eg_host.specs.Slices.{IsSlice};
 ghost use Rattle.eg_level2.specs.Inputs.{IsLookup};
-ghost use Rattle.eg_model.specs.History.{Setting, Tick};
+ghost use Rattle.eg_model.specs.History.{Setting, Tick, SpanKind};
 ghost use Rattle.eg_fault.specs.Faults.{IsNoneOrValid};
 ghost use Rattle.eg_tick.specs.Midway.{IsReady};
 ghost use Rattle.eg_tick.specs.Working.{Serves, Served, IsStep};
@@ -17,18 +17,18 @@ use eg_base::NoMemory;
 use eg_fault::Fault;
 use eg_guard::Guarded;
 use eg_host::Host;
-use eg_level2::{Level2, Lookup, Step};
+use eg_level2::{Level2, Lookup, Phase, Step};
 use eg_sensor::Readings;
 use eg_word::Program;
 
-/// What level 1 and level 2 are handed at a tick: its number in the run, by which a fault goes; its number
-/// since power-on, by which level 2 goes; whether the answer is sent at it, the number of the question, the
-/// readings, what the permit table says of the drive row, and the slices of level 1.
+/// What level 1 and level 2 are handed at a tick: its number in the run, by which a fault goes; its number in
+/// its span, by which level 2 goes; what level 2 is to do at it, the number of the question, the readings,
+/// what the permit table says of the drive row, and the slices of level 1.
 #[derive(Clone, Copy)]
 pub(crate) struct Task {
     pub(crate) tick: u32,
     pub(crate) local: u16,
-    pub(crate) sends: bool,
+    pub(crate) phase: Phase,
     pub(crate) asked: u16,
     pub(crate) readings: Readings,
     pub(crate) lookup: Lookup,
@@ -67,14 +67,14 @@ pub(crate) fn work<M: Guarded>(
     requires ready { IsReady level2.now.rules level1.old.program (M.shows memory.old).words }
     requires fault { IsNoneOrValid (option_copied fault) }
     requires lookup { IsLookup level2.now.rules task.now.lookup }
-    ensures served { (s : Setting) (x : Tick) (h : List Tick)
-        → Serves s x h level2.now (option_copied fault.entry) task.now level1.old.host.registers
+    ensures served { (kind : SpanKind) (s : Setting) (x : Tick) (h : List Tick)
+        → Serves kind s x h level2.now (option_copied fault.entry) task.now level1.old.host.registers
         (M.shows memory.old).words
-        → OnOk result (Served s x h level1.new.host.registers (M.shows memory.new).words) }
-    ensures step { (s : Setting) (x : Tick) (h : List Tick)
-        → Serves s x h level2.now (option_copied fault.entry) task.now level1.old.host.registers
+        → OnOk result (Served kind s x h level1.new.host.registers (M.shows memory.new).words) }
+    ensures step { (kind : SpanKind) (s : Setting) (x : Tick) (h : List Tick)
+        → Serves kind s x h level2.now (option_copied fault.entry) task.now level1.old.host.registers
         (M.shows memory.old).words
-        → IfOk result (IsStep s x h) }
+        → IfOk result (IsStep kind s x h) }
     ensures program { OnOk result (IsProgramOf (M.shows memory.new).words level1.new.program) }
     ensures keeps { KeepsMemory (M.shows memory.old) (M.shows memory.new) result }
 {
@@ -93,14 +93,14 @@ fn show_and_run<M: Guarded>(
     requires ready { IsReady level2.now.rules level1.old.program (M.shows memory.old).words }
     requires fault { IsNoneOrValid (option_copied fault) }
     requires lookup { IsLookup level2.now.rules task.now.lookup }
-    ensures served { (s : Setting) (x : Tick) (h : List Tick)
-        → Serves s x h level2.now (option_copied fault.entry) task.now level1.old.host.registers
+    ensures served { (kind : SpanKind) (s : Setting) (x : Tick) (h : List Tick)
+        → Serves kind s x h level2.now (option_copied fault.entry) task.now level1.old.host.registers
         (M.shows memory.old).words
-        → OnOk result (Served s x h level1.new.host.registers (M.shows memory.new).words) }
-    ensures step { (s : Setting) (x : Tick) (h : List Tick)
-        → Serves s x h level2.now (option_copied fault.entry) task.now level1.old.host.registers
+        → OnOk result (Served kind s x h level1.new.host.registers (M.shows memory.new).words) }
+    ensures step { (kind : SpanKind) (s : Setting) (x : Tick) (h : List Tick)
+        → Serves kind s x h level2.now (option_copied fault.entry) task.now level1.old.host.registers
         (M.shows memory.old).words
-        → IfOk result (IsStep s x h) }
+        → IfOk result (IsStep kind s x h) }
     ensures program { OnOk result (IsProgramOf (M.shows memory.new).words level1.new.program) }
     ensures keeps { KeepsMemory (M.shows memory.old) (M.shows memory.new) result }
 {

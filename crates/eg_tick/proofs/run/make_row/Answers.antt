@@ -3,10 +3,10 @@ use Rattle.eg_tick.proofs.run.make_row.Goals as goal
 
 pub returns-clause-at : goal.returns-clause-at
 returns-clause-at c = λ r plan drive at.
-    next_at r c.args.tick c.args.controller.now c.tick.new.self at (c.in_ok-row.ensures.engine _ _ at.stands) c.engine-engine.ensures.shown
-    _ _ drive (slices-at r _ c.args.tick _ plan c.row.ensures.row) (c.in_ok-row.ensures.stands _ _ at.stands)
+    next_at r c.args.tick c.args.controller.now c.tick.new.self at _ _ drive (slices-at r _ c.args.tick _ plan c.row.ensures.row)
+    (c.in_ok-row.ensures.engine _ _ at.stands) c.engine-engine.ensures.shown (c.in_ok-row.ensures.stands _ _ at.stands)
 
 pub returns-clause-row : goal.returns-clause-row
 returns-clause-row c = λ r plan drive at.
-    next_row r c.args.tick c.args.controller.now c.tick.new.self at (c.in_ok-row.ensures.engine _ _ at.stands) c.engine-engine.ensures.shown
-    _ _ drive (slices-at r _ c.args.tick _ plan c.row.ensures.row) c.in_ok-row.row (c.in_ok-row.ensures.row _ _ at.stands)
+    next_row r c.args.tick c.args.controller.now c.tick.new.self at _ _ drive (slices-at r _ c.args.tick _ plan c.row.ensures.row)
+    (c.in_ok-row.ensures.engine _ _ at.stands) c.engine-engine.ensures.shown c.in_ok-row.row (c.in_ok-row.ensures.row _ _ at.stands)

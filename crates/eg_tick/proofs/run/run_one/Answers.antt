@@ -1,12 +1,12 @@
-use Rattle.std.proofs.Common.{subst}
+use Rattle.std.proofs.Common.{◌≡◌, All, false, subst}
 use Rattle.std.specs.Option.{option_copied}
 use Rattle.eg_answer.specs.Times.{reaction_of}
+use Rattle.eg_record.specs.Spans.{EachDriveSpan, EachTestSpan}
 use Rattle.eg_model.specs.Engines.{gasoline}
 use Rattle.eg_model.specs.Bench.{Run}
-use Rattle.eg_model.specs.Records.{ReactWithin, CutOneTickAfter, ReactAtOnce, CutLapses, LapsesAreShort}
+use Rattle.eg_model.specs.Records.{ReactWithin, CutOneTickAfter, ReactAtOnce, CutLapses, LapsesAreShort, AreOff}
 use Rattle.eg_model.proofs.GasolineLaws.{gasoline_keeps, gasoline_shows_one_load}
-use Rattle.eg_model.proofs.RecordLaws.{records_react, records_cut_sharply}
-use Rattle.eg_model.proofs.RowLaws.{records_react_at_once, records_cut_lapses, records_have_short_lapses}
+use Rattle.eg_model.proofs.RecordLaws.{records_react, records_react_at_once, records_cut_sharply, records_cut_lapses, records_have_short_lapses, records_test_unpowered, records_pass_tests}
 use Rattle.eg_model.proofs.WholeRecord.{newest_first}
 use Rattle.eg_tick.specs.Run.{run_by}
 use Rattle.eg_tick.proofs.RunLemmas.{if_ok}
@@ -16,32 +16,41 @@ use Rattle.eg_tick.proofs.run.run_one.Goals as goal
 pub returns-clause-reacts : goal.returns-clause-reacts
 returns-clause-reacts c = λ listed. if_ok _ _ c.record_run.result (λ made m.
     let r : Run = run_by c.args.calibration.now c.args.image.now (option_copied c.args.fault) c.args.plan.now c.args.drive.now in
-    subst (ReactWithin (reaction_of r.setting.cal.times) r.setting.cal.rules.torque r.setting.cal.rules.threshold)
-    (newest_first gasoline r made.rows m.rows_are)
+    subst (EachDriveSpan (ReactWithin (reaction_of r.setting.cal.times) r.setting.cal.rules.torque r.setting.cal.rules.threshold)) (newest_first gasoline r made.rows m.rows_are)
     (records_react gasoline_keeps r (is_run r made.rows made.trap c.rules-rules.ensures.accepted m) listed)) c.record_run.ensures.made
 
 pub returns-clause-at_once : goal.returns-clause-at_once
 returns-clause-at_once c = λ listed. if_ok _ _ c.record_run.result (λ made m.
     let r : Run = run_by c.args.calibration.now c.args.image.now (option_copied c.args.fault) c.args.plan.now c.args.drive.now in
-    subst (ReactAtOnce r.setting.fault r.setting.cal.rules.torque r.setting.cal.rules.threshold)
-    (newest_first gasoline r made.rows m.rows_are)
+    subst (EachDriveSpan (ReactAtOnce r.setting.fault r.setting.cal.rules.torque r.setting.cal.rules.threshold)) (newest_first gasoline r made.rows m.rows_are)
     (records_react_at_once gasoline_keeps r (is_run r made.rows made.trap c.rules-rules.ensures.accepted m) listed)) c.record_run.ensures.made
 
 pub returns-clause-cuts : goal.returns-clause-cuts
 returns-clause-cuts c = λ none. if_ok _ _ c.record_run.result (λ made m.
     let r : Run = run_by c.args.calibration.now c.args.image.now (option_copied c.args.fault) c.args.plan.now c.args.drive.now in
-    subst (CutOneTickAfter r.setting.cal.rules.torque r.setting.cal.rules.kt r.setting.cal.rules.threshold)
-    (newest_first gasoline r made.rows m.rows_are)
+    subst (EachDriveSpan (CutOneTickAfter r.setting.cal.rules.torque r.setting.cal.rules.kt r.setting.cal.rules.threshold)) (newest_first gasoline r made.rows m.rows_are)
     (records_cut_sharply gasoline_keeps gasoline_shows_one_load r (is_run r made.rows made.trap c.rules-rules.ensures.accepted m) none)) c.record_run.ensures.made
 
 pub returns-clause-lapses : goal.returns-clause-lapses
 returns-clause-lapses c = λ bound lapse. if_ok _ _ c.record_run.result (λ made m.
     let r : Run = run_by c.args.calibration.now c.args.image.now (option_copied c.args.fault) c.args.plan.now c.args.drive.now in
-    subst (CutLapses r.setting.cal) (newest_first gasoline r made.rows m.rows_are)
+    subst (EachDriveSpan (CutLapses r.setting.cal)) (newest_first gasoline r made.rows m.rows_are)
     (records_cut_lapses gasoline_keeps r (is_run r made.rows made.trap c.rules-rules.ensures.accepted m) c.requires.fault bound lapse)) c.record_run.ensures.made
 
 pub returns-clause-short : goal.returns-clause-short
 returns-clause-short c = λ bound lapse. if_ok _ _ c.record_run.result (λ made m.
     let r : Run = run_by c.args.calibration.now c.args.image.now (option_copied c.args.fault) c.args.plan.now c.args.drive.now in
-    subst (LapsesAreShort r.setting.cal) (newest_first gasoline r made.rows m.rows_are)
+    subst (EachDriveSpan (LapsesAreShort r.setting.cal)) (newest_first gasoline r made.rows m.rows_are)
     (records_have_short_lapses gasoline_keeps r (is_run r made.rows made.trap c.rules-rules.ensures.accepted m) c.requires.fault bound lapse)) c.record_run.ensures.made
+
+pub returns-clause-unpowered : goal.returns-clause-unpowered
+returns-clause-unpowered c = if_ok _ _ c.record_run.result (λ made m.
+    let r : Run = run_by c.args.calibration.now c.args.image.now (option_copied c.args.fault) c.args.plan.now c.args.drive.now in
+    subst (EachTestSpan AreOff) (newest_first gasoline r made.rows m.rows_are)
+    (records_test_unpowered gasoline r)) c.record_run.ensures.made
+
+pub returns-clause-passes : goal.returns-clause-passes
+returns-clause-passes c = λ none. if_ok _ _ c.record_run.result (λ made m.
+    let r : Run = run_by c.args.calibration.now c.args.image.now (option_copied c.args.fault) c.args.plan.now c.args.drive.now in
+    subst (All (λ row. row.found.start ≡ false)) (newest_first gasoline r made.rows m.rows_are)
+    (records_pass_tests gasoline r (is_run r made.rows made.trap c.rules-rules.ensures.accepted m) none)) c.record_run.ensures.made

@@ -1,146 +1,159 @@
-use Rattle.std.proofs.Common.{◌≡◌, ◌∙◌, refl, sym, ap, subst, ◌+◌, ◌<◌, ◌||◌, Some, None, List, ◌∷◌, length, slice_index, true, false, arith}
+use Rattle.std.proofs.Common.{◌≡◌, ◌∙◌, refl, sym, ap, subst, ◌+◌, ◌<◌, Some, None, List, ◌∷◌, length, slice_index, true, false, arith}
 use Rattle.std.specs.Option.{option_copied}
 use Rattle.eg_answer.specs.declared.rules.Rules.{Rules}
 use Rattle.eg_num.specs.Interpolation.{grid_at}
-use Rattle.eg_fault.specs.Effects.{sends_at, asked_at}
+use Rattle.eg_fault.specs.Effects.{asked_at}
+use Rattle.eg_agree.specs.Doings.{phase_at}
 use Rattle.eg_fault.specs.Faults.{effects}
 use Rattle.eg_guard.specs.Memory.{AreWords}
 use Rattle.eg_level2.specs.Words.{words_of, AreWithin}
 use Rattle.eg_level2.specs.Inputs.{Level2Parts}
 use Rattle.eg_model.specs.History.{Setting, Entry}
-use Rattle.eg_model.specs.Paths.{on_at}
-use Rattle.eg_model.specs.Level1.{last_world}
-use Rattle.eg_model.specs.Moments.{moments, next}
+use Rattle.eg_model.specs.Spans.{next}
 use Rattle.eg_model.specs.Rows.{row_of}
 use Rattle.eg_tick.specs.Kept.{Kept}
-use Rattle.eg_tick.specs.Stands.{Stands, IsController}
-use Rattle.eg_tick.specs.Advancing.{effects_after, entry_of}
+use Rattle.eg_tick.specs.Stands.{kind_of, HoldsMonitor, Stands, IsController}
+use Rattle.eg_tick.specs.declared.span.Span.{Span}
+use Rattle.eg_tick.specs.Advancing.{effects_after, entry_of, world_before}
 use Rattle.eg_tick.specs.declared.working.Task.{Task}
-use Rattle.eg_tick.proofs.MonitorLemmas.{stands-period, stands-later}
-use Rattle.eg_tick.proofs.StandsLemmas.{next_stands}
-use Rattle.eg_tick.proofs.AdvanceLemmas.{of_setting, held-within, within, few-local, Advance, makes, row-told, step-told}
+use Rattle.eg_tick.proofs.StandsLemmas.{Enters, entered, enters, next_stands}
+use Rattle.eg_tick.proofs.AdvanceLemmas.{of_setting, held-within, within, few-in, period-in, later-in, Advance, makes, row-told, step-told}
 use Rattle.eg_tick.proofs.controller.Controller.advance.Given.{Over}
 use Rattle.eg_tick.proofs.controller.Controller.advance.Goals as goal
+
+pub enter-requires : goal.enter-requires
+enter-requires g c =
+    let some = c.self.invariant.keeps.stands c.if-self.false in
+    record {
+      are_words = some.2.are_words;
+      mirrored = some.2.span.level2.mirrored;
+      within = subst (λ (p : Level2Parts). AreWithin p.rules (words_of (g.M.Guarded.shows c.self.inside.memory).words)) (sym c.self.invariant.parts)
+          (within _ some.0 some.1 c.self.invariant.keeps.accepted some.2);
+      decoded = c.self.invariant.decoded c.if-self.false;
+    }
+
+pub place-requires : goal.place-requires
+place-requires g c =
+    few-in _ (c.self.invariant.keeps.stands c.if-self.false) c.args.drive.now _ c.enter.new.span c.enter.new.level1.host.registers (g.M.Guarded.shows c.enter.new.memory)
+    c.reset.ensures.reset c.in_ok-enter.ensures.holds (subst (λ v. v < 20000) (sym (ap (λ v. v.kept.ticks) c.self.view_is)) c.requires.fewer)
 
 pub step_engine-requires : goal.step_engine-requires
 step_engine-requires g c x is =
     held-within c.self.inside.fault c.self.inside.ticks x c.self.invariant.keeps.fault
     (subst (λ f. (effects f c.self.inside.ticks).held ≡ Some x) c.as_ref-fault.ensures.value (sym c.held-held.ensures ∙ is))
 
-pub work-requires-clause-ready : goal.work-requires-clause-ready
-work-requires-clause-ready g c =
-    let some = c.self.invariant.keeps.stands c.if-self.false in
-    record {
-      are_words = some.2.are_words;
-      mirrored = some.2.level2.mirrored;
-      within = subst (λ (p : Level2Parts). AreWithin p.rules (words_of (g.M.Guarded.shows c.self.inside.memory).words)) (sym c.self.invariant.parts)
-          (within _ some.0 some.1 c.times.ensures.accepted some.2);
-      decoded = c.self.invariant.decoded c.if-self.false;
-    }
+pub overflow_cast-task : goal.overflow_cast-task
+overflow_cast-task g c =
+    let few = few-in _ (c.self.invariant.keeps.stands c.if-self.false) c.args.drive.now _ c.enter.new.span c.enter.new.level1.host.registers (g.M.Guarded.shows c.enter.new.memory)
+    c.reset.ensures.reset c.in_ok-enter.ensures.holds (subst (λ v. v < 20000) (sym (ap (λ v. v.kept.ticks) c.self.view_is)) c.requires.fewer) in
+    omega (arith, few)
 
 pub judge-judged-requires-clause-period : goal.judge-judged-requires-clause-period
 judge-judged-requires-clause-period g c tame =
-    let some = c.self.invariant.keeps.stands c.if-self.false in
-    stands-period _ _ some.1 some.2 (subst (λ f. (effects f c.self.inside.ticks).wild ≡ None) c.as_ref-fault.ensures.value tame)
+    period-in _ (c.self.invariant.keeps.stands c.if-self.false) c.args.drive.now _ c.enter.new.span c.enter.new.level1.host.registers (g.M.Guarded.shows c.enter.new.memory)
+    c.reset.ensures.reset c.in_ok-enter.ensures.holds (subst (λ f. (effects f c.self.inside.ticks).wild ≡ None) c.as_ref-fault.ensures.value tame)
 
 pub judge-judged-requires-clause-later : goal.judge-judged-requires-clause-later
 judge-judged-requires-clause-later g c tame =
-    let some = c.self.invariant.keeps.stands c.if-self.false in
-    stands-later _ _ some.1 some.2 (subst (λ f. (effects f c.self.inside.ticks).wild ≡ None) c.as_ref-fault.ensures.value tame)
+    later-in _ (c.self.invariant.keeps.stands c.if-self.false) c.args.drive.now _ c.enter.new.span c.enter.new.level1.host.registers (g.M.Guarded.shows c.enter.new.memory)
+    c.reset.ensures.reset c.in_ok-enter.ensures.holds (subst (λ f. (effects f c.self.inside.ticks).wild ≡ None) c.as_ref-fault.ensures.value tame)
 
-pub overflow_cast-task : goal.overflow_cast-task
-overflow_cast-task g c =
-    let some = c.self.invariant.keeps.stands c.if-self.false in
-    let few = few-local _ _ some.1 some.2 (subst (λ v. v < 20000) (sym (ap (λ v. v.kept.ticks) c.self.view_is)) c.requires.fewer) in
-    omega (arith, few)
-
-pub overflow_add-self-2 : goal.overflow_add-self-2
-overflow_add-self-2 g c =
-    let some = c.self.invariant.keeps.stands c.if-self.false in
-    let few = few-local _ _ some.1 some.2 (subst (λ v. v < 20000) (sym (ap (λ v. v.kept.ticks) c.self.view_is)) c.requires.fewer) in
-    omega (arith, few)
+pub note-requires : goal.note-requires
+note-requires g c =
+    few-in _ (c.self.invariant.keeps.stands c.if-self.false) c.args.drive.now _ c.enter.new.span c.enter.new.level1.host.registers (g.M.Guarded.shows c.enter.new.memory)
+    c.reset.ensures.reset c.in_ok-enter.ensures.holds (subst (λ v. v < 20000) (sym (ap (λ v. v.kept.ticks) c.self.view_is)) c.requires.fewer)
 
 -- ---- the tick that was made ----
 
-abbrev old : (g : Over) → goal.After-self-6-1 g → Kept
-old g c = record {
+-- the controller before the tick, as the tick begins in its span, and after it
+abbrev before : (g : Over) → goal.After-row g → Kept
+before g c = record {
   cal = c.self.inside.calibration;
   fault = c.self.inside.fault;
   ticks = c.self.inside.ticks;
-  local = c.self.inside.local;
+  span = c.self.inside.span;
   memory = g.M.Guarded.shows c.self.inside.memory;
   registers = c.self.inside.level1.host.registers;
-  monitor = c.self.inside.monitor;
-  open1 = c.self.inside.open1;
-  open2 = c.self.inside.open2;
   trap = c.self.inside.trap;
   kt = g.E.Engine.kt c.self.inside.engine;
   shown = g.E.Engine.shows c.self.inside.engine;
   lost = c.self.inside.lost;
 }
 
-abbrev new : (g : Over) → goal.After-self-6-1 g → Kept
+abbrev old : (g : Over) → goal.After-row g → Kept
+old g c = entered (before g c) c.enter.new.span c.enter.new.level1.host.registers (g.M.Guarded.shows c.enter.new.memory)
+
+abbrev new : (g : Over) → goal.After-row g → Kept
 new g c = record {
   cal = c.self.inside.calibration;
   fault = c.self.inside.fault;
   ticks = c.self.inside.ticks + 1;
-  local = c.self.inside.local + 1;
+  span = c.note.new.self;
   memory = g.M.Guarded.shows c.work.new.memory;
   registers = c.work.new.level1.host.registers;
-  monitor = c.judge-judged.new.monitor;
-  open1 = c.either-self-inside.result;
-  open2 = c.either-self-inside-2.result;
   trap = c.note_trap.new.trap;
   kt = g.E.Engine.kt c.step_engine.new.engine;
   shown = g.E.Engine.shows c.step_engine.new.engine;
   lost = false;
 }
 
-abbrev task : (g : Over) → goal.After-self-6-1 g → Task
+abbrev task : (g : Over) → goal.After-row g → Task
 task g c = record {
   tick = c.self.inside.ticks;
-  local = c.self.inside.local;
-  sends = c.sends.result;
-  asked = c.question.result;
+  local = c.enter.new.span.local;
+  phase = c.phase.result;
+  asked = c.question-asked.result;
   readings = c.readings.result;
   lookup = c.look_up-lookup.result;
   slices = c.args.slices.now;
 }
 
-are_words : (g : Over) (c : goal.After-self-6-1 g) → AreWords (g.M.Guarded.shows c.work.new.memory).words
-are_words g c = c.work.ensures.keeps.are_words (c.self.invariant.keeps.stands c.if-self.false).2.are_words
+are_words : (g : Over) (c : goal.After-row g) → AreWords (g.M.Guarded.shows c.work.new.memory).words
+are_words g c = c.work.ensures.keeps.are_words (c.enter.ensures.keeps.are_words (c.self.invariant.keeps.stands c.if-self.false).2.are_words)
 
-advance : (g : Over) (c : goal.After-self-6-1 g) → Advance (old g c) (new g c) c.args.drive.now c.args.slices.now c.self.inside.fault c.self.inside.level2
-    c.at.result (task g c) c.in_ok-step.step c.judge-judged.result
+advance : (g : Over) (c : goal.After-row g) → Advance (old g c) (new g c) c.args.drive.now c.args.slices.now c.self.inside.fault c.self.inside.level2
+    c.at.result c.place.result (task g c) c.in_ok-step.step c.judge-judged.result
 advance g c =
-    subst (λ under. Advance (old g c) (new g c) c.args.drive.now c.args.slices.now under c.self.inside.level2 c.at.result (task g c) c.in_ok-step.step c.judge-judged.result)
+    let noted = c.note.ensures in
+    let test_ticks = c.self.invariant.test_ticks_are in
+    subst (λ under. Advance (old g c) (new g c) c.args.drive.now c.args.slices.now under c.self.inside.level2 c.at.result c.place.result
+    (task g c) c.in_ok-step.step c.judge-judged.result)
     c.as_ref-fault.ensures.value
     (record {
-      accepted = c.times.ensures.accepted;
+      accepted = c.self.invariant.keeps.accepted;
       parts = c.self.invariant.parts;
       few = subst (λ v. v < 20000) (sym (ap (λ v. v.kept.ticks) c.self.view_is)) c.requires.fewer;
       is_drive = c.look_up-lookup.ensures.drive;
       path1 = c.at.ensures.path1;
       path2 = c.at.ensures.path2;
       on = c.at.ensures.on;
+      placed = c.place.ensures.tests;
+      fresh = c.place.ensures.fresh;
+      testing = c.place.ensures.testing _ test_ticks;
+      read = c.place.ensures.reads_back _ test_ticks;
       tick = refl;
-      place = refl;
-      sends = c.sends.ensures ∙ ap (λ times. sends_at (effects (option_copied c.as_ref-fault.result) c.self.inside.ticks) times c.self.inside.local) c.times.ensures.times;
-      asked = c.question.ensures.number
-          ∙ ap (λ questions. asked_at (effects (option_copied c.as_ref-fault.result) c.self.inside.ticks) c.self.inside.monitor.times (length questions) c.self.inside.local) c.questions-questions.ensures.questions;
+      at = refl;
+      phase = c.phase.ensures
+          ∙ ap (λ times. phase_at (kind_of c.enter.new.span.tests) times (effects (option_copied c.as_ref-fault.result) c.self.inside.ticks)
+          c.enter.new.span.local) c.times-times.ensures.times;
+      asked = c.question-asked.ensures.number
+          ∙ ap (λ questions. asked_at (effects (option_copied c.as_ref-fault.result) c.self.inside.ticks) c.enter.new.span.monitor.times
+          (length questions) c.enter.new.span.local) c.questions-questions.ensures.questions;
       readings = c.readings.ensures;
       slices = refl;
       served = c.in_ok-step.ensures.served;
       step = c.in_ok-step.ensures.step;
-      holds = c.judge-judged.ensures.holds;
+      holds = λ kind s x h comes. subst (λ (span : Span). HoldsMonitor kind s span.monitor (x ∷ h)) (sym noted) (c.judge-judged.ensures.holds kind s x h comes);
       tells = c.judge-judged.ensures.tells;
       cal = refl;
       fault = refl;
       count = refl;
-      local = refl;
       are_words = are_words g c;
-      open1 = c.either-self-inside.ensures;
-      open2 = c.either-self-inside-2.ensures ∙ ap (λ b. b || c.self.inside.open2) c.either.ensures;
+      tests = ap (λ (span : Span). span.tests) noted;
+      local = ap (λ (span : Span). span.local) noted;
+      passed = ap (λ (span : Span). span.passed) noted ∙ c.passes.ensures;
+      open1 = ap (λ (span : Span). span.open1) noted;
+      open2 = ap (λ (span : Span). span.open2) noted;
       kt = c.step_engine.ensures.kt;
       laws = c.step_engine.ensures.laws;
       off = c.step_engine.ensures.off;
@@ -148,29 +161,41 @@ advance g c =
       not_lost = refl;
     })
 
-abbrev entry : (g : Over) → goal.After-self-6-1 g → Entry
+abbrev entry : (g : Over) → goal.After-row g → Entry
 entry g c = entry_of c.args.drive.now c.args.slices.now (g.E.Engine.shows c.step_engine.new.engine)
 
 -- what the controller stood for, by its parts
-was : (g : Over) (c : goal.After-self-6-1 g) (s : Setting) (h : List Entry) → Stands s c.args.self.now.kept h → Stands s (old g c) h
+was : (g : Over) (c : goal.After-row g) (s : Setting) (h : List Entry) → Stands s c.args.self.now.kept h → Stands s (before g c) h
 was g c s h = subst (λ v. Stands s v h) (sym (ap (λ v. v.kept) c.self.view_is))
 
-goes : (g : Over) (c : goal.After-self-6-1 g) (s : Setting) (h : List Entry) → Stands s (old g c) h → Stands s (new g c) (entry g c ∷ h)
-goes g c = λ s h. of_setting (λ t. Stands t (new g c) (entry g c ∷ h)) (old g c) h
-    (λ image so. next_stands _ (entry g c) h (old g c) (new g c) _ _ so (makes (old g c) (new g c) _ _ _ _ (task g c) _ _ (advance g c) image h so)) s
+enter : (g : Over) (c : goal.After-row g) (s : Setting) (h : List Entry) → Stands s (before g c) h → Enters s (old g c) (entry g c) h
+unfolding entry_of
+enter g c s h stands =
+    enters s (before g c) (entry g c) h _ c.enter.new.span c.enter.new.level1.host.registers (g.M.Guarded.shows c.enter.new.memory) stands
+    c.reset.ensures.reset c.in_ok-enter.ensures.holds
 
-stood : (g : Over) (c : goal.After-self-6-1 g) (s : Setting) (h : List Entry) → Stands s c.args.self.now.kept h → Stands s (new g c) (entry g c ∷ h)
+goes : (g : Over) (c : goal.After-row g) (s : Setting) (h : List Entry) → Stands s (before g c) h → Stands s (new g c) (entry g c ∷ h)
+goes g c = λ s h. of_setting (λ t. Stands t (new g c) (entry g c ∷ h)) (before g c) h
+    (λ image so. next_stands _ (entry g c) h (old g c) (new g c) _ _ _ _ (enter g c _ h so)
+    (makes (old g c) (new g c) _ _ _ _ _ (task g c) _ _ (advance g c) image h (enter g c _ h so))) s
+
+stood : (g : Over) (c : goal.After-row g) (s : Setting) (h : List Entry) → Stands s c.args.self.now.kept h → Stands s (new g c) (entry g c ∷ h)
 stood g c s h stands = goes g c s h (was g c s h stands)
 
-still : (g : Over) (c : goal.After-self-6-1 g) → IsController (new g c)
+still : (g : Over) (c : goal.After-row g) → IsController (new g c)
 still g c =
     let some = c.self.invariant.keeps.stands c.if-self.false in
-    record { accepted = c.self.invariant.keeps.accepted; fault = c.self.invariant.keeps.fault; stands = λ held. (some.0, entry g c ∷ some.1, goes g c _ some.1 some.2); unsure = λ gone. absurd (let clash : false ≡ true = gone in cc) }
+    record {
+      accepted = c.self.invariant.keeps.accepted;
+      fault = c.self.invariant.keeps.fault;
+      stands = λ held. (some.0, entry g c ∷ some.1, goes g c _ some.1 some.2);
+      unsure = λ gone. absurd (let clash : false ≡ true = gone in cc);
+    }
 
-steps : (g : Over) (c : goal.After-self-6-1 g) → g.E.Engine.steps c.args.self.now.engine (slice_index (g.M.Guarded.shows c.self.inside.memory).words 2064)
-    (slice_index (g.M.Guarded.shows c.self.inside.memory).words 2065) c.at.result.on (effects c.self.inside.fault c.self.inside.ticks).held c.step_engine.new.engine
+steps : (g : Over) (c : goal.After-row g) → g.E.Engine.steps c.args.self.now.engine (slice_index (g.M.Guarded.shows c.enter.new.memory).words 2064)
+    (slice_index (g.M.Guarded.shows c.enter.new.memory).words 2065) c.at.result.on (effects c.self.inside.fault c.self.inside.ticks).held c.step_engine.new.engine
 steps g c =
-    let words = (g.M.Guarded.shows c.self.inside.memory).words in
+    let words = (g.M.Guarded.shows c.enter.new.memory).words in
     let engine : c.self.inside.engine ≡ c.args.self.now.engine = ap (λ v. v.engine) c.self.view_is in
     let held : c.held-held.result ≡ (effects c.self.inside.fault c.self.inside.ticks).held =
     c.held-held.ensures ∙ ap (λ f. (effects f c.self.inside.ticks).held) c.as_ref-fault.ensures.value in
@@ -180,24 +205,29 @@ steps g c =
     c.step_engine.ensures.steps)
 
 pub invariant_of-self-2 : goal.invariant_of-self-2
-invariant_of-self-2 g c = record { parts = c.self.invariant.parts; decoded = λ held. c.in_ok-step.ensures.program; keeps = still g c }
+invariant_of-self-2 g c = record {
+  parts = c.self.invariant.parts;
+  test_ticks_are = c.self.invariant.test_ticks_are;
+  decoded = λ held. c.in_ok-step.ensures.program;
+  keeps = still g c;
+}
 
 pub returns-clause-stands : goal.returns-clause-stands
 returns-clause-stands g c = stood g c
 
 pub returns-clause-row : goal.returns-clause-row
 returns-clause-row g c s h stands =
-    of_setting (λ t. c.row-row.result ≡ row_of (length h) (next t (entry g c) h)) (old g c) h
-    (λ image so. row-told (old g c) (new g c) _ _ _ _ (task g c) _ _ (advance g c) image h so c.row-row.result c.limit.result
+    of_setting (λ t. c.row.result ≡ row_of (length h) (next t (entry g c) h)) (before g c) h
+    (λ image so. row-told (old g c) (new g c) _ _ _ _ _ (task g c) _ _ (advance g c) image h (enter g c _ h so) c.row.result c.limit.result
     (c.limit.ensures.limit (old g c).cal (c.look_up-lookup.ensures.torque
-    ∙ ap (λ (rules : Rules). grid_at rules.permit c.look_up-lookup.result.pedal c.look_up-lookup.result.speed) c.rules.ensures.rules)) c.row-row.ensures)
+    ∙ ap (λ (rules : Rules). grid_at rules.permit c.look_up-lookup.result.pedal c.look_up-lookup.result.speed) c.rules.ensures.rules)) c.row.ensures)
     s (was g c s h stands)
 
 pub returns-clause-engine : goal.returns-clause-engine
 returns-clause-engine g c s h stands =
-    of_setting (λ t. g.E.Engine.steps c.args.self.now.engine (last_world (moments t h)).throttle (last_world (moments t h)).ignition
-    (on_at (effects_after t h) (moments t h)) (effects_after t h).held c.step_engine.new.engine) (old g c) h
-    (λ image so. step-told (old g c) (new g c) _ _ _ _ (task g c) _ _ (advance g c) image h so
+    of_setting (λ t. g.E.Engine.steps c.args.self.now.engine (world_before t c.args.drive.now h).throttle (world_before t c.args.drive.now h).ignition
+    (next t (entry g c) h).on (effects_after t h).held c.step_engine.new.engine) (before g c) h
+    (λ image so. step-told (old g c) (new g c) _ _ _ _ _ (task g c) _ _ (advance g c) image h (enter g c _ h so)
     (λ throttle ignition on held. g.E.Engine.steps c.args.self.now.engine throttle ignition on held c.step_engine.new.engine)
     (steps g c))
     s (was g c s h stands)

@@ -3,7 +3,10 @@ use Rattle.eg_guard.specs.Memory.{AreWords}
 use Rattle.eg_guard.proofs.WordsLemmas.{zeros_are_words}
 use Rattle.eg_word.specs.World.{world_of}
 use Rattle.eg_word.proofs.ProgramLemmas.{program-stays}
-use Rattle.eg_module.specs.Monitoring.{MonitorParts}
+use Rattle.eg_answer.specs.Times.{test_ticks_of}
+use Rattle.eg_answer.specs.Periods.{period_of}
+use Rattle.eg_module.specs.Monitoring.{MonitorParts, HasGiven}
+use Rattle.eg_tick.specs.declared.span.Span.{Span}
 use Rattle.eg_tick.specs.Kept.{Kept}
 use Rattle.eg_tick.specs.Stands.{Stands}
 use Rattle.eg_tick.specs.Board.{IsWritten}
@@ -25,12 +28,9 @@ kept g c = record {
   cal = c.args.calibration;
   fault = c.args.fault;
   ticks = 0;
-  local = 0;
+  span = c.new-span.result;
   memory = g.M.Guarded.shows c.reset.new.memory;
   registers = c.new.result.registers;
-  monitor = c.new-monitor.result;
-  open1 = false;
-  open2 = false;
   trap = None;
   kt = g.E.Engine.kt c.args.engine;
   shown = g.E.Engine.shows c.args.engine;
@@ -45,34 +45,30 @@ made g c =
     let written : IsWritten (replicate 4096 0) loaded 0 image (length image) =
     subst (λ old. IsWritten old loaded 0 image (length image)) c.requires.zeros c.in_ok-load_image.ensures.written in
     let are_words : AreWords made = made_words g c in
-    new_stands _ _ (record {
-      cal = refl;
-      fault = refl;
-      count = refl;
-      local = refl;
-      are_words = are_words;
+    let span = c.new-span.ensures in
+    let monitor : c.new-span.result.monitor ≡ c.new-monitor.result = ap (λ (p : Span). p.monitor) span in
+    new_stands _ _ refl refl refl are_words (ap (λ (p : Span). p.tests) span) (ap (λ (p : Span). p.passed) span) (record {
+      local = ap (λ (p : Span). p.local) span;
       code = made_code image loaded made c.requires.image (loaded_words g c) written c.reset.ensures.outside;
       world =
           ap (λ m. world_of m made) c.new.ensures
           ∙ made_world image loaded made c.requires.image (loaded_words g c) are_words written c.reset.ensures.outside;
       mirrored = c.in_ok-reset.ensures.mirrored;
       words = c.in_ok-reset.ensures.words;
-      open1 = refl;
-      open2 = refl;
-      times = ap (λ (m : MonitorParts). m.times) c.new-monitor.ensures.begins ∙ c.copy-3.ensures ∙ c.times.ensures.times;
-      questions = ap (λ (m : MonitorParts). m.questions) c.new-monitor.ensures.begins ∙ c.copy-4.ensures ∙ c.questions-2.ensures.questions;
-      given = c.new-monitor.ensures.given;
-      period = c.new-monitor.ensures.next;
-      heard = ap (λ (m : MonitorParts). m.heard) c.new-monitor.ensures.begins;
-      kt = c.requires.kt;
-      trap = refl;
-      not_lost = refl;
-    })
+      open1 = ap (λ (p : Span). p.open1) span;
+      open2 = ap (λ (p : Span). p.open2) span;
+      times = ap (λ (m : MonitorParts). m.times) (monitor ∙ c.new-monitor.ensures.begins) ∙ c.copy-3.ensures ∙ c.times-2.ensures.times;
+      questions = ap (λ (m : MonitorParts). m.questions) (monitor ∙ c.new-monitor.ensures.begins) ∙ c.copy-4.ensures ∙ c.questions-2.ensures.questions;
+      given = subst (λ m. HasGiven m []) (sym monitor) c.new-monitor.ensures.given;
+      period = subst (λ (m : MonitorParts). m.verdicts ≡ period_of m.times 0) (sym monitor) c.new-monitor.ensures.next;
+      heard = ap (λ (m : MonitorParts). m.heard) (monitor ∙ c.new-monitor.ensures.begins);
+    }) c.requires.kt refl refl
 
 pub invariant_of-result : goal.invariant_of-result
 invariant_of-result g c = record {
   parts = c.new-level2.ensures.parts ∙ ap₂ (λ a b. record { rules = a; questions = b }) (c.copy.ensures ∙ c.rules.ensures.rules) (c.copy-2.ensures ∙ c.questions.ensures.questions);
-  decoded = λ held. program-stays c.args.image.now _ _ (made g c).level1.code c.new-program.ensures;
+  test_ticks_are = c.test_ticks-test_ticks.ensures.number ∙ ap test_ticks_of c.times.ensures.times;
+  decoded = λ held. program-stays c.args.image.now _ _ (made g c).span.level1.code c.new-program.ensures;
   keeps = record { accepted = c.rules.ensures.accepted; fault = c.requires.fault; stands = λ held. (c.args.image.now, [], made g c); unsure = λ gone. absurd (let clash : false ≡ true = gone in cc) };
 }
 

@@ -1,0 +1,16 @@
+use Rattle.std.proofs.Common.{refl}
+use Rattle.eg_tick.proofs.StartLemmas.{begun_span, begun_ready}
+use Rattle.eg_tick.proofs.span.begin.Goals as goal
+
+pub returns-clause-holds : goal.returns-clause-holds
+returns-clause-holds g c kind s h holds =
+    let cleared = c.clear.ensures.keeps.are_words c.requires.are_words in
+    begun_span kind s _ _ h _ _ _ _ _ holds cleared (c.reset.ensures.are_words cleared) c.in_ok-clear.ensures.outside c.in_ok-clear.ensures.world
+    c.reset.ensures.outside c.in_ok-reset.ensures.mirrored c.in_ok-reset.ensures.words c.new-level1.ensures refl refl refl
+    c.restart.ensures.begins c.restart.ensures.given c.restart.ensures.next
+
+pub returns-clause-ready : goal.returns-clause-ready
+returns-clause-ready g c =
+    begun_ready _ _ _ _ _ c.in_ok-clear.ensures.outside c.reset.ensures.outside
+    (c.reset.ensures.are_words (c.clear.ensures.keeps.are_words c.requires.are_words))
+    c.in_ok-reset.ensures.mirrored c.in_ok-reset.ensures.within c.requires
