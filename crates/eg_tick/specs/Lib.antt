@@ -11,6 +11,7 @@ pub mod Inside
 pub mod Run
 pub use Rattle.eg_answer.specs.Times
 pub use Rattle.eg_fault.specs.Faults
+pub use Rattle.eg_model.specs.Engines
 pub use Rattle.eg_model.specs.History
 pub use Rattle.eg_model.specs.Lapses
 pub use Rattle.eg_model.specs.Level1
