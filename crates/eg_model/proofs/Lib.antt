@@ -19,6 +19,7 @@ pub mod SpanRows
 pub mod SpanLaws
 pub mod RecordSpans
 pub mod RecordLaws
+pub mod PowerCycleLaws
 pub mod GasolineLaws
 pub mod WholeRecord
 pub mod LapseRuns

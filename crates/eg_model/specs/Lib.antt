@@ -14,5 +14,6 @@ pub mod Premises
 pub mod Reaction
 pub mod SharpCut
 pub mod Records
+pub mod PowerCycles
 pub mod StartUp
 pub mod Lapses

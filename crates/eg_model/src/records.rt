@@ -1,6 +1,7 @@
 // The laws of records of runs on the bench, for the gasoline engine. They are proved of any engine that
 // brings what `KeepsBenchLaws` says.
 ghost use Rattle.eg_model.specs.Engines.{gasoline};
+ghost use Rattle.eg_model.specs.PowerCycles.{RecordsBeginInTurn};
 ghost use Rattle.eg_model.specs.Records.{RecordsAreHistories, RecordsAreRows, RecordsReact, RecordsReactAtOnce, RecordsCutFromOnset, RecordsCutSharply, RecordsCutSharplyBefore, RecordsCutLapses, RecordsHaveShortLapses, RecordsTestUnpowered, RecordsPassTests};
 
 /// The record of a run on the bench is a history from power-on, and its rows are numbered from 0 on. It
@@ -40,9 +41,11 @@ pub fn records_cut_lapses()
     ensures short { RecordsHaveShortLapses gasoline }
 {}
 
-/// By the rows of the record of a run on the bench: while the shut-off paths are tested the stages are off,
-/// whatever the fault, and without a fault no test fails. It does nothing when it runs.
+/// By the rows of the record of a run on the bench: a test span begins at each reset, and a drive span at the
+/// first tick and after a test that has found both paths open; while the shut-off paths are tested the stages
+/// are off, whatever the fault; and without a fault no test fails. It does nothing when it runs.
 pub fn records_test_the_paths()
+    ensures cycles { RecordsBeginInTurn gasoline }
     ensures unpowered { RecordsTestUnpowered gasoline }
     ensures passes { RecordsPassTests gasoline }
 {}

@@ -13,6 +13,7 @@ use Rattle.eg_model.specs.Rows.{record_rows, report_of}
 use Rattle.eg_model.specs.Records.{IsRun}
 use Rattle.eg_model.proofs.GasolineLaws.{gasoline_keeps, gasoline_shows_one_load}
 use Rattle.eg_model.proofs.RecordLaws.{records_react, records_react_at_once, records_cut_sharply, records_cut_from_onset, records_cut_lapses, records_have_short_lapses, records_test_unpowered, records_pass_tests}
+use Rattle.eg_model.proofs.PowerCycleLaws.{records_begin_in_turn}
 use Rattle.eg_model.proofs.WholeRecord.{are_rows}
 use Rattle.eg_campaign.specs.Plays.{IsPlayable, run_with}
 use Rattle.eg_campaign.specs.declared.play.RunInput.{RunInput}
@@ -32,6 +33,7 @@ tells_off r name = (off_law (record_rows gasoline r) (are_rows gasoline r) (firs
 -- it
 pub headline : (r : Run) → IsRun r → IsNoneOrValid r.setting.fault → KeepsHeadline r
 headline r run valid = record {
+  cycles = records_begin_in_turn gasoline r;
   reacts = records_react gasoline_keeps r run;
   at_once = records_react_at_once gasoline_keeps r run;
   unpowered = records_test_unpowered gasoline r;

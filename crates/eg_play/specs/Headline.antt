@@ -9,19 +9,22 @@ use Rattle.eg_record.specs.Spans.{EachDriveSpan, EachTestSpan}
 use Rattle.eg_model.specs.Engines.{gasoline}
 use Rattle.eg_model.specs.Bench.{Run}
 use Rattle.eg_model.specs.Rows.{record_rows, report_of}
+use Rattle.eg_model.specs.PowerCycles.{SpansBeginInTurn}
 use Rattle.eg_model.specs.Records.{ReactWithin, ReactAtOnce, CutFromOnset, CutOneTickAfter}
 use Rattle.eg_model.specs.Records.{CutLapses, LapsesAreShort, AreOff}
 use Rattle.eg_model.specs.Lapses.{IsLapse}
 
 pub record KeepsHeadline (r : Run) : Type 0 where
-  -- With at most one listed fault outside level 1, in each drive span, which begins where the start-up test of
-  -- a power cycle has passed, the power stages are off from R ticks after any torque excess that is confirmed
-  -- in it to its end; under most faults from the next tick.
+  -- At each reset a start-up test begins, and with it a test span. Else a drive span begins, at the first tick
+  -- of the run and right after a test that has found both paths open; at no other tick does any begin.
+  pub cycles : SpansBeginInTurn (record_rows gasoline r)
+  -- With at most one listed fault outside level 1, in each drive span the power stages are off from R ticks
+  -- after any torque excess that is confirmed in it to its end; under most faults from the next tick.
   pub reacts : IsListed r.setting.fault → EachDriveSpan (ReactWithin (reaction_of r.setting.cal.times)
       r.setting.cal.rules.torque r.setting.cal.rules.threshold) (record_rows gasoline r)
   pub at_once : IsListed r.setting.fault → EachDriveSpan (ReactAtOnce r.setting.fault
       r.setting.cal.rules.torque r.setting.cal.rules.threshold) (record_rows gasoline r)
-  -- Until its start-up test passes, in each power cycle, they are off.
+  -- In each test span, so from a reset until a test is passed, they are off.
   pub unpowered : EachTestSpan AreOff (record_rows gasoline r)
   -- Without a fault no test fails, and in each drive span they go off exactly one tick after the first
   -- confirmed full-efficiency excess.

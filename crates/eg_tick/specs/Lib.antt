@@ -17,6 +17,7 @@ pub use Rattle.eg_model.specs.Lapses
 pub use Rattle.eg_model.specs.Level1
 pub use Rattle.eg_model.specs.Moments
 pub use Rattle.eg_model.specs.Paths
+pub use Rattle.eg_model.specs.PowerCycles
 pub use Rattle.eg_model.specs.Records
 pub use Rattle.eg_model.specs.Rows
 pub use Rattle.eg_model.specs.Spans

@@ -10,6 +10,7 @@ ghost use Rattle.eg_record.specs.Spans.{EachDriveSpan, EachTestSpan};
 ghost use Rattle.eg_model.specs.Engines.{gasoline};
 ghost use Rattle.eg_model.specs.Bench.{Run, drive_at};
 ghost use Rattle.eg_model.specs.Rows.{record_rows, record_trap};
+ghost use Rattle.eg_model.specs.PowerCycles.{SpansBeginInTurn};
 ghost use Rattle.eg_model.specs.Records.{row_at, rows_to, ReactWithin, CutOneTickAfter, ReactAtOnce, CutLapses, LapsesAreShort, AreOff};
 ghost use Rattle.eg_model.specs.Lapses.{IsLapse};
 ghost use Rattle.eg_fault.specs.Faults.{IsNoneOrValid};
@@ -75,7 +76,9 @@ pub fn run_one(
     ensures short { HasLapseBound calibration.now.rules.torque calibration.now.times →
         IsLapse (option_copied fault.entry) → IfOk result (λ made.
         EachDriveSpan (LapsesAreShort calibration.now) (reverse made.rows)) }
-    // In each test span they are off. Without a fault no start-up test fails.
+    // A test span begins at each reset, and else a drive span at the first tick and after a test that has found
+    // both paths open. In each test span the stages are off. Without a fault no start-up test fails.
+    ensures cycles { IfOk result (λ made. SpansBeginInTurn (reverse made.rows)) }
     ensures unpowered { IfOk result (λ made. EachTestSpan AreOff (reverse made.rows)) }
     ensures passes { option_copied fault.entry ≡ None → IfOk result (λ made.
         All (λ row. row.found.start ≡ false) (reverse made.rows)) }

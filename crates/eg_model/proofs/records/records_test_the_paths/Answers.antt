@@ -1,6 +1,10 @@
 use Rattle.eg_model.specs.Engines.{gasoline}
 use Rattle.eg_model.proofs.RecordLaws.{records_test_unpowered, records_pass_tests}
+use Rattle.eg_model.proofs.PowerCycleLaws.{records_begin_in_turn}
 use Rattle.eg_model.proofs.records.records_test_the_paths.Goals as goal
+
+pub returns-clause-cycles : goal.returns-clause-cycles
+returns-clause-cycles c = records_begin_in_turn gasoline
 
 pub returns-clause-unpowered : goal.returns-clause-unpowered
 returns-clause-unpowered c = records_test_unpowered gasoline

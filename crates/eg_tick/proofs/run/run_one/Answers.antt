@@ -4,9 +4,11 @@ use Rattle.eg_answer.specs.Times.{reaction_of}
 use Rattle.eg_record.specs.Spans.{EachDriveSpan, EachTestSpan}
 use Rattle.eg_model.specs.Engines.{gasoline}
 use Rattle.eg_model.specs.Bench.{Run}
+use Rattle.eg_model.specs.PowerCycles.{SpansBeginInTurn}
 use Rattle.eg_model.specs.Records.{ReactWithin, CutOneTickAfter, ReactAtOnce, CutLapses, LapsesAreShort, AreOff}
 use Rattle.eg_model.proofs.GasolineLaws.{gasoline_keeps, gasoline_shows_one_load}
 use Rattle.eg_model.proofs.RecordLaws.{records_react, records_react_at_once, records_cut_sharply, records_cut_lapses, records_have_short_lapses, records_test_unpowered, records_pass_tests}
+use Rattle.eg_model.proofs.PowerCycleLaws.{records_begin_in_turn}
 use Rattle.eg_model.proofs.WholeRecord.{newest_first}
 use Rattle.eg_tick.specs.Run.{run_by}
 use Rattle.eg_tick.proofs.RunLemmas.{if_ok}
@@ -42,6 +44,12 @@ returns-clause-short c = λ bound lapse. if_ok _ _ c.record_run.result (λ made 
     let r : Run = run_by c.args.calibration.now c.args.image.now (option_copied c.args.fault) c.args.plan.now c.args.drive.now in
     subst (EachDriveSpan (LapsesAreShort r.setting.cal)) (newest_first gasoline r made.rows m.rows_are)
     (records_have_short_lapses gasoline_keeps r (is_run r made.rows made.trap c.rules-rules.ensures.accepted m) c.requires.fault bound lapse)) c.record_run.ensures.made
+
+pub returns-clause-cycles : goal.returns-clause-cycles
+returns-clause-cycles c = if_ok _ _ c.record_run.result (λ made m.
+    let r : Run = run_by c.args.calibration.now c.args.image.now (option_copied c.args.fault) c.args.plan.now c.args.drive.now in
+    subst SpansBeginInTurn (newest_first gasoline r made.rows m.rows_are)
+    (records_begin_in_turn gasoline r)) c.record_run.ensures.made
 
 pub returns-clause-unpowered : goal.returns-clause-unpowered
 returns-clause-unpowered c = if_ok _ _ c.record_run.result (λ made m.
