@@ -34,7 +34,8 @@ unfoldable pub whole_since_answer : List Moment → Bool
 whole_since_answer [] = true
 whole_since_answer (m ∷ past) = is_answer m.mark || (m.whole && whole_since_answer past)
 
--- an answer is sent at a send tick at which react runs, where no trip has come by then
+-- an answer is sent at a send tick at which react runs, where no trip has come by then (and the engine is
+-- driven)
 unfoldable pub is_sent : TimeParts → Effects → Bool → List Moment → Bool
 is_sent times x trip past = sends_at x times (length past) && x.ran REACT && not (trip || tripped past)
 

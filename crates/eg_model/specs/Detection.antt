@@ -24,7 +24,8 @@ speed_bit s = speed_feed s.pairs
 unfoldable pub torque_bit : Signals → Bool
 torque_bit s = torque_feed s.excess
 
--- they are fed at a tick where debounce runs, no trip stands and no word is flipped
+-- they are fed at a tick where debounce runs, no trip stands and no word is flipped (and the engine is
+-- driven)
 unfoldable pub feeds_at : Effects → List Moment → Bool
 feeds_at x past = x.ran DEBOUNCE && not (tripped past) && not (is_some x.flip)
 

@@ -20,8 +20,8 @@ pub record BenchEngine (E : Type 0) : Type 0 where
 unfoldable pub gasoline : BenchEngine Gasoline
 gasoline = record { rest = at_rest; step = gasoline_step; shows = shown_of }
 
--- What the laws of records ask of an engine, where `Keeps` is what its states keep from step to step, whatever
--- that is.
+-- What the laws of records ask of an engine, where `Keeps` is what its states keep from step to step,
+-- whatever that is.
 pub record KeepsBenchLaws {E : Type 0} (b : BenchEngine E) (Keeps : PlantParts → E → Type 0) : Type 0 where
   -- the state before the first tick keeps it
   pub at_first : (plant : PlantParts) → ArePlantParts plant → Keeps plant (b.rest plant)

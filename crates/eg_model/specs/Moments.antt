@@ -26,7 +26,7 @@ unfoldable pub limit_at : CalibrationParts → DriveRow → ℕ
 limit_at cal drive = drive_permits cal.rules.permit drive
 
 -- The moment of one tick, in a span of this kind, of which these ticks came before. Where the engine isn't
--- driven the stages have no power, the debouncers aren't fed, no answer is sent, and wrong answers that are
+-- driven the stages are off, the debouncers aren't fed, no answer is sent, and wrong answers that are
 -- confirmed aren't found. A start-up test is passed where neither path conducts as they are read back; else
 -- it fails, which is found.
 unfoldable pub moment_in : SpanKind → Setting → Effects → Entry → List Moment → Moment

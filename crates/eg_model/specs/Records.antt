@@ -32,7 +32,7 @@ row_at b r t =
 unfoldable pub rows_to : {E : Type 0} → BenchEngine E → Run → ℕ → List Row
 rows_to b r n = rows_of (moments_to b r n)
 
--- the record is a history from power-on: what came in at its ticks gives its moments
+-- the record is a history from tick 0: what came in at its ticks gives its moments
 abbrev pub RecordsAreHistories : {E : Type 0} → BenchEngine E → Type 0
 RecordsAreHistories b = (r : Run) (n : ℕ) → moments_to b r n ≡ moments r.setting (entries_to b r n)
 

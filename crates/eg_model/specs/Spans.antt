@@ -1,8 +1,8 @@
--- A run, span by span. A power cycle begins at each tick whose drive row resets the unit, and with it a test
--- span, in which the two shut-off paths are tested and the stages have no power. Where the test is passed, a
--- drive span begins at the next tick; where it fails, the test span lasts to the next power cycle. A run
--- whose first row doesn't reset begins with a drive span. In each span all is as after power-on but for the
--- engine, which goes on: so what is true of a tick goes by the ticks of its span before it alone.
+-- A run, span by span. A power cycle begins at tick 0 and at each tick whose drive row resets the unit; with a
+-- reset it begins with a test span, in which the two shut-off paths are tested and the stages are off. Where
+-- the test is passed, a drive span begins at the next tick; where it fails, the test span lasts to the next
+-- reset. A run whose first row doesn't reset begins with a drive span. In each span all is as at the start of
+-- a run but for the engine, which goes on: so of the ticks before a tick only those of its span count for it.
 use Rattle.std.specs.Prelude.{Bool, false, ◌||◌, List, [], ◌∷◌, take, length, if◌then◌else◌}
 use Rattle.eg_num.specs.Drive.{DriveRow}
 use Rattle.eg_fault.specs.Effects.{Effects}
@@ -42,7 +42,7 @@ before_at drive past = if drive.reset || has_passed past then [] else span_so_fa
 unfoldable pub moment_at : Setting → Effects → Entry → List Moment → Moment
 moment_at s x e past = moment_in (kind_at e.drive past) s x e (before_at e.drive past)
 
--- ---- a run from power-on ----
+-- ---- a run from its start ----
 
 -- the moment of an entry that comes next after these moments: what is out of order is what the fault does at
 -- the tick of the run

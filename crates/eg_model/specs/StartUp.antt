@@ -24,7 +24,7 @@ TestsPass =
     (s : Setting) → IsAccepted s.cal → (x : Tick) (h : List Tick) → All IsUndisturbed (x ∷ h) →
     PassesTest s x h
 
--- a run whose rows never reset the unit is one drive span from power-on
+-- a run whose rows never reset the unit is one drive span from tick 0
 abbrev pub RunsWithoutReset : Type 0
 RunsWithoutReset =
     (s : Setting) (h : List Entry) → All (λ e. e.drive.reset ≡ false) h →

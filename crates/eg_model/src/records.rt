@@ -4,7 +4,7 @@ ghost use Rattle.eg_model.specs.Engines.{gasoline};
 ghost use Rattle.eg_model.specs.PowerCycles.{RecordsBeginInTurn};
 ghost use Rattle.eg_model.specs.Records.{RecordsAreHistories, RecordsAreRows, RecordsReact, RecordsReactAtOnce, RecordsCutFromOnset, RecordsCutSharply, RecordsCutSharplyBefore, RecordsCutLapses, RecordsHaveShortLapses, RecordsTestUnpowered, RecordsPassTests};
 
-/// The record of a run on the bench is a history from power-on, and its rows are numbered from 0 on. It
+/// The record of a run on the bench is a history from tick 0, and its rows are numbered from 0 on. It
 /// does nothing when it runs.
 pub fn records_are_histories()
     ensures histories { RecordsAreHistories gasoline }

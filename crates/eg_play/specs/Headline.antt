@@ -15,8 +15,8 @@ use Rattle.eg_model.specs.Records.{CutLapses, LapsesAreShort, AreOff}
 use Rattle.eg_model.specs.Lapses.{IsLapse}
 
 pub record KeepsHeadline (r : Run) : Type 0 where
-  -- At each reset a start-up test begins, and with it a test span. Else a drive span begins, at the first tick
-  -- of the run and right after a test that has found both paths open; at no other tick does any begin.
+  -- At each reset a start-up test begins, and with it a test span. Else a drive span begins, at the first
+  -- tick of the run and right after a test that has found both paths open; at no other tick does any begin.
   pub cycles : SpansBeginInTurn (record_rows gasoline r)
   -- With at most one listed fault outside level 1, in each drive span the power stages are off from R ticks
   -- after any torque excess that is confirmed in it to its end; under most faults from the next tick.

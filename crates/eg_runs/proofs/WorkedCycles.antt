@@ -60,10 +60,15 @@ pub full_run_with_a_reset-found : ticks_where (λ row. row.found.torque) (run_of
 unfolding whole_model is_trapped
 full_run_with_a_reset-found = refl
 
-pub test_that_is_begun_anew : stages_of (run_of idle None (cycle 20 ++ cycle 40))
+pub test_that_is_begun_anew-report : report_on (run_of idle None (cycle 20 ++ cycle 40))
+    ≡ reported None None None None
+unfolding whole_model is_trapped
+test_that_is_begun_anew-report = refl
+
+pub test_that_is_begun_anew-stages : stages_of (run_of idle None (cycle 20 ++ cycle 40))
     ≡ replicate 51 false ++ replicate 9 true
 unfolding whole_model is_trapped
-test_that_is_begun_anew = refl
+test_that_is_begun_anew-stages = refl
 
 pub resets_near_a_test-during : ticks_where (λ row. row.on) (tested_run idle None (cycle 4 ++ cycle 13))
     ≡ 15 ∷ 16 ∷ []

@@ -42,9 +42,11 @@ pub fn full_run_with_a_reset()
         ≡ 9 ∷ 60 ∷ [] }
 {}
 
-/// A reset while a test runs begins it anew.
+/// A reset while a test runs begins it anew. The report tells nothing of it.
 pub fn test_that_is_begun_anew()
-    ensures { stages_of (run_of idle None (cycle 20 ++ cycle 40)) ≡ replicate 51 false ++ replicate 9 true }
+    ensures report { report_on (run_of idle None (cycle 20 ++ cycle 40)) ≡ reported None None None None }
+    ensures stages { stages_of (run_of idle None (cycle 20 ++ cycle 40))
+        ≡ replicate 51 false ++ replicate 9 true }
 {}
 
 /// Tests that take ten ticks, and a reset while the first runs, right after it was passed, and at the very

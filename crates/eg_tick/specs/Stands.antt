@@ -1,4 +1,4 @@
--- What a controller stands for: a history from power-on, newest first, one entry a tick. What the controller
+-- What a controller stands for: a history of a run, newest first, one entry a tick. What the controller
 -- keeps in its memory, latches and counters is what the model says of the ticks of the span that this history
 -- ends in. What each part holds is said of any list of ticks, as a span of either kind; `Stands` alone says
 -- which ticks of the history these are.

@@ -74,7 +74,7 @@ pub(crate) fn load_image<M: Guarded>(memory: &mut M, image: &[u16]) -> Result<()
     write(memory, CODE, image)
 }
 
-/// Clears level 1's data and its two outputs, as after power-on (docs/CONCEPT.md, "Level 1").
+/// Clears level 1's data and its two outputs, as at the start of a run (docs/CONCEPT.md, "Level 1").
 #[tactic(auto, using(crate::proofs::BoardLemmas::board))]
 pub(crate) fn clear<M: Guarded>(memory: &mut M) -> Result<(), NoMemory>
     requires are_words { AreWords (M.shows memory.old).words }

@@ -9,7 +9,7 @@ use crate::span::Span;
 use eg_fault::{Fault, PATH_1, PATH_2, conducts};
 
 /// Whether each of the two shut-off paths conducts at a tick, and whether the power stages are on
-/// (docs/CONCEPT.md, "Shut-off paths").
+/// (docs/CONCEPT.md, "A run, tick by tick").
 #[derive(Clone, Copy)]
 pub(crate) struct Paths {
     pub(crate) path1: bool,
@@ -18,7 +18,7 @@ pub(crate) struct Paths {
 }
 
 impl Paths {
-    /// At a tick of this span. The stages have no power where the paths are tested in it.
+    /// At a tick of this span. The stages are off where the paths are tested in it.
     #[tactic(auto, unfolding(crate::specs::Stands::kind_of, eg_model::specs::History::drives))]
     pub(crate) fn at(fault: Option<&Fault>, tick: u32, span: &Span) -> Paths
         ensures path1 { result.path1

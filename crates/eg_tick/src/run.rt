@@ -76,8 +76,8 @@ pub fn run_one(
     ensures short { HasLapseBound calibration.now.rules.torque calibration.now.times →
         IsLapse (option_copied fault.entry) → IfOk result (λ made.
         EachDriveSpan (LapsesAreShort calibration.now) (reverse made.rows)) }
-    // A test span begins at each reset, and else a drive span at the first tick and after a test that has found
-    // both paths open. In each test span the stages are off. Without a fault no start-up test fails.
+    // A test span begins at each reset, and else a drive span at the first tick and after a test that has
+    // found both paths open. In each test span the stages are off. Without a fault no start-up test fails.
     ensures cycles { IfOk result (λ made. SpansBeginInTurn (reverse made.rows)) }
     ensures unpowered { IfOk result (λ made. EachTestSpan AreOff (reverse made.rows)) }
     ensures passes { option_copied fault.entry ≡ None → IfOk result (λ made.

@@ -191,8 +191,8 @@ pub(crate) fn enter<M: Guarded>(
     Ok(())
 }
 
-/// Begins a span, in which all is as after power-on but for the engine, which goes on (docs/CONCEPT.md, "A
-/// run, tick by tick"). The code stays, since nobody changes it.
+/// Begins a span, in which all is as at the start of a run but for the engine, which goes on
+/// (docs/CONCEPT.md, "Power cycles"). The code stays, since nobody changes it.
 #[inline(never)]
 fn begin<M: Guarded>(
     span: &mut Span,
