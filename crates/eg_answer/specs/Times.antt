@@ -32,8 +32,8 @@ verdicts_to_confirm w = quotient_up w.limit w.up
 unfoldable pub reaction_of : TimeParts → ℕ
 reaction_of t = (verdicts_to_confirm t.weights + 1) * t.period - t.send - 1
 
--- How long the test of the shut-off paths takes: no answer is sent in it, so that each verdict is wrong, and so
--- many ticks from its begin on path 2 is open.
+-- How long the test of the shut-off paths takes: no answer is sent in it, so that each verdict is wrong, and
+-- so many ticks from its begin on path 2 is open.
 unfoldable pub test_ticks_of : TimeParts → ℕ
 test_ticks_of t = verdicts_to_confirm t.weights * t.period
 

@@ -8,8 +8,8 @@ pub const MIRRORED_WORDS: u8 = 16;
 /// How many it stores, their numbers from 0 on: first the words, then their complements in the same order.
 pub const STORED_WORDS: u8 = 2 * MIRRORED_WORDS;
 
-/// Does nothing when it runs. Its contract says in numbers how many words level 2 has, how many it stores, and
-/// which bit of the excess word its debouncer is fed with (docs/FORMATS.md, "Words of level 2").
+/// Does nothing when it runs. Its contract says in numbers how many words level 2 has, how many it stores,
+/// and which bit of the excess word its debouncer is fed with (docs/FORMATS.md, "Words of level 2").
 pub fn words_in_numbers()
     ensures counts { MIRRORED_WORDS ∷ STORED_WORDS ∷ EXCESS_BIT ∷ [] ≡ 16 ∷ 32 ∷ 1 ∷ [] }
 {}

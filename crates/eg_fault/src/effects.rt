@@ -108,7 +108,7 @@ pub fn fault_of_levels(fault: Option<&Fault>, tick: u32) -> Option<&Fault>
 }
 
 /// Whether a tick is one at which level 2 sends its answer (docs/CONCEPT.md, "Faults"). The fault goes by the
-/// number `tick` that it has in the run, the periods by the number `local` that it has since power-on.
+/// number `tick` that it has in the run, the periods by the number `local` that it has in its span.
 #[tactic(auto, unfolding(crate::specs::Effects::sends_at))]
 pub fn sends(fault: Option<&Fault>, tick: u32, local: u32, times: &Times) -> bool
     ensures { result ≡ sends_at (effects (option_copied fault.entry) tick) times.now local }

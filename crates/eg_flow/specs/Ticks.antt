@@ -64,5 +64,6 @@ orders_at d words = d.ran REACT && opens_now d.phase (after_modules d REACT word
 -- the watches that are found: that of the mirrored words by check, the others by debounce
 unfoldable pub finds_at : Doing → Words → Watches
 finds_at d words =
-    let found = if d.ran DEBOUNCE then debounced d.rules d.phase (after_modules d DEBOUNCE words) else no_watches in
+    let found = if d.ran DEBOUNCE then debounced d.rules d.phase (after_modules d DEBOUNCE words)
+        else no_watches in
     record found { mirror = d.ran CHECK && d.differs }

@@ -7,7 +7,7 @@ pub enum TraceFault {
     /// There was no memory for the rows.
     #[error("no memory")]
     Memory,
-    /// The first record isn't the header, or there is no record.
+    /// The first record is none of the headers of such a file, or there is no record.
     #[error("header")]
     Header,
     /// The record at this place, the header's being 1, is the first below the header that writes no row.

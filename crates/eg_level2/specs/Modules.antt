@@ -249,7 +249,8 @@ mirror_alone = record no_watches { mirror = true }
 
 -- the watches that it finds, where each word had its complement
 unfoldable pub found_by : Inputs → ℕ → Words → Watches
-found_by inputs number words = if number == DEBOUNCE then debounced inputs.rules inputs.phase words else no_watches
+found_by inputs number words =
+    if number == DEBOUNCE then debounced inputs.rules inputs.phase words else no_watches
 
 -- all three, as a run answers them
 unfoldable pub step_of : Inputs → ℕ → Words → Step

@@ -15,8 +15,8 @@ pub record IsRun {E : Type 0} (parts : Level2Parts) (number tick : ℕ) (phase :
       ≡ module_step (inputs_of parts old.words tick phase disturbance) number (words_of old.words))
   pub answer : IfOk result (λ step. step.answer
       ≡ answer_after (inputs_of parts old.words tick phase disturbance) number (words_of old.words))
-  pub order : IfOk result (λ step. step.open_path ≡ order_after (inputs_of parts old.words tick phase disturbance) number
-      (words_of old.words))
+  pub order : IfOk result (λ step. step.open_path
+      ≡ order_after (inputs_of parts old.words tick phase disturbance) number (words_of old.words))
   pub found : AreMirrored old.words → IfOk result (λ step. step.found
       ≡ found_by (inputs_of parts old.words tick phase disturbance) number (words_of old.words))
   -- Where a word differed from its complement, module 0 gives all words up, and finds that alone. Mirror is

@@ -34,8 +34,8 @@ struct Feeds {
     torque: Fed,
 }
 
-/// Module 6: debounces the pairs and the excess, but not in a test, nor where a trip stands. A pedal that is found limits the
-/// operation; any other watch that is found trips (docs/CONCEPT.md, "Level 2").
+/// Module 6: debounces the pairs and the excess, but not in a test, nor where a trip stands. A pedal that is
+/// found limits the operation; any other watch that is found trips (docs/CONCEPT.md, "Level 2").
 #[inline(always)]
 #[tactic(auto, using(crate::proofs::DebounceLemmas::debounce_laws))]
 pub(crate) fn debounce<M: Guarded>(

@@ -26,8 +26,8 @@ struct Heard {
 const WHOLE_TOKEN: u32 = 0x00ff_0000;
 
 /// The monitoring module (docs/CONCEPT.md, "Questions and answers"). It counts the verdicts that it has
-/// given, and keeps the answers that it has heard since the last one. Ticks are counted from 0. Contracts see
-/// its `MonitorParts`. No call takes memory.
+/// given, and keeps the answers that it has heard since the last one. Ticks are counted from 0, and from 0
+/// again after `restart`. Contracts see its `MonitorParts`. No call takes memory.
 #[derive(Drop)]
 pub struct Monitor {
     times: Times,

@@ -1,8 +1,8 @@
 -- What a drive trace gives to one tick.
 use Rattle.std.specs.Prelude.{ℕ, ◌≤◌, Bool, false}
 
--- pedal in per mille, speed in rpm, raise of the permitted torque in tenths of Nm; whether a power cycle begins
--- at the tick, and whether the driver brakes
+-- pedal in per mille, speed in rpm, raise of the permitted torque in tenths of Nm; whether the unit is reset at
+-- the tick, and whether the driver brakes
 pub record DriveRow : Type 0 where
   pub pedal : ℕ
   pub speed : ℕ
@@ -14,7 +14,7 @@ pub record DriveRow : Type 0 where
 abbrev pub IsDrive : DriveRow → Type 0
 IsDrive row = (row.pedal ≤ 1000) × (row.speed ≤ 8000) × (row.raise ≤ 10000)
 
--- a row at which no power cycle begins and nobody brakes
+-- a row at which the unit isn't reset and nobody brakes
 abbrev pub driven : (pedal speed raise : ℕ) → DriveRow
 driven pedal speed raise =
     record { pedal = pedal; speed = speed; raise = raise; reset = false; brake = false }

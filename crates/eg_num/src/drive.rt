@@ -5,8 +5,8 @@ ghost use Rattle.eg_num.specs.Drive.{DriveRow, IsDrive};
 use std::marker::Model;
 
 /// What a drive trace gives to one tick (docs/CONCEPT.md, "Units"): the pedal (0 to 1000 per mille), the
-/// speed (0 to 8000 rpm), what raises the permitted torque (0 to 10,000 tenths of Nm), whether a power cycle
-/// begins at the tick, and whether the driver brakes. Contracts see its `DriveRow`.
+/// speed (0 to 8000 rpm), what raises the permitted torque (0 to 10,000 tenths of Nm), whether the unit is
+/// reset at the tick, and whether the driver brakes. Contracts see its `DriveRow`.
 #[derive(Clone, Copy, Debug, PartialEq, Eq)]
 pub struct Drive {
     pedal: u16,
@@ -94,7 +94,7 @@ impl Drive {
         self.raise
     }
 
-    /// Whether a power cycle begins at the tick.
+    /// Whether the unit is reset at the tick.
     pub fn reset(&self) -> bool
         ensures reset { result ≡ self.now.reset }
         ensures drive { IsDrive self.now }

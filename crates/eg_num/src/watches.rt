@@ -1,8 +1,9 @@
 // The watches of the unit.
 
 /// Which watches are found at a tick (docs/CONCEPT.md, "The record of a run"): that of the mirrored words,
-/// those of the four pairs of sensors, that of the torque, that of the answers, and that of the start-up test.
-/// All but the first and the last have a debouncer, and are found where its counter first reaches its limit.
+/// those of the four pairs of sensors, that of the torque, that of the answers, and that of the start-up
+/// test. All but the first and the last have a debouncer, and are found where its counter first reaches its
+/// limit.
 #[derive(Clone, Copy, Debug, PartialEq, Eq)]
 pub struct Watches {
     /// A word of level 2 was found to differ from its complement.
