@@ -1,4 +1,4 @@
-// The eight tracks of the sensors, by their numbers (docs/CONCEPT.md, "Sensors").
+// The ten tracks of the sensors, by their numbers (docs/CONCEPT.md, "Sensors").
 
 /// The first track of the pedal, which rises.
 pub const PEDAL_1: u8 = 0;
@@ -24,5 +24,14 @@ pub const SPEED_1: u8 = 6;
 /// The second track of the speed.
 pub const SPEED_2: u8 = 7;
 
+/// How many tracks come in pairs that are compared; these have the first numbers.
+pub const PAIRED_TRACKS: u8 = 8;
+
+/// The first contact of the brake, which closes where it is pressed.
+pub const BRAKE_1: u8 = 8;
+
+/// The second contact of the brake, which opens where it is pressed.
+pub const BRAKE_2: u8 = 9;
+
 /// How many tracks there are.
-pub const TRACKS: u8 = 8;
+pub const TRACKS: u8 = 10;

@@ -1,5 +1,5 @@
 -- What a calibration holds, and when it is an accepted one.
-use Rattle.std.specs.Prelude.{◌≡◌, ℕ, ◌≤◌, ◌<◌, ◌^◌, List, length, All}
+use Rattle.std.specs.Prelude.{◌≡◌, ℕ, ◌≤◌, ◌<◌, ◌^◌, Bool, List, length, All}
 use Rattle.eg_num.specs.Interpolation.{IsGrid, IsCurve}
 use Rattle.eg_num.specs.Windows.{AreWeights}
 use Rattle.eg_torque.specs.Permit.{DoesNotFall}
@@ -12,17 +12,18 @@ use Rattle.eg_answer.specs.declared.questions.Question.{Question}
 use Rattle.eg_values.specs.declared.calibration.Apart.{Apart}
 use Rattle.eg_values.specs.declared.calibration.Apart.TheVariants.{Torque, Few, Answer}
 
--- the rules of level 2, the plant, the times of the answers, and the questions
+-- the rules of level 2, the plant, the times of the answers, the questions, and whether the brake counts
 pub record CalibrationParts : Type 0 where
   pub rules : Rules
   pub plant : PlantParts
   pub times : TimeParts
   pub questions : List Question
+  pub brake : Bool
 
--- the parts of a calibration that is made of these four
-abbrev pub made_of : Rules → PlantParts → TimeParts → List Question → CalibrationParts
-made_of rules plant times questions =
-    record { rules = rules; plant = plant; times = times; questions = questions }
+-- the parts of a calibration that is made of these five
+abbrev pub made_of : Rules → PlantParts → TimeParts → List Question → Bool → CalibrationParts
+made_of rules plant times questions brake =
+    record { rules = rules; plant = plant; times = times; questions = questions; brake = brake }
 
 -- the question's answer is the fold of its row
 abbrev pub IsAnswered : Rules → Question → Type 0

@@ -1,5 +1,5 @@
 -- The reference calibration.
-use Rattle.std.specs.Prelude.{ℕ, List, [], ◌∷◌}
+use Rattle.std.specs.Prelude.{ℕ, false, List, [], ◌∷◌}
 use Rattle.eg_num.specs.Interpolation.{Grid}
 use Rattle.eg_plant.specs.PlantParts.{PlantParts}
 use Rattle.eg_answer.specs.Times.{TimeParts}
@@ -130,11 +130,12 @@ question_3 = record {
 abbrev pub reference_questions : List Question
 reference_questions = question_0 ∷ question_1 ∷ question_2 ∷ question_3 ∷ []
 
--- all of it
+-- all of it; the brake doesn't count
 abbrev pub reference_parts : CalibrationParts
 reference_parts = record {
   rules = reference_rules;
   plant = reference_plant;
   times = reference_times;
   questions = reference_questions;
+  brake = false;
 }

@@ -18,14 +18,15 @@ pub enum Apart {
 }
 
 /// A calibration (docs/CONCEPT.md, "Calibration"): the rules of level 2, the plant, the times of the answers,
-/// and the questions with their answers. Its type keeps that it is an accepted one (`IsAccepted`). Contracts
-/// see its `CalibrationParts`.
+/// the questions with their answers, and whether the brake counts. Its type keeps that it is an accepted one
+/// (`IsAccepted`). Contracts see its `CalibrationParts`.
 #[derive(Drop)]
 pub struct Calibration {
     rules: Rules,
     plant: PlantData,
     times: Times,
     questions: Questions,
+    brake: bool,
 }
 
 impl Model for Calibration {
@@ -33,9 +34,9 @@ impl Model for Calibration {
 
     ghost Value = { CalibrationParts };
 
-    ghost view = { λ c. made_of c.rules c.plant c.times c.questions };
+    ghost view = { λ c. made_of c.rules c.plant c.times c.questions c.brake };
 
-    ghost invariant = { λ c. IsAccepted (made_of c.rules c.plant c.times c.questions) };
+    ghost invariant = { λ c. IsAccepted (made_of c.rules c.plant c.times c.questions c.brake) };
 }
 
 impl Calibration {
@@ -47,12 +48,13 @@ impl Calibration {
         plant: PlantData,
         times: Times,
         questions: Questions,
+        brake: bool,
     ) -> Option<Calibration>
-        ensures accepted { IsSome result ↔ GoTogether (made_of rules plant times questions) }
-        ensures kept { let parts = made_of rules plant times questions in
+        ensures accepted { IsSome result ↔ GoTogether (made_of rules plant times questions brake) }
+        ensures kept { let parts = made_of rules plant times questions brake in
             IfSome result (λ calibration. (calibration ≡ parts) × IsAccepted parts) }
     {
-        Calibration::of_parts(rules, plant, times, questions).ok()
+        Calibration::of_parts(rules, plant, times, questions, brake).ok()
     }
 
     /// The calibration of these parts, or the first rule that keeps them apart.
@@ -61,11 +63,12 @@ impl Calibration {
         plant: PlantData,
         times: Times,
         questions: Questions,
+        brake: bool,
     ) -> Result<Calibration, Apart>
-        ensures accepted { IsOk result ↔ GoTogether (made_of rules plant times questions) }
-        ensures kept { let parts = made_of rules plant times questions in
+        ensures accepted { IsOk result ↔ GoTogether (made_of rules plant times questions brake) }
+        ensures kept { let parts = made_of rules plant times questions brake in
             IfOk result (λ calibration. (calibration ≡ parts) × IsAccepted parts) }
-        ensures refused { IfErr result (IsApart (made_of rules plant times questions)) }
+        ensures refused { IfErr result (IsApart (made_of rules plant times questions brake)) }
     {
         if rules.kt != plant.kt() {
             return Err(Apart::Torque);
@@ -86,6 +89,7 @@ impl Calibration {
             plant,
             times,
             questions,
+            brake,
         })
     }
 
@@ -121,6 +125,15 @@ impl Calibration {
         &self.questions
     }
 
+    /// Whether the brake counts: while it is pressed pedal and raise are taken as 0 (docs/CONCEPT.md,
+    /// "Sensors" and "Torque").
+    pub fn brake(&self) -> bool
+        ensures brake { result ≡ self.now.brake }
+        ensures accepted { IsAccepted self.now }
+    {
+        self.brake
+    }
+
     /// An equal calibration. It takes no memory.
     pub fn copy(&self) -> Calibration
         ensures { result ≡ self.now }
@@ -130,6 +143,7 @@ impl Calibration {
             plant: self.plant.copy(),
             times: self.times.copy(),
             questions: self.questions.copy(),
+            brake: self.brake,
         }
     }
 }

@@ -12,12 +12,13 @@ use eg_plant::PlantData;
 use eg_sensor::Readings;
 use eg_torque::Permit;
 
-/// The reference calibration (docs/CONCEPT.md, "Calibration"), which is an accepted one. It takes no memory.
+/// The reference calibration (docs/CONCEPT.md, "Calibration"), which is an accepted one, in which the brake
+/// doesn't count. It takes no memory.
 pub fn reference() -> Calibration
     ensures parts { result ≡ reference_parts }
     ensures accepted { IsAccepted result }
 {
-    let calibration = Calibration::new(rules(), plant(), times(), questions());
+    let calibration = Calibration::new(rules(), plant(), times(), questions(), false);
     let Some(calibration) = calibration else {
         unreachable!();
     };

@@ -10,7 +10,7 @@ use Rattle.eg_values.proofs.standard.reference.Goals as goal
 
 -- these parts go together
 abbrev Together : Rules → PlantParts → TimeParts → List Question → Type 0
-Together r p t q = GoTogether (made_of r p t q)
+Together r p t q = GoTogether (made_of r p t q false)
 
 pub unreachable-requires : goal.unreachable-requires
 unreachable-requires c =
