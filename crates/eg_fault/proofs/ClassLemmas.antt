@@ -1,11 +1,13 @@
 -- What each class of faults leaves alone, which word it flips, and which module it leaves out or disturbs.
 use Rattle.std.proofs.Common.{◌≡◌, ◌≢◌, ◌∙◌, ℕ, suc, ◌-◌, ◌<◌, ◌⊎◌, inl, inr, Bool, true, false, not, ◌&&◌, ◌||◌, Some, None, refl, sym, ap, subst, le_trans, arith}
 use Rattle.std.specs.Prelude.{◌==◌, if◌then◌else◌, IfSome}
-use Rattle.std.proofs.lemmas.Bool.{cases_lt, cases_Bool, eq-eqb, eqb-true, eqb-false, ne_eqb, false≢true}
+use Rattle.std.proofs.lemmas.Bool.{cases_lt, cases_Bool, eq-eqb, eqb-true, eqb-false, ne_eqb, false≢true, or_right}
+use Rattle.eg_sensor.specs.Brake.{sound_contacts, is_pressed}
+use Rattle.eg_sensor.specs.declared.tracks.TheConstants.{BRAKE_1, BRAKE_2}
 use Rattle.eg_answer.specs.Modules.{OthersRun, AtMostOneIsDisturbed}
-use Rattle.eg_fault.specs.Effects.{Effects, no_effects}
+use Rattle.eg_fault.specs.Effects.{Effects, no_effects, contacts_under}
 use Rattle.eg_fault.specs.Faults.{does, effects, IsValidClass}
-use Rattle.eg_fault.specs.Classes.{IsSound, OneTrackIsFaulty, IsHeldWithin, PlatesAreHeldWithin, IsFlip, FlipsAreInWords, ChecksFlips, FaultsCheckFlips, OneOfEightIsLeftOut, FaultsDisturbOne, IsRegular, may_change_answers, OthersSpareLevels, OthersSpareAnswers, WildStaysWild, closes, OthersObeyLatches}
+use Rattle.eg_fault.specs.Classes.{IsSound, OneTrackIsFaulty, PressedBrakesAreSeen, IsHeldWithin, PlatesAreHeldWithin, IsFlip, FlipsAreInWords, ChecksFlips, FaultsCheckFlips, OneOfEightIsLeftOut, FaultsDisturbOne, IsRegular, may_change_answers, OthersSpareLevels, OthersSpareAnswers, WildStaysWild, closes, OthersObeyLatches}
 use Rattle.eg_fault.specs.declared.class.Class.{Class}
 use Rattle.eg_fault.specs.declared.class.Class.TheVariants.{Script, Offset, Plate, Skip, Disturb, Flip, Halt, Timing, Wild, Path1Closed, Path2Closed, PathOpen, Lapse}
 use Rattle.eg_fault.proofs.ActingLemmas.{before_onset, from_onset, of_class, of_all, of_valid}
@@ -35,6 +37,30 @@ one_of_two class k a b apart = go (faulty_track class)
       | inl same ↦ inr (found.1 k b (λ also. apart (eqb-true _ _ same ∙ sym also)))
       | inr other ↦ inl (found.1 k a (eqb-false _ _ other))
     ]
+
+-- ---- the brake ----
+
+-- a first contact that reads 1 says pressed, and so does a second one that reads 0
+pressed_by_first : (b : ℕ) → (not (1 == 0) || b == 0) ≡ true
+pressed_by_first b = refl
+
+pressed_by_second : (a : ℕ) → (not (a == 0) || 0 == 0) ≡ true
+pressed_by_second a = or_right (not (a == 0)) (0 == 0) refl
+
+-- one sound contact is enough
+pub pressed_is_seen : (x : Effects) → IsSound x BRAKE_1 ⊎ IsSound x BRAKE_2 → is_pressed (contacts_under x (sound_contacts true)) ≡ true
+unfolding contacts_under
+pressed_is_seen x (inl sound) = subst (λ a. (not (a == 0) || x.track BRAKE_2 0 == 0) ≡ true) (sym (sound 1)) (pressed_by_first (x.track BRAKE_2 0))
+pressed_is_seen x (inr sound) = subst (λ b. (not (x.track BRAKE_1 1 == 0) || b == 0) ≡ true) (sym (sound 0)) (pressed_by_second (x.track BRAKE_1 1))
+
+pub pressed_brakes_are_seen : PressedBrakesAreSeen
+pressed_brakes_are_seen fault tick = pressed_is_seen (effects fault tick) (elim (cases_Bool (BRAKE_1 == found.0)) [
+  | inl same ↦ inr (found.1 tick BRAKE_2 (λ also. let f : BRAKE_1 ≡ found.0 = eqb-true _ _ same in omega (arith, f, also)))
+  | inr other ↦ inl (found.1 tick BRAKE_1 (eqb-false _ _ other))
+])
+  where
+    found : (one : ℕ) × ((t i : ℕ) → i ≢ one → IsSound (effects fault t) i)
+    found = one_track_is_faulty fault
 
 -- ---- the plate ----
 

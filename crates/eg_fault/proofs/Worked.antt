@@ -3,14 +3,15 @@ use Rattle.std.proofs.Common.{◌≡◌, ℕ, true, false, [], ◌∷◌, refl}
 use Rattle.std.specs.Prelude.{pos, negsuc, Some, None}
 use Rattle.eg_answer.specs.Periods.{asked, is_send_tick, period_of, place_of}
 use Rattle.eg_answer.specs.Times.{TimeParts}
-use Rattle.eg_fault.specs.Effects.{Effects, no_effects, readings_under, sends_in, sends_at, asked_in, asked_at}
+use Rattle.eg_sensor.specs.Brake.{sound_contacts}
+use Rattle.eg_fault.specs.Effects.{Effects, no_effects, readings_under, contacts_under, sends_in, sends_at, asked_in, asked_at}
 use Rattle.eg_fault.specs.Faults.{offset_by, in_turn, truth_in_turn, is_left_out, does, effects}
 use Rattle.eg_fault.specs.declared.class.Class.{Class}
 use Rattle.eg_fault.specs.declared.class.Class.TheVariants.{Script, Flip, Timing, Wild, Path1Closed, PathOpen, Lapse}
 
 -- every definition of faults
 unfoldable faults : ℕ
-unfolding no_effects readings_under sends_in sends_at asked_in asked_at asked is_send_tick period_of place_of
+unfolding no_effects readings_under contacts_under sends_in sends_at asked_in asked_at asked is_send_tick period_of place_of
     offset_by in_turn truth_in_turn is_left_out does effects
 faults = 0
 
@@ -48,6 +49,20 @@ script-again = refl
 script-other : (under (Script 4 (7 ∷ 8 ∷ 9 ∷ [])) 14).track 5 500 ≡ 500
 unfolding faults
 script-other = refl
+
+-- the contacts of the brake are tracks 8 and 9
+
+contact-1 : contacts_under (under (Script 8 (7 ∷ [])) 10) (sound_contacts true) ≡ 7 ∷ 0 ∷ []
+unfolding faults
+contact-1 = refl
+
+contact-2 : contacts_under (under (Script 9 (7 ∷ [])) 10) (sound_contacts true) ≡ 1 ∷ 7 ∷ []
+unfolding faults
+contact-2 = refl
+
+contact-others : contacts_under (under (Script 7 (7 ∷ [])) 10) (sound_contacts false) ≡ 0 ∷ 1 ∷ []
+unfolding faults
+contact-others = refl
 
 -- a flip comes at the onset alone
 flip-onset : (under (Flip 31 4) 10).flip ≡ Some (31, 4)

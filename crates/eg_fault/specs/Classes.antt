@@ -4,7 +4,8 @@ use Rattle.std.specs.Prelude.{ℕ, ◌≡◌, ◌≢◌, ◌==◌, ◌≤◌, �
 use Rattle.eg_answer.specs.Modules.{AtMostOneIsDisturbed}
 use Rattle.eg_answer.specs.declared.modules.TheConstants.{CHECK, MODULES}
 use Rattle.eg_answer.specs.declared.words.TheConstants.{STORED_WORDS}
-use Rattle.eg_fault.specs.Effects.{Effects}
+use Rattle.eg_sensor.specs.Brake.{sound_contacts, is_pressed}
+use Rattle.eg_fault.specs.Effects.{Effects, contacts_under}
 use Rattle.eg_fault.specs.Faults.{effects, IsValid, IsNoneOrValid}
 use Rattle.eg_fault.specs.Running.{LeavesOut, RunAlike, may_change_levels}
 use Rattle.eg_fault.specs.declared.class.Class.{Class}
@@ -22,6 +23,14 @@ IsSound x i = (v : ℕ) → x.track i v ≡ v
 abbrev pub OneTrackIsFaulty : Type 0
 OneTrackIsFaulty =
     (fault : Option Fault) → (one : ℕ) × ((tick i : ℕ) → i ≢ one → IsSound (effects fault tick) i)
+
+-- ---- the brake ----
+
+-- so a brake that the driver presses is taken as pressed at each tick, whichever contact isn't sound
+abbrev pub PressedBrakesAreSeen : Type 0
+PressedBrakesAreSeen =
+    (fault : Option Fault) (tick : ℕ) →
+    is_pressed (contacts_under (effects fault tick) (sound_contacts true)) ≡ true
 
 -- ---- the plate ----
 

@@ -1,8 +1,8 @@
 -- What is out of order outside level 1 at one tick: one record, field by field as the parts of the unit meet
 -- it. Whoever speaks of a tick is handed this record, and knows of no fault and of no onset.
-use Rattle.std.specs.Prelude.{ℕ, ◌%◌, ◌==◌, Bool, true, false, not, [], ◌∷◌, slice_index, Option, Some, None}
+use Rattle.std.specs.Prelude.{ℕ, ◌%◌, ◌==◌, Bool, true, false, not, List, [], ◌∷◌, slice_index, Option, Some, None}
 use Rattle.eg_sensor.specs.declared.readings.Readings.{Readings}
-use Rattle.eg_sensor.specs.declared.tracks.TheConstants.{PEDAL_1, PEDAL_2, PLATE_1, PLATE_2, LOAD_1, LOAD_2, SPEED_1, SPEED_2}
+use Rattle.eg_sensor.specs.declared.tracks.TheConstants.{PEDAL_1, PEDAL_2, PLATE_1, PLATE_2, LOAD_1, LOAD_2, SPEED_1, SPEED_2, BRAKE_1, BRAKE_2}
 use Rattle.eg_answer.specs.Times.{TimeParts}
 use Rattle.eg_answer.specs.Periods.{asked, is_send_tick, place_of}
 
@@ -57,6 +57,11 @@ readings_under x truth = record {
   raise = x.raise truth.raise;
   raise_check = truth.raise_check;
 }
+
+-- the contacts of the brake, where sound ones read these
+unfoldable pub contacts_under : Effects → List ℕ → List ℕ
+contacts_under x truth =
+    x.track BRAKE_1 (slice_index truth 0) ∷ x.track BRAKE_2 (slice_index truth 1) ∷ []
 
 -- whether a tick is one at which answers are sent: at the usual tick of each period, or at another
 unfoldable pub sends_in : Option ℕ → TimeParts → ℕ → Bool

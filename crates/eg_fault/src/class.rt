@@ -20,9 +20,9 @@ pub struct Fault {
 /// The classes of faults (docs/CONCEPT.md, "Faults").
 #[derive(Drop)]
 pub enum Class {
-    /// A track (0 to 7) reads these values in turn.
+    /// A track (0 to 9) reads these values in turn.
     Script { track: u8, values: Script },
-    /// A track (0 to 7) reads so much more, or less (-65,535 to 65,535, not 0).
+    /// A track (0 to 9) reads so much more, or less (-65,535 to 65,535, not 0).
     Offset { track: u8, add: i32 },
     /// The raise comes with these bits (1 to 65,535) flipped, its check word as it was sent.
     Bus { mask: u16 },

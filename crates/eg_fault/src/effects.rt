@@ -3,13 +3,16 @@ ghost use Rattle.std.specs.Prelude.{◌≡◌, false, option_map, Some, IfSome};
 ghost use Rattle.std.specs.Option.{option_copied, option_map_or};
 ghost use Rattle.eg_answer.specs.Periods;
 ghost use Rattle.eg_fault.specs.Effects;
-ghost use Rattle.eg_fault.specs.Effects.{no_effects, readings_under, sends_at};
+ghost use Rattle.eg_fault.specs.Effects.{no_effects, readings_under, contacts_under, sends_at};
 ghost use Rattle.eg_fault.specs.Faults.{effects, does};
 ghost use Rattle.eg_fault.specs.Running.{RunAlike};
 
 use crate::{Class, Fault};
 use eg_answer::Times;
-use eg_sensor::{LOAD_1, LOAD_2, PEDAL_1, PEDAL_2, PLATE_1, PLATE_2, Readings, SPEED_1, SPEED_2};
+use eg_sensor::{
+    BRAKE_1, BRAKE_2, LOAD_1, LOAD_2, PEDAL_1, PEDAL_2, PLATE_1, PLATE_2, Readings, SPEED_1,
+    SPEED_2,
+};
 
 /// What the sensors read at a tick, where sound tracks read the truth (docs/CONCEPT.md, "Faults").
 #[tactic(auto, unfolding(crate::specs::Effects::readings_under))]
@@ -36,6 +39,18 @@ pub fn faulty_readings(fault: Option<&Fault>, tick: u32, truth: &Readings) -> Re
         raise: raise(fault, tick, truth.raise),
         raise_check: truth.raise_check,
     }
+}
+
+/// What the contacts of the brake read at a tick, where sound ones read the truth (docs/CONCEPT.md,
+/// "Faults").
+#[tactic(auto, unfolding(crate::specs::Effects::contacts_under))]
+pub fn faulty_contacts(fault: Option<&Fault>, tick: u32, truth: [u16; 2]) -> [u16; 2]
+    ensures { result ≡ contacts_under (effects (option_copied fault.entry) tick) truth }
+{
+    [
+        track(fault, tick, BRAKE_1, truth[0]),
+        track(fault, tick, BRAKE_2, truth[1]),
+    ]
 }
 
 /// Where the throttle plate is held at a tick, in per mille, if it is (docs/CONCEPT.md, "Faults").
@@ -141,7 +156,7 @@ pub fn conducts(fault: Option<&Fault>, tick: u32, path: u8, opened: bool) -> boo
     class.conducts(after, path, opened)
 }
 
-/// What a track (0 to 7) reads at a tick, where a sound one reads that.
+/// What a track (0 to 9) reads at a tick, where a sound one reads that.
 #[tactic(auto, unfolding(crate::specs::Effects::no_effects))]
 fn track(fault: Option<&Fault>, tick: u32, index: u8, sound: u16) -> u16
     ensures { result ≡ (effects (option_copied fault.entry) tick).track index sound }

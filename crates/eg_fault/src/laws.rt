@@ -1,5 +1,5 @@
 // The laws of all faults. None of these functions does anything when it runs.
-ghost use Rattle.eg_fault.specs.Classes.{OneTrackIsFaulty, PlatesAreHeldWithin, FlipsAreInWords, FaultsCheckFlips, OneOfEightIsLeftOut, FaultsDisturbOne, OthersSpareLevels, OthersSpareAnswers, WildStaysWild, OthersObeyLatches};
+ghost use Rattle.eg_fault.specs.Classes.{OneTrackIsFaulty, PressedBrakesAreSeen, PlatesAreHeldWithin, FlipsAreInWords, FaultsCheckFlips, OneOfEightIsLeftOut, FaultsDisturbOne, OthersSpareLevels, OthersSpareAnswers, WildStaysWild, OthersObeyLatches};
 ghost use Rattle.eg_fault.specs.Running.{RunningLaw};
 
 /// A law: without a fault and under any fault all modules of level 2 run at a tick, or none does, or all but
@@ -9,11 +9,13 @@ pub fn modules_run_together()
     ensures { RunningLaw }
 {}
 
-/// Laws of what a fault leaves alone (docs/CONCEPT.md, "Faults"): all tracks but one are sound; level 1 and
-/// level 2, the ticks of answers, and a path whose latch is open are as without a fault, but for the classes
-/// that may change them; and a monitoring module that isn't wild has never been.
+/// Laws of what a fault leaves alone (docs/CONCEPT.md, "Faults"): all tracks but one are sound, so that a
+/// brake that the driver presses is taken as pressed; level 1 and level 2, the ticks of answers, and a path
+/// whose latch is open are as without a fault, but for the classes that may change them; and a monitoring
+/// module that isn't wild has never been.
 pub fn faults_leave_the_rest()
     ensures tracks { OneTrackIsFaulty }
+    ensures brake { PressedBrakesAreSeen }
     ensures levels { OthersSpareLevels }
     ensures answers { OthersSpareAnswers }
     ensures wild { WildStaysWild }

@@ -1,6 +1,7 @@
 -- Pairs at their tolerance, a falling track past its end, and raises with their check words, computed from the
 -- definitions.
 use Rattle.std.proofs.Common.{◌≡◌, ℕ, ◌+◌, [], ◌∷◌, true, false, map, refl}
+use Rattle.eg_sensor.specs.Brake.{sound_contacts, is_pressed, gated}
 use Rattle.eg_sensor.specs.Readings.{falling_value, rising_pair, falling_pair, disagrees, used_pedal, checked_raise, has_bit, pair_bits}
 use Rattle.eg_sensor.specs.declared.readings.Readings.{Readings}
 
@@ -56,3 +57,26 @@ limited = refl
 -- they add up to 65535, or are one off on either side
 raises : map (λ check. checked_raise 600 check) (64935 ∷ 64934 ∷ 64936 ∷ []) ≡ 600 ∷ 0 ∷ 0 ∷ []
 raises = refl
+
+-- ---- the brake ----
+
+-- what both contacts read where it is pressed, and where it isn't
+contacts : map sound_contacts (true ∷ false ∷ []) ≡ (1 ∷ 0 ∷ []) ∷ (0 ∷ 1 ∷ []) ∷ []
+contacts = refl
+
+-- it is pressed where both say so, where the first alone does, by 1 or by another number, and where the second
+-- alone does; not where neither does, and the second may read another number than 1 then
+said : map is_pressed ((1 ∷ 0 ∷ []) ∷ (1 ∷ 1 ∷ []) ∷ (6 ∷ 1 ∷ []) ∷ (0 ∷ 0 ∷ []) ∷ (0 ∷ 1 ∷ []) ∷ (0 ∷ 6 ∷ []) ∷ [])
+    ≡ true ∷ true ∷ true ∷ true ∷ false ∷ false ∷ []
+said = refl
+
+-- pedal and raise are gated, and nothing else
+gated_torn : gated (record (torn 3) { raise = 600; raise_check = 64935 }) ≡ record {
+  pedal = 0 ∷ 1000 ∷ [];
+  plate = 100 ∷ 850 ∷ [];
+  load = 200 ∷ 253 ∷ [];
+  speed = 853 ∷ 800 ∷ [];
+  raise = 0;
+  raise_check = 65535;
+}
+gated_torn = refl
