@@ -5,7 +5,7 @@ use Rattle.std.specs.Prelude.{if◌then◌else◌, ◌==◌}
 use Rattle.std.specs.List.{list_all}
 use Rattle.std.proofs.lemmas.List.Folds.{list_all_at}
 use Rattle.std.proofs.lemmas.Bool.{ne_eqb, eq-eqb}
-use Rattle.eg_sensor.specs.declared.tracks.TheConstants.{PEDAL_1, PEDAL_2, LOAD_1, LOAD_2, SPEED_1, SPEED_2}
+use Rattle.eg_sensor.specs.declared.tracks.TheConstants.{PEDAL_1, PEDAL_2, LOAD_1, LOAD_2, SPEED_1, SPEED_2, BRAKE_1, BRAKE_2}
 use Rattle.eg_answer.specs.Times.{TimeParts}
 use Rattle.eg_answer.specs.declared.marks.AnswerMark.TheVariants.{Absent, Good, Bad}
 use Rattle.eg_answer.specs.declared.modules.TheConstants.{MODULES}
@@ -44,6 +44,7 @@ sees_plain = record {
   pedal = inl (λ v. refl);
   load = inl (λ v. refl);
   speed = inl (λ v. refl);
+  brake = inl (λ v. refl);
 }
 
 -- where level 2 runs whole and undisturbed, one track of each pair is enough
@@ -55,6 +56,7 @@ sees_whole class k runs undisturbed = record {
   pedal = one_of_two class k PEDAL_1 PEDAL_2 (λ e. omega arith);
   load = one_of_two class k LOAD_1 LOAD_2 (λ e. omega arith);
   speed = one_of_two class k SPEED_1 SPEED_2 (λ e. omega arith);
+  brake = one_of_two class k BRAKE_1 BRAKE_2 (λ e. omega arith);
 }
 
 -- so it is under the classes that leave level 2 alone

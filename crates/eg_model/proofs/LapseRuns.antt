@@ -124,6 +124,7 @@ module _ (s : Setting) (x : Tick) (past : List Moment) (one : AllOrNone x.effect
     pedal = inl (one.sound 0);
     load = inl (one.sound 4);
     speed = inl (one.sound 6);
+    brake = inl (one.sound 8);
   }
 
 -- a trip comes where react runs, so it opens path 1

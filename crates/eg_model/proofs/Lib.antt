@@ -4,6 +4,7 @@ pub mod WorkedImages
 pub mod WorkedTests
 pub mod TickLemmas
 pub mod TripLemmas
+pub mod BrakeLemmas
 pub mod Seeing
 pub mod PeriodLemmas
 pub mod Silence

@@ -1,22 +1,26 @@
 -- A tick at which nothing is out of order: what level 2 makes of it before any trip.
-use Rattle.std.proofs.Common.{◌≡◌, ℕ, zero, suc, ◌+◌, ◌-◌, ◌/◌, ◌%◌, ◌≤◌, Bool, true, false, List, length, refl, sym, ap, ap₂, ◌∙◌, arith, nat_lt, min, max}
+use Rattle.std.proofs.Common.{◌≡◌, ℕ, zero, suc, ◌+◌, ◌-◌, ◌/◌, ◌%◌, ◌≤◌, Bool, true, false, List, [], ◌∷◌, length, refl, sym, ap, ap₂, ◌∙◌, arith, nat_lt, min, max}
 use Rattle.std.specs.Prelude.{if◌then◌else◌, ◌==◌, slice_index}
 use Rattle.std.proofs.lemmas.Bool.{le-ltb, eq-eqb}
 use Rattle.eg_num.specs.Arithmetic.{estimate}
+use Rattle.eg_num.specs.Drive.{DriveRow, IsDrive}
+use Rattle.eg_num.specs.Interpolation.{grid_at}
 use Rattle.eg_torque.specs.Permit.{permitted, drive_permits}
 use Rattle.eg_torque.specs.Excess.{is_excess}
-use Rattle.eg_sensor.specs.Readings.{bit, has_bit}
+use Rattle.eg_sensor.specs.Readings.{bit, has_bit, used_pedal, sound_readings}
+use Rattle.eg_sensor.specs.declared.readings.Readings.{Readings}
 use Rattle.eg_answer.specs.Formulas.{permitted_torque, excess_number, disagreeing_pairs}
-use Rattle.eg_fault.specs.Effects.{no_effects, readings_under}
+use Rattle.eg_fault.specs.Effects.{no_effects}
 use Rattle.eg_record.specs.Excess.{full_excess}
 use Rattle.eg_model.specs.History.{Setting, Entry, Tick, Moment}
 use Rattle.eg_model.specs.Signals.{tripped, is_limited, last_signals}
 use Rattle.eg_model.specs.Detection.{pedal_bit, plate_bit, load_bit, speed_bit, torque_bit}
 use Rattle.eg_model.specs.Paths.{on_at}
-use Rattle.eg_model.specs.Moments.{readings_at, limit_at, moment}
+use Rattle.eg_model.specs.Moments.{counted, readings_at, limit_at, moment}
 use Rattle.eg_model.specs.Rows.{row_of}
 use Rattle.eg_model.specs.Premises.{IsProper}
 use Rattle.eg_model.proofs.TickLemmas.{Runs, moment-limit, moment-pairs, moment-full_excess}
+use Rattle.eg_model.proofs.BrakeLemmas.{counted-speed, counted-within, plain_readings}
 use Rattle.eg_model.proofs.Seeing.{IsUndisturbed, signal_value, actual-is, permitted-is, pedal-is, excess-is}
 
 -- a tick at which nothing is out of order
@@ -66,33 +70,45 @@ module _ (s : Setting) (e : Entry) (past : List Moment) (proper : IsProper s (on
   abbrev m : Moment
   m = moment s no_effects e past
 
-  pedal-same : m.signals.pedal ≡ e.drive.pedal
+  -- the drive row as it counts, whose numbers are within their limits
+  abbrev counts : DriveRow
+  counts = counted s.cal e.drive
+
+  within : IsDrive counts
+  within = counted-within s.cal e.drive proper.drive
+
+  -- what sound tracks read under it
+  abbrev reads : Readings
+  reads = sound_readings counts.pedal e.shown.position (e.shown.load_1 ∷ e.shown.load_2 ∷ []) e.drive.speed counts.raise
+
+  pedal-same : m.signals.pedal ≡ counts.pedal
   pedal-same =
       pedal-is s (plain e) past plain_runs plain_undisturbed untripped
-      ∙ (unfold readings_at readings_under no_effects in else_of (is_limited past) 0 _ unlimited
-      ∙ lower_is e.drive.pedal proper.drive.0)
+      ∙ ap (λ (r : Readings). used_pedal r.pedal (is_limited past)) (plain_readings s.cal e)
+      ∙ else_of (is_limited past) 0 _ unlimited ∙ lower_is counts.pedal within.0
 
   allowed-same : m.signals.permitted ≡ m.limit
   allowed-same =
       permitted-is s (plain e) past plain_runs plain_undisturbed untripped
-      ∙ ap (permitted_torque s.cal.rules (readings_at s.cal no_effects e)) pedal-same ∙ value ∙ sym limit-is
+      ∙ ap₂ (permitted_torque s.cal.rules) (plain_readings s.cal e) pedal-same ∙ value ∙ sym limit-is
     where
-      limit-is : m.limit ≡ drive_permits s.cal.rules.permit e.drive
+      limit-is : m.limit ≡ drive_permits s.cal.rules.permit counts
       limit-is = moment-limit s no_effects e past ∙ (unfold limit_at in refl)
 
-      same : (a r q : ℕ) → r ≡ q → max (min a a) r ≡ max a q
-      same a r q f = omega arith
+      same : (a b r q : ℕ) → a ≡ b → r ≡ q → max (min a a) r ≡ max b q
+      same a b r q e f = omega arith
 
-      value : permitted_torque s.cal.rules (readings_at s.cal no_effects e) e.drive.pedal
-          ≡ drive_permits s.cal.rules.permit e.drive
-      value = unfold permitted_torque permitted drive_permits readings_at readings_under no_effects in
-          same _ _ _ (checked_is e.drive.raise proper.drive.2)
+      value : permitted_torque s.cal.rules reads counts.pedal ≡ drive_permits s.cal.rules.permit counts
+      value = unfold permitted_torque permitted drive_permits in
+          same _ _ _ _ (ap (grid_at s.cal.rules.permit counts.pedal) (sym (counted-speed s.cal e.drive)))
+          (checked_is counts.raise within.2)
 
   actual-same : m.signals.actual ≡ estimate s.cal.rules.kt e.shown.load_1
   actual-same =
       actual-is s (plain e) past plain_runs plain_undisturbed untripped
-      ∙ (unfold readings_at readings_under no_effects in
-      ap (estimate s.cal.rules.kt) (higher e.shown.load_1 e.shown.load_2 loads))
+      ∙ ap (λ (r : Readings). estimate s.cal.rules.kt (max (slice_index r.load 0) (slice_index r.load 1)))
+      (plain_readings s.cal e)
+      ∙ ap (estimate s.cal.rules.kt) (higher e.shown.load_1 e.shown.load_2 loads)
     where
       higher : (a b : ℕ) → b ≡ a → max a b ≡ a
       higher a b f = omega arith
@@ -112,13 +128,14 @@ module _ (s : Setting) (e : Entry) (past : List Moment) (proper : IsProper s (on
   no_pairs : m.signals.pairs ≡ 0
   no_pairs = moment-pairs s no_effects e past
       ∙ signal_value no_effects past 5 (last_signals past).pairs
-      (disagreeing_pairs s.cal.rules (readings_at s.cal no_effects e)) plain_runs plain_undisturbed untripped ∙ none
+      (disagreeing_pairs s.cal.rules (readings_at s.cal no_effects e)) plain_runs plain_undisturbed untripped
+      ∙ ap (disagreeing_pairs s.cal.rules) (plain_readings s.cal e) ∙ none
     where
-      none : disagreeing_pairs s.cal.rules (readings_at s.cal no_effects e) ≡ 0
-      none = unfold disagreeing_pairs readings_at readings_under no_effects in
+      none : disagreeing_pairs s.cal.rules reads ≡ 0
+      none = unfold disagreeing_pairs in
           rw (
-            agree e.drive.pedal (1000 - (1000 - e.drive.pedal)) (slice_index s.cal.rules.tolerances 0)
-                (falls e.drive.pedal proper.drive.0),
+            agree counts.pedal (1000 - (1000 - counts.pedal)) (slice_index s.cal.rules.tolerances 0)
+                (falls counts.pedal within.0),
             agree e.shown.position (1000 - (1000 - e.shown.position)) (slice_index s.cal.rules.tolerances 1)
                 (falls e.shown.position proper.engine.position),
             agree e.shown.load_1 e.shown.load_2 (slice_index s.cal.rules.tolerances 2) (sym loads),

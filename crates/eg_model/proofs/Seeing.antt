@@ -1,28 +1,31 @@
 -- Level 2 sees each true excess where one track of each pair is sound.
-use Rattle.std.proofs.Common.{◌≡◌, ℕ, ◌+◌, ◌-◌, ◌≤◌, ◌<◌, Bool, true, false, List, [], ◌∷◌, refl, sym, ◌∙◌, arith, inl, inr, ◌⊎◌, min, max}
+use Rattle.std.proofs.Common.{◌≡◌, ℕ, ◌+◌, ◌-◌, ◌≤◌, ◌<◌, Bool, true, false, List, [], ◌∷◌, refl, sym, subst, ◌∙◌, arith, inl, inr, ◌⊎◌, min, max}
 use Rattle.std.specs.Prelude.{if◌then◌else◌, ◌==◌, slice_index}
 use Rattle.std.specs.Int.Bits.{xor_zero_r}
 use Rattle.std.proofs.lemmas.Bool.{ltb-true, lt-ltb, eqb-true}
 use Rattle.eg_num.specs.Arithmetic.{estimate}
+use Rattle.eg_num.specs.Drive.{DriveRow}
 use Rattle.eg_num.proofs.RisingLemmas.{estimate-rises}
 use Rattle.eg_torque.specs.Permit.{permitted, drive_permits}
 use Rattle.eg_torque.specs.Excess.{is_excess}
 use Rattle.eg_num.specs.Interpolation.{grid_at}
 use Rattle.eg_torque.proofs.PermitLemmas.{grid_at-rises}
 use Rattle.eg_sensor.specs.Readings.{used_pedal, checked_raise, has_bit}
+use Rattle.eg_sensor.specs.Brake.{gated}
 use Rattle.eg_sensor.specs.declared.readings.Readings.{Readings}
 use Rattle.eg_values.specs.Calibration.{IsAccepted}
 use Rattle.eg_answer.specs.Formulas.{permitted_torque, estimated_torque, excess_number}
-use Rattle.eg_sensor.specs.declared.tracks.TheConstants.{PEDAL_1, PEDAL_2, LOAD_1, LOAD_2, SPEED_1, SPEED_2}
+use Rattle.eg_sensor.specs.declared.tracks.TheConstants.{PEDAL_1, PEDAL_2, LOAD_1, LOAD_2, SPEED_1, SPEED_2, BRAKE_1, BRAKE_2}
 use Rattle.eg_fault.specs.Effects.{Effects, readings_under}
 use Rattle.eg_fault.specs.Classes.{IsSound}
 use Rattle.eg_model.specs.History.{Setting, Entry, Tick, Moment}
 use Rattle.eg_model.specs.Signals.{tripped, is_limited, signal}
 use Rattle.eg_model.specs.Detection.{torque_bit}
 use Rattle.eg_model.specs.Paths.{on_at}
-use Rattle.eg_model.specs.Moments.{readings_at, limit_at, moment, moments_of}
+use Rattle.eg_model.specs.Moments.{counted, is_braking, sensed_at, readings_at, limit_at, moment, moments_of}
 use Rattle.eg_model.specs.Premises.{AreProper, IsProper}
 use Rattle.eg_model.proofs.TickLemmas.{Each, Runs, moment-limit, moment-pedal_signal, moment-permitted, moment-actual, moment-excess, moment-exceeds}
+use Rattle.eg_model.proofs.BrakeLemmas.{counted-speed, counted-unpressed}
 use Rattle.eg_model.proofs.TripLemmas.{Sees, exceeds}
 
 -- nothing disturbs a signal
@@ -36,6 +39,7 @@ pub record SeesExcess (x : Effects) : Type 0 where
   pub pedal : IsSound x PEDAL_1 ⊎ IsSound x PEDAL_2
   pub load : IsSound x LOAD_1 ⊎ IsSound x LOAD_2
   pub speed : IsSound x SPEED_1 ⊎ IsSound x SPEED_2
+  pub brake : IsSound x BRAKE_1 ⊎ IsSound x BRAKE_2
 
 -- the readings, track by track
 abbrev lower_pedal : Readings → ℕ
@@ -47,12 +51,12 @@ higher_load r = max (slice_index r.load 0) (slice_index r.load 1)
 abbrev raise_of : Readings → ℕ
 raise_of r = checked_raise r.raise r.raise_check
 
--- what was read errs to the safe side
-pub record ErrsSafely (kt : ℕ) (r : Readings) (e : Entry) : Type 0 where
-  pub load : e.shown.torque ≤ estimate kt (higher_load r)
-  pub pedal : lower_pedal r ≤ e.drive.pedal
-  pub speed : (slice_index r.speed 0 ≡ e.drive.speed) ⊎ (slice_index r.speed 1 ≡ e.drive.speed)
-  pub raise : raise_of r ≤ e.drive.raise
+-- what was read errs to the safe side of this drive row and of this torque
+pub record ErrsSafely (kt : ℕ) (r : Readings) (drive : DriveRow) (torque : ℕ) : Type 0 where
+  pub load : torque ≤ estimate kt (higher_load r)
+  pub pedal : lower_pedal r ≤ drive.pedal
+  pub speed : (slice_index r.speed 0 ≡ drive.speed) ⊎ (slice_index r.speed 1 ≡ drive.speed)
+  pub raise : raise_of r ≤ drive.raise
 
 at_most : (a b : ℕ) → (if a + (65535 - b) == 65535 then a else 0) ≤ b
 at_most a b = go (a + (65535 - b) == 65535) refl
@@ -67,11 +71,11 @@ lower_first a b p h = omega arith
 lower_second : (a b p : ℕ) → b ≡ 1000 - p → min a (1000 - b) ≤ p
 lower_second a b p h = omega arith
 
--- one sound track of each pair is enough
-pub errs_safely : (s : Setting) (x : Tick) (past : List Moment) → SeesExcess x.effects → IsProper s (on_at x.effects past) x.entry →
-    ErrsSafely s.cal.rules.kt (readings_at s.cal x.effects x.entry) x.entry
-unfolding readings_at readings_under
-errs_safely s x past sees proper = record {
+-- one sound track of each pair is enough for what was sensed
+senses_safely : (s : Setting) (x : Tick) (past : List Moment) → SeesExcess x.effects → IsProper s (on_at x.effects past) x.entry →
+    ErrsSafely s.cal.rules.kt (sensed_at x.effects x.entry) x.entry.drive x.entry.shown.torque
+unfolding sensed_at readings_under
+senses_safely s x past sees proper = record {
   load = elim sees.load [
     | inl sound ↦ (let a = sound x.entry.shown.load_1 in let b = proper.engine.load_1 in let c =
         estimate-rises s.cal.rules.kt x.entry.shown.load_1
@@ -92,6 +96,38 @@ errs_safely s x past sees proper = record {
   ];
   raise = at_most (x.effects.raise x.entry.drive.raise) x.entry.drive.raise;
 }
+
+nothing_below : (n : ℕ) → 0 ≤ n
+nothing_below n = omega arith
+
+-- gated readings err to the safe side of each row of the same speed
+gates_safely : (kt torque : ℕ) (r : Readings) (drive other : DriveRow) → other.speed ≡ drive.speed →
+    ErrsSafely kt r drive torque → ErrsSafely kt (gated r) other torque
+gates_safely kt torque r drive other same safe = record {
+  load = safe.load;
+  pedal = nothing_below other.pedal;
+  speed = rw same safe.speed;
+  raise = nothing_below other.raise;
+}
+
+-- a brake that is pressed is seen, and one that is seen falsely lowers what is read
+pub errs_safely : (s : Setting) (x : Tick) (past : List Moment) → SeesExcess x.effects → IsProper s (on_at x.effects past) x.entry →
+    ErrsSafely s.cal.rules.kt (readings_at s.cal x.effects x.entry) (counted s.cal x.entry.drive) x.entry.shown.torque
+unfolding readings_at
+errs_safely s x past sees proper = go (is_braking s.cal x.effects drive) refl
+  where
+    drive : DriveRow
+    drive = x.entry.drive
+
+    safe : ErrsSafely s.cal.rules.kt (sensed_at x.effects x.entry) drive x.entry.shown.torque
+    safe = senses_safely s x past sees proper
+
+    go : (pressed : Bool) → is_braking s.cal x.effects drive ≡ pressed →
+        ErrsSafely s.cal.rules.kt (if pressed then gated (sensed_at x.effects x.entry) else sensed_at x.effects x.entry)
+        (counted s.cal drive) x.entry.shown.torque
+    go true is = gates_safely s.cal.rules.kt x.entry.shown.torque _ drive (counted s.cal drive) (counted-speed s.cal drive) safe
+    go false is = subst (λ row. ErrsSafely s.cal.rules.kt (sensed_at x.effects x.entry) row x.entry.shown.torque)
+        (sym (counted-unpressed s.cal x.effects drive sees.brake is)) safe
 
 -- a signal of a module that runs before any trip is its value
 pub signal_value : (x : Effects) (past : List Moment) (i before value : ℕ) → Runs x → IsUndisturbed x →
@@ -130,13 +166,17 @@ module _ (s : Setting) (x : Tick) (past : List Moment) (runs : Runs x.effects)
       go true n = omega arith
       go false n = omega arith
 
-  permitted-below : IsAccepted s.cal → ErrsSafely s.cal.rules.kt reads x.entry →
+  -- the drive row as it counts
+  abbrev counts : DriveRow
+  counts = counted s.cal x.entry.drive
+
+  permitted-below : IsAccepted s.cal → ErrsSafely s.cal.rules.kt reads counts x.entry.shown.torque →
       m.signals.permitted ≤ m.limit
   permitted-below accepted safe =
       rw (permitted-is, limit-is)
       (below reads safe.pedal safe.speed safe.raise pedal-below)
     where
-      limit-is : m.limit ≡ drive_permits s.cal.rules.permit x.entry.drive
+      limit-is : m.limit ≡ drive_permits s.cal.rules.permit counts
       limit-is = moment-limit s x.effects x.entry past ∙ (unfold limit_at in refl)
 
       up : (p q v : ℕ) → p ≤ q → grid_at s.cal.rules.permit p v ≤ grid_at s.cal.rules.permit q v
@@ -145,24 +185,25 @@ module _ (s : Setting) (x : Tick) (past : List Moment) (runs : Runs x.effects)
       lower : (a b r p q : ℕ) → r ≤ q → (a ≤ p) ⊎ (b ≤ p) → max (min a b) r ≤ max p q
       lower a b r p q hr hab = omega arith
 
-      below : (r : Readings) → lower_pedal r ≤ x.entry.drive.pedal →
-          (slice_index r.speed 0 ≡ x.entry.drive.speed) ⊎ (slice_index r.speed 1 ≡ x.entry.drive.speed) →
-          raise_of r ≤ x.entry.drive.raise → m.signals.pedal ≤ lower_pedal r →
-          permitted_torque s.cal.rules r m.signals.pedal ≤ drive_permits s.cal.rules.permit x.entry.drive
+      below : (r : Readings) → lower_pedal r ≤ counts.pedal →
+          (slice_index r.speed 0 ≡ counts.speed) ⊎ (slice_index r.speed 1 ≡ counts.speed) →
+          raise_of r ≤ counts.raise → m.signals.pedal ≤ lower_pedal r →
+          permitted_torque s.cal.rules r m.signals.pedal ≤ drive_permits s.cal.rules.permit counts
       below r pedal speed raise less = unfold permitted_torque permitted drive_permits in
           lower _ _ _ _ _ raise (at_speed speed)
         where
-          at_speed : (slice_index r.speed 0 ≡ x.entry.drive.speed) ⊎
-              (slice_index r.speed 1 ≡ x.entry.drive.speed) →
+          at_speed : (slice_index r.speed 0 ≡ counts.speed) ⊎
+              (slice_index r.speed 1 ≡ counts.speed) →
               (grid_at s.cal.rules.permit m.signals.pedal
-              (slice_index r.speed 0) ≤ grid_at s.cal.rules.permit x.entry.drive.pedal x.entry.drive.speed) ⊎
+              (slice_index r.speed 0) ≤ grid_at s.cal.rules.permit counts.pedal counts.speed) ⊎
               (grid_at s.cal.rules.permit m.signals.pedal
-              (slice_index r.speed 1) ≤ grid_at s.cal.rules.permit x.entry.drive.pedal x.entry.drive.speed)
+              (slice_index r.speed 1) ≤ grid_at s.cal.rules.permit counts.pedal counts.speed)
           at_speed (inl same) = inl (rw same (up _ _ _ (omega (arith, less, pedal))))
           at_speed (inr same) = inr (rw same (up _ _ _ (omega (arith, less, pedal))))
 
   -- true excess shows in the excess word
-  pub excess_seen : IsAccepted s.cal → ErrsSafely s.cal.rules.kt (readings_at s.cal x.effects x.entry) x.entry →
+  pub excess_seen : IsAccepted s.cal →
+      ErrsSafely s.cal.rules.kt (readings_at s.cal x.effects x.entry) (counted s.cal x.entry.drive) x.entry.shown.torque →
       exceeds s m ≡ true → torque_bit m.signals ≡ true
   excess_seen accepted safe over_now = unfold torque_bit has_bit in rw (excess-is, shows) refl
     where

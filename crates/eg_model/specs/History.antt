@@ -57,7 +57,7 @@ pub record Moment : Type 0 where
   pub fresh : Bool
   pub tick : ℕ
   pub entry : Entry
-  -- what the sensors read, and the permitted torque of the drive row
+  -- the readings that both levels are given, and the permitted torque of the drive row
   pub reads : Readings
   pub limit : ℕ
   -- whether a start-up test is running, and whether it is passed now

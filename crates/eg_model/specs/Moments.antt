@@ -1,12 +1,13 @@
 -- What is true of a tick, from what is out of order at it, what comes in, and what was true of the ticks of
 -- its span before; and so of each tick of a span.
-use Rattle.std.specs.Prelude.{ℕ, ◌==◌, not, ◌&&◌, ◌||◌, is_some, List, [], ◌∷◌, length, if◌then◌else◌}
+use Rattle.std.specs.Prelude.{ℕ, ◌==◌, Bool, not, ◌&&◌, ◌||◌, is_some, List, [], ◌∷◌, length, if◌then◌else◌}
 use Rattle.eg_num.specs.Drive.{DriveRow}
 use Rattle.eg_sensor.specs.Readings.{sound_readings}
+use Rattle.eg_sensor.specs.Brake.{sound_contacts, is_pressed, gated}
 use Rattle.eg_sensor.specs.declared.readings.Readings.{Readings}
 use Rattle.eg_torque.specs.Permit.{drive_permits}
 use Rattle.eg_answer.specs.declared.marks.AnswerMark.TheVariants.{Absent}
-use Rattle.eg_fault.specs.Effects.{Effects, readings_under}
+use Rattle.eg_fault.specs.Effects.{Effects, readings_under, contacts_under}
 use Rattle.eg_values.specs.Calibration.{CalibrationParts}
 use Rattle.eg_model.specs.History.{Setting, Entry, Tick, SpanKind, Drive, drives, Moment}
 use Rattle.eg_model.specs.Signals.{signals_at}
@@ -15,15 +16,29 @@ use Rattle.eg_model.specs.Answers.{is_whole, mark_at, verdict_at, confirms_at}
 use Rattle.eg_model.specs.Paths.{is_testing, reads_back, orders_open, path1_at, path2_at, on_at}
 use Rattle.eg_model.specs.Level1.{world_at}
 
--- what the sensors read, under this calibration
-unfoldable pub readings_at : CalibrationParts → Effects → Entry → Readings
-readings_at cal x e =
-    readings_under x (sound_readings e.drive.pedal e.shown.position (e.shown.load_1 ∷ e.shown.load_2 ∷ [])
-    e.drive.speed e.drive.raise)
+-- the drive row as it counts, under this calibration: where the brake counts and the driver brakes, pedal and
+-- raise are 0
+unfoldable pub counted : CalibrationParts → DriveRow → DriveRow
+counted cal drive = if cal.brake && drive.brake then record drive { pedal = 0; raise = 0 } else drive
 
 -- the torque that a drive row permits, under this calibration
 unfoldable pub limit_at : CalibrationParts → DriveRow → ℕ
-limit_at cal drive = drive_permits cal.rules.permit drive
+limit_at cal drive = drive_permits cal.rules.permit (counted cal drive)
+
+-- whether the unit takes the brake as pressed, by what its contacts read, where the brake counts
+unfoldable pub is_braking : CalibrationParts → Effects → DriveRow → Bool
+is_braking cal x drive = cal.brake && is_pressed (contacts_under x (sound_contacts drive.brake))
+
+-- what the tracks of pedal, plate, load and speed and the raise read
+unfoldable pub sensed_at : Effects → Entry → Readings
+sensed_at x e =
+    readings_under x (sound_readings e.drive.pedal e.shown.position (e.shown.load_1 ∷ e.shown.load_2 ∷ [])
+    e.drive.speed e.drive.raise)
+
+-- the readings that both levels are given, under this calibration: those of pedal and raise are gated where
+-- the brake is taken as pressed
+unfoldable pub readings_at : CalibrationParts → Effects → Entry → Readings
+readings_at cal x e = if is_braking cal x e.drive then gated (sensed_at x e) else sensed_at x e
 
 -- The moment of one tick, in a span of this kind, of which these ticks came before. Where the engine isn't
 -- driven the stages are off, the debouncers aren't fed, no answer is sent, and wrong answers that are
