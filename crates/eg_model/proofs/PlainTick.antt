@@ -16,11 +16,11 @@ use Rattle.eg_model.specs.History.{Setting, Entry, Tick, Moment}
 use Rattle.eg_model.specs.Signals.{tripped, is_limited, last_signals}
 use Rattle.eg_model.specs.Detection.{pedal_bit, plate_bit, load_bit, speed_bit, torque_bit}
 use Rattle.eg_model.specs.Paths.{on_at}
-use Rattle.eg_model.specs.Moments.{counted, readings_at, limit_at, moment}
+use Rattle.eg_model.specs.Moments.{effective_drive, readings_at, limit_at, moment}
 use Rattle.eg_model.specs.Rows.{row_of}
 use Rattle.eg_model.specs.Premises.{IsProper}
 use Rattle.eg_model.proofs.TickLemmas.{Runs, moment-limit, moment-pairs, moment-full_excess}
-use Rattle.eg_model.proofs.BrakeLemmas.{counted-speed, counted-within, plain_readings}
+use Rattle.eg_model.proofs.BrakeLemmas.{effective-speed, effective-within, plain_readings}
 use Rattle.eg_model.proofs.Seeing.{IsUndisturbed, signal_value, actual-is, permitted-is, pedal-is, excess-is}
 
 -- a tick at which nothing is out of order
@@ -70,38 +70,38 @@ module _ (s : Setting) (e : Entry) (past : List Moment) (proper : IsProper s (on
   abbrev m : Moment
   m = moment s no_effects e past
 
-  -- the drive row as it counts, whose numbers are within their limits
-  abbrev counts : DriveRow
-  counts = counted s.cal e.drive
+  -- the effective drive row, whose numbers are within their limits
+  abbrev effective : DriveRow
+  effective = effective_drive s.cal e.drive
 
-  within : IsDrive counts
-  within = counted-within s.cal e.drive proper.drive
+  within : IsDrive effective
+  within = effective-within s.cal e.drive proper.drive
 
   -- what sound tracks read under it
   abbrev reads : Readings
-  reads = sound_readings counts.pedal e.shown.position (e.shown.load_1 ∷ e.shown.load_2 ∷ []) e.drive.speed counts.raise
+  reads = sound_readings effective.pedal e.shown.position (e.shown.load_1 ∷ e.shown.load_2 ∷ []) e.drive.speed effective.raise
 
-  pedal-same : m.signals.pedal ≡ counts.pedal
+  pedal-same : m.signals.pedal ≡ effective.pedal
   pedal-same =
       pedal-is s (plain e) past plain_runs plain_undisturbed untripped
       ∙ ap (λ (r : Readings). used_pedal r.pedal (is_limited past)) (plain_readings s.cal e)
-      ∙ else_of (is_limited past) 0 _ unlimited ∙ lower_is counts.pedal within.0
+      ∙ else_of (is_limited past) 0 _ unlimited ∙ lower_is effective.pedal within.0
 
   allowed-same : m.signals.permitted ≡ m.limit
   allowed-same =
       permitted-is s (plain e) past plain_runs plain_undisturbed untripped
       ∙ ap₂ (permitted_torque s.cal.rules) (plain_readings s.cal e) pedal-same ∙ value ∙ sym limit-is
     where
-      limit-is : m.limit ≡ drive_permits s.cal.rules.permit counts
+      limit-is : m.limit ≡ drive_permits s.cal.rules.permit effective
       limit-is = moment-limit s no_effects e past ∙ (unfold limit_at in refl)
 
       same : (a b r q : ℕ) → a ≡ b → r ≡ q → max (min a a) r ≡ max b q
       same a b r q e f = omega arith
 
-      value : permitted_torque s.cal.rules reads counts.pedal ≡ drive_permits s.cal.rules.permit counts
+      value : permitted_torque s.cal.rules reads effective.pedal ≡ drive_permits s.cal.rules.permit effective
       value = unfold permitted_torque permitted drive_permits in
-          same _ _ _ _ (ap (grid_at s.cal.rules.permit counts.pedal) (sym (counted-speed s.cal e.drive)))
-          (checked_is counts.raise within.2)
+          same _ _ _ _ (ap (grid_at s.cal.rules.permit effective.pedal) (sym (effective-speed s.cal e.drive)))
+          (checked_is effective.raise within.2)
 
   actual-same : m.signals.actual ≡ estimate s.cal.rules.kt e.shown.load_1
   actual-same =
@@ -134,8 +134,8 @@ module _ (s : Setting) (e : Entry) (past : List Moment) (proper : IsProper s (on
       none : disagreeing_pairs s.cal.rules reads ≡ 0
       none = unfold disagreeing_pairs in
           rw (
-            agree counts.pedal (1000 - (1000 - counts.pedal)) (slice_index s.cal.rules.tolerances 0)
-                (falls counts.pedal within.0),
+            agree effective.pedal (1000 - (1000 - effective.pedal)) (slice_index s.cal.rules.tolerances 0)
+                (falls effective.pedal within.0),
             agree e.shown.position (1000 - (1000 - e.shown.position)) (slice_index s.cal.rules.tolerances 1)
                 (falls e.shown.position proper.engine.position),
             agree e.shown.load_1 e.shown.load_2 (slice_index s.cal.rules.tolerances 2) (sym loads),

@@ -22,10 +22,10 @@ use Rattle.eg_model.specs.History.{Setting, Entry, Tick, Moment}
 use Rattle.eg_model.specs.Signals.{tripped, is_limited, signal}
 use Rattle.eg_model.specs.Detection.{torque_bit}
 use Rattle.eg_model.specs.Paths.{on_at}
-use Rattle.eg_model.specs.Moments.{counted, is_braking, sensed_at, readings_at, limit_at, moment, moments_of}
+use Rattle.eg_model.specs.Moments.{effective_drive, is_braking, sensed_at, readings_at, limit_at, moment, moments_of}
 use Rattle.eg_model.specs.Premises.{AreProper, IsProper}
 use Rattle.eg_model.proofs.TickLemmas.{Each, Runs, moment-limit, moment-pedal_signal, moment-permitted, moment-actual, moment-excess, moment-exceeds}
-use Rattle.eg_model.proofs.BrakeLemmas.{counted-speed, counted-unpressed}
+use Rattle.eg_model.proofs.BrakeLemmas.{effective-speed, effective-unpressed}
 use Rattle.eg_model.proofs.TripLemmas.{Sees, exceeds}
 
 -- nothing disturbs a signal
@@ -112,7 +112,7 @@ gates_safely kt torque r drive other same safe = record {
 
 -- a brake that is pressed is seen, and one that is seen falsely lowers what is read
 pub errs_safely : (s : Setting) (x : Tick) (past : List Moment) → SeesExcess x.effects → IsProper s (on_at x.effects past) x.entry →
-    ErrsSafely s.cal.rules.kt (readings_at s.cal x.effects x.entry) (counted s.cal x.entry.drive) x.entry.shown.torque
+    ErrsSafely s.cal.rules.kt (readings_at s.cal x.effects x.entry) (effective_drive s.cal x.entry.drive) x.entry.shown.torque
 unfolding readings_at
 errs_safely s x past sees proper = go (is_braking s.cal x.effects drive) refl
   where
@@ -124,10 +124,10 @@ errs_safely s x past sees proper = go (is_braking s.cal x.effects drive) refl
 
     go : (pressed : Bool) → is_braking s.cal x.effects drive ≡ pressed →
         ErrsSafely s.cal.rules.kt (if pressed then gated (sensed_at x.effects x.entry) else sensed_at x.effects x.entry)
-        (counted s.cal drive) x.entry.shown.torque
-    go true is = gates_safely s.cal.rules.kt x.entry.shown.torque _ drive (counted s.cal drive) (counted-speed s.cal drive) safe
+        (effective_drive s.cal drive) x.entry.shown.torque
+    go true is = gates_safely s.cal.rules.kt x.entry.shown.torque _ drive (effective_drive s.cal drive) (effective-speed s.cal drive) safe
     go false is = subst (λ row. ErrsSafely s.cal.rules.kt (sensed_at x.effects x.entry) row x.entry.shown.torque)
-        (sym (counted-unpressed s.cal x.effects drive sees.brake is)) safe
+        (sym (effective-unpressed s.cal x.effects drive sees.brake is)) safe
 
 -- a signal of a module that runs before any trip is its value
 pub signal_value : (x : Effects) (past : List Moment) (i before value : ℕ) → Runs x → IsUndisturbed x →
@@ -166,17 +166,17 @@ module _ (s : Setting) (x : Tick) (past : List Moment) (runs : Runs x.effects)
       go true n = omega arith
       go false n = omega arith
 
-  -- the drive row as it counts
-  abbrev counts : DriveRow
-  counts = counted s.cal x.entry.drive
+  -- the effective drive row
+  abbrev effective : DriveRow
+  effective = effective_drive s.cal x.entry.drive
 
-  permitted-below : IsAccepted s.cal → ErrsSafely s.cal.rules.kt reads counts x.entry.shown.torque →
+  permitted-below : IsAccepted s.cal → ErrsSafely s.cal.rules.kt reads effective x.entry.shown.torque →
       m.signals.permitted ≤ m.limit
   permitted-below accepted safe =
       rw (permitted-is, limit-is)
       (below reads safe.pedal safe.speed safe.raise pedal-below)
     where
-      limit-is : m.limit ≡ drive_permits s.cal.rules.permit counts
+      limit-is : m.limit ≡ drive_permits s.cal.rules.permit effective
       limit-is = moment-limit s x.effects x.entry past ∙ (unfold limit_at in refl)
 
       up : (p q v : ℕ) → p ≤ q → grid_at s.cal.rules.permit p v ≤ grid_at s.cal.rules.permit q v
@@ -185,25 +185,25 @@ module _ (s : Setting) (x : Tick) (past : List Moment) (runs : Runs x.effects)
       lower : (a b r p q : ℕ) → r ≤ q → (a ≤ p) ⊎ (b ≤ p) → max (min a b) r ≤ max p q
       lower a b r p q hr hab = omega arith
 
-      below : (r : Readings) → lower_pedal r ≤ counts.pedal →
-          (slice_index r.speed 0 ≡ counts.speed) ⊎ (slice_index r.speed 1 ≡ counts.speed) →
-          raise_of r ≤ counts.raise → m.signals.pedal ≤ lower_pedal r →
-          permitted_torque s.cal.rules r m.signals.pedal ≤ drive_permits s.cal.rules.permit counts
+      below : (r : Readings) → lower_pedal r ≤ effective.pedal →
+          (slice_index r.speed 0 ≡ effective.speed) ⊎ (slice_index r.speed 1 ≡ effective.speed) →
+          raise_of r ≤ effective.raise → m.signals.pedal ≤ lower_pedal r →
+          permitted_torque s.cal.rules r m.signals.pedal ≤ drive_permits s.cal.rules.permit effective
       below r pedal speed raise less = unfold permitted_torque permitted drive_permits in
           lower _ _ _ _ _ raise (at_speed speed)
         where
-          at_speed : (slice_index r.speed 0 ≡ counts.speed) ⊎
-              (slice_index r.speed 1 ≡ counts.speed) →
+          at_speed : (slice_index r.speed 0 ≡ effective.speed) ⊎
+              (slice_index r.speed 1 ≡ effective.speed) →
               (grid_at s.cal.rules.permit m.signals.pedal
-              (slice_index r.speed 0) ≤ grid_at s.cal.rules.permit counts.pedal counts.speed) ⊎
+              (slice_index r.speed 0) ≤ grid_at s.cal.rules.permit effective.pedal effective.speed) ⊎
               (grid_at s.cal.rules.permit m.signals.pedal
-              (slice_index r.speed 1) ≤ grid_at s.cal.rules.permit counts.pedal counts.speed)
+              (slice_index r.speed 1) ≤ grid_at s.cal.rules.permit effective.pedal effective.speed)
           at_speed (inl same) = inl (rw same (up _ _ _ (omega (arith, less, pedal))))
           at_speed (inr same) = inr (rw same (up _ _ _ (omega (arith, less, pedal))))
 
   -- true excess shows in the excess word
   pub excess_seen : IsAccepted s.cal →
-      ErrsSafely s.cal.rules.kt (readings_at s.cal x.effects x.entry) (counted s.cal x.entry.drive) x.entry.shown.torque →
+      ErrsSafely s.cal.rules.kt (readings_at s.cal x.effects x.entry) (effective_drive s.cal x.entry.drive) x.entry.shown.torque →
       exceeds s m ≡ true → torque_bit m.signals ≡ true
   excess_seen accepted safe over_now = unfold torque_bit has_bit in rw (excess-is, shows) refl
     where

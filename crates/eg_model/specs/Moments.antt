@@ -16,14 +16,14 @@ use Rattle.eg_model.specs.Answers.{is_whole, mark_at, verdict_at, confirms_at}
 use Rattle.eg_model.specs.Paths.{is_testing, reads_back, orders_open, path1_at, path2_at, on_at}
 use Rattle.eg_model.specs.Level1.{world_at}
 
--- the drive row as it counts, under this calibration: where the brake counts and the driver brakes, pedal and
+-- the drive row that counts, under this calibration: where the brake counts and the driver brakes, pedal and
 -- raise are 0
-unfoldable pub counted : CalibrationParts → DriveRow → DriveRow
-counted cal drive = if cal.brake && drive.brake then record drive { pedal = 0; raise = 0 } else drive
+unfoldable pub effective_drive : CalibrationParts → DriveRow → DriveRow
+effective_drive cal drive = if cal.brake && drive.brake then record drive { pedal = 0; raise = 0 } else drive
 
--- the torque that a drive row permits, under this calibration
+-- the torque that a drive row permits, under this calibration: it goes by the row, not by what is sensed
 unfoldable pub limit_at : CalibrationParts → DriveRow → ℕ
-limit_at cal drive = drive_permits cal.rules.permit (counted cal drive)
+limit_at cal drive = drive_permits cal.rules.permit (effective_drive cal drive)
 
 -- whether the unit takes the brake as pressed, by what its contacts read, where the brake counts
 unfoldable pub is_braking : CalibrationParts → Effects → DriveRow → Bool

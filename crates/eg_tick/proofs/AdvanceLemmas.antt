@@ -160,7 +160,7 @@ pub record Advance (old new : Kept) (drive : DriveRow) (budgets : List ℕ) (und
   pub at : task.local ≡ old.span.local
   pub phase : task.phase ≡ phase_at (kind_of old.span.tests) old.cal.times (effects under old.ticks) old.span.local
   pub asked : task.asked ≡ asked_at (effects under old.ticks) old.span.monitor.times (length old.cal.questions) old.span.local
-  pub readings : (cal : CalibrationParts) (e : Entry) → e.drive ≡ drive → e.shown ≡ new.shown → task.readings ≡ readings_at cal (effects under old.ticks) e
+  pub readings : (e : Entry) → e.drive ≡ drive → e.shown ≡ new.shown → task.readings ≡ readings_at old.cal (effects under old.ticks) e
   pub slices : task.slices ≡ budgets
   pub served : (kind : SpanKind) (s : Setting) (x : Tick) (h : List Tick) → Serves kind s x h made under task old.registers old.memory.words
       → Served kind s x h new.registers new.memory.words
@@ -214,7 +214,7 @@ module _ (old new : Kept) (drive : DriveRow) (budgets : List ℕ) (made : Level2
 
   readings-now : task.readings ≡ readings_at s.cal x.effects x.entry
   unfolding tick_after entry_of
-  readings-now = advance.readings old.cal e refl refl ∙ ap (λ t. readings_at old.cal (effects old.fault t) e) enter.count
+  readings-now = advance.readings e refl refl ∙ ap (λ t. readings_at old.cal (effects old.fault t) e) enter.count
 
   slices-now : x.entry.slices ≡ task.slices
   unfolding tick_after entry_of

@@ -1,6 +1,6 @@
 -- Level 1 and level 2 at a tick: from what the memory holds of a history to what it holds of one tick more.
 use Rattle.std.proofs.Common.{◌≡◌, ◌∙◌, refl, sym, ap, ap₂, subst, ℕ, ◌<◌, Option, List, length, arith}
-use Rattle.std.specs.Prelude.{is_some, Result, Ok, Err, OnOk}
+use Rattle.std.specs.Prelude.{Bool, true, false, if◌then◌else◌, is_some, Result, Ok, Err, OnOk}
 use Rattle.eg_fault.specs.declared.class.Fault.{Fault}
 use Rattle.eg_fault.specs.Effects.{Effects}
 use Rattle.eg_fault.specs.Faults.{effects}
@@ -8,11 +8,12 @@ use Rattle.eg_guard.specs.Memory.{AreWords, SameOutside}
 use Rattle.eg_word.specs.declared.registers.Registers.{Registers}
 use Rattle.eg_level2.specs.Inputs.{Level2Parts, readings_of, asked_of}
 use Rattle.eg_level2.specs.declared.step.Step.{Step}
-use Rattle.eg_sensor.specs.declared.readings.Readings.{Readings}
+use Rattle.eg_sensor.specs.Brake.{gated}
+use Rattle.eg_values.specs.Calibration.{CalibrationParts}
 use Rattle.eg_fault.specs.Effects.{readings_under}
-use Rattle.eg_model.specs.History.{Setting, Tick, SpanKind}
+use Rattle.eg_model.specs.History.{Setting, Entry, Tick, SpanKind}
 use Rattle.eg_model.specs.Premises.{Follows}
-use Rattle.eg_model.specs.Moments.{readings_at, moments_in}
+use Rattle.eg_model.specs.Moments.{is_braking, sensed_at, readings_at, moments_in}
 use Rattle.eg_agree.specs.Doings.{doing_at}
 use Rattle.eg_agree.specs.Ticking.{IsTick}
 use Rattle.eg_fault.specs.Faults.{IsNoneOrValid}
@@ -30,10 +31,15 @@ pub on_ok_both : {T E : Type 0} (result : Result T E) {P Q R : Type 0} → (P �
 on_ok_both (Ok x) both p q = both p q
 on_ok_both (Err x) both p q = tt
 
--- readings by their tracks are what faults make of sound ones
-tracks-are : (x : Effects) (truth : Readings) → by_tracks (readings_under x truth) ≡ readings_under x truth
-unfolding by_tracks readings_under
-tracks-are x truth = refl
+-- the readings of a tick have two tracks of each pair, gated or not
+tracks-are : (cal : CalibrationParts) (x : Effects) (e : Entry) → by_tracks (readings_at cal x e) ≡ readings_at cal x e
+unfolding by_tracks readings_at sensed_at readings_under
+tracks-are cal x e = go (is_braking cal x e.drive)
+  where
+    go : (pressed : Bool) → by_tracks (if pressed then gated (sensed_at x e) else sensed_at x e)
+        ≡ (if pressed then gated (sensed_at x e) else sensed_at x e)
+    go true = refl
+    go false = refl
 
 module _ (kind : SpanKind) (s : Setting) (x : Tick) (h : List Tick) (made : Level2Parts) (under : Option Fault) (given : Task) (m : Registers) (old : List ℕ)
     (serves : Serves kind s x h made under given m old) where
@@ -64,13 +70,13 @@ module _ (kind : SpanKind) (s : Setting) (x : Tick) (h : List Tick) (made : Leve
 
   pub midway : (shown : List ℕ) → AreWords old → AreWords shown → SameOutside is_board_own old shown
       → readings_of shown ≡ by_tracks given.readings → asked_of shown ≡ given.asked → IsMidway w 0 0 m shown
-  unfolding work_at doing_after doing_at readings_at
+  unfolding work_at doing_after doing_at
   midway shown are_old are same readings asked =
       begins kind s serves.accepted serves.begin x h serves.follows m shown
       (record {
         are_words = are;
         code = λ k within. shown-code old shown same k within ∙ serves.level1.code k within;
-        readings = readings ∙ ap by_tracks serves.task.readings ∙ tracks-are x.effects _;
+        readings = readings ∙ ap by_tracks serves.task.readings ∙ tracks-are s.cal x.effects x.entry;
         asked = asked ∙ serves.task.asked;
       })
       (shown-mirrors old shown same serves.level2.mirrored) (shown-words old shown same ∙ serves.level2.exact)

@@ -16,7 +16,7 @@ use crate::board::load_image;
 use crate::monitoring::{judge, question};
 use crate::paths::Paths;
 use crate::plant::{readings, step_engine};
-use crate::row::{Beginning, limit, look_up, row};
+use crate::row::{Beginning, effective, limit, look_up, row};
 use crate::span::{Span, enter};
 use crate::working::{Level1, Task, work};
 use eg_base::NoMemory;
@@ -234,11 +234,13 @@ impl<E: Engine + Drop, M: Guarded + Drop> Controller<E, M> {
         enter(&mut self.span, &self.level2, level1, memory, drive.reset())?;
         let (tick, local, fault) = (self.ticks, self.span.local, self.fault.as_ref());
         let (questions, times) = (self.calibration.questions(), self.calibration.times());
-        let lookup = look_up(&self.calibration.rules().permit, drive);
+        let brake = self.calibration.brake();
+        let counts = effective(drive, brake);
+        let lookup = look_up(&self.calibration.rules().permit, &counts);
         let begins = Beginning {
             tick,
             drive: *drive,
-            limit: limit(&lookup, drive),
+            limit: limit(&lookup, &counts),
             place: self.span.place(self.test_ticks),
             paths: Paths::at(fault, tick, &self.span),
         };
@@ -250,7 +252,7 @@ impl<E: Engine + Drop, M: Guarded + Drop> Controller<E, M> {
             local: local as u16,
             phase: self.span.phase(fault, tick, times, begins.place.told),
             asked,
-            readings: readings(&self.engine, drive, fault, tick),
+            readings: readings(&self.engine, drive, brake, fault, tick),
             lookup,
             slices: *slices,
         };

@@ -6,14 +6,14 @@ ghost use Rattle.eg_plant.specs.Engine.{KeepsLaws};
 ghost use Rattle.eg_fault.specs.Faults.{effects};
 ghost use Rattle.eg_values.specs.Calibration.{CalibrationParts};
 ghost use Rattle.eg_model.specs.History.{Entry};
-ghost use Rattle.eg_model.specs.Moments.{readings_at};
+ghost use Rattle.eg_model.specs.Moments.{is_braking, sensed_at, readings_at};
 
 use crate::board::load;
-use eg_fault::{Fault, faulty_readings};
+use eg_fault::{Fault, faulty_contacts, faulty_readings};
 use eg_guard::{Guarded, IGNITION, THROTTLE};
 use eg_num::Drive;
 use eg_plant::Engine;
-use eg_sensor::{Readings, sound};
+use eg_sensor::{Readings, contacts, gate, pressed, sound};
 
 /// Level 1's commands to the throttle plate and to the ignition, as they stand in the memory.
 #[derive(Clone, Copy)]
@@ -54,16 +54,42 @@ pub(crate) fn step_engine<E: Engine, M: Guarded>(
     engine.step(commands.throttle, commands.ignition, on, held);
 }
 
-/// What the sensors read at a tick (docs/CONCEPT.md, "Sensors").
+/// The readings that both levels are given at a tick (docs/CONCEPT.md, "Sensors"), where the brake counts or
+/// doesn't.
 #[tactic(auto, unfolding(eg_model::specs::Moments::readings_at))]
 pub(crate) fn readings<E: Engine>(
     engine: &E,
     drive: &Drive,
+    brake: bool,
     fault: Option<&Fault>,
     tick: u32,
 ) -> Readings
-    ensures { (cal : CalibrationParts) (e : Entry) → e.drive ≡ drive.now → e.shown ≡ E.shows engine.now
+    ensures { (cal : CalibrationParts) (e : Entry) → cal.brake ≡ brake → e.drive ≡ drive.now
+        → e.shown ≡ E.shows engine.now
         → result ≡ readings_at cal (effects (option_copied fault.entry) tick) e }
+{
+    let sensed = sensed(engine, drive, fault, tick);
+    if is_braking(drive, brake, fault, tick) {
+        gate(&sensed)
+    } else {
+        sensed
+    }
+}
+
+/// Whether the unit takes the brake as pressed at a tick, where it counts or doesn't.
+#[tactic(auto, unfolding(eg_model::specs::Moments::is_braking))]
+fn is_braking(drive: &Drive, brake: bool, fault: Option<&Fault>, tick: u32) -> bool
+    ensures { (cal : CalibrationParts) → cal.brake ≡ brake
+        → result ≡ is_braking cal (effects (option_copied fault.entry) tick) drive.now }
+{
+    brake && pressed(faulty_contacts(fault, tick, contacts(drive.brake())))
+}
+
+/// What the tracks of pedal, plate, load and speed and the raise read at a tick.
+#[tactic(auto, unfolding(eg_model::specs::Moments::sensed_at))]
+fn sensed<E: Engine>(engine: &E, drive: &Drive, fault: Option<&Fault>, tick: u32) -> Readings
+    ensures { (e : Entry) → e.drive ≡ drive.now → e.shown ≡ E.shows engine.now
+        → result ≡ sensed_at (effects (option_copied fault.entry) tick) e }
 {
     let truth = sound(
         drive.pedal(),

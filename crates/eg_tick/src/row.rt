@@ -5,9 +5,10 @@ ghost use Rattle.eg_num.specs.Drive.{IsDrive};
 ghost use Rattle.eg_num.specs.Interpolation.{grid_at};
 ghost use Rattle.eg_answer.specs.declared.words.TheConstants.{STORED_WORDS};
 ghost use Rattle.eg_level2.specs.Words.{word_at, words_of};
+ghost use Rattle.eg_torque.specs.Permit.{drive_permits};
 ghost use Rattle.eg_values.specs.Calibration.{CalibrationParts};
 ghost use Rattle.eg_model.specs.History.{drives};
-ghost use Rattle.eg_model.specs.Moments.{limit_at};
+ghost use Rattle.eg_model.specs.Moments.{effective_drive};
 ghost use Rattle.eg_model.specs.Rows.{signal_list};
 ghost use Rattle.eg_agree.specs.Standing.{signals_of};
 ghost use Rattle.eg_tick.specs.Stands.{kind_of};
@@ -59,6 +60,21 @@ impl Beginning {
     }
 }
 
+/// The drive row that counts, where the brake counts or doesn't: while the driver brakes pedal and raise are 0
+/// (docs/CONCEPT.md, "Torque").
+#[tactic(auto, unfolding(eg_model::specs::Moments::effective_drive))]
+pub(crate) fn effective(drive: &Drive, brake: bool) -> Drive
+    ensures { (cal : CalibrationParts) → cal.brake ≡ brake → result ≡ effective_drive cal drive.now }
+{
+    if !brake || !drive.brake() {
+        return *drive;
+    }
+    let Some(effective) = Drive::new(0, drive.speed(), 0, drive.reset(), drive.brake()) else {
+        unreachable!();
+    };
+    effective
+}
+
 /// What the permit table says of a drive row.
 pub(crate) fn look_up(permit: &Permit, drive: &Drive) -> Lookup
     ensures pedal { result.pedal ≡ drive.now.pedal }
@@ -77,13 +93,13 @@ pub(crate) fn look_up(permit: &Permit, drive: &Drive) -> Lookup
 
 /// The torque that a drive row permits, in tenths of Nm (docs/CONCEPT.md, "Torque"), by what the permit table
 /// of the calibration says of it.
-#[tactic(auto, unfolding(eg_model::specs::Moments::limit_at, eg_torque::specs::Permit::drive_permits))]
+#[tactic(auto, unfolding(eg_torque::specs::Permit::drive_permits))]
 pub(crate) fn limit(lookup: &Lookup, drive: &Drive) -> u16
     requires pedal { lookup.now.pedal ≡ drive.now.pedal }
     requires speed { lookup.now.speed ≡ drive.now.speed }
     ensures limit { (cal : CalibrationParts)
         → lookup.now.torque ≡ grid_at cal.rules.permit lookup.now.pedal lookup.now.speed
-        → result ≡ limit_at cal drive.now }
+        → result ≡ drive_permits cal.rules.permit drive.now }
 {
     lookup.torque.max(drive.raise())
 }

@@ -2,6 +2,7 @@ use Rattle.std.proofs.Common.{◌≡◌, ◌∙◌, refl, sym, ap, subst, ◌+�
 use Rattle.std.specs.Option.{option_copied}
 use Rattle.eg_answer.specs.declared.rules.Rules.{Rules}
 use Rattle.eg_num.specs.Interpolation.{grid_at}
+use Rattle.eg_torque.specs.Permit.{drive_permits}
 use Rattle.eg_fault.specs.Effects.{asked_at}
 use Rattle.eg_agree.specs.Doings.{phase_at}
 use Rattle.eg_fault.specs.Faults.{effects}
@@ -9,6 +10,7 @@ use Rattle.eg_guard.specs.Memory.{AreWords}
 use Rattle.eg_level2.specs.Words.{words_of, AreWithin}
 use Rattle.eg_level2.specs.Inputs.{Level2Parts}
 use Rattle.eg_model.specs.History.{Setting, Entry}
+use Rattle.eg_model.specs.Moments.{limit_at}
 use Rattle.eg_model.specs.Spans.{next}
 use Rattle.eg_model.specs.Rows.{row_of}
 use Rattle.eg_tick.specs.Kept.{Kept}
@@ -123,7 +125,7 @@ advance g c =
       accepted = c.self.invariant.keeps.accepted;
       parts = c.self.invariant.parts;
       few = subst (λ v. v < 20000) (sym (ap (λ v. v.kept.ticks) c.self.view_is)) c.requires.fewer;
-      is_drive = c.look_up-lookup.ensures.drive;
+      is_drive = c.reset.ensures.drive;
       path1 = c.at.ensures.path1;
       path2 = c.at.ensures.path2;
       on = c.at.ensures.on;
@@ -139,7 +141,7 @@ advance g c =
       asked = c.question-asked.ensures.number
           ∙ ap (λ questions. asked_at (effects (option_copied c.as_ref-fault.result) c.self.inside.ticks) c.enter.new.span.monitor.times
           (length questions) c.enter.new.span.local) c.questions-questions.ensures.questions;
-      readings = c.readings.ensures;
+      readings = λ e. c.readings.ensures c.self.inside.calibration e (sym c.brake-brake.ensures.brake);
       slices = refl;
       served = c.in_ok-step.ensures.served;
       step = c.in_ok-step.ensures.step;
@@ -215,11 +217,18 @@ invariant_of-self-2 g c = record {
 pub returns-clause-stands : goal.returns-clause-stands
 returns-clause-stands g c = stood g c
 
+-- what is permitted, by what the permit table says of the effective drive row
+permits : (g : Over) (c : goal.After-row g) → c.look_up-lookup.result.torque ≡ grid_at (old g c).cal.rules.permit c.look_up-lookup.result.pedal c.look_up-lookup.result.speed
+    → c.limit.result ≡ limit_at (old g c).cal c.args.drive.now
+unfolding limit_at
+permits g c looked = c.limit.ensures.limit (old g c).cal looked
+    ∙ ap (drive_permits (old g c).cal.rules.permit) (c.effective-counts.ensures (old g c).cal (sym c.brake-brake.ensures.brake))
+
 pub returns-clause-row : goal.returns-clause-row
 returns-clause-row g c s h stands =
     of_setting (λ t. c.row.result ≡ row_of (length h) (next t (entry g c) h)) (before g c) h
     (λ image so. row-told (old g c) (new g c) _ _ _ _ _ (task g c) _ _ (advance g c) image h (enter g c _ h so) c.row.result c.limit.result
-    (c.limit.ensures.limit (old g c).cal (c.look_up-lookup.ensures.torque
+    (permits g c (c.look_up-lookup.ensures.torque
     ∙ ap (λ (rules : Rules). grid_at rules.permit c.look_up-lookup.result.pedal c.look_up-lookup.result.speed) c.rules.ensures.rules)) c.row.ensures)
     s (was g c s h stands)
 
