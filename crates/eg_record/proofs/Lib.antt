@@ -7,5 +7,7 @@ pub mod NamesLemmas
 pub mod WatchLemmas
 pub mod GivenLemmas
 pub mod LawLemmas
+pub mod LastOnLemmas
+pub mod TallyLemmas
 mod Worked
 pub mod AsciiLemmas
