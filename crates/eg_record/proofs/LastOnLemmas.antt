@@ -9,11 +9,11 @@ use Rattle.eg_record.specs.Rows.{AreRows}
 use Rattle.eg_record.specs.Stages.{last_on, IsLastOn, IsOnLast, LastOnLaw}
 use Rattle.eg_record.proofs.GivenLemmas.{AreRows-ticks, Contains-tail, Contains-head}
 
-last_on-on : (row : Row) (before : List Row) → row.on ≡ true → last_on (row ∷ before) ≡ Some row.tick
+pub last_on-on : (row : Row) (before : List Row) → row.on ≡ true → last_on (row ∷ before) ≡ Some row.tick
 unfolding last_on
 last_on-on row before on = ap (λ (b : Bool). if b then Some row.tick else last_on before) on
 
-last_on-off : (row : Row) (before : List Row) → row.on ≡ false → last_on (row ∷ before) ≡ last_on before
+pub last_on-off : (row : Row) (before : List Row) → row.on ≡ false → last_on (row ∷ before) ≡ last_on before
 unfolding last_on
 last_on-off row before off = ap (λ (b : Bool). if b then Some row.tick else last_on before) off
 

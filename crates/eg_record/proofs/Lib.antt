@@ -8,6 +8,7 @@ pub mod WatchLemmas
 pub mod GivenLemmas
 pub mod LawLemmas
 pub mod LastOnLemmas
+pub mod FactLemmas
 pub mod TallyLemmas
 mod Worked
 pub mod AsciiLemmas
