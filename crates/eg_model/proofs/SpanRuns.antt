@@ -1,11 +1,14 @@
--- Runs whose drive rows never reset the unit: no start-up test runs in them, so that none fails.
-use Rattle.std.proofs.Common.{◌≡◌, ◌∙◌, refl, sym, subst, ℕ, zero, suc, false, List, [], ◌∷◌, All, length}
-use Rattle.std.specs.Prelude.{slice_index_or}
+-- Runs whose drive rows never reset the unit: their rows are one drive span from tick 0 on. No start-up test runs in them, so that none fails.
+use Rattle.std.proofs.Common.{◌≡◌, ◌∙◌, ◌≤◌, refl, sym, ap, subst, ℕ, zero, suc, true, false, List, [], ◌∷◌, All, length, arith}
+use Rattle.std.specs.Prelude.{slice_index_or, ◌==◌}
+use Rattle.std.proofs.lemmas.Bool.{ne_eqb}
 use Rattle.std.proofs.lemmas.List.Elements.{All-nil, All-cons, All-head, All-tail}
 use Rattle.eg_num.specs.Drive.{DriveRow}
 use Rattle.eg_record.specs.declared.row.Row.{Row}
+use Rattle.eg_record.specs.Spans.{IsDriveSpan}
+use Rattle.eg_record.proofs.SpanLemmas.{drive_span-begins, drive_span-goes_on}
 use Rattle.eg_model.specs.History.{Setting, Entry, Tick}
-use Rattle.eg_model.specs.Paths.{reads_back}
+use Rattle.eg_model.specs.Paths.{is_testing, reads_back}
 use Rattle.eg_model.specs.Moments.{moment, moment_in, moments_of}
 use Rattle.eg_model.specs.Spans.{ticks}
 use Rattle.eg_model.specs.Engines.{BenchEngine}
@@ -46,3 +49,60 @@ finds_no_start b r all = subst (λ past. All NeverFails (rows_of past))
     (sym (records_are_histories b r (length r.drive)
     ∙ runs_without_reset r.setting (entries_to b r (length r.drive)) (entries_never b r all (length r.drive))))
     (driven_rows r.setting (ticks r.setting (entries_to b r (length r.drive))))
+
+-- ---- one drive span ----
+
+-- the row of a tick while the engine is driven: no test is running, and it is fresh where it is the first
+abbrev driven_row : Setting → Tick → List Tick → Row
+driven_row s x h = row_of (length (moments_of s h)) (moment s x.effects x.entry (moments_of s h))
+
+driven-next : (s : Setting) (x : Tick) (h : List Tick) → rows_of (moments_of s (x ∷ h)) ≡ driven_row s x h ∷ rows_of (moments_of s h)
+unfolding rows_of moments_of
+driven-next s x h = refl
+
+driven-untested : (s : Setting) (x : Tick) (h : List Tick) → (driven_row s x h).testing ≡ false
+unfolding row_of moment moment_in is_testing
+driven-untested s x h = refl
+
+driven-fresh : (s : Setting) (x : Tick) (h : List Tick) → (driven_row s x h).fresh ≡ (length (moments_of s h) == 0)
+unfolding row_of moment moment_in moments_of
+driven-fresh s x h = refl
+
+driven-first : (s : Setting) (x : Tick) → (driven_row s x []).fresh ≡ true
+driven-first s x = driven-fresh s x [] ∙ (unfold moments_of in refl)
+
+driven-later : (s : Setting) (x y : Tick) (h : List Tick) → (driven_row s x (y ∷ h)).fresh ≡ false
+driven-later s x y h = driven-fresh s x (y ∷ h) ∙ ne_eqb (length (moments_of s (y ∷ h))) 0 (λ none. (unfold moments_of in omega (arith, none)))
+
+undriven : (s : Setting) → rows_of (moments_of s []) ≡ []
+unfolding rows_of moments_of
+undriven s = refl
+
+drive_rows : (s : Setting) (x : Tick) (h : List Tick) → IsDriveSpan (rows_of (moments_of s (x ∷ h)))
+drive_rows s x [] = subst IsDriveSpan (sym (driven-next s x [] ∙ ap (λ rows. driven_row s x [] ∷ rows) (undriven s)))
+    (drive_span-begins (driven_row s x []) (driven-first s x) (driven-untested s x []))
+drive_rows s x (y ∷ h) = subst IsDriveSpan (sym (driven-next s x (y ∷ h)))
+    (drive_span-goes_on (driven_row s x (y ∷ h)) (rows_of (moments_of s (y ∷ h))) (driven-later s x y h) (drive_rows s y h))
+
+untested_rows : (s : Setting) (h : List Tick) → All (λ (row : Row). row.testing ≡ false) (rows_of (moments_of s h))
+untested_rows s [] = unfold moments_of rows_of in All-nil (λ (row : Row). row.testing ≡ false)
+untested_rows s (x ∷ h) = subst (All (λ (row : Row). row.testing ≡ false)) (sym (driven-next s x h))
+    (All-cons (λ (row : Row). row.testing ≡ false) (driven_row s x h) (rows_of (moments_of s h)) (driven-untested s x h) (untested_rows s h))
+
+-- the rows of such a run are those of a history that is driven
+pub driven_record : {E : Type 0} (b : BenchEngine E) (r : Run) → All NeverResets r.drive →
+    record_rows b r ≡ rows_of (moments_of r.setting (ticks r.setting (entries_to b r (length r.drive))))
+unfolding record_rows
+driven_record b r all = ap rows_of (records_are_histories b r (length r.drive)
+    ∙ runs_without_reset r.setting (entries_to b r (length r.drive)) (entries_never b r all (length r.drive)))
+
+pub is_one_drive_span : {E : Type 0} (b : BenchEngine E) (r : Run) → All NeverResets r.drive → 1 ≤ length r.drive → IsDriveSpan (record_rows b r)
+is_one_drive_span b r all some = subst IsDriveSpan (sym (driven_record b r all)) (go (length r.drive) some)
+  where
+    go : (n : ℕ) → 1 ≤ n → IsDriveSpan (rows_of (moments_of r.setting (ticks r.setting (entries_to b r n))))
+    go zero none = absurd (omega arith)
+    go (suc t) some = unfold entries_to ticks in drive_rows r.setting _ _
+
+pub tests_never : {E : Type 0} (b : BenchEngine E) (r : Run) → All NeverResets r.drive → All (λ (row : Row). row.testing ≡ false) (record_rows b r)
+tests_never b r all = subst (All (λ (row : Row). row.testing ≡ false)) (sym (driven_record b r all))
+    (untested_rows r.setting (ticks r.setting (entries_to b r (length r.drive))))

@@ -7,7 +7,7 @@ use std::marker::Model;
 /// The weights of a debouncer (docs/CONCEPT.md, "Debouncing"): what a bad feed adds (`up`, 1 to 100), what a
 /// good one takes (`down`, 0 to 100), and the weight that confirms (`limit`, 1 to 10,000). Contracts see its
 /// `WeightParts`.
-#[derive(Drop)]
+#[derive(Clone, Copy)]
 pub struct Weights {
     up: u16,
     down: u16,
@@ -22,6 +22,8 @@ impl Model for Weights {
     ghost view = { λ w. record { up = w.up; down = w.down; limit = w.limit } };
 
     ghost invariant = { λ w. AreWeights (record { up = w.up; down = w.down; limit = w.limit }) };
+
+    ghost inverse = { λ w. record { up = w.up; down = w.down; limit = w.limit } };
 }
 
 impl Weights {

@@ -1,5 +1,5 @@
 -- The first tick at which the true excess is confirmed within its span.
-use Rattle.std.proofs.Common.{◌≡◌, ◌∙◌, ◌++◌, ◌∷◌, [], ◌&&◌, not, inl, inr, List, ℕ, Bool, true, false, None, Some, map, length, refl, sym, ap, ap₂}
+use Rattle.std.proofs.Common.{◌≡◌, ◌∙◌, ◌++◌, ◌∷◌, [], ◌&&◌, not, inl, inr, List, ℕ, Bool, true, false, None, Some, map, length, refl, sym, ap, ap₂, subst}
 use Rattle.std.specs.Prelude.{if◌then◌else◌}
 use Rattle.std.specs.Option.{option_or}
 use Rattle.std.specs.Prelude.{Option, is_some}
@@ -7,6 +7,8 @@ use Rattle.std.proofs.lemmas.Bool.{cases_Bool}
 use Rattle.std.proofs.lemmas.List.{length-map}
 use Rattle.eg_num.specs.Windows.{WeightParts, is_confirmed, first_place}
 use Rattle.eg_num.proofs.FirstPlaceLemmas.{is_first_from, is_first-cons, is_some-first_place, first_place-cons, first_place-first, first_place-other}
+use Rattle.eg_num.specs.Counting.{StandsFor}
+use Rattle.eg_num.proofs.CounterLemmas.{counted-nil}
 use Rattle.eg_record.specs.declared.row.Row.{Row}
 use Rattle.eg_record.specs.Spans.{this_span}
 use Rattle.eg_record.specs.Excess.{true_excess, is_excess_confirmed, first_confirmed}
@@ -67,3 +69,22 @@ first_confirmed-one_span w t (row ∷ before) one =
     ∙ ap (λ (n : ℕ). option_or (first_place w (map (true_excess t) before)) (if is_confirmed w (true_excess t row ∷ map (true_excess t) before) then Some n else None))
     (sym (length-map before (true_excess t)))
     ∙ first_place-now w (true_excess t row) (map (true_excess t) before)
+
+-- ---- one row more, by the counter ----
+
+-- a counter that begins anew at a fresh row stands for the part of the span before the row
+pub begins : (w : WeightParts) (f : Row → Bool) (fresh : Bool) (old new : ℕ) (before : List Row) → new ≡ (if fresh then 0 else old) → StandsFor w old (map f before) →
+    StandsFor w new (map f (if fresh then [] else before))
+begins w f true old new before same stands = same ∙ sym (counted-nil w)
+begins w f false old new before same stands = same ∙ stands
+
+-- fed the bit of the row, it stands for the span up to the row, and answers whether the excess is confirmed
+pub fed_stands : (w : WeightParts) (t : ℕ) (row : Row) (before : List Row) (bit : Bool) (value : ℕ) → bit ≡ true_excess t row →
+    StandsFor w value (bit ∷ map (true_excess t) (if row.fresh then [] else this_span before)) → StandsFor w value (map (true_excess t) (this_span (row ∷ before)))
+unfolding this_span
+fed_stands w t row before bit value same stands = subst (λ (b : Bool). StandsFor w value (b ∷ map (true_excess t) (if row.fresh then [] else this_span before))) same stands
+
+pub fed_answers : (w : WeightParts) (t : ℕ) (row : Row) (before : List Row) (bit answer : Bool) → bit ≡ true_excess t row →
+    answer ≡ is_confirmed w (bit ∷ map (true_excess t) (if row.fresh then [] else this_span before)) → is_excess_confirmed w t (row ∷ before) ≡ answer
+unfolding this_span is_excess_confirmed
+fed_answers w t row before bit answer same told = sym (told ∙ ap (λ (b : Bool). is_confirmed w (b ∷ map (true_excess t) (if row.fresh then [] else this_span before))) same)

@@ -21,13 +21,13 @@ AreRows-ticks [] whole = All-nil (λ row. row.tick < 0)
 AreRows-ticks (row ∷ before) whole = All-cons (λ r. r.tick < suc (length before)) row before (let e = whole.0 in omega arith)
     (All-weaker (λ r. r.tick < length before) (λ r. r.tick < suc (length before)) (λ r below. omega arith) before (AreRows-ticks before whole.1))
 
-Contains-tail : {X : Type 0} (x : X) (xs : List X) (y : X) → Contains xs y → Contains (x ∷ xs) y
+pub Contains-tail : {X : Type 0} (x : X) (xs : List X) (y : X) → Contains xs y → Contains (x ∷ xs) y
 Contains-tail x xs y (k, below, same) = (suc k, (omega arith), same)
 
-Contains-head : {X : Type 0} (x : X) (xs : List X) → Contains (x ∷ xs) x
+pub Contains-head : {X : Type 0} (x : X) (xs : List X) → Contains (x ∷ xs) x
 Contains-head x xs = (0, (omega arith), refl)
 
-Contains-cons_cases : {X : Type 0} (x : X) (xs : List X) (y : X) → Contains (x ∷ xs) y → (x ≡ y) ⊎ Contains xs y
+pub Contains-cons_cases : {X : Type 0} (x : X) (xs : List X) (y : X) → Contains (x ∷ xs) y → (x ≡ y) ⊎ Contains xs y
 Contains-cons_cases x xs y (zero, below, same) = inl same
 Contains-cons_cases x xs y (suc k, below, same) = inr (k, (omega arith), same)
 

@@ -7,5 +7,8 @@ pub mod NamesLemmas
 pub mod WatchLemmas
 pub mod GivenLemmas
 pub mod LawLemmas
+pub mod LastOnLemmas
+pub mod FactLemmas
+pub mod TallyLemmas
 mod Worked
 pub mod AsciiLemmas

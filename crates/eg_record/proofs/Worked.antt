@@ -19,14 +19,15 @@ use Rattle.eg_record.specs.Spans.{this_span, IsDriveSpan, IsTestSpan}
 use Rattle.eg_record.proofs.SpanLemmas.{drive_span-begins, drive_span-goes_on, test_span-begins, test_span-goes_on}
 use Rattle.eg_record.specs.Excess.{true_excess, full_excess, is_excess_confirmed, first_confirmed}
 use Rattle.eg_record.specs.Detection.{is_found, first_watch, detected_at, first_detection}
-use Rattle.eg_record.specs.Stages.{is_off, off_at, first_off}
+use Rattle.eg_record.specs.Stages.{is_off, off_at, first_off, last_on}
+use Rattle.eg_record.specs.Facts.{facts_of}
 use Rattle.eg_record.specs.Summaries.{summary_of}
 use Rattle.eg_record.specs.Texts.{comma, bit, watch_name, names, found_text, answer_text, verdict_text, drive_columns, engine_columns, path_columns, signal_columns, command_columns, value_columns, event_columns, columns, row_line, record_header, at_text, first_text, trap_name, trap_text, summary_line, report_end}
 
 -- every definition that these need
 unfoldable recording : ℕ
 unfolding weight windows is_reached is_confirmed is_excess first_given true_excess full_excess this_span
-    is_excess_confirmed first_confirmed is_found first_watch detected_at first_detection is_off off_at first_off summary_of bit watch_name names found_text answer_text
+    is_excess_confirmed first_confirmed is_found first_watch detected_at first_detection is_off off_at first_off last_on facts_of summary_of bit watch_name names found_text answer_text
     verdict_text drive_columns engine_columns path_columns signal_columns command_columns value_columns event_columns columns row_line
     record_header at_text first_text trap_name trap_text summary_line report_end digits
 recording = 0
@@ -206,6 +207,33 @@ anew = (refl, refl)
 not_anew : first_confirmed torque_weights 200 (exceeding 5 ∷ exceeding 4 ∷ four) ≡ Some 4
 unfolding recording
 not_anew = refl
+
+-- ---- facts ----
+
+-- The stages are off at tick 2, on again from tick 3 to tick 8, and off. From tick 3 on there is an excess, which is confirmed at tick 7. Each fact is another tick.
+abbrev on_again : List Row
+on_again =
+    fallen 10 ∷ fallen 9 ∷ record (exceeding 8) { found = record nothing { torque = true } } ∷ exceeding 7 ∷ exceeding 6 ∷ exceeding 5 ∷ exceeding 4 ∷ exceeding 3
+    ∷ fallen 2 ∷ record (rising 1) { found = record nothing { pedal = true } } ∷ rising 0 ∷ []
+
+facts_on_again : facts_of torque_weights 200 on_again ≡ record { first = Some (Pedal, 1); off = Some 2; last_on = Some 8; confirmed = Some 7; ticks = 11 }
+unfolding recording
+facts_on_again = refl
+
+-- Across a start-up test: its ticks aren't told as off, the stages are on before it and after it, and the excess is counted anew.
+abbrev across : List Row
+across =
+    exceeding 9 ∷ exceeding 8 ∷ exceeding 7 ∷ record (exceeding 6) { fresh = true } ∷ tested 5 ∷ record (tested 4) { fresh = true } ∷ four
+
+facts_across : (facts_of torque_weights 200 (tested 5 ∷ record (tested 4) { fresh = true } ∷ four) ≡ record { first = None; off = None; last_on = Some 3; confirmed = None; ticks = 6 })
+    × (facts_of torque_weights 200 across ≡ record { first = None; off = None; last_on = Some 9; confirmed = None; ticks = 10 })
+    × (facts_of torque_weights 200 (exceeding 10 ∷ across) ≡ record { first = None; off = None; last_on = Some 10; confirmed = Some 10; ticks = 11 })
+unfolding recording
+facts_across = (refl, refl, refl)
+
+facts_of_none : facts_of torque_weights 200 [] ≡ record { first = None; off = None; last_on = None; confirmed = None; ticks = 0 }
+unfolding recording
+facts_of_none = refl
 
 -- ---- lines of summaries ----
 

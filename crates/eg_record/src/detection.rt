@@ -2,7 +2,7 @@
 ghost use Rattle.std.specs.Prelude.{◌≡◌, reverse, if◌then◌else◌};
 ghost use Rattle.eg_record.specs.Rows.{AreRows};
 ghost use Rattle.eg_record.specs.Detection.{first_detection, DetectionLaw};
-ghost use Rattle.eg_record.specs.Stages.{is_off, first_off, OffLaw};
+ghost use Rattle.eg_record.specs.Stages.{is_off, first_off, OffLaw, LastOnLaw};
 ghost use Rattle.eg_record.specs.Excess.{true_excess, first_confirmed};
 
 use crate::{Row, Watch};
@@ -65,9 +65,15 @@ pub fn off_ticks_are_first()
     ensures { OffLaw }
 {}
 
+/// Does nothing when it runs. Its contract is a law: at the tick that is told as the last at which the stages
+/// are on they are on, and at each later one they are off (docs/CONCEPT.md, "The report of a run").
+pub fn on_ticks_are_last()
+    ensures { LastOnLaw }
+{}
+
 /// Whether the stages are off at a row, and no start-up test is running.
 #[tactic(auto, unfolding(crate::specs::Stages::is_off))]
-fn is_off(row: &Row) -> bool
+pub(crate) fn is_off(row: &Row) -> bool
     ensures { result ≡ is_off row.now }
 {
     !row.on && !row.testing
@@ -75,14 +81,14 @@ fn is_off(row: &Row) -> bool
 
 /// Whether the torque of a row exceeds what is permitted.
 #[tactic(auto, unfolding(crate::specs::Excess::true_excess))]
-fn is_excess(row: &Row, threshold: u16) -> bool
+pub(crate) fn is_excess(row: &Row, threshold: u16) -> bool
     ensures { result ≡ true_excess threshold row.now }
 {
     excess(row.torque, row.limit, threshold)
 }
 
 /// The counter that a row is fed to: a new one where a span begins with the row.
-fn counter_at(row: &Row, counter: Counter) -> Counter
+pub(crate) fn counter_at(row: &Row, counter: Counter) -> Counter
     ensures { result.value ≡ if row.now.fresh then 0 else counter.value }
 {
     if row.fresh { Counter::new() } else { counter }

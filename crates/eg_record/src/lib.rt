@@ -1,19 +1,24 @@
-//! The record of a run: rows, one a tick, with what holds at that tick; the watches; and the summary of a
-//! run, which is what a report says of it. Rows and summaries are also given as the lines that are printed.
+//! The record of a run: rows, one a tick, with what holds at that tick; the watches; the facts of the rows,
+//! which a tally gathers row by row; and the summary of a run, which is what a report says of it. Rows and
+//! summaries are also given as the lines that are printed.
 #![tactic(auto)]
 
 mod detection;
+mod facts;
 mod row;
 mod row_line;
 mod summary;
 mod summary_line;
+mod tally;
 mod watch;
 
-pub use detection::{detections_are_first, off_ticks_are_first};
+pub use detection::{detections_are_first, off_ticks_are_first, on_ticks_are_last};
 pub use eg_answer::{AnswerMark, Verdict};
 pub use eg_num::{Drive, Watches};
+pub use facts::Facts;
 pub use row::Row;
 pub use row_line::{push_row, record_header, row_text};
 pub use summary::{Summary, summarize};
 pub use summary_line::{report_end_text, summary_text};
+pub use tally::Tally;
 pub use watch::Watch;

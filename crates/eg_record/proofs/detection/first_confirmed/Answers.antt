@@ -1,31 +1,13 @@
-use Rattle.std.proofs.Common.{◌≡◌, ◌∙◌, ◌+◌, ◌∷◌, [], List, ℕ, Bool, true, false, Some, reverse, map, drop, length, sym, ap, subst, arith, refl}
+use Rattle.std.proofs.Common.{◌≡◌, ◌∙◌, ◌+◌, [], List, Some, reverse, map, drop, length, sym, ap, subst, arith, refl}
 use Rattle.std.specs.Prelude.{if◌then◌else◌}
-use Rattle.eg_num.specs.Windows.{WeightParts, is_confirmed}
 use Rattle.eg_num.specs.Counting.{StandsFor}
 use Rattle.eg_num.proofs.CounterLemmas.{counted-nil}
 use Rattle.eg_record.specs.declared.row.Row.{Row}
 use Rattle.eg_record.specs.Spans.{this_span}
-use Rattle.eg_record.specs.Excess.{true_excess, is_excess_confirmed, first_confirmed}
+use Rattle.eg_record.specs.Excess.{true_excess, first_confirmed}
 use Rattle.eg_record.proofs.RowsLemmas.{so_far, so_far-more, so_far-all, length-so_far, reverse-so_far, AreRows-tick}
-use Rattle.eg_record.proofs.ExcessLemmas.{first_confirmed-here, first_confirmed-none, first_confirmed-append}
+use Rattle.eg_record.proofs.ExcessLemmas.{begins, fed_stands, fed_answers, first_confirmed-here, first_confirmed-none, first_confirmed-append}
 use Rattle.eg_record.proofs.detection.first_confirmed.Goals as goal
-
--- a counter that begins anew at a fresh row stands for the part of the span before the row
-begins : (w : WeightParts) (f : Row → Bool) (fresh : Bool) (old new : ℕ) (before : List Row) → new ≡ (if fresh then 0 else old) → StandsFor w old (map f before) →
-    StandsFor w new (map f (if fresh then [] else before))
-begins w f true old new before same stands = same ∙ sym (counted-nil w)
-begins w f false old new before same stands = same ∙ stands
-
--- fed the bit of the row, it stands for the span up to the row, and answers whether the excess is confirmed
-fed_stands : (w : WeightParts) (t : ℕ) (row : Row) (before : List Row) (bit : Bool) (value : ℕ) → bit ≡ true_excess t row →
-    StandsFor w value (bit ∷ map (true_excess t) (if row.fresh then [] else this_span before)) → StandsFor w value (map (true_excess t) (this_span (row ∷ before)))
-unfolding this_span
-fed_stands w t row before bit value same stands = subst (λ (b : Bool). StandsFor w value (b ∷ map (true_excess t) (if row.fresh then [] else this_span before))) same stands
-
-fed_answers : (w : WeightParts) (t : ℕ) (row : Row) (before : List Row) (bit answer : Bool) → bit ≡ true_excess t row →
-    answer ≡ is_confirmed w (bit ∷ map (true_excess t) (if row.fresh then [] else this_span before)) → is_excess_confirmed w t (row ∷ before) ≡ answer
-unfolding this_span is_excess_confirmed
-fed_answers w t row before bit answer same told = sym (told ∙ ap (λ (b : Bool). is_confirmed w (b ∷ map (true_excess t) (if row.fresh then [] else this_span before))) same)
 
 pub loop-row-init : goal.loop-row-init
 unfolding so_far this_span first_confirmed

@@ -1,0 +1,71 @@
+-- One row more: what facts become, and what a tally stands for.
+use Rattle.std.proofs.Common.{◌≡◌, ◌∙◌, ◌∷◌, [], List, ℕ, Bool, Some, None, map, length, refl, sym, ap, ap₂, add-one}
+use Rattle.std.specs.Prelude.{Option, if◌then◌else◌}
+use Rattle.std.specs.Option.{option_or}
+use Rattle.eg_num.specs.Windows.{WeightParts, is_confirmed}
+use Rattle.eg_num.specs.Counting.{StandsFor}
+use Rattle.eg_word.specs.declared.registers.Trap.{Trap}
+use Rattle.eg_num.proofs.CounterLemmas.{counted-nil}
+use Rattle.eg_record.specs.declared.row.Row.{Row}
+use Rattle.eg_record.specs.declared.facts.Facts.{Facts}
+use Rattle.eg_record.specs.Rows.{first_given}
+use Rattle.eg_record.specs.Spans.{this_span}
+use Rattle.eg_record.specs.Detection.{first_detection}
+use Rattle.eg_record.specs.Excess.{true_excess, is_excess_confirmed, first_confirmed}
+use Rattle.eg_record.specs.Stages.{first_off, last_on}
+use Rattle.eg_record.specs.Facts.{facts_of, facts_with, summary_with}
+use Rattle.eg_record.specs.Summaries.{summary_of}
+use Rattle.eg_record.specs.Tallies.{TallyParts, IsTallyOf}
+use Rattle.eg_record.proofs.ExcessLemmas.{begins, fed_stands, fed_answers}
+
+-- the facts of these rows and of one more
+pub facts_of-more : (w : WeightParts) (t : ℕ) (row : Row) (rows : List Row) → row.tick ≡ length rows →
+    facts_of w t (row ∷ rows) ≡ facts_with row (is_excess_confirmed w t (row ∷ rows)) (facts_of w t rows)
+unfolding facts_of facts_with first_detection first_off first_given last_on first_confirmed
+facts_of-more w t row rows tick =
+    ap₂ (λ (n m : ℕ). record (facts_with row (is_excess_confirmed w t (row ∷ rows)) (facts_of w t rows)) {
+      confirmed = option_or (first_confirmed w t rows) (if is_excess_confirmed w t (row ∷ rows) then Some n else None);
+      ticks = m;
+    }) (sym tick) (sym (add-one (length rows)))
+
+pub ticks_of : (w : WeightParts) (t : ℕ) (rows : List Row) → (facts_of w t rows).ticks ≡ length rows
+unfolding facts_of
+ticks_of w t rows = refl
+
+-- a tally that was fed nothing
+pub new_tally : (w : WeightParts) (t value : ℕ) (facts : Facts) → facts ≡ facts_of w t [] → value ≡ 0 →
+    IsTallyOf (record { threshold = t; weights = w; facts = facts; value = value }) []
+unfolding this_span
+new_tally w t value facts same zero = record { run = tt; facts = same; counter = zero ∙ sym (counted-nil w) }
+
+-- What the counter of a tally is fed at a row: it begins anew where a span does, gets the bit of the row, and answers whether the excess is confirmed.
+pub record IsFed (tally : TallyParts) (row : Row) (new : ℕ) (confirmed : Bool) : Type 0 where
+  pub begun : ℕ
+  pub begins : begun ≡ (if row.fresh then 0 else tally.value)
+  pub bit : Bool
+  pub bit_is : bit ≡ true_excess tally.threshold row
+  pub windows : (bits : List Bool) → StandsFor tally.weights begun bits → StandsFor tally.weights new (bit ∷ bits)
+  pub answers : (bits : List Bool) → StandsFor tally.weights begun bits → confirmed ≡ is_confirmed tally.weights (bit ∷ bits)
+
+-- a tally that stands for these rows, fed one row more
+pub fed_tally : (tally : TallyParts) (row : Row) (new : ℕ) (confirmed : Bool) (facts : Facts) (rows : List Row) → row.tick ≡ tally.facts.ticks →
+    IsFed tally row new confirmed → facts ≡ facts_with row confirmed tally.facts →
+    IsTallyOf tally rows → IsTallyOf (record { threshold = tally.threshold; weights = tally.weights; facts = facts; value = new }) (row ∷ rows)
+fed_tally tally row new confirmed facts rows tick fed added before =
+    let w = tally.weights in
+    let t = tally.threshold in
+    let here : row.tick ≡ length rows = tick ∙ ap (λ (f : Facts). f.ticks) before.facts ∙ ticks_of w t rows in
+    let begun = begins w (true_excess t) row.fresh tally.value fed.begun (this_span rows) fed.begins before.counter in
+    let bits = map (true_excess t) (if row.fresh then [] else this_span rows) in
+    let told = fed_answers w t row rows fed.bit confirmed fed.bit_is (fed.answers bits begun) in
+    record {
+      run = (here, before.run);
+      facts = added ∙ ap₂ (facts_with row) (sym told) before.facts ∙ sym (facts_of-more w t row rows here);
+      counter = fed_stands w t row rows fed.bit new fed.bit_is (fed.windows bits begun);
+    }
+
+-- the summary with the facts of some rows is theirs
+pub summary_with-rows : (name : List ℕ) (w : WeightParts) (t : ℕ) (rows : List Row) (trap : Option (Trap × ℕ)) (bound : ℕ) →
+    summary_with name (facts_of w t rows) trap bound ≡ summary_of name rows trap t w bound
+unfolding facts_of summary_with summary_of
+summary_with-rows name w t rows trap bound = refl

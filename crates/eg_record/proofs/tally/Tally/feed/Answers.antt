@@ -1,0 +1,40 @@
+use Rattle.std.proofs.Common.{◌∙◌, ◌+◌, ◌∷◌, List, sym, ap, subst}
+use Rattle.eg_record.specs.declared.row.Row.{Row}
+use Rattle.eg_record.specs.declared.facts.Facts.{Facts}
+use Rattle.eg_record.specs.Facts.{facts_with}
+use Rattle.eg_record.specs.Tallies.{TallyParts, IsTallyOf}
+use Rattle.eg_record.proofs.TallyLemmas.{IsFed, fed_tally}
+use Rattle.eg_record.proofs.tally.Tally.feed.Goals as goal
+
+-- the tally before the row
+abbrev before : goal.After-add → TallyParts
+before c = record { threshold = c.self.inside.threshold; weights = c.self.inside.weights; facts = c.self.inside.facts; value = c.self.inside.counter.value }
+
+-- it stands for the row and for those before it
+goes_on : (c : goal.After-add) (rows : List Row) → IsTallyOf (before c) rows →
+    IsTallyOf (record { threshold = c.self.inside.threshold; weights = c.self.inside.weights; facts = c.add.new.self; value = c.feed-is_confirmed.new.self.value }) (c.args.row.now ∷ rows)
+goes_on c rows stands =
+    let tick = c.requires.tick ∙ sym (ap (λ v. v.facts.ticks) c.self.view_is) in
+    let fed : IsFed (before c) c.args.row.now c.feed-is_confirmed.new.self.value c.feed-is_confirmed.result = record {
+      begun = c.counter_at-counter.result.value;
+      begins = c.counter_at-counter.ensures;
+      bit = c.is_excess.result;
+      bit_is = c.is_excess.ensures;
+      windows = c.feed-is_confirmed.ensures.windows;
+      answers = c.feed-is_confirmed.ensures.confirmed;
+    } in
+    fed_tally (before c) c.args.row.now _ _ c.add.new.self rows tick fed c.add.ensures stands
+
+pub invariant_of-self : goal.invariant_of-self
+invariant_of-self c = record {
+  weights = c.self.invariant.weights;
+  within = c.feed-is_confirmed.ensures.within;
+  some = (c.args.row.now ∷ c.self.invariant.some.0, goes_on c c.self.invariant.some.0 c.self.invariant.some.1);
+}
+
+pub returns-clause-ticks : goal.returns-clause-ticks
+unfolding facts_with
+returns-clause-ticks c = ap (λ (f : Facts). f.ticks) c.add.ensures ∙ ap (λ v. v.facts.ticks + 1) c.self.view_is
+
+pub returns-clause-stands : goal.returns-clause-stands
+returns-clause-stands c rows stands = goes_on c rows (subst (λ v. IsTallyOf v rows) (sym c.self.view_is) stands)

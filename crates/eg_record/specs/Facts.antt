@@ -1,0 +1,42 @@
+-- The facts of a run: what is told of its rows once they are gone.
+use Rattle.std.specs.Prelude.{ℕ, ◌+◌, Bool, List, length, Option, Some, None, if◌then◌else◌}
+use Rattle.std.specs.Option.{option_or}
+use Rattle.eg_num.specs.Windows.{WeightParts}
+use Rattle.eg_word.specs.declared.registers.Trap.{Trap}
+use Rattle.eg_record.specs.declared.row.Row.{Row}
+use Rattle.eg_record.specs.declared.facts.Facts.{Facts}
+use Rattle.eg_record.specs.declared.summary.Summary.{Summary}
+use Rattle.eg_record.specs.Detection.{detected_at, first_detection}
+use Rattle.eg_record.specs.Excess.{first_confirmed}
+use Rattle.eg_record.specs.Stages.{off_at, first_off, last_on}
+
+-- the facts of these rows, where the true excess goes by these weights and this threshold
+unfoldable pub facts_of : WeightParts → (threshold : ℕ) → List Row → Facts
+facts_of weights threshold rows = record {
+  first = first_detection rows;
+  off = first_off rows;
+  last_on = last_on rows;
+  confirmed = first_confirmed weights threshold rows;
+  ticks = length rows;
+}
+
+-- the summary that tells these facts, with this name, trap and reaction time
+unfoldable pub summary_with : (name : List ℕ) → Facts → (trap : Option (Trap × ℕ)) → (bound : ℕ) → Summary
+summary_with name facts trap bound = record {
+  name = name;
+  first = facts.first;
+  off = facts.off;
+  trap = trap;
+  confirmed = facts.confirmed;
+  bound = bound;
+}
+
+-- what facts become by one row more, at which the true excess is confirmed or isn't
+unfoldable pub facts_with : Row → (confirmed : Bool) → Facts → Facts
+facts_with row confirmed facts = record {
+  first = option_or facts.first (detected_at row);
+  off = option_or facts.off (off_at row);
+  last_on = if row.on then Some row.tick else facts.last_on;
+  confirmed = option_or facts.confirmed (if confirmed then Some row.tick else None);
+  ticks = facts.ticks + 1;
+}

@@ -1,0 +1,115 @@
+// The facts of a run.
+ghost use Rattle.std.specs.Prelude.{◌≡◌, ℕ, ◌<◌, List, [], IfOk, if◌then◌else◌, Some, None};
+ghost use Rattle.std.specs.Option.{option_or};
+ghost use Rattle.eg_num.specs.Windows.{WeightParts};
+ghost use Rattle.eg_record.specs.Detection.{detected_at};
+ghost use Rattle.eg_record.specs.Stages.{off_at};
+ghost use Rattle.eg_record.specs.Facts.{facts_of, facts_with, summary_with};
+ghost use Rattle.eg_record.specs.Summaries.{summary_of};
+
+use crate::detection::is_off;
+use crate::{Row, Summary, Watch};
+use eg_base::{NoMemory, Text};
+use eg_word::Trap;
+use std::alloc::Global;
+
+/// What is told of the rows of a run once they are gone (docs/CONCEPT.md, "The report of a run"). All ticks
+/// are those of the run, the first being 0.
+#[derive(Clone, Copy, Debug, PartialEq, Eq)]
+pub struct Facts {
+    /// The first watch that is found, and the tick at which it is, or None.
+    pub first: Option<(Watch, u32)>,
+    /// The first tick at which the power stages are off and no start-up test is running, or None.
+    pub off: Option<u32>,
+    /// The last tick at which the power stages are on, or None.
+    pub last_on: Option<u32>,
+    /// The first tick at which the true excess is confirmed within its span, or None.
+    pub confirmed: Option<u32>,
+    /// How many ticks there are.
+    pub ticks: u32,
+}
+
+impl Facts {
+    /// What a report says of the run (docs/CONCEPT.md, "The report of a run"): its facts, with the name, the
+    /// trap and the reaction time (ticks) that are handed in.
+    #[tactic(auto, unfolding(crate::specs::Facts::summary_with))]
+    pub fn summary(
+        &self,
+        alloc: Global,
+        name: &str,
+        trap: Option<(Trap, u32)>,
+        bound: u32,
+    ) -> Result<Summary, NoMemory>
+        ensures facts { IfOk result (λ summary. summary ≡ summary_with name.now self.now trap bound) }
+        // Of the facts of any rows it is the summary of those rows.
+        ensures rows { (weights : WeightParts) (threshold : ℕ) (rows : List Row) →
+            self.now ≡ facts_of weights threshold rows → IfOk result (λ summary.
+            summary ≡ summary_of name.now rows trap threshold weights bound) }
+    {
+        let name = String::from_str(alloc, name)?;
+        Ok(Summary {
+            name: Text::new(name),
+            first: self.first,
+            off: self.off,
+            trap,
+            confirmed: self.confirmed,
+            bound,
+        })
+    }
+
+    /// The facts of no rows.
+    pub(crate) fn new() -> Facts
+        ensures { (weights : WeightParts) (threshold : ℕ) → result ≡ facts_of weights threshold [] }
+    {
+        Facts {
+            first: None,
+            off: None,
+            last_on: None,
+            confirmed: None,
+            ticks: 0,
+        }
+    }
+
+    /// One row more, at which the true excess is confirmed or isn't.
+    #[tactic(auto, unfolding(crate::specs::Facts::facts_with, crate::specs::Stages::off_at))]
+    pub(crate) fn add(&mut self, row: &Row, is_confirmed: bool)
+        requires { self.old.ticks < 20000 }
+        ensures { self.new ≡ facts_with row.now is_confirmed self.old }
+    {
+        note_detection(&mut self.first, row);
+        note_tick(&mut self.off, row.tick, is_off(row));
+        note_on(&mut self.last_on, row);
+        note_tick(&mut self.confirmed, row.tick, is_confirmed);
+        self.ticks += 1;
+    }
+}
+
+/// Notes what is detected at a row, unless something is noted already.
+#[tactic(auto, unfolding(crate::specs::Detection::detected_at))]
+fn note_detection(first: &mut Option<(Watch, u32)>, row: &Row)
+    ensures { first.new ≡ option_or first.old (detected_at row.now) }
+{
+    if first.is_none() {
+        if let Some(watch) = Watch::first_among(&row.found) {
+            *first = Some((watch, row.tick));
+        }
+    }
+}
+
+/// Notes the tick of a row at which the stages are on, in place of any earlier one.
+fn note_on(last: &mut Option<u32>, row: &Row)
+    ensures { last.new ≡ if row.now.on then Some row.now.tick else last.old }
+{
+    if row.on {
+        *last = Some(row.tick);
+    }
+}
+
+/// Notes a tick at which something is so, unless one is noted already.
+fn note_tick(first: &mut Option<u32>, tick: u32, is_so: bool)
+    ensures { first.new ≡ option_or first.old (if is_so then Some tick else None) }
+{
+    if is_so && first.is_none() {
+        *first = Some(tick);
+    }
+}

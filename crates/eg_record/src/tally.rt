@@ -1,0 +1,95 @@
+// The tally of the rows of a run.
+ghost use Rattle.std.specs.Prelude.{◌≡◌, ◌+◌, ◌<◌, List, [], ◌∷◌};
+ghost use Rattle.eg_record.specs.Facts.{facts_of};
+ghost use Rattle.eg_record.specs.Tallies.{IsTallyOf, IsTally};
+
+use crate::detection::{counter_at, is_excess};
+use crate::{Facts, Row};
+use eg_num::{Counter, Weights};
+use std::marker::Model;
+
+/// The facts of the rows that it was fed, one by one from tick 0 on, in place of the rows (docs/CONCEPT.md,
+/// "The report of a run"). Contracts see its `TallyParts`, and say for which rows it stands. No call takes
+/// memory.
+#[derive(Clone, Copy)]
+pub struct Tally {
+    threshold: u16,
+    weights: Weights,
+    facts: Facts,
+    counter: Counter,
+}
+
+impl Model for Tally {
+    ghost use Rattle.eg_record.specs.Tallies.{TallyParts, IsTally};
+
+    ghost Value = { TallyParts };
+
+    ghost view = { λ t. record {
+      threshold = t.threshold;
+      weights = t.weights;
+      facts = t.facts;
+      value = t.counter.value;
+    } };
+
+    ghost invariant = { λ t. IsTally (record {
+      threshold = t.threshold;
+      weights = t.weights;
+      facts = t.facts;
+      value = t.counter.value;
+    }) };
+
+    ghost inverse = { λ p. record {
+      threshold = p.threshold;
+      weights = p.weights;
+      facts = p.facts;
+      counter = record { value = p.value };
+    } };
+}
+
+impl Tally {
+    /// A tally that was fed nothing. The true excess goes by this threshold (tenths of Nm) and these weights.
+    pub fn new(threshold: u16, weights: Weights) -> Tally
+        ensures threshold { result.threshold ≡ threshold }
+        ensures weights { result.weights ≡ weights }
+        ensures ticks { result.facts.ticks ≡ 0 }
+        // It stands for no rows.
+        ensures stands { IsTallyOf result [] }
+    {
+        // Whoever reads one of the weights learns that they keep their limits.
+        let _limit = weights.limit();
+        Tally {
+            threshold,
+            weights,
+            facts: Facts::new(),
+            counter: Counter::new(),
+        }
+    }
+
+    /// Feeds the row of the next tick: its tick is the count of rows that were fed, and fewer than 20,000
+    /// were.
+    pub fn feed(&mut self, row: &Row)
+        requires tick { row.now.tick ≡ self.old.facts.ticks }
+        requires fewer { self.old.facts.ticks < 20000 }
+        ensures threshold { self.new.threshold ≡ self.old.threshold }
+        ensures weights { self.new.weights ≡ self.old.weights }
+        ensures ticks { self.new.facts.ticks ≡ self.old.facts.ticks + 1 }
+        // What it stands for, whichever rows it was fed.
+        ensures stands { (rows : List Row) → IsTallyOf self.old rows → IsTallyOf self.new (row.now ∷ rows) }
+    {
+        let mut counter = counter_at(row, self.counter);
+        let is_confirmed = counter.feed(&self.weights, is_excess(row, self.threshold));
+        self.counter = counter;
+        self.facts.add(row, is_confirmed);
+    }
+
+    /// The facts of the rows that it was fed.
+    pub fn facts(&self) -> Facts
+        ensures kept { result ≡ self.now.facts }
+        ensures facts { (rows : List Row) → IsTallyOf self.now rows →
+            result ≡ facts_of self.now.weights self.now.threshold rows }
+        // Each tally stands for some rows.
+        ensures some { IsTally self.now }
+    {
+        self.facts
+    }
+}
