@@ -149,7 +149,8 @@ unknown_fault ms = if is_all_known (version_of ms) ms then None else Some (fault
 -- values together
 abbrev pub refusal_of : Members → Option CalFault
 refusal_of ms =
-    or_else (keys_fault ms (all_keys (version_of ms))) (or_else (unknown_fault ms) (parts_fault (parts_of ms)))
+    or_else (keys_fault ms (all_keys (version_of ms)))
+    (or_else (unknown_fault ms) (parts_fault (parts_of ms)))
 
 -- the calibration of a document, or its first refusal
 abbrev pub calibration_of : Option Members → Result CalibrationParts CalFault

@@ -4,9 +4,9 @@ use Rattle.std.specs.Prelude.{ℕ, ◌==◌, Bool, List, [], ◌∷◌, ◌++◌
 use Rattle.eg_cal.specs.declared.key.CalKey.{CalKey}
 use Rattle.eg_cal.specs.declared.key.CalKey.TheVariants.{Version, PermitPedal, PermitSpeed, PermitTable, PermitThreshold, PermitBrake, TorqueKt, TorqueUp, TorqueDown, TorqueLimit, PairsPedal, PairsPlate, PairsLoad, PairsSpeed, PairsUp, PairsDown, PairsLimit, PlantSlew, PlantFill, PlantAngle, PlantCharge, AnswersPeriod, AnswersFirst, AnswersLast, AnswersSend, AnswersUp, AnswersDown, AnswersLimit, Question, Unknown}
 
--- What a key may hold. A number is a TOML integer, and a truth value a TOML boolean. An axis has 2 to 16 strictly rising numbers. The values of
--- an axis are as many numbers as it has points. A grid has a row for each point of its first axis, and each
--- row has a number for each point of the second.
+-- What a key may hold. A number is a TOML integer, and a truth value a TOML boolean. An axis has 2 to 16
+-- strictly rising numbers. The values of an axis are as many numbers as it has points. A grid has a row for
+-- each point of its first axis, and each row has a number for each point of the second.
 pub data Content : Type 0 where
   number : ℕ → ℕ → Content  -- from .. to ..
   truth : Content

@@ -123,8 +123,8 @@ pub(crate) fn entries_in(document: &Document, version: u16) -> Result<Entries, C
 fn permit_in(document: &Document, version: u16) -> Result<(Table2, u16, bool), CalFault>
     requires { version ≡ version_of (table_view document.now.root) }
     ensures { let ms = table_view document.now.root in
-        Checks (first_fault ms (permit_keys version))
-            (permit_of ms, number_of ms PermitThreshold, brake_of ms) result }
+        let fault = first_fault ms (permit_keys version) in
+        Checks fault (permit_of ms, number_of ms PermitThreshold, brake_of ms) result }
 {
     let pedal = document.axis(CalKey::PermitPedal, 1000)?;
     let speed = document.axis(CalKey::PermitSpeed, 8000)?;
