@@ -1,20 +1,20 @@
 -- A key without a fault holds what it may, and a key that holds what it may has no fault.
-use Rattle.std.proofs.Common.{◌≡◌, ℕ, suc, ℤ, pos, negsuc, ◌≤◌, nat_le, true, ◌&&◌, length, List, [], ◌∷◌, ◌++◌, All, Option, Some, None, IsSome, option_map, if◌then◌else◌, refl, sym, ap, ap₂, ◌∙◌, arith}
+use Rattle.std.proofs.Common.{◌≡◌, ℕ, suc, ℤ, pos, negsuc, ◌≤◌, nat_le, Bool, true, ◌&&◌, length, List, [], ◌∷◌, ◌++◌, All, Option, Some, None, IsSome, option_map, if◌then◌else◌, refl, sym, ap, ap₂, ◌∙◌, arith}
 use Rattle.std.proofs.lemmas.Bool.{and_parts}
 use Rattle.std.proofs.lemmas.List.Elements.{All-nil, All-cons, All-head, All-tail}
-use Rattle.toml.specs.Data.{Data, string, integer, float, boolean, datetime, array, table, Members, Items, no_items, item, as_integer, as_array}
+use Rattle.toml.specs.Data.{Data, string, integer, float, boolean, datetime, array, table, Members, Items, no_items, item, as_integer, as_bool, as_array}
 use Rattle.eg_toml.specs.Values.{natural_in, number_in, ◌>>=◌}
 use Rattle.eg_toml.specs.Arrays.{count, append_read, all_read, all_numbers, items_in, numbers_in, rows_in}
 use Rattle.eg_toml.proofs.RefusalLemmas.{if-none}
 use Rattle.eg_toml.proofs.RangeLemmas.{bind-some, if-some, number_in-within, numbers_in-within}
 use Rattle.eg_cal.specs.declared.key.CalKey.{CalKey}
 use Rattle.eg_cal.specs.declared.key.CalFault.{CalFault}
-use Rattle.eg_cal.specs.Keys.{Content, number, axis, values, grid, questions, nothing}
+use Rattle.eg_cal.specs.Keys.{Content, number, truth, axis, values, grid, questions, nothing}
 use Rattle.eg_toml.specs.Refusals.{unless_some}
 use Rattle.eg_cal.specs.Contents.{value_of, point_count, read_questions}
 use Rattle.eg_toml.specs.Arrays.{is_rising}
 use Rattle.eg_cal.specs.Checks.{axis_fault, content_fault}
-use Rattle.eg_cal.specs.Held.{number_items, row_items, AreNumbers, IsNumber, IsAxisArray, IsNumberArray, IsRowArray, Holds}
+use Rattle.eg_cal.specs.Held.{number_items, row_items, AreNumbers, IsNumber, IsTruth, IsAxisArray, IsNumberArray, IsRowArray, Holds}
 use Rattle.eg_toml.proofs.RisingLemmas.{rising-true, true-rising}
 use Rattle.eg_cal.proofs.AxisLemmas.{le-true, true-le}
 
@@ -28,6 +28,15 @@ as_integer-is (boolean b) z e = absurd (cc)
 as_integer-is (datetime t) z e = absurd (cc)
 as_integer-is (array ds) z e = absurd (cc)
 as_integer-is (table ms) z e = absurd (cc)
+
+as_bool-is : (d : Data) (b : Bool) → as_bool d ≡ Some b → d ≡ boolean b
+as_bool-is (boolean a) b e = let same : a ≡ b = cc in ap boolean same
+as_bool-is (integer z) b e = absurd (cc)
+as_bool-is (string s) b e = absurd (cc)
+as_bool-is (float x) b e = absurd (cc)
+as_bool-is (datetime t) b e = absurd (cc)
+as_bool-is (array ds) b e = absurd (cc)
+as_bool-is (table ms) b e = absurd (cc)
 
 as_array-is : (d : Data) (ds : Items) → as_array d ≡ Some ds → d ≡ array ds
 as_array-is (array es) ds e = let same : es ≡ ds = cc in ap array same
@@ -156,6 +165,15 @@ held-number low high f o h =
     let read : (o >>= number_in low high) ≡ Some h.value = ap (λ p. p >>= number_in low high) h.is ∙ natural_in-pos low high h.value h.least h.most in
     ap (unless_some f) read
 
+truth-held : (f : CalFault) (o : Option Data) → unless_some f (o >>= as_bool) ≡ None → IsTruth o
+truth-held f o e =
+    let read = unless_some-none f (o >>= as_bool) e in
+    let found = bind-some o as_bool read.0 read.1 in
+    record { value = read.0; is = found.1.0 ∙ ap Some (as_bool-is found.0 read.0 found.1.1) }
+
+held-truth : (f : CalFault) (o : Option Data) → IsTruth o → unless_some f (o >>= as_bool) ≡ None
+held-truth f o h = ap (λ p. unless_some f (p >>= as_bool)) h.is
+
 axis-held : (high : ℕ) (key : CalKey) (o : Option Data) → axis_fault key (o >>= numbers_in 2 16 high) ≡ None → IsAxisArray high o
 axis-held high key o e =
     let read = axis_fault-none key (o >>= numbers_in 2 16 high) e in
@@ -221,6 +239,7 @@ held-some f (Some x) h = refl
 -- a key without a fault holds its content
 pub content-held : (content : Content) (ms : Members) (key : CalKey) → content_fault content ms key ≡ None → Holds content ms key
 content-held (number low high) ms key e = number-held low high _ (value_of ms key) e
+content-held truth ms key e = truth-held _ (value_of ms key) e
 content-held (axis high) ms key e = axis-held high key (value_of ms key) e
 content-held (values along high) ms key e = values-held (point_count ms along) high _ (value_of ms key) e
 content-held (grid down across high) ms key e = grid-held (point_count ms down) (point_count ms across) high _ (value_of ms key) e
@@ -230,6 +249,7 @@ content-held nothing ms key e = tt
 -- and a key that holds its content has no fault
 pub held-content : (content : Content) (ms : Members) (key : CalKey) → Holds content ms key → content_fault content ms key ≡ None
 held-content (number low high) ms key h = held-number low high _ (value_of ms key) h
+held-content truth ms key h = held-truth _ (value_of ms key) h
 held-content (axis high) ms key h = held-axis high key (value_of ms key) h
 held-content (values along high) ms key h = held-values (point_count ms along) high _ (value_of ms key) h
 held-content (grid down across high) ms key h = held-grid (point_count ms down) (point_count ms across) high _ (value_of ms key) h

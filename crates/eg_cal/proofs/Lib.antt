@@ -4,3 +4,4 @@ pub mod ReferenceLemmas
 pub mod HeldLemmas
 pub mod RuleLemmas
 pub mod NumberLemmas
+pub mod Worked

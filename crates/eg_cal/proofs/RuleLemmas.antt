@@ -1,5 +1,5 @@
 -- A document is accepted exactly where it keeps the rules.
-use Rattle.std.proofs.Common.{◌≡◌, ℕ, ◌+◌, ◌-◌, ◌<◌, ◌≤◌, nat_lt, nat_le, is_some, Bool, true, false, ◌&&◌, length, List, [], ◌∷◌, Option, Some, None, option_map, Ok, refl, sym, ap, arith}
+use Rattle.std.proofs.Common.{◌≡◌, ℕ, ◌+◌, ◌-◌, ◌<◌, ◌≤◌, ◌==◌, nat_lt, nat_le, is_some, Bool, true, false, ◌&&◌, length, List, [], ◌∷◌, Option, Some, None, option_map, if◌then◌else◌, Ok, refl, sym, ap, subst, arith}
 use Rattle.std.specs.List.{AllByRecursion}
 use Rattle.std.proofs.lemmas.Bool.{and_parts}
 use Rattle.std.proofs.lemmas.Bool.Decides.{nat_tests}
@@ -8,14 +8,15 @@ use Rattle.eg_num.specs.Interpolation.{Grid, cell}
 use Rattle.eg_torque.specs.Permit.{DoesNotFall}
 use Rattle.eg_answer.specs.Times.{TimeParts}
 use Rattle.eg_cal.specs.declared.key.CalKey.{CalKey}
-use Rattle.eg_cal.specs.declared.key.CalKey.TheVariants.{Version, PermitPedal, PermitSpeed, PermitTable, PermitThreshold, TorqueKt, TorqueUp, TorqueDown, TorqueLimit, PairsPedal, PairsPlate, PairsLoad, PairsSpeed, PairsUp, PairsDown, PairsLimit, PlantSlew, PlantFill, PlantAngle, PlantCharge, AnswersPeriod, AnswersFirst, AnswersLast, AnswersSend, AnswersUp, AnswersDown, AnswersLimit, Question, Unknown}
+use Rattle.eg_cal.specs.declared.key.CalKey.TheVariants.{Version, PermitPedal, PermitSpeed, PermitTable, PermitThreshold, PermitBrake, TorqueKt, TorqueUp, TorqueDown, TorqueLimit, PairsPedal, PairsPlate, PairsLoad, PairsSpeed, PairsUp, PairsDown, PairsLimit, PlantSlew, PlantFill, PlantAngle, PlantCharge, AnswersPeriod, AnswersFirst, AnswersLast, AnswersSend, AnswersUp, AnswersDown, AnswersLimit, Question, Unknown}
 use Rattle.eg_cal.specs.declared.key.CalFault.TheVariants as fault
-use Rattle.eg_cal.specs.Keys.{all_keys, content_of}
+use Rattle.eg_cal.specs.Keys.{brake_keys, all_keys, content_of}
 use Rattle.eg_toml.specs.Refusals.{or_else}
 use Rattle.eg_toml.proofs.RefusalLemmas.{or-none, none-or, map-none, if-none, unless-ok}
-use Rattle.eg_cal.specs.Contents.{questions_of}
+use Rattle.eg_cal.specs.Contents.{version_of, questions_of}
 use Rattle.eg_cal.specs.Checks.{fault_at, first_fault, keys_fault}
 use Rattle.eg_cal.specs.Calibration.{falls, falling_row, is_window, rising_fault, window_fault, answer_fault, parts_fault, unknown_fault, refusal_of, permit_of, times_of, rules_of, parts_of}
+use Rattle.eg_cal.specs.Held.{IsKeyOf}
 use Rattle.eg_cal.specs.Rules.{IsWindow, KeepsRules, AcceptedLaw}
 use Rattle.eg_cal.proofs.HeldLemmas.{content-held, held-content}
 use Rattle.eg_cal.proofs.TogetherLemmas.{none-first_from, falling_row-none, wrong_answer-none, answered-none}
@@ -35,46 +36,78 @@ none-all ms (keys ∷ tables) e =
     let (here, more) = or-none (first_fault ms keys) (keys_fault ms tables) e in
     (none-each ms keys here, none-all ms tables more)
 
-each-none : (ms : Members) → ((key : CalKey) → fault_at ms key ≡ None) → (keys : List CalKey) → first_fault ms keys ≡ None
+each-none : (ms : Members) (version : ℕ) → ((key : CalKey) → IsKeyOf version key → fault_at ms key ≡ None)
+    → (keys : List CalKey) → AllByRecursion (IsKeyOf version) keys → first_fault ms keys ≡ None
 unfolding first_fault
-each-none ms each [] = refl
-each-none ms each (key ∷ keys) = none-or (fault_at ms key) (first_fault ms keys) (each key) (each-none ms each keys)
+each-none ms version each [] of_version = refl
+each-none ms version each (key ∷ keys) of_version =
+    none-or (fault_at ms key) (first_fault ms keys) (each key of_version.0) (each-none ms version each keys of_version.1)
 
-all-none : (ms : Members) → ((key : CalKey) → fault_at ms key ≡ None) → (tables : List (List CalKey)) → keys_fault ms tables ≡ None
-all-none ms each [] = refl
-all-none ms each (keys ∷ tables) = none-or (first_fault ms keys) (keys_fault ms tables) (each-none ms each keys) (all-none ms each tables)
+all-none : (ms : Members) (version : ℕ) → ((key : CalKey) → IsKeyOf version key → fault_at ms key ≡ None)
+    → (tables : List (List CalKey)) → AllByRecursion (λ keys. AllByRecursion (IsKeyOf version) keys) tables → keys_fault ms tables ≡ None
+all-none ms version each [] of_version = refl
+all-none ms version each (keys ∷ tables) of_version =
+    none-or (first_fault ms keys) (keys_fault ms tables) (each-none ms version each keys of_version.0) (all-none ms version each tables of_version.1)
 
--- where no key of the table has a fault, none has
-every_key : (ms : Members) → keys_fault ms all_keys ≡ None → (key : CalKey) → fault_at ms key ≡ None
-every_key ms e Version = (none-all ms all_keys e).0.0
-every_key ms e PermitPedal = (none-all ms all_keys e).1.0.0
-every_key ms e PermitSpeed = (none-all ms all_keys e).1.0.1.0
-every_key ms e PermitTable = (none-all ms all_keys e).1.0.1.1.0
-every_key ms e PermitThreshold = (none-all ms all_keys e).1.0.1.1.1.0
-every_key ms e TorqueKt = (none-all ms all_keys e).1.1.0.0
-every_key ms e TorqueUp = (none-all ms all_keys e).1.1.0.1.0
-every_key ms e TorqueDown = (none-all ms all_keys e).1.1.0.1.1.0
-every_key ms e TorqueLimit = (none-all ms all_keys e).1.1.0.1.1.1.0
-every_key ms e PairsPedal = (none-all ms all_keys e).1.1.1.0.0
-every_key ms e PairsPlate = (none-all ms all_keys e).1.1.1.0.1.0
-every_key ms e PairsLoad = (none-all ms all_keys e).1.1.1.0.1.1.0
-every_key ms e PairsSpeed = (none-all ms all_keys e).1.1.1.0.1.1.1.0
-every_key ms e PairsUp = (none-all ms all_keys e).1.1.1.0.1.1.1.1.0
-every_key ms e PairsDown = (none-all ms all_keys e).1.1.1.0.1.1.1.1.1.0
-every_key ms e PairsLimit = (none-all ms all_keys e).1.1.1.0.1.1.1.1.1.1.0
-every_key ms e PlantSlew = (none-all ms all_keys e).1.1.1.1.0.0
-every_key ms e PlantFill = (none-all ms all_keys e).1.1.1.1.0.1.0
-every_key ms e PlantAngle = (none-all ms all_keys e).1.1.1.1.0.1.1.0
-every_key ms e PlantCharge = (none-all ms all_keys e).1.1.1.1.0.1.1.1.0
-every_key ms e AnswersPeriod = (none-all ms all_keys e).1.1.1.1.1.0.0
-every_key ms e AnswersFirst = (none-all ms all_keys e).1.1.1.1.1.0.1.0
-every_key ms e AnswersLast = (none-all ms all_keys e).1.1.1.1.1.0.1.1.0
-every_key ms e AnswersSend = (none-all ms all_keys e).1.1.1.1.1.0.1.1.1.0
-every_key ms e AnswersUp = (none-all ms all_keys e).1.1.1.1.1.0.1.1.1.1.0
-every_key ms e AnswersDown = (none-all ms all_keys e).1.1.1.1.1.0.1.1.1.1.1.0
-every_key ms e AnswersLimit = (none-all ms all_keys e).1.1.1.1.1.0.1.1.1.1.1.1.0
-every_key ms e Question = (none-all ms all_keys e).1.1.1.1.1.1.0.0
-every_key ms e Unknown = refl
+-- the key of the brake is among the keys of a version exactly where it is one of that version
+brake-if : (b : Bool) (version : ℕ) → (b ≡ true → version ≡ 2) → AllByRecursion (IsKeyOf version) (if b then PermitBrake ∷ [] else [])
+brake-if true version h = (h refl, tt)
+brake-if false version h = tt
+
+is-two : (version : ℕ) → (version == 2) ≡ true → version ≡ 2
+is-two version h = grind (arith, nat_tests)
+
+brake_key : (ms : Members) (version : ℕ) → version ≡ 2 → AllByRecursion (λ key. fault_at ms key ≡ None) (brake_keys version) → fault_at ms PermitBrake ≡ None
+brake_key ms version is all = (subst (λ v. AllByRecursion (λ key. fault_at ms key ≡ None) (brake_keys v)) is all).0
+
+-- the keys of a version are of that version
+of_version : (version : ℕ) → AllByRecursion (λ keys. AllByRecursion (IsKeyOf version) keys) (all_keys version)
+of_version version = (
+  (tt, tt),
+  (
+    (tt, (tt, (tt, (tt, brake-if (version == 2) version (is-two version))))),
+    (
+      (tt, (tt, (tt, (tt, tt)))),
+      (
+        (tt, (tt, (tt, (tt, (tt, (tt, (tt, tt))))))),
+        ((tt, (tt, (tt, (tt, tt)))), ((tt, (tt, (tt, (tt, (tt, (tt, (tt, tt))))))), ((tt, tt), tt))),
+      ),
+    ),
+  ),
+)
+
+-- where no key of a version has a fault, none of that version has
+every_key : (ms : Members) (version : ℕ) → keys_fault ms (all_keys version) ≡ None → (key : CalKey) → IsKeyOf version key → fault_at ms key ≡ None
+every_key ms version e Version h = (none-all ms (all_keys version) e).0.0
+every_key ms version e PermitPedal h = (none-all ms (all_keys version) e).1.0.0
+every_key ms version e PermitSpeed h = (none-all ms (all_keys version) e).1.0.1.0
+every_key ms version e PermitTable h = (none-all ms (all_keys version) e).1.0.1.1.0
+every_key ms version e PermitThreshold h = (none-all ms (all_keys version) e).1.0.1.1.1.0
+every_key ms version e PermitBrake h = brake_key ms version h (none-all ms (all_keys version) e).1.0.1.1.1.1
+every_key ms version e TorqueKt h = (none-all ms (all_keys version) e).1.1.0.0
+every_key ms version e TorqueUp h = (none-all ms (all_keys version) e).1.1.0.1.0
+every_key ms version e TorqueDown h = (none-all ms (all_keys version) e).1.1.0.1.1.0
+every_key ms version e TorqueLimit h = (none-all ms (all_keys version) e).1.1.0.1.1.1.0
+every_key ms version e PairsPedal h = (none-all ms (all_keys version) e).1.1.1.0.0
+every_key ms version e PairsPlate h = (none-all ms (all_keys version) e).1.1.1.0.1.0
+every_key ms version e PairsLoad h = (none-all ms (all_keys version) e).1.1.1.0.1.1.0
+every_key ms version e PairsSpeed h = (none-all ms (all_keys version) e).1.1.1.0.1.1.1.0
+every_key ms version e PairsUp h = (none-all ms (all_keys version) e).1.1.1.0.1.1.1.1.0
+every_key ms version e PairsDown h = (none-all ms (all_keys version) e).1.1.1.0.1.1.1.1.1.0
+every_key ms version e PairsLimit h = (none-all ms (all_keys version) e).1.1.1.0.1.1.1.1.1.1.0
+every_key ms version e PlantSlew h = (none-all ms (all_keys version) e).1.1.1.1.0.0
+every_key ms version e PlantFill h = (none-all ms (all_keys version) e).1.1.1.1.0.1.0
+every_key ms version e PlantAngle h = (none-all ms (all_keys version) e).1.1.1.1.0.1.1.0
+every_key ms version e PlantCharge h = (none-all ms (all_keys version) e).1.1.1.1.0.1.1.1.0
+every_key ms version e AnswersPeriod h = (none-all ms (all_keys version) e).1.1.1.1.1.0.0
+every_key ms version e AnswersFirst h = (none-all ms (all_keys version) e).1.1.1.1.1.0.1.0
+every_key ms version e AnswersLast h = (none-all ms (all_keys version) e).1.1.1.1.1.0.1.1.0
+every_key ms version e AnswersSend h = (none-all ms (all_keys version) e).1.1.1.1.1.0.1.1.1.0
+every_key ms version e AnswersUp h = (none-all ms (all_keys version) e).1.1.1.1.1.0.1.1.1.1.0
+every_key ms version e AnswersDown h = (none-all ms (all_keys version) e).1.1.1.1.1.0.1.1.1.1.1.0
+every_key ms version e AnswersLimit h = (none-all ms (all_keys version) e).1.1.1.1.1.0.1.1.1.1.1.1.0
+every_key ms version e Question h = (none-all ms (all_keys version) e).1.1.1.1.1.1.0.0
+every_key ms version e Unknown h = refl
 
 -- ---- values together
 
@@ -118,12 +151,12 @@ window-true t w =
 
 keeps : (ms : Members) → refusal_of ms ≡ None → KeepsRules ms
 keeps ms e =
-    let (keys, rest) = or-none (keys_fault ms all_keys) (or_else (unknown_fault ms) (parts_fault (parts_of ms))) e in
+    let (keys, rest) = or-none (keys_fault ms (all_keys (version_of ms))) (or_else (unknown_fault ms) (parts_fault (parts_of ms))) e in
     let (names, parts) = or-none (unknown_fault ms) (parts_fault (parts_of ms)) rest in
     let (rising, more) = or-none (rising_fault (permit_of ms)) (or_else (window_fault (times_of ms)) (answer_fault (rules_of ms) (questions_of ms Question))) parts in
     let (window, answers) = or-none (window_fault (times_of ms)) (answer_fault (rules_of ms) (questions_of ms Question)) more in
     record {
-      keys = λ key. content-held (content_of key) ms key (every_key ms keys key);
+      keys = λ key of. content-held (content_of key) ms key (every_key ms (version_of ms) keys key of);
       names = if-none _ _ names;
       rises = rises-from _ (map-none _ _ rising);
       window = window-from _ (if-none _ _ window);
@@ -132,7 +165,7 @@ keeps ms e =
 
 no_refusal : (ms : Members) → KeepsRules ms → refusal_of ms ≡ None
 no_refusal ms k =
-    none-or _ _ (all-none ms (λ key. held-content (content_of key) ms key (k.keys key)) all_keys) (none-or _ _ (rw (k.names) refl)
+    none-or _ _ (all-none ms (version_of ms) (λ key of. held-content (content_of key) ms key (k.keys key of)) (all_keys (version_of ms)) (of_version (version_of ms))) (none-or _ _ (rw (k.names) refl)
     (none-or _ _ (ap (option_map fault.Rising) (falling_row-none _ k.rises))
     (none-or _ _ (rw (window-true _ k.window) refl) (ap (option_map fault.Answer) (answered-none _ _ k.answers)))))
 

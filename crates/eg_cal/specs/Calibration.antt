@@ -11,12 +11,12 @@ use Rattle.eg_answer.specs.declared.rules.Rules.{Rules}
 use Rattle.eg_answer.specs.declared.questions.Question.{Question as QuestionParts}
 use Rattle.eg_values.specs.Calibration.{CalibrationParts}
 use Rattle.eg_cal.specs.declared.key.CalKey.{CalKey}
-use Rattle.eg_cal.specs.declared.key.CalKey.TheVariants.{PermitPedal, PermitSpeed, PermitTable, PermitThreshold, TorqueKt, TorqueUp, TorqueDown, TorqueLimit, PairsPedal, PairsPlate, PairsLoad, PairsSpeed, PairsUp, PairsDown, PairsLimit, PlantSlew, PlantFill, PlantAngle, PlantCharge, AnswersPeriod, AnswersFirst, AnswersLast, AnswersSend, AnswersUp, AnswersDown, AnswersLimit, Question, Unknown}
+use Rattle.eg_cal.specs.declared.key.CalKey.TheVariants.{PermitPedal, PermitSpeed, PermitTable, PermitThreshold, PermitBrake, TorqueKt, TorqueUp, TorqueDown, TorqueLimit, PairsPedal, PairsPlate, PairsLoad, PairsSpeed, PairsUp, PairsDown, PairsLimit, PlantSlew, PlantFill, PlantAngle, PlantCharge, AnswersPeriod, AnswersFirst, AnswersLast, AnswersSend, AnswersUp, AnswersDown, AnswersLimit, Question, Unknown}
 use Rattle.eg_cal.specs.declared.key.CalFault.{CalFault}
 use Rattle.eg_cal.specs.declared.key.CalFault.TheVariants as fault
-use Rattle.eg_cal.specs.Keys.{all_keys}
+use Rattle.eg_cal.specs.Keys.{has_brake, all_keys}
 use Rattle.eg_toml.specs.Refusals.{or_else, unless}
-use Rattle.eg_cal.specs.Contents.{number_of, points_of, values_of, questions_of}
+use Rattle.eg_cal.specs.Contents.{version_of, number_of, truth_of, points_of, values_of, questions_of}
 use Rattle.eg_cal.specs.Checks.{keys_fault}
 use Rattle.eg_cal.specs.Names.{is_all_known}
 
@@ -81,6 +81,10 @@ rules_of ms = record {
   torque = torque_weights_of ms;
 }
 
+-- whether the brake counts: as the file says, where its version says it
+abbrev pub brake_of : Members → Bool
+brake_of ms = has_brake (version_of ms) && truth_of ms PermitBrake
+
 -- the whole calibration: plant and rules have one torque of a load of 1000
 abbrev pub parts_of : Members → CalibrationParts
 parts_of ms = record {
@@ -88,6 +92,7 @@ parts_of ms = record {
   plant = plant_of ms (number_of ms TorqueKt);
   times = times_of ms;
   questions = questions_of ms Question;
+  brake = brake_of ms;
 }
 
 -- ---- what they are refused for together
@@ -136,13 +141,16 @@ parts_fault p =
 
 -- ---- the file
 
--- the refusal of a file with another name at the top or in a table
+-- the refusal of a file with a name at the top or in a table that its version doesn't have
 abbrev pub unknown_fault : Members → Option CalFault
-unknown_fault ms = if is_all_known ms then None else Some (fault.Key Unknown)
+unknown_fault ms = if is_all_known (version_of ms) ms then None else Some (fault.Key Unknown)
 
--- the first refusal: of the keys in their order, then of other names, then of the values together
+-- the first refusal: of the keys of the file's version in their order, then of other names, then of the
+-- values together
 abbrev pub refusal_of : Members → Option CalFault
-refusal_of ms = or_else (keys_fault ms all_keys) (or_else (unknown_fault ms) (parts_fault (parts_of ms)))
+refusal_of ms =
+    or_else (keys_fault ms (all_keys (version_of ms)))
+    (or_else (unknown_fault ms) (parts_fault (parts_of ms)))
 
 -- the calibration of a document, or its first refusal
 abbrev pub calibration_of : Option Members → Result CalibrationParts CalFault

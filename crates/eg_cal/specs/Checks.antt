@@ -5,9 +5,9 @@ use Rattle.eg_toml.specs.Arrays.{is_rising}
 use Rattle.eg_cal.specs.declared.key.CalKey.{CalKey}
 use Rattle.eg_cal.specs.declared.key.CalFault.{CalFault}
 use Rattle.eg_cal.specs.declared.key.CalFault.TheVariants.{Key, Axis}
-use Rattle.eg_cal.specs.Keys.{Content, number, axis, values, grid, questions, nothing, content_of}
+use Rattle.eg_cal.specs.Keys.{Content, number, truth, axis, values, grid, questions, nothing, content_of}
 use Rattle.eg_toml.specs.Refusals.{or_else, unless_some}
-use Rattle.eg_cal.specs.Contents.{read_number, read_numbers, read_rows, read_questions, point_count}
+use Rattle.eg_cal.specs.Contents.{read_number, read_truth, read_numbers, read_rows, read_questions, point_count}
 
 -- the fault of an axis: it is no array of 2 to 16 numbers in range, or else its points don't strictly rise
 abbrev pub axis_fault : CalKey → Option (List ℕ) → Option CalFault
@@ -17,6 +17,7 @@ axis_fault key None = Some (Key key)
 -- the fault of a key that may hold this, if it has one
 abbrev pub content_fault : Content → Members → CalKey → Option CalFault
 content_fault (number low high) ms key = unless_some (Key key) (read_number low high ms key)
+content_fault truth ms key = unless_some (Key key) (read_truth ms key)
 content_fault (axis high) ms key = axis_fault key (read_numbers 2 16 high ms key)
 content_fault (values along high) ms key =
     unless_some (Key key) (read_numbers (point_count ms along) (point_count ms along) high ms key)

@@ -1,10 +1,11 @@
 -- What stands under the keys of a calibration file.
-use Rattle.std.specs.Prelude.{ℕ, List, [], ◌∷◌, length, Option, Some, unwrap_or}
-use Rattle.toml.specs.Data.{Data, Members, get_member}
+use Rattle.std.specs.Prelude.{ℕ, Bool, false, List, [], ◌∷◌, length, Option, Some, unwrap_or}
+use Rattle.toml.specs.Data.{Data, Members, get_member, as_bool}
 use Rattle.eg_answer.specs.declared.questions.Question.{Question as QuestionParts}
 use Rattle.eg_toml.specs.Values.{table_at, number_in, ◌>>=◌}
 use Rattle.eg_toml.specs.Arrays.{numbers_in, rows_in}
 use Rattle.eg_cal.specs.declared.key.CalKey.{CalKey}
+use Rattle.eg_cal.specs.declared.key.CalKey.TheVariants.{Version}
 use Rattle.eg_cal.specs.Keys.{Content, number, axis, values, grid, table_of, name_of, content_of}
 use Rattle.eg_cal.specs.Questions.{questions_in}
 
@@ -22,6 +23,10 @@ value_of ms key = members_of (table_of key) ms >>= get_member (name_of key)
 -- a number from low to high
 abbrev pub read_number : ℕ → ℕ → Members → CalKey → Option ℕ
 read_number low high ms key = value_of ms key >>= number_in low high
+
+-- a truth value
+abbrev pub read_truth : Members → CalKey → Option Bool
+read_truth ms key = value_of ms key >>= as_bool
 
 -- an array of least to most numbers from 0 to high
 abbrev pub read_numbers : ℕ → ℕ → ℕ → Members → CalKey → Option (List ℕ)
@@ -45,6 +50,14 @@ number_as _ ms key = 0
 -- the number under a key
 abbrev pub number_of : Members → CalKey → ℕ
 number_of ms key = number_as (content_of key) ms key
+
+-- the version, and 0 where the file has none that is known
+abbrev pub version_of : Members → ℕ
+version_of ms = number_of ms Version
+
+-- the truth value under a key
+abbrev pub truth_of : Members → CalKey → Bool
+truth_of ms key = unwrap_or (read_truth ms key) false
 
 -- the points of a key that may hold this, and none for other keys
 abbrev points_as : Content → Members → CalKey → List ℕ

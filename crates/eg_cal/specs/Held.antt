@@ -1,10 +1,11 @@
--- What a key of a calibration file may hold, in the words of TOML.
-use Rattle.std.specs.Prelude.{◌≡◌, ◌≤◌, ℕ, pos, List, [], ◌∷◌, length, All, Option, Some, IsSome}
+-- What a key of a calibration file may hold, in the words of TOML, and which version has it.
+use Rattle.std.specs.Prelude.{◌≡◌, ◌≤◌, ℕ, pos, Bool, List, [], ◌∷◌, length, All, Option, Some, IsSome}
 use Rattle.std.specs.Bool.{⊤}
-use Rattle.toml.specs.Data.{Data, integer, array, Members, Items, no_items, item}
+use Rattle.toml.specs.Data.{Data, integer, boolean, array, Members, Items, no_items, item}
 use Rattle.eg_num.specs.Interpolation.{IsAxis}
 use Rattle.eg_cal.specs.declared.key.CalKey.{CalKey}
-use Rattle.eg_cal.specs.Keys.{Content, number, axis, values, grid, questions, nothing, content_of}
+use Rattle.eg_cal.specs.declared.key.CalKey.TheVariants.{PermitBrake}
+use Rattle.eg_cal.specs.Keys.{Content, number, truth, axis, values, grid, questions, nothing, content_of}
 use Rattle.eg_cal.specs.Contents.{value_of, point_count, read_questions}
 
 -- the items of an array of these numbers
@@ -29,6 +30,11 @@ pub record IsNumber (low high : ℕ) (o : Option Data) : Type 0 where
   pub least : low ≤ value
   pub most : value ≤ high
 
+-- a boolean
+pub record IsTruth (o : Option Data) : Type 0 where
+  pub value : Bool
+  pub is : o ≡ Some (boolean value)
+
 -- an array of 2 to 16 strictly rising integers from 0 to high
 pub record IsAxisArray (high : ℕ) (o : Option Data) : Type 0 where
   pub points : List ℕ
@@ -52,6 +58,7 @@ pub record IsRowArray (tall wide high : ℕ) (o : Option Data) : Type 0 where
 -- what stands under a key is what that content is
 abbrev pub Holds : Content → Members → CalKey → Type 0
 Holds (number low high) ms key = IsNumber low high (value_of ms key)
+Holds truth ms key = IsTruth (value_of ms key)
 Holds (axis high) ms key = IsAxisArray high (value_of ms key)
 Holds (values along high) ms key = IsNumberArray (point_count ms along) high (value_of ms key)
 Holds (grid down across high) ms key =
@@ -62,3 +69,8 @@ Holds nothing ms key = ⊤
 -- what stands under a key is what the table of keys says
 abbrev pub IsHeld : Members → CalKey → Type 0
 IsHeld ms key = Holds (content_of key) ms key
+
+-- a version of the format has this key: `permit.brake` is of version 2 alone, all others are of both
+abbrev pub IsKeyOf : ℕ → CalKey → Type 0
+IsKeyOf version PermitBrake = version ≡ 2
+IsKeyOf version _ = ⊤

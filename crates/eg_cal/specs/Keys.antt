@@ -1,14 +1,15 @@
--- The table of a calibration file's keys: where each stands and what it may hold. The keys are checked in the
--- order in which they stand here.
-use Rattle.std.specs.Prelude.{ℕ, List, [], ◌∷◌, ◌++◌, codes}
+-- The table of a calibration file's keys: where each stands, what it may hold, and in which versions of the
+-- format it stands. The keys are checked in the order in which they stand here.
+use Rattle.std.specs.Prelude.{ℕ, ◌==◌, Bool, List, [], ◌∷◌, ◌++◌, codes, if◌then◌else◌}
 use Rattle.eg_cal.specs.declared.key.CalKey.{CalKey}
-use Rattle.eg_cal.specs.declared.key.CalKey.TheVariants.{Version, PermitPedal, PermitSpeed, PermitTable, PermitThreshold, TorqueKt, TorqueUp, TorqueDown, TorqueLimit, PairsPedal, PairsPlate, PairsLoad, PairsSpeed, PairsUp, PairsDown, PairsLimit, PlantSlew, PlantFill, PlantAngle, PlantCharge, AnswersPeriod, AnswersFirst, AnswersLast, AnswersSend, AnswersUp, AnswersDown, AnswersLimit, Question, Unknown}
+use Rattle.eg_cal.specs.declared.key.CalKey.TheVariants.{Version, PermitPedal, PermitSpeed, PermitTable, PermitThreshold, PermitBrake, TorqueKt, TorqueUp, TorqueDown, TorqueLimit, PairsPedal, PairsPlate, PairsLoad, PairsSpeed, PairsUp, PairsDown, PairsLimit, PlantSlew, PlantFill, PlantAngle, PlantCharge, AnswersPeriod, AnswersFirst, AnswersLast, AnswersSend, AnswersUp, AnswersDown, AnswersLimit, Question, Unknown}
 
--- What a key may hold. A number is a TOML integer. An axis has 2 to 16 strictly rising numbers. The values of
--- an axis are as many numbers as it has points. A grid has a row for each point of its first axis, and each
--- row has a number for each point of the second.
+-- What a key may hold. A number is a TOML integer, and a truth value a TOML boolean. An axis has 2 to 16
+-- strictly rising numbers. The values of an axis are as many numbers as it has points. A grid has a row for
+-- each point of its first axis, and each row has a number for each point of the second.
 pub data Content : Type 0 where
   number : ℕ → ℕ → Content  -- from .. to ..
+  truth : Content
   axis : ℕ → Content  -- points from 0 to ..
   values : CalKey → ℕ → Content  -- of this axis, from 0 to ..
   grid : CalKey → CalKey → ℕ → Content  -- of these axes, from 0 to ..
@@ -30,11 +31,12 @@ in_table table name content = record { table = table; name = name; content = con
 
 -- the table of keys (docs/FORMATS.md, "Calibration files")
 abbrev pub entry_of : CalKey → Entry
-entry_of Version = at_top (codes "version") (number 1 1)
+entry_of Version = at_top (codes "version") (number 1 2)
 entry_of PermitPedal = in_table (codes "permit") (codes "pedal") (axis 1000)
 entry_of PermitSpeed = in_table (codes "permit") (codes "speed") (axis 8000)
 entry_of PermitTable = in_table (codes "permit") (codes "table") (grid PermitPedal PermitSpeed 10000)
 entry_of PermitThreshold = in_table (codes "permit") (codes "threshold") (number 0 10000)
+entry_of PermitBrake = in_table (codes "permit") (codes "brake") truth
 entry_of TorqueKt = in_table (codes "torque") (codes "kt") (number 1 10000)
 entry_of TorqueUp = in_table (codes "torque") (codes "up") (number 1 100)
 entry_of TorqueDown = in_table (codes "torque") (codes "down") (number 0 100)
@@ -60,12 +62,20 @@ entry_of AnswersLimit = in_table (codes "answers") (codes "limit") (number 1 100
 entry_of Question = at_top (codes "question") questions
 entry_of Unknown = at_top (codes "unknown") nothing
 
+-- whether files of this version say if the brake counts: those of version 2 do
+abbrev pub has_brake : ℕ → Bool
+has_brake version = version == 2
+
 -- the keys, in the order in which they are checked, those of each table together
 abbrev pub version_keys : List CalKey
 version_keys = Version ∷ []
 
-abbrev pub permit_keys : List CalKey
-permit_keys = PermitPedal ∷ PermitSpeed ∷ PermitTable ∷ PermitThreshold ∷ []
+abbrev pub brake_keys : ℕ → List CalKey
+brake_keys version = if has_brake version then PermitBrake ∷ [] else []
+
+abbrev pub permit_keys : ℕ → List CalKey
+permit_keys version =
+    PermitPedal ∷ PermitSpeed ∷ PermitTable ∷ PermitThreshold ∷ brake_keys version
 
 abbrev pub torque_keys : List CalKey
 torque_keys = TorqueKt ∷ TorqueUp ∷ TorqueDown ∷ TorqueLimit ∷ []
@@ -83,10 +93,14 @@ answers_keys =
 abbrev pub question_keys : List CalKey
 question_keys = Question ∷ []
 
--- all keys, table after table
-abbrev pub all_keys : List (List CalKey)
-all_keys =
-    version_keys ∷ permit_keys ∷ torque_keys ∷ pairs_keys ∷ plant_keys ∷ answers_keys ∷ question_keys ∷ []
+-- the keys below the version in files of a version, table after table
+abbrev pub lower_keys : ℕ → List (List CalKey)
+lower_keys version =
+    permit_keys version ∷ torque_keys ∷ pairs_keys ∷ plant_keys ∷ answers_keys ∷ question_keys ∷ []
+
+-- all keys of a version
+abbrev pub all_keys : ℕ → List (List CalKey)
+all_keys version = version_keys ∷ lower_keys version
 
 -- the columns of the table of keys
 abbrev pub table_of : CalKey → List ℕ

@@ -21,11 +21,11 @@ abbrev pub has_names : List (List ℕ) → Option Members → Bool
 has_names known (Some ms) = all_names (is_among known) ms
 has_names known None = true
 
--- no other name stands at the top or in a table
-unfoldable pub is_all_known : Members → Bool
-is_all_known ms =
+-- no name stands at the top or in a table but those of this version
+unfoldable pub is_all_known : ℕ → Members → Bool
+is_all_known version ms =
     all_names (is_among top_names) ms
-    && has_names (names_of permit_keys) (table_at (codes "permit") ms)
+    && has_names (names_of (permit_keys version)) (table_at (codes "permit") ms)
     && has_names (names_of torque_keys) (table_at (codes "torque") ms)
     && has_names (names_of pairs_keys) (table_at (codes "pairs") ms)
     && has_names (names_of plant_keys) (table_at (codes "plant") ms)

@@ -6,8 +6,8 @@ use Rattle.eg_answer.specs.Times.{TimeParts}
 use Rattle.eg_values.specs.Calibration.{CalibrationParts, AreAnswered}
 use Rattle.eg_cal.specs.declared.key.CalKey.{CalKey}
 use Rattle.eg_cal.specs.declared.key.CalKey.TheVariants.{Question}
-use Rattle.eg_cal.specs.Contents.{questions_of}
-use Rattle.eg_cal.specs.Held.{IsHeld}
+use Rattle.eg_cal.specs.Contents.{version_of, questions_of}
+use Rattle.eg_cal.specs.Held.{IsKeyOf, IsHeld}
 use Rattle.eg_cal.specs.Names.{is_all_known}
 use Rattle.eg_cal.specs.Calibration.{permit_of, rules_of, times_of, parts_of, calibration_of}
 
@@ -17,11 +17,11 @@ pub record IsWindow (t : TimeParts) : Type 0 where
   pub to_last : t.send ≤ t.last
   pub inside : t.last < t.period
 
--- each key is there and holds what it may, no other name is there, no row of the permit table falls, the
--- answer window is in order, and each question is answered
+-- each key of the file's version is there and holds what it may, no other name is there, no row of the permit
+-- table falls, the answer window is in order, and each question is answered
 pub record KeepsRules (ms : Members) : Type 0 where
-  pub keys : (key : CalKey) → IsHeld ms key
-  pub names : is_all_known ms ≡ true
+  pub keys : (key : CalKey) → IsKeyOf (version_of ms) key → IsHeld ms key
+  pub names : is_all_known (version_of ms) ms ≡ true
   pub rises : DoesNotFall (permit_of ms)
   pub window : IsWindow (times_of ms)
   pub answers : AreAnswered (rules_of ms) (questions_of ms Question)

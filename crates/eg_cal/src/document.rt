@@ -1,13 +1,13 @@
 // What stands under a key of a calibration file, or the key's fault.
-ghost use Rattle.std.specs.Prelude.{◌≡◌, ◌≤◌, [], IfOk, IfSome, All, map, ◌*◌, length, option_map, unwrap_or};
+ghost use Rattle.std.specs.Prelude.{◌≡◌, ◌≤◌, [], false, IfOk, IfSome, All, map, ◌*◌, length, option_map, unwrap_or};
 ghost use Rattle.toml.specs.View.{view, table_view};
 ghost use Rattle.eg_num.specs.Interpolation.{Grid, Curve};
 ghost use Rattle.eg_cal.specs.declared.key.CalFault.TheVariants.{Key};
 ghost use Rattle.eg_toml.specs.Refusals.{Checks, unless_some};
-ghost use Rattle.eg_cal.specs.Keys.{content_of, number};
-ghost use Rattle.eg_cal.specs.Contents.{members_of, value_of, number_of, read_number, read_numbers, read_rows, read_questions};
+ghost use Rattle.eg_cal.specs.Keys.{content_of, number, has_brake, permit_keys};
+ghost use Rattle.eg_cal.specs.Contents.{members_of, value_of, number_of, read_number, read_truth, read_numbers, read_rows, read_questions};
 ghost use Rattle.eg_cal.specs.Checks.{fault_at, axis_fault};
-ghost use Rattle.eg_cal.specs.Names.{top_names, has_names, is_all_known};
+ghost use Rattle.eg_cal.specs.Names.{top_names, names_of, has_names, is_all_known};
 ghost use Rattle.eg_toml.specs.Values.{table_at};
 ghost use Rattle.eg_toml.specs.Names.{all_names, is_among};
 
@@ -23,8 +23,8 @@ const TOP_NAMES: [&str; 7] = [
     "version", "question", "permit", "torque", "pairs", "plant", "answers",
 ];
 
-/// The names in each table.
-const PERMIT_NAMES: [&str; 4] = ["pedal", "speed", "table", "threshold"];
+/// The names in each table. The last of `permit` is of version 2 alone.
+const PERMIT_NAMES: [&str; 5] = ["pedal", "speed", "table", "threshold", "brake"];
 
 const TORQUE_NAMES: [&str; 4] = ["kt", "up", "down", "limit"];
 
@@ -50,6 +50,14 @@ impl Document {
     {
         self.number_under(key, low, high)
             .ok_or(CalFault::Key { key })
+    }
+
+    /// The truth value under a key.
+    pub(crate) fn truth(&self, key: CalKey) -> Result<bool, CalFault>
+        ensures { let read = read_truth (table_view self.now.root) key in
+            Checks (unless_some (Key key) read) (unwrap_or read false) result }
+    {
+        self.truth_under(key).ok_or(CalFault::Key { key })
     }
 
     /// The axis under a key, of points up to `high`.
@@ -115,13 +123,14 @@ impl Document {
         self.questions_under(key).ok_or(CalFault::Key { key })
     }
 
-    /// Whether no name but those of the keys and tables stands at the top and in the tables.
+    /// Whether no name but those of the tables, and of the keys of this version, stands at the top and in the
+    /// tables.
     #[tactic(auto, unfolding(crate::specs::Names::is_all_known))]
-    pub(crate) fn is_all_known(&self) -> bool
-        ensures { result ≡ is_all_known (table_view self.now.root) }
+    pub(crate) fn is_all_known(&self, version: u16) -> bool
+        ensures { result ≡ is_all_known version (table_view self.now.root) }
     {
         self.has_top_names()
-            && self.has_names("permit", &PERMIT_NAMES)
+            && self.has_names("permit", permit_names(version))
             && self.has_names("torque", &TORQUE_NAMES)
             && self.has_names("pairs", &PAIRS_NAMES)
             && self.has_names("plant", &PLANT_NAMES)
@@ -162,6 +171,12 @@ impl Document {
         member(self.members(key.table())?, key.name())
     }
 
+    fn truth_under(&self, key: CalKey) -> Option<bool>
+        ensures { result ≡ read_truth (table_view self.now.root) key }
+    {
+        self.value(key)?.as_bool()
+    }
+
     fn number_under(&self, key: CalKey, low: u16, high: u16) -> Option<u16>
         ensures value { result ≡ read_number low high (table_view self.now.root) key }
         ensures within { IfSome result (λ n. (low ≤ n) × (n ≤ high)) }
@@ -192,5 +207,23 @@ impl Document {
         ensures count { IfSome result (λ questions. 2 ≤ length questions) }
     {
         questions_in(self.value(key)?)
+    }
+}
+
+/// Whether files of this version say if the brake counts.
+pub(crate) fn has_brake(version: u16) -> bool
+    ensures { result ≡ has_brake version }
+{
+    version == 2
+}
+
+/// The names in `permit` of a file of this version.
+fn permit_names(version: u16) -> &'static [&'static str]
+    ensures { map (λ k. k.now) result.now ≡ names_of (permit_keys version) }
+{
+    if has_brake(version) {
+        &PERMIT_NAMES
+    } else {
+        &PERMIT_NAMES[..4]
     }
 }

@@ -1,14 +1,14 @@
 // What stands under all keys of a calibration file, table by table.
 ghost use Rattle.std.specs.Prelude.{◌≡◌, ◌≤◌, [], ◌∷◌, IfOk, length};
 ghost use Rattle.toml.specs.View.{table_view};
-ghost use Rattle.eg_cal.specs.declared.key.CalKey.TheVariants.{Version, PermitThreshold, TorqueKt, Question};
-ghost use Rattle.eg_cal.specs.Keys.{content_of, number, version_keys, permit_keys, torque_keys, pairs_keys, plant_keys, answers_keys, question_keys, all_keys};
+ghost use Rattle.eg_cal.specs.declared.key.CalKey.TheVariants.{PermitThreshold, TorqueKt, Question};
+ghost use Rattle.eg_cal.specs.Keys.{content_of, number, version_keys, permit_keys, torque_keys, pairs_keys, plant_keys, answers_keys, question_keys, brake_keys, lower_keys};
 ghost use Rattle.eg_toml.specs.Refusals.{Checks};
-ghost use Rattle.eg_cal.specs.Contents.{number_of, questions_of};
+ghost use Rattle.eg_cal.specs.Contents.{version_of, number_of, questions_of};
 ghost use Rattle.eg_cal.specs.Checks.{first_fault, keys_fault};
-ghost use Rattle.eg_cal.specs.Calibration.{permit_of, weights_of, torque_weights_of, tolerances_of, pair_weights_of, plant_of, times_of, parts_of};
+ghost use Rattle.eg_cal.specs.Calibration.{permit_of, weights_of, torque_weights_of, tolerances_of, pair_weights_of, plant_of, times_of, brake_of, parts_of};
 
-use crate::document::Document;
+use crate::document::{Document, has_brake};
 use crate::{CalFault, CalKey};
 use eg_answer::Questions;
 use eg_num::{Table2, Weights};
@@ -55,6 +55,7 @@ pub(crate) struct Entries {
     pub(crate) plant: PlantData,
     pub(crate) times: AnswerTimes,
     pub(crate) questions: Questions,
+    pub(crate) brake: bool,
 }
 
 impl Model for Entries {
@@ -75,18 +76,29 @@ impl Model for Entries {
       plant = e.plant;
       times = e.times;
       questions = e.questions;
+      brake = e.brake;
     } };
 
     ghost invariant = { λ e. (e.kt ≡ e.plant.kt) × (2 ≤ length e.questions) };
 }
 
-/// What stands under the keys of the file, or the fault of the first key that has one.
-pub(crate) fn entries_in(document: &Document) -> Result<Entries, CalFault>
+/// The version of the file.
+#[tactic(auto, unfolding(crate::specs::Checks::first_fault))]
+pub(crate) fn version_in(document: &Document) -> Result<u16, CalFault>
     ensures { let ms = table_view document.now.root in
-        Checks (keys_fault ms all_keys) (parts_of ms) result }
+        Checks (first_fault ms version_keys) (version_of ms) result }
 {
-    version_in(document)?;
-    let (permit, threshold) = permit_in(document)?;
+    document.number(CalKey::Version, 1, 2)
+}
+
+/// What stands under the keys below the version of a file of this version, or the fault of the first key that
+/// has one.
+pub(crate) fn entries_in(document: &Document, version: u16) -> Result<Entries, CalFault>
+    requires { version ≡ version_of (table_view document.now.root) }
+    ensures { let ms = table_view document.now.root in
+        Checks (keys_fault ms (lower_keys version)) (parts_of ms) result }
+{
+    let (permit, threshold, brake) = permit_in(document, version)?;
     let (kt, torque) = torque_in(document)?;
     let (tolerances, pair) = pairs_in(document)?;
     let plant = plant_in(document, kt)?;
@@ -102,28 +114,37 @@ pub(crate) fn entries_in(document: &Document) -> Result<Entries, CalFault>
         plant,
         times,
         questions,
+        brake,
     })
 }
 
+/// The permit table, the threshold, and whether the brake counts.
 #[tactic(auto, unfolding(crate::specs::Checks::first_fault))]
-fn version_in(document: &Document) -> Result<u16, CalFault>
+fn permit_in(document: &Document, version: u16) -> Result<(Table2, u16, bool), CalFault>
+    requires { version ≡ version_of (table_view document.now.root) }
     ensures { let ms = table_view document.now.root in
-        Checks (first_fault ms version_keys) (number_of ms Version) result }
-{
-    document.number(CalKey::Version, 1, 1)
-}
-
-/// The permit table and the threshold.
-#[tactic(auto, unfolding(crate::specs::Checks::first_fault))]
-fn permit_in(document: &Document) -> Result<(Table2, u16), CalFault>
-    ensures { let ms = table_view document.now.root in
-        Checks (first_fault ms permit_keys) (permit_of ms, number_of ms PermitThreshold) result }
+        let fault = first_fault ms (permit_keys version) in
+        Checks fault (permit_of ms, number_of ms PermitThreshold, brake_of ms) result }
 {
     let pedal = document.axis(CalKey::PermitPedal, 1000)?;
     let speed = document.axis(CalKey::PermitSpeed, 8000)?;
     let table = document.grid(CalKey::PermitTable, pedal, speed, 10_000)?;
     let threshold = document.number(CalKey::PermitThreshold, 0, 10_000)?;
-    Ok((table, threshold))
+    let brake = brake_in(document, version)?;
+    Ok((table, threshold, brake))
+}
+
+/// Whether the brake counts: as a file of version 2 says; it doesn't in one of version 1.
+#[tactic(auto, unfolding(crate::specs::Checks::first_fault))]
+fn brake_in(document: &Document, version: u16) -> Result<bool, CalFault>
+    requires { version ≡ version_of (table_view document.now.root) }
+    ensures { let ms = table_view document.now.root in
+        Checks (first_fault ms (brake_keys version)) (brake_of ms) result }
+{
+    if !has_brake(version) {
+        return Ok(false);
+    }
+    document.truth(CalKey::PermitBrake)
 }
 
 /// The weights under the three keys of a debouncer.

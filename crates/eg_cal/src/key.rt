@@ -8,7 +8,7 @@ use eg_toml::DocumentFault;
 /// which the keys are checked.
 #[derive(Clone, Copy, Debug, PartialEq, Eq)]
 pub enum CalKey {
-    /// `version`: the version of the format, 1.
+    /// `version`: the version of the format, 1 or 2.
     Version,
     /// `permit.pedal`: the permit table's points of the pedal, in per mille.
     PermitPedal,
@@ -18,6 +18,8 @@ pub enum CalKey {
     PermitTable,
     /// `permit.threshold`: how much an estimate may exceed the permitted torque, in tenths of Nm.
     PermitThreshold,
+    /// `permit.brake`: whether the brake counts. It is a key of version 2 alone.
+    PermitBrake,
     /// `torque.kt`: the torque of a load of 1000, in tenths of Nm.
     TorqueKt,
     /// `torque.up`: what a bad feed adds in the debouncer of the torque.
@@ -64,7 +66,7 @@ pub enum CalKey {
     AnswersLimit,
     /// `question`: the questions of the monitoring module, with their answers.
     Question,
-    /// A name that the file may not have.
+    /// A name that a file of its version may not have.
     Unknown,
 }
 
@@ -75,7 +77,8 @@ pub enum CalFault {
     Memory,
     /// The bytes are no TOML document.
     Text,
-    /// The key is missing, or holds something else than it may; at `Unknown` there is a name that no key has.
+    /// The key is missing, or holds something else than it may; at `Unknown` there is a name that no key of
+    /// the file's version has.
     Key { key: CalKey },
     /// The points of the axis don't strictly rise.
     Axis { key: CalKey },
@@ -112,6 +115,7 @@ impl CalKey {
             CalKey::PermitSpeed => "permit.speed",
             CalKey::PermitTable => "permit.table",
             CalKey::PermitThreshold => "permit.threshold",
+            CalKey::PermitBrake => "permit.brake",
             CalKey::TorqueKt => "torque.kt",
             CalKey::TorqueUp => "torque.up",
             CalKey::TorqueDown => "torque.down",
@@ -148,7 +152,8 @@ impl CalKey {
             CalKey::PermitPedal
             | CalKey::PermitSpeed
             | CalKey::PermitTable
-            | CalKey::PermitThreshold => "permit",
+            | CalKey::PermitThreshold
+            | CalKey::PermitBrake => "permit",
             CalKey::TorqueKt | CalKey::TorqueUp | CalKey::TorqueDown | CalKey::TorqueLimit =>
                 "torque",
             CalKey::PairsPedal
@@ -180,6 +185,7 @@ impl CalKey {
             CalKey::PermitSpeed | CalKey::PairsSpeed => "speed",
             CalKey::PermitTable => "table",
             CalKey::PermitThreshold => "threshold",
+            CalKey::PermitBrake => "brake",
             CalKey::TorqueKt => "kt",
             CalKey::TorqueUp | CalKey::PairsUp | CalKey::AnswersUp => "up",
             CalKey::TorqueDown | CalKey::PairsDown | CalKey::AnswersDown => "down",

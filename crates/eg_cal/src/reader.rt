@@ -8,7 +8,7 @@ ghost use Rattle.eg_cal.specs.Calibration.{calibration_of, refusal_of, parts_of,
 ghost use Rattle.eg_values.specs.Calibration.{made_of};
 
 use crate::document::Document;
-use crate::entries::{AnswerTimes, Entries, entries_in};
+use crate::entries::{AnswerTimes, Entries, entries_in, version_in};
 use crate::{CalFault, CalKey};
 use eg_answer::{Questions, Rules, Times};
 use eg_num::Table2;
@@ -31,8 +31,9 @@ pub fn read_calibration(alloc: Global, bytes: &[u8]) -> Result<Calibration, CalF
 fn calibration_in(document: &Document) -> Result<Calibration, CalFault>
     ensures { let ms = table_view document.now.root in Checks (refusal_of ms) (parts_of ms) result }
 {
-    let entries = entries_in(document)?;
-    if !document.is_all_known() {
+    let version = version_in(document)?;
+    let entries = entries_in(document, version)?;
+    if !document.is_all_known(version) {
         return Err(CalFault::Key {
             key: CalKey::Unknown,
         });
@@ -55,7 +56,13 @@ fn put_together(entries: Entries) -> Result<Calibration, CalFault>
         pair: entries.pair,
         torque: entries.torque,
     };
-    answered(rules, entries.plant, times, entries.questions)
+    answered(
+        rules,
+        entries.plant,
+        times,
+        entries.questions,
+        entries.brake,
+    )
 }
 
 /// The calibration of these parts, where each question's answer is the fold of its row.
@@ -64,12 +71,13 @@ fn answered(
     plant: PlantData,
     times: Times,
     questions: Questions,
+    brake: bool,
 ) -> Result<Calibration, CalFault>
     requires kt { rules.kt ≡ plant.kt }
     requires count { 2 ≤ length questions }
-    ensures { Checks (answer_fault rules questions) (made_of rules plant times questions) result }
+    ensures { Checks (answer_fault rules questions) (made_of rules plant times questions brake) result }
 {
-    match Calibration::of_parts(rules, plant, times, questions) {
+    match Calibration::of_parts(rules, plant, times, questions, brake) {
         Ok(calibration) => Ok(calibration),
         Err(Apart::Answer { index }) => Err(CalFault::Answer { index }),
         Err(Apart::Torque) => unreachable!(),

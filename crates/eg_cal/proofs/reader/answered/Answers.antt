@@ -9,5 +9,5 @@ returns-in-Ok c = (ap (option_map fault.Answer) (answered-none _ _ (c.in-Ok.ensu
 
 pub returns-in-Err-Answer : goal.returns-in-Err-Answer
 returns-in-Err-Answer c =
-    let parts = made_of c.args.rules c.args.plant c.args.times c.args.questions in
+    let parts = made_of c.args.rules c.args.plant c.args.times c.args.questions c.args.brake in
     ap (option_map fault.Answer) (apart-answer parts _ _ c.in-Err-Answer.field-0-is c.in-Err-Answer.ensures.refused)

@@ -1,0 +1,70 @@
+-- Files of both versions worked out by the definitions.
+use Rattle.std.proofs.Common.{◌≡◌, ℕ, Bool, true, false, List, [], ◌∷◌, ◌++◌, drop, length, map, codes, Option, Some, None, option_map, Ok, refl}
+use Rattle.std.specs.Str.{chars, is_utf8}
+use Rattle.toml.proofs.OnLiterals.{toml_on_literals}
+use Rattle.eg_num.specs.Interpolation.{value_at}
+use Rattle.eg_torque.specs.Permit.{permitted}
+use Rattle.eg_torque.specs.Excess.{is_excess}
+use Rattle.eg_answer.specs.Folds.{mixed, fold_of}
+use Rattle.eg_answer.specs.Formulas.{permitted_torque, estimated_torque, excess_number, disagreeing_pairs}
+use Rattle.eg_answer.specs.Answers.{pedal_result, permitted_result, estimate_result, excess_result, pairs_result, results_of, expected_of}
+use Rattle.eg_toml.specs.Documents.{document_of}
+use Rattle.eg_values.specs.Reference.{reference_parts}
+use Rattle.eg_cal.specs.declared.key.CalKey.TheVariants as key
+use Rattle.eg_cal.specs.declared.key.CalFault.{CalFault}
+use Rattle.eg_cal.specs.declared.key.CalFault.TheVariants.{Key}
+use Rattle.eg_cal.specs.Questions.{readings_in, row_in, asked_in}
+use Rattle.eg_cal.specs.Checks.{first_fault}
+use Rattle.eg_cal.specs.Names.{is_all_known}
+use Rattle.eg_cal.specs.Calibration.{first_from, unknown_fault, refusal_of, brake_of, calibration_of}
+use Rattle.eg_cal.specs.Reference.{reference_text}
+
+-- the reference file in version 2, with the brake
+abbrev with_brake : List ℕ
+with_brake = codes "version = 2\n[permit]\nbrake = true\n" ++ drop (length (codes "version = 1\n[permit]\n")) reference_text
+
+with_brake_known : calibration_of (document_of with_brake) ≡ Ok (record reference_parts { brake = true })
+unfolding toml_on_literals chars is_utf8 value_at permitted is_excess permitted_torque estimated_torque excess_number disagreeing_pairs mixed fold_of pedal_result permitted_result estimate_result excess_result pairs_result results_of expected_of readings_in row_in asked_in first_fault is_all_known first_from
+with_brake_known = refl
+
+-- a file with this version that ends with these lines of `permit`
+abbrev permit_file : List ℕ → List ℕ → List ℕ
+permit_file version lines =
+    codes "version = " ++ version ++ codes "\n[permit]\npedal = [0, 1]\nspeed = [0, 1]\ntable = [[0, 0], [0, 0]]\n" ++ lines
+
+-- its first refusal, where it is a document
+abbrev refused : List ℕ → List ℕ → Option (Option CalFault)
+refused version lines = option_map refusal_of (document_of (permit_file version lines))
+
+-- the brake is asked for after the threshold and before `torque.kt`, in version 2 alone; a version that isn't known is
+-- refused before all else
+in_their_order :
+    refused (codes "2") [] ∷ refused (codes "2") (codes "threshold = 0\n") ∷ refused (codes "2") (codes "threshold = 0\nbrake = 1\n")
+    ∷ refused (codes "2") (codes "threshold = 0\nbrake = \"true\"\n") ∷ refused (codes "2") (codes "threshold = 0\nbrake = false\n")
+    ∷ refused (codes "1") (codes "threshold = 0\n") ∷ refused (codes "1") (codes "threshold = 0\nbrake = true\n")
+    ∷ refused (codes "0") [] ∷ refused (codes "3") (codes "threshold = 0\nbrake = true\n") ∷ refused (codes "\"2\"") (codes "threshold = 0\nbrake = true\n") ∷ []
+    ≡ map (λ k. Some (Some (Key k))) (
+    key.PermitThreshold ∷ key.PermitBrake ∷ key.PermitBrake
+    ∷ key.PermitBrake ∷ key.TorqueKt
+    ∷ key.TorqueKt ∷ key.TorqueKt
+    ∷ key.Version ∷ key.Version ∷ key.Version ∷ [])
+unfolding toml_on_literals chars is_utf8 readings_in row_in asked_in first_fault is_all_known first_from
+in_their_order = refl
+
+-- what is said of its names
+abbrev named : List ℕ → List ℕ → Option (Option CalFault)
+named version lines = option_map unknown_fault (document_of (permit_file version lines))
+
+names : named (codes "2") (codes "brake = 1\n") ∷ named (codes "1") (codes "brake = true\n") ∷ named (codes "1") [] ∷ named (codes "2") (codes "brakes = true\n") ∷ []
+    ≡ Some None ∷ Some (Some (Key key.Unknown)) ∷ Some None ∷ Some (Some (Key key.Unknown)) ∷ []
+unfolding toml_on_literals chars is_utf8 is_all_known
+names = refl
+
+-- whether the brake counts
+abbrev counts : List ℕ → List ℕ → Option Bool
+counts version lines = option_map brake_of (document_of (permit_file version lines))
+
+brakes : counts (codes "2") (codes "brake = true\n") ∷ counts (codes "2") (codes "brake = false\n") ∷ counts (codes "1") (codes "brake = true\n") ∷ []
+    ≡ Some true ∷ Some false ∷ Some false ∷ []
+unfolding toml_on_literals chars is_utf8
+brakes = refl
