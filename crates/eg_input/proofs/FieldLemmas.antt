@@ -8,7 +8,7 @@ use Rattle.std.proofs.lemmas.Bool.Decides.{nat_tests}
 use Rattle.std.proofs.lemmas.Slice.Eq.{slice_eq-Decides, bytes_eq-Decides}
 use Rattle.std.proofs.lemmas.List.{drop_all, length-map}
 use Rattle.csv.specs.Records.{field_at}
-use Rattle.eg_num.specs.Drive.{DriveRow, IsDrive, driven}
+use Rattle.eg_num.specs.Drive.{DriveRow, IsDrive}
 use Rattle.eg_input.specs.Records.{Record, is_same_record}
 use Rattle.eg_input.specs.Fields.{decimal_value, is_numeral, number_of, number_at, truth_at}
 use Rattle.eg_input.specs.DriveTrace.{drive_from, drive_at, drive_of}
@@ -98,46 +98,47 @@ number_at-le fields i most n e = at (field_at fields i) e
     at (Some field) e = number_of-le most field n e
 
 -- the drive row that is made of what was read
-pub drive_at-new : (fields : Record) (pedal speed raise : ℕ) (reset : Bool) (given : Option Bool) (made : Option DriveRow) → number_at fields 0 1000 ≡ Some pedal
-    → number_at fields 1 8000 ≡ Some speed → number_at fields 2 10000 ≡ Some raise → given ≡ Some reset
-    → (let row : DriveRow = record (driven pedal speed raise) { reset = reset } in SomeIff made (IsDrive row) row) → made ≡ drive_at fields given
+pub drive_at-new : (fields : Record) (pedal speed raise : ℕ) (reset brake : Bool) (given other : Option Bool) (made : Option DriveRow) → number_at fields 0 1000 ≡ Some pedal
+    → number_at fields 1 8000 ≡ Some speed → number_at fields 2 10000 ≡ Some raise → given ≡ Some reset → other ≡ Some brake
+    → (let row : DriveRow = record { pedal = pedal; speed = speed; raise = raise; reset = reset; brake = brake } in SomeIff made (IsDrive row) row) → made ≡ drive_at fields given other
 unfolding drive_at drive_from
-drive_at-new fields pedal speed raise reset given None p s r g never =
+drive_at-new fields pedal speed raise reset brake given other None p s r g o never =
     absurd (never (number_at-le fields 0 1000 pedal p, number_at-le fields 1 8000 speed s, number_at-le fields 2 10000 raise r))
-drive_at-new fields pedal speed raise reset given (Some row) p s r g is = rw (p, s, r, g, is.1) refl
+drive_at-new fields pedal speed raise reset brake given other (Some row) p s r g o is = rw (p, s, r, g, o, is.1) refl
 
 -- a drive row that is read is within its limits
-drive_at-limits : (fields : Record) (reset : Option Bool) (row : DriveRow) → drive_at fields reset ≡ Some row → IsDrive row
+drive_at-limits : (fields : Record) (reset brake : Option Bool) (row : DriveRow) → drive_at fields reset brake ≡ Some row → IsDrive row
 unfolding drive_at drive_from
-drive_at-limits fields reset row e = at (number_at fields 0 1000) (number_at fields 1 8000) (number_at fields 2 10000) reset refl refl refl e
+drive_at-limits fields reset brake row e = at (number_at fields 0 1000) (number_at fields 1 8000) (number_at fields 2 10000) reset brake refl refl refl e
   where
-    at : (p s r : Option ℕ) (o : Option Bool) → number_at fields 0 1000 ≡ p → number_at fields 1 8000 ≡ s → number_at fields 2 10000 ≡ r → drive_from p s r o ≡ Some row
+    at : (p s r : Option ℕ) (o b : Option Bool) → number_at fields 0 1000 ≡ p → number_at fields 1 8000 ≡ s → number_at fields 2 10000 ≡ r → drive_from p s r o b ≡ Some row
         → IsDrive row
-    at (Some pedal) (Some speed) (Some raise) (Some reset) p s r e =
-        let made : ◌≡◌ {A = DriveRow} (record (driven pedal speed raise) { reset = reset }) row = cc in
+    at (Some pedal) (Some speed) (Some raise) (Some reset) (Some brake) p s r e =
+        let made : ◌≡◌ {A = DriveRow} (record { pedal = pedal; speed = speed; raise = raise; reset = reset; brake = brake }) row = cc in
         rw (← made) (number_at-le fields 0 1000 pedal p, number_at-le fields 1 8000 speed s, number_at-le fields 2 10000 raise r)
-    at None s r o p' s' r' e = absurd cc
-    at (Some pedal) None r o p' s' r' e = absurd cc
-    at (Some pedal) (Some speed) None o p' s' r' e = absurd cc
-    at (Some pedal) (Some speed) (Some raise) None p' s' r' e = absurd cc
+    at None s r o b p' s' r' e = absurd cc
+    at (Some pedal) None r o b p' s' r' e = absurd cc
+    at (Some pedal) (Some speed) None o b p' s' r' e = absurd cc
+    at (Some pedal) (Some speed) (Some raise) None b p' s' r' e = absurd cc
+    at (Some pedal) (Some speed) (Some raise) (Some reset) None p' s' r' e = absurd cc
 
 pub drive_of-limits : (width : ℕ) (fields : Record) (row : DriveRow) → drive_of width fields ≡ Some row → IsDrive row
 unfolding drive_of
 drive_of-limits width fields row e = at (length fields == width) e
   where
-    at : (b : Bool) → (if b then drive_at fields (truth_at fields 3) else None) ≡ Some row → IsDrive row
-    at true e = drive_at-limits fields (truth_at fields 3) row e
+    at : (b : Bool) → (if b then drive_at fields (truth_at fields 3) (truth_at fields 4) else None) ≡ Some row → IsDrive row
+    at true e = drive_at-limits fields (truth_at fields 3) (truth_at fields 4) row e
     at false e = absurd cc
 
 pub check_row_of-limits : (fields : Record) (row : CheckRow) → check_row_of fields ≡ Some row → IsCheckRow row
 unfolding check_row_of
-check_row_of-limits fields row e = at (length fields == 4) (drive_at fields (Some false)) (number_at fields 3 65535) refl refl e
+check_row_of-limits fields row e = at (length fields == 4) (drive_at fields (Some false) (Some false)) (number_at fields 3 65535) refl refl e
   where
-    at : (b : Bool) (d : Option DriveRow) (t : Option ℕ) → drive_at fields (Some false) ≡ d → number_at fields 3 65535 ≡ t → (if b then option_zip d t else None) ≡ Some row
+    at : (b : Bool) (d : Option DriveRow) (t : Option ℕ) → drive_at fields (Some false) (Some false) ≡ d → number_at fields 3 65535 ≡ t → (if b then option_zip d t else None) ≡ Some row
         → IsCheckRow row
     at true (Some drive) (Some torque) d t e =
         let made : (drive, torque) ≡ row = cc in
-        rw (← made) (drive_at-limits fields (Some false) drive d, number_at-le fields 3 65535 torque t)
+        rw (← made) (drive_at-limits fields (Some false) (Some false) drive d, number_at-le fields 3 65535 torque t)
     at true (Some drive) None d t e = absurd cc
     at true None t d t' e = absurd cc
     at false d t d' t' e = absurd cc

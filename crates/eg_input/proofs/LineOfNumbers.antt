@@ -131,14 +131,21 @@ two-fields ending text numbers rest b =
     field-comma (number_of-digits 1000) st.StartRecord (inl refl) [] text numbers.0 b.after_pedal b.pedal
     ∙ field-comma (number_of-digits 8000) st.StartField (inr refl) (b.pedal.field ∷ []) b.after_pedal numbers.1 b.after_speed b.speed
 
+-- pedal, speed and raise, where more comes behind them
+three-fields : (text : List ℕ) (numbers : ℕ × ℕ × ℕ) (rest : List ℕ) → (b : BeginsWithDrive 44 text numbers rest)
+    → next_record default_config st.StartRecord [] [] text
+    ≡ next_record default_config st.StartField (b.pedal.field ∷ b.speed.field ∷ b.raise.field ∷ []) [] rest
+three-fields text numbers rest b =
+    two-fields 44 text numbers rest b
+    ∙ field-comma (number_of-digits 10000) st.StartField (inr refl) (b.pedal.field ∷ b.speed.field ∷ []) b.after_speed numbers.2 rest b.raise
+
 -- pedal, speed and raise, and a field behind them
 four-fields : {X : Type 0} {value_of : List ℕ → Option X} → OfDigits value_of → (text : List ℕ) (numbers : ℕ × ℕ × ℕ) (middle : List ℕ) (value : X) (rest : List ℕ)
     → (b : BeginsWithDrive 44 text numbers middle) → (l : BeginsWithField value_of 10 middle value rest)
     → records_below text ≡ (b.pedal.field ∷ b.speed.field ∷ b.raise.field ∷ l.field ∷ []) ∷ records_below rest
 four-fields digits text numbers middle value rest b l =
     records_after-some st.StartRecord text (b.pedal.field ∷ b.speed.field ∷ b.raise.field ∷ l.field ∷ [], st.StartRecord, rest) refl
-    (two-fields 44 text numbers middle b
-    ∙ field-comma (number_of-digits 10000) st.StartField (inr refl) (b.pedal.field ∷ b.speed.field ∷ []) b.after_speed numbers.2 middle b.raise
+    (three-fields text numbers middle b
     ∙ field-feed digits st.StartField (inr refl) (b.pedal.field ∷ b.speed.field ∷ b.raise.field ∷ []) middle value rest l)
 
 -- a line of a drive trace without resets
@@ -161,6 +168,21 @@ reset-line text pedal speed raise middle reset rest b t = record {
   fields = b.pedal.field ∷ b.speed.field ∷ b.raise.field ∷ t.field ∷ [];
   parts = four-fields truth_of-digits text (pedal, speed, raise) middle reset rest b t;
   written = rw (b.pedal.written, b.speed.written, b.raise.written, t.written) refl;
+}
+
+-- a line of a drive trace with resets and the brake
+pub brake-line : (text : List ℕ) (pedal speed raise : ℕ) (middle : List ℕ) (reset : Bool) (end : List ℕ) (brake : Bool) (rest : List ℕ)
+    → BeginsWithDrive 44 text (pedal, speed, raise) middle → BeginsWithTruth 44 middle reset end → BeginsWithTruth 10 end brake rest
+    → BeginsWithRow (drive_of 5) text (record { pedal = pedal; speed = speed; raise = raise; reset = reset; brake = brake }) rest
+unfolding drive_of drive_at drive_from number_at truth_at field_at
+brake-line text pedal speed raise middle reset end brake rest b t l = record {
+  fields = b.pedal.field ∷ b.speed.field ∷ b.raise.field ∷ t.field ∷ l.field ∷ [];
+  parts =
+      records_after-some st.StartRecord text (b.pedal.field ∷ b.speed.field ∷ b.raise.field ∷ t.field ∷ l.field ∷ [], st.StartRecord, rest) refl
+      (three-fields text (pedal, speed, raise) middle b
+      ∙ field-comma truth_of-digits st.StartField (inr refl) (b.pedal.field ∷ b.speed.field ∷ b.raise.field ∷ []) middle reset end t
+      ∙ field-feed truth_of-digits st.StartField (inr refl) (b.pedal.field ∷ b.speed.field ∷ b.raise.field ∷ t.field ∷ []) end brake rest l);
+  written = rw (b.pedal.written, b.speed.written, b.raise.written, t.written, l.written) refl;
 }
 
 -- a line of a check file
@@ -199,6 +221,12 @@ pub reset-begins : (rest : List ℕ) → BeginsWithHeader trace_headers (codes "
 unfolding next_record strip_bom is_header is_same_record trace_headers
 reset-begins rest =
     header-begins trace_headers (codes "pedal" ∷ codes "speed" ∷ codes "raise" ∷ codes "reset" ∷ []) (codes "pedal,speed,raise,reset\n") rest refl refl refl
+
+pub brake-begins : (rest : List ℕ) → BeginsWithHeader trace_headers (codes "pedal,speed,raise,reset,brake\n" ++ rest) 5 rest
+unfolding next_record strip_bom is_header is_same_record trace_headers
+brake-begins rest =
+    header-begins trace_headers (codes "pedal" ∷ codes "speed" ∷ codes "raise" ∷ codes "reset" ∷ codes "brake" ∷ []) (codes "pedal,speed,raise,reset,brake\n")
+    rest refl refl refl
 
 -- the header of a check file
 pub check-begins : (rest : List ℕ) → BeginsWithHeader (check_header ∷ []) (codes "pedal,speed,raise,torque\n" ++ rest) 4 rest

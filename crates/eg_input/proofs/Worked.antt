@@ -30,6 +30,12 @@ longer : rows_in (codes "pedal,speed,raise,reset\n9,080,7,1\n1,2,3,0\n") ≡ Ok 
 unfolding reading
 longer = refl
 
+-- below the longest one the driver brakes where the fifth field is 1
+longest : rows_in (codes "pedal,speed,raise,reset,brake\n9,080,7,0,1\n1,2,3,1,0\n")
+    ≡ Ok (record (driven 9 80 7) { brake = true } ∷ record (driven 1 2 3) { reset = true } ∷ [])
+unfolding reading
+longest = refl
+
 -- a reset is one digit, 0 or 1
 two : rows_in (codes "pedal,speed,raise,reset\n1,2,3,0\n9,80,7,2\n") ≡ Err (fault.Row 3)
 unfolding reading
@@ -39,16 +45,29 @@ two_digits : rows_in (codes "pedal,speed,raise,reset\n9,80,7,01\n") ≡ Err (fau
 unfolding reading
 two_digits = refl
 
+-- so is a brake
+brake_of_two : rows_in (codes "pedal,speed,raise,reset,brake\n1,2,3,0,1\n9,80,7,0,2\n") ≡ Err (fault.Row 3)
+unfolding reading
+brake_of_two = refl
+
 -- a record has as many fields as the header
 too_few : rows_in (codes "pedal,speed,raise,reset\n9,80,7\n") ≡ Err (fault.Row 2)
 unfolding reading
 too_few = refl
 
+no_brake : rows_in (codes "pedal,speed,raise,reset,brake\n9,80,7,0\n") ≡ Err (fault.Row 2)
+unfolding reading
+no_brake = refl
+
 too_many : rows_in (codes "pedal,speed,raise\n9,80,7,1\n") ≡ Err (fault.Row 2)
 unfolding reading
 too_many = refl
 
--- a comma more, and the header of a check file
+brake_too_many : rows_in (codes "pedal,speed,raise,reset\n9,80,7,0,1\n") ≡ Err (fault.Row 2)
+unfolding reading
+brake_too_many = refl
+
+-- a comma more, the header of a check file, and one with brake in the place of reset
 no_header : rows_in (codes "pedal,speed,raise,reset,\n9,80,7,1\n") ≡ Err fault.Header
 unfolding reading
 no_header = refl
@@ -56,3 +75,7 @@ no_header = refl
 other_header : rows_in (codes "pedal,speed,raise,torque\n9,80,7,1\n") ≡ Err fault.Header
 unfolding reading
 other_header = refl
+
+brake_alone : rows_in (codes "pedal,speed,raise,brake\n9,80,7,1\n") ≡ Err fault.Header
+unfolding reading
+brake_alone = refl

@@ -1,6 +1,6 @@
 -- The file of a drive trace: a drive row for each tick.
 use Rattle.std.specs.Prelude.{ℕ, ◌==◌, List, [], ◌∷◌, length, codes, Bool, Option, Some, None, if◌then◌else◌, Result}
-use Rattle.eg_num.specs.Drive.{DriveRow, driven}
+use Rattle.eg_num.specs.Drive.{DriveRow}
 use Rattle.eg_input.specs.Records.{Record}
 use Rattle.eg_input.specs.Fields.{number_at, truth_at}
 use Rattle.eg_input.specs.Rows.{rows_of}
@@ -11,22 +11,25 @@ unfoldable pub trace_headers : List Record
 trace_headers =
     (codes "pedal" ∷ codes "speed" ∷ codes "raise" ∷ [])
     ∷ (codes "pedal" ∷ codes "speed" ∷ codes "raise" ∷ codes "reset" ∷ [])
+    ∷ (codes "pedal" ∷ codes "speed" ∷ codes "raise" ∷ codes "reset" ∷ codes "brake" ∷ [])
     ∷ []
 
--- the drive row of three numbers and of whether a power cycle begins, where each is there
-unfoldable pub drive_from : Option ℕ → Option ℕ → Option ℕ → Option Bool → Option DriveRow
-drive_from (Some pedal) (Some speed) (Some raise) (Some reset) =
-    Some (record (driven pedal speed raise) { reset = reset })
-drive_from _ _ _ _ = None
+-- the drive row of three numbers, of whether a power cycle begins and of whether the driver brakes, where each
+-- is there
+unfoldable pub drive_from : Option ℕ → Option ℕ → Option ℕ → Option Bool → Option Bool → Option DriveRow
+drive_from (Some pedal) (Some speed) (Some raise) (Some reset) (Some brake) =
+    Some (record { pedal = pedal; speed = speed; raise = raise; reset = reset; brake = brake })
+drive_from _ _ _ _ _ = None
 
--- the drive row of the numbers that the first three fields of a record write, and of this reset
-unfoldable pub drive_at : Record → Option Bool → Option DriveRow
-drive_at fields reset =
-    drive_from (number_at fields 0 1000) (number_at fields 1 8000) (number_at fields 2 10000) reset
+-- the drive row of the numbers that the first three fields of a record write, of this reset and of this brake
+unfoldable pub drive_at : Record → Option Bool → Option Bool → Option DriveRow
+drive_at fields reset brake =
+    drive_from (number_at fields 0 1000) (number_at fields 1 8000) (number_at fields 2 10000) reset brake
 
 -- the row that a record of a drive trace writes below a header of so many fields
 unfoldable pub drive_of : ℕ → Record → Option DriveRow
-drive_of width fields = if length fields == width then drive_at fields (truth_at fields 3) else None
+drive_of width fields =
+    if length fields == width then drive_at fields (truth_at fields 3) (truth_at fields 4) else None
 
 -- the rows of a drive trace, or its fault
 abbrev pub drive_rows : List Record → Result (List DriveRow) TraceFault

@@ -44,6 +44,8 @@ const WITHOUT_RESET: usize = 3;
 
 const WITH_RESET: usize = 4;
 
+const WITH_BRAKE: usize = 5;
+
 /// The row of a drive trace.
 impl FileRow for Drive {
     ghost headers = { trace_headers };
@@ -54,12 +56,13 @@ impl FileRow for Drive {
     fn is_header(entry: &ByteRecord) -> bool {
         has_fields(entry, &[b"pedal", b"speed", b"raise"])
             || has_fields(entry, &[b"pedal", b"speed", b"raise", b"reset"])
+            || has_fields(entry, &[b"pedal", b"speed", b"raise", b"reset", b"brake"])
     }
 
     #[tactic(auto, unfolding(crate::specs::DriveTrace::drive_of))]
     fn from_record(entry: &ByteRecord, width: usize) -> Option<Drive> {
         if entry.len() == width {
-            drive_at(entry, truth_at(entry, 3))
+            drive_at(entry, truth_at(entry, 3), truth_at(entry, 4))
         } else {
             None
         }
@@ -69,14 +72,18 @@ impl FileRow for Drive {
         if let Some(below) = bytes.strip_prefix(b"pedal,speed,raise\n") {
             return Some((WITHOUT_RESET, below));
         }
-        let below = bytes.strip_prefix(b"pedal,speed,raise,reset\n")?;
-        Some((WITH_RESET, below))
+        if let Some(below) = bytes.strip_prefix(b"pedal,speed,raise,reset\n") {
+            return Some((WITH_RESET, below));
+        }
+        let below = bytes.strip_prefix(b"pedal,speed,raise,reset,brake\n")?;
+        Some((WITH_BRAKE, below))
     }
 
     fn from_line(bytes: &[u8], width: usize) -> Option<(Drive, &[u8])> {
         match width {
             WITHOUT_RESET => line(bytes),
             WITH_RESET => line_with_reset(bytes),
+            WITH_BRAKE => line_with_brake(bytes),
             _ => None,
         }
     }
@@ -90,13 +97,23 @@ fn line(bytes: &[u8]) -> Option<(Drive, &[u8])>
     Some((Drive::new(pedal, speed, raise, false, false)?, rest))
 }
 
-/// The drive row of the line at the front, below the header with `reset`, and what comes behind it.
+/// The drive row of the line at the front, below the header that ends with `reset`, and what comes behind it.
 fn line_with_reset(bytes: &[u8]) -> Option<(Drive, &[u8])>
     ensures { IfSome result (λ found. BeginsWithRow (drive_of 4) bytes.now found.0 found.1.now) }
 {
     let ((pedal, speed, raise), rest) = drive_numbers(bytes, b',')?;
     let (reset, rest) = truth(rest, b'\n')?;
     Some((Drive::new(pedal, speed, raise, reset, false)?, rest))
+}
+
+/// The drive row of the line at the front, below the header with `brake`, and what comes behind it.
+fn line_with_brake(bytes: &[u8]) -> Option<(Drive, &[u8])>
+    ensures { IfSome result (λ found. BeginsWithRow (drive_of 5) bytes.now found.0 found.1.now) }
+{
+    let ((pedal, speed, raise), rest) = drive_numbers(bytes, b',')?;
+    let (reset, rest) = truth(rest, b',')?;
+    let (brake, rest) = truth(rest, b'\n')?;
+    Some((Drive::new(pedal, speed, raise, reset, brake)?, rest))
 }
 
 /// The row of a check file: a drive row, and the torque that was measured.
@@ -113,7 +130,10 @@ impl FileRow for (Drive, u16) {
     #[tactic(auto, unfolding(crate::specs::CheckFile::check_row_of))]
     fn from_record(entry: &ByteRecord, _width: usize) -> Option<(Drive, u16)> {
         if entry.len() == 4 {
-            Some((drive_at(entry, Some(false))?, number_at(entry, 3, 65_535)?))
+            Some((
+                drive_at(entry, Some(false), Some(false))?,
+                number_at(entry, 3, 65_535)?,
+            ))
         } else {
             None
         }
@@ -134,13 +154,13 @@ impl FileRow for (Drive, u16) {
     }
 }
 
-/// The drive row of the numbers that the first three fields write, and of this reset.
+/// The drive row of the numbers that the first three fields write, of this reset and of this brake.
 #[tactic(auto, unfolding(crate::specs::DriveTrace::drive_at, crate::specs::DriveTrace::drive_from))]
-fn drive_at(entry: &ByteRecord, reset: Option<bool>) -> Option<Drive>
-    ensures { result ≡ drive_at (fields_of entry.now) reset }
+fn drive_at(entry: &ByteRecord, reset: Option<bool>, brake: Option<bool>) -> Option<Drive>
+    ensures { result ≡ drive_at (fields_of entry.now) reset brake }
 {
     let pedal = number_at(entry, 0, 1000)?;
     let speed = number_at(entry, 1, 8000)?;
     let raise = number_at(entry, 2, 10_000)?;
-    Drive::new(pedal, speed, raise, reset?, false)
+    Drive::new(pedal, speed, raise, reset?, brake?)
 }
