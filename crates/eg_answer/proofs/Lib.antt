@@ -2,3 +2,4 @@ pub mod FoldLemmas
 pub mod TokenLemmas
 mod Worked
 pub mod QuotientLemmas
+pub mod BrakingLemmas

@@ -1,5 +1,6 @@
 pub mod Folds
 pub mod Formulas
+pub mod Braking
 pub mod Feeds
 pub mod Answers
 pub mod Modules

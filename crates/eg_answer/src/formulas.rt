@@ -1,6 +1,7 @@
 // What level 2 computes, of the sensors' readings and of a test row alike.
 ghost use Rattle.std.specs.Prelude.{◌≡◌};
 ghost use Rattle.eg_answer.specs.Formulas.{permitted_torque, estimated_torque, excess_number, disagreeing_pairs};
+ghost use Rattle.eg_answer.specs.Braking.{GatingPermitsNoMore};
 
 use crate::Rules;
 use eg_sensor::{Readings, checked_raise, pair_bits};
@@ -47,3 +48,11 @@ pub fn disagreeing_pairs(rules: &Rules, read: &Readings) -> u16
 {
     pair_bits(read, &rules.tolerances)
 }
+
+/// Does nothing when it runs. Its contract is a law: where the rows of the permit table don't fall, readings
+/// that are gated, since the brake is taken as pressed, permit no more than the readings themselves
+/// (docs/CONCEPT.md, "Torque").
+#[tactic(auto, using(crate::proofs::BrakingLemmas::gating_permits_no_more))]
+pub fn gating_permits_no_more()
+    ensures { GatingPermitsNoMore }
+{}

@@ -15,7 +15,8 @@ mod words;
 
 pub use answers::{expected, fold, folds_tell_results_apart, mix, results};
 pub use formulas::{
-    EXCESS_BIT, disagreeing_pairs, estimated_torque, excess_number, permitted_torque,
+    EXCESS_BIT, disagreeing_pairs, estimated_torque, excess_number, gating_permits_no_more,
+    permitted_torque,
 };
 pub use marks::{AnswerMark, Verdict};
 pub use modules::{ACTUAL, CHECK, DEBOUNCE, EXCESS, MODULES, PAIRS, PEDAL, PERMITTED, REACT};
