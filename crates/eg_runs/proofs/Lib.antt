@@ -4,3 +4,4 @@ pub mod WorkedImages
 pub mod WorkedLapses
 pub mod WorkedUnusual
 pub mod WorkedCycles
+pub mod WorkedBraking

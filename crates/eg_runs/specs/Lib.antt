@@ -1,6 +1,7 @@
 pub mod WorkedLapses
 pub mod UnusualRuns
 pub mod PowerCycles
+pub mod Braking
 pub use Rattle.eg_answer.specs.Times
 pub use Rattle.eg_model.specs.Examples
 pub use Rattle.eg_model.specs.Rows

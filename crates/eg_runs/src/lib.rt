@@ -3,12 +3,14 @@
 //! take long to compute, and `eg_model` is checked often.
 #![tactic(auto)]
 
+mod braking;
 mod examples;
 mod faulty_runs;
 mod lapses;
 mod power_cycles;
 mod unusual_runs;
 
+pub use braking::{braking_ticks, contacts_and_gates, held_throttle_run};
 pub use examples::{
     empty_image, following_run, full_run_in_detail, idle_run, looping_image, refused_store,
     three_runs,

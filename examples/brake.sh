@@ -1,0 +1,1 @@
+./egasim run --cal examples/brake_counts.toml examples/brake.toml
