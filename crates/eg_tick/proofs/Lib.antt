@@ -14,5 +14,6 @@ pub mod StepLemmas
 pub mod ReactionLemmas
 pub mod RunLemmas
 pub mod RunLaws
+pub mod FactLaws
 pub mod TrapLemmas
 mod Worked
