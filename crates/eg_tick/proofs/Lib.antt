@@ -16,4 +16,5 @@ pub mod RunLemmas
 pub mod RunLaws
 pub mod FactLaws
 pub mod TrapLemmas
+mod FactsWorked
 mod Worked
