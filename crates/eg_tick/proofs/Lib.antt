@@ -14,5 +14,7 @@ pub mod StepLemmas
 pub mod ReactionLemmas
 pub mod RunLemmas
 pub mod RunLaws
+pub mod FactLaws
 pub mod TrapLemmas
+mod FactsWorked
 mod Worked

@@ -9,6 +9,7 @@ pub mod Entering
 pub mod Advancing
 pub mod Inside
 pub mod Run
+pub mod Facts
 pub use Rattle.eg_answer.specs.Times
 pub use Rattle.eg_fault.specs.Faults
 pub use Rattle.eg_model.specs.Engines

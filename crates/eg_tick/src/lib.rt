@@ -9,6 +9,7 @@
 
 mod board;
 mod controller;
+mod facts;
 mod levels;
 mod monitoring;
 mod paths;
@@ -20,4 +21,5 @@ mod working;
 
 pub use controller::{Controller, Ticks};
 pub use eg_slices::{SlicePlan, Slices};
+pub use facts::run_facts;
 pub use run::{RunRecord, run_one};

@@ -1,5 +1,5 @@
 // A run of a gasoline engine on the bench.
-ghost use Rattle.std.specs.Prelude.{◌≡◌, ℕ, ◌+◌, ◌%◌, ◌^◌, ◌≤◌, ◌<◌, false, None, List, All, map, reverse, length, IfOk, OnOk, OnErr};
+ghost use Rattle.std.specs.Prelude.{◌≡◌, ℕ, ◌+◌, ◌%◌, ◌^◌, ◌≤◌, ◌<◌, false, None, List, All, map, reverse, length, IfOk, OnOk, OnErr, IsOk, IsTrue};
 ghost use Rattle.std.specs.Option.{option_copied};
 ghost use Rattle.std.specs.List.{sum};
 ghost use Rattle.eg_guard.specs.declared.regions.TheConstants.{DATA as CODE_END};
@@ -137,8 +137,8 @@ fn record_of(rows: Vec<Row>, controller: &Controller<GasolineEngine, FlatMemory>
     }
 }
 
-/// A controller of an engine at rest, that has made no tick.
-fn begin(
+/// A controller of an engine at rest, that has made no tick, over a memory that never runs out.
+pub(crate) fn begin(
     calibration: &Calibration,
     image: &[u16],
     fault: Option<&Fault>,
@@ -148,6 +148,8 @@ fn begin(
     ensures at { IfOk result (λ controller. (plan : List (List ℕ)) (drive : List DriveRow) →
         IsAt (run_by calibration.now image.now (option_copied fault.entry) plan drive) 0 controller) }
     ensures ticks { IfOk result (λ controller. controller.kept.ticks ≡ 0) }
+    ensures sure { IfOk result (λ controller. IsTrue controller.kept.memory.sure) }
+    ensures begins { IsOk result }
 {
     let engine = GasolineEngine::new(calibration.plant().copy());
     let fault = copied(fault);
@@ -196,7 +198,7 @@ fn make_rows(
 }
 
 /// The row of the next tick of a run, by a controller that has made all before it.
-fn make_row(
+pub(crate) fn make_row(
     controller: &mut Controller<GasolineEngine, FlatMemory>,
     plan: &SlicePlan,
     drive: &Drive,
@@ -210,6 +212,8 @@ fn make_row(
     ensures row { (r : Run) → r.plan ≡ plan.now → drive_at r tick ≡ drive.now → IsAt r tick controller.old →
         IfOk result (λ row. row ≡ row_at gasoline r tick) }
     ensures ticks { OnOk result (controller.new.kept.ticks ≡ tick + 1) }
+    ensures sure { IsTrue controller.old.kept.memory.sure → IsOk result }
+    ensures stays_sure { controller.new.kept.memory.sure ≡ controller.old.kept.memory.sure }
     ensures count { steps.new.count ≡ (steps.old.count + 1) % 2 ^ 64 }
     ensures weight { IfOk result (λ row.
         steps.new.weights ≡ (steps.old.weights + weight_of row) % 2 ^ 64) }

@@ -1,0 +1,44 @@
+-- What a run comes to where its rows aren't kept: their facts, and the trap. And what the facts tell of the
+-- reaction, for drives that never reset the unit: such a run is one drive span from tick 0 on.
+use Rattle.std.specs.Prelude.{◌≡◌, ℕ, ◌+◌, ◌<◌, true, false, List, All, length, Option, IfSome, IsSomeAnd, MatchOption}
+use Rattle.eg_num.specs.Drive.{DriveRow}
+use Rattle.eg_fault.specs.declared.class.Fault.{Fault}
+use Rattle.eg_word.specs.declared.registers.Trap.{Trap}
+use Rattle.eg_record.specs.declared.facts.Facts.{Facts}
+use Rattle.eg_record.specs.Facts.{facts_of}
+use Rattle.eg_model.specs.Premises.{IsProperRun}
+use Rattle.eg_model.specs.Reaction.{is_at_once}
+use Rattle.eg_model.specs.Engines.{gasoline}
+use Rattle.eg_model.specs.Bench.{Run, entries_to}
+use Rattle.eg_model.specs.Rows.{record_rows, record_trap}
+
+-- the facts of the record of a run
+unfoldable pub record_facts : Run → Facts
+record_facts r = facts_of r.setting.cal.rules.torque r.setting.cal.rules.threshold (record_rows gasoline r)
+
+-- A run comes to these facts and this trap. What came in at each of its ticks was proper.
+pub record IsToldOf (r : Run) (facts : Facts) (trap : Option (Trap × ℕ)) : Type 0 where
+  pub facts_are : facts ≡ record_facts r
+  pub trap_is : trap ≡ record_trap gasoline r
+  pub proper : IsProperRun r.setting (entries_to gasoline r (length r.drive))
+
+-- ---- the reaction ----
+
+-- no row of the drive resets the unit
+abbrev pub IsWithoutReset : List DriveRow → Type 0
+IsWithoutReset drive = All (λ row. row.reset ≡ false) drive
+
+-- from `bound` ticks after the first tick by which the true excess is confirmed, the stages are off
+abbrev pub FactsReactWithin : (bound : ℕ) → Facts → Type 0
+FactsReactWithin bound facts = IfSome facts.confirmed (λ c. IfSome facts.last_on (λ last. last < c + bound))
+
+-- where the fault, if any, is one under which the reaction is at once then, they are off from the next tick on
+abbrev pub FactsReactAtOnce : Option Fault → Facts → Type 0
+FactsReactAtOnce fault facts =
+    IfSome facts.confirmed (λ c. is_at_once fault (c + 1) ≡ true → IfSome facts.last_on (λ last. last < c + 1))
+
+-- The stages are on from the first tick on, go off once at most, and never come on again: the last tick at
+-- which they are on is right before the first at which they are off, or is the last of the run.
+abbrev pub GoOffOnce : Facts → Type 0
+GoOffOnce facts =
+    IsSomeAnd facts.last_on (λ last. MatchOption facts.off (last + 1 ≡ facts.ticks) (λ off. last + 1 ≡ off))

@@ -1,0 +1,149 @@
+// The facts of a run of a gasoline engine on the bench.
+ghost use Rattle.std.specs.Prelude.{◌≡◌, ℕ, ◌+◌, ◌%◌, ◌^◌, ◌≤◌, ◌<◌, true, None, List, map, length, IsTrue};
+ghost use Rattle.std.specs.Option.{option_copied};
+ghost use Rattle.std.specs.List.{sum};
+ghost use Rattle.eg_guard.specs.declared.regions.TheConstants.{DATA as CODE_END};
+ghost use Rattle.eg_num.specs.Drive.{DriveRow};
+ghost use Rattle.eg_answer.specs.Times.{reaction_of};
+ghost use Rattle.eg_fault.specs.Faults.{IsListed, IsNoneOrValid};
+ghost use Rattle.eg_model.specs.Engines.{gasoline};
+ghost use Rattle.eg_model.specs.Bench.{Run, drive_at};
+ghost use Rattle.eg_model.specs.Rows.{record_rows, record_trap};
+ghost use Rattle.eg_model.specs.Records.{row_at};
+ghost use Rattle.eg_record.specs.Facts.{facts_of};
+ghost use Rattle.eg_tick.specs.Weights.{weight_of};
+ghost use Rattle.eg_tick.specs.Run.{run_by, IsAt};
+ghost use Rattle.eg_tick.specs.Facts.{IsToldOf, IsWithoutReset, FactsReactWithin, FactsReactAtOnce, GoOffOnce};
+
+use crate::run::{begin, make_row};
+use crate::{Controller, SlicePlan, Ticks};
+use eg_fault::Fault;
+use eg_guard::FlatMemory;
+use eg_num::Drive;
+use eg_plant::GasolineEngine;
+use eg_record::{Facts, Row, Tally};
+use eg_values::Calibration;
+use eg_word::Trap;
+
+/// Runs a gasoline engine of the calibration's plant from rest on the bench, one tick for each drive row, and
+/// tells the facts of the rows, and level 1's trap with the tick at which it came, if any (docs/CONCEPT.md,
+/// "A run, tick by tick" and "The report of a run"). The ticks are counted in `steps`. It keeps no row, takes
+/// no memory and refuses nothing.
+///
+/// Facts know no full-efficiency excess, so they can't say at which tick the sharp cut comes, and no stretch
+/// of true excess, so they say nothing of lapses. `run_one` does.
+pub fn run_facts(
+    calibration: &Calibration,
+    image: &[u16],
+    plan: &SlicePlan,
+    drive: &[Drive],
+    fault: Option<&Fault>,
+    steps: &mut Ticks,
+) -> (Facts, Option<(Trap, u32)>)
+    requires some { 1 ≤ length drive.now }
+    requires most { length drive.now ≤ 20000 }
+    requires image { length image.now ≤ CODE_END }
+    requires fault { IsNoneOrValid (option_copied fault) }
+    // They are those of the record of the run in the model.
+    ensures facts { result.0 ≡ facts_of calibration.now.rules.torque calibration.now.rules.threshold
+        (record_rows gasoline
+        (run_by calibration.now image.now (option_copied fault.entry) plan.now drive.now)) }
+    ensures trap { result.1 ≡ record_trap gasoline
+        (run_by calibration.now image.now (option_copied fault.entry) plan.now drive.now) }
+    // The reaction theorem, where the drive never resets the unit: the stages are off in time after a
+    // confirmed torque excess, and under most faults at once.
+    ensures reacts { IsListed (option_copied fault.entry) → IsWithoutReset drive.now →
+        FactsReactWithin (reaction_of calibration.now.times) result.0 }
+    ensures at_once { IsListed (option_copied fault.entry) → IsWithoutReset drive.now →
+        FactsReactAtOnce (option_copied fault.entry) result.0 }
+    // Without a fault they go off once at most.
+    ensures once { option_copied fault.entry ≡ None → IsWithoutReset drive.now → GoOffOnce result.0 }
+    // Each tick is counted, and each row of the record is weighed.
+    ensures counted { steps.new ≡ record {
+      count = (steps.old.count + length drive.now) % 2 ^ 64;
+      weights = (steps.old.weights + sum (map weight_of (record_rows gasoline
+          (run_by calibration.now image.now (option_copied fault.entry) plan.now drive.now)))) % 2 ^ 64;
+    } }
+{
+    // Whoever reads it learns that the calibration is an accepted one.
+    let _rules = calibration.rules();
+    tally_run(calibration, image, plan, drive, fault, steps)
+}
+
+/// The run itself.
+fn tally_run(
+    calibration: &Calibration,
+    image: &[u16],
+    plan: &SlicePlan,
+    drive: &[Drive],
+    fault: Option<&Fault>,
+    steps: &mut Ticks,
+) -> (Facts, Option<(Trap, u32)>)
+    requires most { length drive.now ≤ 20000 }
+    requires image { length image.now ≤ CODE_END }
+    requires fault { IsNoneOrValid (option_copied fault) }
+    ensures told { IsToldOf
+        (run_by calibration.now image.now (option_copied fault.entry) plan.now drive.now)
+        result.0 result.1 }
+    ensures counted { steps.new ≡ record {
+      count = (steps.old.count + length drive.now) % 2 ^ 64;
+      weights = (steps.old.weights + sum (map weight_of (record_rows gasoline
+          (run_by calibration.now image.now (option_copied fault.entry) plan.now drive.now)))) % 2 ^ 64;
+    } }
+{
+    // Whoever reads them learns that both numbers are a u64.
+    let _numbers = (steps.count(), steps.sum());
+    let rules = calibration.rules();
+    let mut tally = Tally::new(rules.threshold, rules.torque);
+    let mut controller = begin_surely(calibration, image, fault);
+    for tick in 0..drive.len() {
+        let row = sure_row(&mut controller, plan, &drive[tick], tick as u32, steps);
+        tally.feed(&row);
+    }
+    (tally.facts(), controller.trap())
+}
+
+/// A controller of an engine at rest, that has made no tick, over a memory that never runs out.
+fn begin_surely(
+    calibration: &Calibration,
+    image: &[u16],
+    fault: Option<&Fault>,
+) -> Controller<GasolineEngine, FlatMemory>
+    requires image { length image.now ≤ CODE_END }
+    requires fault { IsNoneOrValid (option_copied fault) }
+    ensures at { (plan : List (List ℕ)) (drive : List DriveRow) →
+        IsAt (run_by calibration.now image.now (option_copied fault.entry) plan drive) 0 result }
+    ensures ticks { result.kept.ticks ≡ 0 }
+    ensures sure { IsTrue result.kept.memory.sure }
+{
+    match begin(calibration, image, fault) {
+        Ok(controller) => controller,
+        Err(_) => unreachable!("a sure memory never runs out"),
+    }
+}
+
+/// The row of the next tick of a run, by a controller that has made all before it.
+fn sure_row(
+    controller: &mut Controller<GasolineEngine, FlatMemory>,
+    plan: &SlicePlan,
+    drive: &Drive,
+    tick: u32,
+    steps: &mut Ticks,
+) -> Row
+    requires tick { controller.old.kept.ticks ≡ tick }
+    requires fewer { controller.old.kept.ticks < 20000 }
+    requires sure { IsTrue controller.old.kept.memory.sure }
+    ensures at { (r : Run) → r.plan ≡ plan.now → drive_at r tick ≡ drive.now → IsAt r tick controller.old →
+        IsAt r (tick + 1) controller.new }
+    ensures row { (r : Run) → r.plan ≡ plan.now → drive_at r tick ≡ drive.now → IsAt r tick controller.old →
+        result ≡ row_at gasoline r tick }
+    ensures ticks { controller.new.kept.ticks ≡ tick + 1 }
+    ensures stays_sure { IsTrue controller.new.kept.memory.sure }
+    ensures count { steps.new.count ≡ (steps.old.count + 1) % 2 ^ 64 }
+    ensures weight { steps.new.weights ≡ (steps.old.weights + weight_of result) % 2 ^ 64 }
+{
+    match make_row(controller, plan, drive, tick, steps) {
+        Ok(row) => row,
+        Err(_) => unreachable!("a sure memory never runs out"),
+    }
+}
