@@ -2,8 +2,8 @@
 
 /// Strictly rising points, with a value at each.
 pub struct Table {
-    points: Vec<u16>,
-    values: Vec<u16>,
+    pub points: Vec<u16>,
+    pub values: Vec<u16>,
 }
 
 /// Torques by pedal (rows) and speed (columns), with zeros behind those that are there.
@@ -17,8 +17,8 @@ const MOST_POINTS: usize = 16;
 
 #[derive(Clone, Copy)]
 pub struct Weights {
-    up: u16,
-    down: u16,
+    pub up: u16,
+    pub down: u16,
     pub limit: u16,
 }
 
@@ -34,7 +34,7 @@ pub struct Readings {
 }
 
 /// A test row.
-struct TestRow {
+pub struct TestRow {
     seed: u16,
     readings: Readings,
     used: u16,
@@ -62,6 +62,8 @@ pub struct Times {
 pub struct Calibration {
     pub permit: Permit,
     pub threshold: u16,
+    /// Whether the brake counts.
+    pub brake: bool,
     pub kt: u16,
     pub torque: Weights,
     /// Of pedal, plate, load and speed.
@@ -82,9 +84,11 @@ pub struct Drive {
     pub raise: u16,
     /// Whether a power cycle begins.
     pub reset: bool,
+    /// Whether the driver brakes.
+    pub brake: bool,
 }
 
-fn row(seed: u16, pairs: [[u16; 2]; 4], raise: [u16; 2], test: [u16; 3]) -> TestRow {
+pub fn row(seed: u16, pairs: [[u16; 2]; 4], raise: [u16; 2], test: [u16; 3]) -> TestRow {
     let [pedal, plate, load, speed] = pairs;
     let readings = Readings { pedal, plate, load, speed, raise: raise[0], check: raise[1] };
     TestRow { seed, readings, used: test[0], estimate: test[1], allowed: test[2] }
@@ -105,23 +109,16 @@ fn rows() -> [TestRow; 4] {
     ]
 }
 
-fn torques<const COLUMNS: usize>(rows: &[[u16; COLUMNS]]) -> [[u16; MOST_POINTS]; MOST_POINTS] {
-    let mut all = [[0; MOST_POINTS]; MOST_POINTS];
-    for (place, row) in all.iter_mut().zip(rows) {
-        place[..COLUMNS].copy_from_slice(row);
-    }
-    all
-}
-
 /// The reference calibration.
 pub fn reference() -> Calibration {
     let mut calibration = Calibration {
-        permit: Permit {
-            pedal: vec![0, 500, 1000],
-            speed: vec![800, 3000, 6000],
-            rows: torques(&[[200, 100, 0], [1000, 1200, 900], [2000, 2400, 1800]]),
-        },
+        permit: Permit::new(
+            vec![0, 500, 1000],
+            vec![800, 3000, 6000],
+            &[[200, 100, 0], [1000, 1200, 900], [2000, 2400, 1800]],
+        ),
         threshold: 200,
+        brake: false,
         kt: 2500,
         torque: Weights { up: 1, down: 1, limit: 5 },
         tolerances: [50; 4],
@@ -144,7 +141,7 @@ pub fn reference() -> Calibration {
 
 impl Calibration {
     /// The question that a test row is.
-    fn question(&self, row: &TestRow) -> Question {
+    pub fn question(&self, row: &TestRow) -> Question {
         let read = &row.readings;
         let raise = checked_raise(read.raise, read.check);
         let results = [
@@ -227,6 +224,15 @@ impl Table {
 }
 
 impl Permit {
+    /// A row of torques for each pedal point, with one for each speed point.
+    pub fn new<R: AsRef<[u16]>>(pedal: Vec<u16>, speed: Vec<u16>, torques: &[R]) -> Permit {
+        let mut rows = [[0; MOST_POINTS]; MOST_POINTS];
+        for (place, row) in rows.iter_mut().zip(torques) {
+            place[..row.as_ref().len()].copy_from_slice(row.as_ref());
+        }
+        Permit { pedal, speed, rows }
+    }
+
     /// The torque at a pedal and a speed.
     #[inline(always)]
     fn at(&self, pedal: Spot, speed: u16) -> u16 {
@@ -241,16 +247,10 @@ impl Permit {
         first.min(second).max(raise)
     }
 
-    /// What the table gives for a drive row.
+    /// What the table gives.
     #[inline(always)]
-    pub fn table(&self, drive: &Drive) -> u16 {
-        self.at(Spot::of(&self.pedal, drive.pedal), drive.speed)
-    }
-
-    /// The torque that a drive row permits.
-    #[inline(always)]
-    pub fn limit(&self, drive: &Drive) -> u16 {
-        self.table(drive).max(drive.raise)
+    pub fn table(&self, pedal: u16, speed: u16) -> u16 {
+        self.at(Spot::of(&self.pedal, pedal), speed)
     }
 }
 

@@ -1,10 +1,10 @@
 //! Campaigns.
 
 use std::collections::HashSet;
-use std::ops::RangeInclusive;
 use std::str;
 
 use crate::fault::{Class, Fault};
+use crate::keys::{Keys, number, numbers, tables, truth};
 use crate::toml::{self, Table, Value};
 
 /// A run as the campaign says it.
@@ -28,64 +28,14 @@ pub fn campaign(bytes: &[u8]) -> Option<Vec<Plan>> {
     ((1..=MOST_RUNS).contains(&plans.len()) && names.len() == plans.len()).then_some(plans)
 }
 
-fn tables(value: Value) -> Option<Vec<Table>> {
-    let table = |value| if let Value::Table(table) = value { Some(table) } else { None };
-    list(value)?.into_iter().map(table).collect()
-}
-
-fn list(value: Value) -> Option<Vec<Value>> {
-    if let Value::List(values) = value { Some(values) } else { None }
-}
-
-fn number(value: &Value, range: RangeInclusive<i64>) -> Option<i64> {
-    if let Value::Number(number) = value { range.contains(number).then_some(*number) } else { None }
-}
-
-fn truth(value: &Value) -> Option<bool> {
-    if let Value::Truth(truth) = value { Some(*truth) } else { None }
-}
-
-/// The names of a table that weren't taken yet.
-struct Keys {
-    table: Table,
-}
-
 impl Keys {
-    fn take(&mut self, name: &str) -> Option<Value> {
-        let place = self.table.iter().position(|entry| entry.0 == name)?;
-        Some(self.table.swap_remove(place).1)
-    }
-
-    /// None where a name is left.
-    fn end(&self) -> Option<()> {
-        self.table.is_empty().then_some(())
-    }
-
-    fn text(&mut self, name: &str) -> Option<String> {
-        if let Value::Text(text) = self.take(name)? { Some(text) } else { None }
-    }
-
-    fn number(&mut self, name: &str, range: RangeInclusive<i64>) -> Option<i64> {
-        number(&self.take(name)?, range)
-    }
-
-    fn word(&mut self, name: &str, range: RangeInclusive<i64>) -> Option<u16> {
-        self.number(name, range).map(|number| number as u16)
-    }
-
-    fn place(&mut self, name: &str, range: RangeInclusive<i64>) -> Option<usize> {
-        self.number(name, range).map(|number| number as usize)
-    }
-
     /// A list of 1 to 64 entries.
     fn entries<T>(&mut self, name: &str, entry: impl Fn(&Value) -> Option<T>) -> Option<Vec<T>> {
-        let values = list(self.take(name)?)?;
-        let entries: Vec<T> = values.iter().map(entry).collect::<Option<_>>()?;
-        (1..=64).contains(&entries.len()).then_some(entries)
+        self.list(name, 1..=64, entry)
     }
 
     fn words(&mut self, name: &str) -> Option<Vec<u16>> {
-        self.entries(name, |value| number(value, 0..=65535).map(|number| number as u16))
+        self.numbers(name, 1..=64, 65535)
     }
 
     fn file(&mut self, name: &str) -> Option<String> {
@@ -119,8 +69,8 @@ impl Keys {
 
     fn class(&mut self, name: &str) -> Option<Class> {
         Some(match name {
-            "script" => Class::Script { track: self.place("track", 0..=7)?, values: self.words("values")? },
-            "offset" => Class::Offset { track: self.place("track", 0..=7)?, add: self.offset()? },
+            "script" => Class::Script { track: self.track()?, values: self.words("values")? },
+            "offset" => Class::Offset { track: self.track()?, add: self.offset()? },
             "bus" => Class::Bus { mask: self.mask()? },
             "plate" => Class::Plate { at: self.word("at", 0..=1000)? },
             "skip" => Class::Skip { module: self.place("module", 0..=7)? },
@@ -137,6 +87,11 @@ impl Keys {
             "lapse" => Class::Lapse { after: self.after()?, every: self.every()? },
             _ => return None,
         })
+    }
+
+    /// One of the eight tracks of pairs, or of the two contacts of the brake.
+    fn track(&mut self) -> Option<usize> {
+        self.place("track", 0..=9)
     }
 
     fn mask(&mut self) -> Option<u16> {
@@ -175,12 +130,7 @@ fn plan(table: Table) -> Option<Plan> {
 
 /// Nine numbers, at most 1,000 in all.
 fn slice_row(value: &Value) -> Option<[u16; 9]> {
-    let Value::List(values) = value else { return None };
-    let budgets: Vec<u16> = values
-        .iter()
-        .map(|value| number(value, 0..=1000).map(|budget| budget as u16))
-        .collect::<Option<_>>()?;
-    let row: [u16; 9] = budgets.try_into().ok()?;
+    let row: [u16; 9] = numbers(value, 9..=9, 1000)?.try_into().ok()?;
     (row.iter().sum::<u16>() <= 1000).then_some(row)
 }
 

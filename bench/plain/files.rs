@@ -90,12 +90,19 @@ impl<'a> Records<'a> {
         let speed = self.number(8000)?;
         self.comma()?;
         let raise = self.number(10000)?;
-        Some(Drive { pedal, speed, raise, reset: false })
+        Some(Drive { pedal, speed, raise, reset: false, brake: false })
     }
 
-    /// A field that tells whether a power cycle begins.
     #[inline(always)]
-    fn reset(&mut self) -> Option<bool> {
+    fn drive_with_reset(&mut self) -> Option<Drive> {
+        let drive = self.drive()?;
+        self.comma()?;
+        Some(Drive { reset: self.truth()?, ..drive })
+    }
+
+    /// A field that tells whether something is so.
+    #[inline(always)]
+    fn truth(&mut self) -> Option<bool> {
         let [digit @ (b'0' | b'1'), rest @ ..] = self.rest else { return None };
         self.rest = rest;
         Some(*digit == b'1')
@@ -109,12 +116,15 @@ impl<'a> Records<'a> {
 
 /// The rows of a trace.
 pub fn trace(bytes: &[u8]) -> Option<Vec<Drive>> {
-    match Records::below(bytes, "pedal,speed,raise,reset") {
-        Some(records) => rows(records, bytes.len() / 8, |records| {
-            let drive = records.drive()?;
+    if let Some(records) = Records::below(bytes, "pedal,speed,raise,reset,brake") {
+        return rows(records, bytes.len() / 10, |records| {
+            let drive = records.drive_with_reset()?;
             records.comma()?;
-            Some(Drive { reset: records.reset()?, ..drive })
-        }),
+            Some(Drive { brake: records.truth()?, ..drive })
+        });
+    }
+    match Records::below(bytes, "pedal,speed,raise,reset") {
+        Some(records) => rows(records, bytes.len() / 8, Records::drive_with_reset),
         None => rows(Records::below(bytes, "pedal,speed,raise")?, bytes.len() / 6, Records::drive),
     }
 }

@@ -1,7 +1,7 @@
 //! Level 2: eight modules over mirrored words.
 
 use crate::calibration::{
-    Calibration, Drive, Question, Readings, checked_raise, estimate, exceeds, folded, lower_pedal, pair_bits,
+    Calibration, Question, Readings, checked_raise, estimate, exceeds, folded, lower_pedal, pair_bits,
 };
 use crate::level1::Words;
 
@@ -92,13 +92,20 @@ fn pair(words: &Words, number: usize) -> [u16; 2] {
     [words[PORTS + number], words[PORTS + number + 1]]
 }
 
+/// What the permit table gives for a pedal and a speed.
+#[derive(Clone, Copy)]
+pub struct Known {
+    pub pedal: u16,
+    pub speed: u16,
+    pub torque: u16,
+}
+
 /// What the modules go by in a tick.
 pub struct Rules<'a> {
     pub cal: &'a Calibration,
     pub asked: &'a Question,
-    pub drive: &'a Drive,
-    /// What the permit table gives for the drive row: mostly that is asked for again.
-    pub table: u16,
+    /// A pedal, a speed, and what the permit table gives for them: mostly that is asked for again.
+    pub known: Known,
     /// Whether the engine is driven. Else the paths are tested: no debouncer is fed, and no answer is sent.
     pub drives: bool,
 }
@@ -139,9 +146,12 @@ impl Rules<'_> {
     pub fn permitted(&self, words: &mut Words, disturbance: u16) {
         let (pedal, speeds) = (words[USED], pair(words, 6));
         let raise = checked_raise(words[PORTS + 8], words[PORTS + 9]);
-        let is_known = pedal == self.drive.pedal && speeds == [self.drive.speed; 2];
-        let signal =
-            if is_known { self.table.max(raise) } else { self.cal.permit.permitted(pedal, speeds, raise) };
+        let is_known = pedal == self.known.pedal && speeds == [self.known.speed; 2];
+        let signal = if is_known {
+            self.known.torque.max(raise)
+        } else {
+            self.cal.permit.permitted(pedal, speeds, raise)
+        };
         self.write(words, 2, signal, disturbance);
     }
 

@@ -1,14 +1,16 @@
 //! The whole program as plain Rust, written to be fast: one array of words for all three levels, plain structs,
-//! and no allocation in a tick. It takes the words and files that `egasim` takes, by the reference
-//! calibration, and writes what it writes; notes it has none. It was written from docs/ and is measured beside
-//! the proved program by `bench/unit` and `bench/all`. A record is put as there, a line a write. Nothing of it
-//! is proved.
-//! Usage: check FILE, run CAMPAIGN, record CAMPAIGN RUN, soak SEED RUNS
+//! and no allocation in a tick. It takes the words and files that `egasim` takes, and writes what it writes;
+//! notes it has none. It was written from docs/ and is measured beside the proved program by `bench/unit` and
+//! `bench/all`. A record is put as there, a line a write. Nothing of it is proved.
+//! Usage: check [--cal NAME] FILE, bound [--cal NAME], run [--cal NAME] CAMPAIGN,
+//! record [--cal NAME] CAMPAIGN RUN, soak SEED RUNS
 
 mod calibration;
+mod calibration_file;
 mod campaign;
 mod fault;
 mod files;
+mod keys;
 mod level1;
 mod level2;
 mod level3;
@@ -53,7 +55,8 @@ fn check(cal: &Calibration, file: &str, out: &mut Output) -> Result<(), End> {
     let (mut tick, mut counter, mut confirmed) = (0, 0, None);
     let bytes = files::records(file)?;
     let show = |drive: &Drive, torque| {
-        counter = cal.torque.feed(counter, exceeds(torque, cal.permit.limit(drive), cal.threshold));
+        let limit = cal.permit.table(drive.pedal, drive.speed).max(drive.raise);
+        counter = cal.torque.feed(counter, exceeds(torque, limit, cal.threshold));
         if confirmed.is_none() && counter >= cal.torque.limit {
             confirmed = Some(tick);
         }
@@ -65,6 +68,11 @@ fn check(cal: &Calibration, file: &str, out: &mut Output) -> Result<(), End> {
         Some(tick) => writeln!(out, "torque {tick}")?,
     }
     Ok(())
+}
+
+/// The reaction time.
+fn bound(cal: &Calibration, out: &mut Output) -> Result<(), End> {
+    Ok(writeln!(out, "reaction {}", cal.times.reaction())?)
 }
 
 fn campaign(file: &str) -> Result<Vec<Plan>, End> {
@@ -141,16 +149,28 @@ fn soak(cal: &Calibration, seed: &str, runs: &str, out: &mut Output) -> Result<(
     Ok(out.write_all(soak::soak(cal, seed, runs).as_bytes())?)
 }
 
+/// The calibration of a file, or the reference calibration.
+fn calibration(name: Option<&str>) -> Result<Calibration, End> {
+    match name {
+        Some(name) => calibration_file::calibration(&files::bytes(name)?).ok_or(End::Refused),
+        // The compiler is not to know the numbers of the calibration: the proved program takes any.
+        None => Ok(black_box(reference())),
+    }
+}
+
 /// Does the command of these words.
 fn command(words: &[&str]) -> Result<(), End> {
-    // The compiler is not to know the numbers of the calibration: the proved program takes any.
-    let cal = black_box(reference());
     let out = &mut BufWriter::with_capacity(1 << 16, File::from(io::stdout().as_fd().try_clone_to_owned()?));
-    match *words {
-        ["check", file] => check(&cal, file, out),
-        ["run", file] => run(&cal, file, out),
-        ["record", file, name] => record(&cal, file, name, out),
-        ["soak", seed, runs] => soak(&cal, seed, runs, out),
+    let (name, words) = match *words {
+        [command, "--cal", name, ref rest @ ..] => (Some(name), [&[command], rest].concat()),
+        _ => (None, words.to_vec()),
+    };
+    match (words.as_slice(), name) {
+        (["bound"], _) => bound(&calibration(name)?, out),
+        (["check", file], _) => check(&calibration(name)?, file, out),
+        (["run", file], _) => run(&calibration(name)?, file, out),
+        (["record", file, run], _) => record(&calibration(name)?, file, run, out),
+        (["soak", seed, runs], None) => soak(&calibration(None)?, seed, runs, out),
         _ => Err(End::Usage),
     }?;
     Ok(out.flush()?)

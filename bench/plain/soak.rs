@@ -63,7 +63,7 @@ impl Draws {
         let mut drives = Vec::with_capacity(2000);
         for _ in 0..20 {
             let (pedal, speed, raise) = (self.word(1001), 800 + self.word(5201), self.word(500));
-            drives.extend([Drive { pedal, speed, raise, reset: false }; 100]);
+            drives.extend([Drive { pedal, speed, raise, reset: false, brake: false }; 100]);
         }
         drives
     }

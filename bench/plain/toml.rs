@@ -1,5 +1,5 @@
-//! As much of TOML as campaigns are commonly written in: tables, arrays of tables, integers, truth values,
-//! and texts in double quotes without escapes or in single ones.
+//! As much of TOML as campaigns and calibrations are commonly written in: tables, arrays of tables, integers,
+//! truth values, and texts in double quotes without escapes or in single ones.
 
 /// A value, or a table by its names.
 pub enum Value {
@@ -155,6 +155,15 @@ fn add<'a>(table: &'a mut Table, names: &[String]) -> Option<&'a mut Table> {
     if deeper.is_empty() { Some(last) } else { add(last, deeper) }
 }
 
+/// Begins the table of this name, which there isn't yet.
+fn begin(table: &mut Table, name: &str) -> Option<()> {
+    if table.iter().any(|entry| entry.0 == name) {
+        return None;
+    }
+    table.push((name.to_string(), Value::Table(Table::new())));
+    Some(())
+}
+
 /// The table of a document, or None where it is refused.
 pub fn document(text: &str) -> Option<Table> {
     let mut reader = Reader { rest: text };
@@ -168,6 +177,10 @@ pub fn document(text: &str) -> Option<Table> {
         if reader.takes("[[") {
             names = reader.heading()?;
             add(&mut table, &names)?;
+        } else if reader.takes("[") {
+            names = vec![reader.name()?];
+            reader.expects("]")?;
+            begin(&mut table, &names[0])?;
         } else {
             reader.entry(current(&mut table, &names)?)?;
         }
@@ -178,13 +191,13 @@ pub fn document(text: &str) -> Option<Table> {
     }
 }
 
-/// The table that entries belong to: the last of the array of tables of these names.
+/// The table that entries belong to: that of these names, or the last of their array of tables.
 fn current<'a>(table: &'a mut Table, names: &[String]) -> Option<&'a mut Table> {
     let Some((name, deeper)) = names.split_first() else {
         return Some(table);
     };
-    let entry = table.iter_mut().find(|entry| entry.0 == *name)?;
-    let Value::List(list) = &mut entry.1 else { return None };
-    let Some(Value::Table(last)) = list.last_mut() else { return None };
+    let value = &mut table.iter_mut().find(|entry| entry.0 == *name)?.1;
+    let last = if let Value::List(list) = value { list.last_mut()? } else { value };
+    let Value::Table(last) = last else { return None };
     current(last, deeper)
 }

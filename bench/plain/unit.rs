@@ -3,7 +3,7 @@
 use crate::calibration::{Calibration, Drive, Question, moved_toward};
 use crate::fault::{Effects, Fault, Reading};
 use crate::level1::{Machine, State, Trap, Words};
-use crate::level2::{self, DATA, IGNITION, PORTS, Rules, SIGNALS, THROTTLE, Watches};
+use crate::level2::{self, DATA, IGNITION, Known, PORTS, Rules, SIGNALS, THROTTLE, Watches};
 use crate::level3::{self, Judgement, Mark, Monitor};
 
 struct Engine {
@@ -25,19 +25,33 @@ impl Engine {
         self.torque = if on { (full * u64::from(ignition) / 1_000_000) as u16 } else { 0 };
     }
 
-    /// The ten input ports: the tracks, the raise and its check word.
+    /// The ten tracks: those of the pairs, and the contacts of the brake.
     #[inline(always)]
-    fn ports(&self, drive: &Drive, effects: &Effects) -> [u16; 10] {
+    fn tracks(&self, drive: &Drive, effects: &Effects) -> [u16; 10] {
         let (pedal, plate, load, speed) = (drive.pedal, self.plate, self.charge, drive.speed);
-        let raise = drive.raise ^ effects.raise;
-        let mut ports =
-            [pedal, 1000 - pedal, plate, 1000 - plate, load, load, speed, speed, raise, !drive.raise];
+        let brake = u16::from(drive.brake);
+        let mut tracks =
+            [pedal, 1000 - pedal, plate, 1000 - plate, load, load, speed, speed, brake, 1 - brake];
         match effects.track {
             None => {}
-            Some((track, Reading::Value(value))) => ports[track] = value,
+            Some((track, Reading::Value(value))) => tracks[track] = value,
             Some((track, Reading::Offset(add))) => {
-                ports[track] = (i32::from(ports[track]) + add).clamp(0, 65535) as u16;
+                tracks[track] = (i32::from(tracks[track]) + add).clamp(0, 65535) as u16;
             }
+        }
+        tracks
+    }
+
+    /// The ten input ports: the tracks of the pairs, the raise and its check word. Where the brake counts, and a
+    /// contact says that it is pressed, pedal and raise are 0.
+    #[inline(always)]
+    fn ports(&self, cal: &Calibration, drive: &Drive, effects: &Effects) -> [u16; 10] {
+        let mut ports = self.tracks(drive, effects);
+        let [first, second] = [ports[8], ports[9]];
+        (ports[8], ports[9]) = (drive.raise ^ effects.raise, !drive.raise);
+        if cal.brake && (first != 0 || second == 0) {
+            (ports[0], ports[1]) = (0, 1000);
+            (ports[8], ports[9]) = (0, !0);
         }
         ports
     }
@@ -158,10 +172,11 @@ impl<'a> Unit<'a> {
         let on = DRIVES && path1 && path2;
         let commands = [self.words[THROTTLE], self.words[IGNITION]];
         self.engine.step(self.cal, commands, on, effects.held);
-        self.words[PORTS..PORTS + 10].copy_from_slice(&self.engine.ports(drive, effects));
+        self.words[PORTS..PORTS + 10].copy_from_slice(&self.engine.ports(self.cal, drive, effects));
         let asked = self.asked(effects);
-        let table = self.cal.permit.table(drive);
-        let rules = Rules { cal: self.cal, asked, drive, table, drives: DRIVES };
+        let brakes = self.cal.brake && drive.brake;
+        let known = self.known(if brakes { 0 } else { drive.pedal }, drive.speed);
+        let rules = Rules { cal: self.cal, asked, known, drives: DRIVES };
         let mut orders = self.levels(budget, &rules, effects);
         self.open1 |= orders.opens;
         let mark = level3::mark(asked, orders.answer);
@@ -176,10 +191,16 @@ impl<'a> Unit<'a> {
             orders.found[7] = !self.passed;
         }
         let testing = !DRIVES && self.local <= self.test_ticks;
-        let limit = table.max(drive.raise);
+        let limit = if brakes { known.torque } else { known.torque.max(drive.raise) };
         let row = Row { testing, ..self.row(drive, limit, [path1, path2, on], orders.found, &judged) };
         self.advance();
         row
+    }
+
+    /// What the permit table gives for a pedal and a speed.
+    #[inline(always)]
+    fn known(&self, pedal: u16, speed: u16) -> Known {
+        Known { pedal, speed, torque: self.cal.permit.table(pedal, speed) }
     }
 
     /// The question that is asked at this tick.

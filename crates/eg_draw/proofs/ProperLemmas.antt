@@ -5,7 +5,7 @@ use Rattle.std.specs.List.Sorted.{IsStrictlyIncreasing}
 use Rattle.std.proofs.lemmas.List.{length-append, length-replicate, length-take-le, get_or-take}
 use Rattle.std.proofs.lemmas.List.Elements.{All-nil, All-cons, All-append, All-replicate, All-map, All-take, All-from_get_or}
 use Rattle.eg_num.specs.Drive.{IsDrive}
-use Rattle.eg_sensor.specs.declared.tracks.TheConstants.{TRACKS}
+use Rattle.eg_sensor.specs.declared.tracks.TheConstants.{PAIRED_TRACKS}
 use Rattle.eg_answer.specs.declared.modules.TheConstants.{PAIRS, MODULES}
 use Rattle.eg_answer.specs.declared.words.TheConstants.{STORED_WORDS}
 use Rattle.eg_fault.specs.Faults.{AreFew, IsMask, IsValid, IsValidClass}
@@ -122,11 +122,11 @@ values-words x =
 ticks-early : All (λ k. k ≤ 19999) (0 ∷ 1 ∷ 2 ∷ 3 ∷ 4 ∷ 5 ∷ 6 ∷ 7 ∷ [])
 ticks-early = search (arith, All-cons, All-nil) depth 20
 
-script-valid : (x : ℕ) → IsValidClass (Script (draw x % TRACKS) (four_values (next x)))
+script-valid : (x : ℕ) → IsValidClass (Script (draw x % PAIRED_TRACKS) (four_values (next x)))
 unfolding IsValidClass
 script-valid x = (omega arith, values-few (next x), values-words (next x))
 
-offset-valid : (x : ℕ) → IsValidClass (Offset (draw x % TRACKS) (pos (one_of 500 (next x))))
+offset-valid : (x : ℕ) → IsValidClass (Offset (draw x % PAIRED_TRACKS) (pos (one_of 500 (next x))))
 unfolding IsValidClass
 offset-valid x =
     let most : one_of 500 (next x) ≤ 500 = one_of-most 500 (next x) (lit< tt) in

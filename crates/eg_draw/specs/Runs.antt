@@ -2,7 +2,7 @@
 -- what each part gives stands how many draws it takes.
 use Rattle.std.specs.Prelude.{ℕ, zero, suc, ◌≡◌, ◌+◌, ◌%◌, ◌≤◌, ◌==◌, pos, false, List, [], ◌∷◌, ◌++◌, map, replicate, take, slice_index, slice_set, length, All, Option, Some, None, IfSome, if◌then◌else◌}
 use Rattle.eg_num.specs.Drive.{DriveRow, driven, IsDrive}
-use Rattle.eg_sensor.specs.declared.tracks.TheConstants.{TRACKS}
+use Rattle.eg_sensor.specs.declared.tracks.TheConstants.{PAIRED_TRACKS}
 use Rattle.eg_word.specs.declared.images.TheConstants.{IDLE, FULL}
 use Rattle.eg_answer.specs.declared.modules.TheConstants.{PAIRS, MODULES}
 use Rattle.eg_answer.specs.declared.words.TheConstants.{STORED_WORDS}
@@ -63,11 +63,11 @@ four_values x = map (λ d. d % 1001) (draws 4 x)
 unfoldable pub first_ticks : ℕ → List ℕ
 first_ticks x = take (one_of 8 x) (0 ∷ 1 ∷ 2 ∷ 3 ∷ 4 ∷ 5 ∷ 6 ∷ 7 ∷ [])
 
--- the class of a number, 0 to 13, in the order of `Class`
+-- the class of a number, 0 to 13, in the order of `Class`; a faulty track is one of a pair, and no contact
 unfoldable pub class_of : ℕ → ℕ → Class
 class_of class x =
-    if class == 0 then Script (draw x % TRACKS) (four_values (next x))
-    else if class == 1 then Offset (draw x % TRACKS) (pos (one_of 500 (next x)))
+    if class == 0 then Script (draw x % PAIRED_TRACKS) (four_values (next x))
+    else if class == 1 then Offset (draw x % PAIRED_TRACKS) (pos (one_of 500 (next x)))
     else if class == 2 then Bus (drawn_mask x)
     else if class == 3 then Plate (draw x % 1001)
     else if class == 4 then Skip (draw x % MODULES)

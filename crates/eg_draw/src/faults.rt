@@ -1,6 +1,6 @@
 // The faults of drawn runs.
 ghost use Rattle.std.specs.Prelude.{◌≡◌, ◌≤◌, ◌<◌, ◌%◌, pos, false, [], ◌∷◌, length};
-ghost use Rattle.eg_sensor.specs.declared.tracks.TheConstants.{TRACKS};
+ghost use Rattle.eg_sensor.specs.declared.tracks.TheConstants.{PAIRED_TRACKS};
 ghost use Rattle.eg_answer.specs.declared.modules.TheConstants.{PAIRS};
 ghost use Rattle.eg_answer.specs.declared.words.TheConstants.{STORED_WORDS};
 ghost use Rattle.eg_fault.specs.declared.class.Class.TheVariants as classes;
@@ -10,7 +10,7 @@ ghost use Rattle.eg_draw.specs.Runs.{one_of, drawn_mask, four_values, first_tick
 use crate::Generator;
 use eg_answer::{MODULES, PAIRS, STORED_WORDS};
 use eg_fault::{Class, Fault, Opens, PATH_2, Script};
-use eg_sensor::TRACKS;
+use eg_sensor::PAIRED_TRACKS;
 
 /// The ticks of the longest lapse.
 const TICKS: [u16; 8] = [0, 1, 2, 3, 4, 5, 6, 7];
@@ -95,13 +95,13 @@ impl Generator {
         self.one_of(65_535)
     }
 
-    /// Draws a track, and four values that it reads in turn.
+    /// Draws a track of a pair, and four values that it reads in turn.
     #[tactic(auto, using(crate::proofs::DrawLemmas::single))]
     fn script(&mut self) -> Class
-        ensures class { result ≡ classes.Script (draw self.old % TRACKS) (four_values (next self.old)) }
+        ensures class { result ≡ classes.Script (draw self.old % PAIRED_TRACKS) (four_values (next self.old)) }
         ensures state { self.new ≡ after 5 self.old }
     {
-        let track = self.below(u16::from(TRACKS)) as u8;
+        let track = self.below(u16::from(PAIRED_TRACKS)) as u8;
         let first = self.below(1001);
         let second = self.below(1001);
         let third = self.below(1001);
@@ -110,13 +110,13 @@ impl Generator {
         Class::Script { track, values }
     }
 
-    /// Draws a track, and what it reads too much.
+    /// Draws a track of a pair, and what it reads too much.
     #[tactic(auto, using(crate::proofs::DrawLemmas::single))]
     fn offset(&mut self) -> Class
-        ensures class { result ≡ classes.Offset (draw self.old % TRACKS) (pos (one_of 500 (next self.old))) }
+        ensures class { result ≡ classes.Offset (draw self.old % PAIRED_TRACKS) (pos (one_of 500 (next self.old))) }
         ensures state { self.new ≡ after 2 self.old }
     {
-        let track = self.below(u16::from(TRACKS)) as u8;
+        let track = self.below(u16::from(PAIRED_TRACKS)) as u8;
         let add = i32::from(self.one_of(500));
         Class::Offset { track, add }
     }

@@ -9,7 +9,7 @@ use Rattle.std.proofs.lemmas.List.Kept.{AllPairs-cons}
 use Rattle.std.proofs.lemmas.Slice.Eq.{bytes_eq-Decides}
 use Rattle.toml.specs.Data.{Members, Items, no_items, item}
 use Rattle.eg_toml.specs.Arrays.{count}
-use Rattle.eg_sensor.specs.declared.tracks.TheConstants.{PEDAL_1, SPEED_2, TRACKS}
+use Rattle.eg_sensor.specs.declared.tracks.TheConstants.{PEDAL_1, BRAKE_2, TRACKS}
 use Rattle.eg_answer.specs.declared.modules.TheConstants.{CHECK, PEDAL, PAIRS, REACT, MODULES}
 use Rattle.eg_answer.specs.declared.words.TheConstants.{STORED_WORDS}
 use Rattle.eg_fault.specs.Faults.{IsValid, IsValidClass}
@@ -47,8 +47,8 @@ class-valid : (name : ClassName) (n : ℕ) (ms : Members) → AllByRecursion (λ
 unfolding IsValidClass
 class-valid Script n ms h =
     let values = words-held n key.Values ms h.1.0 in
-    (below _ SPEED_2 TRACKS refl (number-held PEDAL_1 SPEED_2 n key.Track ms h.0).1, values.0, values.1)
-class-valid Offset n ms h = (below _ SPEED_2 TRACKS refl (number-held PEDAL_1 SPEED_2 n key.Track ms h.0).1, shift-held n key.Add ms h.1.0)
+    (below _ BRAKE_2 TRACKS refl (number-held PEDAL_1 BRAKE_2 n key.Track ms h.0).1, values.0, values.1)
+class-valid Offset n ms h = (below _ BRAKE_2 TRACKS refl (number-held PEDAL_1 BRAKE_2 n key.Track ms h.0).1, shift-held n key.Add ms h.1.0)
 class-valid Bus n ms h = number-held 1 65535 n key.Mask ms h.0
 class-valid Plate n ms h = (number-held 0 1000 n key.At ms h.0).1
 class-valid Skip n ms h = below _ REACT MODULES refl (number-held CHECK REACT n key.Module ms h.0).1

@@ -1,6 +1,6 @@
 -- The keys of a campaign file, and the table of what each may hold.
 use Rattle.std.specs.Prelude.{ℕ, ◌-◌, List, [], ◌∷◌, codes}
-use Rattle.eg_sensor.specs.declared.tracks.TheConstants.{PEDAL_1, SPEED_2}
+use Rattle.eg_sensor.specs.declared.tracks.TheConstants.{PEDAL_1, BRAKE_2}
 use Rattle.eg_answer.specs.declared.modules.TheConstants.{CHECK, PEDAL, PAIRS, REACT}
 use Rattle.eg_answer.specs.declared.words.TheConstants.{STORED_WORDS}
 use Rattle.eg_fault.specs.declared.paths.TheConstants.{PATH_1, PATH_2}
@@ -78,7 +78,7 @@ abbrev pub onset : KeyRule
 onset = Onset holds number 0 19999
 
 abbrev pub track : KeyRule
-track = Track holds number PEDAL_1 SPEED_2
+track = Track holds number PEDAL_1 BRAKE_2
 
 abbrev pub values : KeyRule
 values = Values holds words

@@ -11,7 +11,7 @@ use crate::contents::{index, number, optional, shift, ticks, truths, words};
 use crate::{CampaignFault, RunKey};
 use eg_answer::{CHECK, PAIRS, PEDAL, REACT, STORED_WORDS};
 use eg_fault::{Class, Fault, PATH_1, PATH_2};
-use eg_sensor::{PEDAL_1, SPEED_2};
+use eg_sensor::{BRAKE_2, PEDAL_1};
 use eg_toml::has_only_names;
 use toml::Table;
 
@@ -60,7 +60,7 @@ fn class_with(table: &Table, run: u32, name: ClassName) -> Result<Class, Campaig
 fn script(table: &Table, run: u32) -> Result<Class, CampaignFault>
     ensures { TellsClass run ClassName.Script (table_view table.now) result }
 {
-    let track = index(table, run, RunKey::Track, PEDAL_1, SPEED_2)?;
+    let track = index(table, run, RunKey::Track, PEDAL_1, BRAKE_2)?;
     let values = words(table, run, RunKey::Values)?;
     Ok(Class::Script { track, values })
 }
@@ -69,7 +69,7 @@ fn script(table: &Table, run: u32) -> Result<Class, CampaignFault>
 fn offset(table: &Table, run: u32) -> Result<Class, CampaignFault>
     ensures { TellsClass run ClassName.Offset (table_view table.now) result }
 {
-    let track = index(table, run, RunKey::Track, PEDAL_1, SPEED_2)?;
+    let track = index(table, run, RunKey::Track, PEDAL_1, BRAKE_2)?;
     let add = shift(table, run, RunKey::Add)?;
     Ok(Class::Offset { track, add })
 }
