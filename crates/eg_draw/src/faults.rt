@@ -98,7 +98,8 @@ impl Generator {
     /// Draws a track of a pair, and four values that it reads in turn.
     #[tactic(auto, using(crate::proofs::DrawLemmas::single))]
     fn script(&mut self) -> Class
-        ensures class { result ≡ classes.Script (draw self.old % PAIRED_TRACKS) (four_values (next self.old)) }
+        ensures class { result ≡
+            classes.Script (draw self.old % PAIRED_TRACKS) (four_values (next self.old)) }
         ensures state { self.new ≡ after 5 self.old }
     {
         let track = self.below(u16::from(PAIRED_TRACKS)) as u8;
@@ -113,7 +114,8 @@ impl Generator {
     /// Draws a track of a pair, and what it reads too much.
     #[tactic(auto, using(crate::proofs::DrawLemmas::single))]
     fn offset(&mut self) -> Class
-        ensures class { result ≡ classes.Offset (draw self.old % PAIRED_TRACKS) (pos (one_of 500 (next self.old))) }
+        ensures class { result ≡
+            classes.Offset (draw self.old % PAIRED_TRACKS) (pos (one_of 500 (next self.old))) }
         ensures state { self.new ≡ after 2 self.old }
     {
         let track = self.below(u16::from(PAIRED_TRACKS)) as u8;

@@ -23,7 +23,8 @@ check_header = codes "pedal" ∷ codes "speed" ∷ codes "raise" ∷ codes "torq
 -- the row that a record of a check file writes: a drive row, and the torque in the fourth field
 unfoldable pub check_row_of : Record → Option CheckRow
 check_row_of fields =
-    if length fields == 4 then option_zip (drive_at fields (Some false) (Some false)) (number_at fields 3 65535)
+    if length fields == 4
+    then option_zip (drive_at fields (Some false) (Some false)) (number_at fields 3 65535)
     else None
 
 -- the rows of a check file, or its fault

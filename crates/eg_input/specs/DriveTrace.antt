@@ -14,8 +14,8 @@ trace_headers =
     ∷ (codes "pedal" ∷ codes "speed" ∷ codes "raise" ∷ codes "reset" ∷ codes "brake" ∷ [])
     ∷ []
 
--- the drive row of three numbers, of whether a power cycle begins and of whether the driver brakes, where each
--- is there
+-- the drive row of three numbers, of whether a power cycle begins and of whether the driver brakes, where
+-- each is there
 unfoldable pub drive_from : Option ℕ → Option ℕ → Option ℕ → Option Bool → Option Bool → Option DriveRow
 drive_from (Some pedal) (Some speed) (Some raise) (Some reset) (Some brake) =
     Some (record { pedal = pedal; speed = speed; raise = raise; reset = reset; brake = brake })

@@ -23,8 +23,8 @@ pub fn read_check(alloc: Global, bytes: &[u8]) -> Result<Vec<(Drive, u16)>, Trac
 }
 
 /// The rows of a drive trace (docs/FORMATS.md, "Check files and traces"): one of the headers
-/// `pedal,speed,raise`, `pedal,speed,raise,reset` and `pedal,speed,raise,reset,brake`, and below it 1 to 20,000
-/// records, each of which gives the drive row of one tick.
+/// `pedal,speed,raise`, `pedal,speed,raise,reset` and `pedal,speed,raise,reset,brake`, and below it 1 to
+/// 20,000 records, each of which gives the drive row of one tick.
 pub fn read_trace(alloc: Global, bytes: &[u8]) -> Result<Vec<Drive>, TraceFault>
     ensures rows { IsRead (drive_rows (records_of bytes.now)) result }
     ensures limits { IfOk result (λ rows. All IsDrive rows.items) }
