@@ -65,5 +65,5 @@ orders_at d words = d.ran REACT && opens_now d.phase (after_modules d REACT word
 unfoldable pub finds_at : Doing → Words → Watches
 finds_at d words =
     let found = if d.ran DEBOUNCE then debounced d.rules d.phase (after_modules d DEBOUNCE words)
-        else no_watches in
+    else no_watches in
     record found { mirror = d.ran CHECK && d.differs }

@@ -20,12 +20,12 @@ unfolding whole_model
 braking_ticks-falsely = refl
 
 pub braking_ticks-free : rows_in_time (braking_run idle None (pressed false ∷ []))
-        ≡ row_told false 2000 1000 2000 ∷ []
+    ≡ row_told false 2000 1000 2000 ∷ []
 unfolding whole_model
 braking_ticks-free = refl
 
 pub braking_ticks-by_version_1 : rows_in_time (run_of idle None (pressed true ∷ []))
-        ≡ row_told true 2000 1000 2000 ∷ []
+    ≡ row_told true 2000 1000 2000 ∷ []
 unfolding whole_model
 braking_ticks-by_version_1 = refl
 
@@ -54,17 +54,17 @@ unfolding whole_model
 contacts_and_gates-bus = refl
 
 pub contacts_and_gates-ports : map (λ m. m.world.throttle) (moments_in_time
-        (braking_run raise_reader None (pressed true ∷ []))) ≡ 0 ∷ []
+    (braking_run raise_reader None (pressed true ∷ []))) ≡ 0 ∷ []
 unfolding whole_model
 contacts_and_gates-ports = refl
 
 pub held_throttle_run-cut : report_on (braking_run full None held)
-        ≡ reported (Some (found.Torque, 24)) (Some 25) None (Some 24)
+    ≡ reported (Some (found.Torque, 24)) (Some 25) None (Some 24)
 unfolding whole_model
 held_throttle_run-cut = refl
 
 pub held_throttle_run-one_contact : report_on (braking_run full (fault_from 0 (Script 8 (0 ∷ []))) held)
-        ≡ reported (Some (found.Torque, 24)) (Some 25) None (Some 24)
+    ≡ reported (Some (found.Torque, 24)) (Some 25) None (Some 24)
 unfolding whole_model
 held_throttle_run-one_contact = refl
 
