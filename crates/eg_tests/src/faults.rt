@@ -15,12 +15,12 @@ fn takes_lapse(after: &[u16], every: u16) -> Result<bool, Fail> {
 #[test]
 fn faults_beyond_their_ranges_are_not_valid(rt: HostRuntime) -> Result<(), Fail> {
     let values = Script::new(&[0]).ok_or("no script")?;
-    assert!(rt; !is_valid(0, Class::Script { track: 8, values }));
+    assert!(rt; !is_valid(0, Class::Script { track: 10, values }));
     assert!(rt;
         !takes_lapse(&[20_000], 0)? && !takes_lapse(&[3, 3], 0)? && !takes_lapse(&[3], 20_001)?
     );
     assert!(rt; is_valid(19_999, Class::Halt) && !is_valid(20_000, Class::Halt));
-    for (track, add) in [(8, 1), (7, 0), (7, 65_536), (7, -65_536)] {
+    for (track, add) in [(10, 1), (9, 0), (9, 65_536), (9, -65_536)] {
         assert!(rt; !is_valid(0, Class::Offset { track, add }));
     }
     for (module, mask) in [(0, 1), (6, 1), (1, 0)] {
