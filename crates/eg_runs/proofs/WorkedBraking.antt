@@ -49,14 +49,15 @@ pub contacts_and_gates-track : seen_under (Script 1 (500 ∷ [])) true ≡ (0 �
 unfolding whole_model
 contacts_and_gates-track = refl
 
-pub contacts_and_gates-bus : seen_under (Bus 1) true ≡ (0 ∷ 200 ∷ 100 ∷ 0 ∷ 0 ∷ []) ∷ []
+pub contacts_and_gates-bus : map (λ m. m.world.throttle) (moments_in_time
+    (braking_run raise_reader (fault_from 0 (Bus 1)) (pressed true ∷ []))) ≡ 0 ∷ []
 unfolding whole_model
 contacts_and_gates-bus = refl
 
-pub contacts_and_gates-ports : map (λ m. m.world.throttle) (moments_in_time
-    (braking_run raise_reader None (pressed true ∷ []))) ≡ 0 ∷ []
+pub contacts_and_gates-bus_free : map (λ m. m.world.throttle) (moments_in_time
+    (braking_run raise_reader (fault_from 0 (Bus 1)) (pressed false ∷ []))) ≡ 601 ∷ []
 unfolding whole_model
-contacts_and_gates-ports = refl
+contacts_and_gates-bus_free = refl
 
 pub held_throttle_run-cut : report_on (braking_run full None held)
     ≡ reported (Some (found.Torque, 24)) (Some 25) None (Some 24)

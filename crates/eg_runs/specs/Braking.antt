@@ -26,7 +26,7 @@ braking_run image fault drive = record (run_of image fault drive) {
 abbrev pub pressed : Bool → DriveRow
 pressed brake = record (driven 1000 800 600) { brake = brake }
 
--- what level 1 gets as pedal, as it waits, and the row of that tick, by what changes in it
+-- the row of that tick where level 1 waits, by what changes in it
 abbrev pub row_told : (brake : Bool) (limit used permitted : ℕ) → Row
 row_told brake limit used permitted = record {
   tick = 0;
@@ -61,7 +61,7 @@ row_told brake limit used permitted = record {
 abbrev pub told_under : Class → Bool → List Row
 told_under class brake = rows_in_time (braking_run idle (fault_from 0 class) (pressed brake ∷ []))
 
--- the pedal used and the torque permitted at that tick, where the brake counts
+-- the signals of level 2 at that tick, where the brake counts
 abbrev pub seen_under : Class → Bool → List (List ℕ)
 seen_under class brake = map (λ row. row.signals) (told_under class brake)
 

@@ -1,4 +1,4 @@
-use Rattle.eg_runs.proofs.WorkedBraking.{contacts_and_gates-first, contacts_and_gates-second, contacts_and_gates-second_free, contacts_and_gates-second_down, contacts_and_gates-track, contacts_and_gates-bus, contacts_and_gates-ports}
+use Rattle.eg_runs.proofs.WorkedBraking.{contacts_and_gates-first, contacts_and_gates-second, contacts_and_gates-second_free, contacts_and_gates-second_down, contacts_and_gates-track, contacts_and_gates-bus, contacts_and_gates-bus_free}
 use Rattle.eg_runs.proofs.braking.contacts_and_gates.Goals as goal
 
 pub returns-clause-first : goal.returns-clause-first
@@ -19,5 +19,5 @@ returns-clause-track c = contacts_and_gates-track
 pub returns-clause-bus : goal.returns-clause-bus
 returns-clause-bus c = contacts_and_gates-bus
 
-pub returns-clause-ports : goal.returns-clause-ports
-returns-clause-ports c = contacts_and_gates-ports
+pub returns-clause-bus_free : goal.returns-clause-bus_free
+returns-clause-bus_free c = contacts_and_gates-bus_free
