@@ -32,10 +32,12 @@ IsWithoutReset drive = All (λ row. row.reset ≡ false) drive
 abbrev pub FactsReactWithin : (bound : ℕ) → Facts → Type 0
 FactsReactWithin bound facts = IfSome facts.confirmed (λ c. IfSome facts.last_on (λ last. last < c + bound))
 
--- where the fault, if any, is one under which the reaction is at once then, they are off from the next tick on
+-- where the fault, if any, is one under which the reaction is at once then, they are off from the next tick
+-- on
 abbrev pub FactsReactAtOnce : Option Fault → Facts → Type 0
 FactsReactAtOnce fault facts =
-    IfSome facts.confirmed (λ c. is_at_once fault (c + 1) ≡ true → IfSome facts.last_on (λ last. last < c + 1))
+    IfSome facts.confirmed (λ c. is_at_once fault (c + 1) ≡ true →
+    IfSome facts.last_on (λ last. last < c + 1))
 
 -- The stages are on from the first tick on, go off once at most, and never come on again: the last tick at
 -- which they are on is right before the first at which they are off, or is the last of the run.

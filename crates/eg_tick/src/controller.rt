@@ -235,12 +235,12 @@ impl<E: Engine + Drop, M: Guarded + Drop> Controller<E, M> {
         let (tick, local, fault) = (self.ticks, self.span.local, self.fault.as_ref());
         let (questions, times) = (self.calibration.questions(), self.calibration.times());
         let brake = self.calibration.brake();
-        let counts = effective(drive, brake);
-        let lookup = look_up(&self.calibration.rules().permit, &counts);
+        let effective = effective(drive, brake);
+        let lookup = look_up(&self.calibration.rules().permit, &effective);
         let begins = Beginning {
             tick,
             drive: *drive,
-            limit: limit(&lookup, &counts),
+            limit: limit(&lookup, &effective),
             place: self.span.place(self.test_ticks),
             paths: Paths::at(fault, tick, &self.span),
         };

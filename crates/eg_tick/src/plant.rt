@@ -54,8 +54,8 @@ pub(crate) fn step_engine<E: Engine, M: Guarded>(
     engine.step(commands.throttle, commands.ignition, on, held);
 }
 
-/// The readings that both levels are given at a tick (docs/CONCEPT.md, "Sensors"), where the brake counts or
-/// doesn't.
+/// The readings that both levels are given at a tick (docs/CONCEPT.md, "Sensors"). `brake` says whether the
+/// brake counts.
 #[tactic(auto, unfolding(eg_model::specs::Moments::readings_at))]
 pub(crate) fn readings<E: Engine>(
     engine: &E,
@@ -76,7 +76,7 @@ pub(crate) fn readings<E: Engine>(
     }
 }
 
-/// Whether the unit takes the brake as pressed at a tick, where it counts or doesn't.
+/// Whether the brake counts, and the unit takes it as pressed at a tick.
 #[tactic(auto, unfolding(eg_model::specs::Moments::is_braking))]
 fn is_braking(drive: &Drive, brake: bool, fault: Option<&Fault>, tick: u32) -> bool
     ensures { (cal : CalibrationParts) → cal.brake ≡ brake

@@ -60,8 +60,8 @@ impl Beginning {
     }
 }
 
-/// The drive row that counts, where the brake counts or doesn't: while the driver brakes pedal and raise are 0
-/// (docs/CONCEPT.md, "Torque").
+/// The drive row that counts (docs/CONCEPT.md, "Torque"): where the brake counts and the driver brakes, pedal
+/// and raise are 0. `brake` says whether it counts.
 #[tactic(auto, unfolding(eg_model::specs::Moments::effective_drive))]
 pub(crate) fn effective(drive: &Drive, brake: bool) -> Drive
     ensures { (cal : CalibrationParts) → cal.brake ≡ brake → result ≡ effective_drive cal drive.now }

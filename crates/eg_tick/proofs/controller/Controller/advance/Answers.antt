@@ -222,7 +222,7 @@ permits : (g : Over) (c : goal.After-row g) → c.look_up-lookup.result.torque �
     → c.limit.result ≡ limit_at (old g c).cal c.args.drive.now
 unfolding limit_at
 permits g c looked = c.limit.ensures.limit (old g c).cal looked
-    ∙ ap (drive_permits (old g c).cal.rules.permit) (c.effective-counts.ensures (old g c).cal (sym c.brake-brake.ensures.brake))
+    ∙ ap (drive_permits (old g c).cal.rules.permit) (c.effective-effective.ensures (old g c).cal (sym c.brake-brake.ensures.brake))
 
 pub returns-clause-row : goal.returns-clause-row
 returns-clause-row g c s h stands =
