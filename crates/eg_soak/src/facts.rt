@@ -72,7 +72,7 @@ pub(crate) fn play(calibration: &Calibration, drawn: &DrawnRun, steps: &mut Tick
 fn reaction(facts: &Facts) -> u32
     ensures { result ≡ reaction facts.now.confirmed facts.now.last_on facts.now.ticks }
 {
-    // A count of ticks is a u32, so that no tick of a run is its greatest.
+    // At the greatest u32, which no run reaches, the answer is 0 either way.
     let off_from = facts.last_on.map_or(0, |last| last.saturating_add(1));
     match facts.confirmed {
         Some(confirmed) if off_from < facts.ticks => off_from.saturating_sub(confirmed),
