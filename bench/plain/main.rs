@@ -1,7 +1,8 @@
 //! The whole program as plain Rust, written to be fast: one array of words for all three levels, plain structs,
-//! and no allocation in a tick. It takes the words and files that `egasim` takes, and writes what it writes;
-//! notes it has none. It was written from docs/ and is measured beside the proved program by `bench/unit` and
-//! `bench/all`. A record is put as there, a line a write. Nothing of it is proved.
+//! and no allocation in a tick. No row of a run is kept: what a report or `soak` says is gathered as the ticks are
+//! made, and each line of a record is put as its tick is made, a line a write, as in the proved program. It takes
+//! the words and files that `egasim` takes, and writes what it writes; notes it has none. It was written from docs/
+//! and is measured beside the proved program by `bench/unit` and `bench/all`. Nothing of it is proved.
 //! Usage: check [--cal NAME] FILE, bound [--cal NAME], run [--cal NAME] CAMPAIGN,
 //! record [--cal NAME] CAMPAIGN RUN, soak SEED RUNS
 

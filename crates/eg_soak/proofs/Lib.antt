@@ -3,3 +3,4 @@ pub mod FactsLemmas
 pub mod TextLemmas
 pub mod SumLemmas
 pub mod StartLemmas
+mod Worked

@@ -8,13 +8,14 @@ use Rattle.eg_record.specs.declared.row.Row.{Row}
 use Rattle.eg_record.specs.declared.watch.Watch.{Watch}
 use Rattle.eg_record.specs.declared.watch.Watch.TheVariants.{Mirror, Pedal, Plate, Load, Speed, Torque, Answers, Start}
 use Rattle.eg_record.specs.Detection.{is_found, rank, first_detection}
-use Rattle.eg_record.specs.Summaries.{summary_of}
+use Rattle.eg_record.specs.Facts.{facts_of as facts_of_rows}
 use Rattle.eg_record.proofs.LawLemmas.{first_detection-never}
 use Rattle.eg_draw.specs.Draws.{after}
 use Rattle.eg_draw.specs.Runs.{stretch_row, stretches, trace_of, drawn_run, state_after}
 use Rattle.eg_model.specs.Engines.{gasoline}
-use Rattle.eg_model.specs.Rows.{record_rows, report_of}
+use Rattle.eg_model.specs.Rows.{record_rows}
 use Rattle.eg_model.proofs.SpanRuns.{finds_no_start}
+use Rattle.eg_tick.specs.Facts.{record_facts}
 use Rattle.eg_soak.specs.Facts.{is_watch, is_first, facts_in, facts_of}
 use Rattle.eg_soak.specs.Soak.{run_drawn, drawn_runs}
 use Rattle.eg_soak.proofs.SumLemmas.{NeverStart}
@@ -61,7 +62,7 @@ unfolding is_found
 other_first rows none = other_than_start (first_detection rows) (first_detection-never rows Start none)
 
 run-other_first : (x : ℕ) → is_first Start (facts_of (run_drawn (drawn_run x))) ≡ false
-unfolding is_first facts_of facts_in report_of summary_of
+unfolding is_first facts_of facts_in record_facts facts_of_rows
 run-other_first x = other_first (record_rows gasoline (run_drawn (drawn_run x))) (finds_no_start gasoline (run_drawn (drawn_run x)) (drive-no_reset x))
 
 pub drawn_never_start : (n x : ℕ) → NeverStart (map facts_of (drawn_runs n x))

@@ -1,37 +1,38 @@
--- What `soak` counts of a run. Lists of rows stand newest first.
-use Rattle.std.specs.Prelude.{ℕ, ◌+◌, ◌-◌, ◌==◌, Bool, false, nat_lt, is_some, List, [], ◌∷◌, length, Option, Some, None, option_map, if◌then◌else◌}
-use Rattle.eg_record.specs.declared.row.Row.{Row}
-use Rattle.eg_record.specs.declared.summary.Summary.{Summary}
+-- What `soak` counts of a run.
+use Rattle.std.specs.Prelude.{ℕ, ◌+◌, ◌-◌, ◌==◌, Bool, false, nat_lt, is_some, Option, Some, None, option_map, if◌then◌else◌}
+use Rattle.eg_record.specs.declared.facts.Facts.{Facts}
 use Rattle.eg_record.specs.declared.watch.Watch.{Watch}
 use Rattle.eg_record.specs.Detection.{rank}
 use Rattle.eg_model.specs.Engines.{gasoline}
 use Rattle.eg_model.specs.Bench.{Run}
-use Rattle.eg_model.specs.Rows.{record_rows, report_of}
+use Rattle.eg_model.specs.Rows.{record_trap}
+use Rattle.eg_tick.specs.Facts.{record_facts}
 use Rattle.eg_soak.specs.declared.facts.RunFacts.{RunFacts}
 
--- how many ticks there were up to the last one at which the stages were on, and 0 where they were never on
-unfoldable pub on_until : List Row → ℕ
-on_until [] = 0
-on_until (row ∷ before) = if row.on then length before + 1 else on_until before
+-- the tick after the last one at which the stages are on, and 0 where they are never on
+unfoldable pub off_from : (last_on : Option ℕ) → ℕ
+off_from None = 0
+off_from (Some last) = last + 1
 
--- The reaction: how many ticks went by from the one by which a true excess was first confirmed until the
--- stages were off for good. It is 0 where no excess was confirmed, or the stages are on at the last tick.
-unfoldable pub reaction : (confirmed : Option ℕ) → List Row → ℕ
-reaction None rows = 0
-reaction (Some confirmed) rows = if nat_lt (on_until rows) (length rows) then on_until rows - confirmed else 0
+-- The reaction: how many ticks go by from the first one by which a true excess is confirmed until the stages
+-- are off for good. It is 0 where no excess is confirmed, or the stages are on at the last tick.
+unfoldable pub reaction : (confirmed last_on : Option ℕ) → (ticks : ℕ) → ℕ
+reaction None last_on ticks = 0
+reaction (Some confirmed) last_on ticks =
+    if nat_lt (off_from last_on) ticks then off_from last_on - confirmed else 0
 
--- what counts of a run with these rows, of which a report says this
-unfoldable pub facts_in : Summary → List Row → RunFacts
-facts_in report rows = record {
-  first = option_map (λ detection. detection.0) report.first;
-  is_trapped = is_some report.trap;
-  goes_off = is_some report.off;
-  reaction = reaction report.confirmed rows;
+-- what counts of a run with these facts, in which level 1 traps or doesn't
+unfoldable pub facts_in : Facts → (is_trapped : Bool) → RunFacts
+facts_in facts is_trapped = record {
+  first = option_map (λ detection. detection.0) facts.first;
+  is_trapped = is_trapped;
+  goes_off = is_some facts.off;
+  reaction = reaction facts.confirmed facts.last_on facts.ticks;
 }
 
--- what counts of a run; its name doesn't matter
+-- what counts of a run
 unfoldable pub facts_of : Run → RunFacts
-facts_of r = facts_in (report_of gasoline [] r) (record_rows gasoline r)
+facts_of r = facts_in (record_facts r) (is_some (record_trap gasoline r))
 
 -- a watch, if any, is this one
 unfoldable pub is_watch : Watch → Option Watch → Bool

@@ -28,6 +28,9 @@ pub fn soak(alloc: Global, seed: u32, runs: u32, steps: &mut Ticks) -> Result<So
     ensures ticks { ticks_of (drawn_runs runs seed) ≡ runs * 2000 }
     ensures count { OnErr result ((n : ℕ) × (n ≤ ticks_of (drawn_runs runs seed))
         × (steps.new.count ≡ (steps.old.count + n) % 2 ^ 64)) }
+    // They are then those of the first runs, each of them whole.
+    ensures stopped { OnErr result ((k : ℕ) × (k ≤ runs)
+        × (steps.new ≡ count_after steps.old (drawn_runs k seed))) }
 {
     let all = play_all(alloc, seed, runs, steps)?;
     Ok(SoakSummary::of(&all))
@@ -44,8 +47,8 @@ fn play_all(
     ensures facts { IfOk result (λ all. all.items ≡ map facts_of (drawn_runs runs seed)) }
     ensures length { IfOk result (λ all. length all.items ≡ runs) }
     ensures counted { OnOk result (steps.new ≡ count_after steps.old (drawn_runs runs seed)) }
-    ensures count { OnErr result ((n : ℕ) × (n ≤ ticks_of (drawn_runs runs seed))
-        × (steps.new.count ≡ (steps.old.count + n) % 2 ^ 64)) }
+    ensures stopped { OnErr result ((k : ℕ) × (k ≤ runs)
+        × (steps.new ≡ count_after steps.old (drawn_runs k seed))) }
 {
     // Whoever reads them learns that both numbers are a u64.
     let _numbers = (steps.count(), steps.sum());
@@ -54,7 +57,7 @@ fn play_all(
     let mut all = Vec::new(alloc);
     for _done in 0..runs {
         let drawn = generator.run(alloc)?;
-        let facts = play(alloc, &calibration, &drawn, steps)?;
+        let facts = play(&calibration, &drawn, steps);
         all.push(facts)?;
     }
     Ok(all)

@@ -1,14 +1,35 @@
-use Rattle.std.proofs.Common.{◌∙◌, ap, ◌+◌, ◌%◌, ◌^◌, arith}
-use Rattle.eg_tick.specs.Weights.{TickCount}
-use Rattle.eg_tick.proofs.RunLemmas.{on_err}
-use Rattle.eg_campaign.proofs.PlayLemmas.{ticks-one}
+use Rattle.std.proofs.Common.{◌≡◌, ◌∙◌, sym, ap, subst, [], ◌∷◌}
+use Rattle.std.specs.Prelude.{is_some}
+use Rattle.std.specs.Option.{option_copied}
+use Rattle.eg_fault.specs.Faults.{IsNoneOrValid}
+use Rattle.eg_model.specs.Bench.{Run}
+use Rattle.eg_tick.specs.Facts.{record_facts}
+use Rattle.eg_tick.specs.Run.{run_by}
+use Rattle.eg_campaign.specs.Plays.{count_after}
+use Rattle.eg_campaign.proofs.PlayLemmas.{same_run}
+use Rattle.eg_soak.specs.Facts.{facts_of}
 use Rattle.eg_soak.specs.Soak.{run_drawn}
+use Rattle.eg_soak.proofs.FactsLemmas.{any_fault, facts_told, counted_run}
 use Rattle.eg_soak.proofs.facts.play.Goals as goal
+use Rattle.eg_soak.proofs.facts.play.Goals.{After-of}
 
-pub returns-clause-count : goal.returns-clause-count
-returns-clause-count c = on_err _ c.facts_of.result (
-  2000,
-  omega arith,
-  ap (λ (k : TickCount). k.count) c.in_ok-made.ensures.counted
-      ∙ ap (λ n. (c.args.steps.now.count + n) % 2 ^ 64) (ticks-one (run_drawn c.args.drawn.now) ∙ c.requires.drawn.rows),
-)
+pub run_facts-trap-requires-clause-fault : goal.run_facts-trap-requires-clause-fault
+run_facts-trap-requires-clause-fault c =
+    subst IsNoneOrValid (sym c.as_ref-fault.ensures.value) (any_fault c.args.drawn.now.fault c.requires.drawn.valid)
+
+-- the run that is played is the one that was drawn
+abbrev played : After-of → Run
+played c = run_by c.args.calibration.now c.as_slice-image.result.now (option_copied c.as_ref-fault.result) c.usual_slices-plan.result c.as_slice-drive.result.now
+
+is_drawn : (c : After-of) → played c ≡ run_drawn c.args.drawn.now
+is_drawn c = same_run _ _ _ _ _ _ _ _ _ _ c.requires.calibration c.as_slice-image.ensures c.as_ref-fault.ensures.value c.usual_slices-plan.ensures c.as_slice-drive.ensures
+
+pub returns-clause-facts : goal.returns-clause-facts
+unfolding record_facts
+returns-clause-facts c = c.of.ensures
+    ∙ facts_told (played c) _ _ c.run_facts-trap.ensures.facts (c.is_some.ensures ∙ ap is_some c.run_facts-trap.ensures.trap)
+    ∙ ap facts_of (is_drawn c)
+
+pub returns-clause-counted : goal.returns-clause-counted
+returns-clause-counted c = counted_run c.args.steps.now c.run_facts-trap.new.steps (played c) c.run_facts-trap.ensures.counted
+    ∙ ap (λ r. count_after c.args.steps.now (r ∷ [])) (is_drawn c)
