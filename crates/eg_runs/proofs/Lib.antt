@@ -5,3 +5,4 @@ pub mod WorkedLapses
 pub mod WorkedUnusual
 pub mod WorkedCycles
 pub mod WorkedBraking
+pub mod WorkedFacts

@@ -2,6 +2,7 @@ pub mod WorkedLapses
 pub mod UnusualRuns
 pub mod PowerCycles
 pub mod Braking
+pub mod Facts
 pub use Rattle.eg_answer.specs.Times
 pub use Rattle.eg_model.specs.Examples
 pub use Rattle.eg_model.specs.Rows

@@ -5,6 +5,7 @@
 
 mod braking;
 mod examples;
+mod facts;
 mod faulty_runs;
 mod lapses;
 mod power_cycles;
@@ -15,6 +16,7 @@ pub use examples::{
     empty_image, following_run, full_run_in_detail, idle_run, looping_image, refused_store,
     three_runs,
 };
+pub use facts::facts_tick_by_tick;
 pub use faulty_runs::{
     disturbed_run, flipped_run, lost_load_run, moved_answers_run, path_1_closed_run,
     path_1_closes_run, raised_pedal_run, reaction_is_met, skipped_run,

@@ -1,0 +1,43 @@
+-- The facts of a run after each of its ticks.
+use Rattle.std.specs.Prelude.{ℕ, zero, suc, ◌+◌, ◌-◌, List, [], ◌∷◌, Option, Some, None, nat_le, if◌then◌else◌}
+use Rattle.eg_values.specs.Reference.{reference_rules}
+use Rattle.eg_record.specs.declared.facts.Facts.{Facts}
+use Rattle.eg_record.specs.declared.row.Row.{Row}
+use Rattle.eg_record.specs.declared.watch.Watch.TheVariants.{Torque}
+use Rattle.eg_record.specs.Facts.{facts_of}
+
+-- the facts of these rows, and of those that stood before each later one was made, newest first
+unfoldable pub facts_along : List Row → List Facts
+facts_along [] = []
+facts_along (row ∷ before) =
+    facts_of reference_rules.torque reference_rules.threshold (row ∷ before) ∷ facts_along before
+
+-- a value for each count of ticks from n down to 1
+unfoldable pub for_each : {A : Type 0} → (ℕ → A) → ℕ → List A
+for_each f zero = []
+for_each f (suc n) = f (suc n) ∷ for_each f n
+
+-- a tick that is told once it was made
+unfoldable pub told : (tick count : ℕ) → Option ℕ
+told tick count = if nat_le count tick then None else Some tick
+
+-- The facts of so many ticks at full throttle, by the last tick of them at which the stages are on: the torque
+-- is found and its excess confirmed at tick 9, and the stages are first off at tick 10.
+unfoldable pub cut_at_10 : (last_on : ℕ → ℕ) → (count : ℕ) → Facts
+cut_at_10 last_on count = record {
+  first = if nat_le count 9 then None else Some (Torque, 9);
+  off = told 10 count;
+  last_on = Some (last_on count);
+  confirmed = told 9 count;
+  ticks = count;
+}
+
+-- the last tick on where the stages are on up to tick 9, at ticks 11 to 39, and never again
+unfoldable pub on_again : ℕ → ℕ
+on_again count =
+    if nat_le count 10 then count - 1 else if nat_le count 11 then 9 else if nat_le count 40 then count - 1 else 39
+
+-- the last tick on where they are on up to tick 9, at ticks 51 to 60, and never again
+unfoldable pub on_after_the_test : ℕ → ℕ
+on_after_the_test count =
+    if nat_le count 10 then count - 1 else if nat_le count 51 then 9 else if nat_le count 61 then count - 1 else 60
