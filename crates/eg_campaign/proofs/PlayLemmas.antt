@@ -10,10 +10,14 @@ use Rattle.std.proofs.lemmas.List.Sorted.{sum_by-IsPermutation, IsPermutation-re
 use Rattle.eg_num.specs.Drive.{DriveRow}
 use Rattle.eg_fault.specs.declared.class.Fault.{Fault}
 use Rattle.eg_values.specs.Calibration.{CalibrationParts}
+use Rattle.eg_answer.specs.Times.{reaction_of}
+use Rattle.eg_word.specs.declared.registers.Trap.{Trap}
 use Rattle.eg_record.specs.declared.row.Row.{Row}
+use Rattle.eg_record.specs.declared.summary.Summary.{Summary}
+use Rattle.eg_record.specs.Summaries.{summary_of}
 use Rattle.eg_model.specs.Engines.{gasoline}
 use Rattle.eg_model.specs.Bench.{Run}
-use Rattle.eg_model.specs.Rows.{record_rows}
+use Rattle.eg_model.specs.Rows.{record_rows, record_trap, report_of}
 use Rattle.eg_tick.specs.Weights.{TickCount, weight_of}
 use Rattle.eg_tick.specs.Run.{run_by}
 use Rattle.eg_tick.proofs.RunLemmas.{more-mod}
@@ -27,12 +31,22 @@ pub same_run : (cal cal' : CalibrationParts) (image image' : List ℕ) (fault fa
     plan ≡ plan' → drive ≡ drive' → run_by cal image fault plan drive ≡ run_by cal' image' fault' plan' drive'
 same_run cal cal' image image' fault fault' plan plan' drive drive' a b c d e = cc
 
+-- what the report says of a run whose facts and trap are told
+pub report_is : (name name' : List ℕ) (r r' : Run) (trap : Option (Trap × ℕ)) (bound : ℕ) (summary : Summary) → name ≡ name' → r ≡ r' →
+    trap ≡ record_trap gasoline r → bound ≡ reaction_of r.setting.cal.times →
+    summary ≡ summary_of name (record_rows gasoline r) trap r.setting.cal.rules.threshold r.setting.cal.rules.torque bound → summary ≡ report_of gasoline name' r'
+unfolding report_of
+report_is name name' r r' trap bound summary named same trapped bounded told = told
+    ∙ ap₂ (λ (t : Option (Trap × ℕ)) (b : ℕ). summary_of name (record_rows gasoline r) t r.setting.cal.rules.threshold r.setting.cal.rules.torque b) trapped bounded
+    ∙ ap₂ (λ (n : List ℕ) (q : Run). report_of gasoline n q) named same
+
 -- ---- sums ----
 
 sum-append : (xs ys : List ℕ) → sum (xs ++ ys) ≡ sum xs + sum ys
 sum-append xs ys = sum_by-append (λ x. x) xs ys
 
-sum-reverse : (f : Row → ℕ) (rows : List Row) → sum (map f (reverse rows)) ≡ sum (map f rows)
+-- rows weigh the same in any order
+pub sum-reverse : (f : Row → ℕ) (rows : List Row) → sum (map f (reverse rows)) ≡ sum (map f rows)
 sum-reverse f rows = sum_by-IsPermutation (λ x. x) (map f rows) (map f (reverse rows))
     (IsPermutation-map f rows (reverse rows) (IsPermutation-reverse rows))
 
@@ -62,13 +76,20 @@ weights-one r = zero_plus (sum (map weight_of (record_rows gasoline r)))
 counts : ℕ → ℕ → TickCount
 counts n w = record { count = n; weights = w }
 
--- what a run counts by the rows of its record
+-- what a run counts by its record
+pub counted_run : (was is : TickCount) (r : Run) →
+    is ≡ record { count = (was.count + length r.drive) % 2 ^ 64; weights = (was.weights + sum (map weight_of (record_rows gasoline r))) % 2 ^ 64 } →
+    is ≡ count_after was (r ∷ [])
+unfolding counts
+counted_run was is r e = e ∙ ap₂ (λ n w. counts ((was.count + n) % 2 ^ 64) ((was.weights + w) % 2 ^ 64)) (sym (ticks-one r)) (sym (weights-one r))
+
+-- the same by its rows in the order of time
 pub counted_one : (was is : TickCount) (r : Run) (rows : List Row) → rows ≡ reverse (record_rows gasoline r) →
     is ≡ record { count = (was.count + length r.drive) % 2 ^ 64; weights = (was.weights + sum (map weight_of rows)) % 2 ^ 64 } →
     is ≡ count_after was (r ∷ [])
 unfolding counts
-counted_one was is r rows are e = e ∙ ap₂ (λ n w. counts ((was.count + n) % 2 ^ 64) ((was.weights + w) % 2 ^ 64))
-    (sym (ticks-one r)) (ap (λ l. sum (map weight_of l)) are ∙ sum-reverse weight_of (record_rows gasoline r) ∙ sym (weights-one r))
+counted_one was is r rows are e = counted_run was is r (e ∙ ap (λ w. counts ((was.count + length r.drive) % 2 ^ 64) ((was.weights + w) % 2 ^ 64))
+    (ap (λ l. sum (map weight_of l)) are ∙ sum-reverse weight_of (record_rows gasoline r)))
 
 -- before the first run
 pub counted-none : (was : TickCount) → was.count < 2 ^ 64 → was.weights < 2 ^ 64 → was ≡ count_after was []

@@ -1,10 +1,13 @@
-//! Campaigns that are played: the runs of a campaign one after another, and what the report says of each.
+//! Campaigns that are played: the runs of a campaign one after another, and what the report says of each; and
+//! the record of a run, written as its ticks are made.
 #![tactic(auto)]
 
 mod play;
+mod recording;
 
 pub use eg_plan::{
     CampaignFault, RunKey, RunPlan, accepted_files_keep_the_rules, add_ticks, read_campaign,
     usual_slices,
 };
-pub use play::{RunInput, record_one, run_all};
+pub use play::{RunInput, run_all};
+pub use recording::{RecordStop, record_into};

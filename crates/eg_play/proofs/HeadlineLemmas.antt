@@ -1,6 +1,6 @@
 -- Every run that may be played keeps the headline.
-use Rattle.std.proofs.Common.{ℕ, List, [], ◌∷◌, All, refl, map}
-use Rattle.std.proofs.lemmas.List.Elements.{All-map, All-weaker, All-cons, All-nil}
+use Rattle.std.proofs.Common.{ℕ, List, All, refl, map}
+use Rattle.std.proofs.lemmas.List.Elements.{All-map, All-weaker}
 use Rattle.eg_values.specs.Calibration.{CalibrationParts, IsAccepted}
 use Rattle.eg_fault.specs.Faults.{IsNoneOrValid}
 use Rattle.eg_record.specs.Detection.{first_detection, IsFirstDetection}
@@ -55,8 +55,3 @@ pub keep_headline : (cal : CalibrationParts) → IsAccepted cal → (inputs : Li
     All KeepsHeadline (map (run_with cal) inputs)
 keep_headline cal accepted inputs playable = All-map KeepsHeadline (run_with cal) inputs
     (All-weaker IsPlayable (λ input. KeepsHeadline (run_with cal input)) (keeps_headline cal accepted) inputs playable)
-
-pub keeps_headline_alone : (cal : CalibrationParts) → IsAccepted cal → (input : RunInput) → IsPlayable input →
-    All KeepsHeadline (run_with cal input ∷ [])
-keeps_headline_alone cal accepted input playable =
-    All-cons KeepsHeadline (run_with cal input) [] (keeps_headline cal accepted input playable) (All-nil KeepsHeadline)

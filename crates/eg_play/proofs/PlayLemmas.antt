@@ -1,26 +1,23 @@
 -- How runs that were played end.
-use Rattle.std.proofs.Common.{◌≡◌, ◌∙◌, refl, ap, subst, append-nil, ℕ, ◌+◌, ◌%◌, ◌^◌, ◌≤◌, List, [], ◌∷◌, ◌++◌, All, map, arith}
-use Rattle.std.specs.Prelude.{reverse}
+use Rattle.std.proofs.Common.{◌≡◌, ◌∙◌, refl, ap, ℕ, ◌+◌, ◌%◌, ◌^◌, ◌≤◌, List, [], ◌∷◌, ◌++◌, All, map, arith}
 use Rattle.std.specs.List.{concat}
-use Rattle.eg_base.specs.Outside.{ShownSink, Appends}
+use Rattle.eg_base.specs.Outside.{ShownSink, Appends, AppendsPrefix, Rose}
 use Rattle.eg_values.specs.Calibration.{CalibrationParts}
-use Rattle.eg_record.specs.Texts.{summary_line, report_end, record_header, row_line}
-use Rattle.eg_record.specs.declared.row.Row.{Row}
+use Rattle.eg_record.specs.Texts.{summary_line, report_end}
 use Rattle.eg_record.specs.declared.summary.Summary.{Summary}
-use Rattle.eg_model.specs.Engines.{gasoline}
 use Rattle.eg_model.specs.Bench.{Run}
-use Rattle.eg_model.specs.Rows.{record_rows}
 use Rattle.eg_tick.specs.Weights.{TickCount}
 use Rattle.eg_outcome.specs.Outcomes.{LineEnds}
 use Rattle.eg_outcome.specs.declared.outcome.Outcome.{Outcome}
 use Rattle.eg_outcome.specs.declared.outcome.Outcome.TheVariants as outcome
-use Rattle.eg_outcome.proofs.AppendLemmas.{Appends-append, Appends-nil}
-use Rattle.eg_outcome.proofs.LineLemmas.{LineEnds-within}
+use Rattle.eg_outcome.proofs.AppendLemmas.{Appends-nil}
 use Rattle.eg_campaign.specs.Plays.{run_with, report_with, ticks_of, count_after}
 use Rattle.eg_campaign.specs.declared.play.RunInput.{RunInput}
-use Rattle.eg_play.specs.Texts.{report_text, record_text}
+use Rattle.eg_campaign.specs.Texts.{record_text}
+use Rattle.eg_campaign.specs.Recording.{IsStopped}
+use Rattle.eg_play.specs.Texts.{report_text}
 use Rattle.eg_play.specs.Headline.{KeepsHeadline}
-use Rattle.eg_play.specs.Ends.{AreTicked, Plays}
+use Rattle.eg_play.specs.Ends.{AreTicked, Plays, Records}
 
 -- ---- the texts ----
 
@@ -34,29 +31,6 @@ pub report_is : (cal : CalibrationParts) (inputs : List RunInput) (all : List Su
 unfolding report_text
 report_is cal inputs all is = ap (λ l. concat (map summary_line l) ++ report_end l) is
     ∙ ap (λ l. concat l ++ report_end (map (report_with cal) inputs)) (told_each cal inputs)
-
-pub record_is : (cal : CalibrationParts) (input : RunInput) (rows : List Row) → rows ≡ reverse (record_rows gasoline (run_with cal input)) →
-    record_header ++ concat (map row_line rows) ≡ record_text cal input
-unfolding record_text
-record_is cal input rows are = ap (λ l. record_header ++ concat (map row_line l)) are
-
--- ---- a line, and then a text ----
-
--- the line was put whole, and the text after it ends so
-pub LineEnds-after : (before mid now : ShownSink) (line text : List ℕ) (o : Outcome) → Appends before mid line → mid.faults ≡ before.faults →
-    LineEnds text mid now o → LineEnds (line ++ text) before now o
-LineEnds-after before mid now line text outcome.Done put same ends = (Appends-append before mid now line text put ends.0, ends.1 ∙ same)
-LineEnds-after before mid now line text outcome.WriteFault put same ends = subst (λ all. LineEnds all before now outcome.WriteFault) (append-nil (line ++ text))
-    (LineEnds-within before mid now line text [] outcome.WriteFault (λ done. absurd cc) put same ends)
-LineEnds-after before mid now line text outcome.Memory put same ends = subst (λ all. LineEnds all before now outcome.Memory) (append-nil (line ++ text))
-    (LineEnds-within before mid now line text [] outcome.Memory (λ done. absurd cc) put same ends)
-LineEnds-after before mid now line text outcome.Usage put same ends = ends
-LineEnds-after before mid now line text (outcome.ReadFault file) put same ends = ends
-LineEnds-after before mid now line text (outcome.Refused why) put same ends = ends
-
--- the line wasn't put whole, so nothing of the text was put
-pub LineEnds-first : (before now : ShownSink) (line text : List ℕ) (o : Outcome) → (o ≡ outcome.Done → ⊥) → LineEnds line before now o → LineEnds (line ++ text) before now o
-LineEnds-first before now line text o refused ends = LineEnds-within before before now [] line text o refused (Appends-nil before) refl ends
 
 -- ---- what was put and counted ----
 
@@ -96,5 +70,39 @@ pub put : (text : List ℕ) (runs : List Run) (out now : ShownSink) (was is : Ti
 put text runs out now was is o counted ends headline = record {
   written = ends;
   ticked = ticked runs was is o counted;
+  headline = headline;
+}
+
+-- ---- a record ----
+
+-- all of it was put, and all ticks were counted
+pub recorded : (cal : CalibrationParts) (input : RunInput) (out now : ShownSink) (was is : TickCount) → Appends out now (record_text cal input) →
+    now.faults ≡ out.faults → is ≡ count_after was (run_with cal input ∷ []) → KeepsHeadline (run_with cal input) → Records cal input out now was is outcome.Done
+recorded cal input out now was is put same counted headline = record {
+  written = (put, same);
+  ticked = counted;
+  headline = headline;
+}
+
+-- it was stopped, so that a front of it was put
+stopped_front : (cal : CalibrationParts) (input : RunInput) (out now : ShownSink) (was is : TickCount) → IsStopped cal input out now was is →
+    AppendsPrefix out now (record_text cal input)
+stopped_front cal input out now was is stopped = (stopped.front, stopped.rest, stopped.parts, stopped.appended)
+
+-- by a fault of writing,
+pub put_failed : (cal : CalibrationParts) (input : RunInput) (out now : ShownSink) (was is : TickCount) → IsStopped cal input out now was is →
+    Rose out.faults now.faults → KeepsHeadline (run_with cal input) → Records cal input out now was is outcome.WriteFault
+put_failed cal input out now was is stopped rose headline = record {
+  written = (stopped_front cal input out now was is stopped, rose);
+  ticked = stopped;
+  headline = headline;
+}
+
+-- or since memory ran out
+pub ran_out : (cal : CalibrationParts) (input : RunInput) (out now : ShownSink) (was is : TickCount) → IsStopped cal input out now was is →
+    now.faults ≡ out.faults → KeepsHeadline (run_with cal input) → Records cal input out now was is outcome.Memory
+ran_out cal input out now was is stopped same headline = record {
+  written = (stopped_front cal input out now was is stopped, same);
+  ticked = stopped;
   headline = headline;
 }

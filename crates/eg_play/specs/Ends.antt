@@ -20,8 +20,10 @@ use Rattle.eg_outcome.specs.declared.outcome.Role.TheVariants as role
 use Rattle.eg_play.specs.Files.{campaign_file}
 use Rattle.eg_play.specs.Inputs.{InputComes, InputsCome, FindsInput, AcceptsInput}
 use Rattle.eg_play.specs.Headline.{KeepsHeadline}
-use Rattle.eg_campaign.specs.Plays.{run_with, ticks_of, weights_of}
-use Rattle.eg_play.specs.Texts.{report_text, record_text}
+use Rattle.eg_campaign.specs.Plays.{run_with, ticks_of, weights_of, count_after}
+use Rattle.eg_campaign.specs.Texts.{record_text}
+use Rattle.eg_campaign.specs.Recording.{IsStopped}
+use Rattle.eg_play.specs.Texts.{report_text}
 
 -- ---- runs are played ----
 
@@ -65,11 +67,26 @@ RunsEnd cal plans store later out now was is o = (come : Result (List RunInput) 
 
 -- ---- `record [--cal NAME] CAMPAIGN RUN` ----
 
+-- The ticks of a record are made and counted as its lines are written: on Done all of them; else those up to
+-- the line at which it was stopped.
+abbrev pub AreTickedInTurn : CalibrationParts → RunInput → ShownSink → ShownSink → TickCount → TickCount
+    → Outcome → Type 0
+AreTickedInTurn cal input out now was is outcome.Done = is ≡ count_after was (run_with cal input ∷ [])
+AreTickedInTurn cal input out now was is o = IsStopped cal input out now was is
+
+-- A run was played, and its record was written as its ticks were made: on Done all of it. The record keeps
+-- the headline.
+pub record Records (cal : CalibrationParts) (input : RunInput) (out now : ShownSink) (was is : TickCount)
+    (o : Outcome) : Type 0 where
+  pub written : LineEnds (record_text cal input) out now o
+  pub ticked : AreTickedInTurn cal input out now was is o
+  pub headline : KeepsHeadline (run_with cal input)
+
 -- the input of the run is known, and no fault of reading was met: its record is written
 abbrev pub RecordEnds : CalibrationParts → RunInput → ShownStore → ShownStore → ShownSink → ShownSink
     → TickCount → TickCount → Outcome → Type 0
 RecordEnds cal input store later out now was is o = (later.faults ≡ store.faults)
-    × Plays (record_text cal input) (run_with cal input ∷ []) out now was is o
+    × Records cal input out now was is o
 
 -- the first run of this name, with its number, where n is the number of the first run of the list
 abbrev pub run_named : List ℕ → ℕ → List RunPlan → Option (ℕ × RunPlan)

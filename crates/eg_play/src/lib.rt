@@ -1,7 +1,7 @@
 //! The commands that play whole runs: `run` and `record`.
 //!
 //! A campaign is read, then the drive trace and the image of each of its runs; then the controller plays them
-//! tick by tick, and the report or the record is written.
+//! tick by tick, and the report or the record is written, a record as its ticks are made.
 #![tactic(auto)]
 
 mod campaign;
@@ -10,7 +10,6 @@ mod input;
 mod inputs;
 mod recording;
 mod report;
-mod rows;
 mod running;
 mod texts;
 

@@ -1,14 +1,13 @@
 // The report and the record are written.
-ghost use Rattle.std.specs.Prelude.{All, [], ◌∷◌, map};
+ghost use Rattle.std.specs.Prelude.{All, map};
 ghost use Rattle.eg_campaign.specs.Plays.{IsPlayable, run_with};
 ghost use Rattle.eg_outcome.specs.Outcomes.{PutsNothing};
-ghost use Rattle.eg_play.specs.Texts.{report_text, record_text};
-ghost use Rattle.eg_play.specs.Ends.{Plays};
+ghost use Rattle.eg_play.specs.Texts.{report_text};
+ghost use Rattle.eg_play.specs.Ends.{Plays, Records};
 
-use crate::rows::put_rows;
 use crate::texts::report_lines;
 use eg_base::Sink;
-use eg_campaign::{RunInput, record_one, run_all};
+use eg_campaign::{RecordStop, RunInput, record_into, run_all};
 use eg_outcome::{Outcome, put_lines};
 use eg_tick::Ticks;
 use eg_values::Calibration;
@@ -39,8 +38,8 @@ pub(crate) fn put_report<K: Sink>(
     put_lines(&lines, out)
 }
 
-/// Plays one run of a campaign, and puts its record (docs/FORMATS.md, "The record"). The ticks are counted in
-/// `steps`.
+/// Plays one run of a campaign, and puts its record as its ticks are made (docs/FORMATS.md, "The record"). The
+/// ticks are counted in `steps`.
 pub(crate) fn put_record<K: Sink>(
     alloc: Global,
     calibration: &Calibration,
@@ -49,14 +48,15 @@ pub(crate) fn put_record<K: Sink>(
     steps: &mut Ticks,
 ) -> Outcome
     requires { IsPlayable input.now }
-    ensures plays { Plays (record_text calibration.now input.now) (run_with calibration.now input.now ∷ [])
+    ensures records { Records calibration.now input.now
         (K.shows out.old) (K.shows out.new) steps.old steps.new result }
     ensures put { PutsNothing result → ⊥ }
 {
     // Whoever reads it learns that the calibration is an accepted one.
     let _rules = calibration.rules();
-    let Ok(made) = record_one(alloc, calibration, input, steps) else {
-        return Outcome::Memory;
-    };
-    put_rows(alloc, made.rows.as_slice(), out)
+    match record_into(alloc, calibration, input, out, steps) {
+        Ok(()) => Outcome::Done,
+        Err(RecordStop::Put) => Outcome::WriteFault,
+        Err(RecordStop::Memory) => Outcome::Memory,
+    }
 }

@@ -1,27 +1,22 @@
 // The facts of a run of a gasoline engine on the bench.
-ghost use Rattle.std.specs.Prelude.{◌≡◌, ℕ, ◌+◌, ◌%◌, ◌^◌, ◌≤◌, ◌<◌, true, None, List, map, length, IsTrue};
+ghost use Rattle.std.specs.Prelude.{◌≡◌, ◌+◌, ◌%◌, ◌^◌, ◌≤◌, None, map, length};
 ghost use Rattle.std.specs.Option.{option_copied};
 ghost use Rattle.std.specs.List.{sum};
 ghost use Rattle.eg_guard.specs.declared.regions.TheConstants.{DATA as CODE_END};
-ghost use Rattle.eg_num.specs.Drive.{DriveRow};
 ghost use Rattle.eg_answer.specs.Times.{reaction_of};
 ghost use Rattle.eg_fault.specs.Faults.{IsListed, IsNoneOrValid};
 ghost use Rattle.eg_model.specs.Engines.{gasoline};
-ghost use Rattle.eg_model.specs.Bench.{Run, drive_at};
 ghost use Rattle.eg_model.specs.Rows.{record_rows, record_trap};
-ghost use Rattle.eg_model.specs.Records.{row_at};
 ghost use Rattle.eg_record.specs.Facts.{facts_of};
 ghost use Rattle.eg_tick.specs.Weights.{weight_of};
-ghost use Rattle.eg_tick.specs.Run.{run_by, IsAt};
+ghost use Rattle.eg_tick.specs.Run.{run_by};
 ghost use Rattle.eg_tick.specs.Facts.{IsToldOf, IsWithoutReset, FactsReactWithin, FactsReactAtOnce, GoOffOnce};
 
-use crate::run::{begin, make_row};
-use crate::{Controller, SlicePlan, Ticks};
+use crate::bench::{bench_controller, bench_row};
+use crate::{SlicePlan, Ticks};
 use eg_fault::Fault;
-use eg_guard::FlatMemory;
 use eg_num::Drive;
-use eg_plant::GasolineEngine;
-use eg_record::{Facts, Row, Tally};
+use eg_record::{Facts, Tally};
 use eg_values::Calibration;
 use eg_word::Trap;
 
@@ -95,55 +90,10 @@ fn tally_run(
     let _numbers = (steps.count(), steps.sum());
     let rules = calibration.rules();
     let mut tally = Tally::new(rules.threshold, rules.torque);
-    let mut controller = begin_surely(calibration, image, fault);
+    let mut controller = bench_controller(calibration, image, fault);
     for tick in 0..drive.len() {
-        let row = sure_row(&mut controller, plan, &drive[tick], tick as u32, steps);
+        let row = bench_row(&mut controller, plan, &drive[tick], tick as u32, steps);
         tally.feed(&row);
     }
     (tally.facts(), controller.trap())
-}
-
-/// A controller of an engine at rest, that has made no tick, over a memory that never runs out.
-fn begin_surely(
-    calibration: &Calibration,
-    image: &[u16],
-    fault: Option<&Fault>,
-) -> Controller<GasolineEngine, FlatMemory>
-    requires image { length image.now ≤ CODE_END }
-    requires fault { IsNoneOrValid (option_copied fault) }
-    ensures at { (plan : List (List ℕ)) (drive : List DriveRow) →
-        IsAt (run_by calibration.now image.now (option_copied fault.entry) plan drive) 0 result }
-    ensures ticks { result.kept.ticks ≡ 0 }
-    ensures sure { IsTrue result.kept.memory.sure }
-{
-    match begin(calibration, image, fault) {
-        Ok(controller) => controller,
-        Err(_) => unreachable!("a sure memory never runs out"),
-    }
-}
-
-/// The row of the next tick of a run, by a controller that has made all before it.
-fn sure_row(
-    controller: &mut Controller<GasolineEngine, FlatMemory>,
-    plan: &SlicePlan,
-    drive: &Drive,
-    tick: u32,
-    steps: &mut Ticks,
-) -> Row
-    requires tick { controller.old.kept.ticks ≡ tick }
-    requires fewer { controller.old.kept.ticks < 20000 }
-    requires sure { IsTrue controller.old.kept.memory.sure }
-    ensures at { (r : Run) → r.plan ≡ plan.now → drive_at r tick ≡ drive.now → IsAt r tick controller.old →
-        IsAt r (tick + 1) controller.new }
-    ensures row { (r : Run) → r.plan ≡ plan.now → drive_at r tick ≡ drive.now → IsAt r tick controller.old →
-        result ≡ row_at gasoline r tick }
-    ensures ticks { controller.new.kept.ticks ≡ tick + 1 }
-    ensures stays_sure { IsTrue controller.new.kept.memory.sure }
-    ensures count { steps.new.count ≡ (steps.old.count + 1) % 2 ^ 64 }
-    ensures weight { steps.new.weights ≡ (steps.old.weights + weight_of result) % 2 ^ 64 }
-{
-    match make_row(controller, plan, drive, tick, steps) {
-        Ok(row) => row,
-        Err(_) => unreachable!("a sure memory never runs out"),
-    }
 }

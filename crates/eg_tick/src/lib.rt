@@ -7,6 +7,7 @@
 //! a controller stands for is in `specs/Stands.antt`.
 #![tactic(auto)]
 
+mod bench;
 mod board;
 mod controller;
 mod facts;
@@ -19,6 +20,7 @@ mod run;
 mod span;
 mod working;
 
+pub use bench::{bench_controller, bench_row};
 pub use controller::{Controller, Ticks};
 pub use eg_slices::{SlicePlan, Slices};
 pub use facts::run_facts;

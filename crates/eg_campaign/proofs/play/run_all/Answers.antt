@@ -1,9 +1,8 @@
-use Rattle.std.proofs.Common.{◌≡◌, ◌∙◌, sym, ap, ap₂, subst, ◌+◌, ◌^◌, ◌<◌, [], ◌∷◌, ◌++◌, map, take, arith}
+use Rattle.std.proofs.Common.{◌≡◌, ◌∙◌, sym, ap, ap₂, subst, ◌+◌, ◌<◌, [], ◌∷◌, ◌++◌, map, take, arith}
 use Rattle.std.proofs.lemmas.Grind.{common_steps}
-use Rattle.eg_tick.specs.Weights.{TickCount}
-use Rattle.eg_tick.proofs.RunLemmas.{on_err, more-mod}
-use Rattle.eg_campaign.specs.Plays.{run_with, report_with, count_after, ticks_of}
-use Rattle.eg_campaign.proofs.PlayLemmas.{counted-none, counted-more, map-more, ticks-front, ticks-with}
+use Rattle.eg_tick.proofs.RunLemmas.{on_err}
+use Rattle.eg_campaign.specs.Plays.{run_with, report_with, count_after}
+use Rattle.eg_campaign.proofs.PlayLemmas.{counted-none, counted-more, map-more}
 use Rattle.eg_campaign.proofs.play.run_all.Goals as goal
 
 pub loop-input-init : goal.loop-input-init
@@ -19,13 +18,12 @@ returns-in_err-summary-clause-count c =
     let run = run_with c.args.calibration.now in
     let inputs = c.args.inputs.now in
     let i = c.loop-input.input-index in
-    let (n, most, is) = c.in_err-summary.ensures.count in
-    let with = ticks-with run inputs i c.input-item.result c.loop-input-test.true c.input-item.is in
     on_err _ c.from_residual.result (
-      ticks_of (map run (take i inputs)) + n,
-      omega (arith, with, most),
-      is ∙ more-mod (2 ^ 64) c.args.steps.now.count (ticks_of (map run (take i inputs))) c.loop-input.steps.count n
-          (ap (λ (k : TickCount). k.count) c.loop-input.invariant.counts),
+      i + 1,
+      omega (arith, c.loop-input-test.true),
+      counted-more c.args.steps.now c.loop-input.steps c.report_one.new.steps (map run (take i inputs)) (run c.input-item.result)
+          c.loop-input.invariant.counts c.in_err-summary.ensures.counted
+          ∙ ap (count_after c.args.steps.now) (sym (map-more run inputs i c.input-item.result c.loop-input-test.true c.input-item.is)),
     )
 
 pub returns-in_err-push-clause-count : goal.returns-in_err-push-clause-count
@@ -33,14 +31,12 @@ returns-in_err-push-clause-count c =
     let run = run_with c.args.calibration.now in
     let inputs = c.args.inputs.now in
     let i = c.loop-input.input-index in
-    let more = map-more run inputs i c.input-item.result c.loop-input-test.true c.input-item.is in
     on_err _ c.from_residual-in_err-push.result (
-      ticks_of (map run (take (i + 1) inputs)),
-      ticks-front run inputs (i + 1),
-      ap (λ (k : TickCount). k.count)
-          (counted-more c.args.steps.now c.loop-input.steps c.report_one.new.steps (map run (take i inputs)) (run c.input-item.result)
+      i + 1,
+      omega (arith, c.loop-input-test.true),
+      counted-more c.args.steps.now c.loop-input.steps c.report_one.new.steps (map run (take i inputs)) (run c.input-item.result)
           c.loop-input.invariant.counts c.in_ok-summary.ensures.counted
-          ∙ ap (count_after c.args.steps.now) (sym more)),
+          ∙ ap (count_after c.args.steps.now) (sym (map-more run inputs i c.input-item.result c.loop-input-test.true c.input-item.is)),
     )
 
 pub loop-input-preserved : goal.loop-input-preserved

@@ -1,24 +1,28 @@
-use Rattle.std.proofs.Common.{◌∙◌, sym, subst, ◌≤◌}
-use Rattle.eg_outcome.specs.Outcomes.{LineEnds}
-use Rattle.eg_campaign.specs.Plays.{run_with}
-use Rattle.eg_campaign.proofs.PlayLemmas.{ticks-one}
-use Rattle.eg_play.proofs.HeadlineLemmas.{keeps_headline_alone}
-use Rattle.eg_play.proofs.PlayLemmas.{no_memory, put, record_is}
+use Rattle.std.proofs.Common.{ap, Err}
+use Rattle.eg_play.proofs.HeadlineLemmas.{keeps_headline}
+use Rattle.eg_play.proofs.PlayLemmas.{recorded, put_failed, ran_out}
 use Rattle.eg_play.proofs.report.put_record.Goals as goal
 
-pub returns-in_default-clause-plays : goal.returns-in_default-clause-plays
-returns-in_default-clause-plays g c =
-    let a = c.args in
-    let (n, most, is) = c.in_default.ensures.count in
-    no_memory _ _ (g.K.Sink.shows a.out.now) a.steps.now c.record_one.new.steps n
-    (subst (λ k. n ≤ k) (sym (ticks-one (run_with a.calibration.now a.input.now))) most) is
-    (keeps_headline_alone a.calibration.now c.rules-rules.ensures.accepted a.input.now c.requires)
-
-pub returns-clause-plays : goal.returns-clause-plays
-returns-clause-plays g c =
+pub returns-in-Ok-clause-records : goal.returns-in-Ok-clause-records
+returns-in-Ok-clause-records g c =
     let a = c.args in
     let shows = g.K.Sink.shows in
-    put _ _ (shows a.out.now) (shows c.put_rows.new.out) a.steps.now c.record_one.new.steps c.put_rows.result c.in-Ok.ensures.counted
-    (subst (λ t. LineEnds t (shows a.out.now) (shows c.put_rows.new.out) c.put_rows.result)
-    (record_is a.calibration.now a.input.now c.as_slice.result.now (c.as_slice.ensures ∙ c.in-Ok.ensures.rows)) c.put_rows.ensures.ends)
-    (keeps_headline_alone a.calibration.now c.rules-rules.ensures.accepted a.input.now c.requires)
+    recorded a.calibration.now a.input.now (shows a.out.now) (shows c.record_into.new.out) a.steps.now c.record_into.new.steps
+    c.in-Ok.ensures.whole c.in-Ok.ensures.no_fault c.in-Ok.ensures.counted
+    (keeps_headline a.calibration.now c.rules-rules.ensures.accepted a.input.now c.requires)
+
+pub returns-in-Err-Put-clause-records : goal.returns-in-Err-Put-clause-records
+returns-in-Err-Put-clause-records g c =
+    let a = c.args in
+    let shows = g.K.Sink.shows in
+    put_failed a.calibration.now a.input.now (shows a.out.now) (shows c.record_into.new.out) a.steps.now c.record_into.new.steps
+    c.in-Err-Put.ensures.stopped (c.in-Err-Put.ensures.cause (ap (λ e. Err e) c.in-Err-Put.field-0-is))
+    (keeps_headline a.calibration.now c.rules-rules.ensures.accepted a.input.now c.requires)
+
+pub returns-in-Err-Memory-clause-records : goal.returns-in-Err-Memory-clause-records
+returns-in-Err-Memory-clause-records g c =
+    let a = c.args in
+    let shows = g.K.Sink.shows in
+    ran_out a.calibration.now a.input.now (shows a.out.now) (shows c.record_into.new.out) a.steps.now c.record_into.new.steps
+    c.in-Err-Memory.ensures.stopped (c.in-Err-Memory.ensures.memory (ap (λ e. Err e) c.in-Err-Memory.field-0-is))
+    (keeps_headline a.calibration.now c.rules-rules.ensures.accepted a.input.now c.requires)

@@ -1,6 +1,9 @@
-use Rattle.std.proofs.Common.{◌≡◌, ◌∙◌, ap, subst, map}
+use Rattle.std.proofs.Common.{◌≡◌, ◌∙◌, ap, subst, map, take}
 use Rattle.std.specs.Prelude.{string_bytes}
 use Rattle.std.specs.List.{concat}
+use Rattle.eg_tick.specs.Weights.{TickCount}
+use Rattle.eg_campaign.specs.Plays.{run_with, ticks_of}
+use Rattle.eg_campaign.proofs.PlayLemmas.{ticks-front}
 use Rattle.eg_outcome.specs.Outcomes.{LineEnds}
 use Rattle.eg_play.specs.Texts.{report_text}
 use Rattle.eg_play.proofs.HeadlineLemmas.{keep_headline}
@@ -11,7 +14,8 @@ pub returns-in_default-clause-plays : goal.returns-in_default-clause-plays
 returns-in_default-clause-plays g c =
     let a = c.args in
     let (n, most, is) = c.in_default.ensures.count in
-    no_memory _ _ (g.K.Sink.shows a.out.now) a.steps.now c.run_all.new.steps n most is
+    no_memory _ _ (g.K.Sink.shows a.out.now) a.steps.now c.run_all.new.steps (ticks_of (map (run_with a.calibration.now) (take n a.inputs.now)))
+    (ticks-front (run_with a.calibration.now) a.inputs.now n) (ap (λ (k : TickCount). k.count) is)
     (keep_headline a.calibration.now c.rules-rules.ensures.accepted a.inputs.now c.requires)
 
 pub returns-in_default-report_lines-clause-plays : goal.returns-in_default-report_lines-clause-plays

@@ -17,9 +17,9 @@ pub loop-tick-init : goal.loop-tick-init
 loop-tick-init c =
     let r : Run = run_by c.args.calibration.now c.args.image.now (option_copied c.args.fault) c.args.plan.now c.args.drive.now in
     record {
-      ticks = c.begin_surely-controller.ensures.ticks;
-      sure = c.begin_surely-controller.ensures.sure;
-      at = c.begin_surely-controller.ensures.at c.args.plan.now c.args.drive.now;
+      ticks = c.bench_controller-controller.ensures.ticks;
+      sure = c.bench_controller-controller.ensures.sure;
+      at = c.bench_controller-controller.ensures.at c.args.plan.now c.args.drive.now;
       fed = c.new-tally.ensures.ticks;
       threshold = c.new-tally.ensures.threshold ∙ ap (λ (rules : Rules). rules.threshold) c.rules-rules.ensures.rules;
       weights = c.new-tally.ensures.weights ∙ ap (λ (rules : Rules). rules.torque) c.rules-rules.ensures.rules;
@@ -30,11 +30,11 @@ loop-tick-init c =
     }
 
 -- the row that is made is that of the next tick of the run
-next_row : (c : goal.After-row-1) → c.sure_row-row.result
+next_row : (c : goal.After-row-1) → c.bench_row-row.result
     ≡ row_at gasoline (run_by c.args.calibration.now c.args.image.now (option_copied c.args.fault) c.args.plan.now c.args.drive.now) c.loop-tick.tick
 next_row c =
     let r : Run = run_by c.args.calibration.now c.args.image.now (option_copied c.args.fault) c.args.plan.now c.args.drive.now in
-    c.sure_row-row.ensures.row r refl (drive-at r c.args.drive.now c.loop-tick.tick _ refl c.loop-tick-test.true c.index-drive-tick.is) c.loop-tick.invariant.at
+    c.bench_row-row.ensures.row r refl (drive-at r c.args.drive.now c.loop-tick.tick _ refl c.loop-tick-test.true c.index-drive-tick.is) c.loop-tick.invariant.at
 
 pub feed-requires-clause-tick : goal.feed-requires-clause-tick
 feed-requires-clause-tick c =
@@ -49,18 +49,18 @@ loop-tick-preserved c =
     let r : Run = run_by c.args.calibration.now c.args.image.now (option_copied c.args.fault) c.args.plan.now c.args.drive.now in
     let drive : drive_at r c.loop-tick.tick ≡ c.index-drive-tick.result =
     drive-at r c.args.drive.now c.loop-tick.tick _ refl c.loop-tick-test.true c.index-drive-tick.is in
-    let row : c.sure_row-row.result ≡ row_at gasoline r c.loop-tick.tick = c.sure_row-row.ensures.row r refl drive c.loop-tick.invariant.at in
-    let more = rows-next r c.loop-tick.tick c.sure_row-row.result row in
+    let row : c.bench_row-row.result ≡ row_at gasoline r c.loop-tick.tick = c.bench_row-row.ensures.row r refl drive c.loop-tick.invariant.at in
+    let more = rows-next r c.loop-tick.tick c.bench_row-row.result row in
     record {
-      ticks = c.sure_row-row.ensures.ticks;
-      sure = c.sure_row-row.ensures.stays_sure;
-      at = c.sure_row-row.ensures.at r refl drive c.loop-tick.invariant.at;
+      ticks = c.bench_row-row.ensures.ticks;
+      sure = c.bench_row-row.ensures.stays_sure;
+      at = c.bench_row-row.ensures.at r refl drive c.loop-tick.invariant.at;
       fed = c.feed.ensures.ticks ∙ ap (λ n. n + 1) c.loop-tick.invariant.fed;
       threshold = c.feed.ensures.threshold ∙ c.loop-tick.invariant.threshold;
       weights = c.feed.ensures.weights ∙ c.loop-tick.invariant.weights;
       stands = subst (IsTallyOf c.feed.new.self) more (c.feed.ensures.stands (rows_to gasoline r c.loop-tick.tick) c.loop-tick.invariant.stands);
-      counts = counted-next c.args.steps.now c.loop-tick.steps c.sure_row-row.new.steps c.loop-tick.tick (rows_to gasoline r c.loop-tick.tick) c.sure_row-row.result
-          c.loop-tick.invariant.counts c.sure_row-row.ensures.count c.sure_row-row.ensures.weight
+      counts = counted-next c.args.steps.now c.loop-tick.steps c.bench_row-row.new.steps c.loop-tick.tick (rows_to gasoline r c.loop-tick.tick) c.bench_row-row.result
+          c.loop-tick.invariant.counts c.bench_row-row.ensures.count c.bench_row-row.ensures.weight
           ∙ ap (counted c.args.steps.now (c.loop-tick.tick + 1)) more;
     }
 

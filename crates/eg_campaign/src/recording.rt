@@ -1,0 +1,95 @@
+// The record of a run, written as its ticks are made.
+ghost use Rattle.std.specs.Prelude.{◌≡◌, [], ◌∷◌, OnOk, OnErr, IsErrOf};
+ghost use Rattle.eg_base.specs.Outside.{Rose, Appends, AppendsPrefix};
+ghost use Rattle.eg_record.specs.Texts.{row_line};
+ghost use Rattle.eg_campaign.specs.Plays.{IsPlayable, run_with, count_after};
+ghost use Rattle.eg_campaign.specs.Texts.{record_text};
+ghost use Rattle.eg_campaign.specs.Recording.{IsStopped};
+ghost use Rattle.eg_campaign.specs.declared.recording.RecordStop.TheVariants.{Memory, Put};
+
+use crate::RunInput;
+use eg_base::{PutRefusal, Sink};
+use eg_record::{Row, push_row, record_header};
+use eg_tick::{Ticks, bench_controller, bench_row};
+use eg_values::Calibration;
+use std::alloc::Global;
+
+/// Why the writing of a record was stopped.
+#[derive(Clone, Copy, Debug, PartialEq, Eq)]
+pub enum RecordStop {
+    /// Memory ran out.
+    Memory,
+    /// Writing failed: the output has counted a fault.
+    Put,
+}
+
+/// Plays a run, and puts its record to an output: the header, and the line of each row as its tick is made
+/// (docs/FORMATS.md, "The record"; docs/CONCEPT.md, "The record of a run"). Each line is one put, and one
+/// buffer holds each in turn, so that a row takes no memory of its own. The ticks are counted in `steps`.
+pub fn record_into<K: Sink>(
+    alloc: Global,
+    calibration: &Calibration,
+    input: &RunInput,
+    out: &mut K,
+    steps: &mut Ticks,
+) -> Result<(), RecordStop>
+    requires { IsPlayable input.now }
+    // All of the record is appended, and all of its ticks are counted.
+    ensures whole { OnOk result
+        (Appends (K.shows out.old) (K.shows out.new) (record_text calibration.now input.now)) }
+    ensures counted { OnOk result
+        (steps.new ≡ count_after steps.old (run_with calibration.now input.now ∷ [])) }
+    ensures no_fault { OnOk result ((K.shows out.new).faults ≡ (K.shows out.old).faults) }
+    // Where it is stopped a front is appended, and no tick is made before the line of the one before stands.
+    ensures stopped { OnErr result (IsStopped calibration.now input.now
+        (K.shows out.old) (K.shows out.new) steps.old steps.new) }
+    // Put comes only where a fault of writing is counted, and Memory only where none is.
+    ensures cause { IsErrOf result Put → Rose (K.shows out.old).faults (K.shows out.new).faults }
+    ensures memory { IsErrOf result Memory → (K.shows out.new).faults ≡ (K.shows out.old).faults }
+    ensures stays_sure { (K.shows out.new).sure ≡ (K.shows out.old).sure }
+{
+    // Whoever reads them learns that both numbers are a u64.
+    let _numbers = (steps.count(), steps.sum());
+    let (image, drive) = (input.image.as_slice(), input.drive.as_slice());
+    let (plan, fault) = (&input.plan.plan, input.plan.fault.as_ref());
+    put_whole(record_header().as_bytes(), out)?;
+    let mut controller = bench_controller(calibration, image, fault);
+    let mut line = Vec::new(alloc);
+    for tick in 0..drive.len() {
+        let row = bench_row(&mut controller, plan, &drive[tick], tick as u32, steps);
+        put_row(&mut line, &row, out)?;
+    }
+    Ok(())
+}
+
+/// Puts the line of a row, which is made in this buffer, whatever that held.
+fn put_row<K: Sink>(line: &mut Vec<u8>, row: &Row, out: &mut K) -> Result<(), RecordStop>
+    ensures ok { OnOk result (Appends (K.shows out.old) (K.shows out.new) (row_line row.now)) }
+    ensures prefix { OnErr result (AppendsPrefix (K.shows out.old) (K.shows out.new) (row_line row.now)) }
+    ensures no_fault { OnOk result ((K.shows out.new).faults ≡ (K.shows out.old).faults) }
+    ensures cause { IsErrOf result Put → Rose (K.shows out.old).faults (K.shows out.new).faults }
+    ensures memory { IsErrOf result Memory → (K.shows out.new).faults ≡ (K.shows out.old).faults }
+    ensures stays_sure { (K.shows out.new).sure ≡ (K.shows out.old).sure }
+{
+    line.clear();
+    let Ok(()) = push_row(line, row) else {
+        return Err(RecordStop::Memory);
+    };
+    put_whole(line, out)
+}
+
+/// Puts these bytes in one piece.
+fn put_whole<K: Sink>(bytes: &[u8], out: &mut K) -> Result<(), RecordStop>
+    ensures ok { OnOk result (Appends (K.shows out.old) (K.shows out.new) bytes.now) }
+    ensures prefix { OnErr result (AppendsPrefix (K.shows out.old) (K.shows out.new) bytes.now) }
+    ensures no_fault { OnOk result ((K.shows out.new).faults ≡ (K.shows out.old).faults) }
+    ensures cause { IsErrOf result Put → Rose (K.shows out.old).faults (K.shows out.new).faults }
+    ensures memory { IsErrOf result Memory → (K.shows out.new).faults ≡ (K.shows out.old).faults }
+    ensures stays_sure { (K.shows out.new).sure ≡ (K.shows out.old).sure }
+{
+    match out.put(bytes) {
+        Ok(()) => Ok(()),
+        Err(PutRefusal::Failed) => Err(RecordStop::Put),
+        Err(PutRefusal::Memory) => Err(RecordStop::Memory),
+    }
+}
