@@ -110,8 +110,7 @@ module _ (k : ℕ) where
       not_le : (n k : ℕ) → k < n → nat_le n k ≡ false
       not_le n k late = grind arith
 
-  once : (row : Row) (before : List Row) → AreRows (row ∷ before) → All Untested (row ∷ before) → All OnUpTo (row ∷ before) →
-      Once row before k
+  once : (row : Row) (before : List Row) → AreRows (row ∷ before) → All Untested (row ∷ before) → All OnUpTo (row ∷ before) → Once row before k
   once row [] whole untested on =
       let now = on_by row 0 whole.0 (omega arith) (All-head OnUpTo row [] on) in
       still_on (omega arith) (first_off-on row [] now first_off-nil) (last_on-on row [] now ∙ ap Some whole.0)

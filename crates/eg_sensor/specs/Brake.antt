@@ -1,6 +1,6 @@
--- The brake. Two contacts sense it: the first reads 1 where it is pressed and 0 where it isn't, the second
--- the other way round. The unit takes it as pressed where either says so; no watch compares them. Pedal and
--- raise are read as 0 then.
+-- The brake. Two contacts sense it: the first reads 1 where it is pressed and 0 where it isn't, the second the
+-- other way round. No watch compares them, and one that says so is enough. While the driver brakes, pedal and
+-- raise count as 0.
 use Rattle.std.specs.Prelude.{ℕ, ◌==◌, Bool, not, ◌||◌, List, [], ◌∷◌, slice_index, if◌then◌else◌}
 use Rattle.eg_sensor.specs.declared.readings.Readings.{Readings}
 
