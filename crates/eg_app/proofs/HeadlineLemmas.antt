@@ -1,7 +1,6 @@
 -- The headline, from how `run` and `record` end.
 use Rattle.std.proofs.Common.{◌≡◌, ◌∙◌, ◌+◌, ◌∷◌, [], List, ℕ, Option, Some, None, length, refl, sym, subst}
 use Rattle.std.specs.Prelude.{Result, Ok, Err}
-use Rattle.std.proofs.lemmas.List.Elements.{All-head}
 use Rattle.eg_base.specs.Outside.{ShownStore, ShownSink}
 use Rattle.eg_num.specs.Drive.{DriveRow}
 use Rattle.eg_values.specs.Calibration.{CalibrationParts}
@@ -133,7 +132,7 @@ named_tells calibration campaign name cal plans store later out now was then (So
   is_named = named;
   files_say = input_tells (λ count. None) store later found.0 found.1 input comes;
   written = plays.written.0;
-  headline = All-head KeepsHeadline _ [] plays.headline;
+  headline = plays.headline;
 }
 
 done_tells : (command : Option Command) (store later : ShownStore) (out now : ShownSink) (was then : TickCount)

@@ -4,12 +4,13 @@ use Rattle.eg_base.specs.Outside.{ShownStore, ShownSink, Appends}
 use Rattle.eg_values.specs.Calibration.{CalibrationParts}
 use Rattle.eg_values.specs.Reference.{reference_parts}
 use Rattle.eg_campaign.specs.Plays.{run_with}
+use Rattle.eg_campaign.specs.Texts.{record_text}
 use Rattle.eg_plan.specs.declared.run.RunPlan.{RunPlan}
 use Rattle.eg_campaign.specs.declared.play.RunInput.{RunInput}
 use Rattle.eg_outcome.specs.Reads.{ReadComes}
 use Rattle.eg_outcome.specs.Calibrations.{calibration_file}
 use Rattle.eg_play.specs.Files.{campaign_file, trace_file, image_file}
-use Rattle.eg_play.specs.Texts.{report_text, record_text}
+use Rattle.eg_play.specs.Texts.{report_text}
 use Rattle.eg_play.specs.Headline.{KeepsHeadline}
 use Rattle.eg_play.specs.Ends.{run_named}
 use Rattle.eg_soak.specs.Soak.{drawn_runs, soak_of}

@@ -54,17 +54,52 @@ fn the_read_that_failed_is_told(rt: HostRuntime) -> Result<(), Fail> {
     Ok(())
 }
 
+/// The words of a call that writes a record of four ticks.
+const RECORD: &str = "record c.toml a";
+
+/// What stands of that record where its fourth put fails: the header, the lines of ticks 0 and 1, and the
+/// first 26 bytes of the line of tick 2.
+const CUT: &str = "tick,pedal,speed,raise,plate,charge,torque,limit,path1,path2,on,\
+used,permitted,actual,excess,pairs,throttle,ignition,found,answer,verdict
+0,0,800,0,0,40,0,200,1,1,1,0,200,100,0,0,100,0,-,-,-
+1,0,800,0,50,40,0,200,1,1,1,0,200,100,0,0,0,0,-,-,-
+2,0,800,0,0,80,0,200,1,1,1";
+
+#[test]
+fn a_record_is_written_as_its_ticks_are_made(rt: HostRuntime) -> Result<(), Fail> {
+    let failing = Failing {
+        put: Some(3),
+        ..NOTHING
+    };
+    let shown = call(rt.alloc(), RECORD, failing)?;
+    assert!(rt; shown.outcome == Outcome::WriteFault);
+    assert!(rt; shown.out.bytes() == CUT.as_bytes());
+    assert!(rt; shown.steps.count() == 3);
+    Ok(())
+}
+
 /// Words, and how many bytes stand where the put of a number fails: the lines before, and half of the next.
 const PUTS: [(&str, &[(u32, usize)]); 5] = [
     ("check in.csv", &[(0, 2), (1, 5)]),
     ("bound", &[(0, 6), (1, 12)]),
     ("run c.toml", &[(0, 29), (1, 88), (2, 131), (3, 144)]),
-    ("record c.toml a", &[(0, 69), (1, 164), (4, 324), (5, 352)]),
+    (RECORD, &[(0, 69), (1, 164), (3, 269), (4, 324), (5, 352)]),
     ("soak 1 1", &[(0, 3), (3, 27), (11, 94), (12, 99)]),
 ];
 
-/// Whether a call has shown so many bytes of what the whole call shows, and made its ticks.
-fn is_cut(whole: &Shown, shown: &Shown, length: usize) -> bool {
+/// How many ticks a call has made whose put of this number failed: those of a record are made one by one
+/// behind the header, and all others before the first put.
+fn ticks_at(line: &str, number: u32, whole: &Shown) -> u64 {
+    let all = whole.steps.count();
+    if line == RECORD {
+        all.min(u64::from(number))
+    } else {
+        all
+    }
+}
+
+/// Whether a call has shown so many bytes of what the whole call shows, and made so many ticks.
+fn is_cut(whole: &Shown, shown: &Shown, length: usize, ticks: u64) -> bool {
     let wanted = if length == whole.out.bytes().len() {
         Outcome::Done
     } else {
@@ -73,7 +108,7 @@ fn is_cut(whole: &Shown, shown: &Shown, length: usize) -> bool {
     shown.outcome == wanted
         && shown.out.bytes().len() == length
         && whole.out.bytes().starts_with(shown.out.bytes())
-        && shown.steps.count() == whole.steps.count()
+        && shown.steps.count() == ticks
 }
 
 /// The last of these numbers is that of a put that never comes.
@@ -87,7 +122,11 @@ fn each_put_is_one_whole_line(rt: HostRuntime) -> Result<(), Fail> {
                 ..NOTHING
             };
             let shown = call(rt.alloc(), line, failing)?;
-            assert!(rt; is_cut(&whole, &shown, *length), "{line}, put {number}");
+            let ticks = ticks_at(line, *number, &whole);
+            assert!(rt;
+                is_cut(&whole, &shown, *length, ticks),
+                "{line}, put {number}"
+            );
         }
     }
     Ok(())
