@@ -2,12 +2,12 @@
 #   ./egasim record examples/brake.toml held >by_1.csv
 #   ./egasim record --cal examples/brake_counts.toml examples/brake.toml held >by_2.csv
 #   gnuplot -c examples/plot_brake.gp by_1.csv by_2.csv docs/brake.png
-set terminal pngcairo size 720,560 font "Sans,10"
+set terminal pngcairo size 720,620 font "Sans,10"
 set output ARG3
 set datafile separator ","
-set key bottom right opaque
-set yrange [0:3000]
-set y2range [-6:2]
+set key outside below horizontal
+set yrange [0:3800]
+set y2range [-11:2]
 set ylabel "torque, tenths of Nm"
 set ytics nomirror 0,500,2500
 set y2tics nomirror ("stages off" 0, "on" 1)
