@@ -1,0 +1,3 @@
+pub mod DieselLemmas
+pub mod DieselLaws
+pub mod Worked

@@ -1,0 +1,152 @@
+// The diesel engine.
+ghost use Rattle.std.specs.Prelude.{◌≡◌, ◌≤◌};
+ghost use Rattle.std.specs.Option.{ForSome};
+ghost use Rattle.eg_plant.specs.Engine.{KeepsLaws};
+ghost use Rattle.eg_plant.specs.Gasoline as gasoline;
+ghost use Rattle.eg_diesel.specs.Diesel as diesel;
+ghost use Rattle.eg_diesel.specs.Diesel.{StepsAsDiesel, at_rest, shown_of};
+
+use eg_num::toward;
+use eg_plant::{Engine, PlantData};
+use std::marker::Model;
+
+/// A diesel engine (docs/CONCEPT.md, "Plant"). It goes by the data of the gasoline plant: `slew` is the most
+/// that its rack moves in a tick, `fill` the most that its boost does, `charge` the smoke limit of each boost
+/// (all in per mille), and `kt` the torque of a quantity of 1000 (in tenths of Nm). Contracts see its
+/// `DieselPlant`.
+#[derive(Drop)]
+pub struct DieselEngine {
+    plant: PlantData,
+    rack: u16,
+    boost: u16,
+    quantity: u16,
+    torque: u16,
+}
+
+impl Model for DieselEngine {
+    ghost use Rattle.eg_diesel.specs.Diesel.{DieselPlant};
+
+    ghost Value = { DieselPlant };
+
+    ghost use Rattle.eg_diesel.specs.Keeping.{IsKept};
+
+    ghost view = { λ e. record {
+      parts = e.plant;
+      state = record {
+        rack = e.rack;
+        boost = e.boost;
+        quantity = e.quantity;
+        torque = e.torque;
+      };
+    } };
+
+    ghost invariant = { λ e. IsKept e.plant (record {
+      rack = e.rack;
+      boost = e.boost;
+      quantity = e.quantity;
+      torque = e.torque;
+    }) };
+}
+
+impl DieselEngine {
+    /// An engine at rest.
+    #[tactic(auto, unfolding(crate::specs::Diesel::at_rest))]
+    pub fn new(plant: PlantData) -> DieselEngine
+        ensures state { result ≡ record { parts = plant; state = at_rest } }
+        ensures shown { ⟦<DieselEngine as Engine>⟧.shows result ≡ shown_of at_rest }
+        ensures kt { ⟦<DieselEngine as Engine>⟧.kt result ≡ plant.kt }
+        ensures laws { KeepsLaws plant.kt (shown_of at_rest) }
+    {
+        DieselEngine {
+            plant,
+            rack: 0,
+            boost: 0,
+            quantity: 0,
+            torque: 0,
+        }
+    }
+}
+
+impl Engine for DieselEngine {
+    ghost shows = { λ e. shown_of e.state };
+
+    ghost kt = { λ e. e.parts.kt };
+
+    ghost steps = { StepsAsDiesel };
+
+    #[tactic(auto, using(crate::proofs::DieselLemmas::laws), unfolding(crate::specs::Diesel::diesel_step))]
+    fn step(&mut self, plate: u16, ignition: u16, on: bool, held: Option<u16>) {
+        let rack = next_rack(&self.plant, self.rack, plate, on, held);
+        let boost = next_boost(&self.plant, self.rack, self.boost);
+        let quantity = quantity_of(&self.plant, rack, boost, on);
+        self.torque = torque_of(self.plant.kt(), quantity, ignition, on);
+        self.rack = rack;
+        self.boost = boost;
+        self.quantity = quantity;
+    }
+
+    fn torque(&self) -> u16 {
+        self.torque
+    }
+
+    fn loads(&self) -> [u16; 2] {
+        [self.quantity, self.quantity]
+    }
+
+    fn position(&self) -> u16 {
+        self.rack
+    }
+
+    fn kt(&self) -> u16 {
+        self.plant.kt()
+    }
+}
+
+/// The rack after a step, by the command to the plate and where the plate is held.
+#[tactic(auto, unfolding(eg_plant::specs::Gasoline::next_plate))]
+fn next_rack(plant: &PlantData, rack: u16, command: u16, on: bool, held: Option<u16>) -> u16
+    requires rack { rack ≤ 1000 }
+    requires held { ForSome held (λ at. at ≤ 1000) }
+    ensures value { result ≡ diesel.next_rack plant.now rack command on held }
+    ensures range { result ≤ 1000 }
+{
+    if let Some(at) = held {
+        return at;
+    }
+    let target = if on { command.min(1000) } else { 0 };
+    toward(rack, target, plant.slew())
+}
+
+/// The boost after a step, by the rack before it.
+#[tactic(auto, unfolding(crate::specs::Diesel::next_boost))]
+fn next_boost(plant: &PlantData, rack: u16, boost: u16) -> u16
+    ensures { result ≡ diesel.next_boost plant.now rack boost }
+{
+    toward(boost, rack, plant.fill())
+}
+
+/// The quantity at a rack and a boost, in per mille: the rack, at most the smoke limit of the boost.
+#[tactic(auto, unfolding(crate::specs::Diesel::quantity_of))]
+fn quantity_of(plant: &PlantData, rack: u16, boost: u16, on: bool) -> u16
+    ensures { result ≡ diesel.quantity_of plant.now rack boost on }
+{
+    if on {
+        rack.min(plant.charge().at(boost))
+    } else {
+        0
+    }
+}
+
+/// The torque of a quantity, in tenths of Nm.
+#[tactic(auto, unfolding(eg_plant::specs::Gasoline::torque_of))]
+fn torque_of(kt: u16, quantity: u16, ignition: u16, on: bool) -> u16
+    requires quantity { quantity ≤ 1000 }
+    requires kt { kt ≤ 10000 }
+    ensures { result ≡ gasoline.torque_of kt quantity ignition on }
+{
+    if !on {
+        return 0;
+    }
+    let full = u64::from(quantity) * u64::from(kt);
+    (full * u64::from(ignition.min(1000)) / 1_000_000) as u16
+}

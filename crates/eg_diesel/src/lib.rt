@@ -1,0 +1,6 @@
+//! The diesel engine: its plant meters what is injected, and goes by the same data as the gasoline plant.
+#![tactic(auto)]
+
+mod diesel_engine;
+
+pub use diesel_engine::DieselEngine;
