@@ -38,8 +38,8 @@ pub(crate) fn put_report<K: Sink>(
     put_lines(&lines, out)
 }
 
-/// Plays one run of a campaign, and puts its record as its ticks are made (docs/FORMATS.md, "The record"). The
-/// ticks are counted in `steps`.
+/// Plays one run of a campaign, and puts its record as its ticks are made (docs/FORMATS.md, "The record").
+/// The ticks are counted in `steps`.
 pub(crate) fn put_record<K: Sink>(
     alloc: Global,
     calibration: &Calibration,

@@ -49,8 +49,8 @@ impl RunFacts {
     }
 }
 
-/// Plays a run that was drawn, by the reference calibration, and tells what counts of it. No row of it is kept.
-/// Its ticks are counted in `steps`.
+/// Plays a run that was drawn, by the reference calibration, and tells what counts of it (docs/CONCEPT.md,
+/// "`soak`"). No row of it is kept. Its ticks are counted in `steps`.
 pub(crate) fn play(calibration: &Calibration, drawn: &DrawnRun, steps: &mut Ticks) -> RunFacts
     requires calibration { calibration.now ≡ reference_parts }
     requires drawn { IsDrawn drawn.now }

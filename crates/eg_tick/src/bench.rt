@@ -40,9 +40,9 @@ pub fn bench_controller(
     }
 }
 
-/// Makes the next tick of a run on the bench, by the controller that has made all before it, and tells its row
-/// (docs/CONCEPT.md, "A run, tick by tick"). `tick` is its number in the run, the first being 0, and `drive`
-/// the drive row of that tick. It is counted in `steps`. It takes no memory and refuses nothing.
+/// Makes the next tick of a run on the bench, by the controller that has made all before it, and tells its
+/// row (docs/CONCEPT.md, "A run, tick by tick"). `tick` is its number in the run, the first being 0, and
+/// `drive` the drive row of that tick. It is counted in `steps`. It takes no memory and refuses nothing.
 pub fn bench_row(
     controller: &mut Controller<GasolineEngine, FlatMemory>,
     plan: &SlicePlan,
