@@ -1,6 +1,6 @@
 -- Runs that are played one after another: their rows, and what their ticks come to.
 use Rattle.std.proofs.Common.{◌≡◌, ◌∙◌, sym, ap, ap₂, ℕ, ◌+◌, ◌%◌, ◌^◌, ◌<◌, ◌≤◌, List, [], ◌∷◌, ◌++◌, map, take, drop, get_or, length, add-one, arith}
-use Rattle.std.specs.Prelude.{reverse, Option, Result, Ok, Err, IfOk, OnOk}
+use Rattle.std.specs.Prelude.{reverse, Option}
 use Rattle.std.specs.List.{sum}
 use Rattle.std.proofs.Math.Nat.{mod-eq_of_lt}
 use Rattle.std.proofs.Math.Seq.{take-suc}
@@ -83,14 +83,6 @@ pub counted_run : (was is : TickCount) (r : Run) →
 unfolding counts
 counted_run was is r e = e ∙ ap₂ (λ n w. counts ((was.count + n) % 2 ^ 64) ((was.weights + w) % 2 ^ 64)) (sym (ticks-one r)) (sym (weights-one r))
 
--- the same by its rows in the order of time
-pub counted_one : (was is : TickCount) (r : Run) (rows : List Row) → rows ≡ reverse (record_rows gasoline r) →
-    is ≡ record { count = (was.count + length r.drive) % 2 ^ 64; weights = (was.weights + sum (map weight_of rows)) % 2 ^ 64 } →
-    is ≡ count_after was (r ∷ [])
-unfolding counts
-counted_one was is r rows are e = counted_run was is r (e ∙ ap (λ w. counts ((was.count + length r.drive) % 2 ^ 64) ((was.weights + w) % 2 ^ 64))
-    (ap (λ l. sum (map weight_of l)) are ∙ sum-reverse weight_of (record_rows gasoline r)))
-
 -- before the first run
 pub counted-none : (was : TickCount) → was.count < 2 ^ 64 → was.weights < 2 ^ 64 → was ≡ count_after was []
 unfolding ticks_of weights_of counts
@@ -137,11 +129,3 @@ ticks-with f xs i x below is =
     ∙ ap (λ n. ticks_of (map f (take i xs)) + n) (ticks-one (f x)) in
     let front : ticks_of (map f (take (i + 1) xs)) ≤ ticks_of (map f xs) = ticks-front f xs (i + 1) in
     omega (arith, more, front)
-
--- ---- results ----
-
--- a fact by two of what was made
-pub on_ok : {T E : Type 0} (P Q : T → Type 0) (R : Type 0) (result : Result T E) →
-    ((value : T) → P value → Q value → R) → IfOk result P → IfOk result Q → OnOk result R
-on_ok P Q R (Ok value) gives p q = gives value p q
-on_ok P Q R (Err e) gives p q = tt

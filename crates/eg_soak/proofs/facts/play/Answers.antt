@@ -9,7 +9,8 @@ use Rattle.eg_campaign.specs.Plays.{count_after}
 use Rattle.eg_campaign.proofs.PlayLemmas.{same_run}
 use Rattle.eg_soak.specs.Facts.{facts_of}
 use Rattle.eg_soak.specs.Soak.{run_drawn}
-use Rattle.eg_soak.proofs.FactsLemmas.{any_fault, facts_told, counted_run}
+use Rattle.eg_campaign.proofs.PlayLemmas.{counted_run}
+use Rattle.eg_soak.proofs.FactsLemmas.{any_fault, facts_told}
 use Rattle.eg_soak.proofs.facts.play.Goals as goal
 use Rattle.eg_soak.proofs.facts.play.Goals.{After-of}
 
