@@ -1,14 +1,13 @@
 -- Runs with a brake: the calibration that lets it count, and what a row of one tick tells.
-use Rattle.std.specs.Prelude.{ℕ, Bool, true, false, List, [], ◌∷◌, ◌++◌, map, replicate, Option, None}
+use Rattle.std.specs.Prelude.{ℕ, Bool, true, List, [], ◌∷◌, ◌++◌, map, replicate, Option}
 use Rattle.eg_num.specs.Drive.{DriveRow, driven}
-use Rattle.eg_answer.specs.declared.marks.AnswerMark.TheVariants.{Absent}
 use Rattle.eg_fault.specs.declared.class.Class.{Class}
 use Rattle.eg_fault.specs.declared.class.Fault.{Fault}
 use Rattle.eg_values.specs.Calibration.{CalibrationParts}
 use Rattle.eg_values.specs.Reference.{reference_parts}
 use Rattle.eg_record.specs.declared.row.Row.{Row}
 use Rattle.eg_model.specs.Bench.{Run}
-use Rattle.eg_model.specs.Examples.{idle, full, fault_from, run_of, rows_in_time}
+use Rattle.eg_model.specs.Examples.{idle, fault_from, run_of, probe_row, rows_in_time}
 
 -- the reference calibration, but that the brake counts
 abbrev pub braking_parts : CalibrationParts
@@ -28,33 +27,10 @@ pressed brake = record (driven 1000 800 600) { brake = brake }
 
 -- the row of that tick where level 1 waits, by what changes in it
 abbrev pub row_told : (brake : Bool) (limit used permitted : ℕ) → Row
-row_told brake limit used permitted = record {
-  tick = 0;
+row_told brake limit used permitted = record (probe_row 0 0 40 100 0) {
   drive = pressed brake;
-  plate = 0;
-  charge = 40;
-  torque = 0;
   limit = limit;
-  path1 = true;
-  path2 = true;
-  on = true;
   signals = used ∷ permitted ∷ 100 ∷ 0 ∷ 0 ∷ [];
-  throttle = 0;
-  ignition = 0;
-  found = record {
-    mirror = false;
-    pedal = false;
-    plate = false;
-    load = false;
-    speed = false;
-    torque = false;
-    answers = false;
-    start = false;
-  };
-  answer = Absent;
-  verdict = None;
-  testing = false;
-  fresh = true;
 }
 
 -- its record where the brake counts, under a class of faults from that tick on

@@ -21,8 +21,8 @@ for_each f (suc n) = f (suc n) ∷ for_each f n
 unfoldable pub told : (tick count : ℕ) → Option ℕ
 told tick count = if nat_le count tick then None else Some tick
 
--- The facts of so many ticks at full throttle, by the last tick of them at which the stages are on: the torque
--- is found and its excess confirmed at tick 9, and the stages are first off at tick 10.
+-- The facts of so many ticks at full throttle, by the last tick of them at which the stages are on: the
+-- torque is found and its excess confirmed at tick 9, and the stages are first off at tick 10.
 unfoldable pub cut_at_10 : (last_on : ℕ → ℕ) → (count : ℕ) → Facts
 cut_at_10 last_on count = record {
   first = if nat_le count 9 then None else Some (Torque, 9);
@@ -35,9 +35,15 @@ cut_at_10 last_on count = record {
 -- the last tick on where the stages are on up to tick 9, at ticks 11 to 39, and never again
 unfoldable pub on_again : ℕ → ℕ
 on_again count =
-    if nat_le count 10 then count - 1 else if nat_le count 11 then 9 else if nat_le count 40 then count - 1 else 39
+    if nat_le count 10 then count - 1
+    else if nat_le count 11 then 9
+    else if nat_le count 40 then count - 1
+    else 39
 
 -- the last tick on where they are on up to tick 9, at ticks 51 to 60, and never again
 unfoldable pub on_after_the_test : ℕ → ℕ
 on_after_the_test count =
-    if nat_le count 10 then count - 1 else if nat_le count 51 then 9 else if nat_le count 61 then count - 1 else 60
+    if nat_le count 10 then count - 1
+    else if nat_le count 51 then 9
+    else if nat_le count 61 then count - 1
+    else 60

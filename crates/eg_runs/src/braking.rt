@@ -19,9 +19,9 @@ pub fn braking_ticks()
         ≡ row_told true 2000 1000 2000 ∷ [] }
 {}
 
-/// Contacts that read other numbers than 0 and 1: the first says "pressed" by 5, the second doesn't, but does
-/// where it is offset down to 0. Gating comes after what faults do to the pedal's tracks and to the raise, and
-/// level 1 reads the gated raise.
+/// Contacts that read other numbers than 0 and 1: the first says "pressed" by 5, the second doesn't, but
+/// does where it is offset down to 0. Gating comes after what faults do to the pedal's tracks and to the
+/// raise, and level 1 reads the gated raise.
 pub fn contacts_and_gates()
     ensures first { seen_under (Offset 8 (pos 5)) false ≡ (0 ∷ 200 ∷ 100 ∷ 0 ∷ 0 ∷ []) ∷ [] }
     ensures second { seen_under (Offset 9 (pos 5)) true ≡ (0 ∷ 200 ∷ 100 ∷ 0 ∷ 0 ∷ []) ∷ [] }
@@ -35,8 +35,8 @@ pub fn contacts_and_gates()
 {}
 
 /// Level 1 holds full throttle, and from tick 20 on the driver brakes: the torque of 2000 and more exceeds
-/// the 100 that are permitted from then on, and is cut one tick after the fifth tick of excess, also where the
-/// first contact is stuck at 0. Where the brake doesn't count nothing is found.
+/// the 100 that are permitted from then on, and is cut one tick after the fifth tick of excess, also where
+/// the first contact is stuck at 0. Where the brake doesn't count nothing is found.
 pub fn held_throttle_run()
     ensures cut { report_on (braking_run full None held)
         ≡ reported (Some (found.Torque, 24)) (Some 25) None (Some 24) }
