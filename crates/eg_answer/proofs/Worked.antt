@@ -39,8 +39,8 @@ small = record {
   torque = record { up = 1; down = 1; limit = 5 };
 }
 
-abbrev row : ℕ → List ℕ → List ℕ → List ℕ → List ℕ → ℕ → ℕ → ℕ → ℕ → ℕ → TestRow
-row seed pedal plate load speed raise check used estimate allowed = record {
+abbrev test_row : ℕ → List ℕ → List ℕ → List ℕ → List ℕ → ℕ → ℕ → ℕ → ℕ → ℕ → TestRow
+test_row seed pedal plate load speed raise check used estimate allowed = record {
   seed = seed;
   readings = record { pedal = pedal; plate = plate; load = load; speed = speed; raise = raise; raise_check = check };
   used = used;
@@ -50,19 +50,19 @@ row seed pedal plate load speed raise check used estimate allowed = record {
 
 -- all tracks agree, and the row's estimate is an excess
 abbrev row0 : TestRow
-row0 = row 4660 (500 ∷ 500 ∷ []) (200 ∷ 800 ∷ []) (300 ∷ 300 ∷ []) (800 ∷ 800 ∷ []) 0 65535 500 1400 1000
+row0 = test_row 4660 (500 ∷ 500 ∷ []) (200 ∷ 800 ∷ []) (300 ∷ 300 ∷ []) (800 ∷ 800 ∷ []) 0 65535 500 1400 1000
 
 -- the loads disagree, and the higher one is on track 2
 abbrev row1 : TestRow
-row1 = row 42435 (1000 ∷ 0 ∷ []) (0 ∷ 1000 ∷ []) (40 ∷ 120 ∷ []) (3000 ∷ 3000 ∷ []) 0 65535 1000 400 200
+row1 = test_row 42435 (1000 ∷ 0 ∷ []) (0 ∷ 1000 ∷ []) (40 ∷ 120 ∷ []) (3000 ∷ 3000 ∷ []) 0 65535 1000 400 200
 
 -- the plates disagree, the raise counts, and the numbers are near the end of a word
 abbrev row2 : TestRow
-row2 = row 3855 (250 ∷ 700 ∷ []) (100 ∷ 960 ∷ []) (500 ∷ 490 ∷ []) (1900 ∷ 1900 ∷ []) 600 64935 0 65535 65334
+row2 = test_row 3855 (250 ∷ 700 ∷ []) (100 ∷ 960 ∷ []) (500 ∷ 490 ∷ []) (1900 ∷ 1900 ∷ []) 600 64935 0 65535 65334
 
 -- pedals and speeds disagree, the lower one is on track 2, and the raise's check word is wrong
 abbrev row3 : TestRow
-row3 = row 32769 (1000 ∷ 200 ∷ []) (1000 ∷ 0 ∷ []) (0 ∷ 0 ∷ []) (800 ∷ 6000 ∷ []) 300 300 750 0 0
+row3 = test_row 32769 (1000 ∷ 200 ∷ []) (1000 ∷ 0 ∷ []) (0 ∷ 0 ∷ []) (800 ∷ 6000 ∷ []) 300 300 750 0 0
 
 -- the folds after one result, after two, and so on
 abbrev folds : TestRow → List ℕ
@@ -111,7 +111,7 @@ unfolding answering
 number = refl
 
 -- an estimate that ties with what is allowed is no excess
-tie : excess_result small (row 0 (0 ∷ 0 ∷ []) (0 ∷ 0 ∷ []) (0 ∷ 0 ∷ []) (0 ∷ 0 ∷ []) 0 0 0 1200 1000) ≡ 0
+tie : excess_result small (test_row 0 (0 ∷ 0 ∷ []) (0 ∷ 0 ∷ []) (0 ∷ 0 ∷ []) (0 ∷ 0 ∷ []) 0 0 0 1200 1000) ≡ 0
 unfolding answering
 tie = refl
 

@@ -2,12 +2,11 @@
 ghost use Rattle.std.specs.Prelude.{◌≡◌, ◌≤◌};
 ghost use Rattle.std.specs.Option.{ForSome};
 ghost use Rattle.eg_plant.specs.Engine.{KeepsLaws};
-ghost use Rattle.eg_plant.specs.Gasoline as gasoline;
 ghost use Rattle.eg_diesel.specs.Diesel as diesel;
 ghost use Rattle.eg_diesel.specs.Diesel.{StepsAsDiesel, at_rest, shown_of};
 
 use eg_num::toward;
-use eg_plant::{Engine, PlantData};
+use eg_plant::{CopyEngine, Engine, PlantData, next_plate, torque_of};
 use std::marker::Model;
 
 /// A diesel engine (docs/CONCEPT.md, "Plant"). It goes by the data of the gasoline plant: `slew` is the most
@@ -76,7 +75,7 @@ impl Engine for DieselEngine {
 
     #[tactic(auto, using(crate::proofs::DieselLemmas::laws), unfolding(crate::specs::Diesel::diesel_step))]
     fn step(&mut self, plate: u16, ignition: u16, on: bool, held: Option<u16>) {
-        let rack = next_rack(&self.plant, self.rack, plate, on, held);
+        let rack = next_plate(&self.plant, self.rack, plate, on, held);
         let boost = next_boost(&self.plant, self.rack, self.boost);
         let quantity = quantity_of(&self.plant, rack, boost, on);
         self.torque = torque_of(self.plant.kt(), quantity, ignition, on);
@@ -102,19 +101,16 @@ impl Engine for DieselEngine {
     }
 }
 
-/// The rack after a step, by the command to the plate and where the plate is held.
-#[tactic(auto, unfolding(eg_plant::specs::Gasoline::next_plate))]
-fn next_rack(plant: &PlantData, rack: u16, command: u16, on: bool, held: Option<u16>) -> u16
-    requires rack { rack ≤ 1000 }
-    requires held { ForSome held (λ at. at ≤ 1000) }
-    ensures value { result ≡ diesel.next_rack plant.now rack command on held }
-    ensures range { result ≤ 1000 }
-{
-    if let Some(at) = held {
-        return at;
+impl CopyEngine for DieselEngine {
+    fn copy(&self) -> DieselEngine {
+        DieselEngine {
+            plant: self.plant.copy(),
+            rack: self.rack,
+            boost: self.boost,
+            quantity: self.quantity,
+            torque: self.torque,
+        }
     }
-    let target = if on { command.min(1000) } else { 0 };
-    toward(rack, target, plant.slew())
 }
 
 /// The boost after a step, by the rack before it.
@@ -135,18 +131,4 @@ fn quantity_of(plant: &PlantData, rack: u16, boost: u16, on: bool) -> u16
     } else {
         0
     }
-}
-
-/// The torque of a quantity, in tenths of Nm.
-#[tactic(auto, unfolding(eg_plant::specs::Gasoline::torque_of))]
-fn torque_of(kt: u16, quantity: u16, ignition: u16, on: bool) -> u16
-    requires quantity { quantity ≤ 1000 }
-    requires kt { kt ≤ 10000 }
-    ensures { result ≡ gasoline.torque_of kt quantity ignition on }
-{
-    if !on {
-        return 0;
-    }
-    let full = u64::from(quantity) * u64::from(kt);
-    (full * u64::from(ignition.min(1000)) / 1_000_000) as u16
 }

@@ -5,11 +5,13 @@
 //! `StingyMemory` is for tests of what comes where memory runs out.
 #![tactic(auto)]
 
+mod copy_memory;
 mod flat_memory;
 mod guarded;
 mod regions;
 mod stingy_memory;
 
+pub use copy_memory::CopyMemory;
 pub use flat_memory::FlatMemory;
 pub use guarded::{Guarded, Refused, StoreRefusal};
 pub use regions::{

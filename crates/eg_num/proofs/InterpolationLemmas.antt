@@ -59,7 +59,8 @@ at-second : (x0 x1 : ℕ) (xs : List ℕ) (value : ℕ → ℕ) → x0 < x1 → 
 at-second x0 x1 xs value lt = at-mid x0 x1 xs value x1 lt (omega arith) ∙ lerp-right x0 (value 0) x1 (value 1) lt
 
 -- past the last point the last value holds
-at-last : (first : ℕ) (points : List ℕ) (value : ℕ → ℕ) (x : ℕ) → IsStrictlyIncreasing (first ∷ points) → slice_index (first ∷ points) (length points) ≤ x → value_at (first ∷ points) value x ≡ value (length points)
+at-last : (first : ℕ) (points : List ℕ) (value : ℕ → ℕ) (x : ℕ) → IsStrictlyIncreasing (first ∷ points) →
+    slice_index (first ∷ points) (length points) ≤ x → value_at (first ∷ points) value x ≡ value (length points)
 unfolding value_at
 at-last x0 [] value x rising h = refl
 at-last x0 (x1 ∷ xs) value x rising h =
@@ -67,13 +68,16 @@ at-last x0 (x1 ∷ xs) value x rising h =
     let rest : value_at (x1 ∷ xs) (λ i. value (suc i)) x ≡ value (suc (length xs)) = at-last x1 xs (λ i. value (suc i)) x (rising-tail x0 (x1 ∷ xs) rising) h in
     elim (cases_lt x1 x) [
       | inl past ↦ at-high x0 x1 xs value x (omega arith) past ∙ rest
-      | inr upto ↦ (elim xs as (λ ys. IsStrictlyIncreasing (x0 ∷ x1 ∷ ys) → slice_index (x0 ∷ x1 ∷ ys) (suc (length ys)) ≤ x → value_at (x0 ∷ x1 ∷ ys) value x ≡ value (suc (length ys))) [
-        | [] ↦ λ r e. (let same : x1 ≡ x = omega arith in let P : ℕ → Type 0 = λ n. value_at (x0 ∷ x1 ∷ []) value n ≡ value 1 in subst P same (at-second x0 x1 [] value near))
-        | x2 ∷ ys ↦ λ r e. (let more : x1 < slice_index (x2 ∷ ys) (length ys) = rising-first x1 (x2 ∷ ys) (length ys) (rising-tail x0 (x1 ∷ x2 ∷ ys) r) (omega arith) in absurd (omega arith))
-      ]) rising h
+      | inr upto ↦ (elim xs as (λ ys. IsStrictlyIncreasing (x0 ∷ x1 ∷ ys) → slice_index (x0 ∷ x1 ∷ ys) (suc (length ys)) ≤ x →
+          value_at (x0 ∷ x1 ∷ ys) value x ≡ value (suc (length ys))) [
+            | [] ↦ λ r e. (let same : x1 ≡ x = omega arith in let P : ℕ → Type 0 = λ n. value_at (x0 ∷ x1 ∷ []) value n ≡ value 1 in subst P same (at-second x0 x1 [] value near))
+            | x2 ∷ ys ↦ λ r e. (let more : x1 < slice_index (x2 ∷ ys) (length ys) =
+                rising-first x1 (x2 ∷ ys) (length ys) (rising-tail x0 (x1 ∷ x2 ∷ ys) r) (omega arith) in absurd (omega arith))
+          ]) rising h
     ]
 
-pub at-above : (points : List ℕ) (value : ℕ → ℕ) (x : ℕ) → IsStrictlyIncreasing points → 2 ≤ length points → slice_index points (length points - 1) ≤ x → value_at points value x ≡ value (length points - 1)
+pub at-above : (points : List ℕ) (value : ℕ → ℕ) (x : ℕ) → IsStrictlyIncreasing points → 2 ≤ length points → slice_index points (length points - 1) ≤ x →
+    value_at points value x ≡ value (length points - 1)
 at-above [] value x rising two h = absurd (omega arith)
 at-above (x0 ∷ xs) value x rising two h =
     let e : length (x0 ∷ xs) - 1 ≡ length xs = omega arith in
@@ -98,13 +102,14 @@ at-next (x0 ∷ x1 ∷ xs) value x (suc i) rising below from to =
     let rest = at-next (x1 ∷ xs) (λ i. value (suc i)) x i (rising-tail x0 (x1 ∷ xs) rising) (omega arith) from to in
     elim (cases_lt x1 x) [
       | inl past ↦ at-high x0 x1 xs value x (omega arith) past ∙ rest
-      | inr upto ↦ (elim i as (λ k. suc k + 1 < length (x0 ∷ x1 ∷ xs) → slice_index (x1 ∷ xs) k ≤ x → value_at (x0 ∷ x1 ∷ xs) value x ≡ lerp (slice_index (x1 ∷ xs) k) (value (suc k)) (slice_index xs k) (value (suc (suc k))) x) [
-        | zero ↦ λ b f. (let same : x1 ≡ x = omega arith in
-            let next : x1 < slice_index xs 0 = rising-first x1 xs 0 (rising-tail x0 (x1 ∷ xs) rising) (omega arith) in
-            let P : ℕ → Type 0 = λ n. value_at (x0 ∷ x1 ∷ xs) value n ≡ lerp x1 (value 1) (slice_index xs 0) (value 2) n in
-            subst P same (at-second x0 x1 xs value near ∙ sym (lerp-left x1 (value 1) (slice_index xs 0) (value 2) next)))
-        | suc k ↦ λ b f. (let more : x1 < slice_index xs k = rising-first x1 xs k (rising-tail x0 (x1 ∷ xs) rising) (omega arith) in absurd (omega arith))
-      ]) below from
+      | inr upto ↦ (elim i as (λ k. suc k + 1 < length (x0 ∷ x1 ∷ xs) → slice_index (x1 ∷ xs) k ≤ x →
+          value_at (x0 ∷ x1 ∷ xs) value x ≡ lerp (slice_index (x1 ∷ xs) k) (value (suc k)) (slice_index xs k) (value (suc (suc k))) x) [
+            | zero ↦ λ b f. (let same : x1 ≡ x = omega arith in
+                let next : x1 < slice_index xs 0 = rising-first x1 xs 0 (rising-tail x0 (x1 ∷ xs) rising) (omega arith) in
+                let P : ℕ → Type 0 = λ n. value_at (x0 ∷ x1 ∷ xs) value n ≡ lerp x1 (value 1) (slice_index xs 0) (value 2) n in
+                subst P same (at-second x0 x1 xs value near ∙ sym (lerp-left x1 (value 1) (slice_index xs 0) (value 2) next)))
+            | suc k ↦ λ b f. (let more : x1 < slice_index xs k = rising-first x1 xs k (rising-tail x0 (x1 ∷ xs) rising) (omega arith) in absurd (omega arith))
+          ]) below from
     ]
 
 -- between two neighbours

@@ -1,8 +1,8 @@
 -- What a drive trace gives to one tick.
 use Rattle.std.specs.Prelude.{ℕ, ◌≤◌, Bool, false}
 
--- pedal in per mille, speed in rpm, raise of the permitted torque in tenths of Nm; whether the unit is reset at
--- the tick, and whether the driver brakes
+-- pedal in per mille, speed in rpm, raise of the permitted torque in tenths of Nm; whether the unit is reset
+-- at the tick, and whether the driver brakes
 pub record DriveRow : Type 0 where
   pub pedal : ℕ
   pub speed : ℕ

@@ -5,7 +5,7 @@ ghost use Rattle.eg_plant.specs.Engine.{KeepsLaws};
 ghost use Rattle.eg_plant.specs.Gasoline as gasoline;
 ghost use Rattle.eg_plant.specs.Gasoline.{StepsAsGasoline, at_rest, shown_of};
 
-use crate::{Engine, PlantData};
+use crate::{CopyEngine, Engine, PlantData};
 use eg_num::toward;
 use std::marker::Model;
 
@@ -88,9 +88,21 @@ impl Engine for GasolineEngine {
     }
 }
 
-/// The plate after a step.
+impl CopyEngine for GasolineEngine {
+    fn copy(&self) -> GasolineEngine {
+        GasolineEngine {
+            plant: self.plant.copy(),
+            plate: self.plate,
+            charge: self.charge,
+            torque: self.torque,
+        }
+    }
+}
+
+/// The plate after a step, in per mille: where it is held, if it is; else it moves toward what is commanded,
+/// at most 1000, and toward 0 while the power stages are off (docs/CONCEPT.md, "Plant").
 #[tactic(auto, unfolding(crate::specs::Gasoline::next_plate))]
-fn next_plate(plant: &PlantData, plate: u16, command: u16, on: bool, held: Option<u16>) -> u16
+pub fn next_plate(plant: &PlantData, plate: u16, command: u16, on: bool, held: Option<u16>) -> u16
     requires plate { plate ≤ 1000 }
     requires held { ForSome held (λ at. at ≤ 1000) }
     ensures value { result ≡ gasoline.next_plate plant.now plate command on held }
@@ -111,9 +123,10 @@ fn next_charge(plant: &PlantData, plate: u16, charge: u16) -> u16
     toward(charge, plant.charge().at(plate), plant.fill())
 }
 
-/// The torque of a charge, in tenths of Nm.
+/// The torque of a charge (per mille) at what the ignition is commanded (per mille; 1000 is the most that
+/// counts), in tenths of Nm: 0 while the power stages are off (docs/CONCEPT.md, "Plant").
 #[tactic(auto, unfolding(crate::specs::Gasoline::torque_of))]
-fn torque_of(kt: u16, charge: u16, ignition: u16, on: bool) -> u16
+pub fn torque_of(kt: u16, charge: u16, ignition: u16, on: bool) -> u16
     requires charge { charge ≤ 1000 }
     requires kt { kt ≤ 10000 }
     ensures { result ≡ gasoline.torque_of kt charge ignition on }

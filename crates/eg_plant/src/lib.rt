@@ -1,10 +1,12 @@
 //! The engine: what every engine shows and keeps, the gasoline engine, and what its plant goes by.
 #![tactic(auto)]
 
+mod copy_engine;
 mod engine;
 mod gasoline_engine;
 mod plant_data;
 
+pub use copy_engine::CopyEngine;
 pub use engine::Engine;
-pub use gasoline_engine::GasolineEngine;
+pub use gasoline_engine::{GasolineEngine, next_plate, torque_of};
 pub use plant_data::PlantData;

@@ -111,9 +111,9 @@ module _ (k : ℕ) where
       not_le n k late = grind arith
 
   once : (row : Row) (before : List Row) → AreRows (row ∷ before) → All Untested (row ∷ before) → All OnUpTo (row ∷ before) → Once row before k
-  once row [] whole untested on =
-      let now = on_by row 0 whole.0 (omega arith) (All-head OnUpTo row [] on) in
-      still_on (omega arith) (first_off-on row [] now first_off-nil) (last_on-on row [] now ∙ ap Some whole.0)
+  once one [] whole untested on =
+      let now = on_by one 0 whole.0 (omega arith) (All-head OnUpTo one [] on) in
+      still_on (omega arith) (first_off-on one [] now first_off-nil) (last_on-on one [] now ∙ ap Some whole.0)
   once row (last ∷ before) whole untested on =
       elim (once last before whole.1 (All-tail Untested row (last ∷ before) untested) (All-tail OnUpTo row (last ∷ before) on)) [
         | still_on early none latest ↦ elim (cases_lt k (length (last ∷ before))) [

@@ -1,6 +1,6 @@
--- The brake. Two contacts sense it: the first reads 1 where it is pressed and 0 where it isn't, the second the
--- other way round. No watch compares them, and one that says so is enough. While the driver brakes, pedal and
--- raise count as 0.
+-- The brake. Two contacts sense it: the first reads 1 where it is pressed and 0 where it isn't, the second
+-- reads 0 where it is pressed and 1 where it isn't. No watch compares them: the unit takes the brake as
+-- pressed where either contact says that it is. While the driver brakes, pedal and raise count as 0.
 use Rattle.std.specs.Prelude.{ℕ, ◌==◌, Bool, not, ◌||◌, List, [], ◌∷◌, slice_index, if◌then◌else◌}
 use Rattle.eg_sensor.specs.declared.readings.Readings.{Readings}
 

@@ -12,8 +12,8 @@ pub fn contacts(pressed: bool) -> [u16; 2]
     if pressed { [1, 0] } else { [0, 1] }
 }
 
-/// Whether the unit takes the brake as pressed: either contact says so, the first where it doesn't read 0, the
-/// second where it reads 0 (docs/CONCEPT.md, "Sensors").
+/// Whether the unit takes the brake as pressed: either contact says so, the first where it doesn't read 0,
+/// the second where it reads 0 (docs/CONCEPT.md, "Sensors").
 pub fn pressed(contacts: [u16; 2]) -> bool
     ensures { result ≡ is_pressed contacts }
 {

@@ -27,10 +27,10 @@ pub const SPEED_2: u8 = 7;
 /// How many tracks come in pairs that are compared; these have the first numbers.
 pub const PAIRED_TRACKS: u8 = 8;
 
-/// The first contact of the brake, which closes where it is pressed.
+/// The first contact of the brake, which reads 1 where it is pressed, else 0.
 pub const BRAKE_1: u8 = 8;
 
-/// The second contact of the brake, which opens where it is pressed.
+/// The second contact of the brake, which reads 0 where it is pressed, else 1.
 pub const BRAKE_2: u8 = 9;
 
 /// How many tracks there are.

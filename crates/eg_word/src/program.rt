@@ -43,6 +43,15 @@ impl Program {
         Program { code }
     }
 
+    /// An equal program. It takes no memory.
+    pub fn copy(&self) -> Program
+        ensures { result ≡ self.now }
+    {
+        let mut code = clear_code();
+        code.copy_from_slice(&self.code);
+        Program { code }
+    }
+
     /// The instruction at an address of the code.
     #[inline]
     fn at(&self, address: u16) -> Instruction
