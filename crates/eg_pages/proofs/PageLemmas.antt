@@ -1,0 +1,112 @@
+-- The words of a memory in pages, and what a store to a page makes of them.
+use Rattle.std.proofs.Common.{◌≡◌, ◌∙◌, ◌⊎◌, inl, inr, sym, ap, ap₂, ℕ, zero, suc, ◌+◌, ◌*◌, ◌^◌, ◌<◌, List, [], ◌∷◌, length, map, get_or, slice_index, slice_set, replicate, Result, Ok, Err, OnOk, OnErr, refl, arith}
+use Rattle.std.specs.List.{AllZip, AllByRecursion, concat}
+use Rattle.std.proofs.lemmas.List.{map-set, get_or-map, length-map, length-set, length-replicate, set-get_or}
+use Rattle.std.proofs.lemmas.List.Elements.{All-set, All-replicate, recursion_from_All}
+use Rattle.eg_guard.proofs.WordsLemmas.{AreWords-set, zeros_are_words}
+use Rattle.eg_pages.specs.Pages.{IsPage, ArePages}
+use Rattle.eg_pages.proofs.JoinedLemmas.{HasLength, index-joined, set-joined, joined-replicate}
+
+-- each page has 64 words
+sizes : (pages : List (List ℕ)) → ArePages pages → AllByRecursion (HasLength 64) pages
+sizes pages are = recursion_from_All (HasLength 64) pages are.each
+
+-- the address lies in this page, at this place of it
+pub record LiesAt (address page place : ℕ) : Type 0 where
+  pub within : address < 4096
+  pub split : page * 64 + place ≡ address
+  pub inside : place < 64
+
+-- Pages as lists of words.
+module _ {address page place : ℕ} (pages : List (List ℕ)) (are : ArePages pages) (at : LiesAt address page place) where
+  there : page < length pages
+  there = omega (arith, are.count)
+
+  -- the word at the address stands at that place
+  index-pages : slice_index (get_or pages page []) place ≡ slice_index (concat pages) address
+  index-pages = sym (index-joined 64 pages page place (sizes pages are) there at.inside) ∙ ap (slice_index (concat pages)) at.split
+
+  -- a store at that place is a store to the address
+  set-pages : (word : ℕ) → concat (slice_set pages page (slice_set (get_or pages page []) place word)) ≡ slice_set (concat pages) address word
+  set-pages word = sym (set-joined 64 pages page place word (sizes pages are) there at.inside) ∙ ap (λ k. slice_set (concat pages) k word) at.split
+
+  -- after it they are pages still
+  ArePages-set : (word : ℕ) → word < 2 ^ 16 → ArePages (slice_set pages page (slice_set (get_or pages page []) place word))
+  ArePages-set word fits =
+      let old = get_or pages page [] in
+      let new = slice_set old place word in
+      record {
+        count = length-set pages page new ∙ are.count;
+        each = All-set IsPage pages page new (length-set old place word ∙ are.each page [] there) are.each;
+        words = rw (set-pages word) (AreWords-set (concat pages) address word are.words at.within fits);
+      }
+
+-- ---- pages of 0s ----
+
+pub zero_words : concat (replicate 64 (replicate 64 0)) ≡ replicate 4096 0
+zero_words = joined-replicate 64 64 0
+
+pub zero_pages : ArePages (replicate 64 (replicate 64 0))
+zero_pages = record {
+  count = refl;
+  each = All-replicate IsPage 64 (replicate 64 0) (length-replicate {A = ℕ} 64 0);
+  words = rw zero_words zeros_are_words;
+}
+
+-- ---- pages that are held ----
+
+-- The same of pages that something holds.
+module _ {X : Type 0} {address page place : ℕ} (held : X → List ℕ) (pages : List X) (other : X) (are : ArePages (map held pages)) (at : LiesAt address page place) where
+  held-old : held (get_or pages page other) ≡ get_or (map held pages) page []
+  held-old =
+      let there : page < length pages = omega (arith, are.count, length-map pages held) in
+      sym (get_or-map held pages page other [] there)
+
+  pub index-held : slice_index (held (get_or pages page other)) place ≡ slice_index (concat (map held pages)) address
+  index-held = ap (λ words. slice_index words place) held-old ∙ index-pages (map held pages) are at
+
+  -- the pages, after the one at the address gave way to one that has a word more
+  held-set : (next : X) (word : ℕ) → held next ≡ slice_set (held (get_or pages page other)) place word
+      → map held (slice_set pages page next) ≡ slice_set (map held pages) page (slice_set (get_or (map held pages) page []) place word)
+  held-set next word put = map-set held pages page next
+      ∙ ap (slice_set (map held pages) page) (put ∙ ap (λ words. slice_set words place word) held-old)
+
+  pub concat-held : (next : X) (word : ℕ) → held next ≡ slice_set (held (get_or pages page other)) place word
+      → concat (map held (slice_set pages page next)) ≡ slice_set (concat (map held pages)) address word
+  concat-held next word put = ap concat (held-set next word put) ∙ set-pages (map held pages) are at word
+
+  ArePages-held : (next : X) (word : ℕ) → held next ≡ slice_set (held (get_or pages page other)) place word → word < 2 ^ 16
+      → ArePages (map held (slice_set pages page next))
+  ArePages-held next word put fits =
+      rw (held-set next word put) (ArePages-set (map held pages) are at word fits)
+
+  -- the pages, after it gave way to one that has the same
+  pub held-same : (next : X) → held next ≡ held (get_or pages page other) → map held (slice_set pages page next) ≡ map held pages
+  held-same next same = map-set held pages page next ∙ ap (slice_set (map held pages) page) (same ∙ held-old)
+      ∙ set-get_or (map held pages) page []
+
+  -- they are pages still, whether the word was put or not
+  pub ArePages-either : {T E : Type 0} (next : X) (word : ℕ) (result : Result T E) → OnOk result (held next ≡ slice_set (held (get_or pages page other)) place word)
+      → OnErr result (held next ≡ held (get_or pages page other)) → word < 2 ^ 16 → ArePages (map held (slice_set pages page next))
+  ArePages-either next word (Ok done) put same fits = ArePages-held next word put fits
+  ArePages-either next word (Err refused) put same fits = rw (held-same next same) are
+
+-- ---- pages that are shared ----
+
+-- what is held where each is one thing, or holds what that holds
+pub map-clones : {X : Type 0} (held : X → List ℕ) (page : X) (pages : List X) (count : ℕ) → AllByRecursion (λ y. (y ≡ page) ⊎ (held y ≡ held page)) pages
+    → length pages ≡ count → map held pages ≡ replicate count (held page)
+map-clones held page [] zero same long = refl
+map-clones held page [] (suc count) same long = absurd (omega arith)
+map-clones held page (x ∷ pages) zero same long = absurd (omega arith)
+map-clones held page (x ∷ pages) (suc count) same long =
+    ap₂ (λ words rest. words ∷ rest) (elim same.0 [ inl is ↦ ap held is | inr alike ↦ alike ])
+    (map-clones held page pages count same.1 (omega arith))
+
+-- what is held where others hold the same, place by place
+pub map-copies : {X : Type 0} (held : X → List ℕ) (pages copies : List X) → AllZip (λ x y. held y ≡ held x) pages copies
+    → map held copies ≡ map held pages
+map-copies held [] [] same = refl
+map-copies held [] (y ∷ copies) same = absurd same
+map-copies held (x ∷ pages) [] same = absurd same
+map-copies held (x ∷ pages) (y ∷ copies) same = ap₂ (λ a rest. a ∷ rest) same.0 (map-copies held pages copies same.1)

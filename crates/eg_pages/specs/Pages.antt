@@ -1,0 +1,25 @@
+-- What a memory in pages consists of.
+use Rattle.std.specs.Prelude.{◌≡◌, ℕ, List, length, map}
+use Rattle.std.specs.List.{All, concat}
+use Rattle.std.specs.Rc.{rc_value}
+use Rattle.std.specs.declared.rc.Rc.{Rc}
+use Rattle.eg_guard.specs.Memory.{AreWords}
+use Rattle.eg_pages.specs.declared.page.TheConstants.{PAGES, PAGE_WORDS}
+
+-- the words fill a page
+abbrev pub IsPage : List ℕ → Type 0
+IsPage words = length words ≡ PAGE_WORDS
+
+-- 64 pages, which are together the words of a memory
+pub record ArePages (pages : List (List ℕ)) : Type 0 where
+  pub count : length pages ≡ PAGES
+  pub each : All IsPage pages
+  pub words : AreWords (concat pages)
+
+-- pages as they are, whoever shares them
+abbrev pub pages_of : {A : Type 0} → List (Rc (List ℕ) A) → List (List ℕ)
+pages_of shared = map rc_value shared
+
+-- the words of a memory: those of its pages, one page after another
+abbrev pub words_of : {A : Type 0} → List (Rc (List ℕ) A) → List ℕ
+words_of shared = concat (pages_of shared)

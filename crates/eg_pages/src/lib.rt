@@ -1,0 +1,12 @@
+//! A guarded memory in pages: a copy of it shares its pages, and a page is copied where it is written while
+//! it is shared. So a copy is cheap, and memories that differ little share what is the same.
+#![tactic(auto)]
+
+mod page;
+mod paged_memory;
+
+pub use page::{PAGE_WORDS, PAGES};
+pub use paged_memory::PagedMemory;
+
+#[cfg(test)]
+mod tests;

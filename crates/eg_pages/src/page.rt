@@ -1,0 +1,103 @@
+// Pages of words, which several memories may share.
+ghost use Rattle.std.specs.Prelude.{◌≡◌, ◌<◌, replicate, slice_index, slice_set, IfOk, OnOk, OnErr};
+ghost use Rattle.eg_pages.specs.Pages.{ArePages, pages_of, words_of};
+
+use eg_base::NoMemory;
+use eg_guard::WORDS;
+use std::alloc::Global;
+use std::rc::Rc;
+
+/// How many words a page has.
+pub const PAGE_WORDS: u16 = 64;
+
+/// How many pages a memory has.
+pub const PAGES: u16 = WORDS / PAGE_WORDS;
+
+/// The words of a page, which others may share.
+pub(crate) type SharedPage = Rc<[u16; PAGE_WORDS as usize]>;
+
+/// The pages of a memory.
+pub(crate) type SharedPages = [SharedPage; PAGES as usize];
+
+/// Pages of which every word is 0. (They are one page, shared.)
+pub(crate) fn zero_pages(alloc: Global) -> Result<SharedPages, NoMemory>
+    ensures words { IfOk result (λ pages. words_of pages ≡ replicate WORDS 0) }
+    ensures are_pages { IfOk result (λ pages. ArePages (pages_of pages)) }
+{
+    let page = Rc::new(alloc, [0; PAGE_WORDS as usize])?;
+    let pages = vec![in alloc; page; PAGES as usize]?;
+    match SharedPages::try_from(pages) {
+        Ok(pages) => Ok(pages),
+        Err(_) => unreachable!(),
+    }
+}
+
+/// The same pages, shared.
+pub(crate) fn share(pages: &SharedPages) -> Result<SharedPages, NoMemory>
+    ensures { IfOk result (λ shared. pages_of shared ≡ pages_of pages.now) }
+{
+    Ok(pages.clone()?)
+}
+
+/// The word at an address.
+#[inline]
+pub(crate) fn word_at(pages: &SharedPages, address: u16) -> u16
+    requires are_pages { ArePages (pages_of pages.now) }
+    requires within { address < WORDS }
+    ensures { result ≡ slice_index (words_of pages.now) address }
+{
+    let page = &pages[usize::from(address / PAGE_WORDS)];
+    page[usize::from(address % PAGE_WORDS)]
+}
+
+/// Puts a word at an address. NoMemory comes only where its page is shared, and changes nothing.
+#[inline]
+pub(crate) fn put_at(
+    pages: &mut SharedPages,
+    alloc: Global,
+    address: u16,
+    word: u16,
+) -> Result<(), NoMemory>
+    requires are_pages { ArePages (pages_of pages.old) }
+    requires within { address < WORDS }
+    ensures put { OnOk result (words_of pages.new ≡ slice_set (words_of pages.old) address word) }
+    ensures unchanged { OnErr result (words_of pages.new ≡ words_of pages.old) }
+    ensures are_pages { ArePages (pages_of pages.new) }
+{
+    let page = &mut pages[usize::from(address / PAGE_WORDS)];
+    put(page, alloc, usize::from(address % PAGE_WORDS), word)
+}
+
+/// Puts a word at a place of a page. Whoever shares the page keeps it as it was. NoMemory comes only where it
+/// is shared, and changes nothing.
+#[inline]
+fn put(page: &mut SharedPage, alloc: Global, place: usize, word: u16) -> Result<(), NoMemory>
+    requires { place < PAGE_WORDS }
+    ensures put { OnOk result (page.new.value ≡ slice_set page.old.value place word) }
+    ensures unchanged { OnErr result (page.new.value ≡ page.old.value) }
+{
+    if let Some(words) = Rc::get_mut(page) {
+        words[place] = word;
+        return Ok(());
+    }
+    put_in_copy(page, alloc, place, word)
+}
+
+/// The same where the page is shared: a copy of it, with the word, takes its place.
+#[cold]
+#[inline(never)]
+fn put_in_copy(
+    page: &mut SharedPage,
+    alloc: Global,
+    place: usize,
+    word: u16,
+) -> Result<(), NoMemory>
+    requires { place < PAGE_WORDS }
+    ensures put { OnOk result (page.new.value ≡ slice_set page.old.value place word) }
+    ensures unchanged { OnErr result (page.new.value ≡ page.old.value) }
+{
+    let mut words = **page;
+    words[place] = word;
+    *page = Rc::new(alloc, words)?;
+    Ok(())
+}

@@ -1,0 +1,79 @@
+// A guarded memory in pages that are copied when they are written.
+ghost use Rattle.std.specs.Prelude.{◌≡◌, IfOk, replicate, false};
+ghost use Rattle.eg_guard.specs.Memory.{ShownMemory, AreWords};
+
+use crate::page::{SharedPages, put_at, share, word_at, zero_pages};
+use eg_base::NoMemory;
+use eg_guard::{CopyMemory, Guarded, Refused, StoreRefusal, WORDS, Who, access};
+use std::alloc::Global;
+use std::marker::Model;
+
+/// A guarded memory in pages of 64 words, which a copy shares with it until one of the two is written. It
+/// isn't sure: a store to a page that is shared takes memory for a page of its own, and a store to any other
+/// page takes none (docs/CONCEPT.md, "Guarded memory").
+///
+/// Contracts see the list of its words.
+#[derive(Drop)]
+pub struct PagedMemory {
+    pages: SharedPages,
+    alloc: Global,
+}
+
+impl Model for PagedMemory {
+    ghost use Rattle.std.specs.Prelude.{ℕ, List};
+    ghost use Rattle.eg_pages.specs.Pages.{ArePages, pages_of, words_of};
+
+    ghost Value = { List ℕ };
+
+    ghost view = { λ m. words_of m.pages };
+
+    ghost invariant = { λ m. ArePages (pages_of m.pages) };
+}
+
+impl PagedMemory {
+    /// A memory of which every word is 0. NoMemory is its one refusal.
+    pub fn new(alloc: Global) -> Result<PagedMemory, NoMemory>
+        ensures words { IfOk result (λ memory. memory ≡ replicate WORDS 0) }
+        ensures shown { IfOk result (λ memory. ⟦<PagedMemory as Guarded>⟧.shows memory
+            ≡ record { words = replicate WORDS 0; sure = false }) }
+        ensures are_words { IfOk result (λ memory. AreWords memory) }
+    {
+        let pages = zero_pages(alloc)?;
+        Ok(PagedMemory { pages, alloc })
+    }
+}
+
+impl Guarded for PagedMemory {
+    ghost shows = { λ m. record { words = m; sure = false } };
+
+    #[inline]
+    #[tactic(auto, using(eg_guard::proofs::AccessLemmas::within))]
+    fn load(&self, who: Who, address: u16) -> Result<u16, Refused> {
+        let pages = &self.pages;
+        if access(who, address).load {
+            Ok(word_at(pages, address))
+        } else {
+            Err(Refused)
+        }
+    }
+
+    #[inline]
+    #[tactic(auto, using(eg_guard::proofs::AccessLemmas::within))]
+    fn store(&mut self, who: Who, address: u16, word: u16) -> Result<(), StoreRefusal> {
+        let alloc = self.alloc;
+        if !access(who, address).store {
+            return Err(StoreRefusal::Refused);
+        }
+        match put_at(&mut self.pages, alloc, address, word) {
+            Ok(()) => Ok(()),
+            Err(NoMemory) => Err(StoreRefusal::Memory),
+        }
+    }
+}
+
+impl CopyMemory for PagedMemory {
+    fn copy(&self, alloc: Global) -> Result<PagedMemory, NoMemory> {
+        let pages = share(&self.pages)?;
+        Ok(PagedMemory { pages, alloc })
+    }
+}
