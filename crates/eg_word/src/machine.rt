@@ -7,7 +7,7 @@ ghost use Rattle.eg_word.specs.Memory.{load_from};
 ghost use Rattle.eg_word.specs.Program.{IsProgramOf};
 ghost use Rattle.eg_word.specs.Steps.{Makes, IsOneStep};
 
-use crate::program::instruction_at;
+use crate::program::loaded_at;
 use crate::{Instruction, Program, Register, Registers, State, Trap};
 use eg_base::NoMemory;
 use eg_guard::{Guarded, StoreRefusal, Who};
@@ -70,7 +70,6 @@ fn advance<M: Guarded>(registers: &mut Registers, memory: &mut M) -> Result<(), 
 
 /// Does the instruction at `pc`, and tells whether the machine runs on.
 #[inline]
-#[tactic(auto, using(crate::proofs::ProgramLemmas::code_loaded), unfolding(crate::specs::Machine::step_in))]
 fn fetch<M: Guarded>(
     registers: &mut Registers,
     memory: &mut M,
@@ -83,25 +82,62 @@ fn fetch<M: Guarded>(
     ensures runs { IfOk result (λ runs. IsTrue runs → registers.new.state ≡ Running) }
     ensures ends { IfOk result (λ runs. IsFalse runs → registers.new.state ≢ Running) }
 {
-    let Ok(instruction) = instruction_at(program, memory, registers.pc) else {
+    match program {
+        Some(program) => fetch_decoded(registers, memory, program),
+        None => fetch_loaded(registers, memory),
+    }
+}
+
+/// The same by the program of the memory's code.
+#[inline]
+#[tactic(auto, using(crate::proofs::ProgramLemmas::code_loaded), unfolding(crate::specs::Machine::step_in))]
+fn fetch_decoded<M: Guarded>(
+    registers: &mut Registers,
+    memory: &mut M,
+    program: &Program,
+) -> Result<bool, NoMemory>
+    requires running { registers.old.state ≡ Running }
+    requires program { IsProgramOf (M.shows memory.old).words program.now }
+    ensures makes { Makes (one_step (load_from (M.shows memory.old).words) registers.old) registers.old
+        registers.new (M.shows memory.old) (M.shows memory.new) result }
+    ensures runs { IfOk result (λ runs. IsTrue runs → registers.new.state ≡ Running) }
+    ensures ends { IfOk result (λ runs. IsFalse runs → registers.new.state ≢ Running) }
+{
+    let Ok(instruction) = program.decoded_at(memory, registers.pc) else {
         return Ok(registers.trap(Trap::Fetch));
     };
     execute(instruction, registers, memory)
 }
 
+/// The same by the word that stands in the memory.
+#[inline]
+#[tactic(auto, using(crate::proofs::ProgramLemmas::code_loaded), unfolding(crate::specs::Machine::step_in))]
+fn fetch_loaded<M: Guarded>(registers: &mut Registers, memory: &mut M) -> Result<bool, NoMemory>
+    requires running { registers.old.state ≡ Running }
+    ensures makes { Makes (one_step (load_from (M.shows memory.old).words) registers.old) registers.old
+        registers.new (M.shows memory.old) (M.shows memory.new) result }
+    ensures runs { IfOk result (λ runs. IsTrue runs → registers.new.state ≡ Running) }
+    ensures ends { IfOk result (λ runs. IsFalse runs → registers.new.state ≢ Running) }
+{
+    let Ok(instruction) = loaded_at(memory, registers.pc) else {
+        return Ok(registers.trap(Trap::Fetch));
+    };
+    execute(&instruction, registers, memory)
+}
+
 /// Does an instruction, and tells whether the machine runs on.
 #[tactic(auto, using(crate::proofs::MachineLemmas::loads_stored), unfolding(crate::specs::Machine::effect))]
 fn execute<M: Guarded>(
-    instruction: Instruction,
+    instruction: &Instruction,
     registers: &mut Registers,
     memory: &mut M,
 ) -> Result<bool, NoMemory>
-    ensures makes { Makes (effect (load_from (M.shows memory.old).words) registers.old instruction)
+    ensures makes { Makes (effect (load_from (M.shows memory.old).words) registers.old instruction.now)
         registers.old registers.new (M.shows memory.old) (M.shows memory.new) result }
     ensures runs { IfOk result (λ runs. IsTrue runs → registers.new.state ≡ registers.old.state) }
     ensures ends { IfOk result (λ runs. IsFalse runs → registers.new.state ≢ Running) }
 {
-    let runs = match instruction {
+    let runs = match *instruction {
         Instruction::Nop => registers.jump(registers.next()),
         Instruction::Ldi { a, n } => registers.set(a, n),
         Instruction::Ldx { a, n } => {

@@ -1,7 +1,6 @@
 // The code of level 1 as instructions.
 ghost use Rattle.std.specs.Prelude.{◌≡◌, ◌<◌, ◌≤◌, ◌↔◌, length, replicate, slice_index, slice_index_or};
 ghost use Rattle.std.specs.Prelude.{IsOk, IfOk};
-ghost use Rattle.std.specs.Option.{option_copied, ForSome};
 ghost use Rattle.eg_guard.specs.declared.regions.TheConstants.{DATA as CODE_END};
 ghost use Rattle.eg_word.specs.declared.instruction.Instruction.{Instruction};
 ghost use Rattle.eg_word.specs.Instructions.{instruction_of};
@@ -52,13 +51,32 @@ impl Program {
         Program { code }
     }
 
+    /// The instruction at that address, by the program of this memory's code. Refused exactly outside the
+    /// code. It stays where it is, since it is read field by field.
+    #[inline]
+    pub(crate) fn decoded_at<M: Guarded>(
+        &self,
+        memory: &M,
+        address: u16,
+    ) -> Result<&Instruction, Refused>
+        requires { IsProgramOf (M.shows memory.now).words self.now }
+        ensures allowed { IsOk result ↔ address < CODE_END }
+        ensures instruction { IfOk result
+            (λ it. it.now ≡ instruction_of (slice_index (M.shows memory.now).words address)) }
+    {
+        if address >= DATA {
+            return Err(Refused);
+        }
+        Ok(self.at(address))
+    }
+
     /// The instruction at an address of the code.
     #[inline]
-    fn at(&self, address: u16) -> Instruction
+    fn at(&self, address: u16) -> &Instruction
         requires { address < CODE_END }
-        ensures { (past : Instruction) → result ≡ slice_index_or self.now address past }
+        ensures { (past : Instruction) → result.now ≡ slice_index_or self.now address past }
     {
-        self.code[usize::from(address)]
+        &self.code[usize::from(address)]
     }
 }
 
@@ -69,15 +87,10 @@ fn clear_code() -> [Instruction; DATA as usize]
     [decode(0); DATA as usize]
 }
 
-/// The instruction at that address: that of the program, where the caller has it, else the word that stands
-/// in the memory is decoded. Refused exactly outside the code.
+/// The instruction at that address, decoded from the word that stands in the memory. Refused exactly outside
+/// the code.
 #[inline]
-pub(crate) fn instruction_at<M: Guarded>(
-    program: Option<&Program>,
-    memory: &M,
-    address: u16,
-) -> Result<Instruction, Refused>
-    requires { ForSome (option_copied program) (IsProgramOf (M.shows memory.now).words) }
+pub(crate) fn loaded_at<M: Guarded>(memory: &M, address: u16) -> Result<Instruction, Refused>
     ensures allowed { IsOk result ↔ address < CODE_END }
     ensures instruction { IfOk result
         (λ it. it ≡ instruction_of (slice_index (M.shows memory.now).words address)) }
@@ -85,10 +98,7 @@ pub(crate) fn instruction_at<M: Guarded>(
     if address >= DATA {
         return Err(Refused);
     }
-    match program {
-        Some(program) => Ok(program.at(address)),
-        None => loaded(memory, address),
-    }
+    loaded(memory, address)
 }
 
 /// Loads a word of the code, and decodes it.
