@@ -7,9 +7,9 @@ use Rattle.eg_plan.specs.declared.key.RunKey.TheVariants as key
 use Rattle.eg_plan.specs.declared.key.CampaignFault.{CampaignFault}
 use Rattle.eg_plan.specs.declared.key.CampaignFault.TheVariants.{Key, TwoFaults, Name, Many, Ticks}
 use Rattle.eg_plan.specs.declared.run.RunPlan.{RunPlan}
-use Rattle.eg_plan.specs.Keys.{Content, run_name, file_name, slice_rows, number, optional, shift, words, ticks, truths, KeyRule, text_of, name, onset, run_keys}
+use Rattle.eg_plan.specs.Keys.{Content, run_name, file_name, slice_rows, engine_name, number, optional, shift, words, ticks, truths, KeyRule, text_of, name, onset, run_keys}
 use Rattle.eg_toml.specs.Refusals.{or_else, unless_some, unless_true, unless}
-use Rattle.eg_plan.specs.Contents.{text_at, is_run_name, is_file_name, slices_at, optional_at, shift_at, words_at, ticks_at, truths_at, bytes_of}
+use Rattle.eg_plan.specs.Contents.{text_at, is_run_name, is_file_name, slices_at, engine_at, optional_at, shift_at, words_at, ticks_at, truths_at, bytes_of}
 use Rattle.eg_plan.specs.Checks.{content_refusal, key_refusal, keys_refusal}
 use Rattle.eg_plan.specs.Classes.{class_in, own_keys}
 use Rattle.eg_plan.specs.Faults.{class_at, fault_refusal}
@@ -46,6 +46,7 @@ content-other : (f : CampaignFault) (c : Content) (k : List ℕ) (ms : Members) 
 content-other f run_name k ms h = some-other f (text_at is_run_name k ms) h
 content-other f file_name k ms h = some-other f (text_at is_file_name k ms) h
 content-other f slice_rows k ms h = some-other f (slices_at k ms) h
+content-other f engine_name k ms h = some-other f (engine_at k ms) h
 content-other f (number low high) k ms h = some-other f (number_at low high k ms) h
 content-other f (optional high) k ms h = some-other f (optional_at high k ms) h
 content-other f shift k ms h = some-other f (shift_at k ms) h

@@ -1,10 +1,13 @@
--- Campaign files worked out by the definitions: each class of faults, and refusals in their order.
-use Rattle.std.proofs.Common.{◌≡◌, ℕ, negsuc, true, false, List, [], ◌∷◌, ◌++◌, map, codes, Some, Result, Ok, Err, refl}
+-- Campaign files worked out by the definitions: each engine, each class of faults, and refusals in their order.
+use Rattle.std.proofs.Common.{◌≡◌, ℕ, negsuc, true, false, List, [], ◌∷◌, ◌++◌, map, codes, Option, Some, None, Result, Ok, Err, refl}
 use Rattle.std.specs.Str.{chars, is_utf8}
 use Rattle.toml.proofs.OnLiterals.{toml_on_literals}
 use Rattle.eg_toml.specs.Documents.{document_of}
 use Rattle.eg_fault.specs.declared.class.Class.{Class}
 use Rattle.eg_fault.specs.declared.class.Class.TheVariants as class
+use Rattle.eg_fault.specs.declared.class.Fault.{Fault}
+use Rattle.eg_plan.specs.declared.engine.EngineKind.{EngineKind}
+use Rattle.eg_plan.specs.declared.engine.EngineKind.TheVariants.{Gasoline, Diesel}
 use Rattle.eg_plan.specs.declared.key.RunKey.TheVariants as key
 use Rattle.eg_plan.specs.declared.key.CampaignFault.{CampaignFault}
 use Rattle.eg_plan.specs.declared.key.CampaignFault.TheVariants.{Text, Key, TwoFaults, Name}
@@ -19,19 +22,51 @@ use Rattle.eg_plan.specs.Campaign.{refusal_of, campaign_of}
 abbrev read : List ℕ → Result (List RunPlan) CampaignFault
 read text = campaign_of (document_of text)
 
+-- a run of this name, and what stands below it
+abbrev named : List ℕ → List ℕ → List ℕ
+named name rest = codes "[[run]]\nname = \"" ++ name ++ codes "\"\ntrace = \"t\"\nimage = \"i\"\n" ++ rest
+
 -- a run without slices, and with this under `faults`
 abbrev with_faults : List ℕ → List ℕ
-with_faults faults = codes "[[run]]\nname = \"a\"\ntrace = \"t\"\nimage = \"i\"\nfaults = " ++ faults
+with_faults faults = named (codes "a") (codes "faults = " ++ faults)
 
--- the run that it is, with a fault from this tick on
-abbrev faulty : ℕ → Class → Result (List RunPlan) CampaignFault
-faulty onset class = Ok (record {
-  name = codes "a";
+-- a run of this name without slices, with an engine, and with a fault or none
+abbrev run_with : List ℕ → EngineKind → Option Fault → RunPlan
+run_with name engine fault = record {
+  name = name;
   trace = codes "t";
   image = codes "i";
   plan = usual_slices;
-  fault = Some (record { onset = onset; class = class });
-} ∷ [])
+  engine = engine;
+  fault = fault;
+}
+
+-- a file of one gasoline run with a fault from this tick on
+abbrev faulty : ℕ → Class → Result (List RunPlan) CampaignFault
+faulty onset class = Ok (run_with (codes "a") Gasoline (Some (record { onset = onset; class = class })) ∷ [])
+
+-- a file of one run without a fault, with this engine
+abbrev driven : EngineKind → Result (List RunPlan) CampaignFault
+driven engine = Ok (run_with (codes "a") engine None ∷ [])
+
+-- gasoline where no engine is named, of each run for itself
+engines : map read (
+    named (codes "a") []
+    ∷ named (codes "a") (codes "engine = \"gasoline\"")
+    ∷ named (codes "a") (codes "engine = \"diesel\"")
+    ∷ named (codes "a") (codes "faults = []\nengine = 'diesel'")
+    ∷ with_faults (codes "[{ class = \"halt\", onset = 7 }]\nengine = \"diesel\"")
+    ∷ named (codes "a") (codes "engine = \"diesel\"\n" ++ named (codes "b") (named (codes "c") (codes "engine = \"diesel\"")))
+    ∷ []) ≡
+    driven Gasoline
+    ∷ driven Gasoline
+    ∷ driven Diesel
+    ∷ driven Diesel
+    ∷ Ok (run_with (codes "a") Diesel (Some (record { onset = 7; class = class.Halt })) ∷ [])
+    ∷ Ok (run_with (codes "a") Diesel None ∷ run_with (codes "b") Gasoline None ∷ run_with (codes "c") Diesel None ∷ [])
+    ∷ []
+unfolding toml_on_literals chars is_utf8 keys_refusal fault_refusal fault_of run_refusal refusal_of
+engines = refl
 
 classes : map read (
     with_faults (codes "[{ class = \"script\", onset = 0, track = 4, values = [0, 65535] }]")
@@ -74,10 +109,6 @@ classes = refl
 abbrev refused : CampaignFault → Result (List RunPlan) CampaignFault
 refused f = Err f
 
--- a run of this name, and what stands below it
-abbrev named : List ℕ → List ℕ → List ℕ
-named name rest = codes "[[run]]\nname = \"" ++ name ++ codes "\"\ntrace = \"t\"\nimage = \"i\"\n" ++ rest
-
 files : map read (
     codes "run"
     ∷ codes "at = 9223372036854775808"
@@ -107,6 +138,47 @@ files : map read (
     ∷ []
 unfolding toml_on_literals chars is_utf8 keys_refusal fault_refusal fault_of run_refusal refusal_of
 files = refl
+
+-- other engines, and where a bad one stands in the order of refusals
+bad_engines : map read (
+    named (codes "a") (codes "engine = \"petrol\"")
+    ∷ named (codes "a") (codes "engine = \"Diesel\"")
+    ∷ named (codes "a") (codes "engine = \"diesel \"")
+    ∷ named (codes "a") (codes "engine = \"\"")
+    ∷ named (codes "a") (codes "engine = 1")
+    ∷ named (codes "a") (codes "engine = true")
+    ∷ named (codes "a") (codes "engine = [\"diesel\"]")
+    ∷ named (codes "a") (codes "engine = 1\nslices = [[]]")
+    ∷ named (codes "-a") (codes "engine = 1")
+    ∷ named (codes "a") (codes "faults = {}\nengine = 1")
+    ∷ named (codes "a") (codes "faults = [{}, {}]\nengine = 1")
+    ∷ named (codes "a") (codes "faults = [{}]\nengine = 1")
+    ∷ named (codes "a") (codes "at = 1\nengine = 1")
+    ∷ named (codes "a") (codes "engine = \"diesel\"\nfaults = {}")
+    ∷ named (codes "a") (codes "engine = \"diesel\"\nat = 1")
+    ∷ named (codes "a") (codes "Engine = \"diesel\"")
+    ∷ named (codes "a") (named (codes "a") (codes "engine = 1"))
+    ∷ []) ≡
+    refused (Key 1 key.Engine)
+    ∷ refused (Key 1 key.Engine)
+    ∷ refused (Key 1 key.Engine)
+    ∷ refused (Key 1 key.Engine)
+    ∷ refused (Key 1 key.Engine)
+    ∷ refused (Key 1 key.Engine)
+    ∷ refused (Key 1 key.Engine)
+    ∷ refused (Key 1 key.Slices)
+    ∷ refused (Key 1 key.Name)
+    ∷ refused (Key 1 key.Engine)
+    ∷ refused (Key 1 key.Engine)
+    ∷ refused (Key 1 key.Engine)
+    ∷ refused (Key 1 key.Engine)
+    ∷ refused (Key 1 key.Faults)
+    ∷ refused (Key 1 key.Unknown)
+    ∷ refused (Key 1 key.Unknown)
+    ∷ refused (Key 2 key.Engine)
+    ∷ []
+unfolding toml_on_literals chars is_utf8 keys_refusal fault_refusal fault_of run_refusal refusal_of
+bad_engines = refl
 
 faults : map read (
     with_faults (codes "{}")

@@ -4,15 +4,16 @@ use Rattle.toml.specs.Data.{Members}
 use Rattle.eg_toml.specs.Values.{number_at}
 use Rattle.eg_plan.specs.declared.key.CampaignFault.{CampaignFault}
 use Rattle.eg_plan.specs.declared.key.CampaignFault.TheVariants.{Key}
-use Rattle.eg_plan.specs.Keys.{Content, run_name, file_name, slice_rows, number, optional, shift, words, ticks, truths, KeyRule, text_of}
+use Rattle.eg_plan.specs.Keys.{Content, run_name, file_name, slice_rows, engine_name, number, optional, shift, words, ticks, truths, KeyRule, text_of}
 use Rattle.eg_toml.specs.Refusals.{or_else, unless_some}
-use Rattle.eg_plan.specs.Contents.{text_at, is_run_name, is_file_name, slices_at, optional_at, shift_at, words_at, ticks_at, truths_at}
+use Rattle.eg_plan.specs.Contents.{text_at, is_run_name, is_file_name, slices_at, engine_at, optional_at, shift_at, words_at, ticks_at, truths_at}
 
 -- the refusal of what stands under this name, if it isn't what it may be
 abbrev pub content_refusal : CampaignFault → Content → List ℕ → Members → Option CampaignFault
 content_refusal f run_name key ms = unless_some f (text_at is_run_name key ms)
 content_refusal f file_name key ms = unless_some f (text_at is_file_name key ms)
 content_refusal f slice_rows key ms = unless_some f (slices_at key ms)
+content_refusal f engine_name key ms = unless_some f (engine_at key ms)
 content_refusal f (number low high) key ms = unless_some f (number_at low high key ms)
 content_refusal f (optional high) key ms = unless_some f (optional_at high key ms)
 content_refusal f shift key ms = unless_some f (shift_at key ms)

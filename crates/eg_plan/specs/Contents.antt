@@ -1,10 +1,12 @@
 -- What stands under the keys of a campaign file.
-use Rattle.std.specs.Prelude.{ℕ, ℤ, pos, negsuc, ◌==◌, ◌&&◌, ◌||◌, Bool, false, not, nat_le, List, [], ◌∷◌, length, Option, Some, None, unwrap_or, if◌then◌else◌}
+use Rattle.std.specs.Prelude.{ℕ, ℤ, pos, negsuc, ◌==◌, ◌&&◌, ◌||◌, Bool, false, not, nat_le, List, [], ◌∷◌, length, codes, bytes_eq, Option, Some, None, unwrap_or, if◌then◌else◌}
 use Rattle.std.specs.List.{sum, list_all}
 use Rattle.toml.specs.Data.{Data, Members, get_member, as_str, as_integer, as_bool}
 use Rattle.eg_toml.specs.Values.{number_in, number_at, ◌>>=◌}
 use Rattle.eg_toml.specs.Arrays.{numbers_in, array_in, one, is_rising}
-use Rattle.eg_plan.specs.Keys.{Content, run_name, file_name, slice_rows, number, optional, shift, words, ticks, truths, KeyRule, text_of}
+use Rattle.eg_plan.specs.declared.engine.EngineKind.{EngineKind}
+use Rattle.eg_plan.specs.declared.engine.EngineKind.TheVariants.{Gasoline, Diesel}
+use Rattle.eg_plan.specs.Keys.{Content, run_name, file_name, slice_rows, engine_name, number, optional, shift, words, ticks, truths, KeyRule, text_of}
 
 -- ---- texts ----
 
@@ -60,6 +62,22 @@ read_or usual read (Some d) = read d
 -- the rows under a key
 abbrev pub slices_at : List ℕ → Members → Option (List (List ℕ))
 slices_at key ms = read_or usual_slices slices_in (get_member key ms)
+
+-- ---- the engine ----
+
+-- the engine of this name
+abbrev pub engine_named : List ℕ → Option EngineKind
+engine_named text =
+    if bytes_eq text (codes "gasoline") then Some Gasoline
+    else if bytes_eq text (codes "diesel") then Some Diesel else None
+
+-- a text that names an engine
+abbrev pub engine_in : Data → Option EngineKind
+engine_in d = as_str d >>= engine_named
+
+-- the engine under a key, or gasoline where the key is absent
+abbrev pub engine_at : List ℕ → Members → Option EngineKind
+engine_at key ms = read_or Gasoline engine_in (get_member key ms)
 
 -- ---- numbers and truth values of a fault ----
 
@@ -118,6 +136,14 @@ rows_as _ key ms = []
 -- rows of slices
 abbrev pub rows_of : KeyRule → Members → List (List ℕ)
 rows_of rule ms = rows_as rule.content (text_of rule.key) ms
+
+abbrev engine_as : Content → List ℕ → Members → EngineKind
+engine_as engine_name key ms = unwrap_or (engine_at key ms) Gasoline
+engine_as _ key ms = Gasoline
+
+-- an engine
+abbrev pub engine_of : KeyRule → Members → EngineKind
+engine_of rule ms = engine_as rule.content (text_of rule.key) ms
 
 abbrev number_as : Content → List ℕ → Members → ℕ
 number_as (number low high) key ms = unwrap_or (number_at low high key ms) 0

@@ -5,7 +5,7 @@ use Rattle.eg_answer.specs.declared.modules.TheConstants.{CHECK, PEDAL, PAIRS, R
 use Rattle.eg_answer.specs.declared.words.TheConstants.{STORED_WORDS}
 use Rattle.eg_fault.specs.declared.paths.TheConstants.{PATH_1, PATH_2}
 use Rattle.eg_plan.specs.declared.key.RunKey.{RunKey}
-use Rattle.eg_plan.specs.declared.key.RunKey.TheVariants.{Run, Name, Trace, Image, Slices, Faults, Class, Onset, Track, Values, Add, Mask, At, Module, Word, Offset, Questions, Opens, Path, After, Every, Unknown}
+use Rattle.eg_plan.specs.declared.key.RunKey.TheVariants.{Run, Name, Trace, Image, Slices, Engine, Faults, Class, Onset, Track, Values, Add, Mask, At, Module, Word, Offset, Questions, Opens, Path, After, Every, Unknown}
 
 -- a key as it stands in the file, and as a note prints it
 abbrev pub text_of : RunKey → List ℕ
@@ -14,6 +14,7 @@ text_of Name = codes "name"
 text_of Trace = codes "trace"
 text_of Image = codes "image"
 text_of Slices = codes "slices"
+text_of Engine = codes "engine"
 text_of Faults = codes "faults"
 text_of Class = codes "class"
 text_of Onset = codes "onset"
@@ -37,6 +38,7 @@ pub data Content : Type 0 where
   run_name : Content  -- 1 to 32 of the characters a to z, 0 to 9 and -, not beginning with -
   file_name : Content  -- 1 to 200 bytes, not beginning with -
   slice_rows : Content  -- 1 to 64 rows of nine numbers; where the key is absent, one row of nine 100
+  engine_name : Content  -- gasoline or diesel; where the key is absent, gasoline
   number : ℕ → ℕ → Content  -- a number from .. to ..
   optional : ℕ → Content  -- a number from 0 to ..; where the key is absent, 0
   shift : Content  -- a number from -65535 to 65535, and not 0
@@ -68,9 +70,12 @@ image = Image holds file_name
 abbrev pub slices : KeyRule
 slices = Slices holds slice_rows
 
+abbrev pub engine : KeyRule
+engine = Engine holds engine_name
+
 -- those that are checked first, in this order; `faults` comes after them
 abbrev pub run_keys : List KeyRule
-run_keys = name ∷ trace ∷ image ∷ slices ∷ []
+run_keys = name ∷ trace ∷ image ∷ slices ∷ engine ∷ []
 
 -- ---- the keys of a fault ----
 

@@ -19,6 +19,8 @@ pub enum RunKey {
     Image,
     /// `slices`: how many instructions level 1 may do.
     Slices,
+    /// `engine`: which engine stands on the bench.
+    Engine,
     /// `faults`: the fault, if there is one.
     Faults,
     /// `class`: the name of the fault's class.
@@ -115,6 +117,7 @@ impl RunKey {
             RunKey::Trace => "trace",
             RunKey::Image => "image",
             RunKey::Slices => "slices",
+            RunKey::Engine => "engine",
             RunKey::Faults => "faults",
             RunKey::Class => "class",
             RunKey::Onset => "onset",

@@ -6,6 +6,7 @@
 
 mod class_name;
 mod contents;
+mod engine;
 mod fault;
 mod key;
 mod laws;
@@ -15,6 +16,7 @@ mod slices;
 mod texts;
 mod ticks;
 
+pub use engine::EngineKind;
 pub use key::{CampaignFault, RunKey};
 pub use laws::accepted_files_keep_the_rules;
 pub use reader::read_campaign;

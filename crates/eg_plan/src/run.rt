@@ -9,10 +9,11 @@ ghost use Rattle.eg_plan.specs.declared.key.CampaignFault.TheVariants.{Memory};
 ghost use Rattle.eg_plan.specs.Faults.{fault_of};
 ghost use Rattle.eg_plan.specs.Runs.{all_items, is_table, array_refusal, faults_refusal, fault_table, table_refusal, run_names, table_is_known, is_all_known, run_of, has_name, run_refusal};
 
+use crate::engine::engine;
 use crate::fault::{fault_in, has_own_names};
 use crate::slices::slices;
 use crate::texts::{file_name, run_name};
-use crate::{CampaignFault, RunKey};
+use crate::{CampaignFault, EngineKind, RunKey};
 use eg_base::Text;
 use eg_fault::Fault;
 use eg_slices::SlicePlan;
@@ -21,7 +22,7 @@ use std::alloc::Global;
 use toml::{Table, Value};
 
 /// The names that the table of a run may have.
-const NAMES: [&str; 5] = ["name", "trace", "image", "slices", "faults"];
+const NAMES: [&str; 6] = ["name", "trace", "image", "slices", "engine", "faults"];
 
 /// One run of a campaign (docs/FORMATS.md, "Campaign files").
 #[derive(Drop)]
@@ -34,6 +35,8 @@ pub struct RunPlan {
     pub image: Text,
     /// How many instructions level 1 may do.
     pub plan: SlicePlan,
+    /// Which engine stands on the bench.
+    pub engine: EngineKind,
     /// The fault, if there is one.
     pub fault: Option<Fault>,
 }
@@ -53,6 +56,7 @@ pub(crate) fn run_in(
     let trace = file_name(alloc, table, run, RunKey::Trace)?;
     let image = file_name(alloc, table, run, RunKey::Image)?;
     let plan = slices(table, run, RunKey::Slices)?;
+    let engine = engine(table, run, RunKey::Engine)?;
     if let Some(refusal) = faults_refusal(table, run) {
         return Err(refusal);
     }
@@ -71,6 +75,7 @@ pub(crate) fn run_in(
         trace,
         image,
         plan,
+        engine,
         fault,
     })
 }
