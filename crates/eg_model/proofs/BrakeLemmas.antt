@@ -1,5 +1,5 @@
 -- The effective drive row, and the readings where the brake is taken as pressed.
-use Rattle.std.proofs.Common.{◌≡◌, ℕ, ◌-◌, Bool, true, false, ◌&&◌, [], ◌∷◌, refl, sym, ap, ◌∙◌, ◌⊎◌, lit≤}
+use Rattle.std.proofs.Common.{◌≡◌, Bool, true, false, ◌&&◌, [], ◌∷◌, refl, sym, ap, ◌∙◌, ◌⊎◌, lit≤}
 use Rattle.std.specs.Prelude.{if◌then◌else◌}
 use Rattle.eg_num.specs.Drive.{DriveRow, IsDrive}
 use Rattle.eg_sensor.specs.Readings.{sound_readings}

@@ -16,12 +16,14 @@ pub mod SpanLemmas
 pub mod StartUpLaws
 pub mod SpanRuns
 pub mod RecordTicks
+pub mod BranchLaws
 pub mod SpanRows
 pub mod SpanLaws
 pub mod RecordSpans
 pub mod RecordLaws
 pub mod PowerCycleLaws
 pub mod GasolineLaws
+pub mod DieselLaws
 pub mod WholeRecord
 pub mod LapseRuns
 pub mod LapseAnswers

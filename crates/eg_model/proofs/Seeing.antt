@@ -18,7 +18,7 @@ use Rattle.eg_answer.specs.Formulas.{permitted_torque, estimated_torque, excess_
 use Rattle.eg_sensor.specs.declared.tracks.TheConstants.{PEDAL_1, PEDAL_2, LOAD_1, LOAD_2, SPEED_1, SPEED_2, BRAKE_1, BRAKE_2}
 use Rattle.eg_fault.specs.Effects.{Effects, readings_under}
 use Rattle.eg_fault.specs.Classes.{IsSound}
-use Rattle.eg_model.specs.History.{Setting, Entry, Tick, Moment}
+use Rattle.eg_model.specs.History.{Setting, Tick, Moment}
 use Rattle.eg_model.specs.Signals.{tripped, is_limited, signal}
 use Rattle.eg_model.specs.Detection.{torque_bit}
 use Rattle.eg_model.specs.Paths.{on_at}

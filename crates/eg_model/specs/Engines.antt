@@ -1,9 +1,11 @@
--- Engines on the bench: what the bench knows of an engine, the gasoline engine, and what is asked of an
--- engine so that the laws of records hold of it.
+-- Engines on the bench: what the bench knows of an engine, the gasoline engine and the diesel engine, and
+-- what is asked of an engine so that the laws of records hold of it.
 use Rattle.std.specs.Prelude.{◌≡◌, ℕ, Bool, false, Option}
 use Rattle.eg_plant.specs.PlantParts.{PlantParts, ArePlantParts}
 use Rattle.eg_plant.specs.Engine.{Shown, KeepsLaws}
 use Rattle.eg_plant.specs.Gasoline.{Gasoline, at_rest, gasoline_step, shown_of}
+use Rattle.eg_diesel.specs.Diesel.{Diesel, diesel_step}
+use Rattle.eg_diesel.specs.Diesel as of_diesel
 use Rattle.eg_fault.specs.Classes.{IsHeldWithin}
 
 -- An engine on the bench. What it has come to is its state, of any type E. It needn't show all of it.
@@ -19,6 +21,10 @@ pub record BenchEngine (E : Type 0) : Type 0 where
 -- the gasoline engine
 unfoldable pub gasoline : BenchEngine Gasoline
 gasoline = record { rest = at_rest; step = gasoline_step; shows = shown_of }
+
+-- the diesel engine, which rests alike whatever its plant
+unfoldable pub diesel : BenchEngine Diesel
+diesel = record { rest = λ plant. of_diesel.at_rest; step = diesel_step; shows = of_diesel.shown_of }
 
 -- What the laws of records ask of an engine, where `Keeps` is what its states keep from step to step,
 -- whatever that is.

@@ -3,6 +3,7 @@
 //! their contracts. Longer runs are in `eg_runs`.
 #![tactic(auto)]
 
+mod branching;
 mod examples;
 mod faulty_runs;
 mod lapses;
@@ -11,6 +12,7 @@ mod records;
 mod sharp_cut;
 mod start_up;
 
+pub use branching::runs_branch;
 pub use examples::{alternating_slices, full_run, passed_test, probing_run, raise_is_read};
 pub use faulty_runs::{
     disturbed_raise, failed_test, flip_seen_by_level_1, halted_and_held_runs, lapsed_run,

@@ -1,21 +1,21 @@
-// The laws of records of runs on the bench, for the gasoline engine. They are proved of any engine that
-// brings what `KeepsBenchLaws` says.
-ghost use Rattle.eg_model.specs.Engines.{gasoline};
+// The laws of records of runs on the bench, for the gasoline engine and for the diesel engine. They are
+// proved of any engine that brings what `KeepsBenchLaws` says.
+ghost use Rattle.eg_model.specs.Engines.{gasoline, diesel};
 ghost use Rattle.eg_model.specs.PowerCycles.{RecordsBeginInTurn};
 ghost use Rattle.eg_model.specs.Records.{RecordsAreHistories, RecordsAreRows, RecordsReact, RecordsReactAtOnce, RecordsCutFromOnset, RecordsCutSharply, RecordsCutSharplyBefore, RecordsCutLapses, RecordsHaveShortLapses, RecordsTestUnpowered, RecordsPassTests};
 
 /// The record of a run on the bench is a history from tick 0, and its rows are numbered from 0 on. It
 /// does nothing when it runs.
 pub fn records_are_histories()
-    ensures histories { RecordsAreHistories gasoline }
-    ensures rows { RecordsAreRows gasoline }
+    ensures histories { RecordsAreHistories gasoline × RecordsAreHistories diesel }
+    ensures rows { RecordsAreRows gasoline × RecordsAreRows diesel }
 {}
 
 /// The reaction theorem for runs on the bench, by the rows of each drive span of the record. It does nothing
 /// when it runs.
 pub fn records_react()
-    ensures in_time { RecordsReact gasoline }
-    ensures at_once { RecordsReactAtOnce gasoline }
+    ensures in_time { RecordsReact gasoline × RecordsReact diesel }
+    ensures at_once { RecordsReactAtOnce gasoline × RecordsReactAtOnce diesel }
 {}
 
 /// By the rows of each drive span of the record of a run on the bench: where a module of level 2 is skipped
@@ -23,29 +23,29 @@ pub fn records_react()
 /// span's begin if that is later, whatever the torque (docs/CONCEPT.md, "Reaction time"). It does nothing
 /// when it runs.
 pub fn records_cut_from_onset()
-    ensures { RecordsCutFromOnset gasoline }
+    ensures { RecordsCutFromOnset gasoline × RecordsCutFromOnset diesel }
 {}
 
 /// The sharp cut for runs on the bench, by the rows of each drive span of the record: at all of them without
 /// a fault, and at those before the onset of a fault, whatever the fault. It does nothing when it runs.
 pub fn records_cut_sharply()
-    ensures rows { RecordsCutSharply gasoline }
-    ensures before { RecordsCutSharplyBefore gasoline }
+    ensures rows { RecordsCutSharply gasoline × RecordsCutSharply diesel }
+    ensures before { RecordsCutSharplyBefore gasoline × RecordsCutSharplyBefore diesel }
 {}
 
 /// The laws of lapses by the rows of each drive span of the record of a run on the bench, for a calibration
 /// that has a bound (docs/CONCEPT.md, "Lapses"): a lapse is cut, and each stretch of true excess is shorter
 /// than the bound. It does nothing when it runs.
 pub fn records_cut_lapses()
-    ensures cut { RecordsCutLapses gasoline }
-    ensures short { RecordsHaveShortLapses gasoline }
+    ensures cut { RecordsCutLapses gasoline × RecordsCutLapses diesel }
+    ensures short { RecordsHaveShortLapses gasoline × RecordsHaveShortLapses diesel }
 {}
 
 /// By the rows of the record of a run on the bench: a test span begins at each reset, and a drive span at the
 /// first tick and after a test that has found both paths open; while the shut-off paths are tested the stages
 /// are off, whatever the fault; and without a fault no test fails. It does nothing when it runs.
 pub fn records_test_the_paths()
-    ensures cycles { RecordsBeginInTurn gasoline }
-    ensures unpowered { RecordsTestUnpowered gasoline }
-    ensures passes { RecordsPassTests gasoline }
+    ensures cycles { RecordsBeginInTurn gasoline × RecordsBeginInTurn diesel }
+    ensures unpowered { RecordsTestUnpowered gasoline × RecordsTestUnpowered diesel }
+    ensures passes { RecordsPassTests gasoline × RecordsPassTests diesel }
 {}

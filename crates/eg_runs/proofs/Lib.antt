@@ -6,3 +6,4 @@ pub mod WorkedUnusual
 pub mod WorkedCycles
 pub mod WorkedBraking
 pub mod WorkedFacts
+pub mod WorkedDiesel

@@ -3,6 +3,7 @@ pub mod UnusualRuns
 pub mod PowerCycles
 pub mod Braking
 pub mod Facts
+pub mod DieselRuns
 pub use Rattle.eg_answer.specs.Times
 pub use Rattle.eg_model.specs.Examples
 pub use Rattle.eg_model.specs.Rows

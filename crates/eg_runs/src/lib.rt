@@ -4,6 +4,7 @@
 #![tactic(auto)]
 
 mod braking;
+mod diesel;
 mod examples;
 mod facts;
 mod faulty_runs;
@@ -12,6 +13,10 @@ mod power_cycles;
 mod unusual_runs;
 
 pub use braking::{braking_ticks, contacts_and_gates, held_throttle_run};
+pub use diesel::{
+    diesel_across_a_reset, diesel_at_full_throttle, diesel_that_loses_a_load_track,
+    diesel_with_a_held_rack,
+};
 pub use examples::{
     empty_image, following_run, full_run_in_detail, idle_run, looping_image, refused_store,
     three_runs,

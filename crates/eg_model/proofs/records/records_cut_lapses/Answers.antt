@@ -1,6 +1,10 @@
 use Rattle.eg_model.proofs.GasolineLaws.{gasoline_keeps}
+use Rattle.eg_model.proofs.DieselLaws.{diesel_keeps}
 use Rattle.eg_model.proofs.RecordLaws.{records_cut_lapses, records_have_short_lapses}
 use Rattle.eg_model.proofs.records.records_cut_lapses.Goals as goal
 
 pub returns : goal.returns
-returns c = record { cut = records_cut_lapses gasoline_keeps; short = records_have_short_lapses gasoline_keeps }
+returns c = record {
+  cut = (records_cut_lapses gasoline_keeps, records_cut_lapses diesel_keeps);
+  short = (records_have_short_lapses gasoline_keeps, records_have_short_lapses diesel_keeps);
+}
