@@ -10,7 +10,7 @@ use Rattle.eg_fault.specs.Effects.{asked_at}
 use Rattle.eg_fault.specs.Faults.{effects, IsNoneOrValid}
 use Rattle.eg_fault.specs.Classes.{IsHeldWithin}
 use Rattle.eg_fault.proofs.ClassLemmas.{plates_are_held_within}
-use Rattle.eg_values.specs.Calibration.{CalibrationParts, IsAccepted}
+use Rattle.eg_values.specs.Calibration.{IsAccepted}
 use Rattle.eg_guard.specs.Memory.{ShownMemory, AreWords}
 use Rattle.eg_word.specs.declared.registers.Registers.{Registers}
 use Rattle.eg_word.specs.World.{World, world_of}

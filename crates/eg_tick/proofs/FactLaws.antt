@@ -10,7 +10,6 @@ use Rattle.eg_num.specs.Windows.{WeightParts, is_confirmed, first_place}
 use Rattle.eg_answer.specs.Times.{reaction_of}
 use Rattle.eg_values.specs.Calibration.{IsAccepted}
 use Rattle.eg_fault.specs.Faults.{IsListed}
-use Rattle.eg_plant.specs.Gasoline.{GasolinePlant}
 use Rattle.eg_word.specs.declared.registers.Trap.{Trap}
 use Rattle.eg_record.specs.declared.row.Row.{Row}
 use Rattle.eg_record.specs.declared.facts.Facts.{Facts}
@@ -25,7 +24,7 @@ use Rattle.eg_record.proofs.ExcessLemmas.{first_confirmed-one_span}
 use Rattle.eg_record.proofs.GivenLemmas.{AreRows-ticks}
 use Rattle.eg_record.proofs.FactLemmas.{last_on-before, last_on-append, last_on-within, ConfirmsAt, confirms_at, goes_off_once}
 use Rattle.eg_model.specs.Reaction.{is_at_once}
-use Rattle.eg_model.specs.Engines.{gasoline}
+use Rattle.eg_model.specs.Engines.{BenchEngine, gasoline}
 use Rattle.eg_model.specs.Bench.{Run}
 use Rattle.eg_model.specs.Rows.{first_trap, record_rows, record_trap}
 use Rattle.eg_model.specs.Records.{IsRun, row_at, rows_to, ReactWithin, ReactAtOnce, CutOneTickAfter}
@@ -34,6 +33,7 @@ use Rattle.eg_model.proofs.RecordLaws.{records_react, records_react_at_once, rec
 use Rattle.eg_model.proofs.RecordTicks.{records_are_histories, rows_to-suc, record_rows-is, records_are_rows}
 use Rattle.eg_model.proofs.SpanRuns.{is_one_drive_span, tests_never}
 use Rattle.eg_model.proofs.WholeRecord.{drive_keeps}
+use Rattle.eg_tick.specs.Benched.{ComeTo}
 use Rattle.eg_tick.specs.Kept.{ControllerParts}
 use Rattle.eg_tick.specs.Weights.{TickCount, weight_of}
 use Rattle.eg_tick.specs.Run.{IsAt}
@@ -118,7 +118,7 @@ module _ (r : Run) (is : IsRun r) (reset_free : IsWithoutReset r.drive) (some : 
           the_same : (c : ℕ) → 0 + c ≡ c
           the_same c = omega arith
 
-  pub facts_react : IsListed r.setting.fault → FactsReactWithin (reaction_of r.setting.cal.times) (record_facts r)
+  pub facts_react : IsListed r.setting.fault → FactsReactWithin (reaction_of r.setting.cal.times) (record_facts gasoline r)
   unfolding record_facts facts_of w t rows
   facts_react listed = go (first_confirmed w t rows) refl
     where
@@ -126,7 +126,7 @@ module _ (r : Run) (is : IsRun r) (reset_free : IsWithoutReset r.drive) (some : 
       go None first = tt
       go (Some c) first = within listed c first
 
-  pub facts_react_at_once : IsListed r.setting.fault → FactsReactAtOnce r.setting.fault (record_facts r)
+  pub facts_react_at_once : IsListed r.setting.fault → FactsReactAtOnce r.setting.fault (record_facts gasoline r)
   unfolding record_facts facts_of w t rows
   facts_react_at_once listed = go (first_confirmed w t rows) refl
     where
@@ -135,7 +135,7 @@ module _ (r : Run) (is : IsRun r) (reset_free : IsWithoutReset r.drive) (some : 
       go None first = tt
       go (Some c) first = at_once listed c first
 
-  pub facts_go_off_once : r.setting.fault ≡ None → GoOffOnce (record_facts r)
+  pub facts_go_off_once : r.setting.fault ≡ None → GoOffOnce (record_facts gasoline r)
   unfolding record_facts facts_of rows
   facts_go_off_once none = once none
 
@@ -156,24 +156,25 @@ counted-next from old new n rows row is count weight = ap₂ both
     flip n m = omega arith
 
 -- a tally that stands for the rows of the first n ticks, fed the next row
-pub rows-next : (r : Run) (n : ℕ) (row : Row) → row ≡ row_at gasoline r n → row ∷ rows_to gasoline r n ≡ rows_to gasoline r (n + 1)
-rows-next r n row is = ap (λ (x : Row). x ∷ rows_to gasoline r n) is ∙ sym (rows_to-suc gasoline r n) ∙ ap (rows_to gasoline r) (one_more n)
+pub rows-next : {S : Type 0} (b : BenchEngine S) (r : Run) (n : ℕ) (row : Row) → row ≡ row_at b r n → row ∷ rows_to b r n ≡ rows_to b r (n + 1)
+rows-next b r n row is = ap (λ (x : Row). x ∷ rows_to b r n) is ∙ sym (rows_to-suc b r n) ∙ ap (rows_to b r) (one_more n)
   where
     one_more : (n : ℕ) → suc n ≡ n + 1
     one_more n = omega arith
 
 -- ---- the whole run ----
 
-pub told : (r : Run) (c : ControllerParts GasolinePlant) (facts : Facts) (trap : Option (Trap × ℕ)) → IsAt r (length r.drive) c →
-    facts ≡ facts_of r.setting.cal.rules.torque r.setting.cal.rules.threshold (rows_to gasoline r (length r.drive)) →
-    trap ≡ c.kept.trap → IsToldOf r facts trap
-told r c facts trap at are is = record {
-  facts_are = are ∙ ap (facts_of r.setting.cal.rules.torque r.setting.cal.rules.threshold) (sym (record_rows-is gasoline r)) ∙ (unfold record_facts in refl);
-  trap_is = is ∙ at.stands.trap ∙ ap first_trap (sym (records_are_histories gasoline r (length r.drive))) ∙ (unfold record_trap in refl);
+pub told : {S E : Type 0} (b : BenchEngine S) (come_to : ComeTo S E) (r : Run) (c : ControllerParts E) (facts : Facts) (trap : Option (Trap × ℕ)) →
+    IsAt b come_to r (length r.drive) c →
+    facts ≡ facts_of r.setting.cal.rules.torque r.setting.cal.rules.threshold (rows_to b r (length r.drive)) →
+    trap ≡ c.kept.trap → IsToldOf b r facts trap
+told b come_to r c facts trap at are is = record {
+  facts_are = are ∙ ap (facts_of r.setting.cal.rules.torque r.setting.cal.rules.threshold) (sym (record_rows-is b r)) ∙ (unfold record_facts in refl);
+  trap_is = is ∙ at.stands.trap ∙ ap first_trap (sym (records_are_histories b r (length r.drive))) ∙ (unfold record_trap in refl);
   proper = at.stands.engine.proper;
 }
 
-pub is_run : (r : Run) (facts : Facts) (trap : Option (Trap × ℕ)) → IsAccepted r.setting.cal → IsToldOf r facts trap → IsRun r
+pub is_run : (r : Run) (facts : Facts) (trap : Option (Trap × ℕ)) → IsAccepted r.setting.cal → IsToldOf gasoline r facts trap → IsRun r
 is_run r facts trap accepted told = record {
   accepted = accepted;
   drive = drive_keeps gasoline r told.proper;

@@ -16,5 +16,6 @@ pub mod RunLemmas
 pub mod RunLaws
 pub mod FactLaws
 pub mod TrapLemmas
+pub mod BranchLemmas
 mod FactsWorked
 mod Worked

@@ -7,7 +7,9 @@ use Rattle.std.proofs.lemmas.Bool.{ne_eqb}
 use Rattle.std.proofs.lemmas.List.{map-append}
 use Rattle.std.proofs.lemmas.List.Sums.{fold-append}
 use Rattle.eg_num.specs.Drive.{DriveRow}
-use Rattle.eg_plant.specs.Gasoline.{GasolinePlant, StepsAsGasoline, at_rest, gasoline_step, shown_of}
+use Rattle.eg_plant.specs.Engine.{Shown}
+use Rattle.eg_plant.specs.Gasoline.{Gasoline}
+use Rattle.eg_plant.specs.PlantParts.{PlantParts}
 use Rattle.eg_fault.specs.Effects.{Effects}
 use Rattle.eg_fault.specs.Faults.{effects}
 use Rattle.eg_fault.specs.declared.class.Fault.{Fault}
@@ -20,12 +22,13 @@ use Rattle.eg_model.specs.Paths.{on_at}
 use Rattle.eg_model.specs.Level1.{last_world}
 use Rattle.eg_model.specs.Moments.{moment_in}
 use Rattle.eg_model.specs.Spans.{kind_at, before_at, moment_at, next_after, moments, next, has_passed, span_so_far}
-use Rattle.eg_model.specs.Engines.{gasoline}
+use Rattle.eg_model.specs.Engines.{BenchEngine, gasoline}
 use Rattle.eg_model.specs.Bench.{Run, no_drive, stepped, engine_after, shown_at, drive_at, slices_at, entry_at, moments_to, entries_to}
 use Rattle.eg_model.specs.Rows.{row_of, first_trap, record_rows, record_trap}
 use Rattle.eg_model.specs.Records.{row_at, rows_to}
 use Rattle.eg_model.proofs.SpanLemmas.{before-begins, before-goes_on}
 use Rattle.eg_model.proofs.RecordTicks.{length-entries, length-moments_to, records_are_histories}
+use Rattle.eg_tick.specs.Benched.{ComeTo, ShowsAs, StepsAs}
 use Rattle.eg_tick.specs.Kept.{ControllerParts}
 use Rattle.eg_tick.specs.Stands.{Stands}
 use Rattle.eg_tick.specs.Advancing.{effects_after, entry_of, world_before}
@@ -54,38 +57,36 @@ commands drive past = go (drive.reset || has_passed past) refl past refl
     go false on (m ∷ rest) is = subst (λ before. last_world (if length before == 0 then [] else past) ≡ last_world before)
         (sym (before-goes_on drive past on ∙ ap span_so_far is)) (some m rest is)
 
--- the engine after a step by this world's outputs, with the stages on or off, and the plate held or not
-after_step : GasolinePlant → World → (on : Bool) → (held : Option ℕ) → GasolinePlant
-after_step e world on held = record {
-  parts = e.parts;
-  state = gasoline_step e.parts e.state world.throttle world.ignition on held;
-}
+-- ---- the tick of a run on the bench ----
 
-module _ (r : Run) (t : ℕ) (old new : ControllerParts GasolinePlant) (at : IsAt r t old) (drive : DriveRow) (slices : List ℕ)
-    (drives-at : drive_at r t ≡ drive) (sliced : slices ≡ slices_at r t) where
+module _ {S E : Type 0} (b : BenchEngine S) (come_to : ComeTo S E) (r : Run) (t : ℕ) (old new : ControllerParts E)
+    (at : IsAt b come_to r t old) (drive : DriveRow) (slices : List ℕ) (drives-at : drive_at r t ≡ drive) (sliced : slices ≡ slices_at r t) where
   s : Setting
   s = r.setting
 
+  plant : PlantParts
+  plant = r.setting.cal.plant
+
   h : List Entry
-  h = entries_to gasoline r t
+  h = entries_to b r t
 
   past : List Moment
-  past = moments_to gasoline r t
+  past = moments_to b r t
 
   past-is : past ≡ moments s h
   unfolding s h past
-  past-is = records_are_histories gasoline r t
+  past-is = records_are_histories b r t
 
   length-past : length past ≡ t
   unfolding past
-  length-past = length-moments_to gasoline r t
+  length-past = length-moments_to b r t
 
-  rests : GasolinePlant
-  rests = record { parts = s.cal.plant; state = engine_after gasoline s past }
+  state : S
+  state = engine_after b s past
 
   -- the entry of the tick on the bench
   e : Entry
-  e = entry_at gasoline r t past
+  e = entry_at b r t past
 
   -- what it begins with: its world, whether the stages are on, and where the plate is held
   world : World
@@ -98,99 +99,105 @@ module _ (r : Run) (t : ℕ) (old new : ControllerParts GasolinePlant) (at : IsA
   held = (effects s.fault t).held
 
   -- the step that a controller's tick tells of is that of the bench
-  module _ (steps : StepsAsGasoline old.engine (world_before r.setting drive (entries_to gasoline r t)).throttle
-      (world_before r.setting drive (entries_to gasoline r t)).ignition
-      (next r.setting (entry_of drive slices new.kept.shown) (entries_to gasoline r t)).on
-      (effects_after r.setting (entries_to gasoline r t)).held new.engine)
-      (shows : new.kept.shown ≡ shown_of new.engine.state) where
+  module _ (Shows : E → Shown) (shows_as : ShowsAs b come_to Shows)
+      (Steps : E → ℕ → ℕ → Bool → Option ℕ → E → Type 0) (steps_as : StepsAs b come_to Steps)
+      (steps : Steps old.engine (world_before r.setting drive (entries_to b r t)).throttle
+      (world_before r.setting drive (entries_to b r t)).ignition
+      (next r.setting (entry_of drive slices new.kept.shown) (entries_to b r t)).on
+      (effects_after r.setting (entries_to b r t)).held new.engine)
+      (shows : new.kept.shown ≡ Shows new.engine) where
     world-same : world_before s drive h ≡ world
     unfolding world_before world
     world-same = ap (λ p. last_world (before_at drive p)) (sym past-is)
 
     effects-same : effects_after s h ≡ effects s.fault t
     unfolding s h effects_after
-    effects-same = ap (effects r.setting.fault) (length-entries gasoline r t)
+    effects-same = ap (effects r.setting.fault) (length-entries b r t)
 
     on-same : (next s (entry_of drive slices new.kept.shown) h).on ≡ on
     unfolding on next next_after moment_at moment_in entry_of
     on-same = ap (λ p. drives (kind_at drive p) && on_at (effects s.fault (length p)) (before_at drive p)) (sym past-is)
         ∙ ap (λ n. drives (kind_at drive past) && on_at (effects s.fault n) (before_at drive past)) length-past
 
-    engine-is : new.engine ≡ after_step rests world on held
-    unfolding s h past rests held after_step
-    engine-is = steps
-        ∙ ap (λ (w : World). after_step old.engine w (next s (entry_of drive slices new.kept.shown) h).on (effects_after s h).held) world-same
-        ∙ ap₂ (λ b (x : Effects). after_step old.engine world b x.held) on-same effects-same
-        ∙ ap (λ g. after_step g world on held) at.engine
+    -- the engine after a step from the state of the bench
+    after_step : World → Bool → Option ℕ → E
+    after_step w o k = come_to plant (b.step plant state w.throttle w.ignition o k)
 
-    shown-is : new.kept.shown ≡ shown_at gasoline s (effects s.fault t) drive past
-    unfolding rests after_step world on held shown_at stepped gasoline
-    shown-is = shows ∙ ap (λ (g : GasolinePlant). shown_of g.state) engine-is
+    engine-is : new.engine ≡ after_step world on held
+    unfolding s plant h past state held after_step
+    engine-is = steps_as plant state _ _ _ _ new.engine
+        (subst (λ g. Steps g (world_before s drive h).throttle (world_before s drive h).ignition
+        (next s (entry_of drive slices new.kept.shown) h).on (effects_after s h).held new.engine) at.engine steps)
+        ∙ ap (λ (w : World). after_step w (next s (entry_of drive slices new.kept.shown) h).on (effects_after s h).held) world-same
+        ∙ ap₂ (λ o (x : Effects). after_step world o x.held) on-same effects-same
+
+    shown-is : new.kept.shown ≡ shown_at b s (effects s.fault t) drive past
+    unfolding s plant state after_step world on held shown_at stepped
+    shown-is = shows ∙ ap Shows engine-is ∙ shows_as plant _
 
     entry-is : entry_of drive slices new.kept.shown ≡ e
     unfolding s past e entry_of entry_at
     entry-is = ap (λ d. entry_of d slices new.kept.shown) (sym drives-at)
         ∙ ap (λ l. entry_of (drive_at r t) l new.kept.shown) sliced
         ∙ ap (entry_of (drive_at r t) (slices_at r t))
-        (shown-is ∙ ap (λ d. shown_at gasoline s (effects s.fault t) d past) (sym drives-at))
+        (shown-is ∙ ap (λ d. shown_at b s (effects s.fault t) d past) (sym drives-at))
 
     -- the engine of the bench has made the same step
     next_engine : (d : DriveRow) → drive_at r t ≡ d →
-        engine_after gasoline s (next_after s e past ∷ past)
-        ≡ gasoline_step s.cal.plant (engine_after gasoline s past) (last_world (before_at d past)).throttle (last_world (before_at d past)).ignition
+        engine_after b s (next_after s e past ∷ past)
+        ≡ b.step s.cal.plant (engine_after b s past) (last_world (before_at d past)).throttle (last_world (before_at d past)).ignition
         (drives (kind_at d past) && on_at (effects s.fault t) (before_at d past)) (effects s.fault t).held
-    unfolding engine_after stepped gasoline next_after moment_at moment_in e entry_at
+    unfolding engine_after stepped next_after moment_at moment_in e entry_at
     next_engine d is =
-        ap (λ (w : World). gasoline_step s.cal.plant (engine_after gasoline s past) w.throttle w.ignition (next_after s e past).on
+        ap (λ (w : World). b.step s.cal.plant (engine_after b s past) w.throttle w.ignition (next_after s e past).on
         (effects s.fault (length past)).held) (commands (drive_at r t) past)
-        ∙ ap (λ n. gasoline_step s.cal.plant (engine_after gasoline s past) (last_world (before_at (drive_at r t) past)).throttle
+        ∙ ap (λ n. b.step s.cal.plant (engine_after b s past) (last_world (before_at (drive_at r t) past)).throttle
         (last_world (before_at (drive_at r t) past)).ignition
         (drives (kind_at (drive_at r t) past) && on_at (effects s.fault n) (before_at (drive_at r t) past)) (effects s.fault n).held)
         length-past
-        ∙ ap (λ row. gasoline_step s.cal.plant (engine_after gasoline s past) (last_world (before_at row past)).throttle
+        ∙ ap (λ row. b.step s.cal.plant (engine_after b s past) (last_world (before_at row past)).throttle
         (last_world (before_at row past)).ignition (drives (kind_at row past) && on_at (effects s.fault t) (before_at row past)) (effects s.fault t).held) is
 
-    engine-next : after_step rests world on held
-        ≡ record { parts = r.setting.cal.plant; state = engine_after gasoline r.setting (moments_to gasoline r (suc t)) }
-    unfolding s past rests after_step world on held e moments_to
-    engine-next = ap (λ g. record { parts = r.setting.cal.plant; state = g }) (sym (next_engine drive drives-at))
+    engine-next : after_step world on held ≡ come_to r.setting.cal.plant (engine_after b r.setting (moments_to b r (suc t)))
+    unfolding s plant past state after_step world on held e moments_to
+    engine-next = ap (come_to s.cal.plant) (sym (next_engine drive drives-at))
 
-    at_suc : Stands r.setting new.kept (entry_of drive slices new.kept.shown ∷ entries_to gasoline r t) → IsAt r (suc t) new
+    at_suc : Stands r.setting new.kept (entry_of drive slices new.kept.shown ∷ entries_to b r t) → IsAt b come_to r (suc t) new
     unfolding s past e entries_to
     at_suc stands = record {
-      stands = subst (λ entry. Stands r.setting new.kept (entry ∷ entries_to gasoline r t)) entry-is stands;
+      stands = subst (λ entry. Stands r.setting new.kept (entry ∷ entries_to b r t)) entry-is stands;
       engine = engine-is ∙ engine-next;
     }
 
-    pub next_at : Stands r.setting new.kept (entry_of drive slices new.kept.shown ∷ entries_to gasoline r t) → IsAt r (t + 1) new
-    next_at stands = subst (λ n. IsAt r n new) (one_more t) (at_suc stands)
+    pub next_at : Stands r.setting new.kept (entry_of drive slices new.kept.shown ∷ entries_to b r t) → IsAt b come_to r (t + 1) new
+    next_at stands = subst (λ n. IsAt b come_to r n new) (one_more t) (at_suc stands)
       where
         one_more : (t : ℕ) → suc t ≡ t + 1
         one_more t = omega arith
 
     pub next_row : (row : Row) →
-        row ≡ row_of (length (entries_to gasoline r t)) (next r.setting (entry_of drive slices new.kept.shown) (entries_to gasoline r t)) →
-        row ≡ row_at gasoline r t
+        row ≡ row_of (length (entries_to b r t)) (next r.setting (entry_of drive slices new.kept.shown) (entries_to b r t)) →
+        row ≡ row_at b r t
     unfolding s h past e next row_at
     next_row row is = is
-        ∙ ap (λ entry. row_of (length (entries_to gasoline r t)) (next_after r.setting entry (moments r.setting (entries_to gasoline r t)))) entry-is
-        ∙ ap₂ (λ n before. row_of n (next_after r.setting (entry_at gasoline r t (moments_to gasoline r t)) before))
-        (length-entries gasoline r t) (sym past-is)
+        ∙ ap (λ entry. row_of (length (entries_to b r t)) (next_after r.setting entry (moments r.setting (entries_to b r t)))) entry-is
+        ∙ ap₂ (λ n before. row_of n (next_after r.setting (entry_at b r t (moments_to b r t)) before))
+        (length-entries b r t) (sym past-is)
 
 -- ---- how a run begins ----
 
-pub started : {E : Type 0} (cal cal' : CalibrationParts) (image : List ℕ) (fault fault' : Option Fault) (engine : GasolinePlant) →
-    cal' ≡ cal → fault' ≡ fault → engine ≡ record { parts = cal.plant; state = at_rest cal.plant } →
-    (made : Result (ControllerParts GasolinePlant) E) →
+pub started : {S E F : Type 0} (b : BenchEngine S) (come_to : ComeTo S E) (cal cal' : CalibrationParts) (image : List ℕ) (fault fault' : Option Fault)
+    (engine : E) → cal' ≡ cal → fault' ≡ fault → engine ≡ come_to cal.plant (b.rest cal.plant) →
+    (made : Result (ControllerParts E) F) →
     IfOk made (λ c. Stands (record { cal = cal'; image = image; fault = fault' }) c.kept []) →
     IfOk made (λ c. c.engine ≡ engine) →
-    IfOk made (λ c. (plan : List (List ℕ)) (drive : List DriveRow) → IsAt (run_by cal image fault plan drive) 0 c)
-started cal cal' image fault fault' engine same same' still (Err e) stands is = stands
-started cal cal' image fault fault' engine same same' still (Ok c) stands is = λ plan drive. record {
+    IfOk made (λ c. (plan : List (List ℕ)) (drive : List DriveRow) → IsAt b come_to (run_by cal image fault plan drive) 0 c)
+started b come_to cal cal' image fault fault' engine same same' still (Err e) stands is = stands
+started b come_to cal cal' image fault fault' engine same same' still (Ok c) stands is = λ plan drive. record {
   stands = unfold entries_to in
       subst (λ k. Stands (record { cal = k; image = image; fault = fault }) c.kept []) same
       (subst (λ f. Stands (record { cal = cal'; image = image; fault = f }) c.kept []) same' stands);
-  engine = unfold moments_to engine_after gasoline in is ∙ still;
+  engine = unfold moments_to engine_after in is ∙ still;
 }
 
 -- ---- what a run is asked ----
@@ -212,9 +219,9 @@ pub slices-at : (r : Run) (plan : List (List ℕ)) (t : ℕ) (row : List ℕ) �
 unfolding slices_at
 slices-at r plan t row is at = at ∙ ap (λ p. slice_index_or p (t % length p) []) (sym is)
 
-pub recorded : (r : Run) (c : ControllerParts GasolinePlant) (rows : List Row) (trap : Option (Trap × ℕ)) →
-    IsAt r (length r.drive) c → rows ≡ reverse (rows_to gasoline r (length r.drive)) → trap ≡ c.kept.trap → IsRecordOf r rows trap
-recorded r c rows trap at are is = record {
+pub recorded : {E : Type 0} (come_to : ComeTo Gasoline E) (r : Run) (c : ControllerParts E) (rows : List Row) (trap : Option (Trap × ℕ)) →
+    IsAt gasoline come_to r (length r.drive) c → rows ≡ reverse (rows_to gasoline r (length r.drive)) → trap ≡ c.kept.trap → IsRecordOf r rows trap
+recorded come_to r c rows trap at are is = record {
   rows_are = unfold record_rows in (unfold rows_to in are);
   trap_is = unfold record_trap in is ∙ at.stands.trap ∙ ap first_trap (sym (records_are_histories gasoline r (length r.drive)));
   proper = at.stands.engine.proper;

@@ -8,19 +8,20 @@ use Rattle.eg_record.specs.declared.facts.Facts.{Facts}
 use Rattle.eg_record.specs.Facts.{facts_of}
 use Rattle.eg_model.specs.Premises.{IsProperRun}
 use Rattle.eg_model.specs.Reaction.{is_at_once}
-use Rattle.eg_model.specs.Engines.{gasoline}
+use Rattle.eg_model.specs.Engines.{BenchEngine}
 use Rattle.eg_model.specs.Bench.{Run, entries_to}
 use Rattle.eg_model.specs.Rows.{record_rows, record_trap}
 
--- the facts of the record of a run
-unfoldable pub record_facts : Run → Facts
-record_facts r = facts_of r.setting.cal.rules.torque r.setting.cal.rules.threshold (record_rows gasoline r)
+-- the facts of the record of a run of this engine
+unfoldable pub record_facts : {S : Type 0} → BenchEngine S → Run → Facts
+record_facts b r = facts_of r.setting.cal.rules.torque r.setting.cal.rules.threshold (record_rows b r)
 
--- A run comes to these facts and this trap. What came in at each of its ticks was proper.
-pub record IsToldOf (r : Run) (facts : Facts) (trap : Option (Trap × ℕ)) : Type 0 where
-  pub facts_are : facts ≡ record_facts r
-  pub trap_is : trap ≡ record_trap gasoline r
-  pub proper : IsProperRun r.setting (entries_to gasoline r (length r.drive))
+-- A run of this engine comes to these facts and this trap. What came in at each of its ticks was proper.
+pub record IsToldOf {S : Type 0} (b : BenchEngine S) (r : Run) (facts : Facts) (trap : Option (Trap × ℕ)) :
+    Type 0 where
+  pub facts_are : facts ≡ record_facts b r
+  pub trap_is : trap ≡ record_trap b r
+  pub proper : IsProperRun r.setting (entries_to b r (length r.drive))
 
 -- ---- the reaction ----
 

@@ -8,6 +8,7 @@ pub mod Judging
 pub mod Entering
 pub mod Advancing
 pub mod Inside
+pub mod Benched
 pub mod Run
 pub mod Facts
 pub use Rattle.eg_answer.specs.Times

@@ -2,15 +2,15 @@
 -- of rows stand newest first.
 use Rattle.std.specs.Prelude.{◌≡◌, ℕ, List, reverse, length, Option}
 use Rattle.eg_num.specs.Drive.{DriveRow}
-use Rattle.eg_plant.specs.Gasoline.{GasolinePlant}
 use Rattle.eg_fault.specs.declared.class.Fault.{Fault}
 use Rattle.eg_values.specs.Calibration.{CalibrationParts}
 use Rattle.eg_word.specs.declared.registers.Trap.{Trap}
 use Rattle.eg_record.specs.declared.row.Row.{Row}
 use Rattle.eg_model.specs.Premises.{IsProperRun}
-use Rattle.eg_model.specs.Engines.{gasoline}
+use Rattle.eg_model.specs.Engines.{BenchEngine, gasoline}
 use Rattle.eg_model.specs.Bench.{Run, engine_after, moments_to, entries_to}
 use Rattle.eg_model.specs.Rows.{record_rows, record_trap}
+use Rattle.eg_tick.specs.Benched.{ComeTo}
 use Rattle.eg_tick.specs.Kept.{ControllerParts}
 use Rattle.eg_tick.specs.Stands.{Stands}
 
@@ -22,16 +22,15 @@ run_by cal image fault plan drive = record {
   drive = drive;
 }
 
--- After so many ticks of a run a controller stands for what came in at them, and its engine is that of the
--- model.
-pub record IsAt (r : Run) (t : ℕ) (c : ControllerParts GasolinePlant) : Type 0 where
-  pub stands : Stands r.setting c.kept (entries_to gasoline r t)
-  pub engine : c.engine ≡ record {
-    parts = r.setting.cal.plant;
-    state = engine_after gasoline r.setting (moments_to gasoline r t);
-  }
+-- After so many ticks of a run of this engine of the model a controller stands for what came in at them, and
+-- its engine has come to the state of the model.
+pub record IsAt {S E : Type 0} (b : BenchEngine S) (come_to : ComeTo S E) (r : Run) (t : ℕ)
+    (c : ControllerParts E) : Type 0 where
+  pub stands : Stands r.setting c.kept (entries_to b r t)
+  pub engine : c.engine ≡ come_to r.setting.cal.plant (engine_after b r.setting (moments_to b r t))
 
--- The record of a run: its rows in the order of time, and its trap. What came in at each tick was proper.
+-- The record of a run of the gasoline engine: its rows in the order of time, and its trap. What came in at
+-- each tick was proper.
 pub record IsRecordOf (r : Run) (rows : List Row) (trap : Option (Trap × ℕ)) : Type 0 where
   pub rows_are : rows ≡ reverse (record_rows gasoline r)
   pub trap_is : trap ≡ record_trap gasoline r

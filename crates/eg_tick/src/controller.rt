@@ -32,6 +32,7 @@ use eg_values::Calibration;
 use eg_word::{Program, State, Trap};
 use std::marker::Model;
 
+mod branching;
 mod ticks;
 
 pub use ticks::Ticks;

@@ -1,4 +1,4 @@
-// The facts of a run of a gasoline engine on the bench.
+// The facts of a run on the bench.
 ghost use Rattle.std.specs.Prelude.{◌≡◌, ◌+◌, ◌%◌, ◌^◌, ◌≤◌, None, map, length};
 ghost use Rattle.std.specs.Option.{option_copied};
 ghost use Rattle.std.specs.List.{sum};
@@ -13,9 +13,10 @@ ghost use Rattle.eg_tick.specs.Run.{run_by};
 ghost use Rattle.eg_tick.specs.Facts.{IsToldOf, IsWithoutReset, FactsReactWithin, FactsReactAtOnce, GoOffOnce};
 
 use crate::bench::{bench_controller, bench_row};
-use crate::{SlicePlan, Ticks};
+use crate::{BenchedEngine, SlicePlan, Ticks};
 use eg_fault::Fault;
 use eg_num::Drive;
+use eg_plant::GasolineEngine;
 use eg_record::{Facts, Tally};
 use eg_values::Calibration;
 use eg_word::Trap;
@@ -62,11 +63,12 @@ pub fn run_facts(
 {
     // Whoever reads it learns that the calibration is an accepted one.
     let _rules = calibration.rules();
-    tally_run(calibration, image, plan, drive, fault, steps)
+    bench_facts::<GasolineEngine>(calibration, image, plan, drive, fault, steps)
 }
 
-/// The run itself.
-fn tally_run(
+/// The same of an engine of either kind, for callers that run one by its type: it tells the facts of the run
+/// and its trap. What they tell of the reaction is said by `run_facts`.
+pub fn bench_facts<E: BenchedEngine>(
     calibration: &Calibration,
     image: &[u16],
     plan: &SlicePlan,
@@ -77,12 +79,12 @@ fn tally_run(
     requires most { length drive.now ≤ 20000 }
     requires image { length image.now ≤ CODE_END }
     requires fault { IsNoneOrValid (option_copied fault) }
-    ensures told { IsToldOf
+    ensures told { IsToldOf E.bench
         (run_by calibration.now image.now (option_copied fault.entry) plan.now drive.now)
         result.0 result.1 }
     ensures counted { steps.new ≡ record {
       count = (steps.old.count + length drive.now) % 2 ^ 64;
-      weights = (steps.old.weights + sum (map weight_of (record_rows gasoline
+      weights = (steps.old.weights + sum (map weight_of (record_rows E.bench
           (run_by calibration.now image.now (option_copied fault.entry) plan.now drive.now)))) % 2 ^ 64;
     } }
 {
@@ -90,7 +92,7 @@ fn tally_run(
     let _numbers = (steps.count(), steps.sum());
     let rules = calibration.rules();
     let mut tally = Tally::new(rules.threshold, rules.torque);
-    let mut controller = bench_controller(calibration, image, fault);
+    let mut controller = bench_controller::<E>(calibration, image, fault);
     for tick in 0..drive.len() {
         let row = bench_row(&mut controller, plan, &drive[tick], tick as u32, steps);
         tally.feed(&row);

@@ -8,6 +8,7 @@
 #![tactic(auto)]
 
 mod bench;
+mod benched_engine;
 mod board;
 mod controller;
 mod facts;
@@ -21,7 +22,8 @@ mod span;
 mod working;
 
 pub use bench::{bench_controller, bench_row};
+pub use benched_engine::BenchedEngine;
 pub use controller::{Controller, Ticks};
 pub use eg_slices::{SlicePlan, Slices};
-pub use facts::run_facts;
+pub use facts::{bench_facts, run_facts};
 pub use run::{RunRecord, run_one};

@@ -15,8 +15,10 @@ ghost use Rattle.eg_model.specs.Records.{row_at, rows_to, ReactWithin, CutOneTic
 ghost use Rattle.eg_model.specs.Lapses.{IsLapse};
 ghost use Rattle.eg_fault.specs.Faults.{IsNoneOrValid};
 ghost use Rattle.eg_tick.specs.Weights.{weight_of};
+ghost use Rattle.eg_tick.specs.Benched.{gasoline_of};
 ghost use Rattle.eg_tick.specs.Run.{run_by, IsAt, IsRecordOf};
 
+use crate::bench::{begin, make_row};
 use crate::{Controller, SlicePlan, Ticks};
 use eg_base::{Items, NoMemory};
 use eg_fault::Fault;
@@ -121,7 +123,7 @@ fn record_run(
 {
     // Whoever reads it learns that the count is a u64.
     let _count = steps.count();
-    let mut controller = begin(calibration, image, fault)?;
+    let mut controller = begin(calibration, image, fault, FlatMemory::new())?;
     let rows = make_rows(alloc, &mut controller, plan, drive, steps)?;
     Ok(record_of(rows, &controller))
 }
@@ -137,35 +139,6 @@ fn record_of(rows: Vec<Row>, controller: &Controller<GasolineEngine, FlatMemory>
     }
 }
 
-/// A controller of an engine at rest, that has made no tick, over a memory that never runs out.
-pub(crate) fn begin(
-    calibration: &Calibration,
-    image: &[u16],
-    fault: Option<&Fault>,
-) -> Result<Controller<GasolineEngine, FlatMemory>, NoMemory>
-    requires image { length image.now ≤ CODE_END }
-    requires fault { IsNoneOrValid (option_copied fault) }
-    ensures at { IfOk result (λ controller. (plan : List (List ℕ)) (drive : List DriveRow) →
-        IsAt (run_by calibration.now image.now (option_copied fault.entry) plan drive) 0 controller) }
-    ensures ticks { IfOk result (λ controller. controller.kept.ticks ≡ 0) }
-    ensures sure { IfOk result (λ controller. IsTrue controller.kept.memory.sure) }
-    ensures begins { IsOk result }
-{
-    let engine = GasolineEngine::new(calibration.plant().copy());
-    let fault = copied(fault);
-    Controller::new(calibration.copy(), image, fault, FlatMemory::new(), engine)
-}
-
-/// An equal fault, if any.
-fn copied(fault: Option<&Fault>) -> Option<Fault>
-    ensures { result ≡ option_copied fault.entry }
-{
-    match fault {
-        Some(fault) => Some(fault.copy()),
-        None => None,
-    }
-}
-
 /// The rows of the ticks of a drive, by a controller that has made no tick.
 fn make_rows(
     alloc: Global,
@@ -176,9 +149,11 @@ fn make_rows(
 ) -> Result<Vec<Row>, NoMemory>
     requires none { controller.old.kept.ticks ≡ 0 }
     requires most { length drive.now ≤ 20000 }
-    ensures at { (r : Run) → r.plan ≡ plan.now → r.drive ≡ drive.now → IsAt r 0 controller.old →
-        OnOk result (IsAt r (length drive.now) controller.new) }
-    ensures rows { (r : Run) → r.plan ≡ plan.now → r.drive ≡ drive.now → IsAt r 0 controller.old →
+    ensures at { (r : Run) → r.plan ≡ plan.now → r.drive ≡ drive.now →
+        IsAt gasoline gasoline_of r 0 controller.old →
+        OnOk result (IsAt gasoline gasoline_of r (length drive.now) controller.new) }
+    ensures rows { (r : Run) → r.plan ≡ plan.now → r.drive ≡ drive.now →
+        IsAt gasoline gasoline_of r 0 controller.old →
         IfOk result (λ rows. rows.items ≡ reverse (rows_to gasoline r (length drive.now))) }
     ensures counted { IfOk result (λ rows. steps.new ≡ record {
       count = (steps.old.count + length drive.now) % 2 ^ 64;
@@ -195,31 +170,4 @@ fn make_rows(
         rows.push(row)?;
     }
     Ok(rows)
-}
-
-/// The row of the next tick of a run, by a controller that has made all before it.
-pub(crate) fn make_row(
-    controller: &mut Controller<GasolineEngine, FlatMemory>,
-    plan: &SlicePlan,
-    drive: &Drive,
-    tick: u32,
-    steps: &mut Ticks,
-) -> Result<Row, NoMemory>
-    requires tick { controller.old.kept.ticks ≡ tick }
-    requires fewer { controller.old.kept.ticks < 20000 }
-    ensures at { (r : Run) → r.plan ≡ plan.now → drive_at r tick ≡ drive.now → IsAt r tick controller.old →
-        OnOk result (IsAt r (tick + 1) controller.new) }
-    ensures row { (r : Run) → r.plan ≡ plan.now → drive_at r tick ≡ drive.now → IsAt r tick controller.old →
-        IfOk result (λ row. row ≡ row_at gasoline r tick) }
-    ensures ticks { OnOk result (controller.new.kept.ticks ≡ tick + 1) }
-    ensures sure { IsTrue controller.old.kept.memory.sure → IsOk result }
-    ensures stays_sure { controller.new.kept.memory.sure ≡ controller.old.kept.memory.sure }
-    ensures count { steps.new.count ≡ (steps.old.count + 1) % 2 ^ 64 }
-    ensures weight { IfOk result (λ row.
-        steps.new.weights ≡ (steps.old.weights + weight_of row) % 2 ^ 64) }
-{
-    let row = controller.tick(drive, plan.row(tick), steps)?;
-    // Whoever reads the engine learns that it shows what the controller keeps of it.
-    let _engine = controller.engine();
-    Ok(row)
 }

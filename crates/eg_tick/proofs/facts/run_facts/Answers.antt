@@ -9,25 +9,25 @@ use Rattle.eg_tick.proofs.facts.run_facts.Goals as goal
 
 pub returns-clause-facts : goal.returns-clause-facts
 unfolding record_facts
-returns-clause-facts c = c.tally_run.ensures.told.facts_are
+returns-clause-facts c = c.bench_facts.ensures.told.facts_are
 
 pub returns-clause-reacts : goal.returns-clause-reacts
 returns-clause-reacts c = λ listed reset_free.
     let r : Run = run_by c.args.calibration.now c.args.image.now (option_copied c.args.fault) c.args.plan.now c.args.drive.now in
-    let told = c.tally_run.ensures.told in
+    let told = c.bench_facts.ensures.told in
     subst (FactsReactWithin (reaction_of r.setting.cal.times)) (sym told.facts_are)
     (facts_react r (is_run r _ _ c.rules-rules.ensures.accepted told) reset_free c.requires.some listed)
 
 pub returns-clause-at_once : goal.returns-clause-at_once
 returns-clause-at_once c = λ listed reset_free.
     let r : Run = run_by c.args.calibration.now c.args.image.now (option_copied c.args.fault) c.args.plan.now c.args.drive.now in
-    let told = c.tally_run.ensures.told in
+    let told = c.bench_facts.ensures.told in
     subst (FactsReactAtOnce r.setting.fault) (sym told.facts_are)
     (facts_react_at_once r (is_run r _ _ c.rules-rules.ensures.accepted told) reset_free c.requires.some listed)
 
 pub returns-clause-once : goal.returns-clause-once
 returns-clause-once c = λ none reset_free.
     let r : Run = run_by c.args.calibration.now c.args.image.now (option_copied c.args.fault) c.args.plan.now c.args.drive.now in
-    let told = c.tally_run.ensures.told in
+    let told = c.bench_facts.ensures.told in
     subst GoOffOnce (sym told.facts_are)
     (facts_go_off_once r (is_run r _ _ c.rules-rules.ensures.accepted told) reset_free c.requires.some none)

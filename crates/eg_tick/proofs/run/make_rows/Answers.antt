@@ -5,6 +5,7 @@ use Rattle.eg_model.specs.Engines.{gasoline}
 use Rattle.eg_model.specs.Records.{rows_to}
 use Rattle.eg_model.proofs.WholeRecord.{rows-none, rows-suc}
 use Rattle.eg_tick.specs.Weights.{TickCount}
+use Rattle.eg_tick.specs.Benched.{gasoline_of}
 use Rattle.eg_tick.specs.Run.{IsAt}
 use Rattle.eg_tick.proofs.RunLemmas.{counted, counted-none, counted-more, drive-at, more-mod, on_err}
 use Rattle.eg_tick.proofs.run.make_rows.Goals as goal
@@ -57,7 +58,7 @@ loop-tick-preserved c =
 pub returns-clause-at : goal.returns-clause-at
 returns-clause-at c = λ r plan drive at.
     let end : c.loop-tick.tick ≡ length c.args.drive.now = omega (arith, c.loop-tick-test.false, c.loop-tick.auto.tick-end) in
-    subst (λ n. IsAt r n c.loop-tick.controller) end (c.loop-tick.invariant.at r plan drive at)
+    subst (λ n. IsAt gasoline gasoline_of r n c.loop-tick.controller) end (c.loop-tick.invariant.at r plan drive at)
 
 pub returns-clause-rows : goal.returns-clause-rows
 returns-clause-rows c = λ r plan drive at.

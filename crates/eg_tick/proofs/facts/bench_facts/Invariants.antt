@@ -1,24 +1,24 @@
 use Rattle.std.proofs.Common.{◌≡◌, true}
 use Rattle.std.specs.Option.{option_copied}
 use Rattle.eg_record.specs.Tallies.{IsTallyOf}
-use Rattle.eg_model.specs.Engines.{gasoline}
 use Rattle.eg_model.specs.Bench.{Run}
 use Rattle.eg_model.specs.Records.{rows_to}
 use Rattle.eg_tick.specs.Run.{run_by, IsAt}
 use Rattle.eg_tick.proofs.RunLemmas.{counted}
-use Rattle.eg_tick.proofs.facts.tally_run.Given as goal
+use Rattle.eg_tick.proofs.facts.bench_facts.Given as goal
 
 -- so many ticks were made: the controller stands for them, the tally for their rows, and they are counted
 abbrev pub invariant-loop-tick : goal.invariant-loop-tick
-invariant-loop-tick l =
+invariant-loop-tick g l =
+    let bench = g.E.BenchedEngine.bench in
     let r : Run = run_by l.calibration l.image (option_copied l.fn.fault) l.plan l.drive in
     record {
       ticks : l.controller.kept.ticks ≡ l.tick;
       sure : l.controller.kept.memory.sure ≡ true;
-      at : IsAt r l.tick l.controller;
+      at : IsAt bench g.E.BenchedEngine.come_to r l.tick l.controller;
       fed : l.tally.facts.ticks ≡ l.tick;
       threshold : l.tally.threshold ≡ r.setting.cal.rules.threshold;
       weights : l.tally.weights ≡ r.setting.cal.rules.torque;
-      stands : IsTallyOf l.tally (rows_to gasoline r l.tick);
-      counts : l.steps ≡ counted l.fn.steps l.tick (rows_to gasoline r l.tick);
+      stands : IsTallyOf l.tally (rows_to bench r l.tick);
+      counts : l.steps ≡ counted l.fn.steps l.tick (rows_to bench r l.tick);
     }

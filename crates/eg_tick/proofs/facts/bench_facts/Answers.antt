@@ -4,17 +4,17 @@ use Rattle.eg_answer.specs.declared.rules.Rules.{Rules}
 use Rattle.eg_record.specs.declared.row.Row.{Row}
 use Rattle.eg_record.specs.Facts.{facts_of}
 use Rattle.eg_record.specs.Tallies.{IsTallyOf}
-use Rattle.eg_model.specs.Engines.{gasoline}
 use Rattle.eg_model.specs.Bench.{Run, drive_at}
 use Rattle.eg_model.specs.Records.{row_at, rows_to}
 use Rattle.eg_model.proofs.RecordTicks.{no_rows, row_tick, record_rows-is}
 use Rattle.eg_tick.specs.Run.{run_by, IsAt}
 use Rattle.eg_tick.proofs.RunLemmas.{counted, counted-none, drive-at}
 use Rattle.eg_tick.proofs.FactLaws.{told, counted-next, rows-next}
-use Rattle.eg_tick.proofs.facts.tally_run.Goals as goal
+use Rattle.eg_tick.proofs.facts.bench_facts.Goals as goal
 
 pub loop-tick-init : goal.loop-tick-init
-loop-tick-init c =
+loop-tick-init g c =
+    let bench = g.E.BenchedEngine.bench in
     let r : Run = run_by c.args.calibration.now c.args.image.now (option_copied c.args.fault) c.args.plan.now c.args.drive.now in
     record {
       ticks = c.bench_controller-controller.ensures.ticks;
@@ -23,34 +23,31 @@ loop-tick-init c =
       fed = c.new-tally.ensures.ticks;
       threshold = c.new-tally.ensures.threshold ∙ ap (λ (rules : Rules). rules.threshold) c.rules-rules.ensures.rules;
       weights = c.new-tally.ensures.weights ∙ ap (λ (rules : Rules). rules.torque) c.rules-rules.ensures.rules;
-      stands = subst (IsTallyOf c.new-tally.result) (sym (no_rows gasoline r)) c.new-tally.ensures.stands;
-      counts = counted-none c.args.steps.now (rows_to gasoline r 0) (no_rows gasoline r)
+      stands = subst (IsTallyOf c.new-tally.result) (sym (no_rows bench r)) c.new-tally.ensures.stands;
+      counts = counted-none c.args.steps.now (rows_to bench r 0) (no_rows bench r)
           (let e = c.count.ensures in let l = c.count.type_inv in subst (λ n. n < 18446744073709551616) e l)
           (let e = c.sum.ensures in let l = c.sum.type_inv in subst (λ n. n < 18446744073709551616) e l);
     }
 
--- the row that is made is that of the next tick of the run
-next_row : (c : goal.After-row-1) → c.bench_row-row.result
-    ≡ row_at gasoline (run_by c.args.calibration.now c.args.image.now (option_copied c.args.fault) c.args.plan.now c.args.drive.now) c.loop-tick.tick
-next_row c =
-    let r : Run = run_by c.args.calibration.now c.args.image.now (option_copied c.args.fault) c.args.plan.now c.args.drive.now in
-    c.bench_row-row.ensures.row r refl (drive-at r c.args.drive.now c.loop-tick.tick _ refl c.loop-tick-test.true c.index-drive-tick.is) c.loop-tick.invariant.at
-
 pub feed-requires-clause-tick : goal.feed-requires-clause-tick
-feed-requires-clause-tick c =
+feed-requires-clause-tick g c =
+    let bench = g.E.BenchedEngine.bench in
     let r : Run = run_by c.args.calibration.now c.args.image.now (option_copied c.args.fault) c.args.plan.now c.args.drive.now in
-    ap (λ (row : Row). row.tick) (next_row c) ∙ row_tick gasoline r c.loop-tick.tick ∙ sym c.loop-tick.invariant.fed
+    let row = c.bench_row-row.ensures.row r refl (drive-at r c.args.drive.now c.loop-tick.tick _ refl c.loop-tick-test.true c.index-drive-tick.is)
+    c.loop-tick.invariant.at in
+    ap (λ (row : Row). row.tick) row ∙ row_tick bench r c.loop-tick.tick ∙ sym c.loop-tick.invariant.fed
 
 pub feed-requires-clause-fewer : goal.feed-requires-clause-fewer
-feed-requires-clause-fewer c = omega (arith, c.loop-tick.invariant.fed, c.loop-tick-test.true, c.requires.most)
+feed-requires-clause-fewer g c = omega (arith, c.loop-tick.invariant.fed, c.loop-tick-test.true, c.requires.most)
 
 pub loop-tick-preserved : goal.loop-tick-preserved
-loop-tick-preserved c =
+loop-tick-preserved g c =
+    let bench = g.E.BenchedEngine.bench in
     let r : Run = run_by c.args.calibration.now c.args.image.now (option_copied c.args.fault) c.args.plan.now c.args.drive.now in
     let drive : drive_at r c.loop-tick.tick ≡ c.index-drive-tick.result =
     drive-at r c.args.drive.now c.loop-tick.tick _ refl c.loop-tick-test.true c.index-drive-tick.is in
-    let row : c.bench_row-row.result ≡ row_at gasoline r c.loop-tick.tick = c.bench_row-row.ensures.row r refl drive c.loop-tick.invariant.at in
-    let more = rows-next r c.loop-tick.tick c.bench_row-row.result row in
+    let row : c.bench_row-row.result ≡ row_at bench r c.loop-tick.tick = c.bench_row-row.ensures.row r refl drive c.loop-tick.invariant.at in
+    let more = rows-next bench r c.loop-tick.tick c.bench_row-row.result row in
     record {
       ticks = c.bench_row-row.ensures.ticks;
       sure = c.bench_row-row.ensures.stays_sure;
@@ -58,26 +55,28 @@ loop-tick-preserved c =
       fed = c.feed.ensures.ticks ∙ ap (λ n. n + 1) c.loop-tick.invariant.fed;
       threshold = c.feed.ensures.threshold ∙ c.loop-tick.invariant.threshold;
       weights = c.feed.ensures.weights ∙ c.loop-tick.invariant.weights;
-      stands = subst (IsTallyOf c.feed.new.self) more (c.feed.ensures.stands (rows_to gasoline r c.loop-tick.tick) c.loop-tick.invariant.stands);
-      counts = counted-next c.args.steps.now c.loop-tick.steps c.bench_row-row.new.steps c.loop-tick.tick (rows_to gasoline r c.loop-tick.tick) c.bench_row-row.result
+      stands = subst (IsTallyOf c.feed.new.self) more (c.feed.ensures.stands (rows_to bench r c.loop-tick.tick) c.loop-tick.invariant.stands);
+      counts = counted-next c.args.steps.now c.loop-tick.steps c.bench_row-row.new.steps c.loop-tick.tick (rows_to bench r c.loop-tick.tick) c.bench_row-row.result
           c.loop-tick.invariant.counts c.bench_row-row.ensures.count c.bench_row-row.ensures.weight
           ∙ ap (counted c.args.steps.now (c.loop-tick.tick + 1)) more;
     }
 
 pub returns-clause-told : goal.returns-clause-told
-returns-clause-told c =
+returns-clause-told g c =
+    let bench = g.E.BenchedEngine.bench in
     let r : Run = run_by c.args.calibration.now c.args.image.now (option_copied c.args.fault) c.args.plan.now c.args.drive.now in
     let end : c.loop-tick.tick ≡ length c.args.drive.now = omega (arith, c.loop-tick-test.false, c.loop-tick.auto.tick-end) in
-    told r c.loop-tick.controller c.facts.result c.trap.result (subst (λ n. IsAt r n c.loop-tick.controller) end c.loop-tick.invariant.at)
-    (c.facts.ensures.facts (rows_to gasoline r c.loop-tick.tick) c.loop-tick.invariant.stands
-    ∙ ap (λ w. facts_of w c.loop-tick.tally.threshold (rows_to gasoline r c.loop-tick.tick)) c.loop-tick.invariant.weights
-    ∙ ap (λ t. facts_of r.setting.cal.rules.torque t (rows_to gasoline r c.loop-tick.tick)) c.loop-tick.invariant.threshold
-    ∙ ap (λ n. facts_of r.setting.cal.rules.torque r.setting.cal.rules.threshold (rows_to gasoline r n)) end)
+    told bench g.E.BenchedEngine.come_to r c.loop-tick.controller c.facts.result c.trap.result (subst (λ n. IsAt bench g.E.BenchedEngine.come_to r n c.loop-tick.controller) end c.loop-tick.invariant.at)
+    (c.facts.ensures.facts (rows_to bench r c.loop-tick.tick) c.loop-tick.invariant.stands
+    ∙ ap (λ w. facts_of w c.loop-tick.tally.threshold (rows_to bench r c.loop-tick.tick)) c.loop-tick.invariant.weights
+    ∙ ap (λ t. facts_of r.setting.cal.rules.torque t (rows_to bench r c.loop-tick.tick)) c.loop-tick.invariant.threshold
+    ∙ ap (λ n. facts_of r.setting.cal.rules.torque r.setting.cal.rules.threshold (rows_to bench r n)) end)
     c.trap.ensures.trap
 
 pub returns-clause-counted : goal.returns-clause-counted
-returns-clause-counted c =
+returns-clause-counted g c =
+    let bench = g.E.BenchedEngine.bench in
     let r : Run = run_by c.args.calibration.now c.args.image.now (option_copied c.args.fault) c.args.plan.now c.args.drive.now in
     let end : c.loop-tick.tick ≡ length c.args.drive.now = omega (arith, c.loop-tick-test.false, c.loop-tick.auto.tick-end) in
-    c.loop-tick.invariant.counts ∙ ap (λ n. counted c.args.steps.now n (rows_to gasoline r n)) end
-    ∙ ap (counted c.args.steps.now (length c.args.drive.now)) (sym (record_rows-is gasoline r))
+    c.loop-tick.invariant.counts ∙ ap (λ n. counted c.args.steps.now n (rows_to bench r n)) end
+    ∙ ap (counted c.args.steps.now (length c.args.drive.now)) (sym (record_rows-is bench r))

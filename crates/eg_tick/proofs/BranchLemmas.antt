@@ -1,0 +1,133 @@
+-- A controller that is branched: what it stands for without a fault its branch stands for under one that hasn't
+-- begun.
+use Rattle.std.proofs.Common.{◌≡◌, ◌∙◌, refl, sym, ap, subst, ℕ, Bool, List, [], ◌∷◌, take, length, Option, None}
+use Rattle.eg_answer.specs.Periods.{place_of}
+use Rattle.eg_word.specs.declared.registers.Registers.{Registers}
+use Rattle.eg_fault.specs.Faults.{IsNoneOrValid}
+use Rattle.eg_fault.specs.declared.class.Fault.{Fault}
+use Rattle.eg_level2.specs.Words.{Words}
+use Rattle.eg_flow.specs.Ticks.{after_tick}
+use Rattle.eg_module.specs.Monitoring.{MonitorParts, HasGiven}
+use Rattle.eg_model.specs.History.{Setting, Entry, Tick, SpanKind, Moment}
+use Rattle.eg_model.specs.Answers.{answers_in, verdicts_in, whole_since_answer}
+use Rattle.eg_model.specs.Level1.{last_world}
+use Rattle.eg_model.specs.Premises.{IsProper, IsProperRun}
+use Rattle.eg_model.specs.Moments.{moments_in}
+use Rattle.eg_model.specs.Spans.{span_kind, has_passed, moments, span_ticks}
+use Rattle.eg_model.specs.Rows.{first_trap}
+use Rattle.eg_model.specs.Branching.{BeginsFrom, under, AreOneRun}
+use Rattle.eg_model.proofs.BranchLaws.{fewer, moments_in-under, next_moment-alike, are_one_run}
+use Rattle.eg_agree.specs.Standing.{KeepsWords}
+use Rattle.eg_agree.specs.Doings.{doing_at}
+use Rattle.eg_agree.specs.Replies.{doing_after, words_over}
+use Rattle.eg_tick.specs.Kept.{Kept}
+use Rattle.eg_tick.specs.Stands.{HoldsLevel1, HoldsLevel2, HoldsLatches, HoldsMonitor, HoldsSpan, Stands, IsController}
+use Rattle.eg_tick.specs.declared.span.Span.{Span}
+
+-- ---- what reads no fault: all that is said of given ticks ----
+
+module _ (kind : SpanKind) (s : Setting) (fault : Option Fault) where
+  words_over-under : (h : List Tick) → words_over kind (under fault s) h ≡ words_over kind s h
+  unfolding words_over doing_after doing_at
+  words_over-under [] = refl
+  words_over-under (x ∷ h) = ap (after_tick (doing_after kind s x h)) (words_over-under h)
+
+  same : (h : List Tick) → moments_in kind s h ≡ moments_in kind (under fault s) h
+  same h = sym (moments_in-under kind s fault h)
+
+  words-under : (words : Words) (past : List Moment) → KeepsWords s words past → KeepsWords (under fault s) words past
+  words-under words past keeps = record {
+    signals = keeps.signals;
+    pedal = keeps.pedal;
+    plate = keeps.plate;
+    load = keeps.load;
+    speed = keeps.speed;
+    torque = keeps.torque;
+    limp = keeps.limp;
+    trip = keeps.trip;
+  }
+
+  level1-under : (m : Registers) (memory : List ℕ) (h : List Tick) → HoldsLevel1 s m memory (moments_in kind s h) →
+      HoldsLevel1 (under fault s) m memory (moments_in kind (under fault s) h)
+  level1-under m memory h holds = record { code = holds.code; world = holds.world ∙ ap last_world (same h) }
+
+  level2-under : (memory : List ℕ) (h : List Tick) → HoldsLevel2 kind s memory h → HoldsLevel2 kind (under fault s) memory h
+  level2-under memory h holds = record {
+    mirrored = holds.mirrored;
+    exact = holds.exact ∙ sym (words_over-under h);
+    words = subst (KeepsWords (under fault s) _) (same h) (words-under _ _ holds.words);
+    last = holds.last;
+    rests = λ unflipped whole. holds.rests unflipped (ap whole_since_answer (same h) ∙ whole);
+  }
+
+  monitor-under : (monitor : MonitorParts) (h : List Tick) → HoldsMonitor kind s monitor h → HoldsMonitor kind (under fault s) monitor h
+  monitor-under monitor h holds = record {
+    times = holds.times;
+    questions = holds.questions;
+    given = subst (λ past. HasGiven monitor (verdicts_in past)) (same h) holds.given;
+    orderly = λ tame. record {
+      period = (holds.orderly tame).period;
+      heard = (holds.orderly tame).heard ∙ ap (λ past. answers_in (take (place_of s.cal.times (length h)) past)) (same h);
+    };
+  }
+
+  span-under : (span : Span) (m : Registers) (memory : List ℕ) (h : List Tick) → HoldsSpan kind s span m memory h →
+      HoldsSpan kind (under fault s) span m memory h
+  span-under span m memory h holds = record {
+    kind_is = holds.kind_is;
+    local = holds.local;
+    level1 = level1-under m memory h holds.level1;
+    level2 = level2-under memory h holds.level2;
+    latches = subst (HoldsLatches span.open1 span.open2) (same h) holds.latches;
+    monitor = monitor-under span.monitor h holds.monitor;
+  }
+
+-- ---- what goes by the run ----
+
+module _ (s : Setting) (none : s.fault ≡ None) (fault : Option Fault) where
+  proper-under : (on : Bool) (e : Entry) → IsProper s on e → IsProper (under fault s) on e
+  proper-under on e proper = record { drive = proper.drive; engine = proper.engine; no_torque = proper.no_torque }
+
+  proper_run-under : (h : List Entry) → BeginsFrom (length h) fault → IsProperRun s h → IsProperRun (under fault s) h
+  unfolding IsProperRun
+  proper_run-under [] from proper = tt
+  proper_run-under (e ∷ h) from proper = (
+    subst (λ (m : Moment). IsProper (under fault s) m.on e) (sym (next_moment-alike s none fault e h from)) (proper-under _ e proper.0),
+    proper_run-under h (fewer fault (length h) from) proper.1,
+  )
+
+  stands-under : (c : Kept) (h : List Entry) → BeginsFrom (length h) fault → Stands s c h → Stands (under fault s) (record c { fault = fault }) h
+  stands-under c h from stands = record {
+    cal = stands.cal;
+    fault = refl;
+    count = stands.count;
+    are_words = stands.are_words;
+    span = subst (λ past. HoldsSpan (span_kind past) (under fault s) c.span c.registers c.memory.words (span_ticks (under fault s) h)) (sym run.moments_are)
+        (subst (HoldsSpan (span_kind (moments s h)) (under fault s) c.span c.registers c.memory.words) (sym run.span_is)
+        (span-under (span_kind (moments s h)) s fault c.span c.registers c.memory.words (span_ticks s h) stands.span));
+    passed = stands.passed ∙ ap has_passed (sym run.moments_are);
+    engine = record { one_kt = stands.engine.one_kt; proper = proper_run-under h from stands.engine.proper; shows = stands.engine.shows };
+    trap = stands.trap ∙ ap first_trap (sym run.moments_are);
+    not_lost = stands.not_lost;
+  }
+    where
+      run : AreOneRun s (under fault s) h
+      run = are_one_run s none fault h from
+
+-- ---- the controller ----
+
+-- the branch stands for what the controller stands for
+pub branch_stands : (s : Setting) (c : Kept) (fault : Option Fault) (h : List Entry) → c.fault ≡ None → BeginsFrom c.ticks fault → Stands s c h →
+    Stands (under fault s) (record c { fault = fault }) h
+branch_stands s c fault h none from stands =
+    stands-under s (sym stands.fault ∙ none) fault c h (subst (λ n. BeginsFrom n fault) stands.count from) stands
+
+-- and is a controller
+pub branch_is : (c : Kept) (fault : Option Fault) → c.fault ≡ None → IsNoneOrValid fault → BeginsFrom c.ticks fault → IsController c →
+    IsController (record c { fault = fault })
+branch_is c fault none valid from is = record {
+  accepted = is.accepted;
+  fault = valid;
+  stands = λ kept. let some = is.stands kept in (some.0, some.1, branch_stands _ c fault some.1 none from some.2);
+  unsure = is.unsure;
+}
