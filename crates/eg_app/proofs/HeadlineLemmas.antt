@@ -17,7 +17,6 @@ use Rattle.eg_outcome.specs.declared.outcome.Role.TheVariants as role
 use Rattle.eg_outcome.specs.Reads.{ReadComes, FileComes}
 use Rattle.eg_outcome.specs.Calibrations.{CalibrationComes, calibration_file}
 use Rattle.eg_play.specs.Files.{campaign_file, trace_file, image_file}
-use Rattle.eg_play.specs.Headline.{KeepsHeadline}
 use Rattle.eg_play.specs.Inputs.{input_of, TicksCome, InputComes, InputsCome, too_many}
 use Rattle.eg_play.specs.Ends.{RunsEnd, NamedEnds, run_named}
 use Rattle.eg_app.specs.Words.{Command, check, bound, run, record_run, soak}

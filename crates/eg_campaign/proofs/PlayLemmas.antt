@@ -1,6 +1,6 @@
 -- Runs that are played one after another: their rows, and what their ticks come to.
 use Rattle.std.proofs.Common.{◌≡◌, ◌∙◌, sym, ap, ap₂, ℕ, ◌+◌, ◌%◌, ◌^◌, ◌<◌, ◌≤◌, List, [], ◌∷◌, ◌++◌, map, take, drop, get_or, length, add-one, arith}
-use Rattle.std.specs.Prelude.{reverse, Option}
+use Rattle.std.specs.Prelude.{reverse, Option, Result, Ok, Err, OnOk}
 use Rattle.std.specs.List.{sum}
 use Rattle.std.proofs.Math.Nat.{mod-eq_of_lt}
 use Rattle.std.proofs.Math.Seq.{take-suc}
@@ -15,13 +15,11 @@ use Rattle.eg_word.specs.declared.registers.Trap.{Trap}
 use Rattle.eg_record.specs.declared.row.Row.{Row}
 use Rattle.eg_record.specs.declared.summary.Summary.{Summary}
 use Rattle.eg_record.specs.Summaries.{summary_of}
-use Rattle.eg_model.specs.Engines.{gasoline}
-use Rattle.eg_model.specs.Bench.{Run}
-use Rattle.eg_model.specs.Rows.{record_rows, record_trap, report_of}
+use Rattle.eg_model.specs.Rows.{record_trap, report_of}
 use Rattle.eg_tick.specs.Weights.{TickCount, weight_of}
 use Rattle.eg_tick.specs.Run.{run_by}
 use Rattle.eg_tick.proofs.RunLemmas.{more-mod}
-use Rattle.eg_campaign.specs.Plays.{ticks_of, weights_of, count_after}
+use Rattle.eg_campaign.specs.Plays.{EngineRun, bench_of, rows_of_run, report_of_run, IsCounted, ticks_of, weights_of, count_after}
 
 -- ---- runs ----
 
@@ -32,13 +30,13 @@ pub same_run : (cal cal' : CalibrationParts) (image image' : List ℕ) (fault fa
 same_run cal cal' image image' fault fault' plan plan' drive drive' a b c d e = cc
 
 -- what the report says of a run whose facts and trap are told
-pub report_is : (name name' : List ℕ) (r r' : Run) (trap : Option (Trap × ℕ)) (bound : ℕ) (summary : Summary) → name ≡ name' → r ≡ r' →
-    trap ≡ record_trap gasoline r → bound ≡ reaction_of r.setting.cal.times →
-    summary ≡ summary_of name (record_rows gasoline r) trap r.setting.cal.rules.threshold r.setting.cal.rules.torque bound → summary ≡ report_of gasoline name' r'
+pub report_is : (name name' : List ℕ) (r : EngineRun) (trap : Option (Trap × ℕ)) (bound : ℕ) (summary : Summary) → name ≡ name' →
+    trap ≡ record_trap (bench_of r.engine) r.run → bound ≡ reaction_of r.run.setting.cal.times →
+    summary ≡ summary_of name (rows_of_run r) trap r.run.setting.cal.rules.threshold r.run.setting.cal.rules.torque bound → summary ≡ report_of_run name' r
 unfolding report_of
-report_is name name' r r' trap bound summary named same trapped bounded told = told
-    ∙ ap₂ (λ (t : Option (Trap × ℕ)) (b : ℕ). summary_of name (record_rows gasoline r) t r.setting.cal.rules.threshold r.setting.cal.rules.torque b) trapped bounded
-    ∙ ap₂ (λ (n : List ℕ) (q : Run). report_of gasoline n q) named same
+report_is name name' r trap bound summary named trapped bounded told = told
+    ∙ ap₂ (λ (t : Option (Trap × ℕ)) (b : ℕ). summary_of name (rows_of_run r) t r.run.setting.cal.rules.threshold r.run.setting.cal.rules.torque b) trapped bounded
+    ∙ ap (λ (n : List ℕ). report_of_run n r) named
 
 -- ---- sums ----
 
@@ -52,33 +50,33 @@ sum-reverse f rows = sum_by-IsPermutation (λ x. x) (map f rows) (map f (reverse
 
 -- ---- the ticks of one run more ----
 
-pub ticks-append : (xs ys : List Run) → ticks_of (xs ++ ys) ≡ ticks_of xs + ticks_of ys
+pub ticks-append : (xs ys : List EngineRun) → ticks_of (xs ++ ys) ≡ ticks_of xs + ticks_of ys
 unfolding ticks_of
-ticks-append xs ys = ap sum (map-append (λ (r : Run). length r.drive) xs ys)
-    ∙ sum-append (map (λ (r : Run). length r.drive) xs) (map (λ (r : Run). length r.drive) ys)
+ticks-append xs ys = ap sum (map-append (λ (r : EngineRun). length r.run.drive) xs ys)
+    ∙ sum-append (map (λ (r : EngineRun). length r.run.drive) xs) (map (λ (r : EngineRun). length r.run.drive) ys)
 
-weights-append : (xs ys : List Run) → weights_of (xs ++ ys) ≡ weights_of xs + weights_of ys
+weights-append : (xs ys : List EngineRun) → weights_of (xs ++ ys) ≡ weights_of xs + weights_of ys
 unfolding weights_of
-weights-append xs ys = ap sum (map-append (λ (r : Run). sum (map weight_of (record_rows gasoline r))) xs ys)
-    ∙ sum-append (map (λ (r : Run). sum (map weight_of (record_rows gasoline r))) xs) (map (λ (r : Run). sum (map weight_of (record_rows gasoline r))) ys)
+weights-append xs ys = ap sum (map-append (λ (r : EngineRun). sum (map weight_of (rows_of_run r))) xs ys)
+    ∙ sum-append (map (λ (r : EngineRun). sum (map weight_of (rows_of_run r))) xs) (map (λ (r : EngineRun). sum (map weight_of (rows_of_run r))) ys)
 
 zero_plus : (n : ℕ) → 0 + n ≡ n
 zero_plus n = omega arith
 
-pub ticks-one : (r : Run) → ticks_of (r ∷ []) ≡ length r.drive
+pub ticks-one : (r : EngineRun) → ticks_of (r ∷ []) ≡ length r.run.drive
 unfolding ticks_of
-ticks-one r = zero_plus (length r.drive)
+ticks-one r = zero_plus (length r.run.drive)
 
-weights-one : (r : Run) → weights_of (r ∷ []) ≡ sum (map weight_of (record_rows gasoline r))
+weights-one : (r : EngineRun) → weights_of (r ∷ []) ≡ sum (map weight_of (rows_of_run r))
 unfolding weights_of
-weights-one r = zero_plus (sum (map weight_of (record_rows gasoline r)))
+weights-one r = zero_plus (sum (map weight_of (rows_of_run r)))
 
 counts : ℕ → ℕ → TickCount
 counts n w = record { count = n; weights = w }
 
 -- what a run counts by its record
-pub counted_run : (was is : TickCount) (r : Run) →
-    is ≡ record { count = (was.count + length r.drive) % 2 ^ 64; weights = (was.weights + sum (map weight_of (record_rows gasoline r))) % 2 ^ 64 } →
+pub counted_run : (was is : TickCount) (r : EngineRun) →
+    IsCounted (bench_of r.engine) r.run was is →
     is ≡ count_after was (r ∷ [])
 unfolding counts
 counted_run was is r e = e ∙ ap₂ (λ n w. counts ((was.count + n) % 2 ^ 64) ((was.weights + w) % 2 ^ 64)) (sym (ticks-one r)) (sym (weights-one r))
@@ -95,7 +93,7 @@ counted-none was count weights = ap₂ counts (low was.count count) (low was.wei
     low n l = sym (ap (λ k. k % 2 ^ 64) (same n) ∙ mod-eq_of_lt l)
 
 -- one run after others
-pub counted-more : (from was is : TickCount) (runs : List Run) (r : Run) → was ≡ count_after from runs →
+pub counted-more : (from was is : TickCount) (runs : List EngineRun) (r : EngineRun) → was ≡ count_after from runs →
     is ≡ count_after was (r ∷ []) → is ≡ count_after from (runs ++ r ∷ [])
 unfolding counts
 counted-more from was is runs r before now = now ∙ ap₂ counts
@@ -113,7 +111,7 @@ map-more f xs i x below is = ap (λ n. map f (take n xs)) (add-one i) ∙ ap (ma
     ∙ map-append f (take i xs) (get_or xs i x ∷ []) ∙ ap (λ y. map f (take i xs) ++ f y ∷ []) (sym is)
 
 -- a front has no more ticks than the whole
-pub ticks-front : {X : Type 0} (f : X → Run) (xs : List X) (i : ℕ) → ticks_of (map f (take i xs)) ≤ ticks_of (map f xs)
+pub ticks-front : {X : Type 0} (f : X → EngineRun) (xs : List X) (i : ℕ) → ticks_of (map f (take i xs)) ≤ ticks_of (map f xs)
 ticks-front f xs i =
     let whole : ticks_of (map f xs) ≡ ticks_of (map f (take i xs)) + ticks_of (map f (drop i xs)) =
     ap (λ l. ticks_of (map f l)) (sym (take-append-drop i xs)) ∙ ap ticks_of (map-append f (take i xs) (drop i xs))
@@ -121,11 +119,17 @@ ticks-front f xs i =
     omega (arith, whole)
 
 -- the ticks of a front, with those of the run behind it
-pub ticks-with : {X : Type 0} (f : X → Run) (xs : List X) (i : ℕ) (x : X) → i < length xs → x ≡ get_or xs i x →
-    ticks_of (map f (take i xs)) + length (f x).drive ≤ ticks_of (map f xs)
+pub ticks-with : {X : Type 0} (f : X → EngineRun) (xs : List X) (i : ℕ) (x : X) → i < length xs → x ≡ get_or xs i x →
+    ticks_of (map f (take i xs)) + length (f x).run.drive ≤ ticks_of (map f xs)
 ticks-with f xs i x below is =
-    let more : ticks_of (map f (take (i + 1) xs)) ≡ ticks_of (map f (take i xs)) + length (f x).drive =
+    let more : ticks_of (map f (take (i + 1) xs)) ≡ ticks_of (map f (take i xs)) + length (f x).run.drive =
     ap ticks_of (map-more f xs i x below is) ∙ ticks-append (map f (take i xs)) (f x ∷ [])
     ∙ ap (λ n. ticks_of (map f (take i xs)) + n) (ticks-one (f x)) in
     let front : ticks_of (map f (take (i + 1) xs)) ≤ ticks_of (map f xs) = ticks-front f xs (i + 1) in
     omega (arith, more, front)
+
+-- ---- results ----
+
+pub if_on_ok : {T E : Type 0} (P Q : Type 0) (result : Result T E) → (P → Q) → OnOk result P → OnOk result Q
+if_on_ok P Q (Ok value) gives p = gives p
+if_on_ok P Q (Err e) gives p = tt

@@ -6,10 +6,9 @@ use Rattle.std.proofs.Math.Seq.{take-append_seam}
 use Rattle.std.proofs.lemmas.List.{map-append, reverse-append, length-reverse}
 use Rattle.std.proofs.lemmas.List.Folds.{concat-append}
 use Rattle.eg_base.specs.Outside.{ShownSink, Appends, AppendsPrefix}
-use Rattle.eg_values.specs.Calibration.{CalibrationParts}
 use Rattle.eg_record.specs.declared.row.Row.{Row}
 use Rattle.eg_record.specs.Texts.{record_header, row_line}
-use Rattle.eg_model.specs.Engines.{gasoline}
+use Rattle.eg_model.specs.Engines.{BenchEngine}
 use Rattle.eg_model.specs.Bench.{Run}
 use Rattle.eg_model.specs.Rows.{record_rows}
 use Rattle.eg_model.specs.Records.{row_at, rows_to}
@@ -18,11 +17,10 @@ use Rattle.eg_model.proofs.WholeRecord.{rows-suc}
 use Rattle.eg_tick.specs.Weights.{TickCount, weight_of}
 use Rattle.eg_tick.proofs.RunLemmas.{counted, counted-none}
 use Rattle.eg_tick.proofs.FactLaws.{counted-next, rows-next}
-use Rattle.eg_campaign.specs.Plays.{run_with, count_after}
-use Rattle.eg_campaign.specs.Texts.{rows_in_time, text_of, record_text}
+use Rattle.eg_campaign.specs.Plays.{IsCounted}
+use Rattle.eg_campaign.specs.Texts.{text_of}
 use Rattle.eg_campaign.specs.Recording.{HasLines, count_to, IsStopped}
-use Rattle.eg_campaign.specs.declared.play.RunInput.{RunInput}
-use Rattle.eg_campaign.proofs.PlayLemmas.{counted_run, sum-reverse}
+use Rattle.eg_campaign.proofs.PlayLemmas.{sum-reverse}
 
 -- ---- pieces that are appended ----
 
@@ -40,30 +38,30 @@ one_more : (n : ℕ) → suc n ≡ n + 1
 one_more n = omega arith
 
 -- the rows of some ticks stand behind those of later ones
-later : (r : Run) (t k : ℕ) → (more : List Row) × (rows_to gasoline r (k + t) ≡ more ++ rows_to gasoline r t)
-later r t zero = ([], ap (rows_to gasoline r) (none t))
+later : {S : Type 0} (b : BenchEngine S) (r : Run) (t k : ℕ) → (more : List Row) × (rows_to b r (k + t) ≡ more ++ rows_to b r t)
+later b r t zero = ([], ap (rows_to b r) (none t))
   where
     none : (t : ℕ) → 0 + t ≡ t
     none t = omega arith
-later r t (suc k) =
-    let (more, e) = later r t k in
-    (row_at gasoline r (k + t) ∷ more, ap (rows_to gasoline r) (next k t) ∙ rows_to-suc gasoline r (k + t) ∙ ap (λ (l : List Row). row_at gasoline r (k + t) ∷ l) e)
+later b r t (suc k) =
+    let (more, e) = later b r t k in
+    (row_at b r (k + t) ∷ more, ap (rows_to b r) (next k t) ∙ rows_to-suc b r (k + t) ∙ ap (λ (l : List Row). row_at b r (k + t) ∷ l) e)
   where
     next : (k t : ℕ) → suc k + t ≡ suc (k + t)
     next k t = omega arith
 
 -- in the order of time they are a front of the record
-front : (r : Run) (t : ℕ) → t ≤ length r.drive → (more : List Row) × (reverse (record_rows gasoline r) ≡ reverse (rows_to gasoline r t) ++ more)
-front r t within =
-    let (more, e) = later r t (length r.drive - t) in
+front : {S : Type 0} (b : BenchEngine S) (r : Run) (t : ℕ) → t ≤ length r.drive → (more : List Row) × (reverse (record_rows b r) ≡ reverse (rows_to b r t) ++ more)
+front b r t within =
+    let (more, e) = later b r t (length r.drive - t) in
     let all : length r.drive ≡ (length r.drive - t) + t = omega (arith, within) in
-    (reverse more, ap reverse (record_rows-is gasoline r ∙ ap (rows_to gasoline r) all ∙ e) ∙ reverse-append more (rows_to gasoline r t))
+    (reverse more, ap reverse (record_rows-is b r ∙ ap (rows_to b r) all ∙ e) ∙ reverse-append more (rows_to b r t))
 
-front-take : (r : Run) (t : ℕ) → t ≤ length r.drive → take t (reverse (record_rows gasoline r)) ≡ reverse (rows_to gasoline r t)
-front-take r t within =
-    let (more, e) = front r t within in
-    let long : t ≡ length (reverse (rows_to gasoline r t)) = sym (length-reverse (rows_to gasoline r t) ∙ (records_are_rows gasoline r t).1) in
-    ap (take t) e ∙ ap (λ n. take n (reverse (rows_to gasoline r t) ++ more)) long ∙ take-append_seam (reverse (rows_to gasoline r t)) more
+front-take : {S : Type 0} (b : BenchEngine S) (r : Run) (t : ℕ) → t ≤ length r.drive → take t (reverse (record_rows b r)) ≡ reverse (rows_to b r t)
+front-take b r t within =
+    let (more, e) = front b r t within in
+    let long : t ≡ length (reverse (rows_to b r t)) = sym (length-reverse (rows_to b r t) ∙ (records_are_rows b r t).1) in
+    ap (take t) e ∙ ap (λ n. take n (reverse (rows_to b r t) ++ more)) long ∙ take-append_seam (reverse (rows_to b r t)) more
 
 -- ---- texts ----
 
@@ -81,108 +79,105 @@ unfolding text_of
 text-none = append-nil record_header
 
 -- one row more
-text-next : (r : Run) (t : ℕ) → text_of (reverse (rows_to gasoline r (t + 1))) ≡ text_of (reverse (rows_to gasoline r t)) ++ row_line (row_at gasoline r t)
-text-next r t = ap text_of (sym (rows-suc gasoline r t (reverse (rows_to gasoline r t)) (row_at gasoline r t) refl refl))
-    ∙ text-one (reverse (rows_to gasoline r t)) (row_at gasoline r t)
+text-next : {S : Type 0} (b : BenchEngine S) (r : Run) (t : ℕ) → text_of (reverse (rows_to b r (t + 1))) ≡ text_of (reverse (rows_to b r t)) ++ row_line (row_at b r t)
+text-next b r t = ap text_of (sym (rows-suc b r t (reverse (rows_to b r t)) (row_at b r t) refl refl))
+    ∙ text-one (reverse (rows_to b r t)) (row_at b r t)
 
 -- ---- what was written and counted so far ----
 
 -- the header and the lines of the first t ticks stand whole, no fault was met, and these ticks are counted
-pub record HasWritten (r : Run) (t : ℕ) (out now : ShownSink) (was is : TickCount) : Type 0 where
-  pub put : Appends out now (text_of (reverse (rows_to gasoline r t)))
+pub record HasWritten {S : Type 0} (b : BenchEngine S) (r : Run) (t : ℕ) (out now : ShownSink) (was is : TickCount) : Type 0 where
+  pub put : Appends out now (text_of (reverse (rows_to b r t)))
   pub faults : now.faults ≡ out.faults
   pub sure : now.sure ≡ out.sure
-  pub counts : is ≡ counted was t (rows_to gasoline r t)
+  pub counts : is ≡ counted was t (rows_to b r t)
 
 -- behind the header
-pub has_header : (r : Run) (out now : ShownSink) (was : TickCount) (header : List ℕ) → header ≡ record_header → Appends out now header →
-    now.faults ≡ out.faults → now.sure ≡ out.sure → was.count < 2 ^ 64 → was.weights < 2 ^ 64 → HasWritten r 0 out now was was
-has_header r out now was header is put faults sure count weights = record {
-  put = subst (Appends out now) (is ∙ sym text-none ∙ ap (λ (l : List Row). text_of (reverse l)) (sym (no_rows gasoline r))) put;
+pub has_header : {S : Type 0} (b : BenchEngine S) (r : Run) (out now : ShownSink) (was : TickCount) (header : List ℕ) → header ≡ record_header → Appends out now header →
+    now.faults ≡ out.faults → now.sure ≡ out.sure → was.count < 2 ^ 64 → was.weights < 2 ^ 64 → HasWritten b r 0 out now was was
+has_header b r out now was header is put faults sure count weights = record {
+  put = subst (Appends out now) (is ∙ sym text-none ∙ ap (λ (l : List Row). text_of (reverse l)) (sym (no_rows b r))) put;
   faults = faults;
   sure = sure;
-  counts = counted-none was (rows_to gasoline r 0) (no_rows gasoline r) count weights;
+  counts = counted-none was (rows_to b r 0) (no_rows b r) count weights;
 }
 
 -- what a tick counts
-counts-next : (r : Run) (t : ℕ) (was old new : TickCount) (row : Row) → row ≡ row_at gasoline r t → old ≡ counted was t (rows_to gasoline r t) →
-    new.count ≡ (old.count + 1) % 2 ^ 64 → new.weights ≡ (old.weights + weight_of row) % 2 ^ 64 → new ≡ counted was (t + 1) (rows_to gasoline r (t + 1))
-counts-next r t was old new row is so_far count weight =
-    counted-next was old new t (rows_to gasoline r t) row so_far count weight ∙ ap (counted was (t + 1)) (rows-next r t row is)
+counts-next : {S : Type 0} (b : BenchEngine S) (r : Run) (t : ℕ) (was old new : TickCount) (row : Row) → row ≡ row_at b r t → old ≡ counted was t (rows_to b r t) →
+    new.count ≡ (old.count + 1) % 2 ^ 64 → new.weights ≡ (old.weights + weight_of row) % 2 ^ 64 → new ≡ counted was (t + 1) (rows_to b r (t + 1))
+counts-next b r t was old new row is so_far count weight =
+    counted-next was old new t (rows_to b r t) row so_far count weight ∙ ap (counted was (t + 1)) (rows-next b r t row is)
 
 -- one tick more, whose line is put whole
-pub has_more : (r : Run) (t : ℕ) (out mid now : ShownSink) (was old new : TickCount) (row : Row) → row ≡ row_at gasoline r t → HasWritten r t out mid was old →
+pub has_more : {S : Type 0} (b : BenchEngine S) (r : Run) (t : ℕ) (out mid now : ShownSink) (was old new : TickCount) (row : Row) → row ≡ row_at b r t → HasWritten b r t out mid was old →
     Appends mid now (row_line row) → now.faults ≡ mid.faults → now.sure ≡ mid.sure → new.count ≡ (old.count + 1) % 2 ^ 64 →
-    new.weights ≡ (old.weights + weight_of row) % 2 ^ 64 → HasWritten r (t + 1) out now was new
-has_more r t out mid now was old new row is so_far put faults sure count weight = record {
-  put = subst (Appends out now) (sym (text-next r t))
-      (appends-more out mid now (text_of (reverse (rows_to gasoline r t))) (row_line (row_at gasoline r t)) so_far.put (subst (λ (x : Row). Appends mid now (row_line x)) is put));
+    new.weights ≡ (old.weights + weight_of row) % 2 ^ 64 → HasWritten b r (t + 1) out now was new
+has_more b r t out mid now was old new row is so_far put faults sure count weight = record {
+  put = subst (Appends out now) (sym (text-next b r t))
+      (appends-more out mid now (text_of (reverse (rows_to b r t))) (row_line (row_at b r t)) so_far.put (subst (λ (x : Row). Appends mid now (row_line x)) is put));
   faults = faults ∙ so_far.faults;
   sure = sure ∙ so_far.sure;
-  counts = counts-next r t was old new row is so_far.counts count weight;
+  counts = counts-next b r t was old new row is so_far.counts count weight;
 }
 
-module _ (cal : CalibrationParts) (input : RunInput) where
-  run : Run
-  run = run_with cal input
-
+module _ {S : Type 0} (b : BenchEngine S) (r : Run) where
   -- ---- all ticks were made ----
 
-  pub all_written : (t : ℕ) (out now : ShownSink) (was is : TickCount) → t ≡ length input.drive → HasWritten (run_with cal input) t out now was is →
-      Appends out now (record_text cal input)
-  unfolding record_text rows_in_time
+  pub all_written : (t : ℕ) (out now : ShownSink) (was is : TickCount) → t ≡ length r.drive → HasWritten b r t out now was is →
+      Appends out now (text_of (reverse (record_rows b r)))
   all_written t out now was is end so_far = subst (Appends out now)
-      (ap (λ n. text_of (reverse (rows_to gasoline (run_with cal input) n))) end ∙ ap (λ (l : List Row). text_of (reverse l)) (sym (record_rows-is gasoline (run_with cal input))))
+      (ap (λ n. text_of (reverse (rows_to b r n))) end ∙ ap (λ (l : List Row). text_of (reverse l)) (sym (record_rows-is b r)))
       so_far.put
 
-  pub all_counted : (t : ℕ) (out now : ShownSink) (was is : TickCount) → t ≡ length input.drive → HasWritten (run_with cal input) t out now was is →
-      is ≡ count_after was (run_with cal input ∷ [])
-  all_counted t out now was is end so_far = counted_run was is (run_with cal input)
-      (so_far.counts ∙ ap (λ n. counted was n (rows_to gasoline (run_with cal input) n)) end ∙ ap (counted was (length input.drive)) (sym (record_rows-is gasoline (run_with cal input))))
+  pub all_counted : (t : ℕ) (out now : ShownSink) (was is : TickCount) → t ≡ length r.drive → HasWritten b r t out now was is →
+      IsCounted b r was is
+  all_counted t out now was is end so_far =
+      so_far.counts ∙ ap (λ n. counted was n (rows_to b r n)) end ∙ ap (counted was (length r.drive)) (sym (record_rows-is b r))
 
   -- ---- it was stopped ----
 
+  -- the record has a row for each tick
+  long : length r.drive ≡ length (reverse (record_rows b r))
+  long = sym (length-reverse (record_rows b r) ∙ ap length (record_rows-is b r) ∙ (records_are_rows b r (length r.drive)).1)
+
   -- the count by a front of the record
-  count-front : (t : ℕ) (was is : TickCount) → t ≤ length input.drive → is ≡ counted was t (rows_to gasoline (run_with cal input) t) →
-      is ≡ count_to was (rows_in_time cal input) t
-  unfolding rows_in_time
+  count-front : (t : ℕ) (was is : TickCount) → t ≤ length r.drive → is ≡ counted was t (rows_to b r t) →
+      is ≡ count_to was (reverse (record_rows b r)) t
   count-front t was is within e = e ∙ ap (λ n. both ((was.count + t) % 2 ^ 64) ((was.weights + n) % 2 ^ 64))
-      (sym (sum-reverse weight_of (rows_to gasoline (run_with cal input) t)) ∙ ap (λ (l : List Row). sum (map weight_of l)) (sym (front-take (run_with cal input) t within)))
+      (sym (sum-reverse weight_of (rows_to b r t)) ∙ ap (λ (l : List Row). sum (map weight_of l)) (sym (front-take b r t within)))
     where
       both : ℕ → ℕ → TickCount
       both a b = record { count = a; weights = b }
 
   -- at the header: no tick was made
   pub stopped_at_header : (out now : ShownSink) (was : TickCount) (header : List ℕ) → header ≡ record_header → AppendsPrefix out now header →
-      was.count < 2 ^ 64 → was.weights < 2 ^ 64 → IsStopped cal input out now was was
-  unfolding record_text text_of
+      was.count < 2 ^ 64 → was.weights < 2 ^ 64 → IsStopped (reverse (record_rows b r)) out now was was
+  unfolding text_of
   stopped_at_header out now was header is (some, rest, parts, put) count weights = record {
     front = some;
-    rest = rest ++ concat (map row_line (rows_in_time cal input));
+    rest = rest ++ concat (map row_line (reverse (record_rows b r)));
     ticks = 0;
-    parts = ap (λ h. h ++ concat (map row_line (rows_in_time cal input))) (sym is ∙ parts) ∙ append_assoc some rest (concat (map row_line (rows_in_time cal input)));
+    parts = ap (λ h. h ++ concat (map row_line (reverse (record_rows b r)))) (sym is ∙ parts) ∙ append_assoc some rest (concat (map row_line (reverse (record_rows b r))));
     appended = put;
-    most = least (length input.drive);
+    most = least (length (reverse (record_rows b r)));
     lines = tt;
-    counted = count-front 0 was was (least (length input.drive))
-        (counted-none was (rows_to gasoline (run_with cal input) 0) (no_rows gasoline (run_with cal input)) count weights);
+    counted = count-front 0 was was (least (length r.drive))
+        (counted-none was (rows_to b r 0) (no_rows b r) count weights);
   }
     where
       least : (n : ℕ) → 0 ≤ n
       least n = omega arith
 
   -- the text of a record, cut within the line of a tick
-  cut : (t : ℕ) (some rest : List ℕ) → t < length input.drive → row_line (row_at gasoline (run_with cal input) t) ≡ some ++ rest →
-      (back : List ℕ) × (record_text cal input ≡ (text_of (reverse (rows_to gasoline (run_with cal input) t)) ++ some) ++ back)
-  unfolding record_text rows_in_time
+  cut : (t : ℕ) (some rest : List ℕ) → t < length r.drive → row_line (row_at b r t) ≡ some ++ rest →
+      (back : List ℕ) × (text_of (reverse (record_rows b r)) ≡ (text_of (reverse (rows_to b r t)) ++ some) ++ back)
   cut t some rest within parts =
-      let r = run_with cal input in
-      let before = text_of (reverse (rows_to gasoline r t)) in
-      let most : t + 1 ≤ length input.drive = omega (arith, within) in
-      let (more, e) = front r (t + 1) most in
+      let before = text_of (reverse (rows_to b r t)) in
+      let most : t + 1 ≤ length r.drive = omega (arith, within) in
+      let (more, e) = front b r (t + 1) most in
       let behind = concat (map row_line more) in (
         rest ++ behind,
-        ap text_of e ∙ text-more (reverse (rows_to gasoline r (t + 1))) more ∙ ap (λ l. l ++ behind) (text-next r t ∙ ap (λ l. before ++ l) parts)
+        ap text_of e ∙ text-more (reverse (rows_to b r (t + 1))) more ∙ ap (λ l. l ++ behind) (text-next b r t ∙ ap (λ l. before ++ l) parts)
             ∙ pieces before some rest behind,
       )
     where
@@ -190,14 +185,12 @@ module _ (cal : CalibrationParts) (input : RunInput) where
       pieces a b c d = simp append_assoc
 
   -- at the line of a tick that was made
-  pub stopped_at_line : (t : ℕ) (out mid now : ShownSink) (was old new : TickCount) (row : Row) → t < length input.drive →
-      row ≡ row_at gasoline (run_with cal input) t → HasWritten (run_with cal input) t out mid was old → AppendsPrefix mid now (row_line row) →
-      new.count ≡ (old.count + 1) % 2 ^ 64 → new.weights ≡ (old.weights + weight_of row) % 2 ^ 64 → IsStopped cal input out now was new
-  unfolding rows_in_time
+  pub stopped_at_line : (t : ℕ) (out mid now : ShownSink) (was old new : TickCount) (row : Row) → t < length r.drive →
+      row ≡ row_at b r t → HasWritten b r t out mid was old → AppendsPrefix mid now (row_line row) →
+      new.count ≡ (old.count + 1) % 2 ^ 64 → new.weights ≡ (old.weights + weight_of row) % 2 ^ 64 → IsStopped (reverse (record_rows b r)) out now was new
   stopped_at_line t out mid now was old new row within is so_far (some, rest, parts, put) count weight =
-      let r = run_with cal input in
-      let before = text_of (reverse (rows_to gasoline r t)) in
-      let most : t + 1 ≤ length input.drive = omega (arith, within) in
+      let before = text_of (reverse (rows_to b r t)) in
+      let most : t + 1 ≤ length r.drive = omega (arith, within) in
       let (back, whole) = cut t some rest within (ap row_line (sym is) ∙ parts) in
       record {
         front = before ++ some;
@@ -205,10 +198,10 @@ module _ (cal : CalibrationParts) (input : RunInput) where
         ticks = t + 1;
         parts = whole;
         appended = appends-more out mid now before some so_far.put put;
-        most = most;
-        lines = has_lines t (reverse (record_rows gasoline r)) (before ++ some)
-            (some, ap (λ (l : List Row). text_of l ++ some) (sym (front-take r t (under t (length input.drive) within))));
-        counted = count-front (t + 1) was new most (counts-next r t was old new row is so_far.counts count weight);
+        most = subst (λ n. t + 1 ≤ n) long most;
+        lines = has_lines t (reverse (record_rows b r)) (before ++ some)
+            (some, ap (λ (l : List Row). text_of l ++ some) (sym (front-take b r t (under t (length r.drive) within))));
+        counted = count-front (t + 1) was new most (counts-next b r t was old new row is so_far.counts count weight);
       }
     where
       under : (t n : ℕ) → t < n → t ≤ n

@@ -2,11 +2,9 @@
 use Rattle.std.specs.Prelude.{◌≡◌, ℕ, zero, suc, ◌+◌, ◌%◌, ◌^◌, ◌≤◌, List, ◌++◌, map, take, length}
 use Rattle.std.specs.List.{sum}
 use Rattle.eg_base.specs.Outside.{ShownSink, Appends, BeginsWith}
-use Rattle.eg_values.specs.Calibration.{CalibrationParts}
 use Rattle.eg_record.specs.declared.row.Row.{Row}
 use Rattle.eg_tick.specs.Weights.{TickCount, weight_of}
-use Rattle.eg_campaign.specs.Texts.{rows_in_time, text_of, record_text}
-use Rattle.eg_campaign.specs.declared.play.RunInput.{RunInput}
+use Rattle.eg_campaign.specs.Texts.{text_of}
 
 -- Of the first n ticks, whose rows are the first of these, the line of each but the last stands whole behind
 -- the header: so none was made before the line of the one before it was written.
@@ -21,15 +19,14 @@ count_to was rows n = record {
   weights = (was.weights + sum (map weight_of (take n rows))) % 2 ^ 64;
 }
 
--- The writing of a record was stopped: only a front of its text was appended. So many ticks of the run were
--- made and counted; the line of each but the last stands whole in that front.
-pub record IsStopped (cal : CalibrationParts) (input : RunInput) (out now : ShownSink) (was is : TickCount) :
-    Type 0 where
+-- The writing of a record of these rows was stopped: only a front of its text was appended. So many ticks of
+-- the run were made and counted; the line of each but the last stands whole in that front.
+pub record IsStopped (rows : List Row) (out now : ShownSink) (was is : TickCount) : Type 0 where
   pub front : List ℕ
   pub rest : List ℕ
   pub ticks : ℕ
-  pub parts : record_text cal input ≡ front ++ rest
+  pub parts : text_of rows ≡ front ++ rest
   pub appended : Appends out now front
-  pub most : ticks ≤ length input.drive
-  pub lines : HasLines ticks (rows_in_time cal input) front
-  pub counted : is ≡ count_to was (rows_in_time cal input) ticks
+  pub most : ticks ≤ length rows
+  pub lines : HasLines ticks rows front
+  pub counted : is ≡ count_to was rows ticks

@@ -4,14 +4,12 @@ use Rattle.std.specs.List.{concat}
 use Rattle.eg_values.specs.Calibration.{CalibrationParts}
 use Rattle.eg_record.specs.declared.row.Row.{Row}
 use Rattle.eg_record.specs.Texts.{record_header, row_line}
-use Rattle.eg_model.specs.Engines.{gasoline}
-use Rattle.eg_model.specs.Rows.{record_rows}
-use Rattle.eg_campaign.specs.Plays.{run_with}
+use Rattle.eg_campaign.specs.Plays.{run_with, rows_of_run}
 use Rattle.eg_campaign.specs.declared.play.RunInput.{RunInput}
 
 -- the rows of the record of an input, in the order of time
 unfoldable pub rows_in_time : CalibrationParts → RunInput → List Row
-rows_in_time cal input = reverse (record_rows gasoline (run_with cal input))
+rows_in_time cal input = reverse (rows_of_run (run_with cal input))
 
 -- the header, and the line of each of these rows
 unfoldable pub text_of : List Row → List ℕ

@@ -6,8 +6,8 @@ mod play;
 mod recording;
 
 pub use eg_plan::{
-    CampaignFault, RunKey, RunPlan, accepted_files_keep_the_rules, add_ticks, read_campaign,
-    usual_slices,
+    CampaignFault, EngineKind, RunKey, RunPlan, accepted_files_keep_the_rules, add_ticks,
+    read_campaign, usual_slices,
 };
 pub use play::{RunInput, run_all};
 pub use recording::{RecordStop, record_into};

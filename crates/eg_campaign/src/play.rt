@@ -1,14 +1,18 @@
 // The runs of a campaign, played one after another.
 ghost use Rattle.std.specs.Prelude.{◌≡◌, ℕ, ◌≤◌, All, [], ◌∷◌, map, take, length, IfOk, OnOk, OnErr};
-ghost use Rattle.eg_campaign.specs.Plays.{IsPlayable, run_with, report_with, count_after};
+ghost use Rattle.eg_tick.specs.Facts.{IsToldOf};
+ghost use Rattle.eg_campaign.specs.Plays.{IsPlayable, bench_of, run_with, report_with, IsCounted, count_after};
 
 use eg_answer::reaction;
 use eg_base::{Items, NoMemory};
+use eg_diesel::DieselEngine;
 use eg_num::Drive;
-use eg_plan::RunPlan;
-use eg_record::Summary;
-use eg_tick::{Ticks, run_facts};
+use eg_plan::{EngineKind, RunPlan};
+use eg_plant::GasolineEngine;
+use eg_record::{Facts, Summary};
+use eg_tick::{BenchedEngine, Ticks, bench_facts};
 use eg_values::Calibration;
+use eg_word::Trap;
 use std::alloc::Global;
 
 /// A run of a campaign with what its files hold (docs/CONCEPT.md, "The record of a run").
@@ -59,9 +63,39 @@ fn report_one(
     ensures summary { IfOk result (λ summary. summary ≡ report_with calibration.now input.now) }
     ensures counted { steps.new ≡ count_after steps.old (run_with calibration.now input.now ∷ []) }
 {
-    let (image, drive) = (input.image.as_slice(), input.drive.as_slice());
-    let (plan, fault) = (&input.plan.plan, input.plan.fault.as_ref());
-    let (facts, trap) = run_facts(calibration, image, plan, drive, fault, steps);
+    let (facts, trap) = facts_with(calibration, input, steps);
     let name = input.plan.name.as_str();
     facts.summary(alloc, name, trap, reaction(calibration.times()))
+}
+
+/// Plays one run of the engine that it names, and tells its facts and its trap.
+fn facts_with(
+    calibration: &Calibration,
+    input: &RunInput,
+    steps: &mut Ticks,
+) -> (Facts, Option<(Trap, u32)>)
+    requires { IsPlayable input.now }
+    ensures told { IsToldOf (bench_of input.now.plan.engine) (run_with calibration.now input.now).run
+        result.0 result.1 }
+    ensures counted { steps.new ≡ count_after steps.old (run_with calibration.now input.now ∷ []) }
+{
+    match input.plan.engine {
+        EngineKind::Gasoline => facts_on::<GasolineEngine>(calibration, input, steps),
+        EngineKind::Diesel => facts_on::<DieselEngine>(calibration, input, steps),
+    }
+}
+
+/// The same of an engine of this type, whichever the run names.
+fn facts_on<E: BenchedEngine>(
+    calibration: &Calibration,
+    input: &RunInput,
+    steps: &mut Ticks,
+) -> (Facts, Option<(Trap, u32)>)
+    requires { IsPlayable input.now }
+    ensures told { IsToldOf E.bench (run_with calibration.now input.now).run result.0 result.1 }
+    ensures counted { IsCounted E.bench (run_with calibration.now input.now).run steps.old steps.new }
+{
+    let (image, drive) = (input.image.as_slice(), input.drive.as_slice());
+    let (plan, fault) = (&input.plan.plan, input.plan.fault.as_ref());
+    bench_facts::<E>(calibration, image, plan, drive, fault, steps)
 }

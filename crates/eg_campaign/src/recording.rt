@@ -1,16 +1,20 @@
 // The record of a run, written as its ticks are made.
-ghost use Rattle.std.specs.Prelude.{◌≡◌, [], ◌∷◌, OnOk, OnErr, IsErrOf};
+ghost use Rattle.std.specs.Prelude.{◌≡◌, [], ◌∷◌, reverse, OnOk, OnErr, IsErrOf};
 ghost use Rattle.eg_base.specs.Outside.{Rose, Appends, AppendsPrefix};
 ghost use Rattle.eg_record.specs.Texts.{row_line};
-ghost use Rattle.eg_campaign.specs.Plays.{IsPlayable, run_with, count_after};
-ghost use Rattle.eg_campaign.specs.Texts.{record_text};
+ghost use Rattle.eg_model.specs.Rows.{record_rows};
+ghost use Rattle.eg_campaign.specs.Plays.{IsPlayable, IsCounted, run_with, count_after};
+ghost use Rattle.eg_campaign.specs.Texts.{text_of, rows_in_time, record_text};
 ghost use Rattle.eg_campaign.specs.Recording.{IsStopped};
 ghost use Rattle.eg_campaign.specs.declared.recording.RecordStop.TheVariants.{Memory, Put};
 
 use crate::RunInput;
 use eg_base::{PutRefusal, Sink};
+use eg_diesel::DieselEngine;
+use eg_plan::EngineKind;
+use eg_plant::GasolineEngine;
 use eg_record::{Row, push_row, record_header};
-use eg_tick::{Ticks, bench_controller, bench_row};
+use eg_tick::{BenchedEngine, Ticks, bench_controller, bench_row};
 use eg_values::Calibration;
 use std::alloc::Global;
 
@@ -41,9 +45,42 @@ pub fn record_into<K: Sink>(
         (steps.new ≡ count_after steps.old (run_with calibration.now input.now ∷ [])) }
     ensures no_fault { OnOk result ((K.shows out.new).faults ≡ (K.shows out.old).faults) }
     // Where it is stopped a front is appended, and no tick is made before the line of the one before stands.
-    ensures stopped { OnErr result (IsStopped calibration.now input.now
+    ensures stopped { OnErr result (IsStopped (rows_in_time calibration.now input.now)
         (K.shows out.old) (K.shows out.new) steps.old steps.new) }
     // Put comes only where a fault of writing is counted, and Memory only where none is.
+    ensures cause { IsErrOf result Put → Rose (K.shows out.old).faults (K.shows out.new).faults }
+    ensures memory { IsErrOf result Memory → (K.shows out.new).faults ≡ (K.shows out.old).faults }
+    ensures stays_sure { (K.shows out.new).sure ≡ (K.shows out.old).sure }
+{
+    match input.plan.engine {
+        EngineKind::Gasoline => record_on::<GasolineEngine, K>(
+            alloc,
+            calibration,
+            input,
+            out,
+            steps,
+        ),
+        EngineKind::Diesel => record_on::<DieselEngine, K>(alloc, calibration, input, out, steps),
+    }
+}
+
+/// The same of an engine of this type, whichever the run names.
+fn record_on<E: BenchedEngine, K: Sink>(
+    alloc: Global,
+    calibration: &Calibration,
+    input: &RunInput,
+    out: &mut K,
+    steps: &mut Ticks,
+) -> Result<(), RecordStop>
+    requires { IsPlayable input.now }
+    ensures whole { OnOk result (Appends (K.shows out.old) (K.shows out.new)
+        (text_of (reverse (record_rows E.bench (run_with calibration.now input.now).run)))) }
+    ensures counted { OnOk result
+        (IsCounted E.bench (run_with calibration.now input.now).run steps.old steps.new) }
+    ensures no_fault { OnOk result ((K.shows out.new).faults ≡ (K.shows out.old).faults) }
+    ensures stopped { OnErr result
+        (IsStopped (reverse (record_rows E.bench (run_with calibration.now input.now).run))
+        (K.shows out.old) (K.shows out.new) steps.old steps.new) }
     ensures cause { IsErrOf result Put → Rose (K.shows out.old).faults (K.shows out.new).faults }
     ensures memory { IsErrOf result Memory → (K.shows out.new).faults ≡ (K.shows out.old).faults }
     ensures stays_sure { (K.shows out.new).sure ≡ (K.shows out.old).sure }
@@ -53,7 +90,7 @@ pub fn record_into<K: Sink>(
     let (image, drive) = (input.image.as_slice(), input.drive.as_slice());
     let (plan, fault) = (&input.plan.plan, input.plan.fault.as_ref());
     put_whole(record_header().as_bytes(), out)?;
-    let mut controller = bench_controller(calibration, image, fault);
+    let mut controller = bench_controller::<E>(calibration, image, fault);
     let mut line = Vec::new(alloc);
     for tick in 0..drive.len() {
         let row = bench_row(&mut controller, plan, &drive[tick], tick as u32, steps);

@@ -7,44 +7,64 @@ use Rattle.eg_record.specs.Detection.{first_detection, IsFirstDetection}
 use Rattle.eg_record.specs.Stages.{IsFirstOff, first_off}
 use Rattle.eg_record.specs.Summaries.{summary_of}
 use Rattle.eg_record.proofs.LawLemmas.{detection_law, off_law}
-use Rattle.eg_model.specs.Engines.{gasoline}
-use Rattle.eg_model.specs.Bench.{Run}
-use Rattle.eg_model.specs.Rows.{record_rows, report_of}
+use Rattle.eg_plant.specs.Keeping as of_gasoline
+use Rattle.eg_plant.specs.PlantParts.{PlantParts}
+use Rattle.eg_diesel.specs.Keeping as of_diesel
+use Rattle.eg_model.specs.Engines.{KeepsBenchLaws, ShowsOneLoad}
+use Rattle.eg_model.specs.Rows.{report_of}
 use Rattle.eg_model.specs.Records.{IsRun}
 use Rattle.eg_model.proofs.GasolineLaws.{gasoline_keeps, gasoline_shows_one_load}
+use Rattle.eg_model.proofs.DieselLaws.{diesel_keeps, diesel_shows_one_load}
 use Rattle.eg_model.proofs.RecordLaws.{records_react, records_react_at_once, records_cut_sharply, records_cut_from_onset, records_cut_lapses, records_have_short_lapses, records_test_unpowered, records_pass_tests}
 use Rattle.eg_model.proofs.PowerCycleLaws.{records_begin_in_turn}
 use Rattle.eg_model.proofs.WholeRecord.{are_rows}
-use Rattle.eg_campaign.specs.Plays.{IsPlayable, run_with}
+use Rattle.eg_plan.specs.declared.engine.EngineKind.{EngineKind}
+use Rattle.eg_plan.specs.declared.engine.EngineKind.TheVariants as kind
+use Rattle.eg_campaign.specs.Plays.{IsPlayable, EngineRun, state_of, bench_of, rows_of_run, report_of_run, run_with}
 use Rattle.eg_campaign.specs.declared.play.RunInput.{RunInput}
 use Rattle.eg_play.specs.Headline.{KeepsHeadline}
 
 -- ---- the headline ----
 
-detects : (r : Run) (name : List ℕ) → IsFirstDetection (record_rows gasoline r) (report_of gasoline name r).first
+detects : (r : EngineRun) (name : List ℕ) → IsFirstDetection (rows_of_run r) (report_of_run name r).first
 unfolding report_of summary_of
-detects r name = (detection_law (record_rows gasoline r) (are_rows gasoline r) (first_detection (record_rows gasoline r))).1 refl
+detects r name = (detection_law (rows_of_run r) (are_rows (bench_of r.engine) r.run) (first_detection (rows_of_run r))).1 refl
 
-tells_off : (r : Run) (name : List ℕ) → IsFirstOff (record_rows gasoline r) (report_of gasoline name r).off
+tells_off : (r : EngineRun) (name : List ℕ) → IsFirstOff (rows_of_run r) (report_of_run name r).off
 unfolding report_of summary_of
-tells_off r name = (off_law (record_rows gasoline r) (are_rows gasoline r) (first_off (record_rows gasoline r))).1 refl
+tells_off r name = (off_law (rows_of_run r) (are_rows (bench_of r.engine) r.run) (first_off (rows_of_run r))).1 refl
+
+-- what the states of an engine of either kind keep, and that they do
+abbrev kept_of : (engine : EngineKind) → PlantParts → state_of engine → Type 0
+kept_of kind.Gasoline = of_gasoline.IsKept
+kept_of kind.Diesel = of_diesel.IsKept
+
+keeps_of : (engine : EngineKind) → KeepsBenchLaws (bench_of engine) (kept_of engine)
+keeps_of kind.Gasoline = gasoline_keeps
+keeps_of kind.Diesel = diesel_keeps
+
+shows_one_load_of : (engine : EngineKind) → ShowsOneLoad (bench_of engine)
+shows_one_load_of kind.Gasoline = gasoline_shows_one_load
+shows_one_load_of kind.Diesel = diesel_shows_one_load
 
 -- a run by an accepted calibration, over a drive within its limits, without a fault or under a valid one, keeps
 -- it
-pub headline : (r : Run) → IsRun r → IsNoneOrValid r.setting.fault → KeepsHeadline r
-headline r run valid = record {
-  cycles = records_begin_in_turn gasoline r;
-  reacts = records_react gasoline_keeps r run;
-  at_once = records_react_at_once gasoline_keeps r run;
-  unpowered = records_test_unpowered gasoline r;
-  passes = records_pass_tests gasoline r run;
-  cuts = records_cut_sharply gasoline_keeps gasoline_shows_one_load r run;
-  from_onset = records_cut_from_onset gasoline r run valid;
-  lapses = records_cut_lapses gasoline_keeps r run valid;
-  short = records_have_short_lapses gasoline_keeps r run valid;
-  detects = detects r;
-  tells_off = tells_off r;
-}
+pub headline : (r : EngineRun) → IsRun r.run → IsNoneOrValid r.run.setting.fault → KeepsHeadline r
+headline r run valid =
+    let keeps = keeps_of r.engine in
+    record {
+      cycles = records_begin_in_turn (bench_of r.engine) r.run;
+      reacts = records_react keeps r.run run;
+      at_once = records_react_at_once keeps r.run run;
+      unpowered = records_test_unpowered (bench_of r.engine) r.run;
+      passes = records_pass_tests (bench_of r.engine) r.run run;
+      cuts = records_cut_sharply keeps (shows_one_load_of r.engine) r.run run;
+      from_onset = records_cut_from_onset (bench_of r.engine) r.run run valid;
+      lapses = records_cut_lapses keeps r.run run valid;
+      short = records_have_short_lapses keeps r.run run valid;
+      detects = detects r;
+      tells_off = tells_off r;
+    }
 
 -- the run of a playable input keeps it
 pub keeps_headline : (cal : CalibrationParts) → IsAccepted cal → (input : RunInput) → IsPlayable input → KeepsHeadline (run_with cal input)

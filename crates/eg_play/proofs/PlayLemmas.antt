@@ -5,15 +5,14 @@ use Rattle.eg_base.specs.Outside.{ShownSink, Appends, AppendsPrefix, Rose}
 use Rattle.eg_values.specs.Calibration.{CalibrationParts}
 use Rattle.eg_record.specs.Texts.{summary_line, report_end}
 use Rattle.eg_record.specs.declared.summary.Summary.{Summary}
-use Rattle.eg_model.specs.Bench.{Run}
 use Rattle.eg_tick.specs.Weights.{TickCount}
 use Rattle.eg_outcome.specs.Outcomes.{LineEnds}
 use Rattle.eg_outcome.specs.declared.outcome.Outcome.{Outcome}
 use Rattle.eg_outcome.specs.declared.outcome.Outcome.TheVariants as outcome
 use Rattle.eg_outcome.proofs.AppendLemmas.{Appends-nil}
-use Rattle.eg_campaign.specs.Plays.{run_with, report_with, ticks_of, count_after}
+use Rattle.eg_campaign.specs.Plays.{EngineRun, run_with, report_with, ticks_of, count_after}
 use Rattle.eg_campaign.specs.declared.play.RunInput.{RunInput}
-use Rattle.eg_campaign.specs.Texts.{record_text}
+use Rattle.eg_campaign.specs.Texts.{rows_in_time, record_text}
 use Rattle.eg_campaign.specs.Recording.{IsStopped}
 use Rattle.eg_play.specs.Texts.{report_text}
 use Rattle.eg_play.specs.Headline.{KeepsHeadline}
@@ -35,7 +34,7 @@ report_is cal inputs all is = ap (λ l. concat (map summary_line l) ++ report_en
 -- ---- what was put and counted ----
 
 -- all runs were counted, however the call ends
-ticked : (runs : List Run) (was is : TickCount) (o : Outcome) → is ≡ count_after was runs → AreTicked runs was is o
+ticked : (runs : List EngineRun) (was is : TickCount) (o : Outcome) → is ≡ count_after was runs → AreTicked runs was is o
 ticked runs was is outcome.Memory e = (ticks_of runs, least (ticks_of runs), ap (λ (k : TickCount). k.count) e)
   where
     least : (n : ℕ) → n ≤ n
@@ -47,7 +46,7 @@ ticked runs was is (outcome.ReadFault file) e = e
 ticked runs was is (outcome.Refused why) e = e
 
 -- memory ran out before anything was put
-pub no_memory : (text : List ℕ) (runs : List Run) (out : ShownSink) (was is : TickCount) (n : ℕ) → n ≤ ticks_of runs →
+pub no_memory : (text : List ℕ) (runs : List EngineRun) (out : ShownSink) (was is : TickCount) (n : ℕ) → n ≤ ticks_of runs →
     is.count ≡ (was.count + n) % 2 ^ 64 → All KeepsHeadline runs → Plays text runs out out was is outcome.Memory
 no_memory text runs out was is n most counted headline = record {
   written = (([], text, refl, Appends-nil out), refl);
@@ -56,7 +55,7 @@ no_memory text runs out was is n most counted headline = record {
 }
 
 -- the runs were played, and memory ran out before anything was put
-pub no_lines : (text : List ℕ) (runs : List Run) (out : ShownSink) (was is : TickCount) → is ≡ count_after was runs →
+pub no_lines : (text : List ℕ) (runs : List EngineRun) (out : ShownSink) (was is : TickCount) → is ≡ count_after was runs →
     All KeepsHeadline runs → Plays text runs out out was is outcome.Memory
 no_lines text runs out was is counted headline = record {
   written = (([], text, refl, Appends-nil out), refl);
@@ -65,7 +64,7 @@ no_lines text runs out was is counted headline = record {
 }
 
 -- they were played, and their lines were put
-pub put : (text : List ℕ) (runs : List Run) (out now : ShownSink) (was is : TickCount) (o : Outcome) → is ≡ count_after was runs →
+pub put : (text : List ℕ) (runs : List EngineRun) (out now : ShownSink) (was is : TickCount) (o : Outcome) → is ≡ count_after was runs →
     LineEnds text out now o → All KeepsHeadline runs → Plays text runs out now was is o
 put text runs out now was is o counted ends headline = record {
   written = ends;
@@ -85,12 +84,13 @@ recorded cal input out now was is put same counted headline = record {
 }
 
 -- it was stopped, so that a front of it was put
-stopped_front : (cal : CalibrationParts) (input : RunInput) (out now : ShownSink) (was is : TickCount) → IsStopped cal input out now was is →
+stopped_front : (cal : CalibrationParts) (input : RunInput) (out now : ShownSink) (was is : TickCount) → IsStopped (rows_in_time cal input) out now was is →
     AppendsPrefix out now (record_text cal input)
+unfolding record_text
 stopped_front cal input out now was is stopped = (stopped.front, stopped.rest, stopped.parts, stopped.appended)
 
 -- by a fault of writing,
-pub put_failed : (cal : CalibrationParts) (input : RunInput) (out now : ShownSink) (was is : TickCount) → IsStopped cal input out now was is →
+pub put_failed : (cal : CalibrationParts) (input : RunInput) (out now : ShownSink) (was is : TickCount) → IsStopped (rows_in_time cal input) out now was is →
     Rose out.faults now.faults → KeepsHeadline (run_with cal input) → Records cal input out now was is outcome.WriteFault
 put_failed cal input out now was is stopped rose headline = record {
   written = (stopped_front cal input out now was is stopped, rose);
@@ -99,7 +99,7 @@ put_failed cal input out now was is stopped rose headline = record {
 }
 
 -- or since memory ran out
-pub ran_out : (cal : CalibrationParts) (input : RunInput) (out now : ShownSink) (was is : TickCount) → IsStopped cal input out now was is →
+pub ran_out : (cal : CalibrationParts) (input : RunInput) (out now : ShownSink) (was is : TickCount) → IsStopped (rows_in_time cal input) out now was is →
     now.faults ≡ out.faults → KeepsHeadline (run_with cal input) → Records cal input out now was is outcome.Memory
 ran_out cal input out now was is stopped same headline = record {
   written = (stopped_front cal input out now was is stopped, same);

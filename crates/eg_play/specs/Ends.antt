@@ -4,7 +4,6 @@
 use Rattle.std.specs.Prelude.{◌≡◌, ℕ, ◌+◌, ◌-◌, ◌%◌, ◌^◌, ◌≤◌, List, [], ◌∷◌, map, All, Option, Some, None, option_map, Result, Ok, IsSome, slice_get, bytes_eq, if◌then◌else◌}
 use Rattle.eg_base.specs.Outside.{ShownStore, ShownSink}
 use Rattle.eg_values.specs.Calibration.{CalibrationParts}
-use Rattle.eg_model.specs.Bench.{Run}
 use Rattle.eg_tick.specs.Weights.{TickCount}
 use Rattle.eg_plan.specs.declared.run.RunPlan.{RunPlan}
 use Rattle.eg_campaign.specs.declared.play.RunInput.{RunInput}
@@ -20,8 +19,8 @@ use Rattle.eg_outcome.specs.declared.outcome.Role.TheVariants as role
 use Rattle.eg_play.specs.Files.{campaign_file}
 use Rattle.eg_play.specs.Inputs.{InputComes, InputsCome, FindsInput, AcceptsInput}
 use Rattle.eg_play.specs.Headline.{KeepsHeadline}
-use Rattle.eg_campaign.specs.Plays.{run_with, ticks_of, weights_of, count_after}
-use Rattle.eg_campaign.specs.Texts.{record_text}
+use Rattle.eg_campaign.specs.Plays.{EngineRun, run_with, ticks_of, weights_of, count_after}
+use Rattle.eg_campaign.specs.Texts.{rows_in_time, record_text}
 use Rattle.eg_campaign.specs.Recording.{IsStopped}
 use Rattle.eg_play.specs.Texts.{report_text}
 
@@ -29,7 +28,7 @@ use Rattle.eg_play.specs.Texts.{report_text}
 
 -- The ticks of these runs were made and counted, with the weights of the rows of their records; where memory
 -- ran out, no more than those ticks were counted.
-abbrev pub AreTicked : List Run → TickCount → TickCount → Outcome → Type 0
+abbrev pub AreTicked : List EngineRun → TickCount → TickCount → Outcome → Type 0
 AreTicked runs was is outcome.Memory =
     (n : ℕ) × (n ≤ ticks_of runs) × (is.count ≡ (was.count + n) % 2 ^ 64)
 AreTicked runs was is o = is ≡ record {
@@ -39,7 +38,7 @@ AreTicked runs was is o = is ≡ record {
 
 -- These runs were played, and this text on them was written: on Done all of it. The record of each run keeps
 -- the headline.
-pub record Plays (text : List ℕ) (runs : List Run) (out now : ShownSink) (was is : TickCount)
+pub record Plays (text : List ℕ) (runs : List EngineRun) (out now : ShownSink) (was is : TickCount)
     (o : Outcome) : Type 0 where
   pub written : LineEnds text out now o
   pub ticked : AreTicked runs was is o
@@ -72,7 +71,7 @@ RunsEnd cal plans store later out now was is o = (come : Result (List RunInput) 
 abbrev pub AreTickedInTurn : CalibrationParts → RunInput → ShownSink → ShownSink → TickCount → TickCount
     → Outcome → Type 0
 AreTickedInTurn cal input out now was is outcome.Done = is ≡ count_after was (run_with cal input ∷ [])
-AreTickedInTurn cal input out now was is o = IsStopped cal input out now was is
+AreTickedInTurn cal input out now was is o = IsStopped (rows_in_time cal input) out now was is
 
 -- A run was played, and its record was written as its ticks were made: on Done all of it. The record keeps
 -- the headline.

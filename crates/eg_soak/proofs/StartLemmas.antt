@@ -37,7 +37,7 @@ stretches-no_reset (suc n) x =
     All-append NoReset (replicate 100 (stretch_row x)) (stretches n (after 3 x))
     (All-replicate NoReset 100 (stretch_row x) (row-no_reset x)) (stretches-no_reset n (after 3 x))
 
-drive-no_reset : (x : ℕ) → All NoReset (run_drawn (drawn_run x)).drive
+drive-no_reset : (x : ℕ) → All NoReset (run_drawn (drawn_run x)).run.drive
 unfolding drawn_run trace_of
 drive-no_reset x = stretches-no_reset 20 _
 
@@ -63,7 +63,7 @@ other_first rows none = other_than_start (first_detection rows) (first_detection
 
 run-other_first : (x : ℕ) → is_first Start (facts_of (run_drawn (drawn_run x))) ≡ false
 unfolding is_first facts_of facts_in record_facts facts_of_rows
-run-other_first x = other_first (record_rows gasoline (run_drawn (drawn_run x))) (finds_no_start gasoline (run_drawn (drawn_run x)) (drive-no_reset x))
+run-other_first x = other_first (record_rows gasoline (run_drawn (drawn_run x)).run) (finds_no_start gasoline (run_drawn (drawn_run x)).run (drive-no_reset x))
 
 pub drawn_never_start : (n x : ℕ) → NeverStart (map facts_of (drawn_runs n x))
 unfolding drawn_runs

@@ -3,10 +3,9 @@ use Rattle.std.specs.Prelude.{ℕ, ◌+◌, ◌-◌, ◌==◌, Bool, false, nat_
 use Rattle.eg_record.specs.declared.facts.Facts.{Facts}
 use Rattle.eg_record.specs.declared.watch.Watch.{Watch}
 use Rattle.eg_record.specs.Detection.{rank}
-use Rattle.eg_model.specs.Engines.{gasoline}
-use Rattle.eg_model.specs.Bench.{Run}
 use Rattle.eg_model.specs.Rows.{record_trap}
 use Rattle.eg_tick.specs.Facts.{record_facts}
+use Rattle.eg_campaign.specs.Plays.{EngineRun, bench_of}
 use Rattle.eg_soak.specs.declared.facts.RunFacts.{RunFacts}
 
 -- the tick after the last one at which the stages are on, and 0 where they are never on
@@ -31,8 +30,9 @@ facts_in facts is_trapped = record {
 }
 
 -- what counts of a run
-unfoldable pub facts_of : Run → RunFacts
-facts_of r = facts_in (record_facts r) (is_some (record_trap gasoline r))
+unfoldable pub facts_of : EngineRun → RunFacts
+facts_of r =
+    let b = bench_of r.engine in facts_in (record_facts b r.run) (is_some (record_trap b r.run))
 
 -- a watch, if any, is this one
 unfoldable pub is_watch : Watch → Option Watch → Bool

@@ -7,19 +7,27 @@ use Rattle.eg_record.specs.declared.watch.Watch.TheVariants.{Mirror, Pedal, Plat
 use Rattle.eg_model.specs.Bench.{Run}
 use Rattle.eg_tick.specs.Run.{run_by}
 use Rattle.eg_plan.specs.Contents.{usual_slices}
+use Rattle.eg_plan.specs.declared.engine.EngineKind.TheVariants as kind
+use Rattle.eg_campaign.specs.Plays.{EngineRun}
 use Rattle.eg_draw.specs.declared.runs.DrawnRun.{DrawnRun}
 use Rattle.eg_draw.specs.Runs.{drawn_run, state_after}
 use Rattle.eg_soak.specs.declared.facts.RunFacts.{RunFacts}
 use Rattle.eg_soak.specs.declared.summary.SoakSummary.{SoakSummary}
 use Rattle.eg_soak.specs.Facts.{facts_of, is_first}
 
--- the run of what was drawn: by the reference calibration, with 100 instructions in each slice
-abbrev pub run_drawn : DrawnRun → Run
-run_drawn drawn = run_by reference_parts drawn.image drawn.fault usual_slices drawn.drive
+-- a run of the gasoline engine
+abbrev pub on_gasoline : Run → EngineRun
+on_gasoline run = record { engine = kind.Gasoline; run = run }
+
+-- the run of what was drawn: of the gasoline engine, by the reference calibration, with 100 instructions in
+-- each slice
+abbrev pub run_drawn : DrawnRun → EngineRun
+run_drawn drawn =
+    on_gasoline (run_by reference_parts drawn.image drawn.fault usual_slices drawn.drive)
 
 -- So many runs in their order, the first of them drawn in state x. The draws of each go on from where those
 -- of the one before it ended.
-unfoldable pub drawn_runs : (count x : ℕ) → List Run
+unfoldable pub drawn_runs : (count x : ℕ) → List EngineRun
 drawn_runs zero x = []
 drawn_runs (suc count) x = run_drawn (drawn_run x) ∷ drawn_runs count (state_after x)
 
@@ -39,5 +47,5 @@ summary_of all = record {
 }
 
 -- the summary of runs
-unfoldable pub soak_of : List Run → SoakSummary
+unfoldable pub soak_of : List EngineRun → SoakSummary
 soak_of runs = summary_of (map facts_of runs)

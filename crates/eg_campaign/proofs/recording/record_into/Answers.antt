@@ -1,73 +1,53 @@
-use Rattle.std.proofs.Common.{◌≡◌, ◌∙◌, refl, sym, subst, ◌<◌, length, arith}
-use Rattle.eg_model.specs.Bench.{Run, drive_at}
-use Rattle.eg_tick.specs.Run.{IsAt}
-use Rattle.eg_tick.proofs.RunLemmas.{drive-at, on_err}
-use Rattle.eg_campaign.specs.Plays.{run_with}
-use Rattle.eg_campaign.proofs.PlayLemmas.{same_run}
-use Rattle.eg_campaign.proofs.RecordLemmas.{has_header, has_more, all_written, all_counted, stopped_at_header, stopped_at_line}
+use Rattle.std.proofs.Common.{sym, subst}
+use Rattle.std.specs.Prelude.{OnOk, OnErr, reverse}
+use Rattle.eg_base.specs.Outside.{Appends}
+use Rattle.eg_model.specs.Rows.{record_rows}
+use Rattle.eg_campaign.specs.Plays.{bench_of, run_with, IsCounted}
+use Rattle.eg_campaign.specs.Texts.{rows_in_time, text_of, record_text}
+use Rattle.eg_campaign.specs.Recording.{IsStopped}
+use Rattle.eg_campaign.proofs.PlayLemmas.{counted_run, if_on_ok}
 use Rattle.eg_campaign.proofs.recording.record_into.Goals as goal
 
-pub returns-in_err-put_whole-clause-stopped : goal.returns-in_err-put_whole-clause-stopped
-returns-in_err-put_whole-clause-stopped g c =
+pub returns-in-Gasoline-clause-whole : goal.returns-in-Gasoline-clause-whole
+unfolding record_text rows_in_time
+returns-in-Gasoline-clause-whole g c =
     let shows = g.K.Sink.shows in
-    on_err _ c.from_residual.result
-    (stopped_at_header c.args.calibration.now c.args.input.now (shows c.args.out.now) (shows c.put_whole.new.out) c.args.steps.now c.as_bytes.result.now
-    (c.as_bytes.ensures.value ∙ c.record_header.ensures) c.in_err-put_whole.ensures.prefix
-    (let e = c.count.ensures in let l = c.count.type_inv in subst (λ n. n < 18446744073709551616) e l)
-    (let e = c.sum.ensures in let l = c.sum.type_inv in subst (λ n. n < 18446744073709551616) e l))
+    let r = run_with c.args.calibration.now c.args.input.now in
+    subst (λ engine. OnOk c.record_on.result (Appends (shows c.args.out.now) (shows c.record_on.new.out) (text_of (reverse (record_rows (bench_of engine) r.run)))))
+    (sym c.in-Gasoline.is) c.record_on.ensures.whole
 
-pub loop-tick-init : goal.loop-tick-init
-loop-tick-init g c =
-    let shows = g.K.Sink.shows in
-    record {
-      ticks = c.bench_controller-controller.ensures.ticks;
-      sure = c.bench_controller-controller.ensures.sure;
-      at = subst (λ (r : Run). IsAt r 0 c.bench_controller-controller.result)
-          (same_run _ _ _ _ _ _ _ _ _ _ refl c.as_slice-image.ensures c.as_ref-fault.ensures.value refl refl)
-          (c.bench_controller-controller.ensures.at c.args.input.now.plan.plan c.args.input.now.drive);
-      written = has_header (run_with c.args.calibration.now c.args.input.now) (shows c.args.out.now) (shows c.put_whole.new.out) c.args.steps.now c.as_bytes.result.now
-          (c.as_bytes.ensures.value ∙ c.record_header.ensures) c.in_ok-put_whole.ensures.ok c.in_ok-put_whole.ensures.no_fault c.in_ok-put_whole.ensures.stays_sure
-          (let e = c.count.ensures in let l = c.count.type_inv in subst (λ n. n < 18446744073709551616) e l)
-          (let e = c.sum.ensures in let l = c.sum.type_inv in subst (λ n. n < 18446744073709551616) e l);
-    }
+pub returns-in-Gasoline-clause-counted : goal.returns-in-Gasoline-clause-counted
+returns-in-Gasoline-clause-counted g c =
+    let r = run_with c.args.calibration.now c.args.input.now in
+    if_on_ok _ _ c.record_on.result (counted_run c.args.steps.now c.record_on.new.steps r)
+    (subst (λ engine. OnOk c.record_on.result (IsCounted (bench_of engine) r.run c.args.steps.now c.record_on.new.steps)) (sym c.in-Gasoline.is) c.record_on.ensures.counted)
 
-pub returns-in_err-put_row-clause-stopped : goal.returns-in_err-put_row-clause-stopped
-returns-in_err-put_row-clause-stopped g c =
+pub returns-in-Gasoline-clause-stopped : goal.returns-in-Gasoline-clause-stopped
+unfolding rows_in_time
+returns-in-Gasoline-clause-stopped g c =
     let shows = g.K.Sink.shows in
-    let r : Run = run_with c.args.calibration.now c.args.input.now in
-    let drive : drive_at r c.loop-tick.tick ≡ c.index-drive-tick.result =
-    drive-at r c.as_slice-drive.result.now c.loop-tick.tick _ (sym c.as_slice-drive.ensures) c.loop-tick-test.true c.index-drive-tick.is in
-    let within : c.loop-tick.tick < length c.args.input.now.drive = subst (λ d. c.loop-tick.tick < length d) c.as_slice-drive.ensures c.loop-tick-test.true in
-    on_err _ c.from_residual-in_err-put_row.result
-    (stopped_at_line c.args.calibration.now c.args.input.now c.loop-tick.tick (shows c.args.out.now) (shows c.loop-tick.out) (shows c.put_row.new.out)
-    c.args.steps.now c.loop-tick.steps c.bench_row-row.new.steps c.bench_row-row.result within (c.bench_row-row.ensures.row r refl drive c.loop-tick.invariant.at)
-    c.loop-tick.invariant.written c.in_err-put_row.ensures.prefix c.bench_row-row.ensures.count c.bench_row-row.ensures.weight)
+    let r = run_with c.args.calibration.now c.args.input.now in
+    subst (λ engine. OnErr c.record_on.result (IsStopped (reverse (record_rows (bench_of engine) r.run)) (shows c.args.out.now) (shows c.record_on.new.out)
+    c.args.steps.now c.record_on.new.steps)) (sym c.in-Gasoline.is) c.record_on.ensures.stopped
 
-pub loop-tick-preserved : goal.loop-tick-preserved
-loop-tick-preserved g c =
+pub returns-in-Diesel-clause-whole : goal.returns-in-Diesel-clause-whole
+unfolding record_text rows_in_time
+returns-in-Diesel-clause-whole g c =
     let shows = g.K.Sink.shows in
-    let r : Run = run_with c.args.calibration.now c.args.input.now in
-    let drive : drive_at r c.loop-tick.tick ≡ c.index-drive-tick.result =
-    drive-at r c.as_slice-drive.result.now c.loop-tick.tick _ (sym c.as_slice-drive.ensures) c.loop-tick-test.true c.index-drive-tick.is in
-    record {
-      ticks = c.bench_row-row.ensures.ticks;
-      sure = c.bench_row-row.ensures.stays_sure;
-      at = c.bench_row-row.ensures.at r refl drive c.loop-tick.invariant.at;
-      written = has_more r c.loop-tick.tick (shows c.args.out.now) (shows c.loop-tick.out) (shows c.put_row.new.out) c.args.steps.now c.loop-tick.steps c.bench_row-row.new.steps
-          c.bench_row-row.result (c.bench_row-row.ensures.row r refl drive c.loop-tick.invariant.at) c.loop-tick.invariant.written
-          c.in_ok-put_row.ensures.ok c.in_ok-put_row.ensures.no_fault c.in_ok-put_row.ensures.stays_sure c.bench_row-row.ensures.count c.bench_row-row.ensures.weight;
-    }
+    let r = run_with c.args.calibration.now c.args.input.now in
+    subst (λ engine. OnOk c.record_on-in-Diesel.result (Appends (shows c.args.out.now) (shows c.record_on-in-Diesel.new.out) (text_of (reverse (record_rows (bench_of engine) r.run)))))
+    (sym c.in-Diesel.is) c.record_on-in-Diesel.ensures.whole
 
-pub returns-clause-whole : goal.returns-clause-whole
-returns-clause-whole g c =
-    let shows = g.K.Sink.shows in
-    let end : c.loop-tick.tick ≡ length c.as_slice-drive.result.now = omega (arith, c.loop-tick-test.false, c.loop-tick.auto.tick-end) in
-    all_written c.args.calibration.now c.args.input.now c.loop-tick.tick (shows c.args.out.now) (shows c.loop-tick.out) c.args.steps.now c.loop-tick.steps
-    (subst (λ d. c.loop-tick.tick ≡ length d) c.as_slice-drive.ensures end) c.loop-tick.invariant.written
+pub returns-in-Diesel-clause-counted : goal.returns-in-Diesel-clause-counted
+returns-in-Diesel-clause-counted g c =
+    let r = run_with c.args.calibration.now c.args.input.now in
+    if_on_ok _ _ c.record_on-in-Diesel.result (counted_run c.args.steps.now c.record_on-in-Diesel.new.steps r)
+    (subst (λ engine. OnOk c.record_on-in-Diesel.result (IsCounted (bench_of engine) r.run c.args.steps.now c.record_on-in-Diesel.new.steps)) (sym c.in-Diesel.is) c.record_on-in-Diesel.ensures.counted)
 
-pub returns-clause-counted : goal.returns-clause-counted
-returns-clause-counted g c =
+pub returns-in-Diesel-clause-stopped : goal.returns-in-Diesel-clause-stopped
+unfolding rows_in_time
+returns-in-Diesel-clause-stopped g c =
     let shows = g.K.Sink.shows in
-    let end : c.loop-tick.tick ≡ length c.as_slice-drive.result.now = omega (arith, c.loop-tick-test.false, c.loop-tick.auto.tick-end) in
-    all_counted c.args.calibration.now c.args.input.now c.loop-tick.tick (shows c.args.out.now) (shows c.loop-tick.out) c.args.steps.now c.loop-tick.steps
-    (subst (λ d. c.loop-tick.tick ≡ length d) c.as_slice-drive.ensures end) c.loop-tick.invariant.written
+    let r = run_with c.args.calibration.now c.args.input.now in
+    subst (λ engine. OnErr c.record_on-in-Diesel.result (IsStopped (reverse (record_rows (bench_of engine) r.run)) (shows c.args.out.now) (shows c.record_on-in-Diesel.new.out)
+    c.args.steps.now c.record_on-in-Diesel.new.steps)) (sym c.in-Diesel.is) c.record_on-in-Diesel.ensures.stopped

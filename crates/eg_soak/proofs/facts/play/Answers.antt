@@ -2,13 +2,12 @@ use Rattle.std.proofs.Common.{◌≡◌, ◌∙◌, sym, ap, subst, [], ◌∷�
 use Rattle.std.specs.Prelude.{is_some}
 use Rattle.std.specs.Option.{option_copied}
 use Rattle.eg_fault.specs.Faults.{IsNoneOrValid}
-use Rattle.eg_model.specs.Bench.{Run}
 use Rattle.eg_tick.specs.Facts.{record_facts}
 use Rattle.eg_tick.specs.Run.{run_by}
-use Rattle.eg_campaign.specs.Plays.{count_after}
+use Rattle.eg_campaign.specs.Plays.{EngineRun, count_after}
 use Rattle.eg_campaign.proofs.PlayLemmas.{same_run}
 use Rattle.eg_soak.specs.Facts.{facts_of}
-use Rattle.eg_soak.specs.Soak.{run_drawn}
+use Rattle.eg_soak.specs.Soak.{on_gasoline, run_drawn}
 use Rattle.eg_campaign.proofs.PlayLemmas.{counted_run}
 use Rattle.eg_soak.proofs.FactsLemmas.{any_fault, facts_told}
 use Rattle.eg_soak.proofs.facts.play.Goals as goal
@@ -19,16 +18,16 @@ run_facts-trap-requires-clause-fault c =
     subst IsNoneOrValid (sym c.as_ref-fault.ensures.value) (any_fault c.args.drawn.now.fault c.requires.drawn.valid)
 
 -- the run that is played is the one that was drawn
-abbrev played : After-of → Run
-played c = run_by c.args.calibration.now c.as_slice-image.result.now (option_copied c.as_ref-fault.result) c.usual_slices-plan.result c.as_slice-drive.result.now
+abbrev played : After-of → EngineRun
+played c = on_gasoline (run_by c.args.calibration.now c.as_slice-image.result.now (option_copied c.as_ref-fault.result) c.usual_slices-plan.result c.as_slice-drive.result.now)
 
 is_drawn : (c : After-of) → played c ≡ run_drawn c.args.drawn.now
-is_drawn c = same_run _ _ _ _ _ _ _ _ _ _ c.requires.calibration c.as_slice-image.ensures c.as_ref-fault.ensures.value c.usual_slices-plan.ensures c.as_slice-drive.ensures
+is_drawn c = ap on_gasoline (same_run _ _ _ _ _ _ _ _ _ _ c.requires.calibration c.as_slice-image.ensures c.as_ref-fault.ensures.value c.usual_slices-plan.ensures c.as_slice-drive.ensures)
 
 pub returns-clause-facts : goal.returns-clause-facts
 unfolding record_facts
 returns-clause-facts c = c.of.ensures
-    ∙ facts_told (played c) _ _ c.run_facts-trap.ensures.facts (c.is_some.ensures ∙ ap is_some c.run_facts-trap.ensures.trap)
+    ∙ facts_told (played c).run _ _ c.run_facts-trap.ensures.facts (c.is_some.ensures ∙ ap is_some c.run_facts-trap.ensures.trap)
     ∙ ap facts_of (is_drawn c)
 
 pub returns-clause-counted : goal.returns-clause-counted
