@@ -3,6 +3,7 @@
 use std::collections::HashSet;
 use std::str;
 
+use crate::engine::Kind;
 use crate::fault::{Class, Fault};
 use crate::keys::{Keys, number, numbers, tables, truth};
 use crate::toml::{self, Table, Value};
@@ -13,6 +14,7 @@ pub struct Plan {
     pub trace: String,
     pub image: String,
     pub slices: Vec<[u16; 9]>,
+    pub engine: Kind,
     pub fault: Option<Fault>,
 }
 
@@ -53,6 +55,15 @@ impl Keys {
             return Some(vec![[100; 9]]);
         }
         self.entries("slices", slice_row)
+    }
+
+    fn engine(&mut self) -> Option<Kind> {
+        match self.take("engine") {
+            None => Some(Kind::Gasoline),
+            Some(Value::Text(name)) if name == "gasoline" => Some(Kind::Gasoline),
+            Some(Value::Text(name)) if name == "diesel" => Some(Kind::Diesel),
+            Some(_) => None,
+        }
     }
 
     fn fault(&mut self) -> Option<Option<Fault>> {
@@ -122,6 +133,7 @@ fn plan(table: Table) -> Option<Plan> {
         trace: keys.file("trace")?,
         image: keys.file("image")?,
         slices: keys.slices()?,
+        engine: keys.engine()?,
         fault: keys.fault()?,
     };
     keys.end()?;

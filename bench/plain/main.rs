@@ -9,6 +9,7 @@
 mod calibration;
 mod calibration_file;
 mod campaign;
+mod engine;
 mod fault;
 mod files;
 mod keys;
@@ -89,7 +90,7 @@ fn image(plan: &Plan) -> Result<Vec<u16>, End> {
 }
 
 fn run_of<'a>(plan: &'a Plan, drives: &'a [Drive], image: &'a [u16]) -> Run<'a> {
-    Run { image, drives, plan: &plan.slices, fault: plan.fault.as_ref() }
+    Run { image, drives, plan: &plan.slices, fault: plan.fault.as_ref(), engine: plan.engine }
 }
 
 const MOST_TICKS: usize = 1_000_000;

@@ -3,6 +3,7 @@
 use std::fmt::Write;
 
 use crate::calibration::{Calibration, Drive};
+use crate::engine::Kind;
 use crate::fault::{Class, Fault};
 use crate::level2::WATCHES;
 use crate::report::{Summary, summary};
@@ -144,7 +145,8 @@ pub fn soak(cal: &Calibration, seed: u32, runs: u32) -> String {
     let mut counts = Counts::default();
     for _ in 0..runs {
         let Drawn { image, drives, fault } = draws.run();
-        let run = Run { image: &image, drives: &drives, plan: &slices, fault: fault.as_ref() };
+        let engine = Kind::Gasoline;
+        let run = Run { image: &image, drives: &drives, plan: &slices, fault: fault.as_ref(), engine };
         counts.add(&summary(cal, &run));
     }
     counts.text(runs)

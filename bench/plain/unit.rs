@@ -1,66 +1,48 @@
 //! The unit: a tick of all three levels and the engine.
 
-use crate::calibration::{Calibration, Drive, Question, moved_toward};
+use crate::calibration::{Calibration, Drive, Question};
+use crate::engine::{Diesel, Engine, Gasoline, Kind, Shown};
 use crate::fault::{Effects, Fault, Reading};
 use crate::level1::{Machine, State, Trap, Words};
 use crate::level2::{self, DATA, IGNITION, Known, PORTS, Rules, SIGNALS, THROTTLE, Watches};
 use crate::level3::{self, Judgement, Mark, Monitor};
 
-struct Engine {
-    plate: u16,
-    charge: u16,
-    torque: u16,
+/// The ten tracks: those of the pairs, and the contacts of the brake.
+#[inline(always)]
+fn tracks(shown: &Shown, drive: &Drive, effects: &Effects) -> [u16; 10] {
+    let (pedal, position, load, speed) = (drive.pedal, shown.position, shown.load, drive.speed);
+    let brake = u16::from(drive.brake);
+    let mut tracks =
+        [pedal, 1000 - pedal, position, 1000 - position, load, load, speed, speed, brake, 1 - brake];
+    match effects.track {
+        None => {}
+        Some((track, Reading::Value(value))) => tracks[track] = value,
+        Some((track, Reading::Offset(add))) => {
+            tracks[track] = (i32::from(tracks[track]) + add).clamp(0, 65535) as u16;
+        }
+    }
+    tracks
 }
 
-impl Engine {
-    /// One step; a plate that is held has that angle.
-    #[inline(always)]
-    fn step(&mut self, cal: &Calibration, commands: [u16; 2], on: bool, held: Option<u16>) {
-        let [throttle, ignition] = commands.map(|command| command.min(1000));
-        let filled = cal.charge.at(self.plate);
-        let target = if on { throttle } else { 0 };
-        self.plate = held.unwrap_or(moved_toward(self.plate, target, cal.slew));
-        self.charge = moved_toward(self.charge, filled, cal.fill);
-        let full = u64::from(self.charge) * u64::from(cal.kt);
-        self.torque = if on { (full * u64::from(ignition) / 1_000_000) as u16 } else { 0 };
+/// The ten input ports: the tracks of the pairs, the raise and its check word. Where the brake counts, and a
+/// contact says that it is pressed, pedal and raise are 0.
+#[inline(always)]
+fn ports(cal: &Calibration, shown: &Shown, drive: &Drive, effects: &Effects) -> [u16; 10] {
+    let mut ports = tracks(shown, drive, effects);
+    let [first, second] = [ports[8], ports[9]];
+    (ports[8], ports[9]) = (drive.raise ^ effects.raise, !drive.raise);
+    if cal.brake && (first != 0 || second == 0) {
+        (ports[0], ports[1]) = (0, 1000);
+        (ports[8], ports[9]) = (0, !0);
     }
-
-    /// The ten tracks: those of the pairs, and the contacts of the brake.
-    #[inline(always)]
-    fn tracks(&self, drive: &Drive, effects: &Effects) -> [u16; 10] {
-        let (pedal, plate, load, speed) = (drive.pedal, self.plate, self.charge, drive.speed);
-        let brake = u16::from(drive.brake);
-        let mut tracks =
-            [pedal, 1000 - pedal, plate, 1000 - plate, load, load, speed, speed, brake, 1 - brake];
-        match effects.track {
-            None => {}
-            Some((track, Reading::Value(value))) => tracks[track] = value,
-            Some((track, Reading::Offset(add))) => {
-                tracks[track] = (i32::from(tracks[track]) + add).clamp(0, 65535) as u16;
-            }
-        }
-        tracks
-    }
-
-    /// The ten input ports: the tracks of the pairs, the raise and its check word. Where the brake counts, and a
-    /// contact says that it is pressed, pedal and raise are 0.
-    #[inline(always)]
-    fn ports(&self, cal: &Calibration, drive: &Drive, effects: &Effects) -> [u16; 10] {
-        let mut ports = self.tracks(drive, effects);
-        let [first, second] = [ports[8], ports[9]];
-        (ports[8], ports[9]) = (drive.raise ^ effects.raise, !drive.raise);
-        if cal.brake && (first != 0 || second == 0) {
-            (ports[0], ports[1]) = (0, 1000);
-            (ports[8], ports[9]) = (0, !0);
-        }
-        ports
-    }
+    ports
 }
 
 /// A row of the record.
 pub struct Row {
     pub tick: u32,
     pub drive: Drive,
+    /// Of a diesel engine the rack and the quantity.
     pub plate: u16,
     pub charge: u16,
     pub torque: u16,
@@ -86,11 +68,11 @@ struct Orders {
     answer: Option<u32>,
 }
 
-pub struct Unit<'a> {
+pub struct Unit<'a, E> {
     cal: &'a Calibration,
     words: Words,
     machine: Machine,
-    engine: Engine,
+    engine: E,
     monitor: Monitor,
     /// The tick of the run.
     ticks: u32,
@@ -108,8 +90,8 @@ pub struct Unit<'a> {
     trap: Option<(Trap, u32)>,
 }
 
-impl<'a> Unit<'a> {
-    fn new(cal: &'a Calibration, image: &[u16]) -> Unit<'a> {
+impl<'a, E: Engine> Unit<'a, E> {
+    fn new(cal: &'a Calibration, image: &[u16]) -> Unit<'a, E> {
         let mut words = [0; 4096];
         words[..image.len()].copy_from_slice(image);
         level2::reset(&mut words);
@@ -117,7 +99,7 @@ impl<'a> Unit<'a> {
             cal,
             words,
             machine: Machine::new(image),
-            engine: Engine { plate: 0, charge: cal.charge.at(0), torque: 0 },
+            engine: E::at_rest(cal),
             monitor: Monitor::default(),
             ticks: 0,
             local: 0,
@@ -172,7 +154,8 @@ impl<'a> Unit<'a> {
         let on = DRIVES && path1 && path2;
         let commands = [self.words[THROTTLE], self.words[IGNITION]];
         self.engine.step(self.cal, commands, on, effects.held);
-        self.words[PORTS..PORTS + 10].copy_from_slice(&self.engine.ports(self.cal, drive, effects));
+        let shown = self.engine.shown();
+        self.words[PORTS..PORTS + 10].copy_from_slice(&ports(self.cal, &shown, drive, effects));
         let asked = self.asked(effects);
         let brakes = self.cal.brake && drive.brake;
         let known = self.known(if brakes { 0 } else { drive.pedal }, drive.speed);
@@ -281,15 +264,15 @@ impl<'a> Unit<'a> {
     /// The row, where no test is running; the paths are path 1, path 2, and whether the stages are on.
     #[inline(always)]
     fn row(&self, drive: &Drive, limit: u16, paths: [bool; 3], found: Watches, judged: &Judgement) -> Row {
-        let words = &self.words;
+        let (shown, words) = (self.engine.shown(), &self.words);
         let mut signals = [0; 5];
         signals.copy_from_slice(&words[SIGNALS..SIGNALS + 5]);
         Row {
             tick: self.ticks,
             drive: *drive,
-            plate: self.engine.plate,
-            charge: self.engine.charge,
-            torque: self.engine.torque,
+            plate: shown.position,
+            charge: shown.load,
+            torque: shown.torque,
             limit,
             path1: paths[0],
             path2: paths[1],
@@ -328,11 +311,19 @@ pub struct Run<'a> {
     /// The slices, used in turn.
     pub plan: &'a [[u16; 9]],
     pub fault: Option<&'a Fault>,
+    pub engine: Kind,
 }
 
 /// Plays a run, and shows each row. Answers level 1's trap and its tick.
-pub fn play(cal: &Calibration, run: &Run, mut show: impl FnMut(&Row)) -> Option<(Trap, u32)> {
-    let mut unit = Unit::new(cal, run.image);
+pub fn play(cal: &Calibration, run: &Run, show: impl FnMut(&Row)) -> Option<(Trap, u32)> {
+    match run.engine {
+        Kind::Gasoline => play_by::<Gasoline>(cal, run, show),
+        Kind::Diesel => play_by::<Diesel>(cal, run, show),
+    }
+}
+
+fn play_by<E: Engine>(cal: &Calibration, run: &Run, mut show: impl FnMut(&Row)) -> Option<(Trap, u32)> {
+    let mut unit: Unit<E> = Unit::new(cal, run.image);
     let budgets = run.plan.iter().cycle();
     match run.fault {
         None => {
