@@ -1,10 +1,28 @@
--- Where the writing of a record was stopped, worked out.
+-- What the kind of an engine means, and where the writing of a record was stopped, worked out.
 use Rattle.std.proofs.Common.{◌≡◌, ◌∙◌, refl, ap, List, ℕ, [], ◌∷◌, ◌++◌, ◌+◌, length, length-append, arith}
-use Rattle.std.specs.Prelude.{codes}
+use Rattle.std.specs.Prelude.{codes, Some, None}
 use Rattle.eg_record.specs.declared.row.Row.{Row}
+use Rattle.eg_record.specs.declared.watch.Watch.TheVariants as found
 use Rattle.eg_record.specs.Texts.{record_header}
+use Rattle.eg_diesel.specs.Diesel.{at_rest, next_boost, quantity_of, diesel_step}
+use Rattle.eg_model.specs.Engines.{diesel}
+use Rattle.eg_model.specs.Examples.{full, bench_run, reported}
+use Rattle.eg_model.proofs.WholeModel.{whole_model}
+use Rattle.eg_plan.specs.declared.engine.EngineKind.TheVariants as kind
+use Rattle.eg_campaign.specs.Plays.{report_of_run}
 use Rattle.eg_campaign.specs.Texts.{text_of}
 use Rattle.eg_campaign.specs.Recording.{HasLines}
+
+-- what is told of the same run of each engine
+gasoline_report : report_of_run (codes "a") (record { engine = kind.Gasoline; run = bench_run full None 20 })
+    ≡ reported (Some (found.Torque, 9)) (Some 10) None (Some 9)
+unfolding whole_model
+gasoline_report = refl
+
+diesel_report : report_of_run (codes "a") (record { engine = kind.Diesel; run = bench_run full None 20 })
+    ≡ reported (Some (found.Torque, 8)) (Some 9) None (Some 8)
+unfolding whole_model at_rest next_boost quantity_of diesel_step diesel
+diesel_report = refl
 
 -- three ticks were made: the lines of two of them stand whole, and a part of the third
 three_ticks : (a b c : Row) → HasLines 3 (a ∷ b ∷ c ∷ []) (text_of (a ∷ b ∷ []) ++ codes "2,0,8")

@@ -30,7 +30,7 @@ pub record IsPlayable (input : RunInput) : Type 0 where
 
 -- ---- runs of either engine ----
 
--- the engine of the model of each kind, and its states
+-- the states of an engine of this kind in the model, and that engine
 abbrev pub state_of : EngineKind → Type 0
 state_of kind.Gasoline = Gasoline
 state_of kind.Diesel = Diesel

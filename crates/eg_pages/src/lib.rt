@@ -1,5 +1,5 @@
 //! A guarded memory in pages: a copy of it shares its pages, and a page is copied where it is written while
-//! it is shared. So a copy is cheap, and memories that differ little share what is the same.
+//! it is shared. So a copy is meant to be cheap, and memories that differ little to share what is the same.
 #![tactic(auto)]
 
 mod page;

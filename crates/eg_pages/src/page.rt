@@ -50,7 +50,7 @@ pub(crate) fn word_at(pages: &SharedPages, address: u16) -> u16
     page[usize::from(address % PAGE_WORDS)]
 }
 
-/// Puts a word at an address. NoMemory comes only where its page is shared, and changes nothing.
+/// Puts a word at an address. NoMemory, which is meant for a page that is shared, changes nothing.
 #[inline]
 pub(crate) fn put_at(
     pages: &mut SharedPages,

@@ -8,9 +8,9 @@ use eg_guard::{CopyMemory, Guarded, Refused, StoreRefusal, WORDS, Who, access};
 use std::alloc::Global;
 use std::marker::Model;
 
-/// A guarded memory in pages of 64 words, which a copy shares with it until one of the two is written. It
-/// isn't sure: a store to a page that is shared takes memory for a page of its own, and a store to any other
-/// page takes none (docs/CONCEPT.md, "Guarded memory").
+/// A guarded memory in pages of 64 words, which a copy is meant to share with it until one of the two is
+/// written. It isn't sure, since a store to a page that is shared takes memory for a page of its own. What is
+/// really shared no contract says (docs/CONCEPT.md, "Guarded memory").
 ///
 /// Contracts see the list of its words.
 #[derive(Drop)]

@@ -6,8 +6,8 @@ use Rattle.eg_plant.specs.Gasoline.{Gasoline, GasolinePlant}
 use Rattle.eg_diesel.specs.Diesel.{Diesel, DieselPlant}
 use Rattle.eg_model.specs.Engines.{BenchEngine}
 
--- An engine of type E of this plant that has come to this state of the bench. It is told by a function, since
--- each type of engines has its own.
+-- The engine of type E that has this plant and has come to this state of the model's engine: for each type of
+-- engines a function of plant and state.
 abbrev pub ComeTo : (S E : Type 0) → Type 0
 ComeTo S E = PlantParts → S → E
 

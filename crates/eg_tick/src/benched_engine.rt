@@ -11,7 +11,8 @@ use eg_plant::{Engine, GasolineEngine, PlantData};
 /// An engine that runs on the bench (docs/CONCEPT.md, "A run, tick by tick"): it begins at rest, and each of
 /// its steps is that of an engine of the model.
 ///
-/// Contracts see the engine of the model, and which engine of this type has come to a state of that.
+/// Contracts see the engine of the model, and for each state of it the engine of this type that is in that
+/// state.
 pub trait BenchedEngine: Engine + Drop {
     /// The states of the engine of the model.
     ghost State: { Type 0 };

@@ -67,7 +67,9 @@ pub fn run_facts(
 }
 
 /// The same of an engine of either kind, for callers that run one by its type: it tells the facts of the run
-/// and its trap. What they tell of the reaction is said by `run_facts`.
+/// and its trap (docs/CONCEPT.md, "The record of a run"), keeps no row, takes no memory and refuses nothing.
+/// What facts tell of the reaction is said of the gasoline engine alone, by `run_facts`; of either engine the
+/// headline says it, of the rows.
 pub fn bench_facts<E: BenchedEngine>(
     calibration: &Calibration,
     image: &[u16],

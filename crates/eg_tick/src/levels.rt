@@ -164,6 +164,7 @@ fn turn<M: Guarded>(
 /// The nine slices of level 1 and the eight modules of level 2 of a tick, in turn: after each slice but the
 /// last comes the module of its number (docs/CONCEPT.md, "A run, tick by tick"). Answers what the modules
 /// order, answer and find. Ticks at which no fault may change that have a shorter form.
+#[inline(always)]
 #[tactic(auto, unfolding(eg_fault::specs::Faults::IsNoneOrValid))]
 pub(crate) fn run_levels<M: Guarded>(
     level2: &Level2,

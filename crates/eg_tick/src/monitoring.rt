@@ -58,6 +58,7 @@ pub(crate) fn question(
 /// verdict at the last tick of a period. A wild one hears nothing, gives no verdict, and may order path 2
 /// open. A fault goes by the number `tick` that the tick has in the run, the module by the number `local`
 /// that it has in its span.
+#[inline(always)]
 pub(crate) fn judge(
     monitor: &mut Monitor,
     questions: &Questions,

@@ -37,6 +37,7 @@ impl Commands {
 }
 
 /// One step of the engine, by level 1's commands as the tick before left them (docs/CONCEPT.md, "Plant").
+#[inline(always)]
 pub(crate) fn step_engine<E: Engine, M: Guarded>(
     engine: &mut E,
     memory: &M,
@@ -56,6 +57,7 @@ pub(crate) fn step_engine<E: Engine, M: Guarded>(
 
 /// The readings that both levels are given at a tick (docs/CONCEPT.md, "Sensors"). `brake` says whether the
 /// brake counts.
+#[inline(always)]
 #[tactic(auto, unfolding(eg_model::specs::Moments::readings_at))]
 pub(crate) fn readings<E: Engine>(
     engine: &E,

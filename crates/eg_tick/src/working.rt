@@ -57,6 +57,7 @@ impl Level1 {
 
 /// What level 1 and level 2 do at a tick (docs/CONCEPT.md, "A run, tick by tick"). Nothing else touches the
 /// memory in it.
+#[inline(always)]
 pub(crate) fn work<M: Guarded>(
     level2: &Level2,
     fault: Option<&Fault>,
@@ -84,6 +85,7 @@ pub(crate) fn work<M: Guarded>(
 /// Writes the readings to the input ports and the number of the question to the link; then slices of level 1
 /// and modules of level 2 run in turn (docs/CONCEPT.md, "A run, tick by tick"). It is apart from `work`,
 /// so that a must-fail edit can give `work` another body: the answers belong to this one.
+#[inline(always)]
 fn show_and_run<M: Guarded>(
     level2: &Level2,
     fault: Option<&Fault>,

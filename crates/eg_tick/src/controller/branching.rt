@@ -16,7 +16,7 @@ use eg_plant::{CopyEngine, Engine};
 use std::alloc::Global;
 
 impl<E: Engine + Drop, M: Guarded + Drop> Controller<E, M> {
-    /// How many ticks it has made, from tick 0 of the run on.
+    /// How many ticks it has made, from tick 0 of the run on (docs/CONCEPT.md, "The controller").
     pub fn ticks(&self) -> u32
         ensures ticks { result ≡ self.now.kept.ticks }
         ensures length { (s : Setting) (h : List Entry) → Stands s self.now.kept h → result ≡ length h }
