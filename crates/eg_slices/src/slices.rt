@@ -115,6 +115,13 @@ impl SlicePlan {
         &self.rows[tick as usize % self.rows.len()]
     }
 
+    /// Its rows, in their order. It takes no memory.
+    pub fn rows(&self) -> &[Slices]
+        ensures { result.now ≡ self.now }
+    {
+        self.rows.as_slice()
+    }
+
     /// An equal plan. It takes no memory.
     pub fn copy(&self) -> SlicePlan
         ensures { result ≡ self.now }

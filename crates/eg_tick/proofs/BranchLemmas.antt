@@ -88,7 +88,7 @@ module _ (s : Setting) (none : s.fault ≡ None) (fault : Option Fault) where
   proper-under : (on : Bool) (e : Entry) → IsProper s on e → IsProper (under fault s) on e
   proper-under on e proper = record { drive = proper.drive; engine = proper.engine; no_torque = proper.no_torque }
 
-  proper_run-under : (h : List Entry) → BeginsFrom (length h) fault → IsProperRun s h → IsProperRun (under fault s) h
+  pub proper_run-under : (h : List Entry) → BeginsFrom (length h) fault → IsProperRun s h → IsProperRun (under fault s) h
   unfolding IsProperRun
   proper_run-under [] from proper = tt
   proper_run-under (e ∷ h) from proper = (

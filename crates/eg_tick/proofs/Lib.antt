@@ -17,5 +17,6 @@ pub mod RunLaws
 pub mod FactLaws
 pub mod TrapLemmas
 pub mod BranchLemmas
+pub mod BranchedRuns
 mod FactsWorked
 mod Worked

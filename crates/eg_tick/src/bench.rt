@@ -32,7 +32,7 @@ pub fn bench_controller<E: BenchedEngine>(
     ensures ticks { result.kept.ticks ≡ 0 }
     ensures sure { IsTrue result.kept.memory.sure }
 {
-    match begin(calibration, image, fault, FlatMemory::new()) {
+    match bench_begin(calibration, image, fault, FlatMemory::new()) {
         Ok(controller) => controller,
         Err(_) => unreachable!("a sure memory never runs out"),
     }
@@ -61,14 +61,16 @@ pub fn bench_row<E: BenchedEngine>(
     ensures count { steps.new.count ≡ (steps.old.count + 1) % 2 ^ 64 }
     ensures weight { steps.new.weights ≡ (steps.old.weights + weight_of result) % 2 ^ 64 }
 {
-    match make_row(controller, plan, drive, tick, steps) {
+    match bench_tick(controller, plan, drive, tick, steps) {
         Ok(row) => row,
         Err(_) => unreachable!("a sure memory never runs out"),
     }
 }
 
-/// A controller of an engine at rest, that has made no tick, over this memory.
-pub(crate) fn begin<E: BenchedEngine, M: Guarded + Drop>(
+/// The controller with which a run on the bench begins, as `bench_controller` makes it, over a memory of
+/// 0s of any kind (docs/CONCEPT.md, "A run, tick by tick"): for callers whose memory can be copied. NoMemory
+/// gives the memory up. It never comes over a sure one.
+pub fn bench_begin<E: BenchedEngine, M: Guarded + Drop>(
     calibration: &Calibration,
     image: &[u16],
     fault: Option<&Fault>,
@@ -100,8 +102,10 @@ fn copied(fault: Option<&Fault>) -> Option<Fault>
     }
 }
 
-/// The row of the next tick of a run, by a controller that has made all before it.
-pub(crate) fn make_row<E: BenchedEngine, M: Guarded + Drop>(
+/// Makes the next tick of a run on the bench, as `bench_row` does, by a controller over any memory, and tells
+/// its row (docs/CONCEPT.md, "A run, tick by tick"). The tick is counted in `steps`, also where the answer is
+/// NoMemory, which never comes over a sure memory.
+pub fn bench_tick<E: BenchedEngine, M: Guarded + Drop>(
     controller: &mut Controller<E, M>,
     plan: &SlicePlan,
     drive: &Drive,

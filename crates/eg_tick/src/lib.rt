@@ -21,7 +21,7 @@ mod run;
 mod span;
 mod working;
 
-pub use bench::{bench_controller, bench_row};
+pub use bench::{bench_begin, bench_controller, bench_row, bench_tick};
 pub use benched_engine::BenchedEngine;
 pub use controller::{Controller, Ticks};
 pub use eg_slices::{SlicePlan, Slices};

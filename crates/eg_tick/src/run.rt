@@ -18,7 +18,7 @@ ghost use Rattle.eg_tick.specs.Weights.{weight_of};
 ghost use Rattle.eg_tick.specs.Benched.{gasoline_of};
 ghost use Rattle.eg_tick.specs.Run.{run_by, IsAt, IsRecordOf};
 
-use crate::bench::{begin, make_row};
+use crate::bench::{bench_begin, bench_tick};
 use crate::{Controller, SlicePlan, Ticks};
 use eg_base::{Items, NoMemory};
 use eg_fault::Fault;
@@ -123,7 +123,7 @@ fn record_run(
 {
     // Whoever reads it learns that the count is a u64.
     let _count = steps.count();
-    let mut controller = begin(calibration, image, fault, FlatMemory::new())?;
+    let mut controller = bench_begin(calibration, image, fault, FlatMemory::new())?;
     let rows = make_rows(alloc, &mut controller, plan, drive, steps)?;
     Ok(record_of(rows, &controller))
 }
@@ -166,7 +166,7 @@ fn make_rows(
     let _numbers = (steps.count(), steps.sum());
     let mut rows = Vec::new(alloc);
     for tick in 0..drive.len() {
-        let row = make_row(controller, plan, &drive[tick], tick as u32, steps)?;
+        let row = bench_tick(controller, plan, &drive[tick], tick as u32, steps)?;
         rows.push(row)?;
     }
     Ok(rows)

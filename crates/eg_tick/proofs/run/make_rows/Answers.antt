@@ -20,11 +20,11 @@ loop-tick-init c = record {
       (let e = c.sum.ensures in let l = c.sum.type_inv in subst (λ n. n < 18446744073709551616) e l);
 }
 
-pub make_row-requires-clause-tick : goal.make_row-requires-clause-tick
-make_row-requires-clause-tick c = c.loop-tick.invariant.ticks
+pub bench_tick-requires-clause-tick : goal.bench_tick-requires-clause-tick
+bench_tick-requires-clause-tick c = c.loop-tick.invariant.ticks
 
-pub make_row-requires-clause-fewer : goal.make_row-requires-clause-fewer
-make_row-requires-clause-fewer c = omega (arith, c.loop-tick.invariant.ticks, c.loop-tick-test.true, c.requires.most)
+pub bench_tick-requires-clause-fewer : goal.bench_tick-requires-clause-fewer
+bench_tick-requires-clause-fewer c = omega (arith, c.loop-tick.invariant.ticks, c.loop-tick-test.true, c.requires.most)
 
 pub returns-in_err-row-clause-count : goal.returns-in_err-row-clause-count
 returns-in_err-row-clause-count c = on_err _ c.from_residual.result (
@@ -50,7 +50,7 @@ loop-tick-preserved c =
       rows = λ r plan drive at. sym pushed ∙ rows-suc gasoline r c.loop-tick.tick c.loop-tick.rows.items c.in_ok-row.row (c.loop-tick.invariant.rows r plan drive at)
           (c.in_ok-row.ensures.row r plan
           (drive-at r c.args.drive.now c.loop-tick.tick _ drive c.loop-tick-test.true c.index-drive-tick.is) (c.loop-tick.invariant.at r plan drive at));
-      counts = counted-more c.args.steps.now c.loop-tick.steps c.make_row.new.steps c.loop-tick.tick c.loop-tick.rows.items c.in_ok-row.row
+      counts = counted-more c.args.steps.now c.loop-tick.steps c.bench_tick.new.steps c.loop-tick.tick c.loop-tick.rows.items c.in_ok-row.row
           c.loop-tick.invariant.counts c.in_ok-row.ensures.count c.in_ok-row.ensures.weight
           ∙ ap (counted c.args.steps.now (c.loop-tick.tick + 1)) pushed;
     }

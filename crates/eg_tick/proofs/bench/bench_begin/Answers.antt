@@ -1,7 +1,7 @@
 use Rattle.std.proofs.Common.{ap, ◌∙◌}
 use Rattle.eg_plant.specs.PlantParts.{PlantParts}
 use Rattle.eg_tick.proofs.RunLemmas.{started}
-use Rattle.eg_tick.proofs.bench.begin.Goals as goal
+use Rattle.eg_tick.proofs.bench.bench_begin.Goals as goal
 
 pub returns-clause-at : goal.returns-clause-at
 returns-clause-at g c =

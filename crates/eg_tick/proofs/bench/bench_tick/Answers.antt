@@ -1,5 +1,5 @@
 use Rattle.eg_tick.proofs.RunLemmas.{next_at, next_row, slices-at}
-use Rattle.eg_tick.proofs.bench.make_row.Goals as goal
+use Rattle.eg_tick.proofs.bench.bench_tick.Goals as goal
 
 pub returns-clause-at : goal.returns-clause-at
 returns-clause-at g c = λ r plan drive at.
