@@ -1,3 +1,8 @@
 pub mod PlayLemmas
 pub mod RecordLemmas
 mod Worked
+pub mod CheckpointLemmas
+pub mod AlikeLemmas
+pub mod OneGroup
+pub mod AllGroups
+mod WorkedGroups

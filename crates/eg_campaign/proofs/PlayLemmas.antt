@@ -40,7 +40,7 @@ report_is name name' r trap bound summary named trapped bounded told = told
 
 -- ---- sums ----
 
-sum-append : (xs ys : List ℕ) → sum (xs ++ ys) ≡ sum xs + sum ys
+pub sum-append : (xs ys : List ℕ) → sum (xs ++ ys) ≡ sum xs + sum ys
 sum-append xs ys = sum_by-append (λ x. x) xs ys
 
 -- rows weigh the same in any order
@@ -67,7 +67,7 @@ pub ticks-one : (r : EngineRun) → ticks_of (r ∷ []) ≡ length r.run.drive
 unfolding ticks_of
 ticks-one r = zero_plus (length r.run.drive)
 
-weights-one : (r : EngineRun) → weights_of (r ∷ []) ≡ sum (map weight_of (rows_of_run r))
+pub weights-one : (r : EngineRun) → weights_of (r ∷ []) ≡ sum (map weight_of (rows_of_run r))
 unfolding weights_of
 weights-one r = zero_plus (sum (map weight_of (rows_of_run r)))
 

@@ -1,4 +1,6 @@
 pub mod Plays
+pub mod Groups
+pub mod Checkpoints
 pub mod Texts
 pub mod Recording
 pub use Rattle.eg_base.specs.Outside

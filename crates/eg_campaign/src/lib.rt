@@ -1,7 +1,10 @@
-//! Campaigns that are played: the runs of a campaign one after another, and what the report says of each; and
-//! the record of a run, written as its ticks are made.
+//! Campaigns that are played: the runs of a campaign group by group, and what the report says of each; and
+//! the record of a run, written as its ticks are made. Runs of one group share the part before their faults.
 #![tactic(auto)]
 
+mod alike;
+mod checkpoints;
+mod groups;
 mod play;
 mod recording;
 
@@ -9,5 +12,5 @@ pub use eg_plan::{
     CampaignFault, EngineKind, RunKey, RunPlan, accepted_files_keep_the_rules, add_ticks,
     read_campaign, usual_slices,
 };
-pub use play::{RunInput, run_all};
+pub use play::{RunInput, facts_all, run_all};
 pub use recording::{RecordStop, record_into};

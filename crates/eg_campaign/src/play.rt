@@ -1,8 +1,12 @@
-// The runs of a campaign, played one after another.
-ghost use Rattle.std.specs.Prelude.{◌≡◌, ℕ, ◌≤◌, All, [], ◌∷◌, map, take, length, IfOk, OnOk, OnErr};
+// The runs of a campaign, played.
+ghost use Rattle.std.specs.Prelude.{◌≡◌, ℕ, ◌+◌, ◌%◌, ◌^◌, ◌≤◌, ◌<◌, All, List, [], ◌∷◌, map, length, slice_index_or, Option, Some, None, IsSome, IfOk, OnOk, OnErr};
+ghost use Rattle.eg_word.specs.declared.registers.Trap.{Trap};
+ghost use Rattle.eg_record.specs.declared.facts.Facts.{Facts};
 ghost use Rattle.eg_tick.specs.Facts.{IsToldOf};
 ghost use Rattle.eg_campaign.specs.Plays.{IsPlayable, bench_of, run_with, report_with, IsCounted, count_after};
+ghost use Rattle.eg_campaign.specs.Groups.{rows_made, count_with, told_with, facts_by};
 
+use crate::groups::{Told, tell_all};
 use eg_answer::reaction;
 use eg_base::{Items, NoMemory};
 use eg_diesel::DieselEngine;
@@ -26,8 +30,9 @@ pub struct RunInput {
     pub image: Items<u16>,
 }
 
-/// Plays the runs of a campaign, one after another, and tells of each what the report says (docs/CONCEPT.md,
-/// "The report of a run"). The ticks are counted in `steps`.
+/// Plays the runs of a campaign, and tells of each what the report says (docs/CONCEPT.md, "The report of a
+/// run"). Runs of one drive, one image, one slice plan and one engine share what comes before their faults.
+/// The ticks that are made are counted in `steps`. NoMemory is its one refusal.
 pub fn run_all(
     alloc: Global,
     calibration: &Calibration,
@@ -36,40 +41,97 @@ pub fn run_all(
 ) -> Result<Vec<Summary>, NoMemory>
     requires { All IsPlayable inputs.now }
     ensures summaries { IfOk result (λ all. all.items ≡ map (report_with calibration.now) inputs.now) }
-    // The ticks of all runs are counted. Where memory ran out, those of the runs up to there are.
+    // The rows that are made are counted. Where memory ran out, no more than these are.
     ensures counted { OnOk result
-        (steps.new ≡ count_after steps.old (map (run_with calibration.now) inputs.now)) }
-    ensures count { OnErr result ((n : ℕ) × (n ≤ length inputs.now)
-        × (steps.new ≡ count_after steps.old (map (run_with calibration.now) (take n inputs.now)))) }
+        (steps.new ≡ count_with steps.old (rows_made calibration.now inputs.now)) }
+    ensures count { OnErr result ((n : ℕ) × (n ≤ length (rows_made calibration.now inputs.now))
+        × (steps.new.count ≡ (steps.old.count + n) % 2 ^ 64)) }
 {
-    // Whoever reads them learns that both numbers are a u64.
-    let _numbers = (steps.count(), steps.sum());
+    let told = tell_all(alloc, calibration, inputs, steps)?;
+    summaries_of(alloc, calibration, inputs, &told)
+}
+
+/// Plays the runs of a campaign as `run_all` does, and tells the facts of each (docs/CONCEPT.md, "The report
+/// of a run"). The ticks that are made are counted in `steps`. NoMemory is its one refusal.
+pub fn facts_all(
+    alloc: Global,
+    calibration: &Calibration,
+    inputs: &[RunInput],
+    steps: &mut Ticks,
+) -> Result<Vec<Facts>, NoMemory>
+    requires { All IsPlayable inputs.now }
+    ensures facts { IfOk result (λ all. all.items ≡ map (facts_by calibration.now) inputs.now) }
+    ensures counted { OnOk result
+        (steps.new ≡ count_with steps.old (rows_made calibration.now inputs.now)) }
+    ensures count { OnErr result ((n : ℕ) × (n ≤ length (rows_made calibration.now inputs.now))
+        × (steps.new.count ≡ (steps.old.count + n) % 2 ^ 64)) }
+{
+    let told = tell_all(alloc, calibration, inputs, steps)?;
+    facts_of_all(alloc, &told)
+}
+
+/// What the report says of each run of which this is told.
+fn summaries_of(
+    alloc: Global,
+    calibration: &Calibration,
+    inputs: &[RunInput],
+    told: &[Option<Told>],
+) -> Result<Vec<Summary>, NoMemory>
+    requires { told.now ≡ map (λ x. Some (told_with calibration.now x)) inputs.now }
+    ensures { IfOk result (λ all. all.items ≡ map (report_with calibration.now) inputs.now) }
+{
     let mut summaries = Vec::new(alloc);
-    for input in inputs {
-        let summary = report_one(alloc, calibration, input, steps)?;
+    for i in 0..inputs.len() {
+        let one = told_at(told, i);
+        let summary = report_one(alloc, calibration, &inputs[i], one)?;
         summaries.push(summary)?;
     }
     Ok(summaries)
 }
 
-/// Plays one run, and tells what the report says of it.
+/// What the report says of a run of which this is told.
 fn report_one(
     alloc: Global,
     calibration: &Calibration,
     input: &RunInput,
-    steps: &mut Ticks,
+    told: Told,
 ) -> Result<Summary, NoMemory>
-    requires { IsPlayable input.now }
-    ensures summary { IfOk result (λ summary. summary ≡ report_with calibration.now input.now) }
-    ensures counted { steps.new ≡ count_after steps.old (run_with calibration.now input.now ∷ []) }
+    requires { told ≡ told_with calibration.now input.now }
+    ensures { IfOk result (λ summary. summary ≡ report_with calibration.now input.now) }
 {
-    let (facts, trap) = facts_with(calibration, input, steps);
+    let (facts, trap) = told;
     let name = input.plan.name.as_str();
     facts.summary(alloc, name, trap, reaction(calibration.times()))
 }
 
+/// The facts that are told of all runs.
+fn facts_of_all(alloc: Global, told: &[Option<Told>]) -> Result<Vec<Facts>, NoMemory>
+    requires { All IsSome told.now }
+    ensures { (all : List (Facts × Option (Trap × ℕ))) → told.now ≡ map (λ one. Some one) all →
+        IfOk result (λ facts. facts.items ≡ map (λ one. one.0) all) }
+{
+    let mut facts = Vec::new(alloc);
+    for i in 0..told.len() {
+        let (one, _) = told_at(told, i);
+        facts.push(one)?;
+    }
+    Ok(facts)
+}
+
+/// What is told at a place at which something is.
+fn told_at(told: &[Option<Told>], place: usize) -> Told
+    requires place { place < length told.now }
+    requires some { IsSome (slice_index_or told.now place None) }
+    ensures { slice_index_or told.now place None ≡ Some result }
+{
+    match told[place] {
+        Some(one) => one,
+        None => unreachable!("something is told there"),
+    }
+}
+
 /// Plays one run of the engine that it names, and tells its facts and its trap.
-fn facts_with(
+pub(crate) fn facts_with(
     calibration: &Calibration,
     input: &RunInput,
     steps: &mut Ticks,

@@ -1,16 +1,18 @@
-use Rattle.std.proofs.Common.{◌∙◌, ap}
+use Rattle.std.proofs.Common.{◌∙◌, ap, ℕ, Option}
 use Rattle.eg_answer.specs.Times.{reaction_of}
+use Rattle.eg_word.specs.declared.registers.Trap.{Trap}
+use Rattle.eg_record.specs.declared.facts.Facts.{Facts}
 use Rattle.eg_tick.specs.Facts.{record_facts}
 use Rattle.eg_tick.proofs.RunLemmas.{if_ok}
 use Rattle.eg_campaign.specs.Plays.{run_with, rows_of_run}
 use Rattle.eg_campaign.proofs.PlayLemmas.{report_is}
 use Rattle.eg_campaign.proofs.play.report_one.Goals as goal
 
-pub returns-clause-summary : goal.returns-clause-summary
+pub returns : goal.returns
 unfolding record_facts
-returns-clause-summary c =
+returns c =
     let cal = c.args.calibration.now in
     let r = run_with cal c.args.input.now in
-    let told = c.facts_with-trap.ensures.told in
-    if_ok _ _ c.summary.result (λ summary is. report_is _ _ r _ _ summary c.as_str-name.ensures told.trap_is (c.reaction.ensures ∙ ap reaction_of c.times.ensures.times) is)
-    (c.summary.ensures.rows cal.rules.torque cal.rules.threshold (rows_of_run r) told.facts_are)
+    if_ok _ _ c.summary.result (λ summary is. report_is _ _ r _ _ summary c.as_str-name.ensures
+    (ap (λ (t : Facts × Option (Trap × ℕ)). t.1) c.requires) (c.reaction.ensures ∙ ap reaction_of c.times.ensures.times) is)
+    (c.summary.ensures.rows cal.rules.torque cal.rules.threshold (rows_of_run r) (ap (λ (t : Facts × Option (Trap × ℕ)). t.0) c.requires))

@@ -1,0 +1,250 @@
+-- What was played of a run, tick by tick: its rows and what they count, and what is kept of it.
+use Rattle.std.proofs.Common.{◌≡◌, ◌∙◌, refl, sym, ap, ap₂, subst, ℕ, zero, suc, ◌+◌, ◌-◌, ◌*◌, ◌/◌, ◌%◌, ◌^◌, ◌<◌, ◌≤◌, false, List, [], ◌∷◌, ◌++◌, take, length, add-one, arith, Option, Some, None}
+use Rattle.std.specs.Prelude.{slice_index_or, if◌then◌else◌, nat_lt}
+use Rattle.std.proofs.Math.Seq.{take-length}
+use Rattle.std.proofs.lemmas.Bool.{lt-ltb}
+use Rattle.std.proofs.lemmas.Bool.Decides.{nat_tests}
+use Rattle.std.proofs.lemmas.List.{length-append, length-take-le}
+use Rattle.eg_num.specs.Drive.{DriveRow}
+use Rattle.eg_fault.specs.declared.class.Fault.{Fault}
+use Rattle.eg_values.specs.Calibration.{CalibrationParts}
+use Rattle.eg_word.specs.declared.registers.Trap.{Trap}
+use Rattle.eg_record.specs.declared.row.Row.{Row}
+use Rattle.eg_record.specs.declared.facts.Facts.{Facts}
+use Rattle.eg_record.specs.Facts.{facts_of}
+use Rattle.eg_record.specs.Tallies.{TallyParts, IsTallyOf}
+use Rattle.eg_model.specs.Engines.{BenchEngine}
+use Rattle.eg_model.specs.Bench.{Run, drive_at}
+use Rattle.eg_model.specs.Branching.{BeginsFrom}
+use Rattle.eg_model.specs.Rows.{record_rows}
+use Rattle.eg_model.specs.Records.{row_at, rows_to}
+use Rattle.eg_model.proofs.BranchLaws.{records_branch}
+use Rattle.eg_model.proofs.RecordTicks.{rows_to-suc, record_rows-is, records_are_rows}
+use Rattle.eg_tick.specs.Benched.{ComeTo}
+use Rattle.eg_tick.specs.Kept.{Kept}
+use Rattle.eg_tick.specs.Weights.{TickCount, weight_of}
+use Rattle.eg_tick.specs.Run.{run_by, IsAt}
+use Rattle.eg_tick.specs.Facts.{IsToldOf}
+use Rattle.eg_tick.proofs.RunLemmas.{counted, counted-none, drive-at, more-mod}
+use Rattle.eg_tick.proofs.FactLaws.{counted-next, told}
+use Rattle.eg_tick.proofs.BranchedRuns.{branch_at}
+use Rattle.eg_campaign.specs.declared.checkpoints.Checkpoint.{Checkpoint}
+use Rattle.eg_campaign.specs.declared.checkpoints.Shared.{Shared}
+use Rattle.eg_campaign.specs.declared.checkpoints.TheConstants.{CHECKPOINT_TICKS}
+use Rattle.eg_campaign.specs.declared.play.RunInput.{RunInput}
+use Rattle.eg_campaign.specs.Plays.{run_with}
+use Rattle.eg_campaign.specs.Groups.{faultless, checkpoint, rows_under, count_with}
+use Rattle.eg_campaign.specs.Checkpoints.{run_under, GoesBy, HasPlayed, rows_between, HasMade, AreCheckpoints, IsSharedBy}
+
+-- ---- counts ----
+
+-- no rows
+pub counted_none : (was : TickCount) (rows : List Row) → rows ≡ [] → was.count < 2 ^ 64 → was.weights < 2 ^ 64 → was ≡ count_with was rows
+counted_none was rows none count weights = counted-none was rows none count weights ∙ ap (λ n. counted was n rows) (sym (ap length none))
+
+-- one row more
+counted_next : (was is now : TickCount) (rows : List Row) (row : Row) → is ≡ count_with was rows →
+    now.count ≡ (is.count + 1) % 2 ^ 64 → now.weights ≡ (is.weights + weight_of row) % 2 ^ 64 → now ≡ count_with was (row ∷ rows)
+counted_next was is now rows row before count weight = counted-next was is now (length rows) rows row before count weight
+    ∙ ap (λ n. counted was n (row ∷ rows)) (add-one (length rows))
+
+-- ---- places ----
+
+-- what holds of each item of a list, by its place, and of one behind it
+each-more : {X : Type 0} (P : ℕ → X → Type 0) (xs : List X) (x : X) → ((k : ℕ) → k < length xs → (d : X) → P k (slice_index_or xs k d)) →
+    P (length xs) x → (k : ℕ) → k < length (xs ++ x ∷ []) → (d : X) → P k (slice_index_or (xs ++ x ∷ []) k d)
+each-more P [] x each last zero below d = last
+each-more P [] x each last (suc k) below d = absurd (omega (arith, below))
+each-more P (y ∷ xs) x each last zero below d = each zero (omega arith) d
+each-more P (y ∷ xs) x each last (suc k) below d =
+    each-more (λ n. P (suc n)) xs x (λ n l e. each (suc n) (omega (arith, l)) e) last k (omega (arith, below)) d
+
+one_more : (t : ℕ) → suc t ≡ t + 1
+one_more t = omega arith
+
+-- the drive row of a tick of an input is that of a run that goes by it
+pub drive_is : (input : RunInput) (r : Run) (drive : List DriveRow) (t : ℕ) (row : DriveRow) → GoesBy input r → drive ≡ input.drive →
+    t < length input.drive → row ≡ slice_index_or drive t row → drive_at r t ≡ row
+drive_is input r drive t row goes is within at =
+    drive-at r drive t row (goes.drive ∙ sym is) (subst (λ d. t < length d) (sym is) within) at
+
+module _ {S E : Type 0} (b : BenchEngine S) (come_to : ComeTo S E) (r : Run) where
+  -- ---- the rows from a tick on ----
+
+  rows_between-none : (t : ℕ) → rows_between b r t t ≡ []
+  unfolding rows_between
+  rows_between-none t = ap (λ n. take n (rows_to b r t)) (no_more t)
+    where
+      no_more : (t : ℕ) → t - t ≡ 0
+      no_more t = omega arith
+
+  rows_between-next : (from t : ℕ) → from ≤ t → row_at b r t ∷ rows_between b r from t ≡ rows_between b r from (t + 1)
+  unfolding rows_between
+  rows_between-next from t least = ap (λ rows. take (suc (t - from)) rows) (sym (rows_to-suc b r t))
+      ∙ ap₂ (λ n m. take n (rows_to b r m)) (more from t least) (one_more t)
+    where
+      more : (from t : ℕ) → from ≤ t → suc (t - from) ≡ t + 1 - from
+      more from t least = omega arith
+
+  rows_between-all : (t : ℕ) → rows_between b r 0 t ≡ rows_to b r t
+  unfolding rows_between
+  rows_between-all t = ap (λ n. take n (rows_to b r t)) (all t ∙ sym (records_are_rows b r t).1) ∙ take-length (rows_to b r t)
+    where
+      all : (t : ℕ) → t - 0 ≡ t
+      all t = omega arith
+
+  pub length-between : (from t : ℕ) → length (rows_between b r from t) ≡ t - from
+  unfolding rows_between
+  length-between from t = length-take-le (t - from) (rows_to b r t) (let long = (records_are_rows b r t).1 in omega (arith, long))
+
+  -- those that a run under a fault makes
+  pub under-is : (fault : Fault) → fault.onset < length r.drive →
+      rows_under (Some fault) (length r.drive) (record_rows b r)
+      ≡ rows_between b r (fault.onset / CHECKPOINT_TICKS * CHECKPOINT_TICKS) (length r.drive)
+  unfolding rows_under rows_between checkpoint
+  under-is fault within =
+      ap (λ t. if t then take (length r.drive - fault.onset / CHECKPOINT_TICKS * CHECKPOINT_TICKS) (record_rows b r) else []) (lt-ltb fault.onset (length r.drive) within)
+      ∙ ap (take (length r.drive - fault.onset / CHECKPOINT_TICKS * CHECKPOINT_TICKS)) (record_rows-is b r)
+
+  -- ---- what was played ----
+
+  pub played_next : (t : ℕ) (old new : Checkpoint E) (row : Row) → HasPlayed b come_to r t old → row ≡ row_at b r t →
+      IsAt b come_to r (t + 1) new.controller → new.controller.kept.ticks ≡ t + 1 →
+      new.tally.threshold ≡ old.tally.threshold → new.tally.weights ≡ old.tally.weights → new.tally.facts.ticks ≡ old.tally.facts.ticks + 1 →
+      ((rows : List Row) → IsTallyOf old.tally rows → IsTallyOf new.tally (row ∷ rows)) → HasPlayed b come_to r (t + 1) new
+  played_next t old new row played is at ticks threshold weights fed stands = record {
+    at = at;
+    ticks = ticks;
+    threshold = threshold ∙ played.threshold;
+    weights = weights ∙ played.weights;
+    fed = fed ∙ ap (λ n. n + 1) played.fed;
+    tally = subst (IsTallyOf new.tally) (ap (λ x. x ∷ rows_to b r t) is ∙ sym (rows_to-suc b r t) ∙ ap (rows_to b r) (one_more t))
+        (stands (rows_to b r t) played.tally);
+  }
+
+  pub made_none : (t : ℕ) (played : Checkpoint E) (was : TickCount) → was.count < 2 ^ 64 → was.weights < 2 ^ 64 → HasPlayed b come_to r t played →
+      HasMade b come_to r t t played was was
+  made_none t played was count weights is = record {
+    least = omega arith;
+    to = is;
+    counted = counted_none was (rows_between b r t t) (rows_between-none t) count weights;
+  }
+
+  pub made_next : (from t : ℕ) (old new : Checkpoint E) (was is now : TickCount) (row : Row) → HasMade b come_to r from t old was is →
+      row ≡ row_at b r t → HasPlayed b come_to r (t + 1) new →
+      now.count ≡ (is.count + 1) % 2 ^ 64 → now.weights ≡ (is.weights + weight_of row) % 2 ^ 64 → HasMade b come_to r from (t + 1) new was now
+  made_next from t old new was is now row made here played count weight = record {
+    least = let l = made.least in omega (arith, l);
+    to = played;
+    counted = counted_next was is now (rows_between b r from t) row made.counted count weight
+        ∙ ap (count_with was) (ap (λ x. x ∷ rows_between b r from t) here ∙ rows_between-next from t made.least);
+  }
+
+  -- how many ticks were counted, also where the next one was stopped
+  pub made_count : (from t : ℕ) (played : Checkpoint E) (was is : TickCount) → HasMade b come_to r from t played was is →
+      is.count ≡ (was.count + (t - from)) % 2 ^ 64
+  made_count from t played was is made = ap (λ (k : TickCount). k.count) made.counted ∙ ap (λ n. (was.count + n) % 2 ^ 64) (length-between from t)
+
+  pub made_stop : (from t : ℕ) (played : Checkpoint E) (was is now : TickCount) → HasMade b come_to r from t played was is →
+      now.count ≡ (is.count + 1) % 2 ^ 64 → now.count ≡ (was.count + (t - from + 1)) % 2 ^ 64
+  made_stop from t played was is now made count = count ∙ more-mod (2 ^ 64) was.count (t - from) is.count 1 (made_count from t played was is made)
+
+  -- all of the run was played from its first tick on
+  pub made_all : (played : Checkpoint E) (was is : TickCount) → HasMade b come_to r 0 (length r.drive) played was is → is ≡ count_with was (record_rows b r)
+  made_all played was is made = made.counted ∙ ap (count_with was) (rows_between-all (length r.drive) ∙ sym (record_rows-is b r))
+
+  -- what is told of a run that was played to its end
+  pub told_at : (played : Checkpoint E) (facts : Facts) (trap : Option (Trap × ℕ)) → HasPlayed b come_to r (length r.drive) played →
+      ((rows : List Row) → IsTallyOf played.tally rows → facts ≡ facts_of played.tally.weights played.tally.threshold rows) →
+      trap ≡ played.controller.kept.trap → IsToldOf b r facts trap
+  told_at played facts trap is facts_are trap_is = told b come_to r played.controller facts trap is.at
+      (facts_are (rows_to b r (length r.drive)) is.tally
+      ∙ ap₂ (λ w t. facts_of w t (rows_to b r (length r.drive))) is.weights is.threshold) trap_is
+
+  -- ---- what is kept ----
+
+  pub kept_none : (kept : List (Checkpoint E)) → kept ≡ [] → AreCheckpoints b come_to r 0 kept
+  kept_none kept none = subst (AreCheckpoints b come_to r 0) (sym none) (record {
+    enough = omega arith;
+    no_more = omega arith;
+    each = λ k below d. absurd (omega (arith, below));
+  })
+
+  pub kept_more : (t : ℕ) (kept after : List (Checkpoint E)) (one : Checkpoint E) → after ≡ kept ++ one ∷ [] → t % CHECKPOINT_TICKS ≡ 0 →
+      HasPlayed b come_to r t one → AreCheckpoints b come_to r t kept → AreCheckpoints b come_to r (t + 1) after
+  kept_more t kept after one pushed whole played are =
+      let long : length (kept ++ one ∷ []) ≡ length kept + 1 = length-append kept (one ∷ []) in
+      let here : t ≡ length kept * CHECKPOINT_TICKS = place t (length kept) whole are.enough are.no_more in
+      subst (AreCheckpoints b come_to r (t + 1)) (sym pushed) (record {
+        enough = omega (arith, long, here);
+        no_more = omega (arith, long, here);
+        each = each-more (λ k. HasPlayed b come_to r (k * CHECKPOINT_TICKS)) kept one are.each (subst (λ n. HasPlayed b come_to r n one) here played);
+      })
+    where
+      place : (t n : ℕ) → t % CHECKPOINT_TICKS ≡ 0 → t ≤ n * CHECKPOINT_TICKS → n * CHECKPOINT_TICKS < t + CHECKPOINT_TICKS → t ≡ n * CHECKPOINT_TICKS
+      place t n whole enough no_more = omega arith
+
+-- ---- branches ----
+
+module _ {S E : Type 0} (b : BenchEngine S) (come_to : ComeTo S E) (r : Run) where
+  -- a branch under a fault has played the run under it
+  pub branched_at : (t : ℕ) (fault : Option Fault) (old new : Checkpoint E) → old.controller.kept.fault ≡ None → BeginsFrom old.controller.kept.ticks fault →
+      new.controller.kept ≡ record old.controller.kept { fault = fault } → new.controller.engine ≡ old.controller.engine → new.tally ≡ old.tally →
+      HasPlayed b come_to r t old → HasPlayed b come_to (run_under fault r) t new
+  branched_at t fault old new without from kept engine same is =
+      let none : r.setting.fault ≡ None = sym is.at.stands.fault ∙ without in
+      let begins : BeginsFrom t fault = subst (λ n. BeginsFrom n fault) is.ticks from in
+      record {
+        at = branch_at b come_to r none fault t old.controller new.controller begins kept engine is.at;
+        ticks = ap (λ (k : Kept). k.ticks) kept ∙ is.ticks;
+        threshold = ap (λ (p : TallyParts). p.threshold) same ∙ is.threshold;
+        weights = ap (λ (p : TallyParts). p.weights) same ∙ is.weights;
+        fed = ap (λ (p : TallyParts). p.facts.ticks) same ∙ is.fed;
+        tally = subst (λ p. IsTallyOf p (rows_to b (run_under fault r) t)) (sym same)
+            (subst (IsTallyOf old.tally) (sym (records_branch b r none fault t begins).rows_are) is.tally);
+      }
+
+  -- and one without a fault the run itself
+  pub without-is : r.setting.fault ≡ None → run_under None r ≡ r
+  without-is none = ap (λ f. run_under f r) (sym none)
+
+-- the run of an input under its fault, from the last checkpoint on that isn't after the onset
+module _ {S E : Type 0} (b : BenchEngine S) (come_to : ComeTo S E) (cal : CalibrationParts) (input : RunInput) (fault : Fault)
+    (is : input.plan.fault ≡ Some fault) (within : fault.onset < length input.drive) where
+  pub played_under : (shared : Shared E) → IsSharedBy b come_to (run_with cal (faultless input)).run shared →
+      (copy : Fault) → copy ≡ fault → (from branch : Checkpoint E) → from ≡ slice_index_or shared.checkpoints.items (fault.onset / CHECKPOINT_TICKS) from →
+      ((r : Run) (t : ℕ) → HasPlayed b come_to r t from → HasPlayed b come_to (run_under (Some copy) r) t branch) →
+      HasPlayed b come_to (run_with cal input).run (fault.onset / CHECKPOINT_TICKS * CHECKPOINT_TICKS) branch
+  played_under shared kept copy same from branch at branched =
+      let place : ℕ = fault.onset / CHECKPOINT_TICKS in
+      subst (λ f. HasPlayed b come_to (run_by cal input.image f input.plan.plan input.drive) (place * CHECKPOINT_TICKS) branch)
+      (ap (λ f. Some f) same ∙ sym is)
+      (branched (run_with cal (faultless input)).run (place * CHECKPOINT_TICKS)
+      (subst (HasPlayed b come_to (run_with cal (faultless input)).run (place * CHECKPOINT_TICKS)) (sym at)
+      (kept.checkpoints.each place (below fault.onset (length input.drive) (length shared.checkpoints.items) within kept.checkpoints.enough) from)))
+    where
+      below : (onset ticks n : ℕ) → onset < ticks → ticks ≤ n * CHECKPOINT_TICKS → onset / CHECKPOINT_TICKS < n
+      below onset ticks n within enough = omega arith
+
+  -- the rows that are made for it
+  pub rows-are : (rows : List Row) → rows ≡ record_rows b (run_with cal input).run →
+      rows_under input.plan.fault (length input.drive) rows ≡ rows_between b (run_with cal input).run (fault.onset / CHECKPOINT_TICKS * CHECKPOINT_TICKS) (length input.drive)
+  rows-are rows made = ap (rows_under input.plan.fault (length input.drive)) made
+      ∙ ap (λ f. rows_under f (length input.drive) (record_rows b (run_with cal input).run)) is
+      ∙ under-is b come_to (run_with cal input).run fault within
+
+-- ---- runs that aren't played ----
+
+-- where there is no fault, none begins within the run
+pub never_begins : (ticks : ℕ) (fault : Option Fault) → ((f : Fault) → fault ≡ Some f → ⊥) → BeginsFrom ticks fault
+never_begins ticks None none = tt
+never_begins ticks (Some f) none = absurd (none f refl)
+
+-- and no row is made
+pub makes_none : (ticks : ℕ) (fault : Option Fault) (rows : List Row) → BeginsFrom ticks fault → rows_under fault ticks rows ≡ []
+unfolding rows_under
+makes_none ticks None rows from = refl
+makes_none ticks (Some f) rows from = ap (λ t. if t then take (ticks - checkpoint f.onset) rows else []) (not-lt from)
+  where
+    not-lt : ticks ≤ f.onset → nat_lt f.onset ticks ≡ false
+    not-lt l = grind (arith, nat_tests)

@@ -1,0 +1,171 @@
+-- Runs that are played group by group: what is counted, and what is written at their places.
+use Rattle.std.proofs.Common.{◌≡◌, ◌∙◌, refl, sym, ap, ap₂, subst, ℕ, ◌+◌, ◌%◌, ◌^◌, ◌<◌, ◌≤◌, Bool, true, false, List, [], ◌∷◌, ◌++◌, map, take, drop, get_or, length, add-one, append_assoc, length-append, arith, Option}
+use Rattle.std.specs.Prelude.{filter, if◌then◌else◌, Some, slice_set}
+use Rattle.std.specs.List.{sum, flat_map}
+use Rattle.std.proofs.Math.Nat.{mod-eq_of_lt}
+use Rattle.std.proofs.Math.Seq.{drop-cons}
+use Rattle.std.proofs.lemmas.List.{append-nil, map-append, set_at, take_all, drop_all, length-take-le, length-map}
+use Rattle.eg_values.specs.Calibration.{CalibrationParts}
+use Rattle.eg_word.specs.declared.registers.Trap.{Trap}
+use Rattle.eg_record.specs.declared.row.Row.{Row}
+use Rattle.eg_record.specs.declared.facts.Facts.{Facts}
+use Rattle.eg_model.specs.Engines.{BenchEngine}
+use Rattle.eg_model.specs.Bench.{Run}
+use Rattle.eg_model.specs.Rows.{record_rows}
+use Rattle.eg_model.proofs.RecordTicks.{record_rows-is, records_are_rows}
+use Rattle.eg_tick.specs.Benched.{ComeTo}
+use Rattle.eg_tick.specs.Facts.{IsToldOf}
+use Rattle.eg_tick.specs.Weights.{TickCount, weight_of}
+use Rattle.eg_tick.proofs.RunLemmas.{more-mod}
+use Rattle.eg_campaign.specs.declared.checkpoints.Shared.{Shared}
+use Rattle.eg_campaign.specs.declared.play.RunInput.{RunInput}
+use Rattle.eg_campaign.specs.Plays.{EngineRun, run_with}
+use Rattle.eg_campaign.specs.Groups.{is_alike, faultless, count_with, told_on, written_over}
+use Rattle.eg_campaign.specs.Checkpoints.{IsSharedBy}
+use Rattle.eg_campaign.proofs.AlikeLemmas.{alike, faultless-same}
+use Rattle.eg_campaign.proofs.PlayLemmas.{sum-append, map-more}
+
+-- ---- counting ----
+
+-- Of these rows the first were made and counted, and the rest weren't yet.
+pub record Counted (was is : TickCount) (rest whole : List Row) : Type 0 where
+  pub done : List Row
+  pub parts : done ++ rest ≡ whole
+  pub counts : is ≡ count_with was done
+
+-- no more than these were
+abbrev pub Stopped : TickCount → TickCount → List Row → Type 0
+Stopped was is whole = (n : ℕ) × (n ≤ length whole) × (is.count ≡ (was.count + n) % 2 ^ 64)
+
+tally : ℕ → ℕ → TickCount
+tally n w = record { count = n; weights = w }
+
+pub begun : (was : TickCount) (whole : List Row) → was.count < 2 ^ 64 → was.weights < 2 ^ 64 → Counted was was whole whole
+unfolding tally
+begun was whole count weights = record { done = []; parts = refl; counts = ap₂ tally (low was.count count) (low was.weights weights) }
+  where
+    same : (n : ℕ) → n + 0 ≡ n
+    same n = omega arith
+
+    low : (n : ℕ) → n < 2 ^ 64 → n ≡ (n + 0) % 2 ^ 64
+    low n l = sym (ap (λ k. k % 2 ^ 64) (same n) ∙ mod-eq_of_lt l)
+
+weigh-append : (xs ys : List Row) → sum (map weight_of (xs ++ ys)) ≡ sum (map weight_of xs) + sum (map weight_of ys)
+weigh-append xs ys = ap sum (map-append weight_of xs ys) ∙ sum-append (map weight_of xs) (map weight_of ys)
+
+with_more : (was mid is : TickCount) (xs ys : List Row) → mid ≡ count_with was xs → is ≡ count_with mid ys → is ≡ count_with was (xs ++ ys)
+unfolding tally
+with_more was mid is xs ys before now = now ∙ ap₂ tally
+    (more-mod (2 ^ 64) was.count (length xs) mid.count (length ys) (ap (λ (k : TickCount). k.count) before)
+    ∙ ap (λ n. (was.count + n) % 2 ^ 64) (sym (length-append xs ys)))
+    (more-mod (2 ^ 64) was.weights (sum (map weight_of xs)) mid.weights (sum (map weight_of ys)) (ap (λ (k : TickCount). k.weights) before)
+    ∙ ap (λ n. (was.weights + n) % 2 ^ 64) (sym (weigh-append xs ys)))
+
+-- some rows more
+pub more : (was mid is : TickCount) (own rest whole : List Row) → Counted was mid (own ++ rest) whole → is ≡ count_with mid own →
+    Counted was is rest whole
+more was mid is own rest whole so_far now = record {
+  done = so_far.done ++ own;
+  parts = append_assoc so_far.done own rest ∙ so_far.parts;
+  counts = with_more was mid is so_far.done own so_far.counts now;
+}
+
+-- the rest is said in another way
+pub said : (was is : TickCount) (rest rest' whole : List Row) → rest ≡ rest' → Counted was is rest whole → Counted was is rest' whole
+said was is rest rest' whole e so_far = record { done = so_far.done; parts = ap (λ (l : List Row). so_far.done ++ l) (sym e) ∙ so_far.parts; counts = so_far.counts }
+
+-- it was stopped within some rows
+pub stopped : (was mid is : TickCount) (own rest whole : List Row) → Counted was mid (own ++ rest) whole → Stopped mid is own → Stopped was is whole
+stopped was mid is own rest whole so_far (n, within, counts) = (
+  length so_far.done + n,
+  omega (arith, within, sym (length-append so_far.done (own ++ rest)) ∙ ap length so_far.parts, length-append own rest),
+  counts ∙ more-mod (2 ^ 64) was.count (length so_far.done) mid.count n (ap (λ (k : TickCount). k.count) so_far.counts),
+)
+
+-- all were counted
+pub ended : (was is : TickCount) (whole : List Row) → Counted was is [] whole → is ≡ count_with was whole
+ended was is whole so_far = so_far.counts ∙ ap (count_with was) (sym (append-nil so_far.done) ∙ so_far.parts)
+
+-- a record has a row for each tick
+pub length-record : {S : Type 0} (b : BenchEngine S) (r : Run) → length (record_rows b r) ≡ length r.drive
+length-record b r = ap length (record_rows-is b r) ∙ (records_are_rows b r (length r.drive)).1
+
+-- within the ticks of a run is within its rows
+pub within : {S : Type 0} (b : BenchEngine S) (r : Run) (was is : TickCount) →
+    ((n : ℕ) × (n ≤ length r.drive) × (is.count ≡ (was.count + n) % 2 ^ 64)) → Stopped was is (record_rows b r)
+within b r was is (n, least, counts) = (n, subst (λ (k : ℕ). n ≤ k) (sym (length-record b r)) least, counts)
+
+-- ---- the rest of a list ----
+
+pub next : {X : Type 0} (xs : List X) (i : ℕ) (x : X) → i < length xs → x ≡ get_or xs i x → drop i xs ≡ x ∷ drop (i + 1) xs
+next xs i x below is = drop-cons xs i x below ∙ ap₂ (λ y ys. y ∷ ys) (sym is) (ap (λ n. drop n xs) (sym (add-one i)))
+
+module _ {X A : Type 0} (f : X → List A) (p : X → Bool) where
+  pub rest-in : (xs : List X) (i : ℕ) (x : X) → i < length xs → x ≡ get_or xs i x → p x ≡ true →
+      flat_map f (filter p (drop i xs)) ≡ f x ++ flat_map f (filter p (drop (i + 1) xs))
+  rest-in xs i x below is so = ap (λ l. flat_map f (filter p l)) (next xs i x below is)
+      ∙ ap (λ b. flat_map f (if b then x ∷ filter p (drop (i + 1) xs) else filter p (drop (i + 1) xs))) so
+
+  pub rest-out : (xs : List X) (i : ℕ) (x : X) → i < length xs → x ≡ get_or xs i x → p x ≡ false →
+      flat_map f (filter p (drop i xs)) ≡ flat_map f (filter p (drop (i + 1) xs))
+  rest-out xs i x below is so = ap (λ l. flat_map f (filter p l)) (next xs i x below is)
+      ∙ ap (λ b. flat_map f (if b then x ∷ filter p (drop (i + 1) xs) else filter p (drop (i + 1) xs))) so
+
+-- ---- what is written ----
+
+module _ {X T : Type 0} (after before : X → T) where
+  -- up to a place what is after, and from there on what was before
+  abbrev pub written_to : List X → ℕ → List T
+  written_to xs i = map after (take i xs) ++ map before (drop i xs)
+
+  step : (xs : List X) (i : ℕ) (x : X) → i < length xs → x ≡ get_or xs i x →
+      map after (take i xs) ++ after x ∷ map before (drop (i + 1) xs) ≡ written_to xs (i + 1)
+  step xs i x below is = sym (append_assoc (map after (take i xs)) (after x ∷ []) (map before (drop (i + 1) xs)))
+      ∙ ap (λ l. l ++ map before (drop (i + 1) xs)) (sym (map-more after xs i x below is))
+
+  here : (xs : List X) (i : ℕ) (x : X) → i < length xs → x ≡ get_or xs i x →
+      written_to xs i ≡ map after (take i xs) ++ before x ∷ map before (drop (i + 1) xs)
+  here xs i x below is = ap (λ l. map after (take i xs) ++ map before l) (next xs i x below is)
+
+  -- one place is written
+  pub wrote : (xs : List X) (i : ℕ) (x : X) (told : List T) (one : T) → i < length xs → x ≡ get_or xs i x → one ≡ after x →
+      told ≡ written_to xs i → slice_set told i one ≡ written_to xs (i + 1)
+  wrote xs i x told one below is is_one so_far =
+      ap₂ (λ l y. slice_set l i y) (so_far ∙ here xs i x below is) is_one
+      ∙ set_at (map after (take i xs)) (before x) (map before (drop (i + 1) xs)) (after x) i
+      (length-map (take i xs) after ∙ length-take-le i xs (omega (arith, below)))
+      ∙ step xs i x below is
+
+  -- one place is left
+  pub left : (xs : List X) (i : ℕ) (x : X) (told : List T) → i < length xs → x ≡ get_or xs i x → before x ≡ after x →
+      told ≡ written_to xs i → told ≡ written_to xs (i + 1)
+  left xs i x told below is same so_far = so_far ∙ here xs i x below is
+      ∙ ap (λ y. map after (take i xs) ++ y ∷ map before (drop (i + 1) xs)) same ∙ step xs i x below is
+
+  -- all are
+  pub all_written : (xs : List X) (i : ℕ) (told : List T) → length xs ≤ i → told ≡ written_to xs i → told ≡ map after xs
+  all_written xs i told end so_far = so_far ∙ ap₂ (λ a b. map after a ++ map before b) (take_all i xs end) (drop_all i xs end)
+      ∙ append-nil (map after xs)
+
+-- ---- what one input tells ----
+
+-- what is shared of one run of a group is shared of each
+pub shared_of : {S E : Type 0} (b : BenchEngine S) (come_to : ComeTo S E) (shared : Shared E) (cal : CalibrationParts) (x y : RunInput) →
+    is_alike x y ≡ true → IsSharedBy b come_to (run_with cal (faultless x)).run shared → IsSharedBy b come_to (run_with cal (faultless y)).run shared
+shared_of b come_to shared cal x y so is =
+    subst (λ (r : EngineRun). IsSharedBy b come_to r.run shared) (faultless-same cal x y (alike x y so)) is
+
+pub told_is : {S : Type 0} (b : BenchEngine S) (cal : CalibrationParts) (x : RunInput) (told : Facts × Option (Trap × ℕ)) →
+    IsToldOf b (run_with cal x).run told.0 told.1 → told ≡ told_on b cal x
+told_is b cal x told is = ap₂ both is.facts_are is.trap_is
+  where
+    both : Facts → Option (Trap × ℕ) → Facts × Option (Trap × ℕ)
+    both f t = (f, t)
+
+pub written-in : {T : Type 0} (tells : RunInput → T) (x : RunInput) (before : RunInput → Option T) (y : RunInput) → is_alike x y ≡ true →
+    Some (tells y) ≡ written_over tells x before y
+written-in tells x before y so = sym (ap (λ b. if b then Some (tells y) else before y) so)
+
+pub written-out : {T : Type 0} (tells : RunInput → T) (x : RunInput) (before : RunInput → Option T) (y : RunInput) → is_alike x y ≡ false →
+    before y ≡ written_over tells x before y
+written-out tells x before y so = sym (ap (λ b. if b then Some (tells y) else before y) so)

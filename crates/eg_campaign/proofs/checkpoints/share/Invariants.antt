@@ -1,0 +1,16 @@
+use Rattle.eg_model.specs.Bench.{Run}
+use Rattle.eg_campaign.specs.Plays.{run_with}
+use Rattle.eg_campaign.specs.Groups.{faultless}
+use Rattle.eg_campaign.specs.Checkpoints.{HasMade, AreCheckpoints}
+use Rattle.eg_campaign.proofs.checkpoints.share.Given as goal
+
+-- so many ticks of the run without a fault were played and counted, and it is kept at the hundredths among them
+abbrev pub invariant-loop-tick : goal.invariant-loop-tick
+invariant-loop-tick g l =
+    let bench = g.E.BenchedEngine.bench in
+    let come_to = g.E.BenchedEngine.come_to in
+    let r : Run = (run_with l.calibration (faultless l.input)).run in
+    record {
+      made : HasMade bench come_to r 0 l.tick l.played l.fn.steps l.steps;
+      kept : AreCheckpoints bench come_to r l.tick l.checkpoints.items;
+    }

@@ -1,0 +1,77 @@
+-- Where runs under faults go on from: what was played of a run up to a tick, and what is kept of the run
+-- without a fault.
+use Rattle.std.specs.Prelude.{◌≡◌, ℕ, ◌+◌, ◌*◌, ◌-◌, ◌≤◌, ◌<◌, List, take, length, Option, slice_index_or}
+use Rattle.eg_fault.specs.declared.class.Fault.{Fault}
+use Rattle.eg_values.specs.Calibration.{CalibrationParts}
+use Rattle.eg_record.specs.declared.row.Row.{Row}
+use Rattle.eg_record.specs.Tallies.{IsTallyOf}
+use Rattle.eg_model.specs.Engines.{BenchEngine}
+use Rattle.eg_model.specs.Bench.{Run}
+use Rattle.eg_model.specs.Records.{rows_to}
+use Rattle.eg_model.specs.Branching.{under}
+use Rattle.eg_tick.specs.Weights.{TickCount}
+use Rattle.eg_tick.specs.Benched.{ComeTo}
+use Rattle.eg_tick.specs.Run.{IsAt}
+use Rattle.eg_tick.specs.Facts.{IsToldOf}
+use Rattle.eg_campaign.specs.declared.checkpoints.Checkpoint.{Checkpoint}
+use Rattle.eg_campaign.specs.declared.checkpoints.Shared.{Shared}
+use Rattle.eg_campaign.specs.declared.checkpoints.TheConstants.{CHECKPOINT_TICKS}
+use Rattle.eg_campaign.specs.declared.play.RunInput.{RunInput}
+use Rattle.eg_campaign.specs.Plays.{run_with}
+use Rattle.eg_campaign.specs.Groups.{faultless, count_with}
+
+-- ---- what was played of a run ----
+
+-- the same run under this fault, or without one
+abbrev pub run_under : Option Fault → Run → Run
+run_under fault r = record r { setting = under fault r.setting }
+
+-- a run goes by the slice plan and the drive of an input
+pub record GoesBy (input : RunInput) (r : Run) : Type 0 where
+  pub plan : r.plan ≡ input.plan.plan
+  pub drive : r.drive ≡ input.drive
+
+-- Of a run of this engine so many ticks were played: the controller has come to the last of them, and the
+-- tally, which goes by the calibration of the run, stands for their rows.
+pub record HasPlayed {S E : Type 0} (b : BenchEngine S) (come_to : ComeTo S E) (r : Run) (t : ℕ)
+    (played : Checkpoint E) : Type 0 where
+  pub at : IsAt b come_to r t played.controller
+  pub ticks : played.controller.kept.ticks ≡ t
+  pub threshold : played.tally.threshold ≡ r.setting.cal.rules.threshold
+  pub weights : played.tally.weights ≡ r.setting.cal.rules.torque
+  pub fed : played.tally.facts.ticks ≡ t
+  pub tally : IsTallyOf played.tally (rows_to b r t)
+
+-- the rows of a run from tick `from` on, up to tick t: newest first
+unfoldable pub rows_between : {S : Type 0} → BenchEngine S → Run → (from t : ℕ) → List Row
+rows_between b r from t = take (t - from) (rows_to b r t)
+
+-- A run of this engine was played from tick `from` on, up to tick t, and these ticks were counted.
+pub record HasMade {S E : Type 0} (b : BenchEngine S) (come_to : ComeTo S E) (r : Run) (from t : ℕ)
+    (played : Checkpoint E) (was is : TickCount) : Type 0 where
+  pub least : from ≤ t
+  pub to : HasPlayed b come_to r t played
+  pub counted : is ≡ count_with was (rows_between b r from t)
+
+-- ---- what is kept of it ----
+
+-- What is kept of the first n ticks of a run: what was played at tick 0, and at each hundredth tick below n.
+pub record AreCheckpoints {S E : Type 0} (b : BenchEngine S) (come_to : ComeTo S E) (r : Run) (n : ℕ)
+    (kept : List (Checkpoint E)) : Type 0 where
+  pub enough : n ≤ length kept * CHECKPOINT_TICKS
+  pub no_more : length kept * CHECKPOINT_TICKS < n + CHECKPOINT_TICKS
+  pub each : (k : ℕ) → k < length kept → (d : Checkpoint E) →
+      HasPlayed b come_to r (k * CHECKPOINT_TICKS) (slice_index_or kept k d)
+
+-- what is shared of a run: its checkpoints, its facts and its trap
+pub record IsSharedBy {S E : Type 0} (b : BenchEngine S) (come_to : ComeTo S E) (r : Run)
+    (shared : Shared E) : Type 0 where
+  pub checkpoints : AreCheckpoints b come_to r (length r.drive) shared.checkpoints.items
+  pub told : IsToldOf b r shared.facts shared.trap
+
+-- ---- runs of a group ----
+
+-- what is shared of the run of an input without its fault
+abbrev pub IsSharedFor : {S E : Type 0} → BenchEngine S → ComeTo S E → CalibrationParts → RunInput
+    → Shared E → Type 0
+IsSharedFor b come_to cal input shared = IsSharedBy b come_to (run_with cal (faultless input)).run shared

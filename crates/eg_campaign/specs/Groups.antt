@@ -1,0 +1,132 @@
+-- Runs that share the part before their faults. Runs of one drive, one image, one slice plan and one engine
+-- are of one group: up to the onset of its fault each of them is the run without a fault. So where a group
+-- has more than one run, the run without a fault is made once and kept at each hundredth tick, and a run with
+-- a fault is made from the last of these ticks on that isn't after the onset.
+use Rattle.std.specs.Prelude.{◌≡◌, ℕ, ◌+◌, ◌-◌, ◌*◌, ◌/◌, ◌%◌, ◌^◌, Bool, true, false, ◌==◌, ◌&&◌, nat_lt, nat_eq, List, [], ◌∷◌, ◌++◌, map, filter, take, length, Option, Some, None, if◌then◌else◌}
+use Rattle.std.specs.Bool.{beq}
+use Rattle.std.specs.List.{sum, flat_map, list_any}
+use Rattle.std.specs.Cmp.Lexicographic.{pointwise}
+use Rattle.eg_num.specs.Drive.{DriveRow}
+use Rattle.eg_fault.specs.declared.class.Fault.{Fault}
+use Rattle.eg_values.specs.Calibration.{CalibrationParts}
+use Rattle.eg_word.specs.declared.registers.Trap.{Trap}
+use Rattle.eg_record.specs.declared.row.Row.{Row}
+use Rattle.eg_record.specs.declared.facts.Facts.{Facts}
+use Rattle.eg_model.specs.Engines.{BenchEngine}
+use Rattle.eg_model.specs.Rows.{record_rows, record_trap}
+use Rattle.eg_tick.specs.Weights.{TickCount, weight_of}
+use Rattle.eg_tick.specs.Facts.{record_facts}
+use Rattle.eg_plan.specs.declared.engine.EngineKind.{EngineKind}
+use Rattle.eg_plan.specs.declared.engine.EngineKind.TheVariants as kind
+use Rattle.eg_campaign.specs.declared.play.RunInput.{RunInput}
+use Rattle.eg_campaign.specs.declared.checkpoints.TheConstants.{CHECKPOINT_TICKS}
+use Rattle.eg_campaign.specs.Plays.{bench_of, run_with, rows_of_run}
+
+-- ---- groups ----
+
+-- rows of drives that are equal in each part
+abbrev pub is_same_row : DriveRow → DriveRow → Bool
+is_same_row a b =
+    a.pedal == b.pedal && (a.speed == b.speed && (a.raise == b.raise && (beq a.reset b.reset
+    && beq a.brake b.brake)))
+
+-- engines of one kind
+abbrev pub is_same_engine : EngineKind → EngineKind → Bool
+is_same_engine kind.Gasoline kind.Gasoline = true
+is_same_engine kind.Diesel kind.Diesel = true
+is_same_engine _ _ = false
+
+-- two inputs are of one group: their engines, images, slice plans and drives are equal, item by item
+unfoldable pub is_alike : RunInput → RunInput → Bool
+is_alike x y =
+    is_same_engine x.plan.engine y.plan.engine && pointwise nat_eq x.image y.image
+    && pointwise (pointwise nat_eq) x.plan.plan y.plan.plan && pointwise is_same_row x.drive y.drive
+
+-- what that says
+pub record AreAlike (x y : RunInput) : Type 0 where
+  pub engine : x.plan.engine ≡ y.plan.engine
+  pub image : x.image ≡ y.image
+  pub plan : x.plan.plan ≡ y.plan.plan
+  pub drive : x.drive ≡ y.drive
+
+-- the group of a run among these: the runs that are alike to it, in their order
+abbrev pub group_of : List RunInput → RunInput → List RunInput
+group_of inputs x = filter (is_alike x) inputs
+
+-- those runs of a list that are the first of their groups, where these runs came earlier
+unfoldable pub firsts_after : (earlier later : List RunInput) → List RunInput
+firsts_after earlier [] = []
+firsts_after earlier (x ∷ xs) =
+    let rest = firsts_after (x ∷ earlier) xs in if list_any (is_alike x) earlier then rest else x ∷ rest
+
+-- the groups of a campaign, in the order of their first runs
+unfoldable pub groups_of : List RunInput → List (List RunInput)
+groups_of inputs = map (group_of inputs) (firsts_after [] inputs)
+
+-- ---- what is counted ----
+
+-- the same input without its fault
+abbrev pub faultless : RunInput → RunInput
+faultless x = record x { plan = record x.plan { fault = None } }
+
+-- the last tick up to this one at which a run without a fault is kept
+unfoldable pub checkpoint : ℕ → ℕ
+checkpoint t = t / CHECKPOINT_TICKS * CHECKPOINT_TICKS
+
+-- the rows that are made for one run of a group of more, newest first: those from the checkpoint before its
+-- onset on; none where it has no fault, or the fault begins after the run
+unfoldable pub rows_under : Option Fault → (ticks : ℕ) → List Row → List Row
+rows_under None ticks rows = []
+rows_under (Some fault) ticks rows =
+    if nat_lt fault.onset ticks then take (ticks - checkpoint fault.onset) rows else []
+
+-- for the run of an input, by an engine of the model, and by that which it names
+abbrev pub own_on : {S : Type 0} → BenchEngine S → CalibrationParts → RunInput → List Row
+own_on b cal x = rows_under x.plan.fault (length x.drive) (record_rows b (run_with cal x).run)
+
+abbrev pub own_rows : CalibrationParts → RunInput → List Row
+own_rows cal x = own_on (bench_of x.plan.engine) cal x
+
+-- the rows that are made for a group: all of a run that is alone; else all of the run without a fault, and of
+-- each run its own
+unfoldable pub rows_of_group : CalibrationParts → List RunInput → List Row
+rows_of_group cal [] = []
+rows_of_group cal (x ∷ []) = rows_of_run (run_with cal x)
+rows_of_group cal (x ∷ y ∷ more) =
+    rows_of_run (run_with cal (faultless x)) ++ flat_map (own_rows cal) (x ∷ y ∷ more)
+
+-- the same of a group of more, that of input x, by an engine of the model
+abbrev pub rows_shared : {S : Type 0} → BenchEngine S → CalibrationParts → List RunInput → RunInput → List Row
+rows_shared b cal inputs x =
+    record_rows b (run_with cal (faultless x)).run ++ flat_map (own_on b cal) (group_of inputs x)
+
+-- for a campaign
+unfoldable pub rows_made : CalibrationParts → List RunInput → List Row
+rows_made cal inputs = flat_map (rows_of_group cal) (groups_of inputs)
+
+-- the count after these rows were made
+abbrev pub count_with : TickCount → List Row → TickCount
+count_with was rows = record {
+  count = (was.count + length rows) % 2 ^ 64;
+  weights = (was.weights + sum (map weight_of rows)) % 2 ^ 64;
+}
+
+-- ---- what is told ----
+
+-- the facts and the trap of the run of an input, by an engine of the model
+abbrev pub told_on : {S : Type 0} → BenchEngine S → CalibrationParts → RunInput → Facts × Option (Trap × ℕ)
+told_on b cal x = (record_facts b (run_with cal x).run, record_trap b (run_with cal x).run)
+
+-- by that which it names
+abbrev pub told_with : CalibrationParts → RunInput → Facts × Option (Trap × ℕ)
+told_with cal x = told_on (bench_of x.plan.engine) cal x
+
+-- What stands at the place of input y once the group of input x was played, where `before` stood there: what
+-- y tells if it is of the group, and else the same.
+abbrev pub written_over : {T : Type 0} → (tells : RunInput → T) (x : RunInput) (before : RunInput → Option T)
+    → RunInput → Option T
+written_over tells x before y = if is_alike x y then Some (tells y) else before y
+
+-- the facts of the run of an input
+abbrev pub facts_by : CalibrationParts → RunInput → Facts
+facts_by cal x = record_facts (bench_of x.plan.engine) (run_with cal x).run
