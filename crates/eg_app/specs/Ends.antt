@@ -20,7 +20,7 @@ use Rattle.eg_outcome.specs.Reads.{FileComes, ReadComes, Finds, Accepts}
 use Rattle.eg_outcome.specs.Calibrations.{CalibratedEnds, MissesCalibration, FindsCalibration, AcceptsCalibration}
 use Rattle.eg_play.specs.Files.{campaign_file}
 use Rattle.eg_play.specs.Inputs.{FindsRuns, AcceptsRuns}
-use Rattle.eg_play.specs.Ends.{Plays, RunCommandEnds, RecordCommandEnds, AcceptsNamed, run_named}
+use Rattle.eg_play.specs.Ends.{rows_of_runs, Plays, RunCommandEnds, RecordCommandEnds, AcceptsNamed, run_named}
 use Rattle.eg_soak.specs.Soak.{drawn_runs, soak_of}
 use Rattle.eg_soak.specs.Texts.{soak_text}
 use Rattle.eg_app.specs.Words.{Command, check, bound, run, record_run, soak}
@@ -62,7 +62,8 @@ BoundEnds calibration store later out now o = CalibratedEnds calibration store l
 -- the runs that are drawn from the seed were played, and the summary on them was written: on Done all of it
 abbrev pub SoakEnds : (seed runs : ℕ) → ShownSink → ShownSink → TickCount → TickCount → Outcome → Type 0
 SoakEnds seed runs out now was is o =
-    Plays (soak_text (soak_of (drawn_runs runs seed))) (drawn_runs runs seed) out now was is o
+    Plays (soak_text (soak_of (drawn_runs runs seed))) (drawn_runs runs seed)
+    (rows_of_runs (drawn_runs runs seed)) out now was is o
 
 -- ---- each call ----
 

@@ -1,9 +1,11 @@
 -- How `run` and `record` end: by cases on the outcome, nested from the outside in, as `check` and `bound`
 -- are. `store`, `out` and `was` are what the store, the output and the count of ticks show before the call,
 -- `later`, `now` and `is` what they show after it.
-use Rattle.std.specs.Prelude.{◌≡◌, ℕ, ◌+◌, ◌-◌, ◌%◌, ◌^◌, ◌≤◌, List, [], ◌∷◌, map, All, Option, Some, None, option_map, Result, Ok, IsSome, slice_get, bytes_eq, if◌then◌else◌}
+use Rattle.std.specs.Prelude.{◌≡◌, ℕ, ◌+◌, ◌-◌, length, ◌%◌, ◌^◌, ◌≤◌, List, [], ◌∷◌, map, All, Option, Some, None, option_map, Result, Ok, IsSome, slice_get, bytes_eq, if◌then◌else◌}
+use Rattle.std.specs.List.{flat_map}
 use Rattle.eg_base.specs.Outside.{ShownStore, ShownSink}
 use Rattle.eg_values.specs.Calibration.{CalibrationParts}
+use Rattle.eg_record.specs.declared.row.Row.{Row}
 use Rattle.eg_tick.specs.Weights.{TickCount}
 use Rattle.eg_plan.specs.declared.run.RunPlan.{RunPlan}
 use Rattle.eg_campaign.specs.declared.play.RunInput.{RunInput}
@@ -19,29 +21,31 @@ use Rattle.eg_outcome.specs.declared.outcome.Role.TheVariants as role
 use Rattle.eg_play.specs.Files.{campaign_file}
 use Rattle.eg_play.specs.Inputs.{InputComes, InputsCome, FindsInput, AcceptsInput}
 use Rattle.eg_play.specs.Headline.{KeepsHeadline}
-use Rattle.eg_campaign.specs.Plays.{EngineRun, run_with, ticks_of, weights_of, count_after}
+use Rattle.eg_campaign.specs.Plays.{EngineRun, rows_of_run, run_with, count_after}
+use Rattle.eg_campaign.specs.Groups.{rows_made, count_with}
 use Rattle.eg_campaign.specs.Texts.{rows_in_time, record_text}
 use Rattle.eg_campaign.specs.Recording.{IsStopped}
 use Rattle.eg_play.specs.Texts.{report_text}
 
 -- ---- runs are played ----
 
--- The ticks of these runs were made and counted, with the weights of the rows of their records; where memory
--- ran out, no more than those ticks were counted.
-abbrev pub AreTicked : List EngineRun → TickCount → TickCount → Outcome → Type 0
-AreTicked runs was is outcome.Memory =
-    (n : ℕ) × (n ≤ ticks_of runs) × (is.count ≡ (was.count + n) % 2 ^ 64)
-AreTicked runs was is o = is ≡ record {
-  count = (was.count + ticks_of runs) % 2 ^ 64;
-  weights = (was.weights + weights_of runs) % 2 ^ 64;
-}
+-- The ticks of these rows were made and counted, with the weights of the rows; where memory ran out, no more
+-- than those ticks were counted.
+abbrev pub AreTicked : List Row → TickCount → TickCount → Outcome → Type 0
+AreTicked rows was is outcome.Memory =
+    (n : ℕ) × (n ≤ length rows) × (is.count ≡ (was.count + n) % 2 ^ 64)
+AreTicked rows was is o = is ≡ count_with was rows
 
--- These runs were played, and this text on them was written: on Done all of it. The record of each run keeps
--- the headline.
-pub record Plays (text : List ℕ) (runs : List EngineRun) (out now : ShownSink) (was is : TickCount)
-    (o : Outcome) : Type 0 where
+-- the rows of the records of runs
+unfoldable pub rows_of_runs : List EngineRun → List Row
+rows_of_runs runs = flat_map rows_of_run runs
+
+-- These runs were played, for which these rows were made, and this text on them was written: on Done all of
+-- it. The record of each run keeps the headline.
+pub record Plays (text : List ℕ) (runs : List EngineRun) (rows : List Row) (out now : ShownSink)
+    (was is : TickCount) (o : Outcome) : Type 0 where
   pub written : LineEnds text out now o
-  pub ticked : AreTicked runs was is o
+  pub ticked : AreTicked rows was is o
   pub headline : All KeepsHeadline runs
 
 -- nothing was put, and no tick was made
@@ -54,7 +58,7 @@ NothingPlayed out now was is = (now ≡ out) × (is ≡ was)
 abbrev pub ReportEnds : CalibrationParts → List RunInput → ShownStore → ShownStore → ShownSink → ShownSink
     → TickCount → TickCount → Outcome → Type 0
 ReportEnds cal inputs store later out now was is o = (later.faults ≡ store.faults)
-    × Plays (report_text cal inputs) (map (run_with cal) inputs) out now was is o
+    × Plays (report_text cal inputs) (map (run_with cal) inputs) (rows_made cal inputs) out now was is o
 
 -- the runs of the campaign are known: their files are read in order
 abbrev pub RunsEnd : CalibrationParts → List RunPlan → ShownStore → ShownStore → ShownSink → ShownSink

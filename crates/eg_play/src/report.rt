@@ -1,5 +1,6 @@
 // The report and the record are written.
 ghost use Rattle.std.specs.Prelude.{All, map};
+ghost use Rattle.eg_campaign.specs.Groups.{rows_made};
 ghost use Rattle.eg_campaign.specs.Plays.{IsPlayable, run_with};
 ghost use Rattle.eg_outcome.specs.Outcomes.{PutsNothing};
 ghost use Rattle.eg_play.specs.Texts.{report_text};
@@ -23,7 +24,8 @@ pub(crate) fn put_report<K: Sink>(
     steps: &mut Ticks,
 ) -> Outcome
     requires { All IsPlayable inputs.now }
-    ensures plays { Plays (report_text calibration.now inputs.now) (map (run_with calibration.now) inputs.now)
+    ensures plays { Plays (report_text calibration.now inputs.now)
+        (map (run_with calibration.now) inputs.now) (rows_made calibration.now inputs.now)
         (K.shows out.old) (K.shows out.new) steps.old steps.new result }
     ensures put { PutsNothing result → ⊥ }
 {
