@@ -1,5 +1,5 @@
 -- What the stores of a module make of the words by their names.
-use Rattle.std.proofs.Common.{◌≡◌, ◌∙◌, refl, sym, ap, ap₂, ℕ, ◌+◌, ◌-◌, ◌*◌, ◌%◌, Bool, arith}
+use Rattle.std.proofs.Common.{◌≡◌, ◌∙◌, refl, sym, ap, ap₂, ℕ, ◌+◌, ◌-◌, ◌*◌, ◌%◌, Bool, true, false, arith}
 use Rattle.std.specs.Prelude.{Result, Ok, Err, OnOk, if◌then◌else◌, ◌==◌, min, max, bit_xor, slice_index, Option, Some, None}
 use Rattle.eg_num.specs.Interpolation.{grid_at}
 use Rattle.eg_torque.specs.Permit.{permitted}
@@ -46,11 +46,35 @@ pub pedal_by : (f h : ℕ → ℕ) (read readings : Readings) (row : TestRow) (d
 unfolding named signalled keep put pedal_step written signed
 pedal_by f h read readings row d signal test w limp eh er es el ew et = rw (eh, es, el, ew, et, er) refl
 
-pub permitted_by : (f h : ℕ → ℕ) (rules : Rules) (read readings : Readings) (row : TestRow) (d signal test pedal : ℕ) → h ≡ signalled 2 signal test d f
+-- a signal that is 0 where a trip stands is written as any other, since 0 is written there
+unless_tripped : (trip : Bool) (signal d : ℕ) →
+    (if trip then 0 else bit_xor (if trip then 0 else signal) d) ≡ (if trip then 0 else bit_xor signal d)
+unless_tripped true signal d = refl
+unless_tripped false signal d = refl
+
+signalled_unless : (f : ℕ → ℕ) (number signal value test d : ℕ) → value ≡ (if is_set (f 11) then 0 else signal)
+    → signalled number value test d f ≡ signalled number signal test d f
+unfolding signalled
+signalled_unless f number signal value test d ev =
+    ap (λ v. keep 15 (bit_xor (mixed (f 15) test) d) (keep 12 (next_token_of (f 12) number) (keep (number - 1) v f)))
+    (ap (λ v. if is_set (f 11) then 0 else bit_xor v d) ev ∙ unless_tripped (is_set (f 11)) signal d)
+
+permitted_from : (f h : ℕ → ℕ) (rules : Rules) (read readings : Readings) (row : TestRow) (d signal test pedal : ℕ) → h ≡ signalled 2 signal test d f
     → read ≡ readings → signal ≡ permitted_torque rules read pedal → pedal ≡ f 0 → test ≡ permitted_result rules row
     → named h ≡ permitted_step rules readings row d (named f)
 unfolding named signalled keep put permitted_step written signed
-permitted_by f h rules read readings row d signal test pedal eh er es ep et = rw (eh, es, ep, et, er) refl
+permitted_from f h rules read readings row d signal test pedal eh er es ep et = rw (eh, es, ep, et, er) refl
+
+pub permitted_by : (f h : ℕ → ℕ) (rules : Rules) (read readings : Readings) (row : TestRow) (d value test pedal w : ℕ) (trip : Bool)
+    → h ≡ signalled 2 value test d f → read ≡ readings → value ≡ (if trip then 0 else permitted_torque rules read pedal)
+    → trip ≡ is_set w → w ≡ f 11 → pedal ≡ f 0 → test ≡ permitted_result rules row
+    → named h ≡ permitted_step rules readings row d (named f)
+permitted_by f h rules read readings row d value test pedal w trip eh er ev etrip ew ep et =
+    permitted_from f h rules read readings row d (permitted_torque rules read pedal) test pedal
+    (eh ∙ signalled_unless f 2 (permitted_torque rules read pedal) value test d unless) er refl ep et
+  where
+    unless : value ≡ (if is_set (f 11) then 0 else permitted_torque rules read pedal)
+    unless = ev ∙ ap (λ b. if b then 0 else permitted_torque rules read pedal) (etrip ∙ ap is_set ew)
 
 pub actual_by : (f h : ℕ → ℕ) (rules : Rules) (read readings : Readings) (row : TestRow) (d signal test : ℕ) → h ≡ signalled 3 signal test d f
     → read ≡ readings → signal ≡ estimated_torque rules read → test ≡ estimate_result rules row

@@ -60,7 +60,9 @@ pub(crate) fn permitted<M: Guarded>(
     ensures step { IfOk result (λ step. step ≡ quiet_step) }
     ensures keeps { Keeps (M.shows memory.old) (M.shows memory.new) result }
 {
-    let signal = permit(rules, lookup, word(memory, PEDAL), &readings(memory));
+    let read = readings(memory);
+    let tripped = is_set(word(memory, TRIP));
+    let signal = permit(rules, lookup, tripped, word(memory, PEDAL), &read);
     write(memory, eg_answer::PERMITTED, signal, test, disturbance)?;
     Ok(Step::quiet())
 }
@@ -128,12 +130,16 @@ pub(crate) fn pairs<M: Guarded>(
     Ok(Step::quiet())
 }
 
-/// The permitted torque at a pedal (per mille), and at the speeds and the raise that are read.
+/// The permitted torque at a pedal (per mille), and at the speeds and the raise that are read. Where a trip
+/// stands 0 is written whatever it is, so that it isn't worked out.
 #[tactic(auto, using(crate::proofs::ModuleLemmas::looked_up))]
-fn permit(rules: &Rules, lookup: &Lookup, pedal: u16, read: &Readings) -> u16
+fn permit(rules: &Rules, lookup: &Lookup, tripped: bool, pedal: u16, read: &Readings) -> u16
     requires { IsLookup rules.now lookup.now }
-    ensures { result ≡ torque_of rules.now read.now pedal }
+    ensures { result ≡ (if tripped then 0 else torque_of rules.now read.now pedal) }
 {
+    if tripped {
+        return 0;
+    }
     let [first, second] = read.speed;
     if first == second && lookup.is_at(pedal, first) {
         return lookup
