@@ -73,6 +73,7 @@ impl Engine for DieselEngine {
 
     ghost steps = { StepsAsDiesel };
 
+    #[inline(always)]
     #[tactic(auto, using(crate::proofs::DieselLemmas::laws), unfolding(crate::specs::Diesel::diesel_step))]
     fn step(&mut self, plate: u16, ignition: u16, on: bool, held: Option<u16>) {
         let rack = next_plate(&self.plant, self.rack, plate, on, held);

@@ -15,6 +15,7 @@ use eg_sensor::{
 };
 
 /// What the sensors read at a tick, where sound tracks read the truth (docs/CONCEPT.md, "Faults").
+#[inline(always)]
 #[tactic(auto, unfolding(crate::specs::Effects::readings_under))]
 pub fn faulty_readings(fault: Option<&Fault>, tick: u32, truth: &Readings) -> Readings
     ensures { result ≡ readings_under (effects (option_copied fault.entry) tick) truth.now }

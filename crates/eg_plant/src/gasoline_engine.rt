@@ -63,6 +63,7 @@ impl Engine for GasolineEngine {
 
     ghost steps = { StepsAsGasoline };
 
+    #[inline(always)]
     #[tactic(auto, using(crate::proofs::PlantLemmas::laws), unfolding(crate::specs::Gasoline::gasoline_step))]
     fn step(&mut self, plate: u16, ignition: u16, on: bool, held: Option<u16>) {
         let charge = next_charge(&self.plant, self.plate, self.charge);
