@@ -1,6 +1,7 @@
 -- Inputs of one group: what the test says, that it is an equality, and that without their faults their runs are one.
-use Rattle.std.proofs.Common.{◌≡◌, ◌∙◌, refl, sym, ap, ℕ, Bool, true, false, ◌&&◌, List}
-use Rattle.std.specs.Prelude.{not, nat_eq}
+use Rattle.std.proofs.Common.{◌≡◌, ◌∙◌, refl, sym, ap, ap₂, ℕ, ◌-◌, Bool, true, false, ◌&&◌, List, length, Bor, Option, Some, None}
+use Rattle.std.specs.Prelude.{not, nat_eq, slice_get}
+use Rattle.std.specs.Option.{option_copied, option_eq}
 use Rattle.std.specs.Bool.{Decides}
 use Rattle.std.specs.Cmp.{IsEquivalence, unsigned_Decides, booleans_Decides}
 use Rattle.std.specs.Cmp.Lexicographic.{pointwise}
@@ -117,6 +118,35 @@ plans-Decides a b = slice_eq-Decides numbers-Decides a b (pointwise (pointwise n
 
 drives-Decides : (a b : List DriveRow) → Decides (pointwise is_same_row a b) (a ≡ b)
 drives-Decides a b = slice_eq-Decides same_row-Decides a b (pointwise is_same_row a b) refl
+
+-- ---- drives, the last rows first ----
+
+lent-eq : (x y : Option (Bor DriveRow)) →
+    option_eq (λ a b. is_same_row a.now b.now) x y ≡ option_eq is_same_row (option_copied x) (option_copied y)
+lent-eq None None = refl
+lent-eq None (Some y) = refl
+lent-eq (Some x) None = refl
+lent-eq (Some x) (Some y) = refl
+
+same_option : (x : Option DriveRow) → option_eq is_same_row x x ≡ true
+same_option None = refl
+same_option (Some x) = (same_row-Decides x x).1 refl
+
+unless : (p r : Bool) → (p ≡ true → r ≡ false) → r ≡ true → false ≡ p
+unless true r to so = sym (to refl) ∙ so
+unless false r to so = refl
+
+-- drives whose last rows differ aren't equal
+pub lasts_differ : (a b : List DriveRow) (x y : Option (Bor DriveRow)) (r : Bool) →
+    option_copied x ≡ slice_get a (length a - 1) → option_copied y ≡ slice_get b (length b - 1) →
+    r ≡ not (option_eq (λ p q. is_same_row p.now q.now) x y) → r ≡ true → false ≡ pointwise is_same_row a b
+lasts_differ a b x y r is_x is_y is so = unless (pointwise is_same_row a b) r equal so
+  where
+    equal : pointwise is_same_row a b ≡ true → r ≡ false
+    equal h =
+        let same = (drives-Decides a b).0 h in
+        let ends : option_copied y ≡ option_copied x = is_y ∙ ap (λ d. slice_get d (length d - 1)) (sym same) ∙ sym is_x in
+        is ∙ ap not (lent-eq x y ∙ ap (option_eq is_same_row (option_copied x)) ends ∙ same_option (option_copied x))
 
 -- it decides four equations
 pub is_alike-Decides : (x y : RunInput) → Decides (is_alike x y) (AreAlike x y)

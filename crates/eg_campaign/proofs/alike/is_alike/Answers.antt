@@ -18,8 +18,8 @@ returns-then-ne-2 c = plans_differ c.args.a.now c.args.b.now c.ne-2.result
 
 pub returns : goal.returns
 returns c =
-    drives_decide c.args.a.now c.args.b.now c.is_same_engine.result c.ne.result c.ne-2.result c.eq.result
+    drives_decide c.args.a.now c.args.b.now c.is_same_engine.result c.ne.result c.ne-2.result c.is_same_drive.result
     c.is_same_engine.ensures c.if-not-is_same_engine.false
     (c.ne.ensures ∙ ap₂ (λ (a b : List ℕ). not (pointwise nat_eq a b)) c.as_slice.ensures c.as_slice-2.ensures) c.if-ne.false
     (c.ne-2.ensures ∙ ap₂ (λ (a b : List (List ℕ)). not (pointwise (pointwise nat_eq) a b)) c.rows.ensures c.rows-2.ensures) c.if-ne-2.false
-    (c.eq.ensures ∙ ap₂ (pointwise is_same_row) c.as_slice-3.ensures c.as_slice-4.ensures)
+    (c.is_same_drive.ensures ∙ ap₂ (pointwise is_same_row) c.as_slice-3.ensures c.as_slice-4.ensures)
