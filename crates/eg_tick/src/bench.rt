@@ -41,6 +41,7 @@ pub fn bench_controller<E: BenchedEngine>(
 /// Makes the next tick of a run on the bench, by the controller that has made all before it, and tells its
 /// row (docs/CONCEPT.md, "A run, tick by tick"). `tick` is its number in the run, the first being 0, and
 /// `drive` the drive row of that tick. It is counted in `steps`. It takes no memory and refuses nothing.
+#[inline(always)]
 pub fn bench_row<E: BenchedEngine>(
     controller: &mut Controller<E, FlatMemory>,
     plan: &SlicePlan,
@@ -105,6 +106,7 @@ fn copied(fault: Option<&Fault>) -> Option<Fault>
 /// Makes the next tick of a run on the bench, as `bench_row` does, by a controller over any memory, and tells
 /// its row (docs/CONCEPT.md, "A run, tick by tick"). The tick is counted in `steps`, also where the answer is
 /// NoMemory, which never comes over a sure memory.
+#[inline(always)]
 pub fn bench_tick<E: BenchedEngine, M: Guarded + Drop>(
     controller: &mut Controller<E, M>,
     plan: &SlicePlan,

@@ -147,6 +147,7 @@ impl<E: Engine + Drop, M: Guarded + Drop> Controller<E, M> {
     /// One tick of all three levels (docs/CONCEPT.md, "A run, tick by tick" and "The controller"), and its
     /// row. It is counted in `steps`. A controller makes at most 20,000 ticks. After NoMemory every later
     /// tick answers NoMemory.
+    #[inline(always)]
     pub fn tick(
         &mut self,
         drive: &Drive,
@@ -203,6 +204,7 @@ impl<E: Engine + Drop, M: Guarded + Drop> Controller<E, M> {
     }
 
     /// The tick itself. Memory counts as lost until it is done.
+    #[inline(always)]
     fn advance(&mut self, drive: &Drive, slices: &Slices) -> Result<Row, NoMemory>
         requires fewer { self.old.kept.ticks < 20000 }
         ensures stands { (s : Setting) (h : List Entry) → Stands s self.old.kept h
@@ -258,7 +260,7 @@ impl<E: Engine + Drop, M: Guarded + Drop> Controller<E, M> {
             slices: *slices,
         };
         let (level1, memory) = (&mut self.level1, &mut self.memory);
-        let step = work(&self.level2, fault, &task, level1, memory)?;
+        let step = work::<E, M>(&self.level2, fault, &task, level1, memory)?;
         let (monitor, answer) = (&mut self.span.monitor, step.answer);
         let judged = judge(monitor, questions, fault, tick, local, asked, answer);
         self.span.note(step.open_path, judged, begins.passes());

@@ -21,6 +21,7 @@ use eg_base::NoMemory;
 use eg_fault::{Fault, disturbance, fault_of_levels, level1_runs, module_runs};
 use eg_guard::Guarded;
 use eg_level2::{Level2, Step, Watches};
+use eg_plant::Engine;
 
 /// A slice of level 1, where it runs at this tick (docs/CONCEPT.md, "Level 1").
 #[inline(always)]
@@ -166,7 +167,7 @@ fn turn<M: Guarded>(
 /// order, answer and find. Ticks at which no fault may change that have a shorter form.
 #[inline(always)]
 #[tactic(auto, unfolding(eg_fault::specs::Faults::IsNoneOrValid))]
-pub(crate) fn run_levels<M: Guarded>(
+pub(crate) fn run_levels<E: Engine + Drop, M: Guarded + Drop>(
     level2: &Level2,
     fault: Option<&Fault>,
     task: &Task,
@@ -189,14 +190,15 @@ pub(crate) fn run_levels<M: Guarded>(
     ensures keeps { KeepsMemory (M.shows memory.old) (M.shows memory.new) result }
 {
     match fault_of_levels(fault, task.tick) {
-        None => run_turns::<M, false>(level2, None, task, level1, memory),
-        some => run_turns::<M, true>(level2, some, task, level1, memory),
+        None => run_turns::<E, M, false>(level2, None, task, level1, memory),
+        some => run_turns::<E, M, true>(level2, some, task, level1, memory),
     }
 }
 
 /// The same in one of its two forms: compiled with what is asked of a fault at each turn, or without. The
-/// turns are written out, so that each is compiled for its own number.
-fn run_turns<M: Guarded, const FAULTY: bool>(
+/// turns are written out, so that each is compiled for its own number. No engine is asked here: by the types
+/// of their controller the turns stand apart for each, and are compiled as a part of its tick.
+fn run_turns<E: Engine + Drop, M: Guarded + Drop, const FAULTY: bool>(
     level2: &Level2,
     fault: Option<&Fault>,
     task: &Task,

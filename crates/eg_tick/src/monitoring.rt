@@ -118,6 +118,7 @@ fn mark(expected: u32, answer: Option<u32>) -> AnswerMark
 }
 
 /// The verdict of a tick, if there is one. A wild module hears nothing and gives none.
+#[inline(always)]
 fn verdict(
     monitor: &mut Monitor,
     fault: Option<&Fault>,

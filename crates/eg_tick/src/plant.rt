@@ -88,6 +88,7 @@ fn is_braking(drive: &Drive, brake: bool, fault: Option<&Fault>, tick: u32) -> b
 }
 
 /// What the tracks of pedal, plate, load and speed and the raise read at a tick.
+#[inline(always)]
 #[tactic(auto, unfolding(eg_model::specs::Moments::sensed_at))]
 fn sensed<E: Engine>(engine: &E, drive: &Drive, fault: Option<&Fault>, tick: u32) -> Readings
     ensures { (e : Entry) → e.drive ≡ drive.now → e.shown ≡ E.shows engine.now

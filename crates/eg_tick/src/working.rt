@@ -18,6 +18,7 @@ use eg_fault::Fault;
 use eg_guard::Guarded;
 use eg_host::Host;
 use eg_level2::{Level2, Lookup, Phase, Step};
+use eg_plant::Engine;
 use eg_sensor::Readings;
 use eg_word::Program;
 
@@ -58,7 +59,7 @@ impl Level1 {
 /// What level 1 and level 2 do at a tick (docs/CONCEPT.md, "A run, tick by tick"). Nothing else touches the
 /// memory in it.
 #[inline(always)]
-pub(crate) fn work<M: Guarded>(
+pub(crate) fn work<E: Engine + Drop, M: Guarded + Drop>(
     level2: &Level2,
     fault: Option<&Fault>,
     task: &Task,
@@ -79,14 +80,14 @@ pub(crate) fn work<M: Guarded>(
     ensures program { OnOk result (IsProgramOf (M.shows memory.new).words level1.new.program) }
     ensures keeps { KeepsMemory (M.shows memory.old) (M.shows memory.new) result }
 {
-    show_and_run(level2, fault, task, level1, memory)
+    show_and_run::<E, M>(level2, fault, task, level1, memory)
 }
 
 /// Writes the readings to the input ports and the number of the question to the link; then slices of level 1
 /// and modules of level 2 run in turn (docs/CONCEPT.md, "A run, tick by tick"). It is apart from `work`,
 /// so that a must-fail edit can give `work` another body: the answers belong to this one.
 #[inline(always)]
-fn show_and_run<M: Guarded>(
+fn show_and_run<E: Engine + Drop, M: Guarded + Drop>(
     level2: &Level2,
     fault: Option<&Fault>,
     task: &Task,
@@ -108,5 +109,5 @@ fn show_and_run<M: Guarded>(
     ensures keeps { KeepsMemory (M.shows memory.old) (M.shows memory.new) result }
 {
     show(memory, &task.readings, task.asked)?;
-    run_levels(level2, fault, task, level1, memory)
+    run_levels::<E, M>(level2, fault, task, level1, memory)
 }
