@@ -10,6 +10,7 @@ use Rattle.eg_answer.specs.declared.marks.AnswerMark.TheVariants.{Absent, Good, 
 use Rattle.eg_answer.specs.declared.marks.Verdict.TheVariants.{Right, Wrong}
 use Rattle.eg_word.specs.declared.registers.Trap.{Trap}
 use Rattle.eg_word.specs.declared.registers.Trap.TheVariants as kind
+use Rattle.eg_record.specs.declared.facts.Facts.{Facts}
 use Rattle.eg_record.specs.declared.row.Row.{Row}
 use Rattle.eg_record.specs.declared.summary.Summary.{Summary}
 use Rattle.eg_record.specs.declared.watch.Watch.{Watch}
@@ -18,16 +19,16 @@ use Rattle.eg_record.specs.Rows.{first_given}
 use Rattle.eg_record.specs.Spans.{this_span, IsDriveSpan, IsTestSpan}
 use Rattle.eg_record.proofs.SpanLemmas.{drive_span-begins, drive_span-goes_on, test_span-begins, test_span-goes_on}
 use Rattle.eg_record.specs.Excess.{true_excess, full_excess, is_excess_confirmed, first_confirmed}
-use Rattle.eg_record.specs.Detection.{is_found, first_watch, detected_at, first_detection}
+use Rattle.eg_record.specs.Detection.{is_found, is_watch, rank, first_watch, detected_at, first_detection}
 use Rattle.eg_record.specs.Stages.{is_off, off_at, first_off, last_on}
-use Rattle.eg_record.specs.Facts.{facts_of}
+use Rattle.eg_record.specs.Facts.{facts_of, off_from, reaction_in}
 use Rattle.eg_record.specs.Summaries.{summary_of}
 use Rattle.eg_record.specs.Texts.{comma, bit, watch_name, names, found_text, answer_text, verdict_text, drive_columns, engine_columns, path_columns, signal_columns, command_columns, value_columns, event_columns, columns, row_line, record_header, at_text, first_text, trap_name, trap_text, summary_line, report_end}
 
 -- every definition that these need
 unfoldable recording : ℕ
 unfolding weight windows is_reached is_confirmed is_excess first_given true_excess full_excess this_span
-    is_excess_confirmed first_confirmed is_found first_watch detected_at first_detection is_off off_at first_off last_on facts_of summary_of bit watch_name names found_text answer_text
+    is_excess_confirmed first_confirmed is_found is_watch rank first_watch detected_at first_detection is_off off_at first_off last_on facts_of off_from reaction_in summary_of bit watch_name names found_text answer_text
     verdict_text drive_columns engine_columns path_columns signal_columns command_columns value_columns event_columns columns row_line
     record_header at_text first_text trap_name trap_text summary_line report_end digits
 recording = 0
@@ -234,6 +235,41 @@ facts_across = (refl, refl, refl)
 facts_of_none : facts_of torque_weights 200 [] ≡ record { first = None; off = None; last_on = None; confirmed = None; ticks = 0 }
 unfolding recording
 facts_of_none = refl
+
+one_watch : (is_watch Pedal (Some Pedal) ≡ true) × (is_watch Pedal (Some Mirror) ≡ false) × (is_watch Pedal None ≡ false)
+unfolding recording
+one_watch = (refl, refl, refl)
+
+-- ---- reactions ----
+
+-- the facts of a run of 2,000 ticks that has a reaction only if these two ticks give it one
+abbrev long_run : (confirmed last_on : Option ℕ) → Facts
+long_run confirmed last_on = record { first = None; off = None; last_on = last_on; confirmed = confirmed; ticks = 2000 }
+
+-- on up to tick 14: they are off for good 5 ticks after the excess is confirmed
+some_ticks : reaction_in (long_run (Some 10) (Some 14)) ≡ Some 5
+unfolding recording
+some_ticks = refl
+
+-- on up to the tick itself, and up to the one before
+one_tick : (reaction_in (long_run (Some 10) (Some 10)) ≡ Some 1) × (reaction_in (long_run (Some 10) (Some 9)) ≡ Some 0)
+unfolding recording
+one_tick = (refl, refl)
+
+-- off for good long before, and never on
+off_before : (reaction_in (long_run (Some 10) (Some 3)) ≡ Some 0) × (reaction_in (long_run (Some 10) None) ≡ Some 0)
+unfolding recording
+off_before = (refl, refl)
+
+-- on up to the last tick but one, and up to the last
+at_the_end : (reaction_in (long_run (Some 10) (Some 1998)) ≡ Some 1989) × (reaction_in (long_run (Some 10) (Some 1999)) ≡ None)
+unfolding recording
+at_the_end = (refl, refl)
+
+-- no excess is confirmed
+unconfirmed : reaction_in (long_run None (Some 14)) ≡ None
+unfolding recording
+unconfirmed = refl
 
 -- ---- lines of summaries ----
 

@@ -1,6 +1,6 @@
 -- The first detection of a run: the least tick at which a watch is found, and which watch that is. Of several
 -- watches that are found at one tick, the first in their order counts.
-use Rattle.std.specs.Prelude.{◌≡◌, ◌↔◌, ℕ, ◌<◌, Bool, IsTrue, List, [], ◌∷◌, Option, Some, None, option_map}
+use Rattle.std.specs.Prelude.{◌≡◌, ◌↔◌, ℕ, ◌<◌, ◌==◌, Bool, false, IsTrue, List, [], ◌∷◌, Option, Some, None, option_map}
 use Rattle.std.specs.List.{All, Contains, find}
 use Rattle.eg_num.specs.declared.watches.Watches.{Watches}
 use Rattle.eg_record.specs.declared.row.Row.{Row}
@@ -47,6 +47,11 @@ rank Speed = 4
 rank Torque = 5
 rank Answers = 6
 rank Start = 7
+
+-- a watch, if any, is this one
+unfoldable pub is_watch : Watch → Option Watch → Bool
+is_watch watch None = false
+is_watch watch (Some other) = rank other == rank watch
 
 -- no watch is found at this row
 abbrev pub FindsNothing : Row → Type 0

@@ -1,5 +1,5 @@
 -- The facts of a run: what is told of its rows once they are gone.
-use Rattle.std.specs.Prelude.{ℕ, ◌+◌, Bool, List, length, Option, Some, None, if◌then◌else◌}
+use Rattle.std.specs.Prelude.{ℕ, ◌+◌, ◌-◌, Bool, nat_lt, List, length, Option, Some, None, option_map, if◌then◌else◌}
 use Rattle.std.specs.Option.{option_or}
 use Rattle.eg_num.specs.Windows.{WeightParts}
 use Rattle.eg_word.specs.declared.registers.Trap.{Trap}
@@ -19,6 +19,19 @@ facts_of weights threshold rows = record {
   confirmed = first_confirmed weights threshold rows;
   ticks = length rows;
 }
+
+-- the tick after the last one at which the stages are on, and 0 where they are never on
+unfoldable pub off_from : (last_on : Option ℕ) → ℕ
+off_from None = 0
+off_from (Some last) = last + 1
+
+-- The reaction of a run with these facts: how many ticks go by from the first one by which a true excess is
+-- confirmed until the stages are off for good, 0 where they are off for good before. There is none where no
+-- excess is confirmed, or the stages are on at the last tick.
+unfoldable pub reaction_in : Facts → Option ℕ
+reaction_in facts =
+    if nat_lt (off_from facts.last_on) facts.ticks
+    then option_map (λ confirmed. off_from facts.last_on - confirmed) facts.confirmed else None
 
 -- the summary that tells these facts, with this name, trap and reaction time
 unfoldable pub summary_with : (name : List ℕ) → Facts → (trap : Option (Trap × ℕ)) → (bound : ℕ) → Summary

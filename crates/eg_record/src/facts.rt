@@ -4,7 +4,7 @@ ghost use Rattle.std.specs.Option.{option_or};
 ghost use Rattle.eg_num.specs.Windows.{WeightParts};
 ghost use Rattle.eg_record.specs.Detection.{detected_at};
 ghost use Rattle.eg_record.specs.Stages.{off_at};
-ghost use Rattle.eg_record.specs.Facts.{facts_of, facts_with, summary_with};
+ghost use Rattle.eg_record.specs.Facts.{facts_of, facts_with, reaction_in, summary_with};
 ghost use Rattle.eg_record.specs.Summaries.{summary_of};
 
 use crate::detection::is_off;
@@ -55,6 +55,20 @@ impl Facts {
             confirmed: self.confirmed,
             bound,
         })
+    }
+
+    /// The reaction of the run, in ticks (docs/CONCEPT.md, "`soak`"). None where it has none: no true excess is
+    /// confirmed, or the power stages are on at the last tick.
+    #[tactic(auto, unfolding(crate::specs::Facts::reaction_in, crate::specs::Facts::off_from))]
+    pub fn reaction(&self) -> Option<u32>
+        ensures { result ≡ reaction_in self.now }
+    {
+        // At the greatest u32, which no run reaches, there is none either way.
+        let off_from = self.last_on.map_or(0, |last| last.saturating_add(1));
+        match self.confirmed {
+            Some(confirmed) if off_from < self.ticks => Some(off_from.saturating_sub(confirmed)),
+            _ => None,
+        }
     }
 
     /// The facts of no rows.

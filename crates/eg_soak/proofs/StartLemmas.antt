@@ -7,7 +7,7 @@ use Rattle.eg_num.specs.Drive.{DriveRow}
 use Rattle.eg_record.specs.declared.row.Row.{Row}
 use Rattle.eg_record.specs.declared.watch.Watch.{Watch}
 use Rattle.eg_record.specs.declared.watch.Watch.TheVariants.{Mirror, Pedal, Plate, Load, Speed, Torque, Answers, Start}
-use Rattle.eg_record.specs.Detection.{is_found, rank, first_detection}
+use Rattle.eg_record.specs.Detection.{is_found, is_watch, rank, first_detection}
 use Rattle.eg_record.specs.Facts.{facts_of as facts_of_rows}
 use Rattle.eg_record.proofs.LawLemmas.{first_detection-never}
 use Rattle.eg_draw.specs.Draws.{after}
@@ -16,7 +16,7 @@ use Rattle.eg_model.specs.Engines.{gasoline}
 use Rattle.eg_model.specs.Rows.{record_rows}
 use Rattle.eg_model.proofs.SpanRuns.{finds_no_start}
 use Rattle.eg_tick.specs.Facts.{record_facts}
-use Rattle.eg_soak.specs.Facts.{is_watch, is_first, facts_in, facts_of}
+use Rattle.eg_soak.specs.Facts.{is_first, facts_in, facts_of}
 use Rattle.eg_soak.specs.Soak.{run_drawn, drawn_runs}
 use Rattle.eg_soak.proofs.SumLemmas.{NeverStart}
 

@@ -5,10 +5,10 @@ use Rattle.std.specs.List.{sum, All}
 use Rattle.std.proofs.lemmas.List.Elements.{All-head, All-tail}
 use Rattle.eg_record.specs.declared.watch.Watch.{Watch}
 use Rattle.eg_record.specs.declared.watch.Watch.TheVariants.{Mirror, Pedal, Plate, Load, Speed, Torque, Answers, Start}
-use Rattle.eg_record.specs.Detection.{rank}
+use Rattle.eg_record.specs.Detection.{is_watch, rank}
 use Rattle.eg_model.proofs.LapseRuns.{count-cons}
 use Rattle.eg_soak.specs.declared.facts.RunFacts.{RunFacts}
-use Rattle.eg_soak.specs.Facts.{is_first, is_watch}
+use Rattle.eg_soak.specs.Facts.{is_first}
 use Rattle.eg_soak.specs.Soak.{summary_of}
 
 -- in none of these runs is the watch of the start-up test the first

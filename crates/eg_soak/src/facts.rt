@@ -3,7 +3,7 @@ ghost use Rattle.std.specs.Prelude.{◌≡◌, ◌∷◌, []};
 ghost use Rattle.eg_values.specs.Reference.{reference_parts};
 ghost use Rattle.eg_draw.specs.Runs.{IsDrawn};
 ghost use Rattle.eg_campaign.specs.Plays.{count_after};
-ghost use Rattle.eg_soak.specs.Facts.{facts_in, facts_of, is_first, reaction};
+ghost use Rattle.eg_soak.specs.Facts.{facts_in, facts_of, is_first};
 ghost use Rattle.eg_soak.specs.Soak.{run_drawn};
 
 use eg_draw::DrawnRun;
@@ -36,12 +36,12 @@ impl RunFacts {
             first: facts.first.map(|(watch, _)| watch),
             is_trapped,
             goes_off: facts.off.is_some(),
-            reaction: reaction(facts),
+            reaction: facts.reaction().unwrap_or(0),
         }
     }
 
     /// Whether this watch is the first that was found.
-    #[tactic(auto, unfolding(crate::specs::Facts::is_first, crate::specs::Facts::is_watch, eg_record::specs::Detection::rank))]
+    #[tactic(auto, unfolding(crate::specs::Facts::is_first, eg_record::specs::Detection::is_watch, eg_record::specs::Detection::rank))]
     pub(crate) fn is_first(&self, watch: Watch) -> bool
         ensures { result ≡ is_first watch self.now }
     {
@@ -65,17 +65,4 @@ pub(crate) fn play(calibration: &Calibration, drawn: &DrawnRun, steps: &mut Tick
     );
     let (facts, trap) = run_facts(calibration, image, &plan, drive, fault, steps);
     RunFacts::of(&facts, trap.is_some())
-}
-
-/// The reaction of a run of which these facts are told, in ticks.
-#[tactic(auto, unfolding(crate::specs::Facts::reaction, crate::specs::Facts::off_from))]
-fn reaction(facts: &Facts) -> u32
-    ensures { result ≡ reaction facts.now.confirmed facts.now.last_on facts.now.ticks }
-{
-    // At the greatest u32, which no run reaches, the answer is 0 either way.
-    let off_from = facts.last_on.map_or(0, |last| last.saturating_add(1));
-    match facts.confirmed {
-        Some(confirmed) if off_from < facts.ticks => off_from.saturating_sub(confirmed),
-        _ => 0,
-    }
 }
