@@ -1,13 +1,14 @@
--- The facts of a run: what they tell of the reaction where the drive never resets the unit, and how they grow with each tick.
-use Rattle.std.proofs.Common.{◌≡◌, ◌∙◌, refl, sym, ap, ap₂, subst, ℕ, suc, ◌+◌, ◌%◌, ◌^◌, ◌≤◌, ◌<◌, true, false, List, [], ◌∷◌, ◌++◌, All, map, length, arith, Some, None}
-use Rattle.std.specs.Prelude.{Option, IfSome, IsSomeAnd, MatchOption, nat_le}
+-- The facts of a run of any engine: what they tell of the reaction where the drive never resets the unit, and how they grow with each tick.
+use Rattle.std.proofs.Common.{◌≡◌, ◌∙◌, refl, sym, ap, ap₂, subst, ℕ, suc, ◌+◌, ◌-◌, ◌%◌, ◌^◌, ◌≤◌, ◌<◌, Bool, true, false, inl, inr, List, [], ◌∷◌, ◌++◌, All, map, length, arith, Some, None}
+use Rattle.std.specs.Prelude.{Option, option_map, IfSome, IsSomeAnd, MatchOption, nat_le, nat_lt, if◌then◌else◌}
 use Rattle.std.specs.List.{sum}
-use Rattle.std.proofs.lemmas.Bool.{le-leb}
+use Rattle.std.proofs.lemmas.Bool.{cases_lt, le-leb}
 use Rattle.std.proofs.lemmas.List.{append-nil}
 use Rattle.std.proofs.lemmas.List.Elements.{All-weaker}
 use Rattle.std.proofs.lemmas.List.Sums.{sum_by-cons}
 use Rattle.eg_num.specs.Windows.{WeightParts, is_confirmed, first_place}
 use Rattle.eg_answer.specs.Times.{reaction_of}
+use Rattle.eg_plant.specs.PlantParts.{PlantParts}
 use Rattle.eg_values.specs.Calibration.{IsAccepted}
 use Rattle.eg_fault.specs.Faults.{IsListed}
 use Rattle.eg_word.specs.declared.registers.Trap.{Trap}
@@ -18,17 +19,16 @@ use Rattle.eg_record.proofs.RowsLemmas.{AreRows-append}
 use Rattle.eg_record.specs.Spans.{this_span, IsDriveSpan, EachDriveSpan}
 use Rattle.eg_record.specs.Stages.{first_off, last_on}
 use Rattle.eg_record.specs.Excess.{true_excess, full_excess, is_excess_confirmed, first_confirmed}
-use Rattle.eg_record.specs.Facts.{facts_of}
+use Rattle.eg_record.specs.Facts.{facts_of, off_from, reaction_in}
 use Rattle.eg_record.proofs.SpanLemmas.{this_span-whole, one_span-part}
 use Rattle.eg_record.proofs.ExcessLemmas.{first_confirmed-one_span}
 use Rattle.eg_record.proofs.GivenLemmas.{AreRows-ticks}
 use Rattle.eg_record.proofs.FactLemmas.{last_on-before, last_on-append, last_on-within, ConfirmsAt, confirms_at, goes_off_once}
 use Rattle.eg_model.specs.Reaction.{is_at_once}
-use Rattle.eg_model.specs.Engines.{BenchEngine, gasoline}
+use Rattle.eg_model.specs.Engines.{BenchEngine, KeepsBenchLaws, ShowsOneLoad}
 use Rattle.eg_model.specs.Bench.{Run}
 use Rattle.eg_model.specs.Rows.{first_trap, record_rows, record_trap}
 use Rattle.eg_model.specs.Records.{IsRun, row_at, rows_to, ReactWithin, ReactAtOnce, CutOneTickAfter}
-use Rattle.eg_model.proofs.GasolineLaws.{gasoline_keeps, gasoline_shows_one_load}
 use Rattle.eg_model.proofs.RecordLaws.{records_react, records_react_at_once, records_cut_sharply}
 use Rattle.eg_model.proofs.RecordTicks.{records_are_histories, rows_to-suc, record_rows-is, records_are_rows}
 use Rattle.eg_model.proofs.SpanRuns.{is_one_drive_span, tests_never}
@@ -42,9 +42,10 @@ use Rattle.eg_tick.proofs.RunLemmas.{counted, more-mod}
 
 -- ---- the reaction ----
 
-module _ (r : Run) (is : IsRun r) (reset_free : IsWithoutReset r.drive) (some : 1 ≤ length r.drive) where
+module _ {E : Type 0} {b : BenchEngine E} {Keeps : PlantParts → E → Type 0} (keeps : KeepsBenchLaws b Keeps)
+    (r : Run) (is : IsRun r) (reset_free : IsWithoutReset r.drive) (some : 1 ≤ length r.drive) where
   rows : List Row
-  rows = record_rows gasoline r
+  rows = record_rows b r
 
   w : WeightParts
   w = r.setting.cal.rules.torque
@@ -54,18 +55,18 @@ module _ (r : Run) (is : IsRun r) (reset_free : IsWithoutReset r.drive) (some : 
 
   drive_span : IsDriveSpan rows
   unfolding rows
-  drive_span = is_one_drive_span gasoline r reset_free some
+  drive_span = is_one_drive_span b r reset_free some
 
   one : this_span rows ≡ rows
   one = this_span-whole rows drive_span.span
 
   are_rows : AreRows rows
   unfolding rows
-  are_rows = subst AreRows (sym (record_rows-is gasoline r)) (records_are_rows gasoline r (length r.drive)).0
+  are_rows = subst AreRows (sym (record_rows-is b r)) (records_are_rows b r (length r.drive)).0
 
   some_rows : 1 ≤ length rows
   unfolding rows
-  some_rows = let long = ap length (record_rows-is gasoline r) ∙ (records_are_rows gasoline r (length r.drive)).1 in omega (arith, long, some)
+  some_rows = let long = ap length (record_rows-is b r) ∙ (records_are_rows b r (length r.drive)).1 in omega (arith, long, some)
 
   -- what holds of each drive span holds of all rows
   whole : (P : ℕ → List Row → Type 0) → EachDriveSpan P rows → P 0 rows
@@ -76,7 +77,7 @@ module _ (r : Run) (is : IsRun r) (reset_free : IsWithoutReset r.drive) (some : 
   within listed c first = last_on-before rows (c + reaction_of r.setting.cal.times)
       (All-weaker (λ row. 0 + c + reaction_of r.setting.cal.times ≤ row.tick → row.on ≡ false) (λ row. c + reaction_of r.setting.cal.times ≤ row.tick → row.on ≡ false)
       (λ row off late. off (omega arith)) rows
-      (whole (ReactWithin (reaction_of r.setting.cal.times) w t) (records_react gasoline_keeps r is listed) c (sym (first_confirmed-one_span w t rows one) ∙ first)))
+      (whole (ReactWithin (reaction_of r.setting.cal.times) w t) (records_react keeps r is listed) c (sym (first_confirmed-one_span w t rows one) ∙ first)))
 
   at_once : IsListed r.setting.fault → (c : ℕ) → first_confirmed w t rows ≡ Some c → is_at_once r.setting.fault (c + 1) ≡ true → IfSome (last_on rows) (λ last. last < c + 1)
   unfolding rows w t
@@ -85,7 +86,7 @@ module _ (r : Run) (is : IsRun r) (reset_free : IsWithoutReset r.drive) (some : 
       let of_span : this_span at.before ≡ at.before = one_span-part at.later at.before (subst (λ (rs : List Row). this_span rs ≡ rs) at.split one) in
       let confirmed : is_confirmed w (map (true_excess t) at.before) ≡ true =
       ap (λ (rs : List Row). is_confirmed w (map (true_excess t) rs)) (sym of_span) ∙ confirmed-is w t at.before ∙ at.confirmed in
-      let off : All (λ row. row.on ≡ false) at.later = whole (ReactAtOnce r.setting.fault w t) (records_react_at_once gasoline_keeps r is listed)
+      let off : All (λ row. row.on ≡ false) at.later = whole (ReactAtOnce r.setting.fault w t) (records_react_at_once keeps r is listed)
       at.later at.before at.split confirmed (ap (λ n. is_at_once r.setting.fault n) (let long = at.long in omega arith) ∙ now) in
       let same : last_on rows ≡ last_on at.before = ap last_on at.split ∙ last_on-append at.later at.before off in
       subst (λ o. IfSome o (λ last. last < c + 1)) (sym same)
@@ -102,11 +103,11 @@ module _ (r : Run) (is : IsRun r) (reset_free : IsWithoutReset r.drive) (some : 
 
   untested : All (λ (row : Row). row.testing ≡ false) rows
   unfolding rows
-  untested = tests_never gasoline r reset_free
+  untested = tests_never b r reset_free
 
-  once : r.setting.fault ≡ None → IsSomeAnd (last_on rows) (λ last. MatchOption (first_off rows) (last + 1 ≡ length rows) (λ off. last + 1 ≡ off))
+  once : ShowsOneLoad b → r.setting.fault ≡ None → IsSomeAnd (last_on rows) (λ last. MatchOption (first_off rows) (last + 1 ≡ length rows) (λ off. last + 1 ≡ off))
   unfolding rows w t kt
-  once none = go (first_place w (map (full_excess kt t) rows)) (whole (CutOneTickAfter w kt t) (records_cut_sharply gasoline_keeps gasoline_shows_one_load r is none))
+  once one_load none = go (first_place w (map (full_excess kt t) rows)) (whole (CutOneTickAfter w kt t) (records_cut_sharply keeps one_load r is none))
     where
       go : (o : Option ℕ) → MatchOption o (All (λ row. row.on ≡ true) rows) (λ c. All (λ row. row.on ≡ nat_le row.tick (0 + c)) rows) →
           IsSomeAnd (last_on rows) (λ last. MatchOption (first_off rows) (last + 1 ≡ length rows) (λ off. last + 1 ≡ off))
@@ -118,7 +119,7 @@ module _ (r : Run) (is : IsRun r) (reset_free : IsWithoutReset r.drive) (some : 
           the_same : (c : ℕ) → 0 + c ≡ c
           the_same c = omega arith
 
-  pub facts_react : IsListed r.setting.fault → FactsReactWithin (reaction_of r.setting.cal.times) (record_facts gasoline r)
+  pub facts_react : IsListed r.setting.fault → FactsReactWithin (reaction_of r.setting.cal.times) (record_facts b r)
   unfolding record_facts facts_of w t rows
   facts_react listed = go (first_confirmed w t rows) refl
     where
@@ -126,7 +127,7 @@ module _ (r : Run) (is : IsRun r) (reset_free : IsWithoutReset r.drive) (some : 
       go None first = tt
       go (Some c) first = within listed c first
 
-  pub facts_react_at_once : IsListed r.setting.fault → FactsReactAtOnce r.setting.fault (record_facts gasoline r)
+  pub facts_react_at_once : IsListed r.setting.fault → FactsReactAtOnce r.setting.fault (record_facts b r)
   unfolding record_facts facts_of w t rows
   facts_react_at_once listed = go (first_confirmed w t rows) refl
     where
@@ -135,9 +136,48 @@ module _ (r : Run) (is : IsRun r) (reset_free : IsWithoutReset r.drive) (some : 
       go None first = tt
       go (Some c) first = at_once listed c first
 
-  pub facts_go_off_once : r.setting.fault ≡ None → GoOffOnce (record_facts gasoline r)
+  pub facts_go_off_once : ShowsOneLoad b → r.setting.fault ≡ None → GoOffOnce (record_facts b r)
   unfolding record_facts facts_of rows
-  facts_go_off_once none = once none
+  facts_go_off_once one_load none = once one_load none
+
+-- ---- the reaction as one number ----
+
+-- what is told only where a test passes
+if-within : (test : Bool) (o : Option ℕ) (P : ℕ → Type 0) → IfSome o P → IfSome (if test then o else None) P
+if-within true o P all = all
+if-within false o P all = tt
+
+if-not : (test : Bool) (o : Option ℕ) (P : ℕ → Type 0) → test ≡ false → IfSome (if test then o else None) P
+if-not true o P not = absurd cc
+if-not false o P not = tt
+
+-- a reaction is at most so long where the stages are off for good so many ticks after the excess is confirmed
+reaction_in-within : (facts : Facts) (bound : ℕ) → FactsReactWithin bound facts → IfSome (reaction_in facts) (λ n. n ≤ bound)
+unfolding reaction_in
+reaction_in-within facts bound reacts = if-within (nat_lt (off_from facts.last_on) facts.ticks) _ (λ n. n ≤ bound) (parts facts.confirmed facts.last_on reacts)
+  where
+    parts : (confirmed last_on : Option ℕ) → IfSome confirmed (λ c. IfSome last_on (λ last. last < c + bound)) →
+        IfSome (option_map (λ c. off_from last_on - c) confirmed) (λ n. n ≤ bound)
+    parts None last_on within = tt
+    parts (Some c) None within = unfold off_from in omega arith
+    parts (Some c) (Some last) within = unfold off_from in omega arith
+
+-- a run without a tick has none
+no_reaction : (facts : Facts) (P : ℕ → Type 0) → facts.ticks ≡ 0 → IfSome (reaction_in facts) P
+unfolding reaction_in
+no_reaction facts P none = if-not (nat_lt (off_from facts.last_on) facts.ticks) _ P (never (off_from facts.last_on) facts.ticks none)
+  where
+    never : (n m : ℕ) → m ≡ 0 → nat_lt n m ≡ false
+    never n m none = grind arith
+
+-- So a run under a listed fault, or without one, whose drive never resets the unit has no reaction longer than the reaction time.
+pub reaction_within : {E : Type 0} {b : BenchEngine E} {Keeps : PlantParts → E → Type 0} (keeps : KeepsBenchLaws b Keeps) (r : Run) → IsRun r →
+    IsWithoutReset r.drive → IsListed r.setting.fault → IfSome (reaction_in (record_facts b r)) (λ n. n ≤ reaction_of r.setting.cal.times)
+reaction_within {b = b} keeps r is reset_free listed = elim (cases_lt 0 (length r.drive)) [
+  | inl some ↦ reaction_in-within (record_facts b r) (reaction_of r.setting.cal.times) (facts_react keeps r is reset_free some listed)
+  | inr none ↦ no_reaction (record_facts b r) (λ n. n ≤ reaction_of r.setting.cal.times)
+      (unfold record_facts facts_of in (ap length (record_rows-is b r) ∙ (records_are_rows b r (length r.drive)).1 ∙ (omega arith)))
+]
 
 -- ---- one tick more ----
 
@@ -174,8 +214,8 @@ told b come_to r c facts trap at are is = record {
   proper = at.stands.engine.proper;
 }
 
-pub is_run : (r : Run) (facts : Facts) (trap : Option (Trap × ℕ)) → IsAccepted r.setting.cal → IsToldOf gasoline r facts trap → IsRun r
-is_run r facts trap accepted told = record {
+pub is_run : {S : Type 0} (b : BenchEngine S) (r : Run) (facts : Facts) (trap : Option (Trap × ℕ)) → IsAccepted r.setting.cal → IsToldOf b r facts trap → IsRun r
+is_run b r facts trap accepted told = record {
   accepted = accepted;
-  drive = drive_keeps gasoline r told.proper;
+  drive = drive_keeps b r told.proper;
 }

@@ -1,7 +1,9 @@
 use Rattle.std.proofs.Common.{subst, sym}
 use Rattle.std.specs.Option.{option_copied}
 use Rattle.eg_answer.specs.Times.{reaction_of}
+use Rattle.eg_model.specs.Engines.{gasoline}
 use Rattle.eg_model.specs.Bench.{Run}
+use Rattle.eg_model.proofs.GasolineLaws.{gasoline_keeps, gasoline_shows_one_load}
 use Rattle.eg_tick.specs.Run.{run_by}
 use Rattle.eg_tick.specs.Facts.{record_facts, FactsReactWithin, FactsReactAtOnce, GoOffOnce}
 use Rattle.eg_tick.proofs.FactLaws.{is_run, facts_react, facts_react_at_once, facts_go_off_once}
@@ -16,18 +18,18 @@ returns-clause-reacts c = λ listed reset_free.
     let r : Run = run_by c.args.calibration.now c.args.image.now (option_copied c.args.fault) c.args.plan.now c.args.drive.now in
     let told = c.bench_facts.ensures.told in
     subst (FactsReactWithin (reaction_of r.setting.cal.times)) (sym told.facts_are)
-    (facts_react r (is_run r _ _ c.rules-rules.ensures.accepted told) reset_free c.requires.some listed)
+    (facts_react gasoline_keeps r (is_run gasoline r _ _ c.rules-rules.ensures.accepted told) reset_free c.requires.some listed)
 
 pub returns-clause-at_once : goal.returns-clause-at_once
 returns-clause-at_once c = λ listed reset_free.
     let r : Run = run_by c.args.calibration.now c.args.image.now (option_copied c.args.fault) c.args.plan.now c.args.drive.now in
     let told = c.bench_facts.ensures.told in
     subst (FactsReactAtOnce r.setting.fault) (sym told.facts_are)
-    (facts_react_at_once r (is_run r _ _ c.rules-rules.ensures.accepted told) reset_free c.requires.some listed)
+    (facts_react_at_once gasoline_keeps r (is_run gasoline r _ _ c.rules-rules.ensures.accepted told) reset_free c.requires.some listed)
 
 pub returns-clause-once : goal.returns-clause-once
 returns-clause-once c = λ none reset_free.
     let r : Run = run_by c.args.calibration.now c.args.image.now (option_copied c.args.fault) c.args.plan.now c.args.drive.now in
     let told = c.bench_facts.ensures.told in
     subst GoOffOnce (sym told.facts_are)
-    (facts_go_off_once r (is_run r _ _ c.rules-rules.ensures.accepted told) reset_free c.requires.some none)
+    (facts_go_off_once gasoline_keeps r (is_run gasoline r _ _ c.rules-rules.ensures.accepted told) reset_free c.requires.some gasoline_shows_one_load none)
