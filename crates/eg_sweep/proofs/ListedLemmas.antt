@@ -1,0 +1,87 @@
+-- The faults of a grid are valid ones, and all but the lapses are listed.
+use Rattle.std.proofs.Common.{◌≡◌, ℕ, ◌≤◌, ◌<◌, false, List, [], ◌∷◌, All, lit≤, lit<, arith}
+use Rattle.std.specs.Prelude.{◌↔◌, Some}
+use Rattle.std.specs.List.Sorted.{IsStrictlyIncreasing}
+use Rattle.std.proofs.lemmas.List.Elements.{All-nil, All-cons}
+use Rattle.eg_fault.specs.declared.class.Class.{Class}
+use Rattle.eg_fault.specs.Faults.{AreFew, IsMask, IsValid, IsValidClass, IsListed, is_lapse}
+use Rattle.eg_sweep.specs.Grid.{swept_classes, swept_faults}
+use Rattle.eg_sweep.proofs.GridLemmas.{each_swept}
+
+one : (P : ℕ → Type 0) (n : ℕ) → P n → All P (n ∷ [])
+one P n here = All-cons P n [] here (All-nil P)
+
+bit : IsMask 1
+bit = (lit≤ tt, lit≤ tt)
+
+few : AreFew 1
+few = (lit≤ tt, lit≤ tt)
+
+rises : (n : ℕ) → IsStrictlyIncreasing (n ∷ [])
+rises n k low = absurd (omega arith)
+
+-- what holds of each of some classes, one by one
+abbrev Each : (Class → Type 0) → List Class → Type 0
+Each P [] = Unit {0}
+Each P (class ∷ classes) = P class × Each P classes
+
+each_all : (P : Class → Type 0) (classes : List Class) → Each P classes → All P classes
+each_all P [] each = All-nil P
+each_all P (class ∷ classes) each = All-cons P class classes each.0 (each_all P classes each.1)
+
+classes_each : Each IsValidClass swept_classes
+unfolding swept_classes IsValidClass
+classes_each = (
+  (lit< tt, few, one (λ value. value ≤ 65535) 0 (lit≤ tt)),
+  (
+    (lit< tt, (lit≤ tt, lit≤ tt)),
+    (
+      bit,
+      (
+        lit≤ tt,
+        (
+          lit< tt,
+          (
+            (lit≤ tt, lit≤ tt, (lit≤ tt, lit≤ tt)),
+            (
+              (lit< tt, bit),
+              (
+                tt,
+                (
+                  lit≤ tt,
+                  (
+                    (few, one (λ question. question ≤ 65535) 65535 (lit≤ tt), few),
+                    (
+                      tt,
+                      (
+                        tt,
+                        (
+                          (lit≤ tt, lit≤ tt),
+                          ((few, one (λ k. k ≤ 19999) 0 (lit≤ tt), rises 0, lit≤ tt), tt),
+                        ),
+                      ),
+                    ),
+                  ),
+                ),
+              ),
+            ),
+          ),
+        ),
+      ),
+    ),
+  ),
+)
+
+classes_valid : All IsValidClass swept_classes
+classes_valid = each_all IsValidClass swept_classes classes_each
+
+pub swept_valid : (ticks step : ℕ) → ticks ≤ 20000 → 1 ≤ step → All IsValid (swept_faults ticks step)
+swept_valid ticks step most some = each_swept IsValid IsValidClass ticks step some (λ onset class within valid. (omega arith, valid)) classes_valid
+
+pub swept_listed : (ticks step : ℕ) → ticks ≤ 20000 → 1 ≤ step →
+    All (λ fault. IsListed (Some fault) ↔ (is_lapse fault.class ≡ false)) (swept_faults ticks step)
+unfolding IsListed
+swept_listed ticks step most some k d below = (λ listed. listed.1, λ other. (swept_valid ticks step most some k d below, other))
+
+pub swept_within : (ticks step : ℕ) → 1 ≤ step → All (λ fault. fault.onset < ticks) (swept_faults ticks step)
+swept_within ticks step some = each_swept (λ fault. fault.onset < ticks) IsValidClass ticks step some (λ onset class within valid. within) classes_valid

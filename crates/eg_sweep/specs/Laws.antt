@@ -1,0 +1,51 @@
+-- What holds of each sweep: which faults it has, and how far the reactions in its table go.
+use Rattle.std.specs.Prelude.{◌≡◌, ◌↔◌, ℕ, ◌%◌, ◌≤◌, ◌<◌, false, List, All, map, take, IfSome, Some}
+use Rattle.std.specs.List.{Contains}
+use Rattle.eg_fault.specs.declared.class.Fault.{Fault}
+use Rattle.eg_fault.specs.Faults.{IsValid, IsListed, is_lapse}
+use Rattle.eg_record.specs.declared.facts.Facts.{Facts}
+use Rattle.eg_record.specs.Facts.{reaction_in}
+use Rattle.eg_sweep.specs.declared.row.SweepRow.{SweepRow}
+use Rattle.eg_sweep.specs.Grid.{onsets, swept_faults}
+use Rattle.eg_sweep.specs.Table.{table_of, greatest_listed}
+
+-- ---- the grid ----
+
+-- the onsets are the multiples of `step` below `ticks`
+abbrev pub OnsetsLaw : Type 0
+OnsetsLaw =
+    (ticks step : ℕ) → 1 ≤ step → (n : ℕ) → Contains (onsets ticks step) n ↔ ((n < ticks) × (n % step ≡ 0))
+
+-- each fault of a grid begins within the run
+abbrev pub OnsetsAreWithin : Type 0
+OnsetsAreWithin =
+    (ticks step : ℕ) → 1 ≤ step → All (λ fault. fault.onset < ticks) (swept_faults ticks step)
+
+-- each is valid, where a run has as many ticks as one may have
+abbrev pub SweptAreValid : Type 0
+SweptAreValid =
+    (ticks step : ℕ) → ticks ≤ 20000 → 1 ≤ step → All IsValid (swept_faults ticks step)
+
+-- and each but the lapses is a listed one
+abbrev pub SweptAreListed : Type 0
+SweptAreListed =
+    (ticks step : ℕ) → ticks ≤ 20000 → 1 ≤ step →
+    All (λ fault. IsListed (Some fault) ↔ (is_lapse fault.class ≡ false)) (swept_faults ticks step)
+
+-- ---- the table ----
+
+-- a reaction of a run with these facts is at most so long
+abbrev pub ReactsIn : (bound : ℕ) → Facts → Type 0
+ReactsIn bound facts = IfSome (reaction_in facts) (λ n. n ≤ bound)
+
+-- in each row but that of lapses the greatest reaction is at most so long, and so is that in the last line
+pub record IsBounded (bound : ℕ) (rows : List SweepRow) : Type 0 where
+  pub each : All (λ row. IfSome row.reaction (λ n. n ≤ bound)) (take 13 rows)
+  pub greatest : IfSome (greatest_listed rows) (λ n. n ≤ bound)
+
+-- so it is where each run under a listed fault of the grid keeps that, whatever the facts of a run come from
+abbrev pub ReactionsAreBounded : Type 0
+ReactionsAreBounded =
+    (ticks step bound : ℕ) (told : Fault → Facts) → ticks ≤ 20000 → 1 ≤ step →
+    All (λ fault. IsListed (Some fault) → ReactsIn bound (told fault)) (swept_faults ticks step) →
+    IsBounded bound (table_of (swept_faults ticks step) (map told (swept_faults ticks step)))

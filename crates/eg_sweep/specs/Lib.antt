@@ -1,0 +1,4 @@
+pub mod Grid
+pub mod Table
+pub mod Texts
+pub mod Laws

@@ -1,0 +1,71 @@
+-- The table of a sweep: what comes of the runs under the faults of each class.
+use Rattle.std.specs.Prelude.{ℕ, ◌==◌, Bool, max, is_none, List, [], ◌∷◌, map, take, length, count_by, Option, Some, None, option_map}
+use Rattle.std.specs.List.{filter, filter_map, fold, zip}
+use Rattle.eg_fault.specs.declared.class.Class.{Class}
+use Rattle.eg_fault.specs.declared.class.Class.TheVariants.{Script, Offset, Bus, Plate, Skip, Disturb, Flip, Halt, Timing, Wild, Path1Closed, Path2Closed, PathOpen, Lapse}
+use Rattle.eg_fault.specs.declared.class.Fault.{Fault}
+use Rattle.eg_record.specs.declared.facts.Facts.{Facts}
+use Rattle.eg_record.specs.declared.watch.Watch.{Watch}
+use Rattle.eg_record.specs.Detection.{watches, is_watch}
+use Rattle.eg_record.specs.Facts.{reaction_in}
+use Rattle.eg_sweep.specs.declared.row.SweepRow.{SweepRow}
+use Rattle.eg_sweep.specs.Grid.{swept_classes}
+
+-- ---- the runs of a class ----
+
+-- the place of a class in their order, whatever its numbers
+unfoldable pub class_place : Class → ℕ
+class_place (Script track values) = 0
+class_place (Offset track add) = 1
+class_place (Bus mask) = 2
+class_place (Plate at) = 3
+class_place (Skip index) = 4
+class_place (Disturb index mask) = 5
+class_place (Flip word mask) = 6
+class_place Halt = 7
+class_place (Timing offset) = 8
+class_place (Wild questions opens) = 9
+class_place Path1Closed = 10
+class_place Path2Closed = 11
+class_place (PathOpen path) = 12
+class_place (Lapse after every) = 13
+
+-- Of runs, each with its fault and its facts, the facts of those whose fault is of this class, whatever its
+-- numbers.
+unfoldable pub facts_under : Class → List (Fault × Facts) → List Facts
+facts_under class runs =
+    map (λ run. run.1) (filter (λ run. class_place run.0.class == class_place class) runs)
+
+-- ---- a row ----
+
+-- this watch is the first that is found in a run with these facts
+unfoldable pub is_found_first : Watch → Facts → Bool
+is_found_first watch facts = is_watch watch (option_map (λ detection. detection.0) facts.first)
+
+-- the greatest of some numbers, if there are any
+unfoldable pub greatest : List ℕ → Option ℕ
+greatest [] = None
+greatest (n ∷ others) = Some (fold max n others)
+
+-- the row of runs with these facts
+unfoldable pub row_of : List Facts → SweepRow
+row_of runs = record {
+  runs = length runs;
+  none = count_by (λ facts. is_none facts.first) runs;
+  by_watch = map (λ watch. count_by (is_found_first watch) runs) watches;
+  reaction = greatest (filter_map reaction_in runs);
+}
+
+-- ---- the table ----
+
+-- the rows of the fourteen classes
+unfoldable pub rows_of : List (Fault × Facts) → List SweepRow
+rows_of runs = map (λ class. row_of (facts_under class runs)) swept_classes
+
+-- the rows of runs under these faults that have these facts
+unfoldable pub table_of : List Fault → List Facts → List SweepRow
+table_of faults facts = rows_of (zip faults facts)
+
+-- the greatest reaction under listed faults: that of the thirteen rows before the last, which is of lapses
+unfoldable pub greatest_listed : List SweepRow → Option ℕ
+greatest_listed rows = greatest (filter_map (λ row. row.reaction) (take 13 rows))

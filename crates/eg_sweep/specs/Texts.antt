@@ -1,0 +1,45 @@
+-- What `sweep` writes: a line for each class, and a last line.
+use Rattle.std.specs.Prelude.{ℕ, List, [], ◌∷◌, ◌++◌, map, codes, decimal, Option, Some, None}
+use Rattle.std.specs.List.{concat, zip}
+use Rattle.eg_record.specs.declared.watch.Watch.{Watch}
+use Rattle.eg_record.specs.Detection.{watches}
+use Rattle.eg_record.specs.Texts.{watch_name}
+use Rattle.eg_sweep.specs.declared.row.SweepRow.{SweepRow}
+use Rattle.eg_sweep.specs.Table.{greatest_listed}
+
+-- the names of the classes in their order, as campaigns spell them
+unfoldable pub class_names : List (List ℕ)
+class_names =
+    codes "script" ∷ codes "offset" ∷ codes "bus" ∷ codes "plate" ∷ codes "skip" ∷ codes "disturb"
+    ∷ codes "flip" ∷ codes "halt" ∷ codes "timing" ∷ codes "wild" ∷ codes "path1-closed"
+    ∷ codes "path2-closed" ∷ codes "path-open" ∷ codes "lapse" ∷ []
+
+-- a reaction, or `none`
+unfoldable pub reaction_text : Option ℕ → List ℕ
+reaction_text None = codes "none"
+reaction_text (Some ticks) = decimal ticks
+
+-- the count of a watch
+unfoldable pub watch_text : Watch × ℕ → List ℕ
+watch_text counted = codes "; " ++ watch_name counted.0 ++ codes " " ++ decimal counted.1
+
+-- the counts of the watches in their order
+unfoldable pub watches_text : List ℕ → List ℕ
+watches_text by_watch = concat (map watch_text (zip watches by_watch))
+
+-- the line of a class with this name
+unfoldable pub sweep_line : List ℕ × SweepRow → List ℕ
+sweep_line named =
+    named.0 ++ codes ": runs " ++ decimal named.1.runs ++ codes "; none " ++ decimal named.1.none
+    ++ watches_text named.1.by_watch ++ codes "; reaction " ++ reaction_text named.1.reaction ++ codes "\n"
+
+-- the last line
+unfoldable pub sweep_end : List SweepRow → List ℕ
+sweep_end rows = codes "greatest reaction " ++ reaction_text (greatest_listed rows) ++ codes "\n"
+
+-- all lines
+unfoldable pub sweep_lines : List SweepRow → List (List ℕ)
+sweep_lines rows = map sweep_line (zip class_names rows) ++ sweep_end rows ∷ []
+
+unfoldable pub sweep_text_of : List SweepRow → List ℕ
+sweep_text_of rows = concat (sweep_lines rows)

@@ -1,0 +1,49 @@
+// The table of a sweep.
+ghost use Rattle.std.specs.Prelude.{◌≡◌, ◌≤◌, ◌<◌, ◌+◌, All, length};
+ghost use Rattle.std.specs.List.{sum, sum_by};
+ghost use Rattle.eg_sweep.specs.Table.{class_place, table_of};
+
+use crate::SweepRow;
+use eg_fault::{Class, Fault};
+use eg_record::Facts;
+
+/// What comes of the runs under these faults, at most 1,000, of which these facts are told in the same order:
+/// a row for each class, in the order of `Class` (docs/CONCEPT.md, "`sweep`"). It takes no memory.
+pub fn tabulate(faults: &[Fault], facts: &[Facts]) -> [SweepRow; 14]
+    requires same { length faults.now ≡ length facts.now }
+    requires few { length faults.now ≤ 1000 }
+    ensures rows { result ≡ table_of faults.now facts.now }
+    // Each run is counted once: under its class, and there by its first watch or where none is found.
+    ensures runs { sum_by (λ row. row.runs) result ≡ length faults.now }
+    ensures watches { All (λ row. row.none + sum row.by_watch ≡ row.runs) result }
+{
+    let mut rows = [SweepRow::new(); 14];
+    for (fault, of_run) in faults.iter().zip(facts) {
+        rows[class_place(&fault.class)].add(of_run);
+    }
+    rows
+}
+
+/// The place of a class in their order.
+#[tactic(auto, unfolding(crate::specs::Table::class_place))]
+fn class_place(class: &Class) -> usize
+    ensures place { result ≡ class_place class.now }
+    ensures within { result < 14 }
+{
+    match class {
+        Class::Script { .. } => 0,
+        Class::Offset { .. } => 1,
+        Class::Bus { .. } => 2,
+        Class::Plate { .. } => 3,
+        Class::Skip { .. } => 4,
+        Class::Disturb { .. } => 5,
+        Class::Flip { .. } => 6,
+        Class::Halt => 7,
+        Class::Timing { .. } => 8,
+        Class::Wild { .. } => 9,
+        Class::Path1Closed => 10,
+        Class::Path2Closed => 11,
+        Class::PathOpen { .. } => 12,
+        Class::Lapse { .. } => 13,
+    }
+}
