@@ -9,11 +9,11 @@ use Rattle.eg_outcome.specs.declared.outcome.Role.TheVariants as role
 use Rattle.eg_outcome.specs.Outcomes.{IsDoneOrMemory}
 use Rattle.eg_outcome.specs.Reads.{Finds, Accepts}
 use Rattle.eg_outcome.specs.Calibrations.{calibration_file, CalibrationComes, FindsCalibration, AcceptsCalibration}
-use Rattle.eg_app.specs.Words.{Command, check, bound, run, record_run, soak}
+use Rattle.eg_app.specs.Words.{Command, check, bound, run, record_run, sweep, soak}
 use Rattle.eg_app.specs.Check.{check_file}
 use Rattle.eg_app.specs.Ends.{CheckWorks, Ends, Completes}
 use Rattle.eg_app.proofs.FileLemmas.{file_done, line_done}
-use Rattle.eg_app.proofs.PlayLemmas.{run_done, record_done}
+use Rattle.eg_app.proofs.PlayLemmas.{run_done, record_done, sweep_done}
 
 -- where a calibration is found and accepted, a call ends only where memory runs out
 calibration_done : (calibration : Option (List ℕ)) (store later : ShownStore) (end : Outcome)
@@ -40,7 +40,7 @@ completes (Some (check calibration file)) store later out now was then o (Ok par
     check_done parts.rules file store later out now o works finds_check accepts_check still
 completes (Some (check calibration file)) store later out now was then o (Err end, comes, (is, same)) = λ finds accepts finds_check accepts_check still.
     subst IsDoneOrMemory (sym is) (calibration_done calibration store later end comes finds accepts)
-completes (Some (bound calibration)) store later out now was then o (Ok parts, comes, (same, line)) = λ finds accepts still.
+completes (Some (bound calibration)) store later out now was then o (Ok parts, comes, (same, lapse, is, line)) = λ finds accepts still.
     line_done _ out now o line still
 completes (Some (bound calibration)) store later out now was then o (Err end, comes, (is, same)) = λ finds accepts still.
     subst IsDoneOrMemory (sym is) (calibration_done calibration store later end comes finds accepts)
@@ -52,3 +52,7 @@ completes (Some (record_run calibration campaign name)) store later out now was 
     subst IsDoneOrMemory (sym is) (calibration_done calibration store later end comes finds accepts)
 completes (Some (record_run calibration campaign name)) store later out now was then o (Ok parts, comes, works) = λ finds accepts found accepted files still.
     record_done parts campaign name store later out now was then o works found accepted files still
+completes (Some (sweep calibration campaign name step)) store later out now was then o (Err end, comes, (is, same)) = λ finds accepts found accepted files still.
+    subst IsDoneOrMemory (sym is) (calibration_done calibration store later end comes finds accepts)
+completes (Some (sweep calibration campaign name step)) store later out now was then o (Ok parts, comes, works) = λ finds accepts found accepted files still.
+    sweep_done parts campaign name step store later out now was then o works found accepted files still

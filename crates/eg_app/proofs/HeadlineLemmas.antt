@@ -1,5 +1,5 @@
--- The headline, from how `run` and `record` end.
-use Rattle.std.proofs.Common.{◌≡◌, ◌∙◌, ◌+◌, ◌∷◌, [], List, ℕ, Option, Some, None, length, refl, sym, subst}
+-- The headline, from how `run`, `record` and `sweep` end.
+use Rattle.std.proofs.Common.{◌≡◌, ◌∙◌, ◌+◌, ◌∷◌, [], List, ℕ, Bool, true, false, Option, Some, None, length, refl, sym, subst}
 use Rattle.std.specs.Prelude.{Result, Ok, Err}
 use Rattle.eg_base.specs.Outside.{ShownStore, ShownSink}
 use Rattle.eg_num.specs.Drive.{DriveRow}
@@ -16,12 +16,14 @@ use Rattle.eg_outcome.specs.declared.outcome.Role.{Role}
 use Rattle.eg_outcome.specs.declared.outcome.Role.TheVariants as role
 use Rattle.eg_outcome.specs.Reads.{ReadComes, FileComes}
 use Rattle.eg_outcome.specs.Calibrations.{CalibrationComes, calibration_file}
-use Rattle.eg_play.specs.Files.{campaign_file, trace_file, image_file}
+use Rattle.eg_sweep.specs.Grid.{is_too_large}
+use Rattle.eg_outcome.specs.Images.{image_file}
+use Rattle.eg_play.specs.Files.{campaign_file, trace_file}
 use Rattle.eg_play.specs.Inputs.{input_of, TicksCome, InputComes, InputsCome, too_many}
-use Rattle.eg_play.specs.Ends.{RunsEnd, NamedEnds, run_named}
-use Rattle.eg_app.specs.Words.{Command, check, bound, run, record_run, soak}
+use Rattle.eg_play.specs.Ends.{RunsEnd, GridEnds, FoundComes, NamedComes, run_named}
+use Rattle.eg_app.specs.Words.{Command, check, bound, run, record_run, sweep, soak}
 use Rattle.eg_app.specs.Ends.{Ends}
-use Rattle.eg_app.specs.Headline.{GoesBy, IsInput, AreInputs, TellsRuns, TellsRecord, TellsHeadline}
+use Rattle.eg_app.specs.Headline.{GoesBy, IsInput, AreInputs, IsNamedInput, TellsRuns, TellsHeadline}
 use Rattle.eg_app.proofs.PlayLemmas.{same_error, same_value, no_value}
 
 -- ---- no call is done without its files ----
@@ -113,26 +115,40 @@ runs_tell calibration campaign cal plans store later out now was then by says (O
   headline = plays.headline;
 }
 
-named_tells : (calibration : Option (List ℕ)) (campaign name : List ℕ) (cal : CalibrationParts) (plans : List RunPlan) (store later : ShownStore)
-    (out now : ShownSink) (was then : TickCount) (found : Option (ℕ × RunPlan)) → GoesBy calibration store cal
-    → ReadComes campaign_file campaign store (Ok plans) → run_named name 1 plans ≡ found
-    → NamedEnds cal found store later out now was then Done → TellsRecord calibration campaign name store out now
-named_tells calibration campaign name cal plans store later out now was then None by says named ends = absurd (refused_never refusal.NoRun Done (sym ends.0) refl)
-named_tells calibration campaign name cal plans store later out now was then (Some found) by says named (Err end, comes, (is, nothing)) =
-    absurd (input_never (λ count. None) store later found.0 found.1 end comes (sym is))
-named_tells calibration campaign name cal plans store later out now was then (Some found) by says named (Ok input, comes, (same, plays)) = record {
-  cal = cal;
+-- what comes of the run of a name
+found_never : (found : Option (ℕ × RunPlan)) (store later : ShownStore) (end : Outcome)
+    → FoundComes found store later (Err end) → end ≡ Done → ⊥
+found_never None store later end come done = refused_never refusal.NoRun end (same_error (Err end) end (Refused refusal.NoRun) refl come.0) done
+found_never (Some found) store later end come done = input_never (λ count. None) store later found.0 found.1 end come done
+
+named_never : (campaign name : List ℕ) (store later : ShownStore) (end : Outcome) → NamedComes campaign name store later (Err end) → end ≡ Done → ⊥
+named_never campaign name store later end (Ok plans, read, come) done = found_never (run_named name 1 plans) store later end come done
+named_never campaign name store later end (Err e, read, come) done =
+    never_done role.Campaign campaign_file campaign store later e read (same_error (Err end) end e refl come ∙ done)
+
+found_tells : (campaign name : List ℕ) (plans : List RunPlan) (found : Option (ℕ × RunPlan)) (store later : ShownStore) (input : RunInput)
+    → ReadComes campaign_file campaign store (Ok plans) → run_named name 1 plans ≡ found → FoundComes found store later (Ok input)
+    → IsNamedInput campaign name store input
+found_tells campaign name plans None store later input says named come = absurd (no_value input _ (sym come.0))
+found_tells campaign name plans (Some found) store later input says named come = record {
   plans = plans;
   n = found.0;
   plan = found.1;
-  input = input;
-  goes_by = by;
   campaign_says = says;
   is_named = named;
-  files_say = input_tells (λ count. None) store later found.0 found.1 input comes;
-  written = plays.written.0;
-  headline = plays.headline;
+  files_say = input_tells (λ count. None) store later found.0 found.1 input come;
 }
+
+named_tells : (campaign name : List ℕ) (store later : ShownStore) (input : RunInput)
+    → NamedComes campaign name store later (Ok input) → IsNamedInput campaign name store input
+named_tells campaign name store later input (Ok plans, read, come) =
+    found_tells campaign name plans (run_named name 1 plans) store later input read refl come
+named_tells campaign name store later input (Err e, read, come) = absurd (no_value input e (sym come))
+
+-- a grid that isn't refused
+grid_done : (large : Bool) (nothing work : Type 0) → GridEnds large nothing work Done → work
+grid_done true nothing work ends = absurd (refused_never refusal.Grid Done (sym ends.0) refl)
+grid_done false nothing work ends = ends
 
 done_tells : (command : Option Command) (store later : ShownStore) (out now : ShownSink) (was then : TickCount)
     → Ends command store later out now was then Done → TellsHeadline command store out now
@@ -149,10 +165,31 @@ done_tells (Some (run calibration campaign)) store later out now was then (Ok ca
     runs_tell calibration campaign cal plans store later out now was then (goes_by calibration store later cal comes) read ends
 done_tells (Some (record_run calibration campaign name)) store later out now was then (Err end, comes, (is, nothing)) =
     absurd (calibration_never calibration store later end comes (sym is))
-done_tells (Some (record_run calibration campaign name)) store later out now was then (Ok cal, comes, (Err end, read, (is, nothing))) =
-    absurd (never_done role.Campaign campaign_file campaign store later end read (sym is))
-done_tells (Some (record_run calibration campaign name)) store later out now was then (Ok cal, comes, (Ok plans, read, ends)) =
-    named_tells calibration campaign name cal plans store later out now was then _ (goes_by calibration store later cal comes) read refl ends
+done_tells (Some (record_run calibration campaign name)) store later out now was then (Ok cal, comes, (Err end, named, (is, nothing))) =
+    absurd (named_never campaign name store later end named (sym is))
+done_tells (Some (record_run calibration campaign name)) store later out now was then (Ok cal, comes, (Ok input, named, (same, records))) = record {
+  cal = cal;
+  input = input;
+  goes_by = goes_by calibration store later cal comes;
+  files_say = named_tells campaign name store later input named;
+  written = records.written.0;
+  headline = records.headline;
+}
+done_tells (Some (sweep calibration campaign name step)) store later out now was then (Err end, comes, (is, nothing)) =
+    absurd (calibration_never calibration store later end comes (sym is))
+done_tells (Some (sweep calibration campaign name step)) store later out now was then (Ok cal, comes, (Err end, named, (is, nothing))) =
+    absurd (named_never campaign name store later end named (sym is))
+done_tells (Some (sweep calibration campaign name step)) store later out now was then (Ok cal, comes, (Ok input, named, (same, ends))) =
+    let sweeps = grid_done (is_too_large (length input.drive) step) _ _ ends in
+    record {
+      cal = cal;
+      input = input;
+      goes_by = goes_by calibration store later cal comes;
+      files_say = named_tells campaign name store later input named;
+      written = sweeps.plays.written.0;
+      headline = sweeps.plays.headline;
+      in_time = sweeps.in_time;
+    }
 
 -- a call that ends Done tells the headline
 pub tells_headline : (command : Option Command) (store later : ShownStore) (out now : ShownSink) (was then : TickCount) (o : Outcome)

@@ -1,22 +1,26 @@
--- Which files `run` and `record` say to be missing, from how they end.
-use Rattle.std.proofs.Common.{◌≡◌, ◌∙◌, ◌+◌, ◌∷◌, [], List, ℕ, Option, Some, None, length, refl, sym, subst}
+-- Which files `run`, `record` and `sweep` say to be missing, from how they end.
+use Rattle.std.proofs.Common.{◌≡◌, ◌∙◌, ◌+◌, ◌∷◌, [], List, ℕ, Bool, true, false, Option, Some, None, length, refl, sym, subst}
 use Rattle.std.specs.Prelude.{Result, Ok, Err, IsTrue}
 use Rattle.eg_base.specs.Outside.{ShownStore, ShownSink}
 use Rattle.eg_num.specs.Drive.{DriveRow}
 use Rattle.eg_values.specs.Calibration.{CalibrationParts}
 use Rattle.eg_tick.specs.Weights.{TickCount}
 use Rattle.eg_plan.specs.declared.run.RunPlan.{RunPlan}
+use Rattle.eg_campaign.specs.declared.play.RunInput.{RunInput}
 use Rattle.eg_outcome.specs.declared.outcome.Outcome.{Outcome}
 use Rattle.eg_outcome.specs.declared.outcome.Outcome.TheVariants.{ReadFault, Refused}
 use Rattle.eg_outcome.specs.declared.outcome.Refusal.{Refusal}
+use Rattle.eg_outcome.specs.declared.outcome.Refusal.TheVariants.{NoRun, Grid}
 use Rattle.eg_outcome.specs.declared.outcome.Role.{Role}
 use Rattle.eg_outcome.specs.declared.outcome.Role.TheVariants as role
 use Rattle.eg_outcome.specs.Outcomes.{LineEnds}
 use Rattle.eg_outcome.specs.Reads.{FileComes}
 use Rattle.eg_outcome.specs.Calibrations.{calibration_file, CalibratedEnds, MissesCalibration}
-use Rattle.eg_play.specs.Files.{campaign_file, trace_file, image_file}
+use Rattle.eg_sweep.specs.Grid.{is_too_large}
+use Rattle.eg_outcome.specs.Images.{image_file}
+use Rattle.eg_play.specs.Files.{campaign_file, trace_file}
 use Rattle.eg_play.specs.Inputs.{TicksCome, InputComes, InputsCome, too_many}
-use Rattle.eg_play.specs.Ends.{NothingPlayed, RunsEnd, NamedEnds, CampaignEnds, RunCommandEnds, RecordCommandEnds, run_named}
+use Rattle.eg_play.specs.Ends.{NothingPlayed, RunsEnd, RecordEnds, GridEnds, SweepEnds, FoundComes, NamedComes, NamedEnds, CampaignEnds, RunCommandEnds, RecordCommandEnds, SweepCommandEnds, run_named}
 use Rattle.eg_app.proofs.PlayLemmas.{same_error, no_value}
 
 -- ---- the calibration ----
@@ -83,12 +87,23 @@ runs_other : (cal : CalibrationParts) (plans : List RunPlan) (store later : Show
 runs_other cal plans store later out now was then o (Ok inputs, comes, (same, plays)) fault = line_other _ out now o plays.written fault
 runs_other cal plans store later out now was then o (Err end, comes, (is, nothing)) fault = inputs_other store later 1 0 plans end comes (sym is ∙ fault)
 
-named_other : (cal : CalibrationParts) (found : Option (ℕ × RunPlan)) (store later : ShownStore) (out now : ShownSink) (was then : TickCount)
-    (o : Outcome) → NamedEnds cal found store later out now was then o → o ≡ ReadFault role.Calibration → ⊥
-named_other cal None store later out now was then o ends fault = refused_other _ o (sym ends.0) fault
-named_other cal (Some found) store later out now was then o (Ok input, comes, (same, plays)) fault = line_other _ out now o plays.written fault
-named_other cal (Some found) store later out now was then o (Err end, comes, (is, nothing)) fault =
-    input_other (λ count. None) store later found.0 found.1 end comes (sym is ∙ fault)
+found_other : (found : Option (ℕ × RunPlan)) (store later : ShownStore) (end : Outcome)
+    → FoundComes found store later (Err end) → end ≡ ReadFault role.Calibration → ⊥
+found_other None store later end come fault = refused_other NoRun end (same_error (Err end) end (Refused NoRun) refl come.0) fault
+found_other (Some found) store later end come fault = input_other (λ count. None) store later found.0 found.1 end come fault
+
+named_comes_other : (campaign name : List ℕ) (store later : ShownStore) (end : Outcome)
+    → NamedComes campaign name store later (Err end) → end ≡ ReadFault role.Calibration → ⊥
+named_comes_other campaign name store later end (Ok plans, read, come) fault = found_other (run_named name 1 plans) store later end come fault
+named_comes_other campaign name store later end (Err e, read, come) fault =
+    not_campaign (other_file role.Campaign campaign_file campaign store later e read (same_error (Err end) end e refl come ∙ fault))
+
+named_other : (campaign name : List ℕ) (store later : ShownStore) (nothing : Type 0) (work : RunInput → Outcome → Type 0) (o : Outcome)
+    → NamedEnds campaign name store later nothing work o
+    → ((input : RunInput) → work input o → o ≡ ReadFault role.Calibration → ⊥) → o ≡ ReadFault role.Calibration → ⊥
+named_other campaign name store later nothing work o (Ok input, comes, works) never fault = never input works fault
+named_other campaign name store later nothing work o (Err end, comes, (is, same)) never fault =
+    named_comes_other campaign name store later end comes (sym is ∙ fault)
 
 campaign_other : (campaign : List ℕ) (store later : ShownStore) (nothing : Type 0) (work : List RunPlan → Outcome → Type 0) (o : Outcome)
     → CampaignEnds campaign store later nothing work o
@@ -111,6 +126,21 @@ pub record_missing : (calibration : Option (List ℕ)) (campaign name : List ℕ
     → o ≡ ReadFault role.Calibration → MissesCalibration calibration store
 record_missing calibration campaign name store later out now was then o ends sure =
     let nothing = NothingPlayed out now was then in
-    let work = λ (cal : CalibrationParts) (plans : List RunPlan). NamedEnds cal (run_named name 1 plans) store later out now was then in
-    calibrated_missing calibration store later nothing (λ cal. CampaignEnds campaign store later nothing (work cal)) o ends
-    (λ cal works. campaign_other campaign store later nothing (work cal) o works (λ plans. named_other cal (run_named name 1 plans) store later out now was then o)) sure
+    let work = λ (cal : CalibrationParts) (input : RunInput). RecordEnds cal input store later out now was then in
+    calibrated_missing calibration store later nothing (λ cal. NamedEnds campaign name store later nothing (work cal)) o ends
+    (λ cal works. named_other campaign name store later nothing (work cal) o works (λ input works. line_other _ out now o works.1.written)) sure
+
+grid_other : (large : Bool) (nothing work : Type 0) (o : Outcome) → GridEnds large nothing work o
+    → (work → o ≡ ReadFault role.Calibration → ⊥) → o ≡ ReadFault role.Calibration → ⊥
+grid_other true nothing work o ends never fault = refused_other Grid o (sym ends.0) fault
+grid_other false nothing work o ends never fault = never ends fault
+
+pub sweep_missing : (calibration : Option (List ℕ)) (campaign name : List ℕ) (step : ℕ) (store later : ShownStore) (out now : ShownSink) (was then : TickCount)
+    (o : Outcome) → SweepCommandEnds calibration campaign name step store later out now was then o → IsTrue store.sure
+    → o ≡ ReadFault role.Calibration → MissesCalibration calibration store
+sweep_missing calibration campaign name step store later out now was then o ends sure =
+    let nothing = NothingPlayed out now was then in
+    let work = λ (cal : CalibrationParts) (input : RunInput). SweepEnds cal step input store later out now was then in
+    calibrated_missing calibration store later nothing (λ cal. NamedEnds campaign name store later nothing (work cal)) o ends
+    (λ cal works. named_other campaign name store later nothing (work cal) o works
+    (λ input works. grid_other (is_too_large (length input.drive) step) _ _ o works.1 (λ sweeps. line_other _ out now o sweeps.plays.written))) sure

@@ -1,5 +1,5 @@
--- When runs are played to their end, from how `run` and `record` end.
-use Rattle.std.proofs.Common.{◌≡◌, ◌+◌, ◌∷◌, [], List, ℕ, Option, Some, None, length, refl, sym, ap, subst}
+-- When runs are played to their end, from how `run`, `record` and `sweep` end.
+use Rattle.std.proofs.Common.{◌≡◌, ◌+◌, ◌∷◌, [], List, ℕ, Bool, true, false, Option, Some, None, length, refl, sym, ap, subst}
 use Rattle.std.specs.Prelude.{Result, Ok, Err}
 use Rattle.eg_base.specs.Outside.{ShownStore, ShownSink, Rose}
 use Rattle.eg_num.specs.Drive.{DriveRow}
@@ -12,9 +12,11 @@ use Rattle.eg_outcome.specs.declared.outcome.Refusal.{Refusal}
 use Rattle.eg_outcome.specs.declared.outcome.Role.TheVariants as role
 use Rattle.eg_outcome.specs.Outcomes.{IsDoneOrMemory}
 use Rattle.eg_outcome.specs.Reads.{ReadComes, Finds, Accepts}
-use Rattle.eg_play.specs.Files.{campaign_file, trace_file, image_file}
+use Rattle.eg_sweep.specs.Grid.{is_too_large}
+use Rattle.eg_outcome.specs.Images.{image_file}
+use Rattle.eg_play.specs.Files.{campaign_file, trace_file}
 use Rattle.eg_play.specs.Inputs.{input_of, TicksCome, InputComes, InputsCome, FindsInput, AcceptsInput, FindsRuns, AcceptsRuns, too_many}
-use Rattle.eg_play.specs.Ends.{NothingPlayed, RunsEnd, NamedEnds, AcceptsNamed, CampaignEnds, run_named}
+use Rattle.eg_play.specs.Ends.{NothingPlayed, RunsEnd, RecordEnds, GridEnds, SweepEnds, FoundComes, NamedComes, NamedEnds, AcceptsNamed, AcceptsGrid, CampaignEnds, run_named}
 use Rattle.eg_app.proofs.FileLemmas.{file_done, line_done}
 
 -- ---- results ----
@@ -83,14 +85,21 @@ runs_done cal plans store later out now was then o (Ok inputs, comes, (same, pla
 runs_done cal plans store later out now was then o (Err end, comes, (is, nothing)) finds accepts still =
     subst IsDoneOrMemory (sym is) (inputs_done store later 1 0 plans end comes finds accepts)
 
--- the named run is played
-named_done : (cal : CalibrationParts) (found : Option (ℕ × RunPlan)) (store later : ShownStore) (out now : ShownSink) (was then : TickCount)
-    (o : Outcome) → NamedEnds cal found store later out now was then o → AcceptsNamed store later found
-    → ¬ Rose out.faults now.faults → IsDoneOrMemory o
-named_done cal None store later out now was then o ends accepts still = absurd accepts
-named_done cal (Some found) store later out now was then o (Ok input, comes, (same, plays)) accepts still = line_done _ out now o plays.written still
-named_done cal (Some found) store later out now was then o (Err end, comes, (is, nothing)) accepts still =
-    subst IsDoneOrMemory (sym is) (input_done (λ count. None) store later found.0 found.1 end comes accepts.0 accepts.1)
+-- the run is there, and its files are found and accepted
+found_done : (found : Option (ℕ × RunPlan)) (store later : ShownStore) (end : Outcome)
+    → FoundComes found store later (Err end) → AcceptsNamed store later found → IsDoneOrMemory end
+found_done None store later end come accepts = absurd accepts
+found_done (Some found) store later end come accepts = input_done (λ count. None) store later found.0 found.1 end come accepts.0 accepts.1
+
+-- so the campaign of a named run
+named_comes_done : (campaign name : List ℕ) (store later : ShownStore) (end : Outcome)
+    → NamedComes campaign name store later (Err end) → Finds campaign store later → Accepts campaign_file campaign store
+    → ((plans : List RunPlan) → ReadComes campaign_file campaign store (Ok plans) → AcceptsNamed store later (run_named name 1 plans))
+    → IsDoneOrMemory end
+named_comes_done campaign name store later end (Ok plans, read, come) finds accepts files =
+    found_done (run_named name 1 plans) store later end come (files plans read)
+named_comes_done campaign name store later end (Err e, read, come) finds accepts files =
+    subst IsDoneOrMemory (same_error (Err end) end e refl come) (file_done role.Campaign campaign_file campaign store later e read finds accepts)
 
 -- a campaign that is found and accepted is worked off where its runs are
 pub campaign_done : (campaign : List ℕ) (store later : ShownStore) (nothing : Type 0) (work : List RunPlan → Outcome → Type 0) (o : Outcome)
@@ -109,11 +118,50 @@ run_done cal campaign store later out now was then o ends finds accepts files st
     campaign_done campaign store later (NothingPlayed out now was then) (λ plans. RunsEnd cal plans store later out now was then) o ends finds accepts
     (λ plans comes works. runs_done cal plans store later out now was then o works (files plans comes).0 (files plans comes).1 still)
 
+-- a run that is there, and whose files are found and accepted, is worked off
+pub named_done : (campaign name : List ℕ) (store later : ShownStore) (nothing : Type 0) (work : RunInput → Outcome → Type 0) (o : Outcome)
+    → NamedEnds campaign name store later nothing work o → Finds campaign store later → Accepts campaign_file campaign store
+    → ((plans : List RunPlan) → ReadComes campaign_file campaign store (Ok plans) → AcceptsNamed store later (run_named name 1 plans))
+    → ((input : RunInput) → NamedComes campaign name store later (Ok input) → work input o → IsDoneOrMemory o) → IsDoneOrMemory o
+named_done campaign name store later nothing work o (Ok input, comes, works) finds accepts files done = done input comes works
+named_done campaign name store later nothing work o (Err end, comes, (is, same)) finds accepts files done =
+    subst IsDoneOrMemory (sym is) (named_comes_done campaign name store later end comes finds accepts files)
+
 pub record_done : (cal : CalibrationParts) (campaign name : List ℕ) (store later : ShownStore) (out now : ShownSink) (was then : TickCount) (o : Outcome)
-    → CampaignEnds campaign store later (NothingPlayed out now was then) (λ plans. NamedEnds cal (run_named name 1 plans) store later out now was then) o
+    → NamedEnds campaign name store later (NothingPlayed out now was then) (λ input. RecordEnds cal input store later out now was then) o
     → Finds campaign store later → Accepts campaign_file campaign store
     → ((plans : List RunPlan) → ReadComes campaign_file campaign store (Ok plans) → AcceptsNamed store later (run_named name 1 plans))
     → ¬ Rose out.faults now.faults → IsDoneOrMemory o
 record_done cal campaign name store later out now was then o ends finds accepts files still =
-    campaign_done campaign store later (NothingPlayed out now was then) (λ plans. NamedEnds cal (run_named name 1 plans) store later out now was then) o ends
-    finds accepts (λ plans comes works. named_done cal (run_named name 1 plans) store later out now was then o works (files plans comes) still)
+    named_done campaign name store later (NothingPlayed out now was then) (λ input. RecordEnds cal input store later out now was then) o ends
+    finds accepts files (λ input comes works. line_done _ out now o works.1.written still)
+
+-- the trace of a run that is there says the drive of its input
+found_drive : (found : Option (ℕ × RunPlan)) (step : ℕ) (store later : ShownStore) (input : RunInput)
+    → FoundComes found store later (Ok input) → AcceptsGrid step store found → is_too_large (length input.drive) step ≡ false
+found_drive None step store later input come grid = absurd grid
+found_drive (Some found) step store later input come grid =
+    grid input.drive (input_drive (λ count. None) store later found.0 found.1 input come)
+
+named_drive : (campaign name : List ℕ) (step : ℕ) (store later : ShownStore) (input : RunInput)
+    → NamedComes campaign name store later (Ok input)
+    → ((plans : List RunPlan) → ReadComes campaign_file campaign store (Ok plans) → AcceptsGrid step store (run_named name 1 plans))
+    → is_too_large (length input.drive) step ≡ false
+named_drive campaign name step store later input (Ok plans, read, come) grids = found_drive (run_named name 1 plans) step store later input come (grids plans read)
+named_drive campaign name step store later input (Err e, read, come) grids = absurd (no_value input e (sym come))
+
+grid_work : (large : Bool) (nothing work : Type 0) (o : Outcome) → large ≡ false → GridEnds large nothing work o → work
+grid_work true nothing work o small ends = absurd cc
+grid_work false nothing work o small ends = ends
+
+pub sweep_done : (cal : CalibrationParts) (campaign name : List ℕ) (step : ℕ) (store later : ShownStore) (out now : ShownSink) (was then : TickCount) (o : Outcome)
+    → NamedEnds campaign name store later (NothingPlayed out now was then) (λ input. SweepEnds cal step input store later out now was then) o
+    → Finds campaign store later → Accepts campaign_file campaign store
+    → ((plans : List RunPlan) → ReadComes campaign_file campaign store (Ok plans)
+    → AcceptsNamed store later (run_named name 1 plans) × AcceptsGrid step store (run_named name 1 plans))
+    → ¬ Rose out.faults now.faults → IsDoneOrMemory o
+sweep_done cal campaign name step store later out now was then o ends finds accepts files still =
+    named_done campaign name store later (NothingPlayed out now was then) (λ input. SweepEnds cal step input store later out now was then) o ends
+    finds accepts (λ plans read. (files plans read).0) (λ input comes works.
+    line_done _ out now o (grid_work (is_too_large (length input.drive) step) _ _ o
+    (named_drive campaign name step store later input comes (λ plans read. (files plans read).1)) works.1).plays.written still)

@@ -4,11 +4,12 @@
 -- each outcome comes exactly where its case says (but where a count stands at the last value of a u64); want
 -- of memory alone may come at any place. Where a call reads several files, the count doesn't tell which of
 -- the reads met a fault: over a sure store `FileComes` and `TellsMissing` do, else a test.
-use Rattle.std.specs.Prelude.{◌≡◌, ◌⊎◌, ◌↔◌, ℕ, List, Option, Some, None, Result, Ok, IsTrue}
+use Rattle.std.specs.Prelude.{◌≡◌, ◌⊎◌, ◌↔◌, ℕ, List, Option, Some, None, Result, Ok, IsTrue, SomeIff}
 use Rattle.eg_num.specs.Places.{IsFirst}
 use Rattle.eg_base.specs.Outside.{ShownStore, ShownSink, Rose, IsMissing}
 use Rattle.eg_answer.specs.declared.rules.Rules.{Rules}
-use Rattle.eg_answer.specs.Times.{TimeParts}
+use Rattle.eg_answer.specs.Times.{HasLapseBound, lapse_bound_of}
+use Rattle.eg_values.specs.Calibration.{CalibrationParts}
 use Rattle.eg_input.specs.CheckFile.{CheckRow}
 use Rattle.eg_tick.specs.Weights.{TickCount}
 use Rattle.eg_plan.specs.declared.run.RunPlan.{RunPlan}
@@ -20,12 +21,12 @@ use Rattle.eg_outcome.specs.Reads.{FileComes, ReadComes, Finds, Accepts}
 use Rattle.eg_outcome.specs.Calibrations.{CalibratedEnds, MissesCalibration, FindsCalibration, AcceptsCalibration}
 use Rattle.eg_play.specs.Files.{campaign_file}
 use Rattle.eg_play.specs.Inputs.{FindsRuns, AcceptsRuns}
-use Rattle.eg_play.specs.Ends.{rows_of_runs, Plays, RunCommandEnds, RecordCommandEnds, AcceptsNamed, run_named}
+use Rattle.eg_play.specs.Ends.{rows_of_runs, Plays, RunCommandEnds, RecordCommandEnds, SweepCommandEnds, AcceptsNamed, AcceptsGrid, run_named}
 use Rattle.eg_soak.specs.Soak.{drawn_runs, soak_of}
 use Rattle.eg_soak.specs.Texts.{soak_text}
-use Rattle.eg_app.specs.Words.{Command, check, bound, run, record_run, soak}
+use Rattle.eg_app.specs.Words.{Command, check, bound, run, record_run, sweep, soak}
 use Rattle.eg_app.specs.Check.{excesses, check_line, check_file}
-use Rattle.eg_app.specs.Bound.{bound_line}
+use Rattle.eg_app.specs.Bound.{bound_text}
 
 -- ---- `check [--cal NAME] FILE` ----
 
@@ -48,14 +49,19 @@ CheckEnds calibration file store later out now o = CalibratedEnds calibration st
 
 -- ---- `bound [--cal NAME]` ----
 
--- the line tells the reaction time of these times, and no fault of reading was met
-abbrev pub BoundWorks : TimeParts → ShownStore → ShownStore → ShownSink → ShownSink → Outcome → Type 0
-BoundWorks times store later out now o =
-    (later.faults ≡ store.faults) × LineEnds (bound_line times) out now o
+-- this is the bound for lapses of a calibration, or it has none
+abbrev pub IsLapseBound : CalibrationParts → Option ℕ → Type 0
+IsLapseBound cal lapse = SomeIff lapse (HasLapseBound cal.rules.torque cal.times)
+    (lapse_bound_of cal.rules.torque cal.times)
+
+-- the lines tell the reaction time and the bound for lapses, and no fault of reading was met
+abbrev pub BoundWorks : CalibrationParts → ShownStore → ShownStore → ShownSink → ShownSink → Outcome → Type 0
+BoundWorks cal store later out now o = (later.faults ≡ store.faults)
+    × (lapse : Option ℕ) × IsLapseBound cal lapse × LineEnds (bound_text cal.times lapse) out now o
 
 abbrev pub BoundEnds : Option (List ℕ) → ShownStore → ShownStore → ShownSink → ShownSink → Outcome → Type 0
 BoundEnds calibration store later out now o = CalibratedEnds calibration store later (now ≡ out)
-    (λ parts. BoundWorks parts.times store later out now) o
+    (λ cal. BoundWorks cal store later out now) o
 
 -- ---- `soak SEED RUNS` ----
 
@@ -78,6 +84,8 @@ Ends (Some (run calibration campaign)) store later out now was is o =
     RunCommandEnds calibration campaign store later out now was is o
 Ends (Some (record_run calibration campaign name)) store later out now was is o =
     RecordCommandEnds calibration campaign name store later out now was is o
+Ends (Some (sweep calibration campaign name step)) store later out now was is o =
+    SweepCommandEnds calibration campaign name step store later out now was is o
 Ends (Some (soak seed runs)) store later out now was is o = SoakEnds seed runs out now was is o
 Ends None store later out now was is o = (o ≡ outcome.Usage) × (now ≡ out)
 
@@ -87,6 +95,7 @@ CountsNothing (Some (check calibration file)) = Unit {0}
 CountsNothing (Some (bound calibration)) = Unit {0}
 CountsNothing (Some (run calibration campaign)) = ⊥
 CountsNothing (Some (record_run calibration campaign name)) = ⊥
+CountsNothing (Some (sweep calibration campaign name step)) = ⊥
 CountsNothing (Some (soak seed runs)) = ⊥
 CountsNothing None = Unit {0}
 
@@ -97,6 +106,7 @@ ReadsNothing (Some (bound (Some name))) = ⊥
 ReadsNothing (Some (bound None)) = Unit {0}
 ReadsNothing (Some (run calibration campaign)) = ⊥
 ReadsNothing (Some (record_run calibration campaign name)) = ⊥
+ReadsNothing (Some (sweep calibration campaign name step)) = ⊥
 ReadsNothing (Some (soak seed runs)) = Unit {0}
 ReadsNothing None = Unit {0}
 
@@ -133,6 +143,8 @@ TellsMissing (Some (run calibration campaign)) store o =
     IsTrue store.sure → TellsMissingToPlay calibration campaign store o
 TellsMissing (Some (record_run calibration campaign name)) store o =
     IsTrue store.sure → TellsMissingToPlay calibration campaign store o
+TellsMissing (Some (sweep calibration campaign name step)) store o =
+    IsTrue store.sure → TellsMissingToPlay calibration campaign store o
 TellsMissing (Some (soak seed runs)) store o = Unit {0}
 TellsMissing None store o = Unit {0}
 
@@ -158,6 +170,12 @@ Completes (Some (record_run calibration campaign name)) store later out now o =
     Finds campaign store later → Accepts campaign_file campaign store →
     ((plans : List RunPlan) → ReadComes campaign_file campaign store (Ok plans)
     → AcceptsNamed store later (run_named name 1 plans)) →
+    ¬ Rose out.faults now.faults → IsDoneOrMemory o
+Completes (Some (sweep calibration campaign name step)) store later out now o =
+    FindsCalibration calibration store later → AcceptsCalibration calibration store →
+    Finds campaign store later → Accepts campaign_file campaign store →
+    ((plans : List RunPlan) → ReadComes campaign_file campaign store (Ok plans)
+    → AcceptsNamed store later (run_named name 1 plans) × AcceptsGrid step store (run_named name 1 plans)) →
     ¬ Rose out.faults now.faults → IsDoneOrMemory o
 Completes (Some (soak seed runs)) store later out now o = ¬ Rose out.faults now.faults → IsDoneOrMemory o
 Completes None store later out now o = Unit {0}

@@ -1,6 +1,7 @@
 -- The headline, over the files that a call reads and the text that it writes.
 use Rattle.std.specs.Prelude.{◌≡◌, ℕ, ◌+◌, List, [], ◌∷◌, map, All, Option, Some, None, Ok}
 use Rattle.eg_base.specs.Outside.{ShownStore, ShownSink, Appends}
+use Rattle.eg_answer.specs.Times.{reaction_of}
 use Rattle.eg_values.specs.Calibration.{CalibrationParts}
 use Rattle.eg_values.specs.Reference.{reference_parts}
 use Rattle.eg_campaign.specs.Plays.{run_with}
@@ -9,13 +10,16 @@ use Rattle.eg_plan.specs.declared.run.RunPlan.{RunPlan}
 use Rattle.eg_campaign.specs.declared.play.RunInput.{RunInput}
 use Rattle.eg_outcome.specs.Reads.{ReadComes}
 use Rattle.eg_outcome.specs.Calibrations.{calibration_file}
-use Rattle.eg_play.specs.Files.{campaign_file, trace_file, image_file}
+use Rattle.eg_outcome.specs.Images.{image_file}
+use Rattle.eg_play.specs.Files.{campaign_file, trace_file}
+use Rattle.eg_sweep.specs.Laws.{IsBounded}
 use Rattle.eg_play.specs.Texts.{report_text}
+use Rattle.eg_play.specs.Sweeping.{runs_over, table_over, sweep_text}
 use Rattle.eg_play.specs.Headline.{KeepsHeadline}
 use Rattle.eg_play.specs.Ends.{run_named}
 use Rattle.eg_soak.specs.Soak.{drawn_runs, soak_of}
 use Rattle.eg_soak.specs.Texts.{soak_text}
-use Rattle.eg_app.specs.Words.{Command, run, record_run, soak}
+use Rattle.eg_app.specs.Words.{Command, run, record_run, sweep, soak}
 
 -- this is the calibration that the command goes by: that of the file behind `--cal`, or the reference
 abbrev pub GoesBy : Option (List ℕ) → ShownStore → CalibrationParts → Type 0
@@ -48,20 +52,36 @@ pub record TellsRuns (calibration : Option (List ℕ)) (campaign : List ℕ) (st
   pub written : Appends out now (report_text cal inputs)
   pub headline : All KeepsHeadline (map (run_with cal) inputs)
 
--- Of one run of a campaign, the first of its name: so its record.
-pub record TellsRecord (calibration : Option (List ℕ)) (campaign name : List ℕ) (store : ShownStore)
-    (out now : ShownSink) : Type 0 where
-  pub cal : CalibrationParts
+-- The files say that this is the input of one run of a campaign: the first of this name.
+pub record IsNamedInput (campaign name : List ℕ) (store : ShownStore) (input : RunInput) : Type 0 where
   pub plans : List RunPlan
   pub n : ℕ
   pub plan : RunPlan
-  pub input : RunInput
-  pub goes_by : GoesBy calibration store cal
   pub campaign_says : ReadComes campaign_file campaign store (Ok plans)
   pub is_named : run_named name 1 plans ≡ Some (n, plan)
   pub files_say : IsInput store n plan input
+
+-- Of that run: its record was written, and keeps the headline.
+pub record TellsRecord (calibration : Option (List ℕ)) (campaign name : List ℕ) (store : ShownStore)
+    (out now : ShownSink) : Type 0 where
+  pub cal : CalibrationParts
+  pub input : RunInput
+  pub goes_by : GoesBy calibration store cal
+  pub files_say : IsNamedInput campaign name store input
   pub written : Appends out now (record_text cal input)
   pub headline : KeepsHeadline (run_with cal input)
+
+-- Of that run under a fault of each class at each `step`th tick: the table of these runs was written, each of
+-- them keeps the headline, and under each class but lapses the greatest reaction is at most the reaction time.
+pub record TellsSweep (calibration : Option (List ℕ)) (campaign name : List ℕ) (step : ℕ)
+    (store : ShownStore) (out now : ShownSink) : Type 0 where
+  pub cal : CalibrationParts
+  pub input : RunInput
+  pub goes_by : GoesBy calibration store cal
+  pub files_say : IsNamedInput campaign name store input
+  pub written : Appends out now (sweep_text cal step input)
+  pub headline : All KeepsHeadline (map (run_with cal) (runs_over step input))
+  pub in_time : IsBounded (reaction_of cal.times) (table_over cal step input)
 
 -- Of so many runs that are drawn from a seed: their summary was written, and each of them keeps the headline.
 pub record TellsSoak (seed count : ℕ) (out now : ShownSink) : Type 0 where
@@ -73,5 +93,7 @@ abbrev pub TellsHeadline : Option Command → ShownStore → ShownSink → Shown
 TellsHeadline (Some (run calibration campaign)) store out now = TellsRuns calibration campaign store out now
 TellsHeadline (Some (record_run calibration campaign name)) store out now =
     TellsRecord calibration campaign name store out now
+TellsHeadline (Some (sweep calibration campaign name step)) store out now =
+    TellsSweep calibration campaign name step store out now
 TellsHeadline (Some (soak seed runs)) store out now = TellsSoak seed runs out now
 TellsHeadline _ store out now = Unit {0}

@@ -18,7 +18,7 @@ use Rattle.eg_outcome.specs.declared.outcome.Refusal.TheVariants as refusal
 use Rattle.eg_outcome.specs.declared.outcome.Role.{Role}
 use Rattle.eg_outcome.specs.declared.outcome.Role.TheVariants as role
 use Rattle.eg_play.specs.Ends.{role_in, IsNameIn, NamesFile}
-use Rattle.eg_app.specs.Words.{Command, check, bound, run, record_run, soak}
+use Rattle.eg_app.specs.Words.{Command, check, bound, run, record_run, sweep, soak}
 
 -- ---- the file that an outcome speaks of ----
 
@@ -28,6 +28,7 @@ calibration_name (check calibration file) = unwrap_or calibration []
 calibration_name (bound calibration) = unwrap_or calibration []
 calibration_name (run calibration campaign) = unwrap_or calibration []
 calibration_name (record_run calibration campaign name) = unwrap_or calibration []
+calibration_name (sweep calibration campaign name step) = unwrap_or calibration []
 calibration_name (soak seed runs) = []
 
 -- the name of the check file, empty where there is none
@@ -39,6 +40,7 @@ check_name _ = []
 abbrev pub campaign_name : Command → List ℕ
 campaign_name (run calibration campaign) = campaign
 campaign_name (record_run calibration campaign name) = campaign
+campaign_name (sweep calibration campaign name step) = campaign
 campaign_name _ = []
 
 -- the name in the words of a command's file that has this role; they don't name the files of a run
@@ -57,6 +59,7 @@ role_of (refusal.Campaign _) = Some role.Campaign
 role_of (refusal.Trace n _) = Some (role.Trace n)
 role_of (refusal.Image n _) = Some (role.Image n)
 role_of refusal.NoRun = None
+role_of refusal.Grid = None
 
 -- the name in the words of the file that an outcome speaks of, empty where there is none
 abbrev pub name_in_words : Command → Option Role → List ℕ
@@ -80,6 +83,10 @@ IsNameOf (record_run calibration campaign played) store (Some (role.Trace n)) na
     IsNameIn campaign store (role.Trace n) (Some name)
 IsNameOf (record_run calibration campaign played) store (Some (role.Image n)) name =
     IsNameIn campaign store (role.Image n) (Some name)
+IsNameOf (sweep calibration campaign played step) store (Some (role.Trace n)) name =
+    IsNameIn campaign store (role.Trace n) (Some name)
+IsNameOf (sweep calibration campaign played step) store (Some (role.Image n)) name =
+    IsNameIn campaign store (role.Image n) (Some name)
 IsNameOf command store file name = name ≡ name_in_words command file
 
 -- the name of the file that an outcome speaks of, empty where it speaks of none
@@ -91,6 +98,7 @@ IsFileName None store o name = name ≡ []
 abbrev pub Names : Command → ShownStore → Outcome → Option (List ℕ) → Type 0
 Names (run calibration campaign) store o name = NamesFile campaign store (role_in o) name
 Names (record_run calibration campaign played) store o name = NamesFile campaign store (role_in o) name
+Names (sweep calibration campaign played step) store o name = NamesFile campaign store (role_in o) name
 Names command store o name = name ≡ None
 
 -- ---- the line ----
@@ -139,6 +147,7 @@ refusal_note (refusal.Campaign fault) file = file ++ campaign_note fault
 refusal_note (refusal.Trace _ fault) file = file ++ trace_note fault
 refusal_note (refusal.Image _ fault) file = file ++ image_note fault
 refusal_note refusal.NoRun file = codes "no such run\n"
+refusal_note refusal.Grid file = codes "grid too large\n"
 
 -- the line that notes an outcome, for a file of this name
 abbrev pub note_of : Outcome → List ℕ → List ℕ

@@ -1,5 +1,5 @@
 -- What the words of the command line ask for. A word is the list of its bytes.
-use Rattle.std.specs.Prelude.{ℕ, ◌+◌, ◌≤◌, List, [], map, codes, length, Option, Some, None, option_and_then, Bool, ◌&&◌, ◌==◌, not, nat_le, nat_lt, if◌then◌else◌, bytes_eq, string_bytes, slice_index_or, slice_index}
+use Rattle.std.specs.Prelude.{ℕ, ◌+◌, ◌≤◌, List, [], map, codes, length, Option, Some, None, option_and_then, option_map, Bool, ◌&&◌, ◌==◌, not, nat_le, nat_lt, if◌then◌else◌, bytes_eq, string_bytes, slice_index_or, slice_index}
 use Rattle.std.specs.Option.{option_copied}
 use Rattle.std.specs.declared.string.String.{String}
 use Rattle.std.specs.declared.alloc.Global.{Global}
@@ -7,14 +7,16 @@ use Rattle.eg_input.specs.Fields.{decimal}
 use Rattle.eg_app.specs.declared.command.Command.{Command as Parsed}
 use Rattle.eg_app.specs.declared.command.Command.TheVariants as parsed
 
--- What can be asked for: to check the file of this name; the reaction time; to run the campaign of this name;
--- or the record of its run of that name. Each of these goes by the calibration in the file of the name behind
--- `--cal`, or by the reference calibration where there is none. Or so many runs that are drawn from a number.
+-- What can be asked for: to check the file of this name; the bounds; to run the campaign of this name; the
+-- record of its run of that name; or to sweep over all classes of faults with that run, at each `step`th tick.
+-- Each of these goes by the calibration in the file of the name behind `--cal`, or by the reference
+-- calibration where there is none. Or so many runs that are drawn from a number.
 pub data Command : Type 0 where
   check : (calibration : Option (List ℕ)) (file : List ℕ) → Command
   bound : (calibration : Option (List ℕ)) → Command
   run : (calibration : Option (List ℕ)) (campaign : List ℕ) → Command
   record_run : (calibration : Option (List ℕ)) (campaign : List ℕ) (name : List ℕ) → Command
+  sweep : (calibration : Option (List ℕ)) (campaign : List ℕ) (name : List ℕ) (step : ℕ) → Command
   soak : (seed runs : ℕ) → Command
 
 -- what a command says, without where its text lies in memory
@@ -23,6 +25,8 @@ said (parsed.Check calibration file) = check (option_copied calibration) file.no
 said (parsed.Bound calibration) = bound (option_copied calibration)
 said (parsed.Run calibration campaign) = run (option_copied calibration) campaign.now
 said (parsed.Record calibration campaign name) = record_run (option_copied calibration) campaign.now name.now
+said (parsed.Sweep calibration campaign name step) =
+    sweep (option_copied calibration) campaign.now name.now step
 said (parsed.Soak seed runs) = soak seed runs
 
 -- the bytes of the words
@@ -61,28 +65,39 @@ abbrev pub is_record : List (List ℕ) → ℕ → Bool
 is_record words own = (length words == own + 2) && bytes_eq (word words 0) (codes "record")
     && is_name (word words own) && is_name (word words (own + 1))
 
--- what the words ask for by this calibration, where the command's own words begin at place `own`
-abbrev pub form_of : List (List ℕ) → Option (List ℕ) → ℕ → Option Command
-form_of words calibration own = if is_check words own then Some (check calibration (word words own))
-    else if is_bound words own then Some (bound calibration)
-    else if is_run words own then Some (run calibration (word words own))
-    else if is_record words own then Some (record_run calibration (word words own) (word words (own + 1)))
-    else None
+-- likewise: the words are `sweep CAMPAIGN RUN STEP`
+abbrev pub is_sweep : List (List ℕ) → ℕ → Bool
+is_sweep words own = (length words == own + 3) && bytes_eq (word words 0) (codes "sweep")
+    && is_name (word words own) && is_name (word words (own + 1))
 
 -- a number, where it is one from .. to ..
 abbrev pub within : (least most : ℕ) → ℕ → Option ℕ
 within least most n = if nat_le least n && nat_le n most then Some n else None
 
--- the number from .. to .. that a word of one to ten decimal digits writes
-abbrev pub number_in : (least most : ℕ) → List ℕ → Option ℕ
-number_in least most word = option_and_then (within least most) (decimal 10 word)
+-- the number from .. to .. that a word of one to so many decimal digits writes
+abbrev pub number_in : (digits least most : ℕ) → List ℕ → Option ℕ
+number_in digits least most word = option_and_then (within least most) (decimal digits word)
+
+-- a step is a number of up to five digits from 1 to 20,000
+abbrev pub step_in : List ℕ → Option ℕ
+step_in word = number_in 5 1 20000 word
+
+-- what the words ask for by this calibration, where the command's own words begin at place `own`
+unfoldable pub form_of : List (List ℕ) → Option (List ℕ) → ℕ → Option Command
+form_of words calibration own = if is_check words own then Some (check calibration (word words own))
+    else if is_bound words own then Some (bound calibration)
+    else if is_run words own then Some (run calibration (word words own))
+    else if is_record words own then Some (record_run calibration (word words own) (word words (own + 1)))
+    else if is_sweep words own then option_map (sweep calibration (word words own) (word words (own + 1)))
+    (step_in (word words (own + 2)))
+    else None
 
 -- a seed is any word of 32 bits; there are 1 to 500 runs
 abbrev pub seed_in : List ℕ → Option ℕ
-seed_in word = number_in 0 4294967295 word
+seed_in word = number_in 10 0 4294967295 word
 
 abbrev pub runs_in : List ℕ → Option ℕ
-runs_in word = number_in 1 500 word
+runs_in word = number_in 10 1 500 word
 
 -- the first word is `soak`
 abbrev pub is_soak : List (List ℕ) → Bool
@@ -107,7 +122,8 @@ calibrated_of words = if names_calibration words then form_of words (Some (word 
 abbrev pub command_of : List (List ℕ) → Option Command
 command_of words = if is_soak words then soak_form words else calibrated_of words
 
--- a command that draws runs asks for 1 to 500 of them
-abbrev pub DrawsFew : Command → Type 0
-DrawsFew (soak seed runs) = (1 ≤ runs) × (runs ≤ 500)
-DrawsFew _ = Unit {0}
+-- the numbers that a command asks for are within their limits
+abbrev pub KeepsLimits : Command → Type 0
+KeepsLimits (soak seed runs) = (1 ≤ runs) × (runs ≤ 500)
+KeepsLimits (sweep calibration campaign name step) = (1 ≤ step) × (step ≤ 20000)
+KeepsLimits _ = Unit {0}

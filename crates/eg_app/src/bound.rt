@@ -1,17 +1,20 @@
-// `bound [--cal NAME]`: the reaction time.
-ghost use Rattle.std.specs.Prelude.{◌≡◌, None, Some, IfOk, string_bytes};
+// `bound [--cal NAME]`: the reaction time, and the bound for lapses.
+ghost use Rattle.std.specs.Prelude.{◌≡◌, ◌++◌, None, Some, ℕ, Option, IfOk, map, codes, string_bytes};
+ghost use Rattle.std.specs.List.{concat};
 ghost use Rattle.std.specs.Option.{option_copied};
+ghost use Rattle.eg_answer.specs.Times.{TimeParts, reaction_of};
 ghost use Rattle.eg_app.specs.Words.{bound};
-ghost use Rattle.eg_app.specs.Bound.{bound_line};
+ghost use Rattle.eg_app.specs.Bound.{bound_text, lapse_text};
 ghost use Rattle.eg_outcome.specs.Outcomes.{LineEnds, TellsNoMemory, PutsNothing};
-ghost use Rattle.eg_app.specs.Ends.{BoundEnds, TellsMissing};
+ghost use Rattle.eg_app.specs.Ends.{IsLapseBound, BoundEnds, TellsMissing};
 
-use eg_answer::{Times, reaction};
-use eg_base::{Sink, Store};
-use eg_outcome::{Outcome, calibration_for, put_line};
-use std::alloc::{AllocError, Global};
+use eg_answer::{lapse_bound, reaction};
+use eg_base::{NoMemory, Sink, Store};
+use eg_outcome::{Outcome, calibration_for, put_lines};
+use eg_values::Calibration;
+use std::alloc::Global;
 
-/// Does `bound [--cal NAME]`, but for its note.
+/// Does `bound [--cal NAME]`, but for its note (docs/FORMATS.md, "Commands").
 pub(crate) fn bound<S: Store, K: Sink>(
     alloc: Global,
     calibration: Option<&str>,
@@ -28,26 +31,44 @@ pub(crate) fn bound<S: Store, K: Sink>(
     ensures nothing_put { PutsNothing result → out.new ≡ out.old }
 {
     match calibration_for(alloc, calibration, store) {
-        Ok(calibration) => put_reaction(alloc, calibration.times(), out),
+        Ok(calibration) => put_bounds(alloc, &calibration, out),
         Err(outcome) => outcome,
     }
 }
 
-/// Writes the line that tells the reaction time.
-fn put_reaction<K: Sink>(alloc: Global, times: &Times, out: &mut K) -> Outcome
-    ensures ends { LineEnds (bound_line times.now) (K.shows out.old) (K.shows out.new) result }
+/// Writes the lines that tell the reaction time and the bound for lapses.
+fn put_bounds<K: Sink>(alloc: Global, calibration: &Calibration, out: &mut K) -> Outcome
+    ensures ends { (lapse : Option ℕ) × IsLapseBound calibration.now lapse
+        × LineEnds (bound_text calibration.now.times lapse) (K.shows out.old) (K.shows out.new) result }
     ensures put { PutsNothing result → ⊥ }
 {
-    let Ok(line) = line_of(alloc, times) else {
+    let times = calibration.times();
+    let lapse = lapse_bound(&calibration.rules().torque, times);
+    let Ok(lines) = bound_lines(alloc, reaction(times), lapse) else {
         return Outcome::Memory;
     };
-    put_line(line.as_bytes(), out)
+    put_lines(&lines, out)
 }
 
-/// The line that tells the reaction time.
-fn line_of(alloc: Global, times: &Times) -> Result<String, AllocError>
-    ensures { IfOk result (λ line. string_bytes line ≡ bound_line times.now) }
+/// The line of the reaction time and that of the bound for lapses, each in ticks.
+fn bound_lines(alloc: Global, ticks: u32, lapse: Option<u32>) -> Result<Vec<String>, NoMemory>
+    ensures { (times : TimeParts) → reaction_of times ≡ ticks →
+        IfOk result (λ lines. concat (map string_bytes lines.items) ≡ bound_text times lapse) }
 {
-    let ticks = reaction(times);
-    format!(in alloc; "reaction {ticks}\n")
+    let mut lines = Vec::new(alloc);
+    lines.push(format!(in alloc; "reaction {ticks}\n")?)?;
+    lines.push(lapse_line(alloc, lapse)?)?;
+    Ok(lines)
+}
+
+/// The line of the bound for lapses, in ticks, or of none.
+#[tactic(auto, unfolding(crate::specs::Bound::lapse_text))]
+fn lapse_line(alloc: Global, lapse: Option<u32>) -> Result<String, NoMemory>
+    ensures { IfOk result (λ line. string_bytes line
+        ≡ codes "lapse " ++ lapse_text lapse ++ codes "\n") }
+{
+    match lapse {
+        Some(ticks) => Ok(format!(in alloc; "lapse {ticks}\n")?),
+        None => Ok(String::from_str(alloc, "lapse none\n")?),
+    }
 }

@@ -1,6 +1,6 @@
 // The top call.
 ghost use Rattle.std.specs.Prelude.{◌≡◌, None, Some};
-ghost use Rattle.eg_app.specs.Words.{words_of, command_of, said, DrawsFew};
+ghost use Rattle.eg_app.specs.Words.{words_of, command_of, said, KeepsLimits};
 ghost use Rattle.eg_app.specs.Ends.{Ends, ReadsNothing, CountsNothing, TellsMissing, Completes};
 ghost use Rattle.eg_app.specs.Headline.{TellsHeadline};
 ghost use Rattle.eg_app.specs.Notes.{NotesOutcome, Names, IsFileName};
@@ -12,7 +12,7 @@ use crate::bound::bound;
 use crate::check::check;
 use crate::command::Command;
 use crate::note::note;
-use crate::play::{play_campaign, play_run};
+use crate::play::{play_campaign, play_run, play_sweep};
 use crate::soak::play_drawn;
 use eg_base::{Sink, Store};
 use eg_outcome::Outcome;
@@ -86,7 +86,7 @@ fn run<S: Store, K: Sink>(
     out: &mut K,
     steps: &mut Ticks,
 ) -> End
-    requires few { DrawsFew (said command) }
+    requires limits { KeepsLimits (said command) }
     ensures ends { Ends (Some (said command.entry)) (S.shows store.old) (S.shows store.new)
         (K.shows out.old) (K.shows out.new) steps.old steps.new result.outcome }
     ensures headline { result.outcome ≡ Done → TellsHeadline (Some (said command.entry)) (S.shows store.old)
@@ -111,7 +111,7 @@ fn work<S: Store, K: Sink>(
     out: &mut K,
     steps: &mut Ticks,
 ) -> End
-    requires few { DrawsFew (said command) }
+    requires limits { KeepsLimits (said command) }
     ensures ends { Ends (Some (said command.entry)) (S.shows store.old) (S.shows store.new)
         (K.shows out.old) (K.shows out.new) steps.old steps.new result.outcome }
     ensures names { Names (said command.entry) (S.shows store.old) result.outcome result.file }
@@ -133,6 +133,12 @@ fn work<S: Store, K: Sink>(
             campaign,
             name,
         } => play_run(alloc, calibration, campaign, name, store, out, steps),
+        Command::Sweep {
+            calibration,
+            campaign,
+            name,
+            step,
+        } => play_sweep(alloc, calibration, campaign, name, step, store, out, steps),
         Command::Soak { seed, runs } => end_of(play_drawn(alloc, seed, runs, out, steps)),
     }
 }

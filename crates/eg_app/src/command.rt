@@ -1,8 +1,8 @@
 // The words of the command line.
-ghost use Rattle.std.specs.Prelude.{◌≡◌, ◌≤◌, [], Some, length, option_map, unwrap_or, slice_index_or, IfSome};
+ghost use Rattle.std.specs.Prelude.{◌≡◌, ◌≤◌, ◌+◌, [], Some, length, option_map, unwrap_or, slice_index_or, IfSome};
 ghost use Rattle.std.specs.Option.{option_copied};
 ghost use Rattle.eg_app.specs.Notes.{calibration_name, check_name, campaign_name, name_of, role_of, file_role, name_in_words};
-ghost use Rattle.eg_app.specs.Words.{words_of, is_name, names_calibration, is_check, is_bound, is_run, is_record, form_of, is_soak, soak_form, calibrated_of, command_of, said, DrawsFew};
+ghost use Rattle.eg_app.specs.Words.{words_of, is_name, names_calibration, is_check, is_bound, is_run, is_record, is_sweep, step_in, word, sweep, form_of, is_soak, soak_form, calibrated_of, command_of, said, KeepsLimits};
 
 use crate::number::number_in;
 use eg_outcome::{Outcome, Refusal, Role};
@@ -31,6 +31,13 @@ pub(crate) enum Command<'a> {
         campaign: &'a str,
         name: &'a str,
     },
+    /// `sweep [--cal NAME] CAMPAIGN RUN STEP`: a fault of each class at each `step`th tick, 1 to 20,000.
+    Sweep {
+        calibration: Option<&'a str>,
+        campaign: &'a str,
+        name: &'a str,
+        step: u32,
+    },
     /// `soak SEED RUNS`: so many runs, 1 to 500, that are drawn from the seed.
     Soak {
         seed: u32,
@@ -42,7 +49,7 @@ impl<'a> Command<'a> {
     /// What the words ask for, or None where they have no form of a command.
     pub(crate) fn of(words: &'a [String]) -> Option<Command<'a>>
         ensures command { option_map said result ≡ command_of (words_of words.now) }
-        ensures few { IfSome result (λ command. DrawsFew (said command)) }
+        ensures limits { IfSome result (λ command. KeepsLimits (said command)) }
     {
         if is_soak(words) {
             return Command::of_soak(words);
@@ -53,7 +60,7 @@ impl<'a> Command<'a> {
     /// What the words ask for, the first of which isn't `soak`.
     fn of_calibrated(words: &'a [String]) -> Option<Command<'a>>
         ensures command { option_map said result ≡ calibrated_of (words_of words.now) }
-        ensures few { IfSome result (λ command. DrawsFew (said command)) }
+        ensures limits { IfSome result (λ command. KeepsLimits (said command)) }
     {
         if names_calibration(words) {
             return Command::of_form(words, Some(words[2].as_str()), 3);
@@ -64,22 +71,24 @@ impl<'a> Command<'a> {
     /// What the words ask for, the first of which is `soak`.
     fn of_soak(words: &'a [String]) -> Option<Command<'a>>
         ensures command { option_map said result ≡ soak_form (words_of words.now) }
-        ensures few { IfSome result (λ command. DrawsFew (said command)) }
+        ensures limits { IfSome result (λ command. KeepsLimits (said command)) }
     {
         if words.len() != 3 {
             return None;
         }
-        let seed = number_in(words[1].as_bytes(), 0, u32::MAX)?;
-        let runs = number_in(words[2].as_bytes(), 1, 500)?;
+        let seed = number_in(words[1].as_bytes(), 10, 0, u32::MAX)?;
+        let runs = number_in(words[2].as_bytes(), 10, 1, 500)?;
         Some(Command::Soak { seed, runs })
     }
 
     /// What the words ask for by this calibration, where the command's own words begin at place `own`.
+    #[tactic(auto, unfolding(crate::specs::Words::form_of))]
     fn of_form(words: &'a [String], calibration: Option<&'a str>, own: usize) -> Option<Command<'a>>
         requires least { 1 ≤ own }
         requires most { own ≤ 3 }
-        ensures { option_map said result
+        ensures command { option_map said result
             ≡ form_of (words_of words.now) (option_copied calibration.entry) own }
+        ensures limits { IfSome result (λ command. KeepsLimits (said command)) }
     {
         if is_check(words, own) {
             return Some(Command::Check {
@@ -103,7 +112,34 @@ impl<'a> Command<'a> {
                 name: words[own + 1].as_str(),
             });
         }
+        if is_sweep(words, own) {
+            return Command::of_sweep(words, calibration, own);
+        }
         None
+    }
+
+    /// What the words `sweep CAMPAIGN RUN STEP` ask for, which begin at place `own`: nothing where STEP is no
+    /// number of ticks.
+    fn of_sweep(
+        words: &'a [String],
+        calibration: Option<&'a str>,
+        own: usize,
+    ) -> Option<Command<'a>>
+        requires least { 1 ≤ own }
+        requires most { own ≤ 3 }
+        requires words { own + 3 ≤ length words.now }
+        ensures command { option_map said result ≡ option_map (sweep (option_copied calibration.entry)
+            (word (words_of words.now) own) (word (words_of words.now) (own + 1)))
+            (step_in (word (words_of words.now) (own + 2))) }
+        ensures limits { IfSome result (λ command. KeepsLimits (said command)) }
+    {
+        let step = number_in(words[own + 2].as_bytes(), 5, 1, 20_000)?;
+        Some(Command::Sweep {
+            calibration,
+            campaign: words[own].as_str(),
+            name: words[own + 1].as_str(),
+            step,
+        })
     }
 
     /// The name in the words of the file that an outcome speaks of, or nothing where there is none.
@@ -136,7 +172,8 @@ impl<'a> Command<'a> {
             Command::Check { calibration, .. }
             | Command::Bound { calibration }
             | Command::Run { calibration, .. }
-            | Command::Record { calibration, .. } => calibration,
+            | Command::Record { calibration, .. }
+            | Command::Sweep { calibration, .. } => calibration,
             Command::Soak { .. } => None,
         }
     }
@@ -156,7 +193,9 @@ impl<'a> Command<'a> {
         ensures { result.now ≡ campaign_name (said self.entry) }
     {
         match self {
-            Command::Run { campaign, .. } | Command::Record { campaign, .. } => campaign,
+            Command::Run { campaign, .. }
+            | Command::Record { campaign, .. }
+            | Command::Sweep { campaign, .. } => campaign,
             _ => "",
         }
     }
@@ -184,7 +223,7 @@ fn role_of(refusal: &Refusal) -> Option<Role>
         Refusal::Campaign(_) => Some(Role::Campaign),
         Refusal::Trace { run, .. } => Some(Role::Trace { run: *run }),
         Refusal::Image { run, .. } => Some(Role::Image { run: *run }),
-        Refusal::NoRun => None,
+        Refusal::NoRun | Refusal::Grid => None,
     }
 }
 
@@ -237,6 +276,19 @@ fn is_record(words: &[String], own: usize) -> bool
 {
     words.len() == own + 2
         && words[0].as_str() == "record"
+        && is_name(words[own].as_str())
+        && is_name(words[own + 1].as_str())
+}
+
+/// Whether the words are `sweep CAMPAIGN RUN STEP`, where the command's own words begin at place `own`. What
+/// STEP says isn't looked at.
+fn is_sweep(words: &[String], own: usize) -> bool
+    requires least { 1 ≤ own }
+    requires most { own ≤ 3 }
+    ensures { result ≡ is_sweep (words_of words.now) own }
+{
+    words.len() == own + 3
+        && words[0].as_str() == "sweep"
         && is_name(words[own].as_str())
         && is_name(words[own + 1].as_str())
 }

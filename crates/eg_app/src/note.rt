@@ -39,6 +39,7 @@ fn note_refusal<N: Sink>(refusal: &Refusal, file: &[u8], notes: &mut N)
         Refusal::Trace { fault, .. } => note_trace(fault, file, notes),
         Refusal::Image { fault, .. } => note_image(fault, file, notes),
         Refusal::NoRun => put_pieces(notes, &[b"no such run\n"]),
+        Refusal::Grid => put_pieces(notes, &[b"grid too large\n"]),
     }
 }
 

@@ -1,13 +1,13 @@
-// `run` and `record`: beside eg_play's own clauses, when the calibration is missing.
-ghost use Rattle.std.specs.Prelude.{◌≡◌, Some};
+// `run`, `record` and `sweep`: beside eg_play's own clauses, when the calibration is missing.
+ghost use Rattle.std.specs.Prelude.{◌≡◌, ◌≤◌, Some};
 ghost use Rattle.std.specs.Option.{option_copied};
 ghost use Rattle.eg_outcome.specs.Outcomes.{EndsOrderly};
-ghost use Rattle.eg_play.specs.Ends.{RunCommandEnds, RecordCommandEnds, NamesFile, role_in};
-ghost use Rattle.eg_app.specs.Words.{run, record_run};
+ghost use Rattle.eg_play.specs.Ends.{RunCommandEnds, RecordCommandEnds, SweepCommandEnds, NamesFile, role_in};
+ghost use Rattle.eg_app.specs.Words.{run, record_run, sweep};
 ghost use Rattle.eg_app.specs.Ends.{TellsMissing};
 
 use eg_base::{Sink, Store};
-use eg_play::{End, record, run};
+use eg_play::{End, record, run, sweep};
 use eg_tick::Ticks;
 use std::alloc::Global;
 
@@ -52,4 +52,29 @@ pub(crate) fn play_run<S: Store, K: Sink>(
         steps.old steps.new result.outcome }
 {
     record(alloc, calibration, campaign, name, store, out, steps)
+}
+
+/// Does `sweep [--cal NAME] CAMPAIGN RUN STEP`, but for its note (docs/FORMATS.md, "Commands").
+pub(crate) fn play_sweep<S: Store, K: Sink>(
+    alloc: Global,
+    calibration: Option<&str>,
+    campaign: &str,
+    name: &str,
+    step: u32,
+    store: &mut S,
+    out: &mut K,
+    steps: &mut Ticks,
+) -> End
+    requires least { 1 ≤ step }
+    requires most { step ≤ 20000 }
+    ensures ends { SweepCommandEnds (option_copied calibration.entry) campaign.now name.now step
+        (S.shows store.old) (S.shows store.new) (K.shows out.old) (K.shows out.new) steps.old steps.new
+        result.outcome }
+    ensures named { NamesFile campaign.now (S.shows store.old) (role_in result.outcome) result.file }
+    ensures missing { TellsMissing (Some (sweep (option_copied calibration.entry) campaign.now name.now step))
+        (S.shows store.old) result.outcome }
+    ensures orderly { EndsOrderly (S.shows store.old) (S.shows store.new) out.old out.new
+        steps.old steps.new result.outcome }
+{
+    sweep(alloc, calibration, campaign, name, step, store, out, steps)
 }

@@ -3,12 +3,15 @@ use Rattle.std.proofs.Common.{◌≡◌, ◌∙◌, refl, sym, ap, subst, List, 
 use Rattle.std.specs.List.{concat}
 use Rattle.std.proofs.lemmas.List.{map-append}
 use Rattle.std.proofs.lemmas.List.Folds.{concat-append}
-use Rattle.std.proofs.Common.{append-nil}
+use Rattle.std.proofs.Common.{append-nil, append_assoc, length-append, ◌≤◌, arith, Bool, true, false}
+use Rattle.std.specs.Prelude.{◌==◌}
+use Rattle.std.proofs.lemmas.List.{nil_from_length}
+use Rattle.std.proofs.lemmas.Bool.{eqb-true}
 use Rattle.eg_base.specs.Outside.{ShownSink, Rose, Appends}
 use Rattle.eg_outcome.specs.Outcomes.{LineEnds}
 use Rattle.eg_outcome.specs.declared.outcome.Outcome.{Outcome}
 use Rattle.eg_outcome.specs.declared.outcome.Outcome.TheVariants as outcome
-use Rattle.eg_outcome.proofs.AppendLemmas.{Appends-append, AppendsPrefix-append, concat-cut, concat-take_more}
+use Rattle.eg_outcome.proofs.AppendLemmas.{Appends-nil, Appends-append, AppendsPrefix-append, concat-cut, concat-take_more}
 
 -- ---- lines that are made ----
 
@@ -67,3 +70,47 @@ HasPut-refused text lines i line before mid now o below is so_far refused ends =
     subst (λ all. LineEnds all before now o) (sym (concat-at text lines i line below is))
     (LineEnds-within before mid now (concat (map text (take i lines))) (text line) (concat (map text (drop (suc i) lines))) o
     refused so_far.put so_far.faults ends)
+
+-- ---- a text that is put line by line ----
+
+-- what stands before the rest of a text was put, and no fault was met
+pub record HasPutFront (text rest : List ℕ) (before now : ShownSink) : Type 0 where
+  pub front : List ℕ
+  pub parts : text ≡ front ++ rest
+  pub put : Appends before now front
+  pub faults : now.faults ≡ before.faults
+
+-- at the begin nothing was put
+pub HasPutFront-nothing : (text rest : List ℕ) (shown : ShownSink) → rest ≡ text → HasPutFront text rest shown shown
+HasPutFront-nothing text rest shown is = record { front = []; parts = sym is; put = Appends-nil shown; faults = refl }
+
+-- the next line is put too,
+pub HasPutFront-more : (text rest line after : List ℕ) (before mid now : ShownSink) → HasPutFront text rest before mid →
+    rest ≡ line ++ after → LineEnds line mid now outcome.Done → HasPutFront text after before now
+HasPutFront-more text rest line after before mid now so_far is ends = record {
+  front = so_far.front ++ line;
+  parts = so_far.parts ∙ ap (λ l. so_far.front ++ l) is ∙ sym (append_assoc so_far.front line after);
+  put = Appends-append before mid now so_far.front line so_far.put ends.0;
+  faults = ends.1 ∙ so_far.faults;
+}
+
+-- or it is refused,
+pub HasPutFront-refused : (text rest line after : List ℕ) (before mid now : ShownSink) (o : Outcome) → HasPutFront text rest before mid →
+    rest ≡ line ++ after → (o ≡ outcome.Done → ⊥) → LineEnds line mid now o → LineEnds text before now o
+HasPutFront-refused text rest line after before mid now o so_far is refused ends =
+    subst (λ all. LineEnds all before now o) (sym (so_far.parts ∙ ap (λ l. so_far.front ++ l) is ∙ sym (append_assoc so_far.front line after)))
+    (LineEnds-within before mid now so_far.front line after o refused so_far.put so_far.faults ends)
+
+-- or none is left
+pub HasPutFront-whole : (text rest : List ℕ) (before now : ShownSink) → HasPutFront text rest before now → rest ≡ [] →
+    LineEnds text before now outcome.Done
+HasPutFront-whole text rest before now so_far none =
+    (subst (Appends before now) (sym (so_far.parts ∙ ap (λ l. so_far.front ++ l) none ∙ append-nil so_far.front)) so_far.put, so_far.faults)
+
+-- a line that is some bytes leaves fewer
+pub shorter : (rest line after : List ℕ) → rest ≡ line ++ after → 1 ≤ length line → length after < length rest
+shorter rest line after is some = let long = ap length is ∙ length-append line after in omega arith
+
+-- a text that is empty has no bytes
+pub nothing_left : (rest : List ℕ) (empty : Bool) → empty ≡ (length rest == 0) → empty ≡ true → rest ≡ []
+nothing_left rest empty is so = nil_from_length rest (eqb-true (length rest) 0 (sym is ∙ so))

@@ -2,4 +2,5 @@ pub mod Files
 pub mod Status
 pub mod Outcomes
 pub mod Reads
+pub mod Images
 pub mod Calibrations

@@ -7,10 +7,12 @@
 
 mod calibration;
 mod files;
+mod image;
 mod line;
 mod outcome;
 
 pub use calibration::calibration_for;
 pub use files::file_bytes;
-pub use line::{put_line, put_lines};
+pub use image::image_in;
+pub use line::{put_line, put_lines, put_text};
 pub use outcome::{Outcome, Refusal, Role};

@@ -1,5 +1,5 @@
 // The lines that a command writes.
-ghost use Rattle.std.specs.Prelude.{map, string_bytes};
+ghost use Rattle.std.specs.Prelude.{◌≡◌, ◌++◌, ◌≤◌, length, map, string_bytes};
 ghost use Rattle.std.specs.List.{concat};
 ghost use Rattle.eg_outcome.specs.Outcomes.{PutsText};
 
@@ -30,4 +30,32 @@ pub fn put_lines<K: Sink>(lines: &[String], out: &mut K) -> Outcome
         }
     }
     Outcome::Done
+}
+
+/// Puts a text to the output of a command, each of its lines in one piece, one after another up to the first
+/// that is refused (docs/FORMATS.md, "Outcomes").
+pub fn put_text<K: Sink>(text: &[u8], out: &mut K) -> Outcome
+    ensures { PutsText text.now (K.shows out.old) (K.shows out.new) result }
+{
+    let mut rest = text;
+    while !rest.is_empty() {
+        let (line, after) = split_line(rest);
+        match put_line(line, out) {
+            Outcome::Done => rest = after,
+            refused => return refused,
+        }
+    }
+    Outcome::Done
+}
+
+/// The first line of a text, with its line feed, and what stands behind it. A text without a line feed is one
+/// line.
+fn split_line(text: &[u8]) -> (&[u8], &[u8])
+    requires { 1 ≤ length text.now }
+    ensures parts { text.now ≡ result.0.now ++ result.1.now }
+    ensures some { 1 ≤ length result.0.now }
+{
+    let feed = text.iter().position(|byte| *byte == b'\n');
+    let end = feed.map_or(text.len(), |place| place + 1);
+    text.split_at(end)
 }

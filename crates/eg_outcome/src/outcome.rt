@@ -13,7 +13,7 @@ pub enum Role {
     Calibration,
     /// The file of `check`.
     Check,
-    /// The campaign file of `run` or `record`.
+    /// The campaign file of `run`, `record` or `sweep`.
     Campaign,
     /// The drive trace of a run of the campaign, the first being 1.
     Trace { run: u32 },
@@ -38,6 +38,8 @@ pub enum Refusal {
     Image { run: u32, fault: ImageFault },
     /// The campaign has no run of that name.
     NoRun,
+    /// A sweep would have more than 1,000 runs, or its runs more than 1,000,000 ticks in all.
+    Grid,
 }
 
 /// How a call of the program ends (docs/FORMATS.md, "Outcomes").

@@ -2,3 +2,4 @@ pub mod NameLemmas
 pub mod InputsLemmas
 pub mod HeadlineLemmas
 pub mod PlayLemmas
+pub mod SweepLemmas

@@ -1,31 +1,36 @@
--- How `run` and `record` end: by cases on the outcome, nested from the outside in, as `check` and `bound`
+-- How `run`, `record` and `sweep` end: by cases on the outcome, nested from the outside in, as `check` and `bound`
 -- are. `store`, `out` and `was` are what the store, the output and the count of ticks show before the call,
 -- `later`, `now` and `is` what they show after it.
-use Rattle.std.specs.Prelude.{◌≡◌, ℕ, ◌+◌, ◌-◌, length, ◌%◌, ◌^◌, ◌≤◌, List, [], ◌∷◌, map, All, Option, Some, None, option_map, Result, Ok, IsSome, slice_get, bytes_eq, if◌then◌else◌}
+use Rattle.std.specs.Prelude.{◌≡◌, ℕ, Bool, true, false, ◌+◌, ◌-◌, length, ◌%◌, ◌^◌, ◌≤◌, List, [], ◌∷◌, map, All, Option, Some, None, option_map, Result, Ok, Err, IsSome, slice_get, bytes_eq, if◌then◌else◌}
 use Rattle.std.specs.List.{flat_map}
 use Rattle.eg_base.specs.Outside.{ShownStore, ShownSink}
+use Rattle.eg_num.specs.Drive.{DriveRow}
+use Rattle.eg_answer.specs.Times.{reaction_of}
 use Rattle.eg_values.specs.Calibration.{CalibrationParts}
 use Rattle.eg_record.specs.declared.row.Row.{Row}
 use Rattle.eg_tick.specs.Weights.{TickCount}
 use Rattle.eg_plan.specs.declared.run.RunPlan.{RunPlan}
 use Rattle.eg_campaign.specs.declared.play.RunInput.{RunInput}
 use Rattle.eg_outcome.specs.Files.{AreRead}
-use Rattle.eg_outcome.specs.Outcomes.{LineEnds, Follows}
-use Rattle.eg_outcome.specs.Reads.{FileComes}
+use Rattle.eg_outcome.specs.Outcomes.{LineEnds, Follows, Then}
+use Rattle.eg_outcome.specs.Reads.{FileComes, ReadComes}
 use Rattle.eg_outcome.specs.Calibrations.{CalibratedEnds}
 use Rattle.eg_outcome.specs.declared.outcome.Outcome.{Outcome}
 use Rattle.eg_outcome.specs.declared.outcome.Outcome.TheVariants as outcome
 use Rattle.eg_outcome.specs.declared.outcome.Refusal.TheVariants as refusal
 use Rattle.eg_outcome.specs.declared.outcome.Role.{Role}
 use Rattle.eg_outcome.specs.declared.outcome.Role.TheVariants as role
-use Rattle.eg_play.specs.Files.{campaign_file}
+use Rattle.eg_sweep.specs.Grid.{is_too_large}
+use Rattle.eg_sweep.specs.Laws.{IsBounded}
+use Rattle.eg_play.specs.Files.{campaign_file, trace_file}
 use Rattle.eg_play.specs.Inputs.{InputComes, InputsCome, FindsInput, AcceptsInput}
 use Rattle.eg_play.specs.Headline.{KeepsHeadline}
 use Rattle.eg_campaign.specs.Plays.{EngineRun, rows_of_run, run_with, count_after}
-use Rattle.eg_campaign.specs.Groups.{rows_made, count_with}
+use Rattle.eg_campaign.specs.Groups.{rows_made, rows_of_group, count_with}
 use Rattle.eg_campaign.specs.Texts.{rows_in_time, record_text}
 use Rattle.eg_campaign.specs.Recording.{IsStopped}
 use Rattle.eg_play.specs.Texts.{report_text}
+use Rattle.eg_play.specs.Sweeping.{runs_over, table_over, sweep_text}
 
 -- ---- runs are played ----
 
@@ -91,6 +96,37 @@ abbrev pub RecordEnds : CalibrationParts → RunInput → ShownStore → ShownSt
 RecordEnds cal input store later out now was is o = (later.faults ≡ store.faults)
     × Records cal input out now was is o
 
+-- ---- `sweep [--cal NAME] CAMPAIGN RUN STEP` ----
+
+-- The runs of a sweep were played, as one group, and their table was written: on Done all of it. The record of
+-- each keeps the headline; and under each class but lapses, and so in the last line, the greatest reaction is
+-- at most the reaction time.
+pub record Sweeps (cal : CalibrationParts) (step : ℕ) (input : RunInput) (out now : ShownSink)
+    (was is : TickCount) (o : Outcome) : Type 0 where
+  pub plays : Plays (sweep_text cal step input) (map (run_with cal) (runs_over step input))
+      (rows_of_group cal (runs_over step input)) out now was is o
+  pub in_time : IsBounded (reaction_of cal.times) (table_over cal step input)
+
+-- a grid is refused where it is too large, and else the work is done
+abbrev pub GridEnds : (is_too_large : Bool) → (nothing work : Type 0) → Outcome → Type 0
+GridEnds true nothing work o = (o ≡ outcome.Refused refusal.Grid) × nothing
+GridEnds false nothing work o = work
+
+-- the input of the run is known, and no fault of reading was met
+abbrev pub SweepEnds : CalibrationParts → (step : ℕ) → RunInput → ShownStore → ShownStore → ShownSink
+    → ShownSink → TickCount → TickCount → Outcome → Type 0
+SweepEnds cal step input store later out now was is o = (later.faults ≡ store.faults)
+    × GridEnds (is_too_large (length input.drive) step) (NothingPlayed out now was is)
+    (Sweeps cal step input out now was is o) o
+
+-- ---- which runs are played ----
+
+-- the campaign is read, and the work follows with its runs
+abbrev pub CampaignEnds : List ℕ → ShownStore → ShownStore → (nothing : Type 0)
+    → (List RunPlan → Outcome → Type 0) → Outcome → Type 0
+CampaignEnds campaign store later nothing work o = (come : Result (List RunPlan) Outcome)
+    × FileComes role.Campaign campaign_file campaign store later come × Follows work nothing come o
+
 -- the first run of this name, with its number, where n is the number of the first run of the list
 abbrev pub run_named : List ℕ → ℕ → List RunPlan → Option (ℕ × RunPlan)
 run_named name n [] = None
@@ -98,22 +134,24 @@ run_named name n (plan ∷ plans) =
     if bytes_eq plan.name name then Some (n, plan) else run_named name (n + 1) plans
 
 -- there is no run of that name, or its files are read; whatever its count of ticks, it isn't refused for that
-abbrev pub NamedEnds : CalibrationParts → Option (ℕ × RunPlan) → ShownStore → ShownStore → ShownSink
-    → ShownSink → TickCount → TickCount → Outcome → Type 0
-NamedEnds cal None store later out now was is o = (o ≡ outcome.Refused refusal.NoRun)
-    × (later.faults ≡ store.faults) × NothingPlayed out now was is
-NamedEnds cal (Some found) store later out now was is o = (come : Result RunInput Outcome)
-    × InputComes (λ count. None) store later found.0 found.1 come
-    × Follows (λ input end. RecordEnds cal input store later out now was is end)
-    (NothingPlayed out now was is) come o
+abbrev pub FoundComes : Option (ℕ × RunPlan) → ShownStore → ShownStore → Result RunInput Outcome → Type 0
+FoundComes None store later come =
+    (come ≡ Err (outcome.Refused refusal.NoRun)) × (later.faults ≡ store.faults)
+FoundComes (Some found) store later come = InputComes (λ count. None) store later found.0 found.1 come
 
--- ---- both ----
+-- the campaign is read, and then the files of its run of that name
+abbrev pub NamedComes : (campaign name : List ℕ) → ShownStore → ShownStore → Result RunInput Outcome → Type 0
+NamedComes campaign name store later come = (plans : Result (List RunPlan) Outcome)
+    × FileComes role.Campaign campaign_file campaign store later plans
+    × Then (λ found made. FoundComes (run_named name 1 found) store later made) plans come
 
--- the campaign is read, and the work follows with its runs
-abbrev pub CampaignEnds : List ℕ → ShownStore → ShownStore → (nothing : Type 0)
-    → (List RunPlan → Outcome → Type 0) → Outcome → Type 0
-CampaignEnds campaign store later nothing work o = (come : Result (List RunPlan) Outcome)
-    × FileComes role.Campaign campaign_file campaign store later come × Follows work nothing come o
+-- the input of the run of that name comes, and the work follows with it
+abbrev pub NamedEnds : (campaign name : List ℕ) → ShownStore → ShownStore → (nothing : Type 0)
+    → (RunInput → Outcome → Type 0) → Outcome → Type 0
+NamedEnds campaign name store later nothing work o = (come : Result RunInput Outcome)
+    × NamedComes campaign name store later come × Follows work nothing come o
+
+-- ---- each command ----
 
 abbrev pub RunCommandEnds : Option (List ℕ) → List ℕ → ShownStore → ShownStore → ShownSink → ShownSink
     → TickCount → TickCount → Outcome → Type 0
@@ -126,8 +164,15 @@ abbrev pub RecordCommandEnds : Option (List ℕ) → List ℕ → List ℕ → S
     → ShownSink → TickCount → TickCount → Outcome → Type 0
 RecordCommandEnds calibration campaign name store later out now was is o =
     CalibratedEnds calibration store later (NothingPlayed out now was is)
-    (λ cal. CampaignEnds campaign store later (NothingPlayed out now was is)
-    (λ plans. NamedEnds cal (run_named name 1 plans) store later out now was is)) o
+    (λ cal. NamedEnds campaign name store later (NothingPlayed out now was is)
+    (λ input. RecordEnds cal input store later out now was is)) o
+
+abbrev pub SweepCommandEnds : Option (List ℕ) → List ℕ → List ℕ → (step : ℕ) → ShownStore → ShownStore
+    → ShownSink → ShownSink → TickCount → TickCount → Outcome → Type 0
+SweepCommandEnds calibration campaign name step store later out now was is o =
+    CalibratedEnds calibration store later (NothingPlayed out now was is)
+    (λ cal. NamedEnds campaign name store later (NothingPlayed out now was is)
+    (λ input. SweepEnds cal step input store later out now was is)) o
 
 -- ---- when the work is done ----
 
@@ -136,6 +181,12 @@ abbrev pub AcceptsNamed : ShownStore → ShownStore → Option (ℕ × RunPlan) 
 AcceptsNamed store later None = ⊥
 AcceptsNamed store later (Some found) =
     FindsInput store later found.1 × AcceptsInput (λ count. None) store found.0 found.1
+
+-- whatever the trace of this run may say, the grid over it isn't too large
+abbrev pub AcceptsGrid : (step : ℕ) → ShownStore → Option (ℕ × RunPlan) → Type 0
+AcceptsGrid step store None = ⊥
+AcceptsGrid step store (Some found) = (drive : List DriveRow)
+    → ReadComes (trace_file found.0) found.1.trace store (Ok drive) → is_too_large (length drive) step ≡ false
 
 -- ---- the name of a file of a run ----
 

@@ -1,10 +1,10 @@
--- What the files of a campaign say: the campaign its runs, and of each run its drive trace and its image.
+-- What the files of a campaign say: the campaign its runs, and of each run its drive trace. What its image says
+-- stands in `eg_outcome`.
 use Rattle.std.specs.Prelude.{ℕ, List, Result}
 use Rattle.eg_num.specs.Drive.{DriveRow}
 use Rattle.eg_toml.specs.Documents.{document_of}
 use Rattle.eg_input.specs.Records.{records_of}
 use Rattle.eg_input.specs.DriveTrace.{drive_rows}
-use Rattle.eg_input.specs.Images.{image_words}
 use Rattle.eg_plan.specs.Campaign.{campaign_of}
 use Rattle.eg_plan.specs.declared.key.CampaignFault.{CampaignFault}
 use Rattle.eg_plan.specs.declared.run.RunPlan.{RunPlan}
@@ -25,10 +25,6 @@ campaign_or_refusal bytes = refused refusal.Campaign (campaign_said bytes)
 abbrev pub trace_or_refusal : ℕ → List ℕ → Result (List DriveRow) Refusal
 trace_or_refusal n bytes = refused (refusal.Trace n) (drive_rows (records_of bytes))
 
--- the words that the bytes of the image of run n say, or why they are refused
-abbrev pub image_or_refusal : ℕ → List ℕ → Result (List ℕ) Refusal
-image_or_refusal n bytes = refused (refusal.Image n) (image_words bytes)
-
 -- ---- with the refusal of the file's size ----
 
 -- the runs of a campaign file, or its first refusal
@@ -38,7 +34,3 @@ campaign_file = sized role.Campaign campaign_or_refusal
 -- the drive of the trace of run n, or its first refusal
 abbrev pub trace_file : ℕ → List ℕ → Result (List DriveRow) Refusal
 trace_file n = sized (role.Trace n) (trace_or_refusal n)
-
--- the words of the image of run n, or its first refusal
-abbrev pub image_file : ℕ → List ℕ → Result (List ℕ) Refusal
-image_file n = sized (role.Image n) (image_or_refusal n)

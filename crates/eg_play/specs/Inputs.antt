@@ -14,7 +14,8 @@ use Rattle.eg_outcome.specs.declared.outcome.Refusal.{Refusal}
 use Rattle.eg_outcome.specs.declared.outcome.Refusal.TheVariants as refusal
 use Rattle.eg_outcome.specs.declared.outcome.Role.TheVariants as role
 use Rattle.eg_play.specs.declared.end.End.{End}
-use Rattle.eg_play.specs.Files.{trace_file, image_file}
+use Rattle.eg_outcome.specs.Images.{image_file}
+use Rattle.eg_play.specs.Files.{trace_file}
 
 -- ---- one run ----
 

@@ -1,6 +1,7 @@
 pub mod Files
 pub mod Inputs
 pub mod Headline
+pub mod Sweeping
 pub mod Texts
 pub mod Ends
 pub use Rattle.eg_base.specs.Outside

@@ -9,16 +9,17 @@ ghost use Rattle.eg_outcome.specs.Reads.{KeepsFiles, ReadsFile, Says};
 ghost use Rattle.eg_outcome.specs.Outcomes.{TellsNoMemory};
 ghost use Rattle.eg_outcome.specs.declared.outcome.Outcome.TheVariants.{Refused};
 ghost use Rattle.eg_outcome.specs.declared.outcome.Role.TheVariants as role;
-ghost use Rattle.eg_play.specs.Files.{trace_file, trace_or_refusal, image_file, image_or_refusal};
+ghost use Rattle.eg_outcome.specs.Images.{image_file};
+ghost use Rattle.eg_play.specs.Files.{trace_file, trace_or_refusal};
 ghost use Rattle.eg_play.specs.Inputs.{InputComes, ImageComes, refusing, outcomes};
 ghost use Rattle.eg_play.specs.Ends.{IsOf, role_in, name_by};
 
 use crate::End;
 use eg_base::{Items, Store};
 use eg_campaign::RunInput;
-use eg_input::{ImageFault, TraceFault, read_image, read_trace};
+use eg_input::{TraceFault, read_trace};
 use eg_num::Drive;
-use eg_outcome::{Outcome, Refusal, Role, file_bytes};
+use eg_outcome::{Outcome, Refusal, Role, file_bytes, image_in};
 use eg_plan::{RunPlan, add_ticks};
 use std::alloc::Global;
 
@@ -169,18 +170,5 @@ fn image_for<S: Store>(
     match file_bytes(alloc, Role::Image { run }, file, store) {
         Ok(bytes) => image_in(alloc, run, bytes.as_slice()),
         Err(end) => Err(end),
-    }
-}
-
-/// The words that these bytes of an image say, or how the call ends without them.
-fn image_in(alloc: Global, run: u32, bytes: &[u8]) -> Result<Items<u16>, Outcome>
-    ensures says { Says (image_or_refusal run) bytes.now result }
-    ensures image { IfOk result (λ image. length image ≤ MOST_WORDS) }
-    ensures role { IfErr result (λ outcome. IsOf run (role_in outcome)) }
-{
-    match read_image(alloc, bytes) {
-        Ok(words) => Ok(Items::new(words)),
-        Err(ImageFault::Memory) => Err(Outcome::Memory),
-        Err(fault) => Err(Outcome::Refused(Refusal::Image { run, fault })),
     }
 }

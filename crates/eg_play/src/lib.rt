@@ -1,4 +1,4 @@
-//! The commands that play whole runs: `run` and `record`.
+//! The commands that play whole runs: `run`, `record` and `sweep`.
 //!
 //! A campaign is read, then the drive trace and the image of each of its runs; then the controller plays them
 //! tick by tick, and the report or the record is written, a record as its ticks are made.
@@ -8,11 +8,16 @@ mod campaign;
 mod end;
 mod input;
 mod inputs;
+mod named;
 mod recording;
 mod report;
 mod running;
+mod sweeping;
+mod swept;
+mod table;
 mod texts;
 
 pub use end::End;
 pub use recording::record;
 pub use running::run;
+pub use sweeping::sweep;

@@ -57,8 +57,8 @@ impl Facts {
         })
     }
 
-    /// The reaction of the run, in ticks (docs/CONCEPT.md, "`soak`"). None where it has none: no true excess is
-    /// confirmed, or the power stages are on at the last tick.
+    /// The reaction of the run, in ticks (docs/CONCEPT.md, "`soak`"). None where it has none: no true excess
+    /// is confirmed, or the power stages are on at the last tick.
     #[tactic(auto, unfolding(crate::specs::Facts::reaction_in, crate::specs::Facts::off_from))]
     pub fn reaction(&self) -> Option<u32>
         ensures { result ≡ reaction_in self.now }

@@ -1,0 +1,15 @@
+-- What an image file says: the words of level 1.
+use Rattle.std.specs.Prelude.{ℕ, List, Result}
+use Rattle.eg_input.specs.Images.{image_words}
+use Rattle.eg_outcome.specs.Reads.{refused, sized}
+use Rattle.eg_outcome.specs.declared.outcome.Refusal.{Refusal}
+use Rattle.eg_outcome.specs.declared.outcome.Refusal.TheVariants as refusal
+use Rattle.eg_outcome.specs.declared.outcome.Role.TheVariants as role
+
+-- the words that the bytes of the image of run n say, or why they are refused
+abbrev pub image_or_refusal : ℕ → List ℕ → Result (List ℕ) Refusal
+image_or_refusal n bytes = refused (refusal.Image n) (image_words bytes)
+
+-- the words of the image of run n, or its first refusal
+abbrev pub image_file : ℕ → List ℕ → Result (List ℕ) Refusal
+image_file n = sized (role.Image n) (image_or_refusal n)

@@ -1,0 +1,39 @@
+-- The runs of a sweep, and what is written of them: one run of a campaign under a fault of each class at each
+-- onset of a grid.
+use Rattle.std.specs.Prelude.{ℕ, false, List, map, length, Some}
+use Rattle.eg_num.specs.Drive.{DriveRow}
+use Rattle.eg_fault.specs.declared.class.Fault.{Fault}
+use Rattle.eg_values.specs.Calibration.{CalibrationParts}
+use Rattle.eg_campaign.specs.declared.play.RunInput.{RunInput}
+use Rattle.eg_campaign.specs.Groups.{facts_by}
+use Rattle.eg_sweep.specs.declared.row.SweepRow.{SweepRow}
+use Rattle.eg_sweep.specs.Grid.{swept_faults}
+use Rattle.eg_sweep.specs.Table.{table_of}
+use Rattle.eg_sweep.specs.Texts.{sweep_text_of}
+
+-- a drive row, at which the unit isn't reset
+abbrev pub without_reset : DriveRow → DriveRow
+without_reset row = record row { reset = false }
+
+-- the run of an input under this fault in place of its own, where no row of its trace resets the unit
+unfoldable pub swept : RunInput → Fault → RunInput
+swept input fault = record {
+  plan = record input.plan { fault = Some fault };
+  drive = map without_reset input.drive;
+  image = input.image;
+}
+
+-- the faults of a sweep over an input, at each `step`th tick of its drive, and its runs under them
+unfoldable pub faults_over : (step : ℕ) → RunInput → List Fault
+faults_over step input = swept_faults (length input.drive) step
+
+unfoldable pub runs_over : (step : ℕ) → RunInput → List RunInput
+runs_over step input = map (swept input) (faults_over step input)
+
+-- the table of these runs: a row for each class
+unfoldable pub table_over : CalibrationParts → (step : ℕ) → RunInput → List SweepRow
+table_over cal step input = table_of (faults_over step input) (map (facts_by cal) (runs_over step input))
+
+-- its text
+unfoldable pub sweep_text : CalibrationParts → (step : ℕ) → RunInput → List ℕ
+sweep_text cal step input = sweep_text_of (table_over cal step input)

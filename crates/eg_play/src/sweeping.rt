@@ -1,0 +1,81 @@
+// `sweep [--cal NAME] CAMPAIGN RUN STEP`: one run of a campaign under every class of faults.
+ghost use Rattle.std.specs.Prelude.{◌≡◌, ◌≤◌, IsTrue, None};
+ghost use Rattle.std.specs.Option.{option_copied};
+ghost use Rattle.eg_base.specs.Outside.{IsMissing};
+ghost use Rattle.eg_outcome.specs.Calibrations.{MissesCalibration};
+ghost use Rattle.eg_outcome.specs.Outcomes.{EndsOrderly};
+ghost use Rattle.eg_outcome.specs.declared.outcome.Outcome.TheVariants.{ReadFault};
+ghost use Rattle.eg_outcome.specs.declared.outcome.Role.TheVariants as role;
+ghost use Rattle.eg_play.specs.Ends.{NothingPlayed, NamedEnds, SweepEnds, SweepCommandEnds, NamesFile, role_in};
+
+use crate::End;
+use crate::named::input_named;
+use crate::table::put_table;
+use eg_base::{Sink, Store};
+use eg_outcome::calibration_for;
+use eg_tick::Ticks;
+use eg_values::Calibration;
+use std::alloc::Global;
+
+/// Does `sweep [--cal NAME] CAMPAIGN RUN STEP`, but for its note (docs/FORMATS.md, "Commands"): reads the
+/// campaign and the files of the run of that name, plays it under a fault of each class at each `step`th tick
+/// (1 to 20,000), and writes the table of these runs. Ticks are counted in `steps`.
+pub fn sweep<S: Store, K: Sink>(
+    alloc: Global,
+    calibration: Option<&str>,
+    campaign: &str,
+    name: &str,
+    step: u32,
+    store: &mut S,
+    out: &mut K,
+    steps: &mut Ticks,
+) -> End
+    requires least { 1 ≤ step }
+    requires most { step ≤ 20000 }
+    ensures ends { SweepCommandEnds (option_copied calibration.entry) campaign.now name.now step
+        (S.shows store.old) (S.shows store.new) (K.shows out.old) (K.shows out.new)
+        steps.old steps.new result.outcome }
+    ensures named { NamesFile campaign.now (S.shows store.old) (role_in result.outcome) result.file }
+    // Over a sure store a missing calibration is told, and so is a missing campaign that is read first.
+    ensures missing { IsTrue (S.shows store.old).sure
+        → MissesCalibration (option_copied calibration.entry) (S.shows store.old)
+        → result.outcome ≡ ReadFault role.Calibration }
+    ensures missing_campaign { IsTrue (S.shows store.old).sure → option_copied calibration.entry ≡ None
+        → IsMissing (S.shows store.old).files campaign.now → result.outcome ≡ ReadFault role.Campaign }
+    ensures orderly { EndsOrderly (S.shows store.old) (S.shows store.new) out.old out.new
+        steps.old steps.new result.outcome }
+{
+    match calibration_for(alloc, calibration, store) {
+        Ok(calibration) => sweep_by(alloc, &calibration, campaign, name, step, store, out, steps),
+        Err(outcome) => End::of(outcome),
+    }
+}
+
+/// Sweeps over a run of a campaign by this calibration.
+fn sweep_by<S: Store, K: Sink>(
+    alloc: Global,
+    calibration: &Calibration,
+    campaign: &str,
+    name: &str,
+    step: u32,
+    store: &mut S,
+    out: &mut K,
+    steps: &mut Ticks,
+) -> End
+    requires least { 1 ≤ step }
+    requires most { step ≤ 20000 }
+    ensures ends { NamedEnds campaign.now name.now (S.shows store.old) (S.shows store.new)
+        (NothingPlayed (K.shows out.old) (K.shows out.new) steps.old steps.new)
+        (λ input. SweepEnds calibration.now step input (S.shows store.old) (S.shows store.new)
+        (K.shows out.old) (K.shows out.new) steps.old steps.new) result.outcome }
+    ensures missing_campaign { IsTrue (S.shows store.old).sure
+        → IsMissing (S.shows store.old).files campaign.now → result.outcome ≡ ReadFault role.Campaign }
+    ensures named { NamesFile campaign.now (S.shows store.old) (role_in result.outcome) result.file }
+    ensures orderly { EndsOrderly (S.shows store.old) (S.shows store.new) out.old out.new
+        steps.old steps.new result.outcome }
+{
+    match input_named(alloc, campaign, name, store) {
+        Ok(input) => End::of(put_table(alloc, calibration, &input, step, out, steps)),
+        Err(end) => end,
+    }
+}

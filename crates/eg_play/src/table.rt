@@ -1,0 +1,83 @@
+// The table of a sweep is written.
+ghost use Rattle.std.specs.Prelude.{◌≡◌, ◌≤◌, All, map, length, IfOk, Err};
+ghost use Rattle.eg_fault.specs.Faults.{IsValid};
+ghost use Rattle.eg_campaign.specs.Groups.{rows_made, facts_by};
+ghost use Rattle.eg_campaign.specs.Plays.{IsPlayable, run_with};
+ghost use Rattle.eg_sweep.specs.Grid.{is_too_large, swept_faults};
+ghost use Rattle.eg_sweep.specs.Table.{table_of};
+ghost use Rattle.eg_sweep.specs.Texts.{sweep_text_of};
+ghost use Rattle.eg_outcome.specs.Outcomes.{PutsNothing, TellsNoMemory};
+ghost use Rattle.eg_play.specs.Ends.{NothingPlayed, GridEnds, Plays, Sweeps};
+
+use crate::swept::swept_inputs;
+use eg_base::Sink;
+use eg_campaign::{RunInput, facts_all};
+use eg_fault::Fault;
+use eg_outcome::{Outcome, Refusal, put_text};
+use eg_sweep::{SweepFault, sweep_faults, sweep_text, tabulate};
+use eg_tick::Ticks;
+use eg_values::Calibration;
+use std::alloc::Global;
+
+/// Plays the runs of a sweep over one run, and puts their table (docs/FORMATS.md, "The table of `sweep`"). A
+/// grid that is too large is refused. The ticks are counted in `steps`.
+pub(crate) fn put_table<K: Sink>(
+    alloc: Global,
+    calibration: &Calibration,
+    input: &RunInput,
+    step: u32,
+    out: &mut K,
+    steps: &mut Ticks,
+) -> Outcome
+    requires playable { IsPlayable input.now }
+    requires step { 1 ≤ step }
+    ensures ends { GridEnds (is_too_large (length input.now.drive) step)
+        (NothingPlayed (K.shows out.old) (K.shows out.new) steps.old steps.new)
+        (Sweeps calibration.now step input.now (K.shows out.old) (K.shows out.new) steps.old steps.new result)
+        result }
+    ensures no_memory { TellsNoMemory result }
+    ensures nothing_put { PutsNothing result → out.new ≡ out.old }
+    ensures nothing_played { PutsNothing result → steps.new ≡ steps.old }
+{
+    // Whoever reads them learns that the calibration is an accepted one, and that both numbers are a u64.
+    let _rules = calibration.rules();
+    let _numbers = (steps.count(), steps.sum());
+    let faults = match sweep_faults(alloc, input.drive.as_slice().len() as u32, step) {
+        Ok(faults) => faults,
+        Err(SweepFault::Grid) => return Outcome::Refused(Refusal::Grid),
+        Err(SweepFault::Memory) => return Outcome::Memory,
+    };
+    let Ok(inputs) = swept_inputs(alloc, input, &faults) else {
+        return Outcome::Memory;
+    };
+    put_rows(alloc, calibration, &faults, &inputs, out, steps)
+}
+
+/// Plays these runs, each of which has the fault of its place, and puts their table.
+fn put_rows<K: Sink>(
+    alloc: Global,
+    calibration: &Calibration,
+    faults: &[Fault],
+    inputs: &[RunInput],
+    out: &mut K,
+    steps: &mut Ticks,
+) -> Outcome
+    requires playable { All IsPlayable inputs.now }
+    requires same { length faults.now ≡ length inputs.now }
+    requires most { length faults.now ≤ 1000 }
+    ensures plays { Plays (sweep_text_of (table_of faults.now (map (facts_by calibration.now) inputs.now)))
+        (map (run_with calibration.now) inputs.now) (rows_made calibration.now inputs.now)
+        (K.shows out.old) (K.shows out.new) steps.old steps.new result }
+    ensures put { PutsNothing result → ⊥ }
+{
+    // Whoever reads it learns that the calibration is an accepted one.
+    let _rules = calibration.rules();
+    let Ok(facts) = facts_all(alloc, calibration, inputs, steps) else {
+        return Outcome::Memory;
+    };
+    let rows = tabulate(faults, &facts);
+    let Ok(text) = sweep_text(alloc, &rows) else {
+        return Outcome::Memory;
+    };
+    put_text(&text, out)
+}
