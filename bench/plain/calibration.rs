@@ -165,12 +165,22 @@ pub fn folded(sign: u16, result: u16) -> u16 {
 impl Times {
     /// How many wrong verdicts in a row confirm.
     fn wrong_verdicts(&self) -> u32 {
-        u32::from(self.weights.limit).div_ceil(u32::from(self.weights.up))
+        self.weights.to_confirm()
     }
 
     /// The reaction time.
     pub fn reaction(&self) -> u32 {
         (self.wrong_verdicts() + 1) * self.period - self.send - 1
+    }
+
+    /// The bound for lapses, where the torque is debounced by these weights: none where the right verdicts of a
+    /// round may take as much as its wrong one adds.
+    pub fn lapse_bound(&self, torque: &Weights) -> Option<u32> {
+        let periods = torque.to_confirm().div_ceil(self.period);
+        let taken = (periods - 1) * u32::from(self.weights.down);
+        let worth = u32::from(self.weights.up).checked_sub(taken).filter(|worth| *worth > 0)?;
+        let rounds = u32::from(self.weights.limit).div_ceil(worth);
+        Some((rounds * periods + 2) * self.period)
     }
 
     /// The tick of a test span at which the paths are read back.
@@ -267,6 +277,11 @@ pub fn exceeds(torque: u16, permitted: u16, threshold: u16) -> bool {
 }
 
 impl Weights {
+    /// How many bad feeds in a row confirm.
+    fn to_confirm(&self) -> u32 {
+        u32::from(self.limit).div_ceil(u32::from(self.up))
+    }
+
     /// A counter after one feed. At the limit it stays.
     #[inline(always)]
     pub fn feed(&self, value: u16, bad: bool) -> u16 {

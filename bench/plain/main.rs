@@ -4,7 +4,7 @@
 //! the words and files that `egasim` takes, and writes what it writes; notes it has none. It was written from docs/
 //! and is measured beside the proved program by `bench/unit` and `bench/all`. Nothing of it is proved.
 //! Usage: check [--cal NAME] FILE, bound [--cal NAME], run [--cal NAME] CAMPAIGN,
-//! record [--cal NAME] CAMPAIGN RUN, soak SEED RUNS
+//! record [--cal NAME] CAMPAIGN RUN, sweep [--cal NAME] CAMPAIGN RUN STEP, soak SEED RUNS
 
 mod calibration;
 mod calibration_file;
@@ -20,6 +20,7 @@ mod quotes;
 mod record;
 mod report;
 mod soak;
+mod sweep;
 mod toml;
 mod unit;
 
@@ -72,9 +73,14 @@ fn check(cal: &Calibration, file: &str, out: &mut Output) -> Result<(), End> {
     Ok(())
 }
 
-/// The reaction time.
+/// The reaction time, and the bound for lapses.
 fn bound(cal: &Calibration, out: &mut Output) -> Result<(), End> {
-    Ok(writeln!(out, "reaction {}", cal.times.reaction())?)
+    writeln!(out, "reaction {}", cal.times.reaction())?;
+    match cal.times.lapse_bound(&cal.torque) {
+        None => writeln!(out, "lapse none")?,
+        Some(ticks) => writeln!(out, "lapse {ticks}")?,
+    }
+    Ok(())
 }
 
 fn campaign(file: &str) -> Result<Vec<Plan>, End> {
@@ -116,15 +122,20 @@ fn run(cal: &Calibration, file: &str, out: &mut Output) -> Result<(), End> {
     Ok(())
 }
 
+/// The run of that name of a campaign, with its drive and its image.
+fn loaded(file: &str, name: &str) -> Result<(Plan, Vec<Drive>, Vec<u16>), End> {
+    let plan = campaign(file)?.into_iter().find(|plan| plan.name == name).ok_or(End::Refused)?;
+    let (drives, image) = (drives(&plan)?, image(&plan)?);
+    Ok((plan, drives, image))
+}
+
 /// The record of a run of a campaign.
 fn record(cal: &Calibration, file: &str, name: &str, out: &mut Output) -> Result<(), End> {
-    let plans = campaign(file)?;
-    let plan = plans.iter().find(|plan| plan.name == name).ok_or(End::Refused)?;
-    let (drives, image) = (drives(plan)?, image(plan)?);
+    let (plan, drives, image) = loaded(file, name)?;
     put(record::HEADER.as_bytes(), out)?;
     let mut line = record::Line::new();
     let mut written = Ok(());
-    play(cal, &run_of(plan, &drives, &image), |row| {
+    play(cal, &run_of(&plan, &drives, &image), |row| {
         if written.is_ok() {
             written = put(line.row(row), out);
         }
@@ -138,13 +149,26 @@ fn put(line: &[u8], out: &mut Output) -> io::Result<()> {
     out.flush()
 }
 
-fn number(word: &str) -> Result<u32, End> {
-    let digits = (1..=10).contains(&word.len()) && word.bytes().all(|byte| byte.is_ascii_digit());
+/// The table of a run of a campaign under every class of fault, each at every onset of a grid.
+fn sweep(cal: &Calibration, file: &str, name: &str, step: u32, out: &mut Output) -> Result<(), End> {
+    let (plan, drives, image) = loaded(file, name)?;
+    let lines = sweep::sweep(cal, &run_of(&plan, &drives, &image), step).ok_or(End::Refused)?;
+    Ok(lines.iter().try_for_each(|line| put(line.as_bytes(), out))?)
+}
+
+/// A word of at most so many digits.
+fn number(word: &str, most: usize) -> Result<u32, End> {
+    let digits = (1..=most).contains(&word.len()) && word.bytes().all(|byte| byte.is_ascii_digit());
     if digits { word.parse().map_err(|_| End::Usage) } else { Err(End::Usage) }
 }
 
+fn step_of(word: &str) -> Result<u32, End> {
+    let step = number(word, 5)?;
+    if (1..=20_000).contains(&step) { Ok(step) } else { Err(End::Usage) }
+}
+
 fn soak(cal: &Calibration, seed: &str, runs: &str, out: &mut Output) -> Result<(), End> {
-    let (seed, runs) = (number(seed)?, number(runs)?);
+    let (seed, runs) = (number(seed, 10)?, number(runs, 10)?);
     if !(1..=500).contains(&runs) {
         return Err(End::Usage);
     }
@@ -172,6 +196,10 @@ fn command(words: &[&str]) -> Result<(), End> {
         (["check", file], _) => check(&calibration(name)?, file, out),
         (["run", file], _) => run(&calibration(name)?, file, out),
         (["record", file, run], _) => record(&calibration(name)?, file, run, out),
+        (["sweep", file, run, step], _) => {
+            let step = step_of(step)?;
+            sweep(&calibration(name)?, file, run, step, out)
+        }
         (["soak", seed, runs], None) => soak(&calibration(None)?, seed, runs, out),
         _ => Err(End::Usage),
     }?;

@@ -71,6 +71,22 @@ impl Summary {
     }
 }
 
+/// In how many runs no watch found anything, and in how many each watch found something first.
+#[derive(Default)]
+pub struct Detections {
+    pub none: u32,
+    pub first: [u32; WATCHES.len()],
+}
+
+impl Detections {
+    pub fn add(&mut self, summary: &Summary) {
+        match summary.first {
+            None => self.none += 1,
+            Some((watch, _)) => self.first[watch] += 1,
+        }
+    }
+}
+
 fn at(tick: Option<u32>, none: &str) -> String {
     tick.map_or(none.to_string(), |tick| format!("at {tick}"))
 }

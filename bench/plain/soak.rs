@@ -6,7 +6,7 @@ use crate::calibration::{Calibration, Drive};
 use crate::engine::Kind;
 use crate::fault::{Class, Fault};
 use crate::level2::WATCHES;
-use crate::report::{Summary, summary};
+use crate::report::{Detections, Summary, summary};
 use crate::unit::Run;
 
 const IDLE: [u16; 2] = [0xf000, 0xd1fe];
@@ -109,9 +109,7 @@ impl Draws {
 /// What is counted over all runs.
 #[derive(Default)]
 struct Counts {
-    none: u32,
-    /// By the first watch that found something. No drawn run has a reset, so none finds the last, `start`.
-    first: [u32; WATCHES.len() - 1],
+    detections: Detections,
     trapped: u32,
     off: u32,
     longest: u32,
@@ -119,18 +117,16 @@ struct Counts {
 
 impl Counts {
     fn add(&mut self, summary: &Summary) {
-        match summary.first {
-            None => self.none += 1,
-            Some((watch, _)) => self.first[watch] += 1,
-        }
+        self.detections.add(summary);
         self.trapped += u32::from(summary.trap.is_some());
         self.off += u32::from(summary.off.is_some());
         self.longest = self.longest.max(summary.reaction().unwrap_or(0));
     }
 
+    /// No drawn run has a reset, so none finds the last watch, `start`, and it has no line.
     fn text(&self, runs: u32) -> String {
-        let mut text = format!("runs {runs}\nnone {}\n", self.none);
-        for (name, count) in WATCHES.iter().zip(self.first) {
+        let mut text = format!("runs {runs}\nnone {}\n", self.detections.none);
+        for (name, count) in WATCHES[..WATCHES.len() - 1].iter().zip(self.detections.first) {
             let _ = writeln!(text, "{name} {count}");
         }
         let _ = writeln!(text, "trapped {}\noff {}\nlongest {}", self.trapped, self.off, self.longest);
