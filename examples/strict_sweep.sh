@@ -1,0 +1,1 @@
+./egasim sweep --cal examples/strict.toml examples/sweep.toml late 1

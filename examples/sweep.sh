@@ -1,0 +1,1 @@
+./egasim sweep examples/sweep.toml late 1
