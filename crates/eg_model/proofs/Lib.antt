@@ -19,12 +19,15 @@ pub mod RecordTicks
 pub mod BranchLaws
 pub mod SpanRows
 pub mod SpanLaws
+pub mod FindingLaws
 pub mod RecordSpans
 pub mod RecordLaws
+pub mod FindingRecords
 pub mod PowerCycleLaws
 pub mod GasolineLaws
 pub mod DieselLaws
 pub mod WholeRecord
+pub mod FindingReports
 pub mod LapseRuns
 pub mod LapseAnswers
 pub mod LapseWeights

@@ -1,6 +1,6 @@
 -- The laws for the record of a run on the bench, span by span, for any engine that brings what every engine
 -- owes.
-use Rattle.std.proofs.Common.{◌≡◌, ℕ, zero, suc, ◌+◌, ◌≤◌, ◌<◌, Bool, true, false, not, ◌&&◌, List, [], ◌∷◌, ◌++◌, All, map, take, length, refl, sym, ap, ap₂, ◌∙◌, arith, Option, Some, None, subst, append_assoc}
+use Rattle.std.proofs.Common.{◌≡◌, ℕ, zero, suc, ◌+◌, ◌≤◌, ◌<◌, Bool, true, false, not, ◌&&◌, List, [], ◌∷◌, ◌++◌, All, map, take, length, refl, sym, ap, ap₂, ◌∙◌, arith, Option, Some, None, subst}
 use Rattle.std.specs.Prelude.{slice_index_or}
 use Rattle.std.proofs.lemmas.List.Elements.{All-head, All-tail, All-cons, All-nil}
 use Rattle.std.proofs.lemmas.Bool.{ltb-true, lt-ltb}
@@ -36,7 +36,7 @@ use Rattle.eg_model.proofs.SpanLemmas.{tick_after, ticks_before, Continues, cont
 use Rattle.eg_model.proofs.SpanRows.{rows_after, SpanRows, RowAfter, row_tick, rows_off, bits_after, full_unnumbered}
 use Rattle.eg_model.proofs.SpanLaws.{react_within, react_at_once, cut_lapses, short_lapses, cut_from_onset, sharp_after, cut_one_tick_after}
 use Rattle.eg_model.proofs.RecordTicks.{length-moments_to, records_are_histories}
-use Rattle.eg_model.proofs.RecordSpans.{kind_by, head_of, tail_of, part_of, SpanTo, SpanIn, span_in}
+use Rattle.eg_model.proofs.RecordSpans.{kind_by, head_of, tail_of, part_of, with_part, SpanTo, SpanIn, span_in}
 
 -- ---- the drive, and faults that haven't begun ----
 
@@ -118,7 +118,7 @@ none_fails s accepted none (e ∷ h) = All-cons NeverFails (row_of (length (mome
 
 module _ {E : Type 0} (b : BenchEngine E) where
   -- a law for the rows of a history holds for each drive span of a record
-  each_drive : (P : ℕ → List Row → Type 0) (r : Run) →
+  pub each_drive : (P : ℕ → List Row → Type 0) (r : Run) →
       ((start count : ℕ) (span : List Row) → SpanIn b r start count Drive span → P start (SpanRows r.setting start (SpanTo b r count))) →
       EachDriveSpan P (record_rows b r)
   each_drive P r law newer span older e is = subst (P (length older)) (sym (rows_are known))
@@ -370,6 +370,4 @@ module _ {E : Type 0} {b : BenchEngine E} {Keeps : PlantParts → E → Type 0} 
         part = part_of later row before (subst IsDriveSpan split is)
 
         longer : record_rows b r ≡ (newer ++ later) ++ ((row ∷ before) ++ older)
-        longer = e ∙ ap (λ rows. newer ++ (rows ++ older)) split
-            ∙ ap (λ rows. newer ++ rows) (append_assoc later (row ∷ before) older)
-            ∙ sym (append_assoc newer later ((row ∷ before) ++ older))
+        longer = with_part (record_rows b r) newer span older later row before e split

@@ -1,5 +1,5 @@
 -- The spans of a record: the rows of each are those of a history that stands by itself and begins at its tick.
-use Rattle.std.proofs.Common.{◌≡◌, ◌∙◌, refl, sym, ap, ap₂, subst, ℕ, suc, ◌+◌, ◌≤◌, Bool, true, false, ◌||◌, List, [], ◌∷◌, ◌++◌, All, length, length-append, arith}
+use Rattle.std.proofs.Common.{◌≡◌, ◌∙◌, refl, sym, ap, ap₂, subst, ℕ, suc, ◌+◌, ◌≤◌, Bool, true, false, ◌||◌, List, [], ◌∷◌, ◌++◌, All, length, length-append, append_assoc, arith}
 use Rattle.std.specs.Prelude.{◌==◌}
 use Rattle.std.proofs.lemmas.Bool.{le-leb, eqb-true}
 use Rattle.std.proofs.lemmas.List.Elements.{All-head, All-tail}
@@ -7,7 +7,7 @@ use Rattle.eg_answer.specs.Times.{test_ticks_of}
 use Rattle.eg_fault.specs.Effects.{Effects}
 use Rattle.eg_fault.specs.Faults.{effects}
 use Rattle.eg_record.specs.declared.row.Row.{Row}
-use Rattle.eg_record.specs.Spans.{IsSpan, IsDriveSpan}
+use Rattle.eg_record.specs.Spans.{IsSpan, IsDriveSpan, IsTestSpan}
 use Rattle.eg_model.specs.History.{Setting, Entry, Tick, SpanKind, Drive, Test, Moment}
 use Rattle.eg_model.specs.Paths.{is_testing}
 use Rattle.eg_model.specs.Moments.{moment_in, moments_in}
@@ -196,21 +196,34 @@ All-rest : {X : Type 0} (P : X → Type 0) (xs ys : List X) → All P (xs ++ ys)
 All-rest P [] ys all = all
 All-rest P (x ∷ xs) ys all = All-rest P xs ys (All-tail P x (xs ++ ys) all)
 
--- a part of a drive span up to some tick
-pub part_of : (later : List Row) (row : Row) (before : List Row) → IsDriveSpan (later ++ row ∷ before) → IsDriveSpan (row ∷ before)
-part_of later row before is = record {
-  span = record {
-    later = cut.more;
-    first = is.span.first;
-    is = cut.ends;
-    begins = is.span.begins;
-    goes_on = All-rest (λ row. row.fresh ≡ false) later cut.more (subst (All (λ row. row.fresh ≡ false)) cut.front is.span.goes_on);
-  };
-  drives = is.drives;
+-- a part of a span up to some tick
+part_of_span : (later : List Row) (row : Row) (before : List Row) → IsSpan (later ++ row ∷ before) → IsSpan (row ∷ before)
+part_of_span later row before is = record {
+  later = cut.more;
+  first = is.first;
+  is = cut.ends;
+  begins = is.begins;
+  goes_on = All-rest (λ row. row.fresh ≡ false) later cut.more (subst (All (λ row. row.fresh ≡ false)) cut.front is.goes_on);
 }
   where
-    cut : Between later (row ∷ before) is.span.later (is.span.first ∷ [])
-    cut = between later (row ∷ before) is.span.later (is.span.first ∷ []) is.span.is (omega arith)
+    cut : Between later (row ∷ before) is.later (is.first ∷ [])
+    cut = between later (row ∷ before) is.later (is.first ∷ []) is.is (omega arith)
+
+-- of a drive span, and of a test span
+pub part_of : (later : List Row) (row : Row) (before : List Row) → IsDriveSpan (later ++ row ∷ before) → IsDriveSpan (row ∷ before)
+unfolding part_of_span
+part_of later row before is = record { span = part_of_span later row before is.span; drives = is.drives }
+
+pub test_part_of : (later : List Row) (row : Row) (before : List Row) → IsTestSpan (later ++ row ∷ before) → IsTestSpan (row ∷ before)
+unfolding part_of_span
+test_part_of later row before is = record { span = part_of_span later row before is.span; tests = is.tests }
+
+-- and such a part of rows, where these are a span of them
+pub with_part : (rows newer span older later : List Row) (row : Row) (before : List Row) → rows ≡ newer ++ (span ++ older) →
+    span ≡ later ++ row ∷ before → rows ≡ (newer ++ later) ++ ((row ∷ before) ++ older)
+with_part rows newer span older later row before e split = e ∙ ap (λ part. newer ++ (part ++ older)) split
+    ∙ ap (λ part. newer ++ part) (append_assoc later (row ∷ before) older)
+    ∙ sym (append_assoc newer later ((row ∷ before) ++ older))
 
 module _ {E : Type 0} (b : BenchEngine E) where
   -- the ticks of the span that the first so many ticks of a run end in

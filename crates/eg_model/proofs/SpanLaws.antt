@@ -24,7 +24,7 @@ use Rattle.eg_model.proofs.TickLemmas.{length-moments}
 use Rattle.eg_model.proofs.SpanRows.{Between, between, EndOf, end_of, follows-end, proper-end, SpanRows, RowAfter, length-rows_after, row_on, row_tick, all_rows, Split, split, BitsOf, bits_after, true_unnumbered, full_unnumbered, confirmed_later, quiet_earlier, IsFirstAt, first_confirms, never_confirms, exceed}
 
 -- the reaction time is at least one tick
-reaction_least : (times : TimeParts) → AreTimes times → AreWeights times.weights → 1 ≤ reaction_of times
+pub reaction_least : (times : TimeParts) → AreTimes times → AreWeights times.weights → 1 ≤ reaction_of times
 unfolding reaction_of
 reaction_least times are weights =
     least (verdicts_to_confirm times.weights) times.period times.send times.weights.limit times.weights.up
@@ -162,7 +162,7 @@ module _ (s : Setting) (start : ℕ) (h : List Tick) where
 
   -- ---- whatever the torque ----
 
-  onset_off : (fault : Fault) → s.fault ≡ Some fault → IsAccepted s.cal → IsNoneOrValid s.fault → spoils_answers fault.class ≡ true →
+  pub onset_off : (fault : Fault) → s.fault ≡ Some fault → IsAccepted s.cal → IsNoneOrValid s.fault → spoils_answers fault.class ≡ true →
       Follows s.fault start h → (newer : List Tick) (x : Tick) (before : List Tick) → h ≡ newer ++ x ∷ before →
       max fault.onset start + reaction_of s.cal.times ≤ start + length before → is_on_after s before x ≡ false
   onset_off fault is accepted valid spoils follows newer x before whole late =

@@ -2,10 +2,11 @@
 use Rattle.std.proofs.Common.{◌≡◌, true, false, [], ◌∷◌, ◌++◌, map, replicate, Some, None, refl}
 use Rattle.eg_answer.specs.declared.marks.AnswerMark.TheVariants.{Good, Bad}
 use Rattle.eg_answer.specs.declared.marks.Verdict.TheVariants.{Right, Wrong}
-use Rattle.eg_fault.specs.declared.class.Class.TheVariants.{Plate, Skip, Halt, Wild, Path2Closed, PathOpen, Lapse}
+use Rattle.eg_fault.specs.declared.class.Class.TheVariants.{Plate, Skip, Flip, Halt, Wild, Path2Closed, PathOpen, Lapse}
 use Rattle.eg_record.specs.declared.watch.Watch.TheVariants as found
 use Rattle.eg_model.specs.Rows.{signal_list}
 use Rattle.eg_model.specs.Examples.{idle, full, fault_from, bench_run, pressed_run, offset_run, disturbed_raise_run, moments_in_time, answers_of, verdicts_of, stages_of, report_on, reported}
+use Rattle.eg_model.specs.Findings.{opens_path, opens_by_itself, is_flip, flips_at}
 use Rattle.eg_model.proofs.WholeModel.{whole_model}
 
 -- ---- it limits the pedal, once it is found ----
@@ -61,6 +62,45 @@ pub path_2_opened : stages_of (bench_run idle (fault_from 3 (PathOpen 2)) 6)
     ≡ replicate 3 true ++ replicate 3 false
 unfolding whole_model
 path_2_opened = refl
+
+-- ---- such a cut comes with no watch ----
+
+pub wild-unnamed : report_on (bench_run idle (fault_from 3 (Wild (0 ∷ []) (false ∷ true ∷ []))) 6)
+    ≡ reported None (Some 5) None None
+unfolding whole_model
+wild-unnamed = refl
+
+pub path_2-unnamed : report_on (bench_run idle (fault_from 3 (PathOpen 2)) 6)
+    ≡ reported None (Some 3) None None
+unfolding whole_model
+path_2-unnamed = refl
+
+-- which faults it comes of: each from its onset on, and a wild monitoring module only where it orders path 2
+-- open at some tick
+opened_from : opens_by_itself (fault_from 3 (PathOpen 2)) 3 ≡ true
+unfolding opens_by_itself opens_path
+opened_from = refl
+
+opened_before : opens_by_itself (fault_from 3 (PathOpen 2)) 2 ≡ false
+unfolding opens_by_itself opens_path
+opened_before = refl
+
+wild_from : opens_by_itself (fault_from 3 (Wild (0 ∷ []) (false ∷ true ∷ []))) 3 ≡ true
+unfolding opens_by_itself opens_path
+wild_from = refl
+
+wild_never : opens_by_itself (fault_from 3 (Wild (0 ∷ []) (false ∷ []))) 9 ≡ false
+unfolding opens_by_itself opens_path
+wild_never = refl
+
+skipped_never : opens_by_itself (fault_from 3 (Skip 7)) 9 ≡ false
+unfolding opens_by_itself opens_path
+skipped_never = refl
+
+-- and a word is flipped at the onset alone
+flipped_now : map (λ t. flips_at (fault_from 3 (Flip 0 1)) t) (2 ∷ 3 ∷ 4 ∷ []) ≡ false ∷ true ∷ false ∷ []
+unfolding flips_at is_flip
+flipped_now = refl
 
 pub path_2_closed : map (λ m. m.path2) (moments_in_time (bench_run full (fault_from 0 Path2Closed) 45))
     ≡ replicate 45 true

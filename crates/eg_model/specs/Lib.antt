@@ -14,6 +14,7 @@ pub mod Premises
 pub mod Reaction
 pub mod SharpCut
 pub mod Records
+pub mod Findings
 pub mod Branching
 pub mod PowerCycles
 pub mod StartUp

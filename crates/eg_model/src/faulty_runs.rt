@@ -8,12 +8,15 @@ ghost use Rattle.eg_record.specs.declared.watch.Watch.TheVariants as found;
 ghost use Rattle.eg_model.specs.Rows.{signal_list};
 ghost use Rattle.eg_model.specs.Examples.{idle, full, at_rest, resetting, fault_from, bench_run, tested_run, pressed_run, offset_run, disturbed_raise_run, flipped_probe_run, report_on, reported, moments_in_time, answers_of, verdicts_of, stages_of};
 
-/// Path 2 conducts whatever its latch says, and a path that is open doesn't conduct.
+/// Path 2 conducts whatever its latch says, and a path that is open doesn't conduct. Nothing is found of it:
+/// it opens by itself.
 pub fn path_2_runs()
     ensures closed { map (λ m. m.path2) (moments_in_time (bench_run full (fault_from 0 Path2Closed) 45))
         ≡ replicate 45 true }
     ensures opened { stages_of (bench_run idle (fault_from 3 (PathOpen 2)) 6)
         ≡ replicate 3 true ++ replicate 3 false }
+    ensures unnamed { report_on (bench_run idle (fault_from 3 (PathOpen 2)) 6)
+        ≡ reported None (Some 3) None None }
 {}
 
 /// Module 0 has set the signals to 0 before slice 1 reads them, at the tick of the flip.
@@ -49,13 +52,15 @@ pub fn halted_and_held_runs()
 {}
 
 /// A wild monitoring module gives no verdicts, and level 2 cuts all the same; it opens path 2 where its
-/// list says so.
+/// list says so, and no watch finds that.
 pub fn wild_run()
     ensures report { report_on (bench_run full (fault_from 0 (Wild (65535 ∷ []) (false ∷ []))) 20)
         ≡ reported (Some (found.Torque, 9)) (Some 10) None (Some 9) }
     ensures verdicts { verdicts_of (bench_run full (fault_from 0 (Wild (65535 ∷ []) (false ∷ []))) 20) ≡ [] }
     ensures opens { stages_of (bench_run idle (fault_from 3 (Wild (0 ∷ []) (false ∷ true ∷ []))) 6)
         ≡ replicate 5 true ++ false ∷ [] }
+    ensures unnamed { report_on (bench_run idle (fault_from 3 (Wild (0 ∷ []) (false ∷ true ∷ []))) 6)
+        ≡ reported None (Some 5) None None }
 {}
 
 /// Level 2 misses tick 3: one answer is bad, and those after it are good again.

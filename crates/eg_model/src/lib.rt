@@ -6,6 +6,7 @@
 mod branching;
 mod examples;
 mod faulty_runs;
+mod findings;
 mod lapses;
 mod reaction;
 mod records;
@@ -18,6 +19,7 @@ pub use faulty_runs::{
     disturbed_raise, failed_test, flip_seen_by_level_1, halted_and_held_runs, lapsed_run,
     latched_run, limited_run, offset_track, path_2_runs, wild_run,
 };
+pub use findings::{records_find_in_time, records_name_what_cuts};
 pub use lapses::lapses_are_cut;
 pub use reaction::{cuts_from_onset, reacts_in_time};
 pub use records::{

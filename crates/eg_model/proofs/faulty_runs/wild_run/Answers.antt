@@ -1,4 +1,4 @@
-use Rattle.eg_model.proofs.WorkedFaults.{wild, wild-verdicts, wild_opens}
+use Rattle.eg_model.proofs.WorkedFaults.{wild, wild-verdicts, wild_opens, wild-unnamed}
 use Rattle.eg_model.proofs.faulty_runs.wild_run.Goals as goal
 
 pub returns-clause-report : goal.returns-clause-report
@@ -9,3 +9,6 @@ returns-clause-verdicts c = wild-verdicts
 
 pub returns-clause-opens : goal.returns-clause-opens
 returns-clause-opens c = wild_opens
+
+pub returns-clause-unnamed : goal.returns-clause-unnamed
+returns-clause-unnamed c = wild-unnamed

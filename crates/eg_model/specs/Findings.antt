@@ -1,0 +1,126 @@
+-- What the watches find. No cut without a monitor: where the stages are off, a watch was found before, and
+-- the report names one, unless a fault opens a shut-off path by itself. And what spoils the answers is found
+-- in time. Rows stand newest first.
+use Rattle.std.specs.Prelude.{◌≡◌, ℕ, ◌+◌, ◌<◌, ◌==◌, Bool, true, false, ◌&&◌, max, nat_le, IsTrue, List, [], ◌∷◌, ◌++◌, All, Contains, length, Option, Some, None, IfSome}
+use Rattle.std.specs.List.{list_any}
+use Rattle.eg_answer.specs.Times.{reaction_of}
+use Rattle.eg_fault.specs.Faults.{IsNoneOrValid}
+use Rattle.eg_fault.specs.declared.class.Class.{Class}
+use Rattle.eg_fault.specs.declared.class.Class.TheVariants.{Flip, Wild, PathOpen}
+use Rattle.eg_fault.specs.declared.class.Fault.{Fault}
+use Rattle.eg_record.specs.declared.row.Row.{Row}
+use Rattle.eg_record.specs.declared.watch.Watch.{Watch}
+use Rattle.eg_record.specs.declared.watch.Watch.TheVariants.{Mirror, Plate, Load, Speed, Torque, Answers, Start}
+use Rattle.eg_record.specs.declared.summary.Summary.{Summary}
+use Rattle.eg_record.specs.Detection.{is_found}
+use Rattle.eg_record.specs.Spans.{EachDriveSpan, EachTestSpan}
+use Rattle.eg_model.specs.Reaction.{spoils_answers}
+use Rattle.eg_model.specs.Engines.{BenchEngine}
+use Rattle.eg_model.specs.Bench.{Run}
+use Rattle.eg_model.specs.Rows.{record_rows, report_of}
+use Rattle.eg_model.specs.Records.{IsRun}
+
+-- ---- which watches, and which faults ----
+
+-- the watches that cut while the engine is driven: that of the pedal limits the pedal instead
+abbrev pub cutting : List Watch
+cutting = Mirror ∷ Plate ∷ Load ∷ Speed ∷ Torque ∷ Answers ∷ []
+
+-- one of these watches is found at one of these rows
+pub record Finds (which : List Watch) (rows : List Row) : Type 0 where
+  pub row : Row
+  pub stands : Contains rows row
+  pub watch : Watch
+  pub is_one : Contains which watch
+  pub found : IsTrue (is_found row.found watch)
+
+-- the classes that open a shut-off path by themselves: that of a path that doesn't conduct, and that of a
+-- wild monitoring module which orders path 2 open at some tick
+unfoldable pub opens_path : Class → Bool
+opens_path (PathOpen path) = true
+opens_path (Wild questions opens) = list_any (λ order. order) opens
+opens_path _ = false
+
+-- a fault of such a class has begun by a tick
+unfoldable pub opens_by_itself : Option Fault → ℕ → Bool
+opens_by_itself None tick = false
+opens_by_itself (Some fault) tick = nat_le fault.onset tick && opens_path fault.class
+
+-- the class that flips a word of level 2
+unfoldable pub is_flip : Class → Bool
+is_flip (Flip word mask) = true
+is_flip _ = false
+
+-- a word is flipped at a tick: at the onset alone
+unfoldable pub flips_at : Option Fault → ℕ → Bool
+flips_at None tick = false
+flips_at (Some fault) tick = is_flip fault.class && tick == fault.onset
+
+-- ---- the rows of a span that begins at tick `start`, or of its part up to any tick ----
+
+-- Of a drive span: wherever the stages are off at a row, a watch that cuts was found at an earlier row of the
+-- span, unless a fault that opens a path by itself has begun.
+abbrev pub FindsBeforeOff : Option Fault → (start : ℕ) → List Row → Type 0
+FindsBeforeOff fault start rows =
+    (later before : List Row) (row : Row) → rows ≡ later ++ row ∷ before → row.on ≡ false →
+    opens_by_itself fault row.tick ≡ false → Finds cutting before
+
+-- Of a test span: wherever no test is running any more, it has failed, and `start` was found at an earlier
+-- row of the span, whatever the fault.
+abbrev pub FindsFailure : (start : ℕ) → List Row → Type 0
+FindsFailure start rows =
+    (later before : List Row) (row : Row) → rows ≡ later ++ row ∷ before → row.testing ≡ false →
+    Finds (Start ∷ []) before
+
+-- Of a drive span: where a module is skipped or disturbed, or the controller halts, a watch that cuts is
+-- found before `bound` ticks have passed from the onset, or from the span's begin if that is later, whatever
+-- the torque. (Here `before` are the rows of the span before the tick that comes `bound` ticks after that
+-- one.)
+abbrev pub FindsFromOnset : Option Fault → (bound start : ℕ) → List Row → Type 0
+FindsFromOnset fault bound start rows = IfSome fault (λ f. spoils_answers f.class ≡ true →
+    (later before : List Row) → rows ≡ later ++ before →
+    start + length before ≡ max f.onset start + bound → Finds cutting before)
+
+-- ---- the rows of a run ----
+
+-- the mirrored words tell exactly at the tick at which a word of level 2 is flipped
+abbrev pub TellsFlips : Option Fault → List Row → Type 0
+TellsFlips fault rows = All (λ row. row.found.mirror ≡ flips_at fault row.tick) rows
+
+-- ---- the report of a run ----
+
+-- a first detection is told, and it came before this tick
+pub record IsNamedBefore (tick : ℕ) (first : Option (Watch × ℕ)) : Type 0 where
+  pub detection : Watch × ℕ
+  pub is : first ≡ Some detection
+  pub earlier : detection.1 < tick
+
+-- What a report says of a cut, of a run under this fault, if any.
+pub record NamesWhatCuts (fault : Option Fault) (report : Summary) : Type 0 where
+  -- where it tells a tick from which the stages are off, it names a watch that was found before that tick,
+  -- unless a fault that opens a path by itself has begun by then
+  pub named : (tick : ℕ) → report.off ≡ Some tick → opens_by_itself fault tick ≡ false →
+      IsNamedBefore tick report.first
+  -- so where it tells such a tick and names no watch, such a fault has begun: a shut-off path doesn't
+  -- conduct, or a wild monitoring module orders path 2 open
+  pub unnamed : (tick : ℕ) → report.first ≡ None → report.off ≡ Some tick → opens_by_itself fault tick ≡ true
+
+-- ---- of every record, and every report ----
+
+abbrev pub RecordsFindBeforeOff : {E : Type 0} → BenchEngine E → Type 0
+RecordsFindBeforeOff b = (r : Run) → EachDriveSpan (FindsBeforeOff r.setting.fault) (record_rows b r)
+
+abbrev pub RecordsFindFailures : {E : Type 0} → BenchEngine E → Type 0
+RecordsFindFailures b = (r : Run) → EachTestSpan FindsFailure (record_rows b r)
+
+abbrev pub RecordsFindFromOnset : {E : Type 0} → BenchEngine E → Type 0
+RecordsFindFromOnset b =
+    (r : Run) → IsRun r → IsNoneOrValid r.setting.fault →
+    EachDriveSpan (FindsFromOnset r.setting.fault (reaction_of r.setting.cal.times)) (record_rows b r)
+
+abbrev pub RecordsTellFlips : {E : Type 0} → BenchEngine E → Type 0
+RecordsTellFlips b = (r : Run) → TellsFlips r.setting.fault (record_rows b r)
+
+abbrev pub ReportsNameWhatCuts : {E : Type 0} → BenchEngine E → Type 0
+ReportsNameWhatCuts b =
+    (r : Run) (name : List ℕ) → NamesWhatCuts r.setting.fault (report_of b name r)
