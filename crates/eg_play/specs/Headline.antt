@@ -13,6 +13,7 @@ use Rattle.eg_model.specs.History.{Setting}
 use Rattle.eg_model.specs.PowerCycles.{SpansBeginInTurn}
 use Rattle.eg_model.specs.Records.{ReactWithin, ReactAtOnce, CutFromOnset, CutOneTickAfter}
 use Rattle.eg_model.specs.Records.{CutLapses, LapsesAreShort, AreOff}
+use Rattle.eg_model.specs.Findings.{FindsBeforeOff, FindsFailure, FindsFromOnset, TellsFlips, NamesWhatCuts}
 use Rattle.eg_model.specs.Lapses.{IsLapse}
 use Rattle.eg_campaign.specs.Plays.{EngineRun, rows_of_run, report_of_run}
 
@@ -37,6 +38,17 @@ pub record Headline (s : Setting) (rows : List Row) (report : List ℕ → Summa
   -- Where a module of level 2 is skipped or disturbed, or the controller halts, they are off from R ticks
   -- after the onset, or after the begin of the drive span, whatever the torque.
   pub from_onset : EachDriveSpan (CutFromOnset s.fault (reaction_of s.cal.times)) rows
+  -- No cut without a monitor. In each drive span, wherever they are off, a watch that cuts was found at an
+  -- earlier tick of the span, unless a fault that opens a shut-off path by itself has begun; and in each test
+  -- span, where no test is running any more, `start` was found: the test has failed.
+  pub finds_before_off : EachDriveSpan (FindsBeforeOff s.fault) rows
+  pub finds_failure : EachTestSpan FindsFailure rows
+  -- What spoils the answers is found in time: where a module of level 2 is skipped or disturbed, or the
+  -- controller halts, a watch that cuts is found before R ticks have passed from the onset, or from the begin
+  -- of the drive span, whatever the torque. And a word of level 2 that is flipped is told at that tick, and
+  -- at no other.
+  pub finds_from_onset : EachDriveSpan (FindsFromOnset s.fault (reaction_of s.cal.times)) rows
+  pub tells_flips : TellsFlips s.fault rows
   -- Lapses are cut, and each stretch of torque excess under them is short, where the calibration has a bound.
   pub lapses : HasLapseBound s.cal.rules.torque s.cal.times → IsLapse s.fault →
       EachDriveSpan (CutLapses s.cal) rows
@@ -46,6 +58,9 @@ pub record Headline (s : Setting) (rows : List Row) (report : List ℕ → Summa
   -- tick at which the stages are off while no test is running.
   pub detects : (name : List ℕ) → IsFirstDetection rows (report name).first
   pub tells_off : (name : List ℕ) → IsFirstOff rows (report name).off
+  -- Where it tells the stages off from a tick on it names a monitor that detected before that tick, unless a
+  -- fault that opens a shut-off path by itself has begun; so where it names none, such a fault has.
+  pub names : (name : List ℕ) → NamesWhatCuts s.fault (report name)
 
 -- the record of this run keeps it
 abbrev pub KeepsHeadline : EngineRun → Type 0
