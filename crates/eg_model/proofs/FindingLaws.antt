@@ -285,13 +285,13 @@ pub find_from_onset : (s : Setting) (start : ℕ) (h : List Tick) → IsAccepted
 find_from_onset s start h accepted valid follows = go s.fault refl
   where
     part : (fault : Fault) → s.fault ≡ Some fault → spoils_answers fault.class ≡ true → (later before : List Row) →
-        start + length before ≡ max fault.onset start + reaction_of s.cal.times → Split s start h later before → Finds cutting before
-    part fault is spoils later before size parts = subst (Finds cutting) (sym parts.rows_are)
+        max fault.onset start + reaction_of s.cal.times ≤ start + length before → Split s start h later before → Finds cutting before
+    part fault is spoils later before late parts = subst (Finds cutting) (sym parts.rows_are)
         (found_in_time s start fault is accepted valid spoils parts.rest
         (follows-end s.fault start parts.more parts.rest (subst (Follows s.fault start) parts.whole follows))
         (let long = ap length parts.rows_are in let same = length-rows_after start (moments_of s parts.rest) in
-        let count = length-moments s parts.rest in omega (arith, size, long, same, count)))
+        let count = length-moments s parts.rest in omega (arith, late, long, same, count)))
 
     go : (f : Option Fault) → s.fault ≡ f → FindsFromOnset f (reaction_of s.cal.times) start (SpanRows s start h)
     go None is = tt
-    go (Some fault) is = λ spoils later before e size. part fault is spoils later before size (split s start h later before e)
+    go (Some fault) is = λ spoils later before e size. part fault is spoils later before (omega (arith, size)) (split s start h later before e)

@@ -35,7 +35,8 @@ pub fn reaction_is_met()
 {}
 
 /// Module 2 is disturbed from tick 12 on, and from tick 16 on, right after an answer: no answer is good any
-/// more, and path 2 cuts at tick 40, and at tick 50, which is 16 + 34.
+/// more, and path 2 cuts at tick 40, and at tick 50, which is 16 + 34: it is found at tick 49, the last at
+/// which it may be.
 pub fn disturbed_run()
     ensures before_sending { report_on (bench_run idle (fault_from 12 (Disturb 2 4096)) 60)
         ≡ reported (Some (found.Answers, 39)) (Some 40) None None }
