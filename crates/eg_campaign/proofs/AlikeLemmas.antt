@@ -1,5 +1,5 @@
 -- Inputs of one group: what the test says, that it is an equality, and that without their faults their runs are one.
-use Rattle.std.proofs.Common.{◌≡◌, ◌∙◌, refl, sym, ap, ap₂, ℕ, ◌-◌, Bool, true, false, ◌&&◌, List, length, Bor, Option, Some, None}
+use Rattle.std.proofs.Common.{◌≡◌, ◌∙◌, refl, sym, ap, ℕ, ◌-◌, Bool, true, false, ◌&&◌, List, length, Bor, Option, Some, None}
 use Rattle.std.specs.Prelude.{not, nat_eq, slice_get}
 use Rattle.std.specs.Option.{option_copied, option_eq}
 use Rattle.std.specs.Bool.{Decides}
