@@ -14,7 +14,7 @@ use Rattle.eg_outcome.specs.Images.{image_file}
 use Rattle.eg_play.specs.Files.{campaign_file, trace_file}
 use Rattle.eg_sweep.specs.Laws.{IsBounded}
 use Rattle.eg_play.specs.Texts.{report_text}
-use Rattle.eg_play.specs.Sweeping.{runs_over, table_over, sweep_text}
+use Rattle.eg_play.specs.Sweeping.{runs_over, table_over, swept_text}
 use Rattle.eg_play.specs.Headline.{KeepsHeadline}
 use Rattle.eg_play.specs.Ends.{run_named}
 use Rattle.eg_soak.specs.Soak.{drawn_runs, soak_of}
@@ -79,7 +79,7 @@ pub record TellsSweep (calibration : Option (List â„•)) (campaign name : List â„
   pub input : RunInput
   pub goes_by : GoesBy calibration store cal
   pub files_say : IsNamedInput campaign name store input
-  pub written : Appends out now (sweep_text cal step input)
+  pub written : Appends out now (swept_text cal step input)
   pub headline : All KeepsHeadline (map (run_with cal) (runs_over step input))
   pub in_time : IsBounded (reaction_of cal.times) (table_over cal step input)
 

@@ -5,7 +5,7 @@ use eg_input::TraceFault;
 use std::test::Fail;
 
 /// Words, and the files that a call with them reads, in their order.
-const READS: [(&str, &[Role]); 5] = [
+const READS: [(&str, &[Role]); 6] = [
     (
         "check --cal cal.toml in.csv",
         &[Role::Calibration, Role::Check],
@@ -24,6 +24,16 @@ const READS: [(&str, &[Role]); 5] = [
     ),
     (
         "record --cal cal.toml c.toml b",
+        &[
+            Role::Calibration,
+            Role::Campaign,
+            Role::Trace { run: 2 },
+            Role::Image { run: 2 },
+        ],
+    ),
+    ("sweep c.toml a 4", &[(0, 56), (3, 392), (13, 1529), (14, 1596), (15, 1608)]),
+    (
+        "sweep --cal cal.toml c.toml b 4",
         &[
             Role::Calibration,
             Role::Campaign,
@@ -79,11 +89,12 @@ fn a_record_is_written_as_its_ticks_are_made(rt: HostRuntime) -> Result<(), Fail
 }
 
 /// Words, and how many bytes stand where the put of a number fails: the lines before, and half of the next.
-const PUTS: [(&str, &[(u32, usize)]); 5] = [
+const PUTS: [(&str, &[(u32, usize)]); 6] = [
     ("check in.csv", &[(0, 2), (1, 5)]),
-    ("bound", &[(0, 6), (1, 12)]),
+    ("bound", &[(0, 6), (1, 16), (2, 21)]),
     ("run c.toml", &[(0, 29), (1, 88), (2, 131), (3, 144)]),
     (RECORD, &[(0, 69), (1, 164), (3, 269), (4, 324), (5, 352)]),
+    ("sweep c.toml a 4", &[(0, 56), (3, 392), (13, 1529), (14, 1596), (15, 1608)]),
     ("soak 1 1", &[(0, 3), (3, 27), (11, 94), (12, 99)]),
 ];
 

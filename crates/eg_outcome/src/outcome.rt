@@ -21,7 +21,8 @@ pub enum Role {
     Image { run: u32 },
 }
 
-/// Why a file was refused: the first rule that it breaks, in the order of docs/FORMATS.md.
+/// Why a file was refused: the first rule that it breaks, in the order of docs/FORMATS.md; or why a run or a
+/// sweep that was asked for can't be.
 #[derive(Clone, Copy, Debug, PartialEq, Eq)]
 pub enum Refusal {
     /// The file has more than 4,194,304 bytes.
@@ -51,7 +52,7 @@ pub enum Outcome {
     Usage,
     /// Reading a file failed, or there is no such file.
     ReadFault { file: Role },
-    /// A file was read, and refused.
+    /// A file was read and refused, the campaign has no run of that name, or the grid of a sweep is too large.
     Refused(Refusal),
     /// Writing failed. A prefix of the text may have been written.
     WriteFault,

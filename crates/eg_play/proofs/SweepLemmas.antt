@@ -35,7 +35,7 @@ use Rattle.eg_sweep.specs.Grid.{is_too_large}
 use Rattle.eg_sweep.specs.Texts.{sweep_text_of}
 use Rattle.eg_play.specs.Headline.{KeepsHeadline}
 use Rattle.eg_play.specs.Ends.{GridEnds, Plays, Sweeps}
-use Rattle.eg_play.specs.Sweeping.{without_reset, swept, faults_over, runs_over, table_over, sweep_text}
+use Rattle.eg_play.specs.Sweeping.{without_reset, swept, faults_over, runs_over, table_over, swept_text}
 use Rattle.eg_play.proofs.HeadlineLemmas.{keep_headline}
 use Rattle.eg_play.proofs.PlayLemmas.{no_memory}
 
@@ -123,10 +123,10 @@ pub swept-ends : (cal : CalibrationParts) → IsAccepted cal → (step : ℕ) �
     (faults : List Fault) (inputs : List RunInput) → faults ≡ swept_faults (length input.drive) step → inputs ≡ map (swept input) faults →
     Plays (sweep_text_of (table_of faults (map (facts_by cal) inputs))) (map (run_with cal) inputs) (rows_made cal inputs) out now was is o →
     GridEnds (is_too_large (length input.drive) step) nothing (Sweeps cal step input out now was is o) o
-unfolding sweep_text table_over runs_over faults_over
+unfolding swept_text table_over runs_over faults_over
 swept-ends cal accepted step some input playable out now was is nothing o small faults inputs faults_are inputs_are plays =
     grid_is (is_too_large (length input.drive) step) nothing (Sweeps cal step input out now was is o) o small (record {
-      plays = subst (λ rows. Plays (sweep_text cal step input) (map (run_with cal) (runs_over step input)) rows out now was is o)
+      plays = subst (λ rows. Plays (swept_text cal step input) (map (run_with cal) (runs_over step input)) rows out now was is o)
           (one_group cal input (swept_faults (length input.drive) step))
           (subst (λ (fs : List Fault). Plays (sweep_text_of (table_of fs (map (facts_by cal) (map (swept input) fs)))) (map (run_with cal) (map (swept input) fs))
           (rows_made cal (map (swept input) fs)) out now was is o) faults_are

@@ -30,7 +30,7 @@ use Rattle.eg_campaign.specs.Groups.{rows_made, rows_of_group, count_with}
 use Rattle.eg_campaign.specs.Texts.{rows_in_time, record_text}
 use Rattle.eg_campaign.specs.Recording.{IsStopped}
 use Rattle.eg_play.specs.Texts.{report_text}
-use Rattle.eg_play.specs.Sweeping.{runs_over, table_over, sweep_text}
+use Rattle.eg_play.specs.Sweeping.{runs_over, table_over, swept_text}
 
 -- ---- runs are played ----
 
@@ -103,7 +103,7 @@ RecordEnds cal input store later out now was is o = (later.faults ≡ store.faul
 -- at most the reaction time.
 pub record Sweeps (cal : CalibrationParts) (step : ℕ) (input : RunInput) (out now : ShownSink)
     (was is : TickCount) (o : Outcome) : Type 0 where
-  pub plays : Plays (sweep_text cal step input) (map (run_with cal) (runs_over step input))
+  pub plays : Plays (swept_text cal step input) (map (run_with cal) (runs_over step input))
       (rows_of_group cal (runs_over step input)) out now was is o
   pub in_time : IsBounded (reaction_of cal.times) (table_over cal step input)
 

@@ -35,5 +35,5 @@ unfoldable pub table_over : CalibrationParts → (step : ℕ) → RunInput → L
 table_over cal step input = table_of (faults_over step input) (map (facts_by cal) (runs_over step input))
 
 -- its text
-unfoldable pub sweep_text : CalibrationParts → (step : ℕ) → RunInput → List ℕ
-sweep_text cal step input = sweep_text_of (table_over cal step input)
+unfoldable pub swept_text : CalibrationParts → (step : ℕ) → RunInput → List ℕ
+swept_text cal step input = sweep_text_of (table_over cal step input)

@@ -4,7 +4,7 @@ ghost use Rattle.std.specs.Prelude.{◌≡◌, None};
 use eg_base::Text;
 use eg_outcome::Outcome;
 
-/// How `run` or `record` ends (docs/FORMATS.md, "Outcomes").
+/// How `run`, `record` or `sweep` ends (docs/FORMATS.md, "Outcomes").
 #[derive(Drop)]
 pub struct End {
     /// The outcome.

@@ -1,7 +1,7 @@
 //! The commands that play whole runs: `run`, `record` and `sweep`.
 //!
-//! A campaign is read, then the drive trace and the image of each of its runs; then the controller plays them
-//! tick by tick, and the report or the record is written, a record as its ticks are made.
+//! A campaign is read, then the drive trace and the image of each run that is played; then the controller plays
+//! them tick by tick, and the report, the record or the table is written, a record as its ticks are made.
 #![tactic(auto)]
 
 mod campaign;
