@@ -1,0 +1,236 @@
+-- What is kept of one item more.
+use Rattle.std.proofs.Common.{◌≡◌, ◌∙◌, sym, ap, refl, subst, ℕ, ◌+◌, ◌≤◌, List, [], ◌∷◌, ◌++◌, length, Bool, true, false, cond, Option, Some, None, arith, append-nil, append_assoc, length-append}
+use Rattle.std.specs.Prelude.{is_some, IsSome, option_map, ◌||◌}
+use Rattle.std.specs.List.{cons_option}
+use Rattle.std.specs.Option.{option_map_or, option_or}
+use Rattle.std.specs.Map.{lookup}
+use Rattle.std.specs.Str.{bytes_eq}
+use Rattle.std.proofs.lemmas.Slice.Eq.{bytes_eq-Decides}
+use Rattle.eg_asm.specs.Forms.{Form, form_named}
+use Rattle.eg_asm.specs.Grammar.{Value, Item, Nothing, Comment, Label, Instruction}
+use Rattle.eg_asm.specs.Words.{Labels, size, word_count, labels_from, labels_of, place_of}
+use Rattle.eg_asm.specs.Encodings.{Encoded, Told, told, encoded}
+use Rattle.eg_asm.specs.Encodings as tells
+use Rattle.eg_asm.specs.Kept.{numbered, instructions_from, is_repeat, repeat_behind, Keeps, HasForm}
+
+-- ---- one item more at the end ----
+
+-- so many words
+pub word_count-append : (items more : List Item) → word_count (items ++ more) ≡ word_count items + word_count more
+unfolding word_count
+word_count-append [] more = omega arith
+word_count-append (item ∷ items) more = omega (arith, word_count-append items more)
+
+pub word_count-one : (items : List Item) (item : Item) → word_count (items ++ item ∷ []) ≡ word_count items + size item
+unfolding word_count
+word_count-one items item = word_count-append items (item ∷ []) ∙ omega arith
+
+-- the labels
+labels_from-append : (place : ℕ) (items more : List Item) → labels_from place (items ++ more) ≡ labels_from place items ++ labels_from (place + word_count items) more
+unfolding labels_from word_count size
+labels_from-append place [] more = let same : place + 0 ≡ place = omega arith in rw same refl
+labels_from-append place (Nothing ∷ items) more = let h = labels_from-append (place + 0) items more in let same : place + 0 + word_count items ≡ place + (0 + word_count items) = omega arith in h ∙ rw same refl
+labels_from-append place (Comment bytes ∷ items) more = let h = labels_from-append (place + 0) items more in let same : place + 0 + word_count items ≡ place + (0 + word_count items) = omega arith in h ∙ rw same refl
+labels_from-append place (Label name ∷ items) more =
+    let h = labels_from-append place items more in let same : place + (0 + word_count items) ≡ place + word_count items = omega arith in
+    rw same (ap (λ (ls : Labels). (name, place) ∷ ls) h)
+labels_from-append place (Instruction mnemonic values ∷ items) more =
+    let h = labels_from-append (place + 1) items more in let same : place + 1 + word_count items ≡ place + (1 + word_count items) = omega arith in h ∙ rw same refl
+
+-- the instructions
+instructions_from-append : (place : ℕ) (items more : List Item) → instructions_from place (items ++ more) ≡ instructions_from place items ++ instructions_from (place + length items) more
+unfolding instructions_from
+instructions_from-append place [] more = let same : place + 0 ≡ place = omega arith in rw same refl
+instructions_from-append place (item ∷ items) more =
+    let same : place + 1 + length items ≡ place + length (item ∷ items) = omega arith in
+    ap (cons_option (numbered place (told item))) (instructions_from-append (place + 1) items more ∙ rw same refl) ∙ moved (numbered place (told item)) (instructions_from (place + 1) items)
+  where
+    moved : (o : Option (ℕ × Encoded)) (front : List (ℕ × Encoded))
+        → cons_option o (front ++ instructions_from (place + length (item ∷ items)) more) ≡ cons_option o front ++ instructions_from (place + length (item ∷ items)) more
+    moved None front = refl
+    moved (Some i) front = refl
+
+pub instructions_from-one : (items : List Item) (item : Item) → instructions_from 1 (items ++ item ∷ []) ≡ instructions_from 1 items ++ cons_option (numbered (length items + 1) (told item)) []
+unfolding instructions_from
+instructions_from-one items item = let same : 1 + length items ≡ length items + 1 = omega arith in instructions_from-append 1 items (item ∷ []) ∙ rw same refl
+
+-- the first label that is repeated
+repeat_behind-append : (before items : List Item) (item : Item) → repeat_behind before (items ++ item ∷ [])
+    ≡ option_or (repeat_behind before items) (cond (is_repeat (before ++ items) item) (Some (length (before ++ items) + 1)) None)
+unfolding repeat_behind
+repeat_behind-append before [] item = rw (append-nil before) (at (is_repeat before item))
+  where
+    at : (b : Bool) → cond b (Some (length before + 1)) (repeat_behind (before ++ item ∷ []) []) ≡ cond b (Some (length before + 1)) None
+    at true = refl
+    at false = refl
+repeat_behind-append before (first ∷ items) item = at (is_repeat before first) (repeat_behind-append (before ++ first ∷ []) items item ∙ rw (append_assoc before (first ∷ []) items) refl)
+  where
+    at : (b : Bool) → repeat_behind (before ++ first ∷ []) (items ++ item ∷ [])
+        ≡ option_or (repeat_behind (before ++ first ∷ []) items) (cond (is_repeat (before ++ (first ∷ items)) item) (Some (length (before ++ (first ∷ items)) + 1)) None)
+        → cond b (Some (length before + 1)) (repeat_behind (before ++ first ∷ []) (items ++ item ∷ []))
+        ≡ option_or (cond b (Some (length before + 1)) (repeat_behind (before ++ first ∷ []) items)) (cond (is_repeat (before ++ (first ∷ items)) item) (Some (length (before ++ (first ∷ items)) + 1)) None)
+    at true h = refl
+    at false h = h
+
+pub repeat-one : (items : List Item) (item : Item) → repeat_behind [] (items ++ item ∷ []) ≡ option_or (repeat_behind [] items) (cond (is_repeat items item) (Some (length items + 1)) None)
+repeat-one items item = repeat_behind-append [] items item
+
+-- the place of a label
+lookup-append : (name : List ℕ) (xs ys : Labels) → place_of (xs ++ ys) name ≡ option_or (place_of xs name) (place_of ys name)
+lookup-append name [] ys = refl
+lookup-append name (x ∷ xs) ys = at (bytes_eq name x.0) (lookup-append name xs ys)
+  where
+    at : (b : Bool) → place_of (xs ++ ys) name ≡ option_or (place_of xs name) (place_of ys name)
+        → cond b (Some x.1) (place_of (xs ++ ys) name) ≡ option_or (cond b (Some x.1) (place_of xs name)) (place_of ys name)
+    at true h = refl
+    at false h = h
+
+pub labels-one : (items : List Item) (item : Item) (name : List ℕ) → place_of (labels_of (items ++ item ∷ [])) name ≡ option_or (place_of (labels_of items) name) (place_of (labels_from (word_count items) (item ∷ [])) name)
+labels-one items item name =
+    let same : 0 + word_count items ≡ word_count items = omega arith in
+    ap (λ (ls : Labels). place_of ls name) (labels_from-append 0 items (item ∷ []) ∙ rw same refl) ∙ lookup-append name (labels_of items) (labels_from (word_count items) (item ∷ []))
+
+-- ---- what is kept ----
+
+option_or-none : (o : Option ℕ) → o ≡ option_or o None
+option_or-none None = refl
+option_or-none (Some n) = refl
+
+-- nothing is kept of no item
+pub keeps-start : {K : Type 0} (name_of : K → List ℕ) (place : K → Option ℕ) → ((key : K) → place key ≡ None) → Keeps name_of [] [] place None
+unfolding instructions_from word_count repeat_behind labels_from
+keeps-start name_of place none = record { all = refl; count = refl; labels = none; repeat = refl }
+
+-- what an item adds
+keeps-more : {K : Type 0} (name_of : K → List ℕ) (items : List Item) (item : Item) (instructions : List (ℕ × Encoded)) (place now : K → Option ℕ) (repeated later : Option ℕ)
+    → length (cons_option (numbered (length items + 1) (told item)) []) ≡ size item
+    → ((key : K) → now key ≡ option_or (place key) (place_of (labels_from (word_count items) (item ∷ [])) (name_of key)))
+    → later ≡ option_or repeated (cond (is_repeat items item) (Some (length items + 1)) None)
+    → Keeps name_of items instructions place repeated
+    → Keeps name_of (items ++ item ∷ []) (instructions ++ cons_option (numbered (length items + 1) (told item)) []) now later
+keeps-more name_of items item instructions place now repeated later sized found again k = record {
+  all = ap (λ (is : List (ℕ × Encoded)). is ++ cons_option (numbered (length items + 1) (told item)) []) k.all ∙ sym (instructions_from-one items item);
+  count = (let counted = k.count in omega (arith, length-append instructions (cons_option (numbered (length items + 1) (told item)) []), sized, word_count-one items item));
+  labels = λ key. found key ∙ ap (λ o. option_or o (place_of (labels_from (word_count items) (item ∷ [])) (name_of key))) (k.labels key) ∙ sym (labels-one items item (name_of key));
+  repeat = again ∙ ap (λ o. option_or o (cond (is_repeat items item) (Some (length items + 1)) None)) k.repeat ∙ sym (repeat-one items item);
+}
+
+-- an item that tells nothing
+pub keeps-nothing : {K : Type 0} (name_of : K → List ℕ) (items : List Item) (item : Item) (instructions : List (ℕ × Encoded)) (place : K → Option ℕ) (repeated : Option ℕ)
+    → HasForm item → told item ≡ tells.Nothing → Keeps name_of items instructions place repeated → Keeps name_of (items ++ item ∷ []) instructions place repeated
+unfolding told HasForm numbered size labels_from is_repeat
+keeps-nothing name_of items item instructions place repeated has is k = at item has is
+  where
+    Same : List Item → List (ℕ × Encoded) → Type 0
+    Same all is = Keeps name_of all is place repeated
+
+    named : (mnemonic : List ℕ) (values : List Value) (o : Option Form) → form_named mnemonic ≡ o → IsSome o → option_map_or (λ form. tells.Instruction (encoded form values)) o tells.Nothing ≡ tells.Nothing → ⊥
+    named mnemonic values None is some none = absurd cc
+    named mnemonic values (Some f) is some none = absurd cc
+
+    at : (item : Item) → HasForm item → told item ≡ tells.Nothing → Keeps name_of (items ++ item ∷ []) instructions place repeated
+    at Nothing has is = subst (Same (items ++ Nothing ∷ [])) (append-nil instructions) (keeps-more name_of items Nothing instructions place place repeated repeated refl (λ key. option_or-none (place key)) (option_or-none repeated) k)
+    at (Comment bytes) has is = subst (Same (items ++ Comment bytes ∷ [])) (append-nil instructions) (keeps-more name_of items (Comment bytes) instructions place place repeated repeated refl (λ key. option_or-none (place key)) (option_or-none repeated) k)
+    at (Label name) has is = absurd cc
+    at (Instruction mnemonic values) has is = absurd (named mnemonic values (form_named mnemonic) refl has is)
+
+-- the label that an item tells
+label-of : (item : Item) (name : List ℕ) → HasForm item → told item ≡ tells.Label name → item ≡ Label name
+unfolding told HasForm
+label-of Nothing name has is = absurd cc
+label-of (Comment bytes) name has is = absurd cc
+label-of (Label other) name has is = let same : other ≡ name = cc in ap Label same
+label-of (Instruction mnemonic values) name has is = absurd (named (form_named mnemonic) has is)
+  where
+    named : (o : Option Form) → IsSome o → option_map_or (λ form. tells.Instruction (encoded form values)) o tells.Nothing ≡ tells.Label name → ⊥
+    named None some none = absurd cc
+    named (Some f) some none = absurd cc
+
+-- a label that stands before it
+keeps-again_label : {K : Type 0} (name_of : K → List ℕ) (items : List Item) (instructions : List (ℕ × Encoded)) (place : K → Option ℕ) (repeated : Option ℕ) (key : K)
+    → is_some (place key) ≡ true → Keeps name_of items instructions place repeated
+    → Keeps name_of (items ++ Label (name_of key) ∷ []) instructions place (option_or repeated (Some (length items + 1)))
+unfolding told numbered size labels_from is_repeat
+keeps-again_label {K = K} name_of items instructions place repeated key some k =
+    let there : is_some (place_of (labels_of items) (name_of key)) ≡ true = ap is_some (sym (k.labels key)) ∙ some in
+    let P : List (ℕ × Encoded) → Type 0 = λ is. Keeps name_of (items ++ Label (name_of key) ∷ []) is place (option_or repeated (Some (length items + 1))) in
+    subst P (append-nil instructions)
+    (keeps-more name_of items (Label (name_of key)) instructions place place repeated (option_or repeated (Some (length items + 1))) refl (λ other. at other (place other) (k.labels other) there) (rw there refl) k)
+  where
+    here : (a b : List ℕ) (o : Option ℕ) → place_of (labels_of items) a ≡ o → is_some (place_of (labels_of items) b) ≡ true → (t : Bool) → bytes_eq a b ≡ t → o ≡ option_or o (cond t (Some (word_count items)) None)
+    here a b (Some n) is there t same = refl
+    here a b None is there false same = refl
+    here a b None is there true same =
+        let one : a ≡ b = (bytes_eq-Decides a b).0 same in
+        let none = ap (λ (n : List ℕ). is_some (place_of (labels_of items) n)) (sym one) ∙ ap is_some is in
+        absurd cc
+
+    at : (other : K) (o : Option ℕ) → o ≡ place_of (labels_of items) (name_of other) → is_some (place_of (labels_of items) (name_of key)) ≡ true
+        → o ≡ option_or o (place_of (labels_from (word_count items) (Label (name_of key) ∷ [])) (name_of other))
+    at other o is there = here (name_of other) (name_of key) o (sym is) there (bytes_eq (name_of other) (name_of key)) refl
+
+-- a label that doesn't
+keeps-new_label : {K : Type 0} (name_of : K → List ℕ) (items : List Item) (instructions : List (ℕ × Encoded)) (place now : K → Option ℕ) (repeated : Option ℕ) (key : K)
+    → is_some (place key) ≡ false → ((other : K) → now other ≡ cond (bytes_eq (name_of key) (name_of other)) (Some (word_count items)) (place other))
+    → Keeps name_of items instructions place repeated → Keeps name_of (items ++ Label (name_of key) ∷ []) instructions now repeated
+unfolding told numbered size labels_from is_repeat
+keeps-new_label {K = K} name_of items instructions place now repeated key none put k =
+    let absent : is_some (place_of (labels_of items) (name_of key)) ≡ false = ap is_some (sym (k.labels key)) ∙ none in
+    let P : List (ℕ × Encoded) → Type 0 = λ is. Keeps name_of (items ++ Label (name_of key) ∷ []) is now repeated in
+    subst P (append-nil instructions)
+    (keeps-more name_of items (Label (name_of key)) instructions place now repeated repeated refl (λ other. put other ∙ at other absent) (rw absent (option_or-none repeated)) k)
+  where
+    here : (a b : List ℕ) (o : Option ℕ) → place_of (labels_of items) b ≡ o → is_some (place_of (labels_of items) a) ≡ false → (t s : Bool) → bytes_eq a b ≡ t → bytes_eq b a ≡ s
+        → cond t (Some (word_count items)) o ≡ option_or o (cond s (Some (word_count items)) None)
+    here a b None is absent true true same back = refl
+    here a b None is absent false false same back = refl
+    here a b (Some n) is absent false s same back = refl
+    here a b (Some n) is absent true s same back =
+        let one : a ≡ b = (bytes_eq-Decides a b).0 same in
+        let some = ap (λ (n : List ℕ). is_some (place_of (labels_of items) n)) one ∙ ap is_some is in
+        absurd cc
+    here a b None is absent true false same back =
+        let one : a ≡ b = (bytes_eq-Decides a b).0 same in
+        let again = (bytes_eq-Decides b a).1 (sym one) in
+        absurd cc
+    here a b None is absent false true same back =
+        let one : b ≡ a = (bytes_eq-Decides b a).0 back in
+        let again = (bytes_eq-Decides a b).1 (sym one) in
+        absurd cc
+
+    at : (other : K) → is_some (place_of (labels_of items) (name_of key)) ≡ false
+        → cond (bytes_eq (name_of key) (name_of other)) (Some (word_count items)) (place other) ≡ option_or (place other) (place_of (labels_from (word_count items) (Label (name_of key) ∷ [])) (name_of other))
+    at other absent =
+        let P : Option ℕ → Type 0 = λ o. cond (bytes_eq (name_of key) (name_of other)) (Some (word_count items)) o ≡ option_or o (place_of (labels_from (word_count items) (Label (name_of key) ∷ [])) (name_of other)) in
+        subst P (sym (k.labels other)) (here (name_of key) (name_of other) (place_of (labels_of items) (name_of other)) refl absent (bytes_eq (name_of key) (name_of other)) (bytes_eq (name_of other) (name_of key)) refl refl)
+
+-- items that tell these labels
+pub keeps-again : {K : Type 0} (name_of : K → List ℕ) (items : List Item) (item : Item) (instructions : List (ℕ × Encoded)) (place : K → Option ℕ) (repeated : Option ℕ) (key : K)
+    → HasForm item → told item ≡ tells.Label (name_of key) → is_some (place key) ≡ true → Keeps name_of items instructions place repeated
+    → Keeps name_of (items ++ item ∷ []) instructions place (option_or repeated (Some (length items + 1)))
+keeps-again name_of items item instructions place repeated key has is some k =
+    let P : Item → Type 0 = λ i. Keeps name_of (items ++ i ∷ []) instructions place (option_or repeated (Some (length items + 1))) in
+    subst P (sym (label-of item (name_of key) has is)) (keeps-again_label name_of items instructions place repeated key some k)
+
+pub keeps-new : {K : Type 0} (name_of : K → List ℕ) (items : List Item) (item : Item) (instructions : List (ℕ × Encoded)) (place now : K → Option ℕ) (repeated : Option ℕ) (key : K)
+    → HasForm item → told item ≡ tells.Label (name_of key) → is_some (place key) ≡ false
+    → ((other : K) → now other ≡ cond (bytes_eq (name_of key) (name_of other)) (Some (length instructions)) (place other))
+    → Keeps name_of items instructions place repeated → Keeps name_of (items ++ item ∷ []) instructions now repeated
+keeps-new {K = K} name_of items item instructions place now repeated key has is none put k =
+    let P : Item → Type 0 = λ i. Keeps name_of (items ++ i ∷ []) instructions now repeated in
+    let there = λ (other : K). put other ∙ ap (λ n. cond (bytes_eq (name_of key) (name_of other)) (Some n) (place other)) k.count in
+    subst P (sym (label-of item (name_of key) has is)) (keeps-new_label name_of items instructions place now repeated key none there k)
+
+-- an instruction
+pub keeps-instruction : {K : Type 0} (name_of : K → List ℕ) (items : List Item) (item : Item) (e : Encoded) (instructions : List (ℕ × Encoded)) (place : K → Option ℕ) (repeated : Option ℕ)
+    → HasForm item → told item ≡ tells.Instruction e → Keeps name_of items instructions place repeated
+    → Keeps name_of (items ++ item ∷ []) (instructions ++ (length items + 1, e) ∷ []) place repeated
+unfolding told HasForm numbered size labels_from is_repeat
+keeps-instruction name_of items Nothing e instructions place repeated has is k = absurd cc
+keeps-instruction name_of items (Comment bytes) e instructions place repeated has is k = absurd cc
+keeps-instruction name_of items (Label name) e instructions place repeated has is k = absurd cc
+keeps-instruction name_of items (Instruction mnemonic values) e instructions place repeated has is k =
+    let one : cons_option (numbered (length items + 1) (told (Instruction mnemonic values))) [] ≡ (length items + 1, e) ∷ [] = rw is refl in
+    let P : List (ℕ × Encoded) → Type 0 = λ is. Keeps name_of (items ++ Instruction mnemonic values ∷ []) (instructions ++ is) place repeated in
+    subst P one
+    (keeps-more name_of items (Instruction mnemonic values) instructions place place repeated repeated (ap length one) (λ key. option_or-none (place key)) (option_or-none repeated) k)

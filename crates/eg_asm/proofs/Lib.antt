@@ -1,0 +1,23 @@
+mod Worked
+pub mod FormLemmas
+pub mod NumeralLemmas
+pub mod NumeralLaws
+pub mod ValueLaws
+pub mod TextLaws
+pub mod LineLaws
+pub mod CutLaws
+pub mod SourceLaws
+pub mod FitsLemmas
+pub mod KeepsLemmas
+pub mod LinkLemmas
+pub mod LinkLaws
+pub mod ReadLemmas
+pub mod AssembleLemmas
+pub mod ListingLemmas
+pub mod ListingLaws
+pub mod LengthLaws
+pub mod ImageLaws
+pub mod MeaningLaws
+pub mod MeantLaws
+pub mod OperandLemmas
+pub mod ToldLemmas

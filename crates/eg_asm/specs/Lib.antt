@@ -1,0 +1,14 @@
+pub mod Forms
+pub mod Numerals
+pub mod Grammar
+pub mod Words
+pub mod Sources
+pub mod Listings
+pub mod Meanings
+pub mod Reading
+pub mod Usable
+pub mod Rows
+pub mod Encodings
+pub mod Room
+pub mod Kept
+pub mod Linking

@@ -1,0 +1,7 @@
+-- The table of the code: its rows are the forms.
+use Rattle.eg_asm.specs.declared.form.FormRow.{FormRow}
+use Rattle.eg_asm.specs.Forms.{Form, form}
+
+-- the form that a row of the code's table says
+abbrev pub form_in : FormRow → Form
+form_in row = form row.mnemonic.now row.base row.operands.now

@@ -1,0 +1,59 @@
+-- What a source is: by its bytes alone, which words it gives, and which refusal.
+use Rattle.std.specs.Prelude.{◌≡◌, ◌≢◌, ℕ, ◌+◌, ◌<◌, ◌≤◌, List, [], ◌++◌, length, Some, None, Result, Ok, Err}
+use Rattle.std.specs.List.{AllByRecursion, flat_map}
+use Rattle.eg_input.specs.declared.image.TheConstants.{MOST_WORDS}
+use Rattle.eg_asm.specs.declared.fault.AsmFault.{AsmFault}
+use Rattle.eg_asm.specs.declared.fault.AsmFault.TheVariants as fault
+use Rattle.eg_asm.specs.Grammar.{Item, IsItem, line_of, IsLineOf, IsTextOf}
+use Rattle.eg_asm.specs.Words.{size, word_count, words_of, first_fault}
+
+-- the source is lines without fault, of at most 1,024 instructions, which have these words
+pub record IsSourceOf (source words : List ℕ) : Type 0 where
+  pub items : List Item
+  pub text : IsTextOf source items
+  pub most : word_count items ≤ MOST_WORDS
+  pub sound : first_fault items ≡ None
+  pub words_are : words ≡ words_of items
+
+-- the text goes on, and its next line isn't one of such an item
+pub record GoesWrong (may_come : Item → Type 0) (text : List ℕ) : Type 0 where
+  pub more : text ≢ []
+  pub wrong : (line rest : List ℕ) (item : Item) → text ≡ line ++ rest → IsLineOf line item → may_come item → ⊥
+
+-- The source begins with lines of the grammar, of fewer than 1,024 instructions, and the line that comes then,
+-- at this place, isn't of the grammar.
+pub record HasBadLineAt (source : List ℕ) (place : ℕ) : Type 0 where
+  pub good : List Item
+  pub front : List ℕ
+  pub rest : List ℕ
+  pub parts : source ≡ front ++ rest
+  pub text : IsTextOf front good
+  pub few : word_count good < MOST_WORDS
+  pub bad : GoesWrong (λ item. Unit {0}) rest
+  pub at : place ≡ length good + 1
+
+-- the source begins with lines of the grammar, of 1,024 instructions, and then comes no empty line, comment or
+-- label
+pub record IsTooLong (source : List ℕ) : Type 0 where
+  pub good : List Item
+  pub front : List ℕ
+  pub rest : List ℕ
+  pub parts : source ≡ front ++ rest
+  pub text : IsTextOf front good
+  pub full : word_count good ≡ MOST_WORDS
+  pub bad : GoesWrong (λ item. size item ≡ 0) rest
+
+-- the source is lines of the grammar, of at most 1,024 instructions, the first of which at fault is at this place
+pub record HasBadLabelAt (source : List ℕ) (place : ℕ) : Type 0 where
+  pub items : List Item
+  pub text : IsTextOf source items
+  pub most : word_count items ≤ MOST_WORDS
+  pub at : first_fault items ≡ Some place
+
+-- what assembling a source gives, where memory doesn't run out
+abbrev pub Assembles : List ℕ → Result (List ℕ) AsmFault → Type 0
+Assembles source (Ok words) = IsSourceOf source words
+Assembles source (Err fault.Memory) = ⊥
+Assembles source (Err (fault.Line place)) = HasBadLineAt source place
+Assembles source (Err (fault.Label place)) = HasBadLabelAt source place
+Assembles source (Err fault.Long) = IsTooLong source

@@ -1,0 +1,115 @@
+-- The words of a source, and what is at fault in it though each of its lines is of the grammar.
+use Rattle.std.specs.Prelude.{ℕ, ◌+◌, ◌-◌, ◌*◌, ℤ, pos, negsuc, ◌-ℤ◌, if◌then◌else◌, nat_lt, Bool, true, List, [], ◌∷◌, ◌++◌, length, Option, Some, None, is_none, is_some, option_map, option_and_then}
+use Rattle.std.specs.List.{cons_option}
+use Rattle.std.specs.Map.{lookup}
+use Rattle.std.specs.Str.{bytes_eq}
+use Rattle.eg_asm.specs.declared.operand.Operand.{Operand}
+use Rattle.eg_asm.specs.declared.operand.Operand.TheVariants as operand
+use Rattle.eg_asm.specs.Forms.{Form, form_named}
+use Rattle.eg_asm.specs.Grammar.{Value, Register, Number, Name, Distance, Item, Nothing, Comment, Label, Instruction}
+
+-- ---- labels ----
+
+-- how many words an item is
+unfoldable pub size : Item → ℕ
+size (Instruction mnemonic values) = 1
+size _ = 0
+
+-- how many words items are: so many instructions are among them
+unfoldable pub word_count : List Item → ℕ
+word_count [] = 0
+word_count (item ∷ items) = size item + word_count items
+
+-- labels with their places, in the order of their lines
+abbrev pub Labels : Type 0
+Labels = List (List ℕ × ℕ)
+
+-- the labels of items, the first of which stands at this place: a label's place is that of the next word
+unfoldable pub labels_from : ℕ → List Item → Labels
+labels_from place [] = []
+labels_from place (Label name ∷ items) = (name, place) ∷ labels_from place items
+labels_from place (item ∷ items) = labels_from (place + size item) items
+
+abbrev pub labels_of : List Item → Labels
+labels_of items = labels_from 0 items
+
+-- the place of the first label of this name
+abbrev pub place_of : Labels → List ℕ → Option ℕ
+place_of labels name = lookup (bytes_eq name) labels
+
+-- ---- words ----
+
+-- a distance as two's complement, where it is not below -reach, and below reach
+unfoldable pub complement_of : ℕ → ℤ → Option ℕ
+complement_of reach (pos n) = if nat_lt n reach then Some n else None
+complement_of reach (negsuc n) = if nat_lt n reach then Some (2 * reach - (n + 1)) else None
+
+-- The distance to a target, where there is one. It counts from the word after the jump, which stands at this
+-- place.
+unfoldable pub distance_to : Labels → ℕ → Value → Option ℤ
+distance_to labels place (Name name) = option_map (λ at. pos at -ℤ pos (place + 1)) (place_of labels name)
+distance_to labels place (Distance d) = Some d
+distance_to labels place _ = None
+
+-- what an operand adds to the word at this place; nothing where its target isn't there or out of range
+unfoldable pub field_of : Labels → ℕ → Operand → Value → Option ℕ
+field_of labels place (operand.Register weight) (Register n) = Some (n * weight)
+field_of labels place (operand.Number most) (Number n) = Some n
+field_of labels place (operand.Target reach) value =
+    option_and_then (complement_of reach) (distance_to labels place value)
+field_of labels place _ _ = None
+
+-- a sum, where there are both of its parts
+abbrev pub added : Option ℕ → Option ℕ → Option ℕ
+added (Some m) (Some n) = Some (m + n)
+added _ _ = None
+
+-- what the operands add
+unfoldable pub fields_of : Labels → ℕ → List Operand → List Value → Option ℕ
+fields_of labels place (operand ∷ operands) (value ∷ values) =
+    added (field_of labels place operand value) (fields_of labels place operands values)
+fields_of labels place _ _ = Some 0
+
+-- the word of a form with these values, at this place
+unfoldable pub word_with : Labels → ℕ → Form → List Value → Option ℕ
+word_with labels place form values =
+    option_map (λ fields. form.base + fields) (fields_of labels place form.operands values)
+
+-- the word of an instruction at this place
+unfoldable pub word_of : Labels → ℕ → List ℕ → List Value → Option ℕ
+word_of labels place mnemonic values =
+    option_and_then (λ form. word_with labels place form values) (form_named mnemonic)
+
+-- the word of an item at this place, where it is an instruction that has one
+unfoldable pub word_at : Labels → ℕ → Item → Option ℕ
+word_at labels place (Instruction mnemonic values) = word_of labels place mnemonic values
+word_at labels place _ = None
+
+-- the words of items, the first of which stands at this place
+unfoldable pub words_from : Labels → ℕ → List Item → List ℕ
+words_from labels place [] = []
+words_from labels place (item ∷ items) =
+    cons_option (word_at labels place item) (words_from labels (place + size item) items)
+
+abbrev pub words_of : List Item → List ℕ
+words_of items = words_from (labels_of items) 0 items
+
+-- ---- faults ----
+
+-- Whether an item that stands behind others is without fault: a label isn't repeated, and the targets of an
+-- instruction are there and in range.
+unfoldable pub is_sound : Labels → List Item → Item → Bool
+is_sound labels before (Label name) = is_none (place_of (labels_of before) name)
+is_sound labels before (Instruction mnemonic values) = is_some (word_of labels (word_count before) mnemonic values)
+is_sound labels before _ = true
+
+-- the place in the source of the first of these items that isn't, where they stand behind others
+unfoldable pub fault_behind : Labels → List Item → List Item → Option ℕ
+fault_behind labels before [] = None
+fault_behind labels before (item ∷ items) =
+    if is_sound labels before item then fault_behind labels (before ++ item ∷ []) items
+    else Some (length before + 1)
+
+-- the place of the first item at fault, the first item's being 1
+abbrev pub first_fault : List Item → Option ℕ
+first_fault items = fault_behind (labels_of items) [] items

@@ -1,0 +1,115 @@
+// The words of a source, once all of its labels are known.
+ghost use Rattle.std.specs.Prelude.{◌≡◌, ◌+◌, pos, ◌-ℤ◌, ◌<◌, ◌≤◌, ◌*◌, Some, map, vec_len, IfSome};
+ghost use Rattle.eg_asm.specs.Words.{Labels, place_of, complement_of, distance_to};
+ghost use Rattle.eg_asm.specs.Encodings.{target_shown, instruction_shown};
+ghost use Rattle.eg_asm.specs.Kept.{placed_shown};
+ghost use Rattle.eg_asm.specs.Linking.{completed, earlier, linked_kept, HasLabels};
+ghost use Rattle.eg_asm.specs.Reading.{IsAssembled};
+ghost use Rattle.eg_input.specs.declared.image.TheConstants.{MOST_WORDS};
+
+use crate::AsmFault;
+use crate::encoding::Target;
+use crate::instruction::Instruction;
+use crate::source::Source;
+use eg_input::MOST_WORDS;
+use std::alloc::Global;
+
+impl<'a> Source<'a> {
+    /// The words of the source, or the first line that repeats a label or whose target isn't there or out of
+    /// range.
+    pub(crate) fn link(&self, alloc: Global) -> Result<Vec<u16>, AsmFault>
+        requires { vec_len self.now.instructions ≤ MOST_WORDS }
+        ensures { (labels : Labels) → HasLabels self.now.labels labels →
+            IsAssembled
+            (linked_kept labels (map placed_shown self.now.instructions.items) self.now.repeated) result }
+    {
+        let mut words = Vec::new(alloc);
+        for (place, placed) in self.instructions.iter().enumerate() {
+            let Some(word) = self.word_of(place, &placed.instruction) else {
+                return Err(AsmFault::Label {
+                    line: earlier(placed.line, self.repeated),
+                });
+            };
+            words.push(word).map_err(|_| AsmFault::Memory)?;
+        }
+        match self.repeated {
+            Some(line) => Err(AsmFault::Label { line }),
+            None => Ok(words),
+        }
+    }
+
+    /// The word of an instruction at this place, where its target is there and in range.
+    #[tactic(auto, unfolding(crate::specs::Linking::completed, crate::specs::Linking::jump_field))]
+    fn word_of(&self, place: usize, instruction: &Instruction<'a>) -> Option<u16>
+        requires { place < MOST_WORDS }
+        ensures { (labels : Labels) → HasLabels self.now.labels labels →
+            result ≡ completed labels place (instruction_shown instruction.now) }
+    {
+        match instruction.jump {
+            None => Some(instruction.word),
+            Some(jump) => {
+                let distance = self.distance_to(place, jump.target)?;
+                let field = complement_of(distance, jump.reach)?;
+                Some((u32::from(instruction.word) + field) as u16)
+            }
+        }
+    }
+
+    /// The distance to a target from the word after this place, where the target is there.
+    #[tactic(auto, unfolding(crate::specs::Words::distance_to, crate::specs::Encodings::target_shown))]
+    fn distance_to(&self, place: usize, target: Target<'a>) -> Option<i32>
+        requires { place < MOST_WORDS }
+        ensures { (labels : Labels) → HasLabels self.now.labels labels →
+            result ≡ distance_to labels place (target_shown target.entry) }
+    {
+        match target {
+            Target::Distance(distance) => Some(distance),
+            Target::Label(name) => Some(behind(self.place_of(name)?, place)),
+        }
+    }
+
+    /// Where a label is, if it is anywhere.
+    fn place_of(&self, name: &'a [u8]) -> Option<u16>
+        ensures { (labels : Labels) → HasLabels self.now.labels labels →
+            result ≡ place_of labels name.now }
+    {
+        self.labels.get(name).copied()
+    }
+}
+
+/// The distance to a place from the word after another.
+#[tactic(auto, using(std::proofs::lemmas::Int::ints))]
+fn behind(at: u16, place: usize) -> i32
+    requires { place < MOST_WORDS }
+    ensures { result ≡ pos at -ℤ pos (place + 1) }
+{
+    i32::from(at) - (place as i32 + 1)
+}
+
+/// A distance as two's complement, where it isn't below `-reach`, and below `reach`.
+#[tactic(auto, using(std::proofs::lemmas::Int::ints), unfolding(crate::specs::Words::complement_of))]
+fn complement_of(distance: i32, reach: u16) -> Option<u32>
+    ensures value { result ≡ complement_of reach distance }
+    ensures few { IfSome result (λ field. field < 2 * reach) }
+{
+    let reach = i32::from(reach);
+    if distance < -reach || reach <= distance {
+        return None;
+    }
+    if distance < 0 {
+        Some((distance + 2 * reach) as u32)
+    } else {
+        Some(distance as u32)
+    }
+}
+
+/// The lower of two places, of which one may not be there.
+#[tactic(auto, unfolding(crate::specs::Linking::earlier))]
+fn earlier(place: u32, other: Option<u32>) -> u32
+    ensures { Some result ≡ earlier (Some place) other }
+{
+    match other {
+        Some(other) => place.min(other),
+        None => place,
+    }
+}

@@ -1,0 +1,133 @@
+// What is kept of a source while its lines are read.
+ghost use Rattle.std.specs.Prelude.{◌≡◌, ◌⊎◌, ◌≤◌, [], option_map, vec_len, OnOk, IfErr};
+ghost use Rattle.eg_asm.specs.declared.fault.AsmFault.TheVariants as fault;
+ghost use Rattle.eg_asm.specs.Encodings.{told, told_with_room, line_shown, instruction_shown};
+ghost use Rattle.eg_asm.specs.Encodings as tells;
+ghost use Rattle.eg_asm.specs.Kept.{Holds, Adds, ReadsMore, StopsAt};
+ghost use Rattle.eg_asm.specs.Reading.{item_behind, refusal};
+ghost use Rattle.eg_input.specs.declared.image.TheConstants.{MOST_WORDS};
+
+use crate::AsmFault;
+use crate::instruction::Instruction;
+use crate::line::{Line, read_line};
+use eg_input::MOST_WORDS;
+use std::alloc::Global;
+use std::collections::BTreeMap;
+
+/// An instruction, and the place of its line.
+#[derive(Clone, Copy)]
+pub(crate) struct Placed<'a> {
+    pub(crate) line: u32,
+    pub(crate) instruction: Instruction<'a>,
+}
+
+/// The instructions of a source, where its labels are, and the place of the first line that repeats a label.
+#[derive(Drop)]
+pub(crate) struct Source<'a> {
+    pub(crate) instructions: Vec<Placed<'a>>,
+    pub(crate) labels: BTreeMap<&'a [u8], u16>,
+    pub(crate) repeated: Option<u32>,
+}
+
+/// What a line tells that may come behind so many instructions.
+fn line_behind(words: usize, line: &[u8]) -> Option<Line<'_>>
+    requires { words ≤ MOST_WORDS }
+    ensures { option_map line_shown result ≡ option_map told (item_behind words line.now) }
+{
+    with_room(words, read_line(line)?)
+}
+
+/// What a line tells, where there is room for it behind so many instructions.
+#[tactic(auto, unfolding(crate::specs::Encodings::told_with_room))]
+fn with_room(words: usize, line: Line<'_>) -> Option<Line<'_>>
+    ensures { option_map line_shown result ≡ told_with_room words (line_shown line.entry) }
+{
+    match line {
+        Line::Instruction(_) if words == MOST_WORDS => None,
+        _ => Some(line),
+    }
+}
+
+/// Why the line at this place may not come behind so many instructions.
+#[tactic(auto, unfolding(crate::specs::Reading::refusal))]
+fn refusal(words: usize, place: u32) -> AsmFault
+    ensures { result ≡ refusal words place }
+{
+    if words == MOST_WORDS {
+        AsmFault::Long
+    } else {
+        AsmFault::Line { line: place }
+    }
+}
+
+impl<'a> Source<'a> {
+    /// What is kept of no line.
+    pub(crate) fn new(alloc: Global) -> Source<'a>
+        ensures { Holds result [] }
+    {
+        Source {
+            instructions: Vec::new(alloc),
+            labels: BTreeMap::new(alloc),
+            repeated: None,
+        }
+    }
+
+    /// Reads a line, and keeps what it tells.
+    pub(crate) fn read(&mut self, place: u32, line: &'a [u8]) -> Result<(), AsmFault>
+        requires { vec_len self.old.instructions ≤ MOST_WORDS }
+        ensures kept { OnOk result (ReadsMore place line.now self.old self.new) }
+        ensures fault { IfErr result (λ e. (e ≡ fault.Memory) ⊎ StopsAt place line.now self.old e) }
+    {
+        let words = self.instructions.len();
+        match line_behind(words, line) {
+            Some(tells) => self.add(place, tells),
+            None => Err(refusal(words, place)),
+        }
+    }
+
+    /// Keeps what the line at this place tells.
+    fn add(&mut self, place: u32, tells: Line<'a>) -> Result<(), AsmFault>
+        requires { vec_len self.old.instructions ≤ MOST_WORDS }
+        ensures kept { OnOk result (Adds place (line_shown tells.entry) self.old self.new) }
+        ensures memory { IfErr result (λ e. e ≡ fault.Memory) }
+    {
+        match tells {
+            Line::Nothing => Ok(()),
+            Line::Label(name) => self.add_label(place, name),
+            Line::Instruction(instruction) => self.add_instruction(place, instruction),
+        }
+    }
+
+    /// Keeps a label that stands in the line at this place.
+    fn add_label(&mut self, place: u32, name: &'a [u8]) -> Result<(), AsmFault>
+        requires { vec_len self.old.instructions ≤ MOST_WORDS }
+        ensures kept { OnOk result (Adds place (tells.Label name.now) self.old self.new) }
+        ensures memory { IfErr result (λ e. e ≡ fault.Memory) }
+    {
+        if self.labels.contains_key(name) {
+            self.repeated = self.repeated.or(Some(place));
+            return Ok(());
+        }
+        let words = self.instructions.len() as u16;
+        match self.labels.insert(name, words) {
+            Ok(_) => Ok(()),
+            Err(_) => Err(AsmFault::Memory),
+        }
+    }
+
+    /// Keeps an instruction that stands in the line at this place.
+    fn add_instruction(&mut self, place: u32, instruction: Instruction<'a>) -> Result<(), AsmFault>
+        ensures kept { OnOk result
+            (Adds place (tells.Instruction (instruction_shown instruction.entry)) self.old self.new) }
+        ensures memory { IfErr result (λ e. e ≡ fault.Memory) }
+    {
+        let placed = Placed {
+            line: place,
+            instruction,
+        };
+        match self.instructions.push(placed) {
+            Ok(()) => Ok(()),
+            Err(_) => Err(AsmFault::Memory),
+        }
+    }
+}
