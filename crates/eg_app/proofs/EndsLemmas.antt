@@ -1,15 +1,20 @@
 -- When the work is done, from how a command ends.
 use Rattle.std.proofs.Common.{List, ℕ, Option, Some, None, sym, subst}
-use Rattle.std.specs.Prelude.{Ok, Err}
+use Rattle.std.specs.Prelude.{Result, Ok, Err}
 use Rattle.eg_base.specs.Outside.{ShownStore, ShownSink, Rose}
 use Rattle.eg_answer.specs.declared.rules.Rules.{Rules}
 use Rattle.eg_tick.specs.Weights.{TickCount}
 use Rattle.eg_outcome.specs.declared.outcome.Outcome.{Outcome}
+use Rattle.eg_outcome.specs.declared.outcome.Refusal.{Refusal}
+use Rattle.eg_outcome.specs.declared.outcome.Role.{Role}
 use Rattle.eg_outcome.specs.declared.outcome.Role.TheVariants as role
+use Rattle.eg_outcome.specs.Images.{image_file}
+use Rattle.eg_asm.specs.Listings.{source_text, image_text}
+use Rattle.eg_source.specs.Ends.{WordsEnd, source_file, read_alone}
 use Rattle.eg_outcome.specs.Outcomes.{IsDoneOrMemory}
 use Rattle.eg_outcome.specs.Reads.{Finds, Accepts}
 use Rattle.eg_outcome.specs.Calibrations.{calibration_file, CalibrationComes, FindsCalibration, AcceptsCalibration}
-use Rattle.eg_app.specs.Words.{Command, check, bound, run, record_run, sweep, soak}
+use Rattle.eg_app.specs.Words.{Command, check, bound, run, record_run, sweep, soak, asm, dis}
 use Rattle.eg_app.specs.Check.{check_file}
 use Rattle.eg_app.specs.Ends.{CheckWorks, Ends, Completes}
 use Rattle.eg_app.proofs.FileLemmas.{file_done, line_done}
@@ -30,6 +35,14 @@ check_done : (rules : Rules) (file : List ℕ) (store later : ShownStore) (out n
 check_done rules file store later out now o (Ok rows, comes, (same, (first, is, line))) finds accepts still = line_done _ out now o line still
 check_done rules file store later out now o (Err end, comes, (is, same)) finds accepts still =
     subst IsDoneOrMemory (sym is) (file_done role.Check check_file file store later end comes finds accepts)
+
+-- a source or an image that is found and accepted is written
+words_done : (file : Role) (says : List ℕ → Result (List ℕ) Refusal) (text : List ℕ → List ℕ) (name : List ℕ) (store later : ShownStore)
+    (out now : ShownSink) (o : Outcome) → WordsEnd file says text name store later out now o
+    → Finds name store later → Accepts says name store → ¬ Rose out.faults now.faults → IsDoneOrMemory o
+words_done file says text name store later out now o (Ok words, comes, (same, line)) finds accepts still = line_done _ out now o line still
+words_done file says text name store later out now o (Err end, comes, (is, same)) finds accepts still =
+    subst IsDoneOrMemory (sym is) (file_done file says name store later end comes finds accepts)
 
 -- a call that ends so completes its work
 pub completes : (command : Option Command) (store later : ShownStore) (out now : ShownSink) (was then : TickCount) (o : Outcome)
@@ -56,3 +69,5 @@ completes (Some (sweep calibration campaign name step)) store later out now was 
     subst IsDoneOrMemory (sym is) (calibration_done calibration store later end comes finds accepts)
 completes (Some (sweep calibration campaign name step)) store later out now was then o (Ok parts, comes, works) = λ finds accepts found accepted files still.
     sweep_done parts campaign name step store later out now was then o works found accepted files still
+completes (Some (asm file)) store later out now was then o ends = λ finds accepts still. words_done role.Source source_file image_text file store later out now o ends finds accepts still
+completes (Some (dis file)) store later out now was then o ends = λ finds accepts still. words_done read_alone (image_file 0) source_text file store later out now o ends finds accepts still

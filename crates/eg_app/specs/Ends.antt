@@ -24,7 +24,9 @@ use Rattle.eg_play.specs.Inputs.{FindsRuns, AcceptsRuns}
 use Rattle.eg_play.specs.Ends.{rows_of_runs, Plays, RunCommandEnds, RecordCommandEnds, SweepCommandEnds, AcceptsNamed, AcceptsGrid, run_named}
 use Rattle.eg_soak.specs.Soak.{drawn_runs, soak_of}
 use Rattle.eg_soak.specs.Texts.{soak_text}
-use Rattle.eg_app.specs.Words.{Command, check, bound, run, record_run, sweep, soak}
+use Rattle.eg_app.specs.Words.{Command, check, bound, run, record_run, sweep, soak, asm, dis}
+use Rattle.eg_outcome.specs.Images.{image_file}
+use Rattle.eg_source.specs.Ends.{AsmEnds, DisEnds, source_file, read_alone}
 use Rattle.eg_app.specs.Check.{excesses, check_line, check_file}
 use Rattle.eg_app.specs.Bound.{bound_text}
 
@@ -87,6 +89,8 @@ Ends (Some (record_run calibration campaign name)) store later out now was is o 
 Ends (Some (sweep calibration campaign name step)) store later out now was is o =
     SweepCommandEnds calibration campaign name step store later out now was is o
 Ends (Some (soak seed runs)) store later out now was is o = SoakEnds seed runs out now was is o
+Ends (Some (asm file)) store later out now was is o = AsmEnds file store later out now o
+Ends (Some (dis file)) store later out now was is o = DisEnds file store later out now o
 Ends None store later out now was is o = (o ≡ outcome.Usage) × (now ≡ out)
 
 -- no tick is made
@@ -97,6 +101,8 @@ CountsNothing (Some (run calibration campaign)) = ⊥
 CountsNothing (Some (record_run calibration campaign name)) = ⊥
 CountsNothing (Some (sweep calibration campaign name step)) = ⊥
 CountsNothing (Some (soak seed runs)) = ⊥
+CountsNothing (Some (asm file)) = Unit {0}
+CountsNothing (Some (dis file)) = Unit {0}
 CountsNothing None = Unit {0}
 
 -- no file is read
@@ -108,6 +114,8 @@ ReadsNothing (Some (run calibration campaign)) = ⊥
 ReadsNothing (Some (record_run calibration campaign name)) = ⊥
 ReadsNothing (Some (sweep calibration campaign name step)) = ⊥
 ReadsNothing (Some (soak seed runs)) = Unit {0}
+ReadsNothing (Some (asm file)) = ⊥
+ReadsNothing (Some (dis file)) = ⊥
 ReadsNothing None = Unit {0}
 
 -- ---- when a file is missing ----
@@ -146,6 +154,10 @@ TellsMissing (Some (record_run calibration campaign name)) store o =
 TellsMissing (Some (sweep calibration campaign name step)) store o =
     IsTrue store.sure → TellsMissingToPlay calibration campaign store o
 TellsMissing (Some (soak seed runs)) store o = Unit {0}
+TellsMissing (Some (asm file)) store o =
+    IsTrue store.sure → ((o ≡ outcome.ReadFault role.Source) ↔ IsMissing store.files file)
+TellsMissing (Some (dis file)) store o =
+    IsTrue store.sure → ((o ≡ outcome.ReadFault read_alone) ↔ IsMissing store.files file)
 TellsMissing None store o = Unit {0}
 
 -- ---- when the work is done ----
@@ -178,4 +190,8 @@ Completes (Some (sweep calibration campaign name step)) store later out now o =
     → AcceptsNamed store later (run_named name 1 plans) × AcceptsGrid step store (run_named name 1 plans)) →
     ¬ Rose out.faults now.faults → IsDoneOrMemory o
 Completes (Some (soak seed runs)) store later out now o = ¬ Rose out.faults now.faults → IsDoneOrMemory o
+Completes (Some (asm file)) store later out now o =
+    Finds file store later → Accepts source_file file store → ¬ Rose out.faults now.faults → IsDoneOrMemory o
+Completes (Some (dis file)) store later out now o =
+    Finds file store later → Accepts (image_file 0) file store → ¬ Rose out.faults now.faults → IsDoneOrMemory o
 Completes None store later out now o = Unit {0}

@@ -5,6 +5,8 @@ use Rattle.eg_input.specs.declared.fault.TraceFault.{TraceFault}
 use Rattle.eg_input.specs.declared.fault.TraceFault.TheVariants as trace_fault
 use Rattle.eg_input.specs.declared.fault.ImageFault.{ImageFault}
 use Rattle.eg_input.specs.declared.fault.ImageFault.TheVariants as image_fault
+use Rattle.eg_asm.specs.declared.fault.AsmFault.{AsmFault}
+use Rattle.eg_asm.specs.declared.fault.AsmFault.TheVariants as asm_fault
 use Rattle.eg_cal.specs.declared.key.CalFault.{CalFault}
 use Rattle.eg_cal.specs.declared.key.CalFault.TheVariants as cal_fault
 use Rattle.eg_cal.specs.Keys.{text_of}
@@ -18,7 +20,7 @@ use Rattle.eg_outcome.specs.declared.outcome.Refusal.TheVariants as refusal
 use Rattle.eg_outcome.specs.declared.outcome.Role.{Role}
 use Rattle.eg_outcome.specs.declared.outcome.Role.TheVariants as role
 use Rattle.eg_play.specs.Ends.{role_in, IsNameIn, NamesFile}
-use Rattle.eg_app.specs.Words.{Command, check, bound, run, record_run, sweep, soak}
+use Rattle.eg_app.specs.Words.{Command, check, bound, run, record_run, sweep, soak, asm, dis}
 
 -- ---- the file that an outcome speaks of ----
 
@@ -30,6 +32,8 @@ calibration_name (run calibration campaign) = unwrap_or calibration []
 calibration_name (record_run calibration campaign name) = unwrap_or calibration []
 calibration_name (sweep calibration campaign name step) = unwrap_or calibration []
 calibration_name (soak seed runs) = []
+calibration_name (asm file) = []
+calibration_name (dis file) = []
 
 -- the name of the check file, empty where there is none
 abbrev pub check_name : Command → List ℕ
@@ -43,12 +47,20 @@ campaign_name (record_run calibration campaign name) = campaign
 campaign_name (sweep calibration campaign name step) = campaign
 campaign_name _ = []
 
+-- the name of the source or the image that a command translates, empty where there is none
+abbrev pub translated_name : Command → List ℕ
+translated_name (asm file) = file
+translated_name (dis file) = file
+translated_name _ = []
+
 -- the name in the words of a command's file that has this role; they don't name the files of a run
 abbrev pub name_of : Command → Role → List ℕ
 name_of command role.Calibration = calibration_name command
 name_of command role.Check = check_name command
 name_of command role.Campaign = campaign_name command
-name_of command _ = []
+name_of command (role.Trace n) = []
+name_of command (role.Image n) = translated_name command
+name_of command role.Source = translated_name command
 
 -- the role of the file that a refusal speaks of, if it speaks of one
 abbrev pub role_of : Refusal → Option Role
@@ -59,6 +71,7 @@ role_of (refusal.Campaign _) = Some role.Campaign
 role_of (refusal.Trace n _) = Some (role.Trace n)
 role_of (refusal.Image n _) = Some (role.Image n)
 role_of refusal.NoRun = None
+role_of (refusal.Source _) = Some role.Source
 role_of refusal.Grid = None
 
 -- the name in the words of the file that an outcome speaks of, empty where there is none
@@ -127,6 +140,13 @@ image_note image_fault.Memory = codes ": no memory\n"
 image_note (image_fault.Line line) = codes ": line " ++ decimal line ++ codes "\n"
 image_note image_fault.Long = codes ": more than 1024 lines\n"
 
+-- what is said of a source's fault behind the file's name
+abbrev pub source_note : AsmFault → List ℕ
+source_note asm_fault.Memory = codes ": no memory\n"
+source_note (asm_fault.Line line) = codes ": line " ++ decimal line ++ codes "\n"
+source_note (asm_fault.Label line) = codes ": label in line " ++ decimal line ++ codes "\n"
+source_note asm_fault.Long = codes ": more than 1024 words\n"
+
 -- what is said of a campaign's fault behind the file's name
 abbrev pub campaign_note : CampaignFault → List ℕ
 campaign_note campaign_fault.Memory = codes ": no memory\n"
@@ -147,6 +167,7 @@ refusal_note (refusal.Campaign fault) file = file ++ campaign_note fault
 refusal_note (refusal.Trace _ fault) file = file ++ trace_note fault
 refusal_note (refusal.Image _ fault) file = file ++ image_note fault
 refusal_note refusal.NoRun file = codes "no such run\n"
+refusal_note (refusal.Source fault) file = file ++ source_note fault
 refusal_note refusal.Grid file = codes "grid too large\n"
 
 -- the line that notes an outcome, for a file of this name

@@ -10,7 +10,8 @@ use Rattle.eg_app.specs.declared.command.Command.TheVariants as parsed
 -- What can be asked for: to check the file of this name; the bounds; to run the campaign of this name; the
 -- record of its run of that name; or to sweep over all classes of faults with that run, at each `step`th tick.
 -- Each of these goes by the calibration in the file of the name behind `--cal`, or by the reference
--- calibration where there is none. Or so many runs that are drawn from a number.
+-- calibration where there is none. Or so many runs that are drawn from a number; or the image of a source, or
+-- the source of an image.
 pub data Command : Type 0 where
   check : (calibration : Option (List ℕ)) (file : List ℕ) → Command
   bound : (calibration : Option (List ℕ)) → Command
@@ -18,6 +19,8 @@ pub data Command : Type 0 where
   record_run : (calibration : Option (List ℕ)) (campaign : List ℕ) (name : List ℕ) → Command
   sweep : (calibration : Option (List ℕ)) (campaign : List ℕ) (name : List ℕ) (step : ℕ) → Command
   soak : (seed runs : ℕ) → Command
+  asm : (file : List ℕ) → Command
+  dis : (file : List ℕ) → Command
 
 -- what a command says, without where its text lies in memory
 abbrev pub said : Parsed → Command
@@ -28,6 +31,8 @@ said (parsed.Record calibration campaign name) = record_run (option_copied calib
 said (parsed.Sweep calibration campaign name step) =
     sweep (option_copied calibration) campaign.now name.now step
 said (parsed.Soak seed runs) = soak seed runs
+said (parsed.Asm file) = asm file.now
+said (parsed.Dis file) = dis file.now
 
 -- the bytes of the words
 abbrev pub words_of : List (String Global) → List (List ℕ)
@@ -118,9 +123,19 @@ abbrev pub calibrated_of : List (List ℕ) → Option Command
 calibrated_of words = if names_calibration words then form_of words (Some (word words 2)) 3
     else form_of words None 1
 
+-- the words are this one and the name of a file
+abbrev pub is_on_file : List ℕ → List (List ℕ) → Bool
+is_on_file command words = (length words == 2) && bytes_eq (word words 0) command && is_name (word words 1)
+
+-- what they ask for, where the first is `asm` or `dis`, or another that takes a calibration
+abbrev pub of_file : List (List ℕ) → Option Command
+of_file words = if is_on_file (codes "asm") words then Some (asm (word words 1))
+    else if is_on_file (codes "dis") words then Some (dis (word words 1))
+    else calibrated_of words
+
 -- what the words ask for, or none where they have no form of a command
 abbrev pub command_of : List (List ℕ) → Option Command
-command_of words = if is_soak words then soak_form words else calibrated_of words
+command_of words = if is_soak words then soak_form words else of_file words
 
 -- the numbers that a command asks for are within their limits
 abbrev pub KeepsLimits : Command → Type 0

@@ -17,6 +17,7 @@ use crate::soak::play_drawn;
 use eg_base::{Sink, Store};
 use eg_outcome::Outcome;
 use eg_play::End;
+use eg_source::{asm, dis};
 use eg_tick::Ticks;
 use std::alloc::Global;
 
@@ -139,6 +140,8 @@ fn work<S: Store, K: Sink>(
             name,
             step,
         } => play_sweep(alloc, calibration, campaign, name, step, store, out, steps),
+        Command::Asm { file } => end_of(asm(alloc, file, store, out)),
+        Command::Dis { file } => end_of(dis(alloc, file, store, out)),
         Command::Soak { seed, runs } => end_of(play_drawn(alloc, seed, runs, out, steps)),
     }
 }

@@ -1,8 +1,8 @@
 // The words of the command line.
 ghost use Rattle.std.specs.Prelude.{◌≡◌, ◌≤◌, ◌+◌, [], Some, length, option_map, unwrap_or, slice_index_or, IfSome};
 ghost use Rattle.std.specs.Option.{option_copied};
-ghost use Rattle.eg_app.specs.Notes.{calibration_name, check_name, campaign_name, name_of, role_of, file_role, name_in_words};
-ghost use Rattle.eg_app.specs.Words.{words_of, is_name, names_calibration, is_check, is_bound, is_run, is_record, is_sweep, step_in, word, sweep, form_of, is_soak, soak_form, calibrated_of, command_of, said, KeepsLimits};
+ghost use Rattle.eg_app.specs.Notes.{calibration_name, check_name, campaign_name, translated_name, name_of, role_of, file_role, name_in_words};
+ghost use Rattle.eg_app.specs.Words.{words_of, is_name, names_calibration, is_check, is_bound, is_run, is_record, is_sweep, step_in, word, sweep, is_on_file, of_file, form_of, is_soak, soak_form, calibrated_of, command_of, said, KeepsLimits};
 
 use crate::number::number_in;
 use eg_outcome::{Outcome, Refusal, Role};
@@ -38,6 +38,14 @@ pub(crate) enum Command<'a> {
         name: &'a str,
         step: u32,
     },
+    /// `asm FILE`.
+    Asm {
+        file: &'a str,
+    },
+    /// `dis FILE`.
+    Dis {
+        file: &'a str,
+    },
     /// `soak SEED RUNS`: so many runs, 1 to 500, that are drawn from the seed.
     Soak {
         seed: u32,
@@ -54,10 +62,28 @@ impl<'a> Command<'a> {
         if is_soak(words) {
             return Command::of_soak(words);
         }
-        Command::of_calibrated(words)
+        Command::of_file(words)
     }
 
     /// What the words ask for, the first of which isn't `soak`.
+    fn of_file(words: &'a [String]) -> Option<Command<'a>>
+        ensures command { option_map said result ≡ of_file (words_of words.now) }
+        ensures limits { IfSome result (λ command. KeepsLimits (said command)) }
+    {
+        if is_on_file("asm", words) {
+            return Some(Command::Asm {
+                file: words[1].as_str(),
+            });
+        }
+        if is_on_file("dis", words) {
+            return Some(Command::Dis {
+                file: words[1].as_str(),
+            });
+        }
+        Command::of_calibrated(words)
+    }
+
+    /// What the words ask for, where the first may be one that takes a calibration.
     fn of_calibrated(words: &'a [String]) -> Option<Command<'a>>
         ensures command { option_map said result ≡ calibrated_of (words_of words.now) }
         ensures limits { IfSome result (λ command. KeepsLimits (said command)) }
@@ -160,7 +186,8 @@ impl<'a> Command<'a> {
             Role::Calibration => self.calibration().unwrap_or(""),
             Role::Check => self.check_file(),
             Role::Campaign => self.campaign(),
-            Role::Trace { .. } | Role::Image { .. } => "",
+            Role::Image { .. } | Role::Source => self.translated(),
+            Role::Trace { .. } => "",
         }
     }
 
@@ -174,7 +201,7 @@ impl<'a> Command<'a> {
             | Command::Run { calibration, .. }
             | Command::Record { calibration, .. }
             | Command::Sweep { calibration, .. } => calibration,
-            Command::Soak { .. } => None,
+            Command::Soak { .. } | Command::Asm { .. } | Command::Dis { .. } => None,
         }
     }
 
@@ -184,6 +211,16 @@ impl<'a> Command<'a> {
     {
         match self {
             Command::Check { file, .. } => file,
+            _ => "",
+        }
+    }
+
+    /// The name of the source or the image that is translated, or nothing.
+    fn translated(self) -> &'a str
+        ensures { result.now ≡ translated_name (said self.entry) }
+    {
+        match self {
+            Command::Asm { file } | Command::Dis { file } => file,
             _ => "",
         }
     }
@@ -223,6 +260,7 @@ fn role_of(refusal: &Refusal) -> Option<Role>
         Refusal::Campaign(_) => Some(Role::Campaign),
         Refusal::Trace { run, .. } => Some(Role::Trace { run: *run }),
         Refusal::Image { run, .. } => Some(Role::Image { run: *run }),
+        Refusal::Source(_) => Some(Role::Source),
         Refusal::NoRun | Refusal::Grid => None,
     }
 }
@@ -232,6 +270,13 @@ fn names_calibration(words: &[String]) -> bool
     ensures { result ≡ names_calibration (words_of words.now) }
 {
     words.len() >= 3 && words[1].as_str() == "--cal" && is_name(words[2].as_str())
+}
+
+/// Whether the words are this one and the name of a file.
+fn is_on_file(command: &str, words: &[String]) -> bool
+    ensures { result ≡ is_on_file command.now (words_of words.now) }
+{
+    words.len() == 2 && words[0].as_str() == command && is_name(words[1].as_str())
 }
 
 /// Whether the first word is `soak`.

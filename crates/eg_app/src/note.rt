@@ -1,9 +1,10 @@
 // The line that notes how a call ended.
 ghost use Rattle.std.specs.Prelude.{◌≡◌, ◌++◌, List, map, codes, decimal};
 ghost use Rattle.std.specs.List.{concat};
-ghost use Rattle.eg_app.specs.Notes.{PutsNote, note_of, refusal_note, calibration_note, trace_note, image_note, campaign_note};
+ghost use Rattle.eg_app.specs.Notes.{PutsNote, note_of, refusal_note, calibration_note, trace_note, image_note, source_note, campaign_note};
 ghost use Rattle.eg_outcome.specs.declared.outcome.Outcome.TheVariants.{Done};
 
+use eg_asm::AsmFault;
 use eg_base::Sink;
 use eg_cal::CalFault;
 use eg_input::{ImageFault, TraceFault};
@@ -39,6 +40,7 @@ fn note_refusal<N: Sink>(refusal: &Refusal, file: &[u8], notes: &mut N)
         Refusal::Trace { fault, .. } => note_trace(fault, file, notes),
         Refusal::Image { fault, .. } => note_image(fault, file, notes),
         Refusal::NoRun => put_pieces(notes, &[b"no such run\n"]),
+        Refusal::Source(fault) => note_source(fault, file, notes),
         Refusal::Grid => put_pieces(notes, &[b"grid too large\n"]),
     }
 }
@@ -96,6 +98,25 @@ fn note_image<N: Sink>(fault: &ImageFault, file: &[u8], notes: &mut N)
             put_pieces(notes, &[file, b": line ", line, b"\n"]);
         }
         ImageFault::Long => put_pieces(notes, &[file, b": more than 1024 lines\n"]),
+    }
+}
+
+fn note_source<N: Sink>(fault: &AsmFault, file: &[u8], notes: &mut N)
+    ensures { PutsNote (N.shows notes.old) (N.shows notes.new) (file.now ++ source_note fault.now) }
+{
+    match fault {
+        AsmFault::Memory => put_pieces(notes, &[file, b": no memory\n"]),
+        AsmFault::Line { line } => {
+            let mut buffer = Buffer::new();
+            let line = buffer.format(*line).as_bytes();
+            put_pieces(notes, &[file, b": line ", line, b"\n"]);
+        }
+        AsmFault::Label { line } => {
+            let mut buffer = Buffer::new();
+            let line = buffer.format(*line).as_bytes();
+            put_pieces(notes, &[file, b": label in line ", line, b"\n"]);
+        }
+        AsmFault::Long => put_pieces(notes, &[file, b": more than 1024 words\n"]),
     }
 }
 

@@ -3,6 +3,7 @@ use Rattle.std.specs.Prelude.{◌≡◌, ◌≢◌, ℕ, List, IsTrue, Result, O
 use Rattle.eg_base.specs.Outside.{ShownStore, ShownSink, Rose, Appends, AppendsPrefix}
 use Rattle.eg_input.specs.declared.fault.TraceFault.TheVariants as trace_fault
 use Rattle.eg_input.specs.declared.fault.ImageFault.TheVariants as image_fault
+use Rattle.eg_asm.specs.declared.fault.AsmFault.TheVariants as asm_fault
 use Rattle.eg_cal.specs.declared.key.CalFault.TheVariants as cal_fault
 use Rattle.eg_plan.specs.declared.key.CampaignFault.TheVariants as campaign_fault
 use Rattle.eg_outcome.specs.declared.outcome.Outcome.{Outcome}
@@ -36,6 +37,7 @@ TellsNoMemory (outcome.Refused (refusal.Check trace_fault.Memory)) = ⊥
 TellsNoMemory (outcome.Refused (refusal.Campaign campaign_fault.Memory)) = ⊥
 TellsNoMemory (outcome.Refused (refusal.Trace run trace_fault.Memory)) = ⊥
 TellsNoMemory (outcome.Refused (refusal.Image run image_fault.Memory)) = ⊥
+TellsNoMemory (outcome.Refused (refusal.Source asm_fault.Memory)) = ⊥
 TellsNoMemory _ = Unit {0}
 
 -- the work was done, or memory ran out

@@ -2,6 +2,7 @@
 ghost use Rattle.std.specs.Prelude.{◌≡◌};
 ghost use Rattle.eg_outcome.specs.Status.{status_of};
 
+use eg_asm::AsmFault;
 use eg_cal::CalFault;
 use eg_input::{ImageFault, TraceFault};
 use eg_plan::CampaignFault;
@@ -17,8 +18,10 @@ pub enum Role {
     Campaign,
     /// The drive trace of a run of the campaign, the first being 1.
     Trace { run: u32 },
-    /// The image of a run of the campaign, the first being 1.
+    /// The image of a run of the campaign, the first being 1; that of `dis` has the number 0.
     Image { run: u32 },
+    /// The source of `asm`.
+    Source,
 }
 
 /// Why a file was refused: the first rule that it breaks, in the order of docs/FORMATS.md; or why a run or a
@@ -39,6 +42,8 @@ pub enum Refusal {
     Image { run: u32, fault: ImageFault },
     /// The campaign has no run of that name.
     NoRun,
+    /// The lines of a source. Out of memory never stands here.
+    Source(AsmFault),
     /// A sweep would have more than 1,000 runs, or its runs more than 1,000,000 ticks in all.
     Grid,
 }

@@ -102,6 +102,7 @@ named before plan rest plans n file parts is of = go file of
     go (Some role.Calibration) of = refl
     go (Some role.Check) of = refl
     go (Some role.Campaign) of = refl
+    go (Some role.Source) of = refl
     go (Some (role.Trace run)) of = sym (ap (λ found. option_map (λ (p : RunPlan). p.trace) found) (here run of))
     go (Some (role.Image run)) of = sym (ap (λ found. option_map (λ (p : RunPlan). p.image) found) (here run of))
 

@@ -71,6 +71,7 @@ by_plan plan None = refl
 by_plan plan (Some role.Calibration) = refl
 by_plan plan (Some role.Check) = refl
 by_plan plan (Some role.Campaign) = refl
+by_plan plan (Some role.Source) = refl
 by_plan plan (Some (role.Trace n)) = refl
 by_plan plan (Some (role.Image n)) = refl
 
@@ -81,6 +82,7 @@ names-file campaign store plans None name (bytes, read, says) is some = some
 names-file campaign store plans (Some role.Calibration) name (bytes, read, says) is some = some
 names-file campaign store plans (Some role.Check) name (bytes, read, says) is some = some
 names-file campaign store plans (Some role.Campaign) name (bytes, read, says) is some = some
+names-file campaign store plans (Some role.Source) name (bytes, read, says) is some = some
 names-file campaign store plans (Some (role.Trace n)) name (bytes, read, says) is some = (bytes, read, plans, says, some, is)
 names-file campaign store plans (Some (role.Image n)) name (bytes, read, says) is some = (bytes, read, plans, says, some, is)
 

@@ -1,0 +1,3 @@
+pub mod Ends
+pub use Rattle.eg_base.specs.Outside
+pub use Rattle.eg_outcome.specs.Outcomes

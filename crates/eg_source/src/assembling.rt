@@ -1,0 +1,75 @@
+// `asm FILE`: the image of a source.
+ghost use Rattle.std.specs.Prelude.{◌≡◌, ◌↔◌, ◌≤◌, length, IsTrue};
+ghost use Rattle.eg_base.specs.Outside.{IsMissing};
+ghost use Rattle.eg_asm.specs.Listings.{image_text};
+ghost use Rattle.eg_outcome.specs.Outcomes.{LineEnds, TellsNoMemory, PutsNothing};
+ghost use Rattle.eg_outcome.specs.Reads.{KeepsFiles, ReadsFile, Says};
+ghost use Rattle.eg_outcome.specs.declared.outcome.Outcome.TheVariants.{ReadFault};
+ghost use Rattle.eg_outcome.specs.declared.outcome.Role.TheVariants as role;
+ghost use Rattle.eg_source.specs.Ends.{AsmEnds, source_or_refusal, source_file, source_end};
+
+use eg_asm::{AsmFault, assemble, image_text};
+use eg_base::{Items, Sink, Store};
+use eg_outcome::{Outcome, Refusal, Role, file_bytes, put_text};
+use std::alloc::Global;
+
+/// Does `asm FILE`, but for its note (docs/FORMATS.md, "Commands"): reads a source, and writes its image, a line
+/// for each word.
+pub fn asm<S: Store, K: Sink>(alloc: Global, file: &str, store: &mut S, out: &mut K) -> Outcome
+    ensures ends { AsmEnds file.now (S.shows store.old) (S.shows store.new) (K.shows out.old) (K.shows out.new)
+        result }
+    // Over a sure store a fault of reading is told exactly where there is no such file.
+    ensures missing { IsTrue (S.shows store.old).sure →
+        ((result ≡ ReadFault role.Source) ↔ IsMissing (S.shows store.old).files file.now) }
+    ensures no_memory { TellsNoMemory result }
+    ensures files { (S.shows store.new).files ≡ (S.shows store.old).files }
+    ensures nothing_put { PutsNothing result → out.new ≡ out.old }
+{
+    match words_of(alloc, file, store) {
+        Ok(words) => put_image(alloc, words.as_slice(), out),
+        Err(outcome) => outcome,
+    }
+}
+
+/// The words of the source of that name, or how the call ends without them.
+fn words_of<S: Store>(alloc: Global, file: &str, store: &mut S) -> Result<Items<u16>, Outcome>
+    ensures reads { ReadsFile role.Source source_file file.now (S.shows store.old) (S.shows store.new) result }
+    ensures keeps { KeepsFiles (S.shows store.old) (S.shows store.new) result }
+{
+    match file_bytes(alloc, Role::Source, file, store) {
+        Ok(bytes) => words_in(alloc, bytes.as_slice()),
+        Err(end) => Err(end),
+    }
+}
+
+/// The words that these bytes of a source say, or how the call ends without them.
+fn words_in(alloc: Global, bytes: &[u8]) -> Result<Items<u16>, Outcome>
+    requires { length bytes.now ≤ 4194304 }
+    ensures { Says source_or_refusal bytes.now result }
+{
+    match assemble(alloc, bytes) {
+        Ok(words) => Ok(Items::new(words)),
+        Err(fault) => Err(end_of(fault)),
+    }
+}
+
+/// How a call ends with this fault of a source.
+fn end_of(fault: AsmFault) -> Outcome
+    ensures { result ≡ source_end fault }
+{
+    match fault {
+        AsmFault::Memory => Outcome::Memory,
+        fault => Outcome::Refused(Refusal::Source(fault)),
+    }
+}
+
+/// Puts the image of these words.
+fn put_image<K: Sink>(alloc: Global, words: &[u16], out: &mut K) -> Outcome
+    ensures ends { LineEnds (image_text words.now) (K.shows out.old) (K.shows out.new) result }
+    ensures put { PutsNothing result → ⊥ }
+{
+    let Ok(text) = image_text(alloc, words) else {
+        return Outcome::Memory;
+    };
+    put_text(&text, out)
+}
