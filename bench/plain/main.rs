@@ -4,7 +4,7 @@
 //! the words and files that `egasim` takes, and writes what it writes; notes it has none. It was written from docs/
 //! and is measured beside the proved program by `bench/unit` and `bench/all`. Nothing of it is proved.
 //! Usage: check [--cal NAME] FILE, bound [--cal NAME], run [--cal NAME] CAMPAIGN,
-//! record [--cal NAME] CAMPAIGN RUN, sweep [--cal NAME] CAMPAIGN RUN STEP, soak SEED RUNS
+//! record [--cal NAME] CAMPAIGN RUN, sweep [--cal NAME] CAMPAIGN RUN STEP, soak SEED RUNS, asm FILE, dis FILE
 
 mod calibration;
 mod calibration_file;
@@ -20,6 +20,7 @@ mod quotes;
 mod record;
 mod report;
 mod soak;
+mod source;
 mod sweep;
 mod toml;
 mod unit;
@@ -91,8 +92,8 @@ fn drives(plan: &Plan) -> Result<Vec<Drive>, End> {
     files::trace(&files::records(&plan.trace)?).ok_or(End::Refused)
 }
 
-fn image(plan: &Plan) -> Result<Vec<u16>, End> {
-    files::image(&files::bytes(&plan.image)?).ok_or(End::Refused)
+fn image(file: &str) -> Result<Vec<u16>, End> {
+    files::image(&files::bytes(file)?).ok_or(End::Refused)
 }
 
 fn run_of<'a>(plan: &'a Plan, drives: &'a [Drive], image: &'a [u16]) -> Run<'a> {
@@ -112,7 +113,7 @@ fn run(cal: &Calibration, file: &str, out: &mut Output) -> Result<(), End> {
         if ticks > MOST_TICKS {
             return Err(End::Refused);
         }
-        let image = image(plan)?;
+        let image = image(&plan.image)?;
         let summary = report::summary(cal, &run_of(plan, &drives, &image));
         detected += u32::from(summary.first.is_some());
         off += u32::from(summary.off.is_some());
@@ -125,7 +126,7 @@ fn run(cal: &Calibration, file: &str, out: &mut Output) -> Result<(), End> {
 /// The run of that name of a campaign, with its drive and its image.
 fn loaded(file: &str, name: &str) -> Result<(Plan, Vec<Drive>, Vec<u16>), End> {
     let plan = campaign(file)?.into_iter().find(|plan| plan.name == name).ok_or(End::Refused)?;
-    let (drives, image) = (drives(&plan)?, image(&plan)?);
+    let (drives, image) = (drives(&plan)?, image(&plan.image)?);
     Ok((plan, drives, image))
 }
 
@@ -154,6 +155,18 @@ fn sweep(cal: &Calibration, file: &str, name: &str, step: u32, out: &mut Output)
     let (plan, drives, image) = loaded(file, name)?;
     let lines = sweep::sweep(cal, &run_of(&plan, &drives, &image), step).ok_or(End::Refused)?;
     Ok(lines.iter().try_for_each(|line| put(line.as_bytes(), out))?)
+}
+
+/// The image of a source.
+fn asm(file: &str, out: &mut Output) -> Result<(), End> {
+    let words = source::assemble(&files::bytes(file)?).ok_or(End::Refused)?;
+    Ok(words.iter().try_for_each(|word| put(format!("{word:04x}\n").as_bytes(), out))?)
+}
+
+/// The source of an image.
+fn dis(file: &str, out: &mut Output) -> Result<(), End> {
+    let words = image(file)?;
+    Ok(words.iter().try_for_each(|word| put(source::line(*word).as_bytes(), out))?)
 }
 
 /// A word of at most so many digits.
@@ -201,6 +214,8 @@ fn command(words: &[&str]) -> Result<(), End> {
             sweep(&calibration(name)?, file, run, step, out)
         }
         (["soak", seed, runs], None) => soak(&calibration(None)?, seed, runs, out),
+        (["asm", file], None) => asm(file, out),
+        (["dis", file], None) => dis(file, out),
         _ => Err(End::Usage),
     }?;
     Ok(out.flush()?)
