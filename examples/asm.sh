@@ -1,0 +1,1 @@
+./egasim asm examples/full.asm

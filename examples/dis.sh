@@ -1,0 +1,1 @@
+./egasim dis examples/full.hex
