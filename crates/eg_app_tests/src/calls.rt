@@ -28,6 +28,9 @@ const TRACE: &str = "pedal,speed,raise\n0,800,0\n0,800,0\n0,800,0\n0,800,0\n";
 /// throttle.
 const PROBE: &str = "1210\n2220\n1a10\n2a10\nb442\nf000\nb642\n58d0\nc940\nf000\nd1f9\n";
 
+/// A source of an image of two words.
+const LOOP: &str = "loop:\nwait\njz r0,loop\n";
+
 /// A calibration with two equal questions.
 const CALIBRATION: &str = "version = 1
 permit = { pedal = [0, 500, 1000], speed = [800, 6000], table = [[200, 0], [1000, 900], [2000, 1800]], \
@@ -67,6 +70,7 @@ pub(crate) fn store(alloc: Global) -> Result<MemoryStore, Fail> {
     store.add("c.toml", CAMPAIGN.as_bytes())?;
     store.add("idle.csv", TRACE.as_bytes())?;
     store.add("probe.hex", PROBE.as_bytes())?;
+    store.add("loop.asm", LOOP.as_bytes())?;
     store.add("cal.toml", CALIBRATION.as_bytes())?;
     Ok(store)
 }

@@ -5,7 +5,7 @@ use eg_input::TraceFault;
 use std::test::Fail;
 
 /// Words, and the files that a call with them reads, in their order.
-const READS: [(&str, &[Role]); 6] = [
+const READS: [(&str, &[Role]); 8] = [
     (
         "check --cal cal.toml in.csv",
         &[Role::Calibration, Role::Check],
@@ -32,10 +32,6 @@ const READS: [(&str, &[Role]); 6] = [
         ],
     ),
     (
-        "sweep c.toml a 4",
-        &[(0, 56), (3, 392), (13, 1529), (14, 1596), (15, 1608)],
-    ),
-    (
         "sweep --cal cal.toml c.toml b 4",
         &[
             Role::Calibration,
@@ -44,6 +40,8 @@ const READS: [(&str, &[Role]); 6] = [
             Role::Image { run: 2 },
         ],
     ),
+    ("asm loop.asm", &[Role::Source]),
+    ("dis probe.hex", &[Role::Image { run: 0 }]),
     ("soak 1 1", &[]),
 ];
 
@@ -92,7 +90,7 @@ fn a_record_is_written_as_its_ticks_are_made(rt: HostRuntime) -> Result<(), Fail
 }
 
 /// Words, and how many bytes stand where the put of a number fails: the lines before, and half of the next.
-const PUTS: [(&str, &[(u32, usize)]); 6] = [
+const PUTS: [(&str, &[(u32, usize)]); 8] = [
     ("check in.csv", &[(0, 2), (1, 5)]),
     ("bound", &[(0, 6), (1, 16), (2, 21)]),
     ("run c.toml", &[(0, 29), (1, 88), (2, 131), (3, 144)]),
@@ -101,6 +99,8 @@ const PUTS: [(&str, &[(u32, usize)]); 6] = [
         "sweep c.toml a 4",
         &[(0, 56), (3, 392), (13, 1529), (14, 1596), (15, 1608)],
     ),
+    ("asm loop.asm", &[(0, 2), (1, 7), (2, 10)]),
+    ("dis probe.hex", &[(0, 5), (1, 15), (11, 105)]),
     ("soak 1 1", &[(0, 3), (3, 27), (11, 94), (12, 99)]),
 ];
 
