@@ -3,102 +3,152 @@
 use std::str;
 
 use crate::calibration::{Calibration, Permit, Table, TestRow, Times, Weights, row};
-use crate::keys::{Keys, numbers, tables};
+use crate::keys::{Key, Keys, numbers, tables};
 use crate::toml::{self, Value};
 
-/// The calibration of a file, or None where it is refused.
-pub fn calibration(bytes: &[u8]) -> Option<Calibration> {
-    let mut keys = Keys { table: toml::document(str::from_utf8(bytes).ok()?)? };
-    let version = keys.number("version", 1..=2)?;
-    let (permit, threshold, brake) = keys.keys("permit")?.permit(version)?;
-    let (kt, torque) = keys.keys("torque")?.torque()?;
-    let (tolerances, pairs) = keys.keys("pairs")?.pairs()?;
-    let (slew, fill, charge) = keys.keys("plant")?.plant()?;
-    let times = keys.keys("answers")?.times()?;
-    let rows: Vec<(TestRow, u16)> = tables(keys.take("question")?)?
-        .into_iter()
-        .map(|table| Keys { table }.question())
-        .collect::<Option<_>>()?;
-    keys.end()?;
-    let questions = Vec::new();
+/// What the note says of a refused calibration behind the file's name.
+type Refusal = String;
+
+/// Why a part of a calibration is refused: by a key of its table, or by an axis that doesn't rise.
+enum Fault {
+    Key(Key),
+    Axis(Key),
+}
+
+impl From<Key> for Fault {
+    fn from(key: Key) -> Fault {
+        Fault::Key(key)
+    }
+}
+
+impl Fault {
+    /// The refusal, of a part of that name.
+    fn of(self, part: &str) -> Refusal {
+        match self {
+            Fault::Key(name) => format!("key {part}.{name}"),
+            Fault::Axis(name) => format!("axis {part}.{name}"),
+        }
+    }
+}
+
+/// The axes, rows and so on of `permit`.
+struct PermitPart {
+    pedal: Vec<u16>,
+    speed: Vec<u16>,
+    torques: Vec<Vec<u16>>,
+    threshold: u16,
+    brake: bool,
+}
+
+/// The calibration of a file.
+pub fn calibration(bytes: &[u8]) -> Result<Calibration, Refusal> {
+    let table = str::from_utf8(bytes).ok().and_then(toml::document).ok_or("not TOML")?;
+    let mut keys = Keys { table };
+    let version = keys.number("version", 1..=2).map_err(|name| format!("key {name}"))?;
+    let (mut permit, mut torque) = (keys.keys("permit"), keys.keys("torque"));
+    let (mut pairs, mut plant, mut answers) = (keys.keys("pairs"), keys.keys("plant"), keys.keys("answers"));
+    let parted = permit.permit(version).map_err(|fault| fault.of("permit"))?;
+    let (kt, torque_weights) = torque.torque().map_err(|name| format!("key torque.{name}"))?;
+    let (tolerances, pair_weights) = pairs.pairs().map_err(|name| format!("key pairs.{name}"))?;
+    let (slew, fill, charge) = plant.plant().map_err(|fault| fault.of("plant"))?;
+    let times = answers.times().map_err(|name| format!("key answers.{name}"))?;
+    let rows = keys.take("question", questions).map_err(|name| format!("key {name}"))?;
+    if [keys, permit, torque, pairs, plant, answers].iter().any(|keys| keys.end().is_err()) {
+        return Err("key unknown".to_string());
+    }
+    if let Some(place) = parted.falling_row() {
+        return Err(format!("row {place} falls"));
+    }
+    if !(times.first <= times.send && times.send <= times.last && times.last < times.period) {
+        return Err("answer window".to_string());
+    }
     let parts = Calibration {
-        permit,
-        threshold,
-        brake,
+        permit: Permit::new(parted.pedal, parted.speed, &parted.torques),
+        threshold: parted.threshold,
+        brake: parted.brake,
         kt,
-        torque,
+        torque: torque_weights,
         tolerances,
-        pairs,
+        pairs: pair_weights,
         slew,
         fill,
         charge,
         times,
-        questions,
+        questions: Vec::new(),
     };
     answered(parts, &rows)
 }
 
-/// The calibration with these questions, or None where they aren't 2 to 64 or an answer is wrong.
-fn answered(mut parts: Calibration, rows: &[(TestRow, u16)]) -> Option<Calibration> {
+/// The calibration with these questions, whose answers are to be right.
+fn answered(mut parts: Calibration, rows: &[(TestRow, u16)]) -> Result<Calibration, Refusal> {
     parts.questions = rows.iter().map(|(row, _)| parts.question(row)).collect();
-    let right = parts.questions.iter().zip(rows).all(|(question, (_, answer))| question.answer == *answer);
-    ((2..=64).contains(&rows.len()) && right).then_some(parts)
+    let wrong =
+        parts.questions.iter().zip(rows).position(|(question, (_, answer))| question.answer != *answer);
+    match wrong {
+        Some(place) => Err(format!("answer {place}")),
+        None => Ok(parts),
+    }
+}
+
+impl PermitPart {
+    /// The first row with a value below the row before it.
+    fn falling_row(&self) -> Option<usize> {
+        let falls = |rows: &[Vec<u16>]| rows[0].iter().zip(&rows[1]).any(|(before, value)| value < before);
+        self.torques.windows(2).position(falls).map(|place| place + 1)
+    }
+}
+
+/// 2 to 64 questions: each a test row and its answer.
+fn questions(value: Value) -> Option<Vec<(TestRow, u16)>> {
+    let rows: Vec<(TestRow, u16)> =
+        tables(value)?.into_iter().map(|table| Keys { table }.question().ok()).collect::<Option<_>>()?;
+    (2..=64).contains(&rows.len()).then_some(rows)
 }
 
 impl Keys {
-    /// The permit table, the threshold, and whether the brake counts, which version 1 doesn't say.
-    fn permit(mut self, version: i64) -> Option<(Permit, u16, bool)> {
+    /// In version 1 there is no brake.
+    fn permit(&mut self, version: i64) -> Result<PermitPart, Fault> {
         let (pedal, speed) = (self.axis("pedal", 1000)?, self.axis("speed", 8000)?);
         let columns = speed.len();
         let row = |value: &Value| numbers(value, columns..=columns, 10_000);
         let torques = self.list("table", pedal.len()..=pedal.len(), row)?;
         let threshold = self.word("threshold", 0..=10_000)?;
         let brake = version == 2 && self.truth("brake")?;
-        self.end()?;
-        let rises = torques.is_sorted_by(|row, next| row.iter().zip(next).all(|(low, high)| low <= high));
-        rises.then(|| (Permit::new(pedal, speed, &torques), threshold, brake))
+        Ok(PermitPart { pedal, speed, torques, threshold, brake })
     }
 
-    fn torque(mut self) -> Option<(u16, Weights)> {
-        let torque = (self.word("kt", 1..=10_000)?, self.weights()?);
-        self.end()?;
-        Some(torque)
+    fn torque(&mut self) -> Result<(u16, Weights), Key> {
+        Ok((self.word("kt", 1..=10_000)?, self.weights()?))
     }
 
-    fn pairs(mut self) -> Option<([u16; 4], Weights)> {
+    fn pairs(&mut self) -> Result<([u16; 4], Weights), Key> {
         let mut tolerances = [0; 4];
         for (tolerance, name) in tolerances.iter_mut().zip(["pedal", "plate", "load", "speed"]) {
             *tolerance = self.word(name, 0..=10_000)?;
         }
-        let weights = self.weights()?;
-        self.end()?;
-        Some((tolerances, weights))
+        Ok((tolerances, self.weights()?))
     }
 
     /// The slew, the fill, and the charge of each plate angle.
-    fn plant(mut self) -> Option<(u16, u16, Table)> {
+    fn plant(&mut self) -> Result<(u16, u16, Table), Fault> {
         let (slew, fill) = (self.word("slew", 1..=1000)?, self.word("fill", 1..=1000)?);
         let points = self.axis("angle", 1000)?;
         let values = self.numbers("charge", points.len()..=points.len(), 1000)?;
-        self.end()?;
-        Some((slew, fill, Table { points, values }))
+        Ok((slew, fill, Table { points, values }))
     }
 
-    fn times(mut self) -> Option<Times> {
-        let times = Times {
+    fn times(&mut self) -> Result<Times, Key> {
+        Ok(Times {
             period: self.number("period", 2..=100)? as u32,
             first: self.number("first", 0..=99)? as u32,
             last: self.number("last", 0..=99)? as u32,
             send: self.number("send", 0..=99)? as u32,
             weights: self.weights()?,
-        };
-        self.end()?;
-        let Times { period, first, last, send, .. } = times;
-        (first <= send && send <= last && last < period).then_some(times)
+        })
     }
 
-    fn weights(&mut self) -> Option<Weights> {
-        Some(Weights {
+    fn weights(&mut self) -> Result<Weights, Key> {
+        Ok(Weights {
             up: self.word("up", 1..=100)?,
             down: self.word("down", 0..=100)?,
             limit: self.word("limit", 1..=10_000)?,
@@ -106,27 +156,27 @@ impl Keys {
     }
 
     /// A test row and its answer.
-    fn question(mut self) -> Option<(TestRow, u16)> {
+    fn question(mut self) -> Result<(TestRow, u16), Key> {
         let seed = self.number_of("seed")?;
         let pairs = [self.pair("pedal")?, self.pair("plate")?, self.pair("load")?, self.pair("speed")?];
         let raise = [self.number_of("raise")?, self.number_of("check")?];
         let test = [self.number_of("used")?, self.number_of("estimate")?, self.number_of("allowed")?];
         let answer = self.number_of("answer")?;
         self.end()?;
-        Some((row(seed, pairs, raise, test), answer))
+        Ok((row(seed, pairs, raise, test), answer))
     }
 
-    fn number_of(&mut self, name: &str) -> Option<u16> {
+    fn number_of(&mut self, name: Key) -> Result<u16, Key> {
         self.word(name, 0..=65535)
     }
 
-    fn pair(&mut self, name: &str) -> Option<[u16; 2]> {
-        self.numbers(name, 2..=2, 65535)?.try_into().ok()
+    fn pair(&mut self, name: Key) -> Result<[u16; 2], Key> {
+        self.take(name, |value| numbers(&value, 2..=2, 65535)?.try_into().ok())
     }
 
     /// 2 to 16 strictly rising numbers.
-    fn axis(&mut self, name: &str, most: u16) -> Option<Vec<u16>> {
+    fn axis(&mut self, name: Key, most: u16) -> Result<Vec<u16>, Fault> {
         let points = self.numbers(name, 2..=16, most)?;
-        points.is_sorted_by(|point, next| point < next).then_some(points)
+        if points.is_sorted_by(|point, next| point < next) { Ok(points) } else { Err(Fault::Axis(name)) }
     }
 }

@@ -1,43 +1,46 @@
 //! Check files, traces and images.
 
-use std::fs;
+use std::fs::File;
+use std::io::Read;
 
 use crate::End;
 use crate::calibration::Drive;
-use crate::quotes;
+use crate::records::Records;
 
 const MOST_BYTES: usize = 4_194_304;
 const MOST_ROWS: usize = 20_000;
 const MOST_WORDS: usize = 1024;
 
+/// What the note says of a refused file behind its name.
+type Refusal = String;
+
+/// The bytes of a file, of which no more than one too many are read.
 pub fn bytes(name: &str) -> Result<Vec<u8>, End> {
-    let bytes = fs::read(name).map_err(|_| End::Read)?;
-    if bytes.len() > MOST_BYTES { Err(End::Refused) } else { Ok(bytes) }
-}
-
-/// A file of records without its byte order mark and without the quotes around fields.
-pub fn records(name: &str) -> Result<Vec<u8>, End> {
-    let mut bytes = bytes(name)?;
-    if bytes.starts_with(b"\xef\xbb\xbf") {
-        bytes.drain(..3);
+    let fault = |_| End::Read(name.to_string());
+    let file = File::open(name).map_err(fault)?;
+    let length = file.metadata().map_or(0, |data| data.len() as usize);
+    let mut bytes = Vec::with_capacity(length.min(MOST_BYTES) + 1);
+    file.take(MOST_BYTES as u64 + 1).read_to_end(&mut bytes).map_err(fault)?;
+    if bytes.len() > MOST_BYTES {
+        return Err(End::Refused(format!("{name}: longer than {MOST_BYTES} bytes")));
     }
-    Ok(if bytes.contains(&b'"') { quotes::taken_off(&bytes) } else { bytes })
+    Ok(bytes)
 }
 
-/// The rest of a file of records of numbers.
-struct Records<'a> {
+/// The rest of a file of plain records: of digits, commas and ends of lines alone.
+struct Plain<'a> {
     rest: &'a [u8],
     rows: usize,
 }
 
-impl<'a> Records<'a> {
+impl<'a> Plain<'a> {
     /// The records below a header.
-    fn below(rest: &'a [u8], header: &str) -> Option<Records<'a>> {
-        let mut records = Records { rest, rows: 0 };
-        records.skip_ends();
-        records.rest = records.rest.strip_prefix(header.as_bytes())?;
-        records.end()?;
-        Some(records)
+    fn below(bytes: &'a [u8], header: &str) -> Option<Plain<'a>> {
+        let mut plain = Plain { rest: bytes, rows: 0 };
+        plain.skip_ends();
+        plain.rest = plain.rest.strip_prefix(header.as_bytes())?;
+        plain.end()?;
+        Some(plain)
     }
 
     fn skip_ends(&mut self) {
@@ -100,6 +103,13 @@ impl<'a> Records<'a> {
         Some(Drive { reset: self.truth()?, ..drive })
     }
 
+    #[inline(always)]
+    fn drive_with_brake(&mut self) -> Option<Drive> {
+        let drive = self.drive_with_reset()?;
+        self.comma()?;
+        Some(Drive { brake: self.truth()?, ..drive })
+    }
+
     /// A field that tells whether something is so.
     #[inline(always)]
     fn truth(&mut self) -> Option<bool> {
@@ -114,46 +124,114 @@ impl<'a> Records<'a> {
     }
 }
 
+const RESET_HEADER: &str = "pedal,speed,raise,reset";
+const BRAKE_HEADER: &str = "pedal,speed,raise,reset,brake";
+const DRIVE_HEADER: &str = "pedal,speed,raise";
+const CHECK_HEADER: &str = "pedal,speed,raise,torque";
+
 /// The rows of a trace.
-pub fn trace(bytes: &[u8]) -> Option<Vec<Drive>> {
-    if let Some(records) = Records::below(bytes, "pedal,speed,raise,reset,brake") {
-        return rows(records, bytes.len() / 10, |records| {
-            let drive = records.drive_with_reset()?;
-            records.comma()?;
-            Some(Drive { brake: records.truth()?, ..drive })
-        });
+pub fn trace(bytes: &[u8]) -> Result<Vec<Drive>, Refusal> {
+    plain_trace(bytes).map_or_else(|| any_trace(bytes), Ok)
+}
+
+/// The rows of a trace of plain records, where it is a good one.
+fn plain_trace(bytes: &[u8]) -> Option<Vec<Drive>> {
+    if let Some(plain) = Plain::below(bytes, BRAKE_HEADER) {
+        return plain_rows(plain, bytes.len() / 10, Plain::drive_with_brake);
     }
-    match Records::below(bytes, "pedal,speed,raise,reset") {
-        Some(records) => rows(records, bytes.len() / 8, Records::drive_with_reset),
-        None => rows(Records::below(bytes, "pedal,speed,raise")?, bytes.len() / 6, Records::drive),
+    match Plain::below(bytes, RESET_HEADER) {
+        Some(plain) => plain_rows(plain, bytes.len() / 8, Plain::drive_with_reset),
+        None => plain_rows(Plain::below(bytes, DRIVE_HEADER)?, bytes.len() / 6, Plain::drive),
     }
 }
 
 /// The rows of these records, of which there are at most so many.
 #[inline(always)]
-fn rows<'a>(
-    mut records: Records<'a>,
+fn plain_rows<'a>(
+    mut plain: Plain<'a>,
     most: usize,
-    row: impl Fn(&mut Records<'a>) -> Option<Drive>,
+    row: impl Fn(&mut Plain<'a>) -> Option<Drive>,
 ) -> Option<Vec<Drive>> {
     let mut drives = Vec::with_capacity(MOST_ROWS.min(most));
-    while !records.rest.is_empty() {
-        drives.push(row(&mut records)?);
-        records.end()?;
+    while !plain.rest.is_empty() {
+        drives.push(row(&mut plain)?);
+        plain.end()?;
     }
-    records.counted().then_some(drives)
+    plain.counted().then_some(drives)
 }
 
-/// Shows each row of a check file with its torque.
-pub fn check(bytes: &[u8], mut show: impl FnMut(&Drive, u16)) -> Option<()> {
-    let mut records = Records::below(bytes, "pedal,speed,raise,torque")?;
-    while !records.rest.is_empty() {
-        let drive = records.drive()?;
-        records.comma()?;
-        show(&drive, records.number(65535)?);
-        records.end()?;
+/// The rows of any trace, or why it is refused.
+fn any_trace(bytes: &[u8]) -> Result<Vec<Drive>, Refusal> {
+    rows(bytes, &[DRIVE_HEADER, RESET_HEADER, BRAKE_HEADER], |fields| {
+        let drive = drive(fields)?;
+        let truth = |place: usize| fields.get(place).map_or(Some(false), |field| truth(field));
+        Some(Drive { reset: truth(3)?, brake: truth(4)?, ..drive })
+    })
+}
+
+/// What the rows of a check file, each with its torque, add up to.
+pub fn check<T: Default>(bytes: &[u8], add: impl Fn(&mut T, &Drive, u16)) -> Result<T, Refusal> {
+    plain_check(bytes, &add).map_or_else(|| any_check(bytes, &add), Ok)
+}
+
+#[inline(always)]
+fn plain_check<T: Default>(bytes: &[u8], add: &impl Fn(&mut T, &Drive, u16)) -> Option<T> {
+    let mut plain = Plain::below(bytes, CHECK_HEADER)?;
+    let mut sum = T::default();
+    while !plain.rest.is_empty() {
+        let drive = plain.drive()?;
+        plain.comma()?;
+        add(&mut sum, &drive, plain.number(65535)?);
+        plain.end()?;
     }
-    records.counted().then_some(())
+    plain.counted().then_some(sum)
+}
+
+fn any_check<T: Default>(bytes: &[u8], add: &impl Fn(&mut T, &Drive, u16)) -> Result<T, Refusal> {
+    let rows = rows(bytes, &[CHECK_HEADER], |fields| Some((drive(fields)?, number(&fields[3], 65535)?)))?;
+    let mut sum = T::default();
+    rows.iter().for_each(|(drive, torque)| add(&mut sum, drive, *torque));
+    Ok(sum)
+}
+
+/// The rows below one of these headers, each with as many fields, or why the file is refused.
+fn rows<T>(bytes: &[u8], headers: &[&str], row: impl Fn(&[Vec<u8>]) -> Option<T>) -> Result<Vec<T>, Refusal> {
+    let mut records = Records::new(bytes);
+    let header = records.next().ok_or("header")?;
+    if !headers.iter().any(|names| names.split(',').map(str::as_bytes).eq(header.iter())) {
+        return Err("header".to_string());
+    }
+    let mut rows = Vec::new();
+    for record in records {
+        if rows.len() == MOST_ROWS {
+            return Err(format!("more than {MOST_ROWS} records"));
+        }
+        let good = if record.len() == header.len() { row(&record) } else { None };
+        rows.push(good.ok_or_else(|| format!("record {}", rows.len() + 2))?);
+    }
+    if rows.is_empty() { Err("no records".to_string()) } else { Ok(rows) }
+}
+
+fn drive(fields: &[Vec<u8>]) -> Option<Drive> {
+    let (pedal, speed) = (number(&fields[0], 1000)?, number(&fields[1], 8000)?);
+    Some(Drive { pedal, speed, raise: number(&fields[2], 10000)?, reset: false, brake: false })
+}
+
+/// One to five digits.
+fn number(field: &[u8], most: u32) -> Option<u16> {
+    if !(1..=5).contains(&field.len()) || !field.iter().all(u8::is_ascii_digit) {
+        return None;
+    }
+    let number = field.iter().fold(0, |number, digit| number * 10 + u32::from(digit - b'0'));
+    (number <= most).then_some(number as u16)
+}
+
+fn truth(field: &[u8]) -> Option<bool> {
+    match field {
+        b"0" => Some(false),
+        b"1" => Some(true),
+        _ => None,
+    }
 }
 
 fn digit(byte: u8) -> Option<u16> {
@@ -169,7 +247,13 @@ fn word(line: &[u8]) -> Option<u16> {
 }
 
 /// The words of an image.
-pub fn image(bytes: &[u8]) -> Option<Vec<u16>> {
-    let words: Option<Vec<u16>> = bytes.chunks(5).map(word).collect();
-    words.filter(|words| words.len() <= MOST_WORDS)
+pub fn image(bytes: &[u8]) -> Result<Vec<u16>, Refusal> {
+    let mut words = Vec::new();
+    for line in bytes.split_inclusive(|byte| *byte == b'\n') {
+        if words.len() == MOST_WORDS {
+            return Err(format!("more than {MOST_WORDS} lines"));
+        }
+        words.push(word(line).ok_or_else(|| format!("line {}", words.len() + 1))?);
+    }
+    Ok(words)
 }

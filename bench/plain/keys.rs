@@ -35,59 +35,77 @@ pub fn numbers(value: &Value, counts: RangeInclusive<usize>, most: u16) -> Optio
     counts.contains(&numbers.len()).then_some(numbers)
 }
 
+/// The name of a key that is refused, of its own table.
+pub type Key = &'static str;
+
 /// The names of a table that weren't taken yet.
 pub struct Keys {
     pub table: Table,
 }
 
 impl Keys {
-    pub fn take(&mut self, name: &str) -> Option<Value> {
-        let place = self.table.iter().position(|entry| entry.0 == name)?;
-        Some(self.table.swap_remove(place).1)
+    /// What a name holds, made into something else; or the name, where it is missing or holds anything else.
+    pub fn take<T>(&mut self, name: Key, made: impl FnOnce(Value) -> Option<T>) -> Result<T, Key> {
+        self.table.remove(name).and_then(made).ok_or(name)
     }
 
-    /// None where a name is left.
-    pub fn end(&self) -> Option<()> {
-        self.table.is_empty().then_some(())
+    /// The same, and this where the name is missing.
+    pub fn take_or<T>(
+        &mut self,
+        name: Key,
+        absent: T,
+        made: impl FnOnce(Value) -> Option<T>,
+    ) -> Result<T, Key> {
+        if self.table.contains_key(name) { self.take(name, made) } else { Ok(absent) }
     }
 
-    pub fn keys(&mut self, name: &str) -> Option<Keys> {
-        Some(Keys { table: table(self.take(name)?)? })
+    /// Refused where a name is left.
+    pub fn end(&self) -> Result<(), Key> {
+        if self.table.is_empty() { Ok(()) } else { Err("unknown") }
     }
 
-    pub fn text(&mut self, name: &str) -> Option<String> {
-        if let Value::Text(text) = self.take(name)? { Some(text) } else { None }
+    /// The keys of a table, none where it is missing.
+    pub fn keys(&mut self, name: Key) -> Keys {
+        Keys { table: self.take(name, table).unwrap_or_default() }
     }
 
-    pub fn truth(&mut self, name: &str) -> Option<bool> {
-        truth(&self.take(name)?)
+    pub fn text(&mut self, name: Key, is_good: impl Fn(&str) -> bool) -> Result<String, Key> {
+        self.take(
+            name,
+            |value| if let Value::Text(text) = value { is_good(&text).then_some(text) } else { None },
+        )
     }
 
-    pub fn number(&mut self, name: &str, range: RangeInclusive<i64>) -> Option<i64> {
-        number(&self.take(name)?, range)
+    pub fn truth(&mut self, name: Key) -> Result<bool, Key> {
+        self.take(name, |value| truth(&value))
     }
 
-    pub fn word(&mut self, name: &str, range: RangeInclusive<i64>) -> Option<u16> {
+    pub fn number(&mut self, name: Key, range: RangeInclusive<i64>) -> Result<i64, Key> {
+        self.take(name, |value| number(&value, range))
+    }
+
+    pub fn word(&mut self, name: Key, range: RangeInclusive<i64>) -> Result<u16, Key> {
         self.number(name, range).map(|number| number as u16)
     }
 
-    pub fn place(&mut self, name: &str, range: RangeInclusive<i64>) -> Option<usize> {
+    pub fn place(&mut self, name: Key, range: RangeInclusive<i64>) -> Result<usize, Key> {
         self.number(name, range).map(|number| number as usize)
     }
 
-    pub fn numbers(&mut self, name: &str, counts: RangeInclusive<usize>, most: u16) -> Option<Vec<u16>> {
-        numbers(&self.take(name)?, counts, most)
+    pub fn numbers(&mut self, name: Key, counts: RangeInclusive<usize>, most: u16) -> Result<Vec<u16>, Key> {
+        self.take(name, |value| numbers(&value, counts, most))
     }
 
     /// A list of so many entries.
     pub fn list<T>(
         &mut self,
-        name: &str,
+        name: Key,
         counts: RangeInclusive<usize>,
         entry: impl Fn(&Value) -> Option<T>,
-    ) -> Option<Vec<T>> {
-        let values = list(self.take(name)?)?;
-        let entries: Vec<T> = values.iter().map(entry).collect::<Option<_>>()?;
-        counts.contains(&entries.len()).then_some(entries)
+    ) -> Result<Vec<T>, Key> {
+        self.take(name, |value| {
+            let entries: Vec<T> = list(value)?.iter().map(entry).collect::<Option<_>>()?;
+            counts.contains(&entries.len()).then_some(entries)
+        })
     }
 }

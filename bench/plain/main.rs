@@ -1,8 +1,9 @@
 //! The whole program as plain Rust, written to be fast: one array of words for all three levels, plain structs,
 //! and no allocation in a tick. No row of a run is kept: what a report or `soak` says is gathered as the ticks are
 //! made, and each line of a record is put as its tick is made, a line a write, as in the proved program. It takes
-//! the words and files that `egasim` takes, and writes what it writes; notes it has none. It was written from docs/
-//! and is measured beside the proved program by `bench/unit` and `bench/all`. Nothing of it is proved.
+//! the words and files that `egasim` takes, refuses what it refuses, and writes what it writes, notes too. It was
+//! written from docs/, is measured beside the proved program by `bench/unit` and `bench/all`, and compared with it by
+//! `bench/compare` and `bench/fuzz`. Nothing of it is proved.
 //! Usage: check [--cal NAME] FILE, bound [--cal NAME], run [--cal NAME] CAMPAIGN,
 //! record [--cal NAME] CAMPAIGN RUN, sweep [--cal NAME] CAMPAIGN RUN STEP, soak SEED RUNS, asm FILE, dis FILE
 
@@ -16,12 +17,13 @@ mod keys;
 mod level1;
 mod level2;
 mod level3;
-mod quotes;
 mod record;
+mod records;
 mod report;
 mod soak;
 mod source;
 mod sweep;
+mod text;
 mod toml;
 mod unit;
 
@@ -36,13 +38,39 @@ use calibration::{Calibration, Drive, exceeds, reference};
 use campaign::Plan;
 use unit::{Run, play};
 
-/// Why nothing was done, by its status.
-#[derive(Clone, Copy)]
+/// Why nothing was done.
 pub enum End {
-    Usage = 2,
-    Read = 3,
-    Refused = 4,
-    Write = 5,
+    Usage,
+    /// This file can't be read.
+    Read(String),
+    /// With this note a file is refused, or there is no such run.
+    Refused(String),
+    Write,
+}
+
+impl End {
+    fn status(&self) -> i32 {
+        match self {
+            End::Usage => 2,
+            End::Read(_) => 3,
+            End::Refused(_) => 4,
+            End::Write => 5,
+        }
+    }
+
+    fn note(&self) -> String {
+        match self {
+            End::Usage => "not a command of egasim".to_string(),
+            End::Read(name) => format!("cannot read {name}"),
+            End::Refused(note) => note.clone(),
+            End::Write => "cannot write".to_string(),
+        }
+    }
+}
+
+/// What comes of a file of this name, or the note of its refusal.
+fn of_file<T>(name: &str, came: Result<T, String>) -> Result<T, End> {
+    came.map_err(|refusal| End::Refused(format!("{name}: {refusal}")))
 }
 
 impl From<io::Error> for End {
@@ -54,20 +82,25 @@ impl From<io::Error> for End {
 
 type Output = BufWriter<File>;
 
+/// What is known of the rows of a check file.
+#[derive(Default)]
+struct Excess {
+    rows: u32,
+    counter: u16,
+    confirmed: Option<u32>,
+}
+
 /// The first tick by which the excess of a file's rows is confirmed.
 fn check(cal: &Calibration, file: &str, out: &mut Output) -> Result<(), End> {
-    let (mut tick, mut counter, mut confirmed) = (0, 0, None);
-    let bytes = files::records(file)?;
-    let show = |drive: &Drive, torque| {
+    let add = |excess: &mut Excess, drive: &Drive, torque| {
         let limit = cal.permit.table(drive.pedal, drive.speed).max(drive.raise);
-        counter = cal.torque.feed(counter, exceeds(torque, limit, cal.threshold));
-        if confirmed.is_none() && counter >= cal.torque.limit {
-            confirmed = Some(tick);
+        excess.counter = cal.torque.feed(excess.counter, exceeds(torque, limit, cal.threshold));
+        if excess.confirmed.is_none() && excess.counter >= cal.torque.limit {
+            excess.confirmed = Some(excess.rows);
         }
-        tick += 1;
+        excess.rows += 1;
     };
-    files::check(&bytes, show).ok_or(End::Refused)?;
-    match confirmed {
+    match of_file(file, files::check(&files::bytes(file)?, add))?.confirmed {
         None => writeln!(out, "none")?,
         Some(tick) => writeln!(out, "torque {tick}")?,
     }
@@ -85,15 +118,15 @@ fn bound(cal: &Calibration, out: &mut Output) -> Result<(), End> {
 }
 
 fn campaign(file: &str) -> Result<Vec<Plan>, End> {
-    campaign::campaign(&files::bytes(file)?).ok_or(End::Refused)
+    of_file(file, campaign::campaign(&files::bytes(file)?))
 }
 
 fn drives(plan: &Plan) -> Result<Vec<Drive>, End> {
-    files::trace(&files::records(&plan.trace)?).ok_or(End::Refused)
+    of_file(&plan.trace, files::trace(&files::bytes(&plan.trace)?))
 }
 
 fn image(file: &str) -> Result<Vec<u16>, End> {
-    files::image(&files::bytes(file)?).ok_or(End::Refused)
+    of_file(file, files::image(&files::bytes(file)?))
 }
 
 fn run_of<'a>(plan: &'a Plan, drives: &'a [Drive], image: &'a [u16]) -> Run<'a> {
@@ -107,11 +140,11 @@ fn run(cal: &Calibration, file: &str, out: &mut Output) -> Result<(), End> {
     let plans = campaign(file)?;
     let mut text = String::new();
     let (mut ticks, mut detected, mut off) = (0, 0, 0);
-    for plan in &plans {
+    for (number, plan) in (1..).zip(&plans) {
         let drives = drives(plan)?;
         ticks += drives.len();
         if ticks > MOST_TICKS {
-            return Err(End::Refused);
+            return Err(End::Refused(format!("{file}: run {number} passes {MOST_TICKS} ticks")));
         }
         let image = image(&plan.image)?;
         let summary = report::summary(cal, &run_of(plan, &drives, &image));
@@ -125,7 +158,8 @@ fn run(cal: &Calibration, file: &str, out: &mut Output) -> Result<(), End> {
 
 /// The run of that name of a campaign, with its drive and its image.
 fn loaded(file: &str, name: &str) -> Result<(Plan, Vec<Drive>, Vec<u16>), End> {
-    let plan = campaign(file)?.into_iter().find(|plan| plan.name == name).ok_or(End::Refused)?;
+    let named = campaign(file)?.into_iter().find(|plan| plan.name == name);
+    let plan = named.ok_or_else(|| End::Refused("no such run".to_string()))?;
     let (drives, image) = (drives(&plan)?, image(&plan.image)?);
     Ok((plan, drives, image))
 }
@@ -153,13 +187,14 @@ fn put(line: &[u8], out: &mut Output) -> io::Result<()> {
 /// The table of a run of a campaign under every class of fault, each at every onset of a grid.
 fn sweep(cal: &Calibration, file: &str, name: &str, step: u32, out: &mut Output) -> Result<(), End> {
     let (plan, drives, image) = loaded(file, name)?;
-    let lines = sweep::sweep(cal, &run_of(&plan, &drives, &image), step).ok_or(End::Refused)?;
+    let lines = sweep::sweep(cal, &run_of(&plan, &drives, &image), step);
+    let lines = lines.ok_or_else(|| End::Refused("grid too large".to_string()))?;
     Ok(lines.iter().try_for_each(|line| put(line.as_bytes(), out))?)
 }
 
 /// The image of a source.
 fn asm(file: &str, out: &mut Output) -> Result<(), End> {
-    let words = source::assemble(&files::bytes(file)?).ok_or(End::Refused)?;
+    let words = of_file(file, source::assemble(&files::bytes(file)?))?;
     Ok(words.iter().try_for_each(|word| put(format!("{word:04x}\n").as_bytes(), out))?)
 }
 
@@ -191,40 +226,53 @@ fn soak(cal: &Calibration, seed: &str, runs: &str, out: &mut Output) -> Result<(
 /// The calibration of a file, or the reference calibration.
 fn calibration(name: Option<&str>) -> Result<Calibration, End> {
     match name {
-        Some(name) => calibration_file::calibration(&files::bytes(name)?).ok_or(End::Refused),
+        Some(name) => of_file(name, calibration_file::calibration(&files::bytes(name)?)),
         // The compiler is not to know the numbers of the calibration: the proved program takes any.
         None => Ok(black_box(reference())),
     }
+}
+
+/// Whether a word may be the name of a file or of a run.
+fn is_name(word: &str) -> bool {
+    !word.is_empty() && !word.starts_with('-')
 }
 
 /// Does the command of these words.
 fn command(words: &[&str]) -> Result<(), End> {
     let out = &mut BufWriter::with_capacity(1 << 16, File::from(io::stdout().as_fd().try_clone_to_owned()?));
     let (name, words) = match *words {
-        [command, "--cal", name, ref rest @ ..] => (Some(name), [&[command], rest].concat()),
+        [command, "--cal", name, ref rest @ ..] if is_name(name) => (Some(name), [&[command], rest].concat()),
         _ => (None, words.to_vec()),
     };
     match (words.as_slice(), name) {
         (["bound"], _) => bound(&calibration(name)?, out),
-        (["check", file], _) => check(&calibration(name)?, file, out),
-        (["run", file], _) => run(&calibration(name)?, file, out),
-        (["record", file, run], _) => record(&calibration(name)?, file, run, out),
-        (["sweep", file, run, step], _) => {
+        (["check", file], _) if is_name(file) => check(&calibration(name)?, file, out),
+        (["run", file], _) if is_name(file) => run(&calibration(name)?, file, out),
+        (["record", file, run], _) if is_name(file) && is_name(run) => {
+            record(&calibration(name)?, file, run, out)
+        }
+        (["sweep", file, run, step], _) if is_name(file) && is_name(run) => {
             let step = step_of(step)?;
             sweep(&calibration(name)?, file, run, step, out)
         }
         (["soak", seed, runs], None) => soak(&calibration(None)?, seed, runs, out),
-        (["asm", file], None) => asm(file, out),
-        (["dis", file], None) => dis(file, out),
+        (["asm", file], None) if is_name(file) => asm(file, out),
+        (["dis", file], None) if is_name(file) => dis(file, out),
         _ => Err(End::Usage),
     }?;
     Ok(out.flush()?)
 }
 
 fn main() {
-    let words: Vec<String> = env::args().skip(1).collect();
-    let words: Vec<&str> = words.iter().map(String::as_str).collect();
-    if let Err(end) = command(&words) {
-        exit(end as i32);
+    // A word that isn't UTF-8 is no form of a command.
+    let words: Result<Vec<String>, _> = env::args_os().skip(1).map(|word| word.into_string()).collect();
+    let done = match &words {
+        Ok(words) => command(&words.iter().map(String::as_str).collect::<Vec<&str>>()),
+        Err(_) => Err(End::Usage),
+    };
+    if let Err(end) = done {
+        // A note that can't be written changes nothing.
+        let _ = writeln!(io::stderr(), "{}", end.note());
+        exit(end.status());
     }
 }

@@ -49,8 +49,10 @@ enum Aim<'a> {
     Distance(i64),
 }
 
-/// A jump whose word still lacks its distance, of fewer than `reach` words, or back of at most as many.
+/// A jump whose word still lacks its distance, of fewer than `reach` words, or back of at most as many; and the line
+/// of the source in which it stands.
 struct Jump<'a> {
+    line: u32,
     place: usize,
     reach: u16,
     aim: Aim<'a>,
@@ -61,16 +63,23 @@ struct Source<'a> {
     words: Vec<u16>,
     jumps: Vec<Jump<'a>>,
     labels: HashMap<&'a [u8], usize>,
-    repeats: bool,
+    /// The line that is read, the first being 1.
+    line: u32,
+    /// The first line that repeats a label.
+    repeats: Option<u32>,
 }
 
-/// The words of a source.
-pub fn assemble(bytes: &[u8]) -> Option<Vec<u16>> {
+/// The words of a source, or what the note of its refusal says.
+pub fn assemble(bytes: &[u8]) -> Result<Vec<u16>, String> {
     let mut source = Source::default();
     for line in bytes.split_inclusive(|byte| *byte == b'\n') {
-        source.read(line.strip_suffix(b"\n")?)?;
+        source.line += 1;
+        let full = source.words.len() == MOST_WORDS;
+        if line.strip_suffix(b"\n").and_then(|line| source.read(line)).is_none() {
+            return Err(if full { "more than 1024 words".to_string() } else { format!("line {}", source.line) });
+        }
     }
-    source.link()
+    source.link().map_err(|line| format!("label in line {line}"))
 }
 
 impl<'a> Source<'a> {
@@ -78,7 +87,11 @@ impl<'a> Source<'a> {
         match line {
             [] | [b';', ..] => {}
             [name @ .., b':'] if is_name(name) => {
-                self.repeats |= self.labels.insert(name, self.words.len()).is_some();
+                if self.labels.contains_key(name) {
+                    self.repeats = self.repeats.or(Some(self.line));
+                } else {
+                    self.labels.insert(name, self.words.len());
+                }
             }
             _ => self.read_instruction(line)?,
         }
@@ -110,29 +123,27 @@ impl<'a> Source<'a> {
             },
             Number(most) => number(text).filter(|number| *number <= i64::from(most)).map(|number| number as u16),
             Target(reach) => {
-                self.jumps.push(Jump { place: self.words.len(), reach, aim: aim(text)? });
+                let (line, place) = (self.line, self.words.len());
+                self.jumps.push(Jump { line, place, reach, aim: aim(text)? });
                 Some(0)
             }
         }
     }
 
-    /// The words with the distances of the jumps.
-    fn link(mut self) -> Option<Vec<u16>> {
-        if self.repeats {
-            return None;
-        }
+    /// The words with the distances of the jumps, or the first line with a label at fault.
+    fn link(mut self) -> Result<Vec<u16>, u32> {
         for jump in &self.jumps {
             let distance = match jump.aim {
-                Aim::Label(name) => *self.labels.get(name)? as i64 - (jump.place as i64 + 1),
-                Aim::Distance(distance) => distance,
+                Aim::Label(name) => self.labels.get(name).map(|at| *at as i64 - (jump.place as i64 + 1)),
+                Aim::Distance(distance) => Some(distance),
             };
             let reach = i64::from(jump.reach);
-            if !(-reach..reach).contains(&distance) {
-                return None;
-            }
+            let Some(distance) = distance.filter(|distance| (-reach..reach).contains(distance)) else {
+                return Err(self.repeats.map_or(jump.line, |line| line.min(jump.line)));
+            };
             self.words[jump.place] |= distance as u16 & (2 * jump.reach - 1);
         }
-        Some(self.words)
+        self.repeats.map_or(Ok(self.words), Err)
     }
 }
 

@@ -1,94 +1,153 @@
-//! As much of TOML as campaigns and calibrations are commonly written in: tables, arrays of tables, integers,
-//! truth values, and texts in double quotes without escapes or in single ones.
+//! TOML 1.1: the table that a document is.
+
+use std::collections::BTreeMap;
+
+use crate::text::{Reader, Scalar};
 
 /// A value, or a table by its names.
 pub enum Value {
     Number(i64),
     Truth(bool),
     Text(String),
+    /// A float, a date or a time.
+    Other,
     List(Vec<Value>),
     Table(Table),
 }
 
-pub type Table = Vec<(String, Value)>;
+pub type Table = BTreeMap<String, Value>;
 
-struct Reader<'a> {
-    rest: &'a str,
+/// How deep lists and inline tables may stand in one another.
+const MOST_DEPTH: usize = 80;
+
+/// How a table came to be there.
+#[derive(Clone, Copy, PartialEq)]
+enum Origin {
+    /// A heading of a table below it.
+    Implied,
+    /// A dotted key.
+    Dotted,
+    /// A heading of its own.
+    Heading,
 }
 
-impl<'a> Reader<'a> {
-    /// Blanks, and line ends and comments too where they may stand.
-    fn skip(&mut self, lines: bool) {
-        loop {
-            self.rest = self.rest.trim_start_matches([' ', '\t']);
-            let Some(first) = self.rest.bytes().next() else { return };
-            match first {
-                b'#' => self.rest = &self.rest[self.rest.find('\n').unwrap_or(self.rest.len())..],
-                b'\n' | b'\r' if lines => self.rest = &self.rest[1..],
-                _ => return,
+/// A table that may still grow.
+struct Growing {
+    origin: Origin,
+    nodes: BTreeMap<String, Node>,
+}
+
+/// What a name of such a table stands for.
+enum Node {
+    /// A value that doesn't grow, as inline tables and lists.
+    Value(Value),
+    Table(Growing),
+    /// The tables of an array of tables, of which the last one may grow.
+    Tables(Vec<Growing>),
+}
+
+impl Growing {
+    fn new(origin: Origin) -> Growing {
+        Growing { origin, nodes: BTreeMap::new() }
+    }
+
+    /// The table of a name on the way of a heading: one that is there, or a new one.
+    fn on_way_of_heading(&mut self, name: &str) -> Option<&mut Growing> {
+        let implied = || Node::Table(Growing::new(Origin::Implied));
+        match self.nodes.entry(name.to_string()).or_insert_with(implied) {
+            Node::Table(table) => Some(table),
+            Node::Tables(tables) => tables.last_mut(),
+            Node::Value(_) => None,
+        }
+    }
+
+    /// The table of a name on the way of a dotted key: one that such a key made, or a new one.
+    fn on_way_of_key(&mut self, name: &str) -> Option<&mut Growing> {
+        let dotted = || Node::Table(Growing::new(Origin::Dotted));
+        match self.nodes.entry(name.to_string()).or_insert_with(dotted) {
+            Node::Table(table) if table.origin == Origin::Dotted => Some(table),
+            _ => None,
+        }
+    }
+
+    /// Gives a name that isn't there yet this value.
+    fn put(&mut self, key: &[String], value: Value) -> Option<()> {
+        let (last, way) = key.split_last()?;
+        let table = way.iter().try_fold(self, |table, name| table.on_way_of_key(name))?;
+        table.nodes.insert(last.clone(), Node::Value(value)).is_none().then_some(())
+    }
+
+    /// Begins the table of a heading, which has none yet.
+    fn begin(&mut self, key: &[String]) -> Option<()> {
+        let (last, way) = key.split_last()?;
+        let table = way.iter().try_fold(self, |table, name| table.on_way_of_heading(name))?;
+        let implied = || Node::Table(Growing::new(Origin::Implied));
+        match table.nodes.entry(last.clone()).or_insert_with(implied) {
+            Node::Table(table) if table.origin == Origin::Implied => {
+                table.origin = Origin::Heading;
+                Some(())
+            }
+            _ => None,
+        }
+    }
+
+    /// Begins the next table of an array of tables.
+    fn begin_next(&mut self, key: &[String]) -> Option<()> {
+        let (last, way) = key.split_last()?;
+        let table = way.iter().try_fold(self, |table, name| table.on_way_of_heading(name))?;
+        match table.nodes.entry(last.clone()).or_insert_with(|| Node::Tables(Vec::new())) {
+            Node::Tables(tables) => {
+                tables.push(Growing::new(Origin::Heading));
+                Some(())
+            }
+            _ => None,
+        }
+    }
+
+    fn done(self) -> Table {
+        self.nodes.into_iter().map(|(name, node)| (name, node.done())).collect()
+    }
+}
+
+impl Node {
+    fn done(self) -> Value {
+        match self {
+            Node::Value(value) => value,
+            Node::Table(table) => Value::Table(table.done()),
+            Node::Tables(tables) => {
+                Value::List(tables.into_iter().map(|table| Value::Table(table.done())).collect())
             }
         }
     }
+}
 
-    fn takes(&mut self, mark: &str) -> bool {
-        let rest = self.rest.strip_prefix(mark);
-        self.rest = rest.unwrap_or(self.rest);
-        rest.is_some()
-    }
-
-    fn expects(&mut self, mark: &str) -> Option<()> {
-        self.takes(mark).then_some(())
-    }
-
-    fn upto(&mut self, mark: char) -> Option<&'a str> {
-        let (text, rest) = self.rest.split_once(mark)?;
-        self.rest = rest;
-        (!text.contains(['\\', '\n'])).then_some(text)
-    }
-
-    /// A bare word: of a name, a number or a truth value.
-    fn bare(&mut self) -> Option<&'a str> {
-        let is_bare = |c: char| c.is_ascii_alphanumeric() || "_-+".contains(c);
-        let end = self.rest.find(|c| !is_bare(c)).unwrap_or(self.rest.len());
-        let (word, rest) = self.rest.split_at(end);
-        self.rest = rest;
-        (!word.is_empty()).then_some(word)
-    }
-
-    fn name(&mut self) -> Option<String> {
-        if self.takes("\"") { self.upto('"') } else { self.bare() }.map(str::to_string)
-    }
-
-    fn value(&mut self) -> Option<Value> {
-        if self.takes("\"") {
-            return self.upto('"').map(|text| Value::Text(text.to_string()));
+impl Reader<'_> {
+    /// A value in which lists and inline tables stand so deep at most.
+    fn value(&mut self, depth: usize) -> Option<Value> {
+        if depth > 0 && self.takes("[") {
+            return self.list(depth - 1).map(Value::List);
         }
-        if self.takes("'") {
-            return self.upto('\'').map(|text| Value::Text(text.to_string()));
+        if depth > 0 && self.takes("{") {
+            return self.inline_table(depth - 1).map(Value::Table);
         }
-        if self.takes("[") {
-            return self.list().map(Value::List);
-        }
-        if self.takes("{") {
-            return self.inline_table().map(Value::Table);
-        }
-        match self.bare()? {
-            "true" => Some(Value::Truth(true)),
-            "false" => Some(Value::Truth(false)),
-            word => word.replace('_', "").parse().ok().map(Value::Number),
-        }
+        Some(match self.scalar()? {
+            Scalar::Number(number) => Value::Number(number),
+            Scalar::Truth(truth) => Value::Truth(truth),
+            Scalar::Text(text) => Value::Text(text),
+            Scalar::Other => Value::Other,
+        })
     }
 
     /// The rest of a list.
-    fn list(&mut self) -> Option<Vec<Value>> {
+    fn list(&mut self, depth: usize) -> Option<Vec<Value>> {
         let mut values = Vec::new();
         loop {
-            self.skip(true);
+            self.lines();
             if self.takes("]") {
                 return Some(values);
             }
-            values.push(self.value()?);
-            self.skip(true);
+            values.push(self.value(depth)?);
+            self.lines();
             if !self.takes(",") {
                 self.expects("]")?;
                 return Some(values);
@@ -97,107 +156,62 @@ impl<'a> Reader<'a> {
     }
 
     /// The rest of a table that is written inline.
-    fn inline_table(&mut self) -> Option<Table> {
-        let mut table = Table::new();
-        self.skip(false);
-        if self.takes("}") {
-            return Some(table);
-        }
+    fn inline_table(&mut self, depth: usize) -> Option<Table> {
+        let mut table = Growing::new(Origin::Heading);
         loop {
-            self.skip(false);
-            self.entry(&mut table)?;
-            self.skip(false);
+            self.lines();
+            if self.takes("}") {
+                return Some(table.done());
+            }
+            self.entry(&mut table, depth)?;
+            self.lines();
             if !self.takes(",") {
                 self.expects("}")?;
-                return Some(table);
+                return Some(table.done());
             }
         }
     }
 
-    /// A name and its value, which the table doesn't have yet.
-    fn entry(&mut self, table: &mut Table) -> Option<()> {
-        let name = self.name()?;
-        self.skip(false);
+    /// A key and its value.
+    fn entry(&mut self, table: &mut Growing, depth: usize) -> Option<()> {
+        let key = self.key()?;
+        self.blanks();
         self.expects("=")?;
-        self.skip(false);
-        let value = self.value()?;
-        if table.iter().any(|entry| entry.0 == name) {
-            return None;
-        }
-        table.push((name, value));
-        Some(())
+        self.blanks();
+        let value = self.value(depth)?;
+        table.put(&key, value)
     }
 
-    /// The rest of the heading of an array of tables: one or two names.
-    fn heading(&mut self) -> Option<Vec<String>> {
-        let mut names = vec![self.name()?];
-        while self.takes(".") {
-            names.push(self.name()?);
-        }
-        self.expects("]]")?;
-        Some(names)
+    /// The key of a heading, with the mark behind it.
+    fn heading(&mut self, mark: &str) -> Option<Vec<String>> {
+        self.blanks();
+        let key = self.key()?;
+        self.blanks();
+        self.expects(mark)?;
+        Some(key)
     }
-}
-
-/// Adds a table to the array of tables of these names, and answers it.
-fn add<'a>(table: &'a mut Table, names: &[String]) -> Option<&'a mut Table> {
-    let (name, deeper) = names.split_first()?;
-    let known = table.iter().position(|entry| entry.0 == *name);
-    let place = known.unwrap_or_else(|| {
-        table.push((name.clone(), Value::List(Vec::new())));
-        table.len() - 1
-    });
-    let Value::List(list) = &mut table[place].1 else { return None };
-    if deeper.is_empty() {
-        list.push(Value::Table(Table::new()));
-    }
-    let Some(Value::Table(last)) = list.last_mut() else { return None };
-    if deeper.is_empty() { Some(last) } else { add(last, deeper) }
-}
-
-/// Begins the table of this name, which there isn't yet.
-fn begin(table: &mut Table, name: &str) -> Option<()> {
-    if table.iter().any(|entry| entry.0 == name) {
-        return None;
-    }
-    table.push((name.to_string(), Value::Table(Table::new())));
-    Some(())
 }
 
 /// The table of a document, or None where it is refused.
 pub fn document(text: &str) -> Option<Table> {
-    let mut reader = Reader { rest: text };
-    let mut table = Table::new();
-    let mut names = Vec::new();
+    let mut reader = Reader { rest: text.strip_prefix('\u{feff}').unwrap_or(text) };
+    let mut table = Growing::new(Origin::Heading);
+    let mut heading = Vec::new();
     loop {
-        reader.skip(true);
+        reader.lines();
         if reader.rest.is_empty() {
-            return Some(table);
+            return Some(table.done());
         }
         if reader.takes("[[") {
-            names = reader.heading()?;
-            add(&mut table, &names)?;
+            heading = reader.heading("]]")?;
+            table.begin_next(&heading)?;
         } else if reader.takes("[") {
-            names = vec![reader.name()?];
-            reader.expects("]")?;
-            begin(&mut table, &names[0])?;
+            heading = reader.heading("]")?;
+            table.begin(&heading)?;
         } else {
-            reader.entry(current(&mut table, &names)?)?;
+            let begun = heading.iter().try_fold(&mut table, |table, name| table.on_way_of_heading(name))?;
+            reader.entry(begun, MOST_DEPTH)?;
         }
-        reader.skip(false);
-        if !reader.rest.is_empty() && !reader.rest.starts_with(['\n', '\r']) {
-            return None;
-        }
+        reader.ends_line()?;
     }
-}
-
-/// The table that entries belong to: that of these names, or the last of their array of tables.
-fn current<'a>(table: &'a mut Table, names: &[String]) -> Option<&'a mut Table> {
-    let Some((name, deeper)) = names.split_first() else {
-        return Some(table);
-    };
-    let value = &mut table.iter_mut().find(|entry| entry.0 == *name)?.1;
-    let last = if let Value::List(list) = value { list.last_mut()? } else { value };
-    let Value::Table(last) = last else { return None };
-    current(last, deeper)
 }
