@@ -1,0 +1,57 @@
+// Makes the system's calls for reading and writing go otherwise than they would. It is loaded before the C library
+// (LD_PRELOAD), counts the reads and the writes of the program, the first being 1, and goes by the environment:
+//   READ_AT=N, RUN=COMMAND    just before the N-th read, this command of the shell is done
+//   READ_AT=N, READ_ERROR=E   the N-th read fails with the error of that number, and so do the later ones;
+//                             where ONCE is set too, the N-th alone
+//   READ_MOST=K               each read gives K bytes at most
+//   WRITE_AT=N, WRITE_ERROR=E, ONCE, WRITE_MOST=K    likewise
+#include <errno.h>
+#include <stdlib.h>
+#include <sys/syscall.h>
+#include <unistd.h>
+
+static long number(const char *name) {
+    const char *text = getenv(name);
+    return text ? atol(text) : 0;
+}
+
+static long reads, writes;
+
+// Whether this call fails, with its error.
+static int fails(const char *at, const char *error, long count) {
+    if (number(error) == 0 || count < number(at) || (number("ONCE") && count > number(at))) {
+        return 0;
+    }
+    errno = (int)number(error);
+    return 1;
+}
+
+static size_t at_most(const char *name, size_t count) {
+    size_t most = (size_t)number(name);
+    return most && most < count ? most : count;
+}
+
+ssize_t read(int file, void *bytes, size_t count) {
+    const char *command = getenv("RUN");
+    reads++;
+    if (fails("READ_AT", "READ_ERROR", reads)) {
+        return -1;
+    }
+    if (command && reads == number("READ_AT")) {
+        char *own = getenv("LD_PRELOAD");
+        unsetenv("LD_PRELOAD");
+        if (system(command) != 0) {
+            _exit(125);
+        }
+        setenv("LD_PRELOAD", own, 1);
+    }
+    return syscall(SYS_read, file, bytes, at_most("READ_MOST", count));
+}
+
+ssize_t write(int file, const void *bytes, size_t count) {
+    writes++;
+    if (fails("WRITE_AT", "WRITE_ERROR", writes)) {
+        return -1;
+    }
+    return syscall(SYS_write, file, bytes, at_most("WRITE_MOST", count));
+}
