@@ -1,0 +1,1 @@
+./egasim run --cal examples/strict.toml examples/missed.toml
