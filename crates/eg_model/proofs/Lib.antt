@@ -17,6 +17,8 @@ pub mod StartUpLaws
 pub mod SpanRuns
 pub mod RecordTicks
 pub mod BranchLaws
+pub mod OutputLaws
+pub mod OutputRecords
 pub mod SpanRows
 pub mod SpanLaws
 pub mod FindingLaws
