@@ -34,3 +34,5 @@ pub mod LapseRuns
 pub mod LapseAnswers
 pub mod LapseWeights
 pub mod LapseLaw
+pub mod FewVerdicts
+pub mod LeastLaw

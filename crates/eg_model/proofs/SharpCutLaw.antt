@@ -39,13 +39,13 @@ unfoldable pub AllGood : List Bool → Type 0
 AllGood [] = Unit {0}
 AllGood (b ∷ bits) = (b ≡ false) × AllGood bits
 
-greatest-AllGood : (w : WeightParts) (bits : List Bool) → AllGood bits → greatest w bits ≡ 0
+pub greatest-AllGood : (w : WeightParts) (bits : List Bool) → AllGood bits → greatest w bits ≡ 0
 unfolding AllGood
 greatest-AllGood w [] h = greatest-nil w
 greatest-AllGood w (b ∷ bits) h =
     rw (h.0, greatest-good w bits) (let r = greatest-AllGood w bits h.1 in omega arith)
 
-not_reached : (w : WeightParts) (bits : List Bool) → 0 < w.limit → AllGood bits → is_reached w bits ≡ false
+pub not_reached : (w : WeightParts) (bits : List Bool) → 0 < w.limit → AllGood bits → is_reached w bits ≡ false
 not_reached w bits l h = rw (is_reached-greatest w bits l, greatest-AllGood w bits h) (lt-leb w.limit 0 l)
 
 none_first : (w : WeightParts) (bits : List Bool) → 0 < w.limit → AllGood bits → is_first w bits ≡ false
@@ -247,29 +247,28 @@ right_ones s are x h sent ends =
     ∙ rw (lt-ltb times.send (suc (times.period - 1)) high) refl
 
 -- a verdict, where there is one, is right
-abbrev IsNotWrong : Option Verdict → Type 0
+abbrev pub IsNotWrong : Option Verdict → Type 0
 IsNotWrong v = (v ≡ None) ⊎ (v ≡ Some Right)
 
-verdict_plain : (s : Setting) → AreTimes s.cal.times → (e : Entry) (h : List Tick) →
-    AreUsual s (plain e ∷ h) →
-    IsNotWrong (verdict_at s.cal.times no_effects (moment s no_effects e (moments_of s h)).mark
+pub verdict_usual : (s : Setting) → AreTimes s.cal.times → (x : Tick) (h : List Tick) → x.effects.wild ≡ None →
+    AreUsual s (x ∷ h) →
+    IsNotWrong (verdict_at s.cal.times x.effects (moment s x.effects x.entry (moments_of s h)).mark
     (moments_of s h))
-verdict_plain s are e h sent = go ((length (moments_of s h) + 1) % s.cal.times.period) refl
+verdict_usual s are x h judged sent = go ((length (moments_of s h) + 1) % s.cal.times.period) refl
   where
     m : Moment
-    m = moment s no_effects e (moments_of s h)
+    m = moment s x.effects x.entry (moments_of s h)
 
     go : (n : ℕ) → (length (moments_of s h) + 1) % s.cal.times.period ≡ n →
-        IsNotWrong (verdict_at s.cal.times no_effects m.mark (moments_of s h))
-    go zero ends = inr (verdict_some s.cal.times are no_effects m.mark (moments_of s h)
-        (unfold no_effects in refl) ends
-        ∙ ap (λ these. Some (verdict_of s.cal.times these)) (right_ones s are (plain e) h sent ends)
+        IsNotWrong (verdict_at s.cal.times x.effects m.mark (moments_of s h))
+    go zero ends = inr (verdict_some s.cal.times are x.effects m.mark (moments_of s h) judged ends
+        ∙ ap (λ these. Some (verdict_of s.cal.times these)) (right_ones s are x h sent ends)
         ∙ ap Some (right_alone s.cal.times (length h / s.cal.times.period) are))
-    go (suc n) inside = inl (verdict_none s.cal.times are no_effects m.mark (moments_of s h) (omega arith))
+    go (suc n) inside = inl (verdict_none s.cal.times are x.effects m.mark (moments_of s h) (omega arith))
 
 -- ---- one tick more ----
 
-right_bits : (v : Option Verdict) (bits : List Bool) → IsNotWrong v → AllGood bits →
+pub right_bits : (v : Option Verdict) (bits : List Bool) → IsNotWrong v → AllGood bits →
     AllGood (with_wrong v bits)
 unfolding with_wrong AllGood is_wrong
 right_bits v bits (inl e) none = rw e none
@@ -282,12 +281,12 @@ no_answers times v past l (inl e) none = rw e refl
 no_answers times v past l (inr e) none =
     rw e (none_first times.weights (false ∷ map is_wrong (verdicts_in past)) l (refl, none))
 
-not_first : (w : WeightParts) (b : Bool) (bits : List Bool) → is_confirmed w (b ∷ bits) ≡ false →
+pub not_first : (w : WeightParts) (b : Bool) (bits : List Bool) → is_confirmed w (b ∷ bits) ≡ false →
     is_first w (b ∷ bits) ≡ false
 unfolding is_confirmed is_first
 not_first w b bits h = and_left _ _ (or_parts (is_reached w (b ∷ bits)) (is_confirmed w bits) h).0
 
-not_before : (w : WeightParts) (b : Bool) (bits : List Bool) → is_confirmed w (b ∷ bits) ≡ false →
+pub not_before : (w : WeightParts) (b : Bool) (bits : List Bool) → is_confirmed w (b ∷ bits) ≡ false →
     is_confirmed w bits ≡ false
 unfolding is_confirmed
 not_before w b bits h = (or_parts (is_reached w (b ∷ bits)) (is_confirmed w bits) h).1
@@ -308,7 +307,7 @@ unlimited-cons : (m : Moment) (past : List Moment) → m.found.pedal ≡ false �
 unfolding is_limited
 unlimited-cons m past e f = or_from _ _ e f
 
-full_excesses-cons : (s : Setting) (x : Tick) (h : List Tick) →
+pub full_excesses-cons : (s : Setting) (x : Tick) (h : List Tick) →
     full_excesses s (x ∷ h) ≡ full_excess s.cal.rules.kt s.cal.rules.threshold
     (row_of (length (moments_of s h)) (moment s x.effects x.entry (moments_of s h))) ∷ full_excesses s h
 unfolding full_excesses moments_of rows_of
@@ -384,7 +383,7 @@ module _ (s : Setting) (a : IsAccepted s.cal) (e : Entry) (h : List Tick)
 
   not_wrong : is_confirmed s.cal.rules.torque (full_excesses s (plain e ∷ h)) ≡ false → IsNotWrong m.verdict
   not_wrong quiet = subst IsNotWrong (sym (moment-verdict s no_effects e past))
-      (verdict_plain s a.times e h (unfold AreUsual in (mark-is quiet, calm.answers)))
+      (verdict_usual s a.times (plain e) h (unfold no_effects in refl) (unfold AreUsual in (mark-is quiet, calm.answers)))
 
   pub step_calm : is_confirmed s.cal.rules.torque (full_excesses s (plain e ∷ h)) ≡ false →
       Calm s (plain e ∷ h)

@@ -23,7 +23,7 @@ pub use faulty_runs::{
 pub use findings::{records_find_in_time, records_name_what_cuts};
 pub use lapses::lapses_are_cut;
 pub use outputs::level_1_acts_by_its_outputs;
-pub use reaction::{cuts_from_onset, reacts_in_time};
+pub use reaction::{cuts_from_onset, latest_cut_run, reaction_time_is_least, reacts_in_time};
 pub use records::{
     records_are_histories, records_cut_from_onset, records_cut_lapses, records_cut_sharply,
     records_react, records_test_the_paths,
