@@ -32,3 +32,9 @@ pub mod LapseRuns
 pub mod LapseAnswers
 pub mod LapseWeights
 pub mod LapseLaw
+pub mod MissWeights
+pub mod MissTicks
+pub mod SingleMisses
+pub mod MissVerdicts
+pub mod AvailabilityLaws
+pub mod AvailabilityRecords

@@ -19,3 +19,4 @@ pub mod Branching
 pub mod PowerCycles
 pub mod StartUp
 pub mod Lapses
+pub mod Availability
