@@ -36,3 +36,9 @@ pub mod LapseWeights
 pub mod LapseLaw
 pub mod FewVerdicts
 pub mod LeastLaw
+pub mod MissWeights
+pub mod MissTicks
+pub mod SingleMisses
+pub mod MissVerdicts
+pub mod AvailabilityLaws
+pub mod AvailabilityRecords

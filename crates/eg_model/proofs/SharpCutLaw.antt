@@ -48,7 +48,7 @@ greatest-AllGood w (b ∷ bits) h =
 pub not_reached : (w : WeightParts) (bits : List Bool) → 0 < w.limit → AllGood bits → is_reached w bits ≡ false
 not_reached w bits l h = rw (is_reached-greatest w bits l, greatest-AllGood w bits h) (lt-leb w.limit 0 l)
 
-none_first : (w : WeightParts) (bits : List Bool) → 0 < w.limit → AllGood bits → is_first w bits ≡ false
+pub none_first : (w : WeightParts) (bits : List Bool) → 0 < w.limit → AllGood bits → is_first w bits ≡ false
 unfolding is_first
 none_first w [] l h = refl
 none_first w (b ∷ bits) l h = and_left _ _ (not_reached w (b ∷ bits) l h)
@@ -84,7 +84,7 @@ still a n e = go (apart a n)
     go (inr (inl same)) = absurd (let f : true ≡ false = sym (eq-eqb n a same) ∙ e in cc)
     go (inr (inr more)) = le-ltb a n (omega arith) ∙ sym (le-ltb a (suc n) more)
 
-sent_now : (times : TimeParts) (p n t : ℕ) → n < times.period → t ≡ p * times.period + n →
+pub sent_now : (times : TimeParts) (p n t : ℕ) → n < times.period → t ≡ p * times.period + n →
     with_answer t (usual_mark times t) (one_answer times p n) ≡ one_answer times p (suc n)
 unfolding with_answer
 sent_now times p n t room at = go (n == times.send) refl
@@ -160,12 +160,12 @@ calm_at_first s = record {
 }
 
 -- a watch of a pair isn't found
-unfound_now : (w : WeightParts) (b : Signals → Bool) (feeds : Bool) (now : Signals) (past : List Moment) →
+pub unfound_now : (w : WeightParts) (b : Signals → Bool) (feeds : Bool) (now : Signals) (past : List Moment) →
     0 < w.limit → b now ≡ false → AllGood (fed_bits b past) → finds w b feeds now past ≡ false
 unfolding finds AllGood
 unfound_now w b feeds now past l e none = and_right _ _ (none_first w (b now ∷ fed_bits b past) l (e, none))
 
-whole_plain : is_whole no_effects ≡ true
+pub whole_plain : is_whole no_effects ≡ true
 unfolding is_whole modules modules_before_react no_effects
 whole_plain = refl
 
@@ -180,23 +180,23 @@ mark_law : (a b t u w past still_ p : Bool) → a ≡ p → b ≡ true → t ≡
 mark_law a b t u w past still_ true e1 e2 e3 e4 e5 e6 e7 = rw (e1, e2, e3, e4, e5, e6, e7) refl
 mark_law a b t u w past still_ false e1 e2 e3 e4 e5 e6 e7 = rw e1 refl
 
-send_plain : (times : TimeParts) (t : ℕ) → sends_at no_effects times t ≡ (t % times.period == times.send)
+pub send_plain : (times : TimeParts) (t : ℕ) → sends_at no_effects times t ≡ (t % times.period == times.send)
 unfolding sends_at sends_in is_send_tick place_of no_effects
 send_plain times t = refl
 
-reacts_plain : no_effects.ran REACT ≡ true
+pub reacts_plain : no_effects.ran REACT ≡ true
 unfolding no_effects
 reacts_plain = refl
 
 -- the mark of a plain tick
-mark_plain : (times : TimeParts) (trip : Bool) (past : List Moment) → trip ≡ false → tripped past ≡ false →
+pub mark_plain : (times : TimeParts) (trip : Bool) (past : List Moment) → trip ≡ false → tripped past ≡ false →
     whole_since_answer past ≡ true → mark_at times no_effects trip past ≡ usual_mark times (length past)
 unfolding mark_at is_sent is_good
 mark_plain times trip past t u w =
     mark_law _ _ _ _ _ _ _ _ (send_plain times
     (length past)) reacts_plain t u whole_plain w undisturbed_plain
 
-whole-cons : (m : Moment) (past : List Moment) → m.whole ≡ true → whole_since_answer past ≡ true →
+pub whole-cons : (m : Moment) (past : List Moment) → m.whole ≡ true → whole_since_answer past ≡ true →
     whole_since_answer (m ∷ past) ≡ true
 unfolding whole_since_answer
 whole-cons m past w p = or_right (is_answer m.mark) (m.whole && whole_since_answer past) (and_from _ _ w p)
@@ -204,7 +204,7 @@ whole-cons m past w p = or_right (is_answer m.mark) (m.whole && whole_since_answ
 -- ---- verdicts ----
 
 -- one good answer at the send tick is right
-right_alone : (times : TimeParts) (p : ℕ) → AreTimes times →
+pub right_alone : (times : TimeParts) (p : ℕ) → AreTimes times →
     verdict_of times (record { tick = p * times.period + times.send; good = true } ∷ []) ≡ Right
 unfolding verdict_of is_in_window place_of
 right_alone times p are = rw (
@@ -291,7 +291,7 @@ pub not_before : (w : WeightParts) (b : Bool) (bits : List Bool) → is_confirme
 unfolding is_confirmed
 not_before w b bits h = (or_parts (is_reached w (b ∷ bits)) (is_confirmed w bits) h).1
 
-none-cons : (b : Signals → Bool) (m : Moment) (past : List Moment) → m.feeds ≡ true → b m.signals ≡ false →
+pub none-cons : (b : Signals → Bool) (m : Moment) (past : List Moment) → m.feeds ≡ true → b m.signals ≡ false →
     AllGood (fed_bits b past) → AllGood (fed_bits b (m ∷ past))
 unfolding AllGood
 none-cons b m past f e none = rw (fed_bits-cons b m past f) (e, none)
@@ -302,7 +302,7 @@ no_torque : (w : WeightParts) (feeds : Bool) (now : Signals) (past : List Moment
 unfolding finds
 no_torque w feeds now past e = and_right _ _ e
 
-unlimited-cons : (m : Moment) (past : List Moment) → m.found.pedal ≡ false → is_limited past ≡ false →
+pub unlimited-cons : (m : Moment) (past : List Moment) → m.found.pedal ≡ false → is_limited past ≡ false →
     is_limited (m ∷ past) ≡ false
 unfolding is_limited
 unlimited-cons m past e f = or_from _ _ e f
@@ -472,7 +472,7 @@ trip_once_confirmed s a (x ∷ h) each proper c =
     ]
 
 -- no trip, no order
-latch1_shut : (s : Setting) (h : List Tick) → tripped (moments_of s h) ≡ false →
+pub latch1_shut : (s : Setting) (h : List Tick) → tripped (moments_of s h) ≡ false →
     latch1 (moments_of s h) ≡ false
 unfolding moments_of
 latch1_shut s [] u = unfold latch1 in refl

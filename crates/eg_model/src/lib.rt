@@ -3,6 +3,7 @@
 //! their contracts. Longer runs are in `eg_runs`.
 #![tactic(auto)]
 
+mod availability;
 mod branching;
 mod examples;
 mod faulty_runs;
@@ -14,6 +15,7 @@ mod records;
 mod sharp_cut;
 mod start_up;
 
+pub use availability::{far_misses_never_cut, records_stay_available};
 pub use branching::runs_branch;
 pub use examples::{alternating_slices, full_run, passed_test, probing_run, raise_is_read};
 pub use faulty_runs::{
