@@ -1,1 +1,1 @@
-for source in examples/*.asm examples/worked/*.asm; do ./egasim asm "$source" | cmp - "${source%.asm}.hex" && echo "$source"; done
+for file in examples/*.asm examples/*.hex examples/worked/*.asm examples/worked/*.hex; do ./egasim asm "${file%.*}.asm" | cmp - "${file%.*}.hex" && echo "$file"; done

@@ -1,6 +1,6 @@
 -- Four questions with their results, the folds on the way and the numbers that are expected, the counts of level 2's
--- words and what they feed, the token of a tick, a reaction time and bounds for lapses, computed from the definitions.
-use Rattle.std.proofs.Common.{◌≡◌, ℕ, true, false, ◌∷◌, List, [], map, take, reverse, refl, arith}
+-- words and what they feed, the token of a tick, a reaction time, bounds for lapses and distances of misses, computed from the definitions.
+use Rattle.std.proofs.Common.{◌≡◌, ℕ, ◌≤◌, ◌<◌, true, false, ◌∷◌, List, [], map, take, reverse, refl, arith}
 use Rattle.eg_num.specs.Windows.{WeightParts}
 use Rattle.eg_num.specs.Interpolation.{value_at}
 use Rattle.eg_sensor.specs.Readings.{has_bit}
@@ -12,7 +12,7 @@ use Rattle.eg_answer.specs.Feeds.{pedal_feed, plate_feed, load_feed, speed_feed,
 use Rattle.eg_answer.specs.Modules.{modules_before_react, modules}
 use Rattle.eg_answer.specs.Answers.{pedal_result, permitted_result, estimate_result, excess_result, pairs_result, results_of, expected_of, answer_number}
 use Rattle.eg_answer.specs.Token.{next_token_of, token_after}
-use Rattle.eg_answer.specs.Times.{TimeParts, verdicts_to_confirm, reaction_of, test_ticks_of, runs_to_confirm, periods_to_confirm, worth_of, rounds_to_confirm, lapse_periods, lapse_bound_of, HasLapseBound}
+use Rattle.eg_answer.specs.Times.{TimeParts, verdicts_to_confirm, reaction_of, test_ticks_of, runs_to_confirm, periods_to_confirm, worth_of, rounds_to_confirm, lapse_periods, lapse_bound_of, HasLapseBound, periods_between_misses, miss_spacing_of, HasMissSpacing}
 use Rattle.eg_answer.specs.declared.words.TheConstants.{MIRRORED_WORDS, STORED_WORDS}
 use Rattle.eg_answer.specs.declared.rules.Rules.{Rules}
 use Rattle.eg_answer.specs.declared.rules.TestRow.{TestRow}
@@ -21,7 +21,7 @@ use Rattle.eg_answer.specs.declared.rules.TestRow.{TestRow}
 unfoldable answering : ℕ
 unfolding value_at permitted is_excess permitted_torque estimated_torque excess_number disagreeing_pairs mixed fold_of pedal_result permitted_result estimate_result excess_result pairs_result
     results_of expected_of answer_number next_token_of token_after modules_before_react modules verdicts_to_confirm reaction_of test_ticks_of
-    runs_to_confirm periods_to_confirm worth_of rounds_to_confirm lapse_periods lapse_bound_of
+    runs_to_confirm periods_to_confirm worth_of rounds_to_confirm lapse_periods lapse_bound_of periods_between_misses miss_spacing_of
 answering = 0
 
 -- pedals 0, 500, 1000; speeds 800, 3000, 6000
@@ -172,3 +172,23 @@ lapse-25 = refl
 lapse-100 : ¬ HasLapseBound (torque 100) (times 3)
 unfolding answering
 lapse-100 h = absurd (omega (arith, h))
+
+-- two wrong verdicts add six of nine: where a right one takes two, three of them and so five periods of seven
+-- ticks are enough; where it takes four, two of them are
+abbrev sevens : ℕ → TimeParts
+sevens down = record { period = 7; first = 1; last = 4; send = 3; weights = record { up = 3; down = down; limit = 9 } }
+
+spacing-2 : (periods_between_misses (sevens 2)) ∷ miss_spacing_of (sevens 2) ∷ [] ≡ 5 ∷ 35 ∷ []
+unfolding answering
+spacing-2 = refl
+
+spacing-4 : (periods_between_misses (sevens 4)) ∷ miss_spacing_of (sevens 4) ∷ [] ≡ 4 ∷ 28 ∷ []
+unfolding answering
+spacing-4 = refl
+
+-- where right verdicts take nothing there is none, nor where two wrong ones add all that the limit is
+spacing-0 : ¬ HasMissSpacing (sevens 0)
+spacing-0 h = absurd (let f : 1 ≤ 0 = h.some_taken in omega arith)
+
+spacing-tie : ¬ HasMissSpacing (record { period = 7; first = 1; last = 4; send = 3; weights = record { up = 3; down = 1; limit = 6 } })
+spacing-tie h = absurd (let f : 6 < 6 = h.two_are_few in omega arith)

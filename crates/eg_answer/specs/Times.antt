@@ -70,3 +70,24 @@ lapse_periods torque times = rounds_to_confirm torque times * periods_to_confirm
 -- tick after them; so each stretch of excess is shorter.
 unfoldable pub lapse_bound_of : WeightParts → TimeParts → ℕ
 lapse_bound_of torque times = (lapse_periods torque times + 1) * times.period
+
+-- ---- missed runs of level 2 that never cut ----
+
+-- There is a distance from which on missed runs never cut: two wrong verdicts in a row, which is as much as
+-- one missed run spoils, don't confirm, and right ones take back what they add.
+pub record HasMissSpacing (times : TimeParts) : Type 0 where
+  pub two_are_few : 2 * times.weights.up < times.weights.limit
+  pub some_taken : 1 ≤ times.weights.down
+
+-- Misses that lie so many periods apart: the right verdicts between them, which are all but two, take back
+-- what those two add.
+abbrev pub TakesBack : TimeParts → ℕ → Type 0
+TakesBack times periods = 2 * times.weights.up ≤ (periods - 2) * times.weights.down
+
+-- the least number of periods of which this is so
+unfoldable pub periods_between_misses : TimeParts → ℕ
+periods_between_misses times = quotient_up (2 * times.weights.up) times.weights.down + 2
+
+-- the least distance of misses that never cut, in ticks
+unfoldable pub miss_spacing_of : TimeParts → ℕ
+miss_spacing_of times = periods_between_misses times * times.period

@@ -1,6 +1,6 @@
 //! Questions and answers of the controller monitoring: test rows and their results, the fold that an answer
 //! carries, the token that the modules of level 2 move, the questions, and the times of the answers with the
-//! reaction time and the bound for lapses.
+//! reaction time, the bound for lapses and the distance of missed runs that never cut.
 #![tactic(auto)]
 
 mod answers;
@@ -22,6 +22,6 @@ pub use marks::{AnswerMark, Verdict};
 pub use modules::{ACTUAL, CHECK, DEBOUNCE, EXCESS, MODULES, PAIRS, PEDAL, PERMITTED, REACT};
 pub use questions::{Question, Questions};
 pub use rules::{Rules, TestRow};
-pub use times::{Times, lapse_bound, reaction, verdicts_to_confirm};
+pub use times::{Times, lapse_bound, miss_spacing, reaction, verdicts_to_confirm};
 pub use token::{next_token, token_counts_modules};
 pub use words::{MIRRORED_WORDS, STORED_WORDS, words_in_numbers};

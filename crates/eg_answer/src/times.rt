@@ -1,7 +1,8 @@
-// The times of the answers, and the reaction time.
-ghost use Rattle.std.specs.Prelude.{◌≡◌, ◌+◌, ◌*◌, ◌≤◌, ◌<◌, SomeIff};
+// The times of the answers, and what follows from them: the reaction time, the bound for lapses, and the
+// distance of missed runs that never cut.
+ghost use Rattle.std.specs.Prelude.{◌≡◌, ℕ, ◌+◌, ◌*◌, ◌≤◌, ◌<◌, SomeIff, IfSome};
 ghost use Rattle.eg_num.specs.Windows.{AreWeights};
-ghost use Rattle.eg_answer.specs.Times.{TimeParts, AreTimes, verdicts_to_confirm, reaction_of, periods_to_confirm, HasLapseBound, lapse_bound_of};
+ghost use Rattle.eg_answer.specs.Times.{TimeParts, AreTimes, verdicts_to_confirm, reaction_of, periods_to_confirm, HasLapseBound, lapse_bound_of, HasMissSpacing, TakesBack, miss_spacing_of};
 
 use eg_num::Weights;
 use std::marker::Model;
@@ -164,6 +165,26 @@ pub fn lapse_bound(torque: &Weights, times: &Times) -> Option<u32>
     if taken < up {
         let rounds = u32::from(answers.limit()).div_ceil(up - taken);
         Some((rounds * periods + 2) * u32::from(times.period()))
+    } else {
+        None
+    }
+}
+
+/// The least distance in ticks from which on missed runs of level 2 never cut (docs/CONCEPT.md, "Lapses"). A
+/// missed run spoils at most two verdicts, which add `2 * up`; of two misses so many periods apart all
+/// verdicts between but those two are right, and take that back. None exactly where two wrong verdicts are
+/// enough to confirm, `limit <= 2 * up`, or a right one takes nothing.
+pub fn miss_spacing(times: &Times) -> Option<u32>
+    ensures distance { SomeIff result (HasMissSpacing times.now) (miss_spacing_of times.now) }
+    ensures least { (periods : ℕ) → TakesBack times.now periods →
+        IfSome result (λ ticks. ticks ≤ periods * times.now.period) }
+{
+    let answers = times.weights();
+    let spoiled = 2 * u32::from(answers.up());
+    let down = u32::from(answers.down());
+    if down >= 1 && spoiled < u32::from(answers.limit()) {
+        let periods = spoiled.div_ceil(down) + 2;
+        Some(periods * u32::from(times.period()))
     } else {
         None
     }

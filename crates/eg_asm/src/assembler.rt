@@ -11,7 +11,7 @@ ghost use Rattle.eg_asm.specs.Sources.{Assembles};
 ghost use Rattle.eg_asm.specs.Listings.{source_text};
 ghost use Rattle.eg_asm.specs.Meanings.{Means};
 ghost use Rattle.eg_asm.specs.Kept.{Holds};
-ghost use Rattle.eg_asm.specs.Reading.{items_from};
+ghost use Rattle.eg_asm.specs.Reading.{items_from, assembled};
 
 use crate::AsmFault;
 use crate::source::Source;
@@ -43,11 +43,12 @@ fn read_source(alloc: Global, bytes: &[u8]) -> Result<Source<'_>, AsmFault>
 }
 
 /// What `assemble` says of a source is all that there is to say (docs/FORMATS.md, "Sources"): each source has
-/// one answer. That of what words are written as is these words.
+/// one answer, which is found by reading its lines. That of what words are written as is these words.
 pub fn sources_have_one_answer()
     ensures some { (source : List ℕ) → (answer : Result (List ℕ) AsmFault) × Assembles source answer }
     ensures one { (source : List ℕ) (one other : Result (List ℕ) AsmFault) →
         Assembles source one → Assembles source other → one ≡ other }
+    ensures reads { (source : List ℕ) → Assembles source (assembled source) }
     ensures back { (words : List ℕ) (answer : Result (List ℕ) AsmFault) →
         All (λ word. word < 65536) words → length words ≤ MOST_WORDS →
         Assembles (source_text words) answer → answer ≡ Ok words }

@@ -15,6 +15,6 @@ pub enum AsmFault {
     #[error("label in line {line}")]
     Label { line: u32 },
     /// Something but an empty line, a comment or a label stands after 1,024 instructions.
-    #[error("more than 1024 instructions")]
+    #[error("more than 1024 words")]
     Long,
 }

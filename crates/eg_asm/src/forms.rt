@@ -16,7 +16,7 @@ const B: Operand = Operand::Register { weight: 64 };
 const C: Operand = Operand::Register { weight: 8 };
 
 /// The form that any word is of.
-static WORD: FormRow = FormRow {
+const WORD: FormRow = FormRow {
     mnemonic: b"word",
     base: 0x0000,
     operands: &[Operand::Number { most: 65_535 }],
@@ -41,7 +41,7 @@ static FORMS: [FormRow; 18] = [
     FormRow { mnemonic: b"jlt", base: 0xe000, operands: &[A, B, Operand::Target { reach: 32 }] },
     FormRow { mnemonic: b"wait", base: 0xf000, operands: &[] },
     FormRow { mnemonic: b"jr", base: 0xf001, operands: &[A] },
-    FormRow { mnemonic: b"word", base: 0x0000, operands: &[Operand::Number { most: 65_535 }] },
+    WORD,
 ];
 
 /// All forms.

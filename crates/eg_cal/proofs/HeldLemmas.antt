@@ -56,7 +56,7 @@ number_in-is low high d n e =
     let found = bind-some (as_integer d) (natural_in low high) n e in
     as_integer-is d found.0 found.1.0 ∙ ap integer (natural_in-is low high found.0 n found.1.1)
 
-natural_in-pos : (low high n : ℕ) → low ≤ n → n ≤ high → natural_in low high (pos n) ≡ Some n
+pub natural_in-pos : (low high n : ℕ) → low ≤ n → n ≤ high → natural_in low high (pos n) ≡ Some n
 natural_in-pos low high n least most = rw (le-true low n least, le-true n high most) refl
 
 -- ---- arrays of integers
@@ -84,7 +84,7 @@ number_items-count [] = refl
 number_items-count (n ∷ ns) = ap suc (number_items-count ns)
 
 -- the items of an array of least to most items
-items_in-is : (least most : ℕ) (d : Data) (ds : Items) → items_in least most d ≡ Some ds → (d ≡ array ds) × ((least ≤ count ds) × (count ds ≤ most))
+pub items_in-is : (least most : ℕ) (d : Data) (ds : Items) → items_in least most d ≡ Some ds → (d ≡ array ds) × ((least ≤ count ds) × (count ds ≤ most))
 items_in-is least most d ds e =
     let got = bind-some (as_array d) (λ es. if nat_le least (count es) && nat_le (count es) most then Some es else None) ds e in
     let (passed, same) = if-some (nat_le least (count got.0) && nat_le (count got.0) most) got.0 ds got.1.1 in
@@ -92,7 +92,7 @@ items_in-is least most d ds e =
     let many : count got.0 ≡ count ds = ap count same in
     (as_array-is d got.0 got.1.0 ∙ ap array same, (rw many at (true-le _ _ from), rw many at (true-le _ _ to)))
 
-items-held : (least most : ℕ) (ds : Items) (n : ℕ) → count ds ≡ n → least ≤ n → n ≤ most → items_in least most (array ds) ≡ Some ds
+pub items-held : (least most : ℕ) (ds : Items) (n : ℕ) → count ds ≡ n → least ≤ n → n ≤ most → items_in least most (array ds) ≡ Some ds
 items-held least most ds n many from to = rw (many, le-true least n from, le-true n most to) refl
 
 numbers_in-is : (least most high : ℕ) (d : Data) (ns : List ℕ) → numbers_in least most high d ≡ Some ns
@@ -145,7 +145,7 @@ row_items-count (row ∷ rows) = ap suc (row_items-count rows)
 
 -- ---- contents
 
-unless_some-none : {X : Type 0} (f : CalFault) (o : Option X) → unless_some f o ≡ None → (x : X) × (o ≡ Some x)
+pub unless_some-none : {X : Type 0} (f : CalFault) (o : Option X) → unless_some f o ≡ None → (x : X) × (o ≡ Some x)
 unless_some-none f None e = absurd (cc)
 unless_some-none f (Some x) e = (x, refl)
 

@@ -13,9 +13,9 @@ use Rattle.eg_cal.specs.declared.key.CalFault.TheVariants as fault
 use Rattle.eg_cal.specs.Keys.{brake_keys, all_keys, content_of}
 use Rattle.eg_toml.specs.Refusals.{or_else}
 use Rattle.eg_toml.proofs.RefusalLemmas.{or-none, none-or, map-none, if-none, unless-ok}
-use Rattle.eg_cal.specs.Contents.{version_of, questions_of}
+use Rattle.eg_cal.specs.Contents.{version_of}
 use Rattle.eg_cal.specs.Checks.{fault_at, first_fault, keys_fault}
-use Rattle.eg_cal.specs.Calibration.{falls, falling_row, is_window, rising_fault, window_fault, answer_fault, parts_fault, unknown_fault, refusal_of, permit_of, times_of, rules_of, parts_of}
+use Rattle.eg_cal.specs.Calibration.{falls, falling_row, is_window, rising_fault, window_fault, answer_fault, parts_fault, unknown_fault, unanswered_refusal_of, refusal_of, permit_of, times_of, parts_of}
 use Rattle.eg_cal.specs.Held.{IsKeyOf}
 use Rattle.eg_cal.specs.Rules.{IsWindow, KeepsRules, AcceptedLaw}
 use Rattle.eg_cal.proofs.HeldLemmas.{content-held, held-content}
@@ -43,7 +43,7 @@ each-none ms version each [] of_version = refl
 each-none ms version each (key ∷ keys) of_version =
     none-or (fault_at ms key) (first_fault ms keys) (each key of_version.0) (each-none ms version each keys of_version.1)
 
-all-none : (ms : Members) (version : ℕ) → ((key : CalKey) → IsKeyOf version key → fault_at ms key ≡ None)
+pub all-none : (ms : Members) (version : ℕ) → ((key : CalKey) → IsKeyOf version key → fault_at ms key ≡ None)
     → (tables : List (List CalKey)) → AllByRecursion (λ keys. AllByRecursion (IsKeyOf version) keys) tables → keys_fault ms tables ≡ None
 all-none ms version each [] of_version = refl
 all-none ms version each (keys ∷ tables) of_version =
@@ -61,7 +61,7 @@ brake_key : (ms : Members) (version : ℕ) → version ≡ 2 → AllByRecursion 
 brake_key ms version is all = (subst (λ v. AllByRecursion (λ key. fault_at ms key ≡ None) (brake_keys v)) is all).0
 
 -- the keys of a version are of that version
-of_version : (version : ℕ) → AllByRecursion (λ keys. AllByRecursion (IsKeyOf version) keys) (all_keys version)
+pub of_version : (version : ℕ) → AllByRecursion (λ keys. AllByRecursion (IsKeyOf version) keys) (all_keys version)
 of_version version = (
   (tt, tt),
   (
@@ -77,7 +77,7 @@ of_version version = (
 )
 
 -- where no key of a version has a fault, none of that version has
-every_key : (ms : Members) (version : ℕ) → keys_fault ms (all_keys version) ≡ None → (key : CalKey) → IsKeyOf version key → fault_at ms key ≡ None
+pub every_key : (ms : Members) (version : ℕ) → keys_fault ms (all_keys version) ≡ None → (key : CalKey) → IsKeyOf version key → fault_at ms key ≡ None
 every_key ms version e Version h = (none-all ms (all_keys version) e).0.0
 every_key ms version e PermitPedal h = (none-all ms (all_keys version) e).1.0.0
 every_key ms version e PermitSpeed h = (none-all ms (all_keys version) e).1.0.1.0
@@ -151,10 +151,10 @@ window-true t w =
 
 keeps : (ms : Members) → refusal_of ms ≡ None → KeepsRules ms
 keeps ms e =
-    let (keys, rest) = or-none (keys_fault ms (all_keys (version_of ms))) (or_else (unknown_fault ms) (parts_fault (parts_of ms))) e in
+    let (others, answers) = or-none (unanswered_refusal_of ms) (answer_fault (parts_of ms)) e in
+    let (keys, rest) = or-none (keys_fault ms (all_keys (version_of ms))) (or_else (unknown_fault ms) (parts_fault (parts_of ms))) others in
     let (names, parts) = or-none (unknown_fault ms) (parts_fault (parts_of ms)) rest in
-    let (rising, more) = or-none (rising_fault (permit_of ms)) (or_else (window_fault (times_of ms)) (answer_fault (rules_of ms) (questions_of ms Question))) parts in
-    let (window, answers) = or-none (window_fault (times_of ms)) (answer_fault (rules_of ms) (questions_of ms Question)) more in
+    let (rising, window) = or-none (rising_fault (permit_of ms)) (window_fault (times_of ms)) parts in
     record {
       keys = λ key of. content-held (content_of key) ms key (every_key ms (version_of ms) keys key of);
       names = if-none _ _ names;
@@ -165,9 +165,9 @@ keeps ms e =
 
 no_refusal : (ms : Members) → KeepsRules ms → refusal_of ms ≡ None
 no_refusal ms k =
-    none-or _ _ (all-none ms (version_of ms) (λ key of. held-content (content_of key) ms key (k.keys key of)) (all_keys (version_of ms)) (of_version (version_of ms))) (none-or _ _ (rw (k.names) refl)
-    (none-or _ _ (ap (option_map fault.Rising) (falling_row-none _ k.rises))
-    (none-or _ _ (rw (window-true _ k.window) refl) (ap (option_map fault.Answer) (answered-none _ _ k.answers)))))
+    none-or _ _ (none-or _ _ (all-none ms (version_of ms) (λ key of. held-content (content_of key) ms key (k.keys key of)) (all_keys (version_of ms)) (of_version (version_of ms))) (none-or _ _ (rw (k.names) refl)
+    (none-or _ _ (ap (option_map fault.Rising) (falling_row-none _ k.rises)) (rw (window-true _ k.window) refl))))
+    (ap (option_map fault.Answer) (answered-none _ _ k.answers))
 
 pub accepted_law : AcceptedLaw
 accepted_law ms parts = (

@@ -1,5 +1,5 @@
 -- Files of both versions worked out by the definitions.
-use Rattle.std.proofs.Common.{◌≡◌, ℕ, Bool, true, false, List, [], ◌∷◌, ◌++◌, drop, length, map, codes, Option, Some, None, option_map, Ok, refl}
+use Rattle.std.proofs.Common.{◌≡◌, ℕ, Bool, true, false, List, [], ◌∷◌, ◌++◌, ◌+◌, drop, length, map, codes, Option, Some, None, option_map, Ok, Err, refl}
 use Rattle.std.specs.Str.{chars, is_utf8}
 use Rattle.toml.proofs.OnLiterals.{toml_on_literals}
 use Rattle.eg_num.specs.Interpolation.{value_at}
@@ -12,12 +12,14 @@ use Rattle.eg_toml.specs.Documents.{document_of}
 use Rattle.eg_values.specs.Reference.{reference_parts}
 use Rattle.eg_cal.specs.declared.key.CalKey.TheVariants as key
 use Rattle.eg_cal.specs.declared.key.CalFault.{CalFault}
-use Rattle.eg_cal.specs.declared.key.CalFault.TheVariants.{Key}
+use Rattle.eg_cal.specs.declared.key.CalFault.TheVariants.{Key, Answer}
 use Rattle.eg_cal.specs.Questions.{readings_in, row_in, asked_in}
 use Rattle.eg_cal.specs.Checks.{first_fault}
 use Rattle.eg_cal.specs.Names.{is_all_known}
 use Rattle.eg_cal.specs.Calibration.{first_from, unknown_fault, refusal_of, brake_of, calibration_of}
+use Rattle.eg_cal.specs.Answers.{answers_of, with_answers}
 use Rattle.eg_cal.specs.Reference.{reference_text}
+use Rattle.eg_toml.specs.Refusals.{seen}
 
 -- the reference file in version 2, with the brake
 abbrev with_brake : List ℕ
@@ -26,6 +28,29 @@ with_brake = codes "version = 2\n[permit]\nbrake = true\n" ++ drop (length (code
 with_brake_known : calibration_of (document_of with_brake) ≡ Ok (record reference_parts { brake = true })
 unfolding toml_on_literals chars is_utf8 value_at permitted is_excess permitted_torque estimated_torque excess_number disagreeing_pairs mixed fold_of pedal_result permitted_result estimate_result excess_result pairs_result results_of expected_of readings_in row_in asked_in first_fault is_all_known first_from
 with_brake_known = refl
+
+-- the reference file with a threshold of 300, by which the third answer is another
+abbrev before_threshold : List ℕ
+before_threshold = codes "version = 1\n[permit]\npedal = [0, 500, 1000]\nspeed = [800, 3000, 6000]\ntable = [[200, 100, 0], [1000, 1200, 900], [2000, 2400, 1800]]\nthreshold = "
+
+abbrev with_threshold : List ℕ
+with_threshold = before_threshold ++ codes "300" ++ drop (length before_threshold + 3) reference_text
+
+abbrev right : List ℕ
+right = 8842 ∷ 55753 ∷ 44815 ∷ 19505 ∷ []
+
+-- it is refused for that answer; all right ones are told; and with these put in it is accepted
+threshold_refused : calibration_of (document_of with_threshold) ≡ Err (Answer 2)
+unfolding toml_on_literals chars is_utf8 value_at permitted is_excess permitted_torque estimated_torque excess_number disagreeing_pairs mixed fold_of pedal_result permitted_result estimate_result excess_result pairs_result results_of expected_of readings_in row_in asked_in first_fault is_all_known first_from
+threshold_refused = refl
+
+threshold_answered : seen (map (λ question. question.answer)) (answers_of (document_of with_threshold)) ≡ Ok right
+unfolding toml_on_literals chars is_utf8 value_at permitted is_excess permitted_torque estimated_torque excess_number disagreeing_pairs mixed fold_of pedal_result permitted_result estimate_result excess_result pairs_result results_of expected_of readings_in row_in asked_in first_fault is_all_known first_from
+threshold_answered = refl
+
+threshold_accepted : seen (λ parts. map (λ question. question.answer) parts.questions) (calibration_of (option_map (with_answers right) (document_of with_threshold))) ≡ Ok right
+unfolding toml_on_literals chars is_utf8 value_at permitted is_excess permitted_torque estimated_torque excess_number disagreeing_pairs mixed fold_of pedal_result permitted_result estimate_result excess_result pairs_result results_of expected_of readings_in row_in asked_in first_fault is_all_known first_from
+threshold_accepted = refl
 
 -- a file with this version that ends with these lines of `permit`
 abbrev permit_file : List ℕ → List ℕ → List ℕ

@@ -130,14 +130,13 @@ rising_fault g = option_map fault.Rising (falling_row g)
 abbrev pub window_fault : TimeParts → Option CalFault
 window_fault t = if is_window t then None else Some fault.Window
 
--- the refusal of questions one of which has a wrong answer
-abbrev pub answer_fault : Rules → List QuestionParts → Option CalFault
-answer_fault rules asked = option_map fault.Answer (wrong_answer rules asked)
-
--- the first refusal of these: the permit table, then the times, then the answers
+-- the first refusal of these: the permit table, then the times
 abbrev pub parts_fault : CalibrationParts → Option CalFault
-parts_fault p =
-    or_else (rising_fault p.rules.permit) (or_else (window_fault p.times) (answer_fault p.rules p.questions))
+parts_fault p = or_else (rising_fault p.rules.permit) (window_fault p.times)
+
+-- the refusal of a calibration one of whose questions has a wrong answer
+abbrev pub answer_fault : CalibrationParts → Option CalFault
+answer_fault p = option_map fault.Answer (wrong_answer p.rules p.questions)
 
 -- ---- the file
 
@@ -145,12 +144,16 @@ parts_fault p =
 abbrev pub unknown_fault : Members → Option CalFault
 unknown_fault ms = if is_all_known (version_of ms) ms then None else Some (fault.Key Unknown)
 
--- the first refusal: of the keys of the file's version in their order, then of other names, then of the
--- values together
-abbrev pub refusal_of : Members → Option CalFault
-refusal_of ms =
+-- the first refusal but for wrong answers: of the keys of the file's version in their order, then of other
+-- names, then of the values together
+abbrev pub unanswered_refusal_of : Members → Option CalFault
+unanswered_refusal_of ms =
     or_else (keys_fault ms (all_keys (version_of ms)))
     (or_else (unknown_fault ms) (parts_fault (parts_of ms)))
+
+-- the first refusal: the answers come last of all
+abbrev pub refusal_of : Members → Option CalFault
+refusal_of ms = or_else (unanswered_refusal_of ms) (answer_fault (parts_of ms))
 
 -- the calibration of a document, or its first refusal
 abbrev pub calibration_of : Option Members → Result CalibrationParts CalFault

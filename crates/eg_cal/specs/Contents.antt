@@ -60,7 +60,7 @@ abbrev pub truth_of : Members → CalKey → Bool
 truth_of ms key = unwrap_or (read_truth ms key) false
 
 -- the points of a key that may hold this, and none for other keys
-abbrev points_as : Content → Members → CalKey → List ℕ
+abbrev pub points_as : Content → Members → CalKey → List ℕ
 points_as (axis high) ms key = unwrap_or (read_numbers 2 16 high ms key) []
 points_as _ ms key = []
 
@@ -73,7 +73,7 @@ abbrev pub point_count : Members → CalKey → ℕ
 point_count ms key = length (points_of ms key)
 
 -- the values of a key that may hold this, and none for other keys
-abbrev values_as : Content → Members → CalKey → List ℕ
+abbrev pub values_as : Content → Members → CalKey → List ℕ
 values_as (values along high) ms key =
     unwrap_or (read_numbers (point_count ms along) (point_count ms along) high ms key) []
 values_as (grid down across high) ms key =

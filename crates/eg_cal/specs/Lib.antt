@@ -5,6 +5,7 @@ pub mod Contents
 pub mod Checks
 pub mod Names
 pub mod Calibration
+pub mod Answers
 pub mod Held
 pub mod Rules
 pub mod Reference

@@ -3,6 +3,7 @@ ghost use Rattle.std.specs.Prelude.{◌≡◌, Ok};
 ghost use Rattle.eg_toml.specs.Documents.{document_of};
 ghost use Rattle.eg_values.specs.Reference.{reference_parts};
 ghost use Rattle.eg_cal.specs.Calibration.{calibration_of};
+ghost use Rattle.eg_cal.specs.Answers.{AnswersLaw, NoAnswerLaw};
 ghost use Rattle.eg_cal.specs.Rules.{AcceptedLaw};
 ghost use Rattle.eg_cal.specs.Reference.{reference_text};
 
@@ -17,4 +18,12 @@ pub fn accepted_files_keep_the_rules()
 /// `reference` gives (docs/FORMATS.md, "Calibration files").
 pub fn reference_is_its_file()
     ensures { calibration_of (document_of reference_text) ≡ Ok reference_parts }
+{}
+
+/// Does nothing when it runs. Its clauses are laws: a document that is refused for no more than wrong answers
+/// is accepted once the right ones are put in, and nothing else of its calibration changes; and none is
+/// refused for its answers where the right ones are asked for (docs/FORMATS.md, "Calibration files").
+pub fn right_answers_are_accepted()
+    ensures accepted { AnswersLaw }
+    ensures never_refused { NoAnswerLaw }
 {}

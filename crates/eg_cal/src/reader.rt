@@ -1,21 +1,20 @@
 // The reader of calibration files.
-ghost use Rattle.std.specs.Prelude.{◌≡◌, ◌≤◌, length};
 ghost use Rattle.toml.specs.View.{table_view};
 ghost use Rattle.eg_toml.specs.Documents.{document_of};
 ghost use Rattle.eg_toml.specs.Refusals.{IsRead, Checks};
 ghost use Rattle.eg_cal.specs.declared.key.CalFault.TheVariants.{Memory};
-ghost use Rattle.eg_cal.specs.Calibration.{calibration_of, refusal_of, parts_of, parts_fault, rising_fault, window_fault, answer_fault};
-ghost use Rattle.eg_values.specs.Calibration.{made_of};
+ghost use Rattle.eg_cal.specs.Calibration.{calibration_of, refusal_of, unanswered_refusal_of, parts_of, parts_fault, rising_fault, window_fault};
+ghost use Rattle.eg_cal.specs.Answers.{answers_of, answered_in};
 
 use crate::document::Document;
 use crate::entries::{AnswerTimes, Entries, entries_in, version_in};
+use crate::unanswered::Unanswered;
 use crate::{CalFault, CalKey};
 use eg_answer::{Questions, Rules, Times};
 use eg_num::Table2;
-use eg_plant::PlantData;
 use eg_toml::read_document;
 use eg_torque::Permit;
-use eg_values::{Apart, Calibration};
+use eg_values::Calibration;
 use std::alloc::Global;
 
 /// The calibration that a file says (docs/FORMATS.md, "Calibration files"), or the first rule that the file
@@ -27,9 +26,37 @@ pub fn read_calibration(alloc: Global, bytes: &[u8]) -> Result<Calibration, CalF
     calibration_in(&Document { root })
 }
 
+/// The questions of a calibration file, each with the right answer, whatever answers stand in it
+/// (docs/FORMATS.md, "Commands"), or the first rule that the file breaks, but that on answers. The result is
+/// exactly that of `answers_of`, unless memory runs out, which it may at any bytes.
+pub fn read_answers(alloc: Global, bytes: &[u8]) -> Result<Questions, CalFault>
+    ensures { IsRead Memory (answers_of (document_of bytes.now)) result }
+{
+    let root = read_document(alloc, bytes)?;
+    answers_in(&Document { root })
+}
+
 /// The calibration that a document says, or the first rule that it breaks.
 fn calibration_in(document: &Document) -> Result<Calibration, CalFault>
     ensures { let ms = table_view document.now.root in Checks (refusal_of ms) (parts_of ms) result }
+{
+    let parts = unanswered_in(document)?;
+    parts.checked()
+}
+
+/// The questions of a document, each with the right answer, or the first other rule that it breaks.
+fn answers_in(document: &Document) -> Result<Questions, CalFault>
+    ensures { let ms = table_view document.now.root in
+        Checks (unanswered_refusal_of ms) (answered_in (parts_of ms)) result }
+{
+    let parts = unanswered_in(document)?;
+    Ok(parts.right_answers())
+}
+
+/// What a document says, whatever its answers, or the first other rule that it breaks.
+fn unanswered_in(document: &Document) -> Result<Unanswered, CalFault>
+    ensures { let ms = table_view document.now.root in
+        Checks (unanswered_refusal_of ms) (parts_of ms) result }
 {
     let version = version_in(document)?;
     let entries = entries_in(document, version)?;
@@ -41,8 +68,8 @@ fn calibration_in(document: &Document) -> Result<Calibration, CalFault>
     put_together(entries)
 }
 
-/// The calibration of these entries, or the first rule that they break together.
-fn put_together(entries: Entries) -> Result<Calibration, CalFault>
+/// What these entries are together, whatever the answers, or the first other rule that they break.
+fn put_together(entries: Entries) -> Result<Unanswered, CalFault>
     ensures { Checks (parts_fault entries) entries result }
 {
     let permit = permit_of(entries.permit)?;
@@ -56,33 +83,13 @@ fn put_together(entries: Entries) -> Result<Calibration, CalFault>
         pair: entries.pair,
         torque: entries.torque,
     };
-    answered(
+    Ok(Unanswered {
         rules,
-        entries.plant,
+        plant: entries.plant,
         times,
-        entries.questions,
-        entries.brake,
-    )
-}
-
-/// The calibration of these parts, where each question's answer is the fold of its row.
-fn answered(
-    rules: Rules,
-    plant: PlantData,
-    times: Times,
-    questions: Questions,
-    brake: bool,
-) -> Result<Calibration, CalFault>
-    requires kt { rules.kt ≡ plant.kt }
-    requires count { 2 ≤ length questions }
-    ensures { Checks (answer_fault rules questions) (made_of rules plant times questions brake) result }
-{
-    match Calibration::of_parts(rules, plant, times, questions, brake) {
-        Ok(calibration) => Ok(calibration),
-        Err(Apart::Answer { index }) => Err(CalFault::Answer { index }),
-        Err(Apart::Torque) => unreachable!(),
-        Err(Apart::Few) => unreachable!(),
-    }
+        questions: entries.questions,
+        brake: entries.brake,
+    })
 }
 
 /// The permit table of these values, where no row falls.

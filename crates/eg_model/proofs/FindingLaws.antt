@@ -22,7 +22,7 @@ use Rattle.eg_record.proofs.GivenLemmas.{Contains-head, Contains-tail}
 use Rattle.eg_model.specs.History.{Setting, Tick, Moment}
 use Rattle.eg_model.specs.Signals.{tripped}
 use Rattle.eg_model.specs.Paths.{latch1, latch2, path1_at, path2_at, on_at}
-use Rattle.eg_model.specs.Moments.{moment, moments_of, moments_in}
+use Rattle.eg_model.specs.Moments.{moment, moments_of}
 use Rattle.eg_model.specs.Premises.{Follows, is_on_after}
 use Rattle.eg_model.specs.Reaction.{spoils_answers}
 use Rattle.eg_model.specs.Rows.{row_of}
@@ -30,7 +30,7 @@ use Rattle.eg_model.specs.Findings.{cutting, Finds, opens_path, opens_by_itself,
 use Rattle.eg_model.proofs.TickLemmas.{Each, length-moments, moment-on, moment-trip, moment-orders, moment-answers, moment-opens, tripped-cons}
 use Rattle.eg_model.proofs.TripLemmas.{latch1-cons}
 use Rattle.eg_model.proofs.ClassLemmas.{of_history}
-use Rattle.eg_model.proofs.SpanRows.{Split, split, follows-end, rows_after, length-rows_after, SpanRows, RowAfter, row_on, row_tick}
+use Rattle.eg_model.proofs.SpanRows.{Split, split, follows-end, rows_after, length-rows_after, SpanRows, row_on, row_tick, LastTick, last_tick}
 use Rattle.eg_model.proofs.SpanLaws.{reaction_least, onset_off}
 
 -- ---- faults that open no path ----
@@ -222,35 +222,13 @@ finds_by_off s start x h follows spared off = finds_in_rows cutting finds_cut fi
 
 pub find_before_off : (s : Setting) (start : ℕ) (h : List Tick) → Follows s.fault start h →
     FindsBeforeOff s.fault start (SpanRows s start h)
-find_before_off s start h follows later before row e off spared = go parts.rest parts.rows_are within
+find_before_off s start h follows later before row e off spared = subst (Finds cutting) (sym last.before_are)
+    (finds_by_off s start last.tick last.past last.follows
+    (subst (λ t. opens_by_itself s.fault t ≡ false) (ap (λ (r : Row). r.tick) last.row_is ∙ row_tick s start last.tick last.past) spared)
+    (sym (ap (λ (r : Row). r.on) last.row_is ∙ row_on s start last.tick last.past) ∙ off))
   where
-    parts : Split s start h later (row ∷ before)
-    parts = split s start h later (row ∷ before) e
-
-    within : Follows s.fault start parts.rest
-    within = follows-end s.fault start parts.more parts.rest (subst (Follows s.fault start) parts.whole follows)
-
-    last : (x : Tick) (g : List Tick) → Follows s.fault start (x ∷ g) → row ≡ RowAfter s start x g →
-        before ≡ SpanRows s start g → Finds cutting before
-    last x g f first rest = subst (Finds cutting) (sym rest) (finds_by_off s start x g f
-        (subst (λ t. opens_by_itself s.fault t ≡ false) (ap (λ (r : Row). r.tick) first ∙ row_tick s start x g) spared)
-        (sym (ap (λ (r : Row). r.on) first ∙ row_on s start x g) ∙ off))
-
-    go : (g : List Tick) → row ∷ before ≡ SpanRows s start g → Follows s.fault start g → Finds cutting before
-    go [] rows f = absurd (none (rows ∙ (unfold rows_after moments_of moments_in in refl)))
-      where
-        none : row ∷ before ≡ [] → ⊥
-        none e = cc
-    go (x ∷ g) rows f = last x g f (head parted) (tail parted)
-      where
-        parted : row ∷ before ≡ RowAfter s start x g ∷ SpanRows s start g
-        parted = rows ∙ (unfold rows_after moments_of moments_in in refl)
-
-        head : row ∷ before ≡ RowAfter s start x g ∷ SpanRows s start g → row ≡ RowAfter s start x g
-        head e = cc
-
-        tail : row ∷ before ≡ RowAfter s start x g ∷ SpanRows s start g → before ≡ SpanRows s start g
-        tail e = cc
+    last : LastTick s start row before
+    last = last_tick s start h follows later before row e
 
 -- ---- found in time ----
 

@@ -152,7 +152,7 @@ trip_opens s (x ∷ h) each u = go each.0.runs refl (trip_opens s h each.1)
 
 -- ---- the bits that are fed ----
 
-fed_bits-skip : (b : Signals → Bool) (m : Moment) (past : List Moment) → m.feeds ≡ false →
+pub fed_bits-skip : (b : Signals → Bool) (m : Moment) (past : List Moment) → m.feeds ≡ false →
     fed_bits b (m ∷ past) ≡ fed_bits b past
 unfolding fed_bits
 fed_bits-skip b m past h = rw h refl

@@ -17,6 +17,8 @@ pub mod StartUpLaws
 pub mod SpanRuns
 pub mod RecordTicks
 pub mod BranchLaws
+pub mod OutputLaws
+pub mod OutputRecords
 pub mod SpanRows
 pub mod SpanLaws
 pub mod FindingLaws
@@ -32,3 +34,11 @@ pub mod LapseRuns
 pub mod LapseAnswers
 pub mod LapseWeights
 pub mod LapseLaw
+pub mod FewVerdicts
+pub mod LeastLaw
+pub mod MissWeights
+pub mod MissTicks
+pub mod SingleMisses
+pub mod MissVerdicts
+pub mod AvailabilityLaws
+pub mod AvailabilityRecords

@@ -1,5 +1,5 @@
 -- The reaction theorem, class by class.
-use Rattle.std.proofs.Common.{◌≡◌, ℕ, suc, ◌+◌, ◌-◌, ◌≤◌, ◌<◌, Bool, true, false, ◌||◌, ◌&&◌, List, [], ◌∷◌, ◌++◌, length, refl, sym, ap, ◌∙◌, arith, inl, inr, ◌⊎◌, Option, Some, None, ◌≢◌, length-append, append_assoc, nat_le, subst, is_some}
+use Rattle.std.proofs.Common.{◌≡◌, ℕ, suc, ◌+◌, ◌-◌, ◌≤◌, ◌<◌, Bool, true, false, ◌||◌, ◌&&◌, List, [], ◌∷◌, ◌++◌, length, refl, sym, ap, ◌∙◌, arith, inl, inr, ◌⊎◌, Option, Some, None, length-append, append_assoc, nat_le, subst, is_some}
 use Rattle.std.specs.Prelude.{if◌then◌else◌}
 use Rattle.std.proofs.lemmas.Bool.{or_left, or_right, leb-true, le-leb}
 use Rattle.eg_num.specs.Windows.{is_confirmed}
@@ -23,7 +23,7 @@ use Rattle.eg_model.specs.Answers.{is_sent, is_good, mark_at}
 use Rattle.eg_model.specs.Moments.{moment, moments_of}
 use Rattle.eg_model.specs.Rows.{rows_of}
 use Rattle.eg_model.specs.Premises.{AreProper, Follows, is_on_after, true_excesses, IsExcessConfirmed}
-use Rattle.eg_model.specs.Reaction.{ReactsInTime, ReactsAtOnce, reacts_at_once, is_at_once, spoils_answers, CutsFromOnset}
+use Rattle.eg_model.specs.Reaction.{OffFrom, ReactsInTime, ReactsAtOnce, reacts_at_once, is_at_once, spoils_answers, CutsFromOnset}
 use Rattle.eg_model.proofs.TickLemmas.{Each, Each-map, moment-mark, moment-mirror, trip_from_mirror, tripped-cons, tripped_on}
 use Rattle.eg_model.proofs.TripLemmas.{trip_by_excess, off_after_trip}
 use Rattle.eg_model.proofs.Seeing.{SeesExcess, sees_all}
@@ -108,31 +108,44 @@ off_by_sight s start h more x g obeys sees =
 -- ---- no good answer, and path 2 opens ----
 
 -- no answer is sent where a trip has come
-silent : (times : TimeParts) (x : Effects) (trip : Bool) (past : List Moment) →
-    (trip || tripped past) ≡ true → mark_at times x trip past ≢ Good
+absent : (times : TimeParts) (x : Effects) (trip : Bool) (past : List Moment) →
+    (trip || tripped past) ≡ true → mark_at times x trip past ≡ Absent
 unfolding mark_at is_sent
-silent times x trip past u = rw u (none _ (is_good x past))
+absent times x trip past u = rw u (none _ (is_good x past))
   where
-    none : (b good : Bool) → (if b && false then (if good then Good else Bad) else Absent) ≢ Good
-    none true good = λ e. cc
-    none false good = λ e. cc
+    none : (b good : Bool) → (if b && false then (if good then Good else Bad) else Absent) ≡ Absent
+    none true good = refl
+    none false good = refl
 
--- from the tick of a trip on there is none
-silent_on : (s : Setting) (y : Tick) (more h : List Tick) → tripped (moments_of s (y ∷ h)) ≡ true →
-    NoGood s (more ++ y ∷ []) h
-unfolding NoGood moments_of
-silent_on s y [] h u = (
-  (λ m. silent s.cal.times y.effects _ (moments_of s h) (sym (tripped-cons _ _) ∙ u)
-      (sym (moment-mark s y.effects y.entry (moments_of s h)) ∙ m)),
+-- from the end of h on no answer was sent
+unfoldable pub Unanswered : Setting → List Tick → List Tick → Type 0
+Unanswered s [] h = Unit {0}
+Unanswered s (x ∷ more) h = ((moment s x.effects x.entry
+    (moments_of s (more ++ h))).mark ≡ Absent) × Unanswered s more h
+
+-- so it is from the tick of a trip on
+pub unanswered_on : (s : Setting) (y : Tick) (more h : List Tick) → tripped (moments_of s (y ∷ h)) ≡ true →
+    Unanswered s (more ++ y ∷ []) h
+unfolding Unanswered moments_of
+unanswered_on s y [] h u = (
+  moment-mark s y.effects y.entry (moments_of s h)
+      ∙ absent s.cal.times y.effects _ (moments_of s h) (sym (tripped-cons _ _) ∙ u),
   tt,
 )
-silent_on s y (z ∷ more) h u =
+unanswered_on s y (z ∷ more) h u =
     let here : tripped (moments_of s ((more ++ y ∷ []) ++ h)) ≡ true =
     rw append_assoc (tripped_on s more (y ∷ h) u) in (
-      (λ m. silent s.cal.times z.effects _ (moments_of s ((more ++ y ∷ []) ++ h)) (or_right _ _ here)
-          (sym (moment-mark s z.effects z.entry (moments_of s ((more ++ y ∷ []) ++ h))) ∙ m)),
-      silent_on s y more h u,
+      moment-mark s z.effects z.entry (moments_of s ((more ++ y ∷ []) ++ h))
+          ∙ absent s.cal.times z.effects _ (moments_of s ((more ++ y ∷ []) ++ h)) (or_right _ _ here),
+      unanswered_on s y more h u,
     )
+
+-- and then no good one was
+none_good_of : (s : Setting) (more h : List Tick) → Unanswered s more h → NoGood s more h
+unfolding Unanswered NoGood
+none_good_of s [] h none = tt
+none_good_of s (x ∷ more) h none =
+    ((λ good. let same : Absent ≡ Good = sym none.0 ∙ good in cc), none_good_of s more h none.1)
 
 nothing_confirmed : (s : Setting) → IsExcessConfirmed s [] → ⊥
 unfolding is_confirmed true_excesses moments_of rows_of
@@ -163,7 +176,7 @@ off_after_trip_by_path2 s start (y ∷ h) more x g regular obeys sees long =
     let u = trip_by_sight s start (y ∷ h) more x g sees in
     let follows : Follows s.fault start (x ∷ (more ++ y ∷ []) ++ h) = rw append_assoc g.follows in
     let off = off_by_silence s g.accepted regular obeys start (more ++ y ∷ []) h x follows
-    (silent_on s y more h u) (simp length-append (omega arith)) in
+    (none_good_of s (more ++ y ∷ []) h (unanswered_on s y more h u)) (simp length-append (omega arith)) in
     rw append_assoc at off
 
 -- ---- no answer is good from the onset on ----
@@ -408,7 +421,8 @@ cut_in_time s f Halt of v l start h more x long g =
 cut_in_time s f Path1Closed of v l start h more x long g = bound_path_1_closed s f of start h more x long g
 cut_in_time s f c of v l start h more x long g = cut_at_once s f c of l start h more x refl g
 
-pub reacts_in_time : ReactsInTime
+pub reacts_in_time : (s : Setting) → IsAccepted s.cal → IsListed s.fault → (start : ℕ) (h : List Tick) →
+    IsExcessConfirmed s h → OffFrom s start h (reaction_of s.cal.times)
 reacts_in_time s accepted listed start h confirmed more x follows proper long = go s.fault refl listed
   where
     g : Given s start h more x
@@ -418,6 +432,11 @@ reacts_in_time s accepted listed start h confirmed more x follows proper long = 
     go None is listed = cut_none s is start h more x g
     go (Some f) is listed = unfold IsListed in
         cut_in_time s f f.class (record { is = is; class = refl }) listed.0.1 listed.1 start h more x long g
+
+pub reacts_in_time_law : ReactsInTime
+reacts_in_time_law cal accepted s is listed start h confirmed =
+    subst (λ n. OffFrom s start h (reaction_of n.times)) is
+    (reacts_in_time s (subst IsAccepted (sym is) accepted) listed start h confirmed)
 
 pub reacts_at_once_law : ReactsAtOnce
 reacts_at_once_law s accepted listed start h soon confirmed more x follows proper long =

@@ -238,7 +238,7 @@ module _ {E : Type 0} {b : BenchEngine E} {Keeps : PlantParts → E → Type 0} 
   proper_under r run valid n = proper_to r run n (λ t l. plates_are_held_within r.setting.fault valid t)
 
   -- and so the ticks of each drive span are proper
-  proper_span : (r : Run) → IsRun r → IsNoneOrValid r.setting.fault → (start count : ℕ) (span : List Row) →
+  pub proper_span : (r : Run) → IsRun r → IsNoneOrValid r.setting.fault → (start count : ℕ) (span : List Row) →
       SpanIn b r start count Drive span → AreProper r.setting (SpanTo b r count)
   proper_span r run valid start count span is =
       proper_drive r.setting (entries_to b r count) (proper_under r run valid count) is.kind_is
@@ -289,10 +289,13 @@ module _ {E : Type 0} {b : BenchEngine E} {Keeps : PlantParts → E → Type 0} 
         (record { effects = effects r.setting.fault (length (entries_to b r t)); entry = entry_at b r t (moments_to b r t) })
         (ticks r.setting (entries_to b r t)) (unfold entry_at shown_at in once.loads _) (loads_to r t)
 
+    pub loads_in : (r : Run) (count : ℕ) → All (λ x. x.entry.shown.load_2 ≡ x.entry.shown.load_1) (SpanTo b r count)
+    unfolding span_ticks
+    loads_in r count = All-take (λ x. x.entry.shown.load_2 ≡ x.entry.shown.load_1) _ (ticks r.setting (entries_to b r count)) (loads_to r count)
+
     plain_span : (r : Run) (start count : ℕ) (span : List Row) → SpanIn b r start count Drive span →
         ((t : ℕ) → t < count → is_before_onset r.setting.fault t ≡ true) → ArePlain (SpanTo b r count)
-    plain_span r start count span is quiet = plain_ticks r start (SpanTo b r count) is.follows
-        (unfold span_ticks in All-take (λ x. x.entry.shown.load_2 ≡ x.entry.shown.load_1) _ (ticks r.setting (entries_to b r count)) (loads_to r count))
+    plain_span r start count span is quiet = plain_ticks r start (SpanTo b r count) is.follows (loads_in r count)
         (λ t l. quiet t (let size = is.size in omega (arith, l, size)))
 
     proper_quiet : (r : Run) → IsRun r → (start count : ℕ) (span : List Row) → SpanIn b r start count Drive span →

@@ -39,16 +39,16 @@ unfoldable pub AllGood : List Bool → Type 0
 AllGood [] = Unit {0}
 AllGood (b ∷ bits) = (b ≡ false) × AllGood bits
 
-greatest-AllGood : (w : WeightParts) (bits : List Bool) → AllGood bits → greatest w bits ≡ 0
+pub greatest-AllGood : (w : WeightParts) (bits : List Bool) → AllGood bits → greatest w bits ≡ 0
 unfolding AllGood
 greatest-AllGood w [] h = greatest-nil w
 greatest-AllGood w (b ∷ bits) h =
     rw (h.0, greatest-good w bits) (let r = greatest-AllGood w bits h.1 in omega arith)
 
-not_reached : (w : WeightParts) (bits : List Bool) → 0 < w.limit → AllGood bits → is_reached w bits ≡ false
+pub not_reached : (w : WeightParts) (bits : List Bool) → 0 < w.limit → AllGood bits → is_reached w bits ≡ false
 not_reached w bits l h = rw (is_reached-greatest w bits l, greatest-AllGood w bits h) (lt-leb w.limit 0 l)
 
-none_first : (w : WeightParts) (bits : List Bool) → 0 < w.limit → AllGood bits → is_first w bits ≡ false
+pub none_first : (w : WeightParts) (bits : List Bool) → 0 < w.limit → AllGood bits → is_first w bits ≡ false
 unfolding is_first
 none_first w [] l h = refl
 none_first w (b ∷ bits) l h = and_left _ _ (not_reached w (b ∷ bits) l h)
@@ -84,7 +84,7 @@ still a n e = go (apart a n)
     go (inr (inl same)) = absurd (let f : true ≡ false = sym (eq-eqb n a same) ∙ e in cc)
     go (inr (inr more)) = le-ltb a n (omega arith) ∙ sym (le-ltb a (suc n) more)
 
-sent_now : (times : TimeParts) (p n t : ℕ) → n < times.period → t ≡ p * times.period + n →
+pub sent_now : (times : TimeParts) (p n t : ℕ) → n < times.period → t ≡ p * times.period + n →
     with_answer t (usual_mark times t) (one_answer times p n) ≡ one_answer times p (suc n)
 unfolding with_answer
 sent_now times p n t room at = go (n == times.send) refl
@@ -160,12 +160,12 @@ calm_at_first s = record {
 }
 
 -- a watch of a pair isn't found
-unfound_now : (w : WeightParts) (b : Signals → Bool) (feeds : Bool) (now : Signals) (past : List Moment) →
+pub unfound_now : (w : WeightParts) (b : Signals → Bool) (feeds : Bool) (now : Signals) (past : List Moment) →
     0 < w.limit → b now ≡ false → AllGood (fed_bits b past) → finds w b feeds now past ≡ false
 unfolding finds AllGood
 unfound_now w b feeds now past l e none = and_right _ _ (none_first w (b now ∷ fed_bits b past) l (e, none))
 
-whole_plain : is_whole no_effects ≡ true
+pub whole_plain : is_whole no_effects ≡ true
 unfolding is_whole modules modules_before_react no_effects
 whole_plain = refl
 
@@ -180,23 +180,23 @@ mark_law : (a b t u w past still_ p : Bool) → a ≡ p → b ≡ true → t ≡
 mark_law a b t u w past still_ true e1 e2 e3 e4 e5 e6 e7 = rw (e1, e2, e3, e4, e5, e6, e7) refl
 mark_law a b t u w past still_ false e1 e2 e3 e4 e5 e6 e7 = rw e1 refl
 
-send_plain : (times : TimeParts) (t : ℕ) → sends_at no_effects times t ≡ (t % times.period == times.send)
+pub send_plain : (times : TimeParts) (t : ℕ) → sends_at no_effects times t ≡ (t % times.period == times.send)
 unfolding sends_at sends_in is_send_tick place_of no_effects
 send_plain times t = refl
 
-reacts_plain : no_effects.ran REACT ≡ true
+pub reacts_plain : no_effects.ran REACT ≡ true
 unfolding no_effects
 reacts_plain = refl
 
 -- the mark of a plain tick
-mark_plain : (times : TimeParts) (trip : Bool) (past : List Moment) → trip ≡ false → tripped past ≡ false →
+pub mark_plain : (times : TimeParts) (trip : Bool) (past : List Moment) → trip ≡ false → tripped past ≡ false →
     whole_since_answer past ≡ true → mark_at times no_effects trip past ≡ usual_mark times (length past)
 unfolding mark_at is_sent is_good
 mark_plain times trip past t u w =
     mark_law _ _ _ _ _ _ _ _ (send_plain times
     (length past)) reacts_plain t u whole_plain w undisturbed_plain
 
-whole-cons : (m : Moment) (past : List Moment) → m.whole ≡ true → whole_since_answer past ≡ true →
+pub whole-cons : (m : Moment) (past : List Moment) → m.whole ≡ true → whole_since_answer past ≡ true →
     whole_since_answer (m ∷ past) ≡ true
 unfolding whole_since_answer
 whole-cons m past w p = or_right (is_answer m.mark) (m.whole && whole_since_answer past) (and_from _ _ w p)
@@ -204,7 +204,7 @@ whole-cons m past w p = or_right (is_answer m.mark) (m.whole && whole_since_answ
 -- ---- verdicts ----
 
 -- one good answer at the send tick is right
-right_alone : (times : TimeParts) (p : ℕ) → AreTimes times →
+pub right_alone : (times : TimeParts) (p : ℕ) → AreTimes times →
     verdict_of times (record { tick = p * times.period + times.send; good = true } ∷ []) ≡ Right
 unfolding verdict_of is_in_window place_of
 right_alone times p are = rw (
@@ -247,29 +247,28 @@ right_ones s are x h sent ends =
     ∙ rw (lt-ltb times.send (suc (times.period - 1)) high) refl
 
 -- a verdict, where there is one, is right
-abbrev IsNotWrong : Option Verdict → Type 0
+abbrev pub IsNotWrong : Option Verdict → Type 0
 IsNotWrong v = (v ≡ None) ⊎ (v ≡ Some Right)
 
-verdict_plain : (s : Setting) → AreTimes s.cal.times → (e : Entry) (h : List Tick) →
-    AreUsual s (plain e ∷ h) →
-    IsNotWrong (verdict_at s.cal.times no_effects (moment s no_effects e (moments_of s h)).mark
+pub verdict_usual : (s : Setting) → AreTimes s.cal.times → (x : Tick) (h : List Tick) → x.effects.wild ≡ None →
+    AreUsual s (x ∷ h) →
+    IsNotWrong (verdict_at s.cal.times x.effects (moment s x.effects x.entry (moments_of s h)).mark
     (moments_of s h))
-verdict_plain s are e h sent = go ((length (moments_of s h) + 1) % s.cal.times.period) refl
+verdict_usual s are x h judged sent = go ((length (moments_of s h) + 1) % s.cal.times.period) refl
   where
     m : Moment
-    m = moment s no_effects e (moments_of s h)
+    m = moment s x.effects x.entry (moments_of s h)
 
     go : (n : ℕ) → (length (moments_of s h) + 1) % s.cal.times.period ≡ n →
-        IsNotWrong (verdict_at s.cal.times no_effects m.mark (moments_of s h))
-    go zero ends = inr (verdict_some s.cal.times are no_effects m.mark (moments_of s h)
-        (unfold no_effects in refl) ends
-        ∙ ap (λ these. Some (verdict_of s.cal.times these)) (right_ones s are (plain e) h sent ends)
+        IsNotWrong (verdict_at s.cal.times x.effects m.mark (moments_of s h))
+    go zero ends = inr (verdict_some s.cal.times are x.effects m.mark (moments_of s h) judged ends
+        ∙ ap (λ these. Some (verdict_of s.cal.times these)) (right_ones s are x h sent ends)
         ∙ ap Some (right_alone s.cal.times (length h / s.cal.times.period) are))
-    go (suc n) inside = inl (verdict_none s.cal.times are no_effects m.mark (moments_of s h) (omega arith))
+    go (suc n) inside = inl (verdict_none s.cal.times are x.effects m.mark (moments_of s h) (omega arith))
 
 -- ---- one tick more ----
 
-right_bits : (v : Option Verdict) (bits : List Bool) → IsNotWrong v → AllGood bits →
+pub right_bits : (v : Option Verdict) (bits : List Bool) → IsNotWrong v → AllGood bits →
     AllGood (with_wrong v bits)
 unfolding with_wrong AllGood is_wrong
 right_bits v bits (inl e) none = rw e none
@@ -282,17 +281,17 @@ no_answers times v past l (inl e) none = rw e refl
 no_answers times v past l (inr e) none =
     rw e (none_first times.weights (false ∷ map is_wrong (verdicts_in past)) l (refl, none))
 
-not_first : (w : WeightParts) (b : Bool) (bits : List Bool) → is_confirmed w (b ∷ bits) ≡ false →
+pub not_first : (w : WeightParts) (b : Bool) (bits : List Bool) → is_confirmed w (b ∷ bits) ≡ false →
     is_first w (b ∷ bits) ≡ false
 unfolding is_confirmed is_first
 not_first w b bits h = and_left _ _ (or_parts (is_reached w (b ∷ bits)) (is_confirmed w bits) h).0
 
-not_before : (w : WeightParts) (b : Bool) (bits : List Bool) → is_confirmed w (b ∷ bits) ≡ false →
+pub not_before : (w : WeightParts) (b : Bool) (bits : List Bool) → is_confirmed w (b ∷ bits) ≡ false →
     is_confirmed w bits ≡ false
 unfolding is_confirmed
 not_before w b bits h = (or_parts (is_reached w (b ∷ bits)) (is_confirmed w bits) h).1
 
-none-cons : (b : Signals → Bool) (m : Moment) (past : List Moment) → m.feeds ≡ true → b m.signals ≡ false →
+pub none-cons : (b : Signals → Bool) (m : Moment) (past : List Moment) → m.feeds ≡ true → b m.signals ≡ false →
     AllGood (fed_bits b past) → AllGood (fed_bits b (m ∷ past))
 unfolding AllGood
 none-cons b m past f e none = rw (fed_bits-cons b m past f) (e, none)
@@ -303,12 +302,12 @@ no_torque : (w : WeightParts) (feeds : Bool) (now : Signals) (past : List Moment
 unfolding finds
 no_torque w feeds now past e = and_right _ _ e
 
-unlimited-cons : (m : Moment) (past : List Moment) → m.found.pedal ≡ false → is_limited past ≡ false →
+pub unlimited-cons : (m : Moment) (past : List Moment) → m.found.pedal ≡ false → is_limited past ≡ false →
     is_limited (m ∷ past) ≡ false
 unfolding is_limited
 unlimited-cons m past e f = or_from _ _ e f
 
-full_excesses-cons : (s : Setting) (x : Tick) (h : List Tick) →
+pub full_excesses-cons : (s : Setting) (x : Tick) (h : List Tick) →
     full_excesses s (x ∷ h) ≡ full_excess s.cal.rules.kt s.cal.rules.threshold
     (row_of (length (moments_of s h)) (moment s x.effects x.entry (moments_of s h))) ∷ full_excesses s h
 unfolding full_excesses moments_of rows_of
@@ -384,7 +383,7 @@ module _ (s : Setting) (a : IsAccepted s.cal) (e : Entry) (h : List Tick)
 
   not_wrong : is_confirmed s.cal.rules.torque (full_excesses s (plain e ∷ h)) ≡ false → IsNotWrong m.verdict
   not_wrong quiet = subst IsNotWrong (sym (moment-verdict s no_effects e past))
-      (verdict_plain s a.times e h (unfold AreUsual in (mark-is quiet, calm.answers)))
+      (verdict_usual s a.times (plain e) h (unfold no_effects in refl) (unfold AreUsual in (mark-is quiet, calm.answers)))
 
   pub step_calm : is_confirmed s.cal.rules.torque (full_excesses s (plain e ∷ h)) ≡ false →
       Calm s (plain e ∷ h)
@@ -473,7 +472,7 @@ trip_once_confirmed s a (x ∷ h) each proper c =
     ]
 
 -- no trip, no order
-latch1_shut : (s : Setting) (h : List Tick) → tripped (moments_of s h) ≡ false →
+pub latch1_shut : (s : Setting) (h : List Tick) → tripped (moments_of s h) ≡ false →
     latch1 (moments_of s h) ≡ false
 unfolding moments_of
 latch1_shut s [] u = unfold latch1 in refl

@@ -154,6 +154,39 @@ split s start (x ∷ h) (row ∷ later) before e = one_more (split s start h lat
           (c.off (λ newer y mid f. p (x ∷ newer) y mid (ap (λ k. x ∷ k) f)));
     }
 
+-- The last of these rows is that of a tick of the history, and those before it are the rows of the ticks before
+-- that one.
+pub record LastTick (s : Setting) (start : ℕ) (row : Row) (before : List Row) : Type 0 where
+  pub tick : Tick
+  pub past : List Tick
+  pub follows : Follows s.fault start (tick ∷ past)
+  pub row_is : row ≡ RowAfter s start tick past
+  pub before_are : before ≡ SpanRows s start past
+
+pub last_tick : (s : Setting) (start : ℕ) (h : List Tick) → Follows s.fault start h → (later before : List Row) (row : Row) →
+    SpanRows s start h ≡ later ++ row ∷ before → LastTick s start row before
+last_tick s start h follows later before row e = go parts.rest parts.rows_are
+    (follows-end s.fault start parts.more parts.rest (subst (Follows s.fault start) parts.whole follows))
+  where
+    parts : Split s start h later (row ∷ before)
+    parts = split s start h later (row ∷ before) e
+
+    go : (g : List Tick) → row ∷ before ≡ SpanRows s start g → Follows s.fault start g → LastTick s start row before
+    go [] rows f = absurd (none (rows ∙ (unfold rows_after moments_of moments_in in refl)))
+      where
+        none : row ∷ before ≡ [] → ⊥
+        none r = cc
+    go (x ∷ g) rows f = record { tick = x; past = g; follows = f; row_is = head parted; before_are = tail parted }
+      where
+        parted : row ∷ before ≡ RowAfter s start x g ∷ SpanRows s start g
+        parted = rows ∙ (unfold rows_after moments_of moments_in in refl)
+
+        head : row ∷ before ≡ RowAfter s start x g ∷ SpanRows s start g → row ≡ RowAfter s start x g
+        head r = cc
+
+        tail : row ∷ before ≡ RowAfter s start x g ∷ SpanRows s start g → before ≡ SpanRows s start g
+        tail r = cc
+
 -- ---- bits of the rows, one a tick ----
 
 -- such a bit doesn't go by the tick's number

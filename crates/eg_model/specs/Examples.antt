@@ -20,6 +20,8 @@ use Rattle.eg_model.specs.Answers.{is_answer}
 use Rattle.eg_model.specs.Engines.{gasoline}
 use Rattle.eg_model.specs.Bench.{Run, moments_to}
 use Rattle.eg_model.specs.Rows.{record_rows, report_of}
+use Rattle.eg_model.specs.Moments.{moments_of}
+use Rattle.eg_model.specs.LeastReaction.{closed_setting, until_confirmed, quiet_after}
 
 -- waits for ever
 abbrev pub idle : List ℕ
@@ -165,6 +167,13 @@ storing = 0x1210 ∷ 0x2220 ∷ 0xc240 ∷ []
 -- jumps to itself for ever, a thousand times a tick
 abbrev pub looping_run : Run
 looping_run = record (bench_run (0xd1ff ∷ []) None 30) { plan = (1000 ∷ replicate 8 0) ∷ [] }
+
+-- the history of `LeastReaction` with the reference calibration, the pedal at rest and a load of 1000: its 17
+-- ticks, and 34 after them
+abbrev pub latest_cut : List Moment
+latest_cut =
+    moments_of (closed_setting reference_parts)
+    (replicate 34 (quiet_after at_rest) ++ until_confirmed reference_parts at_rest 1000)
 
 -- ---- what is told of a run ----
 

@@ -16,6 +16,9 @@ pub mod SharpCut
 pub mod Records
 pub mod Findings
 pub mod Branching
+pub mod Outputs
 pub mod PowerCycles
 pub mod StartUp
 pub mod Lapses
+pub mod LeastReaction
+pub mod Availability

@@ -2,7 +2,7 @@
 -- after a confirmed torque excess to the end of the power cycle.
 use Rattle.std.specs.Prelude.{◌≡◌, ℕ, ◌+◌, ◌≤◌, Bool, true, false, nat_le, List, ◌∷◌, ◌++◌, length, Option, Some, None}
 use Rattle.eg_answer.specs.Times.{reaction_of}
-use Rattle.eg_values.specs.Calibration.{IsAccepted}
+use Rattle.eg_values.specs.Calibration.{CalibrationParts, IsAccepted}
 use Rattle.eg_fault.specs.Faults.{IsValid, IsListed}
 use Rattle.eg_fault.specs.declared.class.Class.{Class}
 use Rattle.eg_fault.specs.declared.class.Class.TheVariants.{Skip, Disturb, Halt, Path1Closed}
@@ -18,13 +18,17 @@ OffFrom s start h after =
     (more : List Tick) (x : Tick) → Follows s.fault start (x ∷ more ++ h) → AreProper s (more ++ h) →
     after ≤ length more + 1 → is_on_after s (more ++ h) x ≡ false
 
--- The theorem. Let the calibration be an accepted one and the fault a listed one, let h be a history that
--- begins at any tick of the run, and let the true excess be confirmed by the last tick of h. Then the
--- stages are off at each tick that comes R ticks or more after that one.
+-- The theorem for one calibration, with n ticks in it. Let the fault be a listed one, let h be a history that
+-- begins at any tick of the run, and let the true excess be confirmed by the last tick of h. Then the stages
+-- are off at each tick that comes n ticks or more after that one.
+abbrev pub ReactsBy : CalibrationParts → ℕ → Type 0
+ReactsBy cal n =
+    (s : Setting) → s.cal ≡ cal → IsListed s.fault →
+    (start : ℕ) (h : List Tick) → IsExcessConfirmed s h → OffFrom s start h n
+
+-- The theorem: each accepted calibration has it with R ticks.
 abbrev pub ReactsInTime : Type 0
-ReactsInTime =
-    (s : Setting) → IsAccepted s.cal → IsListed s.fault →
-    (start : ℕ) (h : List Tick) → IsExcessConfirmed s h → OffFrom s start h (reaction_of s.cal.times)
+ReactsInTime = (cal : CalibrationParts) → IsAccepted cal → ReactsBy cal (reaction_of cal.times)
 
 -- Under most faults the stages are off already from the next tick on. Not so where path 1 is closed; and
 -- where a module is skipped or disturbed, or the controller halts, only while the fault hasn't begun by the

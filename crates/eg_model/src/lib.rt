@@ -3,16 +3,19 @@
 //! their contracts. Longer runs are in `eg_runs`.
 #![tactic(auto)]
 
+mod availability;
 mod branching;
 mod examples;
 mod faulty_runs;
 mod findings;
 mod lapses;
+mod outputs;
 mod reaction;
 mod records;
 mod sharp_cut;
 mod start_up;
 
+pub use availability::{far_misses_never_cut, records_stay_available};
 pub use branching::runs_branch;
 pub use examples::{alternating_slices, full_run, passed_test, probing_run, raise_is_read};
 pub use faulty_runs::{
@@ -21,7 +24,8 @@ pub use faulty_runs::{
 };
 pub use findings::{records_find_in_time, records_name_what_cuts};
 pub use lapses::lapses_are_cut;
-pub use reaction::{cuts_from_onset, reacts_in_time};
+pub use outputs::level_1_acts_by_its_outputs;
+pub use reaction::{cuts_from_onset, latest_cut_run, reaction_time_is_least, reacts_in_time};
 pub use records::{
     records_are_histories, records_cut_from_onset, records_cut_lapses, records_cut_sharply,
     records_react, records_test_the_paths,

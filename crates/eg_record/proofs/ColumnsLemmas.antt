@@ -18,27 +18,17 @@ join_with_byte-append c (x ∷ u ∷ xs) (y ∷ ys) some more =
     ap (λ (rest : List ℕ). x ++ (c ∷ rest)) (join_with_byte-append c (u ∷ xs) (y ∷ ys) refl refl)
     ∙ sym (append_assoc x (c ∷ join_with_byte c (u ∷ xs)) (c ∷ join_with_byte c (y ∷ ys)))
 
--- a text that ends with some columns and a comma goes on by more columns
-pub columns-more : (c : ℕ) (before text new : List ℕ) (xs ys : List (List ℕ)) (end : List ℕ) → is_nil xs ≡ false → is_nil ys ≡ false →
-    text ≡ (before ++ join_with_byte c xs) ++ (c ∷ []) → new ≡ (text ++ join_with_byte c ys) ++ end → new ≡ (before ++ join_with_byte c (xs ++ ys)) ++ end
-columns-more c before text new xs ys end some more was now =
-    now
-    ∙ ap (λ (t : List ℕ). (t ++ join_with_byte c ys) ++ end) was
-    ∙ ap (λ (t : List ℕ). t ++ end) (append_assoc (before ++ join_with_byte c xs) (c ∷ []) (join_with_byte c ys)
-    ∙ append_assoc before (join_with_byte c xs) (c ∷ join_with_byte c ys)
-    ∙ ap (λ (t : List ℕ). before ++ t) (sym (join_with_byte-append c xs ys some more)))
-
--- some columns and a comma come before more of them
-pub columns-before : (c : ℕ) (rest new tail : List ℕ) (xs ys : List (List ℕ)) → is_nil xs ≡ false → is_nil ys ≡ false →
-    rest ≡ (join_with_byte c ys ++ (c ∷ [])) ++ tail → new ≡ (join_with_byte c xs ++ (c ∷ [])) ++ rest → new ≡ (join_with_byte c (xs ++ ys) ++ (c ∷ [])) ++ tail
-columns-before c rest new tail xs ys some more was now =
+-- some columns and a comma come before more of them, behind which `end` stands
+pub columns-before : (c : ℕ) (end rest new tail : List ℕ) (xs ys : List (List ℕ)) → is_nil xs ≡ false → is_nil ys ≡ false →
+    rest ≡ (join_with_byte c ys ++ end) ++ tail → new ≡ (join_with_byte c xs ++ (c ∷ [])) ++ rest → new ≡ (join_with_byte c (xs ++ ys) ++ end) ++ tail
+columns-before c end rest new tail xs ys some more was now =
     let first = join_with_byte c xs in
     let then = join_with_byte c ys in
     now
     ∙ ap (λ (t : List ℕ). (first ++ (c ∷ [])) ++ t) was
-    ∙ sym (append_assoc (first ++ (c ∷ [])) (then ++ (c ∷ [])) tail)
-    ∙ ap (λ (t : List ℕ). t ++ tail) (append_assoc first (c ∷ []) (then ++ (c ∷ [])) ∙ sym (append_assoc first (c ∷ then) (c ∷ [])))
-    ∙ ap (λ (t : List ℕ). (t ++ (c ∷ [])) ++ tail) (sym (join_with_byte-append c xs ys some more))
+    ∙ sym (append_assoc (first ++ (c ∷ [])) (then ++ end) tail)
+    ∙ ap (λ (t : List ℕ). t ++ tail) (append_assoc first (c ∷ []) (then ++ end) ∙ sym (append_assoc first (c ∷ then) end))
+    ∙ ap (λ (t : List ℕ). (t ++ end) ++ tail) (sym (join_with_byte-append c xs ys some more))
 
 -- the bytes from a place on, all of them
 pub rest-whole : (n start : ℕ) (line : List ℕ) → length line ≡ n → take (n - start) (drop start line) ≡ drop start line

@@ -1,5 +1,5 @@
 // The line of a row.
-ghost use Rattle.std.specs.Prelude.{◌≡◌, ◌+◌, ◌≤◌, ◌++◌, ◌∷◌, [], length, drop, codes, decimal, string_bytes, IfOk, OnOk, if◌then◌else◌};
+ghost use Rattle.std.specs.Prelude.{◌≡◌, ◌+◌, ◌≤◌, ◌<◌, ◌++◌, ◌∷◌, [], length, drop, codes, decimal, string_bytes, vec_len, vec_capacity, IfOk, OnOk, OnErr, IsOk, if◌then◌else◌};
 ghost use Rattle.std.specs.List.{join_with_byte};
 ghost use Rattle.std.specs.Str.{IsAscii, IsUtf8};
 ghost use Rattle.eg_record.specs.Ascii.{AreAscii};
@@ -10,7 +10,7 @@ ghost use Rattle.eg_record.specs.Texts.{command_columns, value_columns, event_co
 use crate::{AnswerMark, Row, Verdict, Watch, Watches};
 use eg_base::NoMemory;
 use itoa::write_digits;
-use std::alloc::{AllocError, Global};
+use std::alloc::Global;
 
 /// The line above the rows of a record, with its LF (docs/FORMATS.md, "The record").
 #[tactic(auto, unfolding(crate::specs::Texts::record_header))]
@@ -21,20 +21,21 @@ pub fn record_header() -> &'static str
      used,permitted,actual,excess,pairs,throttle,ignition,found,answer,verdict\n"
 }
 
-/// Room for the columns that are numbers and truth values: 15 numbers of at most ten digits and three of one,
-/// with a comma behind each.
-const ROOM: usize = 192;
+/// Room for a line: 15 numbers of at most ten digits and three truth values, each with a comma behind it, the
+/// names of all watches, the answer and the verdict.
+const ROOM: usize = 256;
 
-/// Appends the line of a row, with its LF, to a text (docs/FORMATS.md, "The record"). Where memory runs out
-/// nothing is promised of the text any more.
+/// Appends the line of a row, with its LF, to a text (docs/FORMATS.md, "The record"). NoMemory is its one
+/// refusal: the text has no room for the line, and memory for more ran out. Then the text stays as it was.
 pub fn push_row(text: &mut Vec<u8>, row: &Row) -> Result<(), NoMemory>
     ensures line { OnOk result (text.new.items ≡ text.old.items ++ row_line row.now) }
     ensures is_text { OnOk result (IsUtf8 (row_line row.now)) }
+    ensures room { vec_len text.old + length (row_line row.now) ≤ vec_capacity text.old → IsOk result }
+    ensures kept { OnErr result (text.new.items ≡ text.old.items) }
 {
     let mut line = [0; ROOM];
-    let start = put_columns(row, &mut line);
+    let start = put_line(row, &mut line);
     text.extend_from_slice(&line[start..])?;
-    push_events(text, row)?;
     Ok(())
 }
 
@@ -50,13 +51,27 @@ pub fn row_text(alloc: Global, row: &Row) -> Result<String, NoMemory>
     }
 }
 
-/// Puts the columns of a row up to level 1's commands, each with a comma, to the end of a line, and tells
-/// where they start. Columns are put from the last to the first, since the digits of a number are found so.
-fn put_columns(row: &Row, line: &mut [u8; ROOM]) -> usize
-    ensures put { drop result line.new ≡ join_with_byte comma (value_columns row.now) ++ codes "," }
+/// Puts the line of a row to the end of an array, and tells where it starts. Columns are put from the last to
+/// the first, since the digits of a number are found so.
+fn put_line(row: &Row, line: &mut [u8; ROOM]) -> usize
+    ensures put { drop result line.new ≡ row_line row.now }
+    ensures ascii { AreAscii (value_columns row.now) }
+    ensures start { result ≤ ROOM }
+{
+    let start = put_events(row, line, ROOM);
+    put_columns(row, line, start)
+}
+
+/// Puts the columns of a row up to level 1's commands, each with a comma behind it, before a place of a line,
+/// and tells where they start.
+fn put_columns(row: &Row, line: &mut [u8], end: usize) -> usize
+    requires room { 171 ≤ end }
+    requires within { end ≤ length line.old }
+    ensures put { drop result line.new
+        ≡ join_with_byte comma (value_columns row.now) ++ codes "," ++ drop end line.old }
     ensures ascii { AreAscii (value_columns row.now) }
 {
-    let start = put_commands(row, line, ROOM);
+    let start = put_commands(row, line, end);
     let start = put_signals(row, line, start);
     let start = put_paths(row, line, start);
     let start = put_engine(row, line, start);
@@ -164,49 +179,83 @@ fn put_commands(row: &Row, line: &mut [u8], end: usize) -> usize
     put_number(u32::from(row.throttle), line, start)
 }
 
-/// Appends the names of the watches that are found, or `-`.
-fn push_found(text: &mut Vec<u8>, found: &Watches) -> Result<(), AllocError>
-    ensures { OnOk result (text.new.items ≡ text.old.items ++ found_text found.now) }
+/// Puts bytes before a place of a line, and tells where they start.
+fn put_bytes(bytes: &[u8], line: &mut [u8], end: usize) -> usize
+    requires room { length bytes.now ≤ end }
+    requires within { end ≤ length line.old }
+    ensures put { drop result line.new ≡ bytes.now ++ drop end line.old }
+    ensures start { result + length bytes.now ≡ end }
 {
-    let mut is_first = true;
-    for watch in Watch::ORDER {
+    let start = end - bytes.len();
+    line[start..end].copy_from_slice(bytes);
+    start
+}
+
+/// Puts the columns of what is found and heard, and LF.
+#[tactic(auto, unfolding(crate::specs::Texts::event_columns))]
+fn put_events(row: &Row, line: &mut [u8], end: usize) -> usize
+    requires room { 78 ≤ end }
+    requires within { end ≤ length line.old }
+    ensures put { drop result line.new
+        ≡ join_with_byte comma (event_columns row.now) ++ codes "\n" ++ drop end line.old }
+    ensures few { end ≤ result + 78 }
+{
+    let start = put_bytes(verdict_text(row.verdict), line, end);
+    let start = put_bytes(answer_text(row.answer), line, start);
+    put_found(&row.found, line, start)
+}
+
+/// Puts the names of the watches that are found, or `-`.
+fn put_found(found: &Watches, line: &mut [u8], end: usize) -> usize
+    requires room { 64 ≤ end }
+    requires within { end ≤ length line.old }
+    ensures put { drop result line.new ≡ found_text found.now ++ drop end line.old }
+    ensures few { end ≤ result + 64 }
+{
+    let mut start = end;
+    for i in (0..Watch::ORDER.len()).rev() {
+        let watch = Watch::ORDER[i];
         if watch.is_among(found) {
-            push_name(text, watch, is_first)?;
-            is_first = false;
+            start = put_name(watch, start == end, line, start);
         }
     }
-    if is_first {
-        text.extend_from_slice(b"-")?;
+    if start == end {
+        return put_bytes(b"-", line, end);
     }
-    Ok(())
+    start
 }
 
-/// Appends the name of a watch, behind a `+` where it isn't the first.
-fn push_name(text: &mut Vec<u8>, watch: Watch, is_first: bool) -> Result<(), AllocError>
-    ensures { OnOk result (text.new.items ≡
-        text.old.items ++ (if is_first then [] else plus ∷ []) ++ watch_name watch) }
+/// Puts the name of a watch, and a `+` behind it where it isn't the last.
+fn put_name(watch: Watch, is_last: bool, line: &mut [u8], end: usize) -> usize
+    requires room { 8 ≤ end }
+    requires within { end ≤ length line.old }
+    ensures put { drop result line.new
+        ≡ watch_name watch ++ (if is_last then [] else plus ∷ []) ++ drop end line.old }
+    ensures few { end ≤ result + 8 }
+    ensures some { result < end }
 {
-    if !is_first {
-        text.extend_from_slice(b"+")?;
-    }
-    text.extend_from_slice(watch.name().as_bytes())
+    let end = if is_last {
+        end
+    } else {
+        put_bytes(b"+", line, end)
+    };
+    put_bytes(name_of(watch), line, end)
 }
 
-/// Appends the columns of what is found and heard, and LF.
-#[tactic(auto, unfolding(crate::specs::Texts::event_columns))]
-fn push_events(text: &mut Vec<u8>, row: &Row) -> Result<(), AllocError>
-    ensures { OnOk result (text.new.items ≡
-        text.old.items ++ join_with_byte comma (event_columns row.now) ++ codes "\n") }
+/// The name of a watch, which has 4 to 7 letters.
+fn name_of(watch: Watch) -> &'static [u8]
+    ensures name { result.now ≡ watch_name watch }
+    ensures some { 1 ≤ length result.now }
+    ensures short { length result.now ≤ 7 }
 {
-    push_found(text, &row.found)?;
-    text.extend_from_slice(answer_text(row.answer))?;
-    text.extend_from_slice(verdict_text(row.verdict))
+    watch.name().as_bytes()
 }
 
 /// A comma, and the mark of a tick.
 #[tactic(auto, unfolding(crate::specs::Texts::answer_text))]
 fn answer_text(answer: AnswerMark) -> &'static [u8]
-    ensures { result.now ≡ codes "," ++ answer_text answer }
+    ensures text { result.now ≡ codes "," ++ answer_text answer }
+    ensures short { length result.now ≤ 5 }
 {
     match answer {
         AnswerMark::Absent => b",-",
@@ -218,7 +267,8 @@ fn answer_text(answer: AnswerMark) -> &'static [u8]
 /// A comma, the verdict of a tick, and LF.
 #[tactic(auto, unfolding(crate::specs::Texts::verdict_text))]
 fn verdict_text(verdict: Option<Verdict>) -> &'static [u8]
-    ensures { result.now ≡ codes "," ++ verdict_text verdict ++ codes "\n" }
+    ensures text { result.now ≡ codes "," ++ verdict_text verdict ++ codes "\n" }
+    ensures short { length result.now ≤ 7 }
 {
     match verdict {
         None => b",-\n",

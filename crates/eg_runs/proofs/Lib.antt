@@ -7,3 +7,4 @@ pub mod WorkedCycles
 pub mod WorkedBraking
 pub mod WorkedFacts
 pub mod WorkedDiesel
+pub mod WorkedOutputs

@@ -1,8 +1,7 @@
 -- Runs of other images, computed from the definitions.
 use Rattle.std.proofs.Common.{◌≡◌, [], ◌∷◌, ◌++◌, map, replicate, take, drop, Some, None, refl}
 use Rattle.eg_word.specs.declared.registers.Trap.TheVariants.{Fetch, Store}
-use Rattle.eg_model.specs.Rows.{signal_list}
-use Rattle.eg_model.specs.Examples.{idle, storing, follow_run, looping_run, bench_run, moments_in_time, report_on, reported}
+use Rattle.eg_model.specs.Examples.{idle, storing, follow_run, looping_run, bench_run, moments_in_time, rows_in_time, report_on, reported}
 use Rattle.eg_model.proofs.WholeModel.{whole_model}
 
 -- ---- traps ----
@@ -12,8 +11,7 @@ pub store_is_refused : report_on (bench_run storing None 30)
 unfolding whole_model
 store_is_refused = refl
 
-pub store_changes_nothing : map (λ m. signal_list m.signals) (moments_in_time (bench_run storing None 30))
-    ≡ map (λ m. signal_list m.signals) (moments_in_time (bench_run idle None 30))
+pub store_changes_nothing : rows_in_time (bench_run storing None 30) ≡ rows_in_time (bench_run idle None 30)
 unfolding whole_model
 store_changes_nothing = refl
 

@@ -4,6 +4,7 @@ pub mod PowerCycles
 pub mod Braking
 pub mod Facts
 pub mod DieselRuns
+pub mod Outputs
 pub use Rattle.eg_answer.specs.Times
 pub use Rattle.eg_model.specs.Examples
 pub use Rattle.eg_model.specs.Rows

@@ -7,8 +7,7 @@ ghost use Rattle.eg_fault.specs.declared.class.Class.TheVariants.{Path1Closed};
 ghost use Rattle.eg_record.specs.declared.watch.Watch.TheVariants as found;
 ghost use Rattle.eg_word.specs.declared.registers.Trap.TheVariants as trapped;
 ghost use Rattle.eg_record.specs.Texts.{report_end};
-ghost use Rattle.eg_model.specs.Rows.{signal_list};
-ghost use Rattle.eg_model.specs.Examples.{idle, full, storing, fault_from, bench_run, follow_run, looping_run, report_on, reported, moments_in_time, answers_of, verdicts_of, stages_of};
+ghost use Rattle.eg_model.specs.Examples.{idle, full, storing, fault_from, bench_run, follow_run, looping_run, report_on, reported, moments_in_time, rows_in_time, answers_of, verdicts_of, stages_of};
 
 /// Level 1 at full throttle, tick by tick: the stages, and the answers and verdicts of 40 ticks. After the
 /// trip no answer is sent, so wrong answers are found at tick 39.
@@ -48,12 +47,11 @@ pub fn following_run()
         ≡ replicate 17 170 ++ 130 ∷ 90 ∷ [] }
 {}
 
-/// A store to the word of a signal is refused, and traps: every signal is as if level 1 had waited.
+/// A store to the word of a signal is refused, and traps: every row is as if level 1 had waited.
 pub fn refused_store()
     ensures report { report_on (bench_run storing None 30)
         ≡ reported None None (Some (trapped.Store, 0)) None }
-    ensures signals { map (λ m. signal_list m.signals) (moments_in_time (bench_run storing None 30))
-        ≡ map (λ m. signal_list m.signals) (moments_in_time (bench_run idle None 30)) }
+    ensures rows { rows_in_time (bench_run storing None 30) ≡ rows_in_time (bench_run idle None 30) }
 {}
 
 /// An empty image runs off the end of the code at tick 1: 900 words are done in tick 0, and 124 in tick 1.

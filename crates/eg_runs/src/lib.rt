@@ -9,6 +9,7 @@ mod examples;
 mod facts;
 mod faulty_runs;
 mod lapses;
+mod outputs;
 mod power_cycles;
 mod unusual_runs;
 
@@ -27,6 +28,7 @@ pub use faulty_runs::{
     path_1_closes_run, raised_pedal_run, reaction_is_met, skipped_run,
 };
 pub use lapses::a_run_with_lapses_is_cut;
+pub use outputs::{full_in_two_ways, outputs_act_a_tick_later};
 pub use power_cycles::{
     excess_over_two_cycles, faults_go_on, flip_in_a_test, full_run_with_a_reset,
     resets_near_a_test, test_that_fails, test_that_is_begun_anew, test_that_is_cut,

@@ -11,5 +11,8 @@ returns-clause-some c = λ source. (assembled source, assembled-gives source)
 pub returns-clause-one : goal.returns-clause-one
 returns-clause-one c = λ source one other h k. sym (assembled-then source one h) ∙ assembled-then source other k
 
+pub returns-clause-reads : goal.returns-clause-reads
+returns-clause-reads c = assembled-gives
+
 pub returns-clause-back : goal.returns-clause-back
 returns-clause-back c = back-law

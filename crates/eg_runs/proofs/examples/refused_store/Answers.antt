@@ -4,5 +4,5 @@ use Rattle.eg_runs.proofs.examples.refused_store.Goals as goal
 pub returns-clause-report : goal.returns-clause-report
 returns-clause-report c = store_is_refused
 
-pub returns-clause-signals : goal.returns-clause-signals
-returns-clause-signals c = store_changes_nothing
+pub returns-clause-rows : goal.returns-clause-rows
+returns-clause-rows c = store_changes_nothing
