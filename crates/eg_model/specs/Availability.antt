@@ -73,8 +73,8 @@ ShowsTwice x = x.entry.shown.load_2 ≡ x.entry.shown.load_1
 abbrev pub NoTripComes : Type 0
 NoTripComes =
     (s : Setting) → IsAccepted s.cal → IsSpacedLapse s → (start : ℕ) (h : List Tick) →
-    Follows s.fault start h → AreProper s h → All ShowsTwice h → list_any (λ excess. excess) (full_excesses s h) ≡ false →
-    tripped (moments_of s h) ≡ false
+    Follows s.fault start h → AreProper s h → All ShowsTwice h →
+    list_any (λ excess. excess) (full_excesses s h) ≡ false → tripped (moments_of s h) ≡ false
 
 -- ---- the rows of a drive span, or of its part up to any tick ----
 

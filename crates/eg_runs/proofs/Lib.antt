@@ -2,6 +2,7 @@ pub mod WorkedRuns
 pub mod WorkedFaults
 pub mod WorkedImages
 pub mod WorkedLapses
+pub mod WorkedMisses
 pub mod WorkedUnusual
 pub mod WorkedCycles
 pub mod WorkedBraking

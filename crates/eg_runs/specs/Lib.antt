@@ -1,4 +1,5 @@
 pub mod WorkedLapses
+pub mod WorkedMisses
 pub mod UnusualRuns
 pub mod PowerCycles
 pub mod Braking

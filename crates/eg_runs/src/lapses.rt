@@ -1,10 +1,13 @@
-// A run under lapses, worked out from the definitions.
-ghost use Rattle.std.specs.Prelude.{◌≡◌, [], ◌++◌, codes, replicate, true, false, Some, None};
-ghost use Rattle.eg_answer.specs.Times.{lapse_bound_of};
+// Runs under lapses, worked out from the definitions.
+ghost use Rattle.std.specs.Prelude.{◌≡◌, [], ◌∷◌, ◌++◌, codes, map, replicate, true, false, Some, None};
+ghost use Rattle.eg_answer.specs.Times.{lapse_bound_of, HasMissSpacing, miss_spacing_of};
 ghost use Rattle.eg_values.specs.Reference.{reference_parts};
-ghost use Rattle.eg_record.specs.declared.watch.Watch.TheVariants.{Answers};
-ghost use Rattle.eg_model.specs.Examples.{report_on, reported, answers_of, stages_of};
+ghost use Rattle.eg_record.specs.declared.watch.Watch.TheVariants.{Answers, Torque};
+ghost use Rattle.eg_record.specs.Excess.{full_excess};
+ghost use Rattle.eg_model.specs.Examples.{rows_in_time, report_on, reported, answers_of, stages_of};
 ghost use Rattle.eg_runs.specs.WorkedLapses.{lapsing_run, excesses_of};
+ghost use Rattle.eg_model.specs.Availability.{IsSpacedLapse};
+ghost use Rattle.eg_runs.specs.WorkedMisses.{missed_from, sevens, missed_run, single_miss, gap_run, reported_with};
 
 /// A run under lapses that is cut: level 2 runs at one tick of ten, so it feeds too few bits to find the
 /// excess of ticks 5 to 29, and sends no answer; the monitoring module finds that at tick 29, and the
@@ -15,4 +18,28 @@ pub fn a_run_with_lapses_is_cut()
     ensures answers { answers_of lapsing_run ≡ [] }
     ensures stages { stages_of lapsing_run ≡ replicate 30 true ++ replicate 30 false }
     ensures bound { lapse_bound_of reference_parts.rules.torque reference_parts.times ≡ 50 }
+{}
+
+/// Misses that cut and misses that don't, by one calibration with a question every 7 ticks: a wrong verdict
+/// adds 3 of 9, and a right one takes 2. Level 2 is missed at tick 3, which is a send tick, and so spoils two
+/// verdicts. Every 28 ticks that cuts, at tick 70; every 35, which is `eg_answer::miss_spacing`, it doesn't.
+/// Where two wrong verdicts are enough there is no such distance: a single miss cuts. It does nothing when
+/// it runs.
+pub fn near_misses_cut_and_far_ones_do_not()
+    ensures spacing { miss_spacing_of (sevens 9).times ≡ 35 }
+    ensures near { report_on (missed_run 28) ≡ reported_with 24 (Some (Answers, 69)) (Some 70) }
+    ensures far_apart { IsSpacedLapse (missed_run 35).setting }
+    ensures far { report_on (missed_run 35) ≡ reported_with 24 None None }
+    ensures none { ¬ HasMissSpacing (sevens 6).times }
+    ensures single { report_on single_miss ≡ reported_with 17 (Some (Answers, 13)) (Some 14) }
+{}
+
+/// A single miss that cuts by a trip: the full-efficiency excess of ticks 5 to 8 and of tick 10 isn't
+/// confirmed, since tick 9 takes one from its weight. Where level 2 is missed at tick 9 it is fed with five
+/// bits that are set, and finds the torque. It does nothing when it runs.
+pub fn missed_gap_is_cut()
+    ensures excesses { map (full_excess 2500 200) (rows_in_time (gap_run None))
+        ≡ replicate 5 false ++ replicate 4 true ++ false ∷ true ∷ replicate 19 false }
+    ensures uncut { report_on (gap_run None) ≡ reported None None None None }
+    ensures cut { report_on (gap_run (missed_from 9 0)) ≡ reported (Some (Torque, 10)) (Some 11) None None }
 {}

@@ -27,7 +27,9 @@ pub use faulty_runs::{
     disturbed_run, flipped_run, lost_load_run, moved_answers_run, path_1_closed_run,
     path_1_closes_run, raised_pedal_run, reaction_is_met, skipped_run,
 };
-pub use lapses::a_run_with_lapses_is_cut;
+pub use lapses::{
+    a_run_with_lapses_is_cut, missed_gap_is_cut, near_misses_cut_and_far_ones_do_not,
+};
 pub use outputs::{full_in_two_ways, outputs_act_a_tick_later};
 pub use power_cycles::{
     excess_over_two_cycles, faults_go_on, flip_in_a_test, full_run_with_a_reset,
