@@ -33,4 +33,7 @@ pub mod LapseAnswers
 pub mod LapseWeights
 pub mod LapseLaw
 pub mod FewVerdicts
+pub mod ExcessTicks
 pub mod LeastLaw
+pub mod ShortStretches
+pub mod LeastLapseLaw

@@ -472,7 +472,7 @@ trip_once_confirmed s a (x ∷ h) each proper c =
     ]
 
 -- no trip, no order
-latch1_shut : (s : Setting) (h : List Tick) → tripped (moments_of s h) ≡ false →
+pub latch1_shut : (s : Setting) (h : List Tick) → tripped (moments_of s h) ≡ false →
     latch1 (moments_of s h) ≡ false
 unfolding moments_of
 latch1_shut s [] u = unfold latch1 in refl
