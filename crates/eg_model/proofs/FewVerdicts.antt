@@ -20,7 +20,7 @@ use Rattle.eg_model.proofs.PeriodLemmas.{period_closes}
 use Rattle.eg_model.proofs.TickLemmas.{Each, length-moments, moment-verdict, moment-confirms, moment-opens}
 use Rattle.eg_model.proofs.Silence.{AreRegular, wrongs, with_wrong, wrongs-cons, latch2-cons, period_least, verdict_none}
 use Rattle.eg_model.proofs.ReactionLaw.{Unanswered}
-use Rattle.eg_model.proofs.SharpCutLaw.{AllGood, greatest-AllGood, not_reached, AreUsual, usual_mark, IsNotWrong, verdict_usual, right_bits, not_first, not_before}
+use Rattle.eg_model.proofs.SharpCutLaw.{AllGood, Calm, greatest-AllGood, not_reached, AreUsual, usual_mark, IsNotWrong, verdict_usual, right_bits, not_first, not_before}
 
 -- ---- few bits after good ones don't confirm ----
 
@@ -90,6 +90,17 @@ pub record HasFew (s : Setting) (k : ℕ) (h : List Tick) : Type 0 where
   pub none_bad : AllGood good
   pub few : length bits ≤ length h / s.cal.times.period - k
   pub usual : length h ≤ k * s.cal.times.period → AreUsual s h
+
+-- while all is as usual each was
+pub few_of_calm : (s : Setting) (k : ℕ) (h : List Tick) → Calm s h → HasFew s k h
+few_of_calm s k h calm = record {
+  bits = [];
+  good = wrongs (moments_of s h);
+  are = refl;
+  none_bad = calm.right;
+  few = omega arith;
+  usual = λ within. calm.answers;
+}
 
 -- where a period isn't over no period has ended
 none_ended : (k period t : ℕ) → 0 < period → t ≤ k * period → t / period - k ≡ 0

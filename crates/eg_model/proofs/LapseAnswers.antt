@@ -36,7 +36,7 @@ unfolding goods_in
 goods_in-cons n m past = count-cons (λ x. is_good_mark x.mark) m (take n past)
 
 -- a good answer is sent where all modules run, and did since the answer before it
-whole_where_good : (times : TimeParts) (x : Effects) (trip : Bool) (past : List Moment) →
+pub whole_where_good : (times : TimeParts) (x : Effects) (trip : Bool) (past : List Moment) →
     is_good_mark (mark_at times x trip past) ≡ true →
     (is_whole x ≡ true) × (whole_since_answer past ≡ true)
 unfolding mark_at is_good is_good_mark
@@ -57,7 +57,7 @@ sends-is : (times : TimeParts) (x : Effects) (tick : ℕ) → IsRegular x →
 unfolding sends_at sends_in is_send_tick place_of
 sends-is times x tick regular = rw regular.sends refl
 
-absent_off_place : (times : TimeParts) (x : Effects) (trip : Bool) (past : List Moment) → IsRegular x →
+pub absent_off_place : (times : TimeParts) (x : Effects) (trip : Bool) (past : List Moment) → IsRegular x →
     (length past % times.period == times.send) ≡ false → mark_at times x trip past ≡ Absent
 unfolding mark_at is_sent
 absent_off_place times x trip past regular e =
@@ -66,7 +66,7 @@ absent_off_place times x trip past regular e =
     (and_left _ _ (and_left _ (x.ran REACT) off))
 
 -- where no answer is sent, all modules ran since the last one only where they ran now
-whole_before : (m : Moment) (past : List Moment) → m.mark ≡ Absent → whole_since_answer (m ∷ past) ≡ true →
+pub whole_before : (m : Moment) (past : List Moment) → m.mark ≡ Absent → whole_since_answer (m ∷ past) ≡ true →
     (m.whole ≡ true) × (whole_since_answer past ≡ true)
 unfolding whole_since_answer is_answer
 whole_before m past absent h = and_parts _ _ (parts m.mark (m.whole && whole_since_answer past) absent h)

@@ -198,7 +198,7 @@ off_after_periods s h more g x one = go (tripped (moments_of s h)) refl
     go false u = off_by_latch2 s x.effects x.entry (moments_of s (more ++ h)) (one.obeys 2)
         (latch2_on s more h (opens_when_confirmed s h (verdicts_confirm s h g u)))
 
-lapsing_history : (s : Setting) → IsLapse s.fault → (start : ℕ) (h : List Tick) → Follows s.fault start h →
+pub lapsing_history : (s : Setting) → IsLapse s.fault → (start : ℕ) (h : List Tick) → Follows s.fault start h →
     AllOrNoneEach h
 lapsing_history s lapse start h follows =
     of_history AllOrNone s.fault start h follows (λ t low high. lapse_all_or_none s.fault lapse t)
@@ -219,7 +219,7 @@ cuts_lapses s accepted bounded lapse start periods h at exceed more x follows pr
 -- ---- no stretch is longer ----
 
 -- where the stages are off there is no excess
-off_no_excess : (s : Setting) (x : Tick) (past : List Moment) → IsProper s (on_at x.effects past) x.entry →
+pub off_no_excess : (s : Setting) (x : Tick) (past : List Moment) → IsProper s (on_at x.effects past) x.entry →
     (moment s x.effects x.entry past).on ≡ false →
     exceeds s (moment s x.effects x.entry past) ≡ true → ⊥
 unfolding is_excess
@@ -232,7 +232,7 @@ off_no_excess s x past proper off over =
         sym (le-ltb (limit + threshold) torque (omega arith)) ∙ h in cc
 
 -- the stretch goes on behind the newest ticks
-exceed_behind : (s : Setting) (more h : List Tick) (n k : ℕ) → n ≡ length more + k →
+pub exceed_behind : (s : Setting) (more h : List Tick) (n k : ℕ) → n ≡ length more + k →
     AllExceed s n (more ++ h) → AllExceed s k h
 unfolding true_excesses moments_of rows_of
 exceed_behind s [] h n k e all = let same : n ≡ k = omega arith in subst (λ i. AllExceed s i h) same all

@@ -102,7 +102,7 @@ module _ (s : Setting) (x : Tick) (past : List Moment) (one : AllOrNone x.effect
       ∙ (unfold feeds_at in and_left _ _ (and_left _ _ (one.ran DEBOUNCE ∙ out)))
 
   -- where level 2 doesn't run it finds nothing
-  trip_out : one.runs ≡ false → now.trip ≡ false
+  pub trip_out : one.runs ≡ false → now.trip ≡ false
   trip_out out =
       moment-trip s x.effects x.entry past
       ∙ or_from _ _ (or_from _ _

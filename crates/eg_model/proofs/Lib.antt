@@ -35,6 +35,7 @@ pub mod LapseAnswers
 pub mod LapseWeights
 pub mod LapseLaw
 pub mod FewVerdicts
+pub mod ExcessTicks
 pub mod LeastLaw
 pub mod MissWeights
 pub mod MissTicks
@@ -42,3 +43,5 @@ pub mod SingleMisses
 pub mod MissVerdicts
 pub mod AvailabilityLaws
 pub mod AvailabilityRecords
+pub mod ShortStretches
+pub mod LeastLapseLaw

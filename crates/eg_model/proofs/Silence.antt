@@ -43,7 +43,7 @@ if_sent : (b good : Bool) → (if b then (if good then Good else Bad) else Absen
 if_sent true good h = refl
 if_sent false good h = absurd (h refl)
 
-sent_at_place : (times : TimeParts) (x : Effects) (trip : Bool) (past : List Moment) → IsRegular x →
+pub sent_at_place : (times : TimeParts) (x : Effects) (trip : Bool) (past : List Moment) → IsRegular x →
     mark_at times x trip past ≢ Absent → length past % times.period ≡ times.send
 unfolding mark_at is_sent sends_at sends_in is_send_tick place_of
 sent_at_place times x trip past usual h =

@@ -29,7 +29,8 @@ pub record CanExceed (cal : CalibrationParts) : Type 0 where
 -- Without these none is ever confirmed, under any fault: so this is the exact condition.
 abbrev pub NeedsCanExceed : Type 0
 NeedsCanExceed =
-    (s : Setting) → IsAccepted s.cal → (h : List Tick) → AreProper s h → IsExcessConfirmed s h → CanExceed s.cal
+    (s : Setting) → IsAccepted s.cal → (h : List Tick) → AreProper s h → IsExcessConfirmed s h →
+    CanExceed s.cal
 
 -- ---- the history ----
 
@@ -96,4 +97,5 @@ StaysOnSoLong =
 -- so any number that serves in the reaction theorem is R or more
 abbrev pub ReactionTimeIsLeast : Type 0
 ReactionTimeIsLeast =
-    (cal : CalibrationParts) → IsAccepted cal → CanExceed cal → (n : ℕ) → ReactsBy cal n → reaction_of cal.times ≤ n
+    (cal : CalibrationParts) → IsAccepted cal → CanExceed cal → (n : ℕ) →
+    ReactsBy cal n → reaction_of cal.times ≤ n

@@ -22,3 +22,4 @@ pub mod StartUp
 pub mod Lapses
 pub mod LeastReaction
 pub mod Availability
+pub mod LeastLapse

@@ -23,7 +23,7 @@ pub use faulty_runs::{
     latched_run, limited_run, offset_track, path_2_runs, wild_run,
 };
 pub use findings::{records_find_in_time, records_name_what_cuts};
-pub use lapses::lapses_are_cut;
+pub use lapses::{lapse_bound_is_least, lapses_are_cut, longest_excess_run};
 pub use outputs::level_1_acts_by_its_outputs;
 pub use reaction::{cuts_from_onset, latest_cut_run, reaction_time_is_least, reacts_in_time};
 pub use records::{
