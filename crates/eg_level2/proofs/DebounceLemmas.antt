@@ -1,5 +1,5 @@
 -- What module 6 makes of the words by their names.
-use Rattle.std.proofs.Common.{◌≡◌, ◌∙◌, refl, sym, ap, ℕ, ◌≤◌, Bool, true, false}
+use Rattle.std.proofs.Common.{◌≡◌, ◌∙◌, refl, sym, ap, subst, List, [], ℕ, ◌≤◌, Bool, true, false}
 use Rattle.std.specs.Prelude.{Result, Ok, Err, OnOk, if◌then◌else◌}
 use Rattle.eg_num.specs.Windows.{WeightParts}
 use Rattle.eg_num.specs.declared.watches.Watches.{Watches}
@@ -12,7 +12,8 @@ use Rattle.eg_level2.specs.declared.step.Step.{Step}
 use Rattle.eg_level2.specs.declared.debounce.Feeds.{Feeds}
 use Rattle.eg_level2.specs.Words.{Words, named, AreWithin}
 use Rattle.eg_level2.specs.Modules.{feeds_now, counted, is_found, debounced, limits, trips, debounce_step, pedal_bit, plate_bit, load_bit, speed_bit, torque_bit, no_watches, finding}
-use Rattle.eg_level2.specs.Stores.{put, keep, keep_where, fed_of, feeds_of, counters_kept, trips_of, found_of}
+use Rattle.eg_level2.specs.Stores.{put, keep, keep_where, Store, store, both, both_where, after_stores, AreFirst, fed_of, feeds_of, counting, counters_kept, trips_of, found_of}
+use Rattle.eg_level2.specs.Order.{debounce_stores}
 
 -- ---- what is fed ----
 
@@ -52,7 +53,7 @@ feeds_by f rules pedal plate load speed torque ep el eo es et = rw (ep, el, eo, 
 
 pub counters_by : (f g1 g2 g3 g4 h : ℕ → ℕ) (feeds : Feeds) → h ≡ keep 9 feeds.torque.value g4 → g4 ≡ keep 8 feeds.speed.value g3 → g3 ≡ keep 7 feeds.load.value g2
     → g2 ≡ keep 6 feeds.plate.value g1 → g1 ≡ keep 5 feeds.pedal.value f → h ≡ counters_kept feeds f
-unfolding counters_kept
+unfolding counters_kept counting after_stores both store keep
 counters_by f g1 g2 g3 g4 h feeds eh e4 e3 e2 e1 = eh ∙ rw (e4, e3, e2, e1) refl
 
 -- the words after the five counters, limp where its test is true, trip where its test is true, and the token
@@ -69,8 +70,8 @@ fed_words feeds limit trip token words = record words {
 }
 
 stored_by : (feeds : Feeds) (limit trip : Bool) (token : ℕ) (f : ℕ → ℕ)
-    → named (keep 12 token (keep_where trip 11 1 (keep_where limit 10 1 (counters_kept feeds f)))) ≡ fed_words feeds limit trip token (named f)
-unfolding named keep put keep_where counters_kept
+    → named (keep 12 token (counters_kept feeds (keep_where limit 10 1 (keep_where trip 11 1 f)))) ≡ fed_words feeds limit trip token (named f)
+unfolding named keep put keep_where counters_kept counting after_stores both store
 stored_by feeds true true token f = refl
 stored_by feeds true false token f = refl
 stored_by feeds false true token f = refl
@@ -107,12 +108,12 @@ unfed-found rules phase words e = rw e refl
 
 -- ---- both, from the calls ----
 
-pub fed_step : (f g1 g2 g3 h : ℕ → ℕ) (rules : Rules) (phase : Phase) (feeds : Feeds) (trip feeding : Bool) (t token : ℕ) → h ≡ keep 12 token g3 → g3 ≡ keep_where trip 11 1 g2
-    → g2 ≡ keep_where feeds.pedal.found 10 1 g1 → g1 ≡ counters_kept feeds f → trip ≡ trips_of feeds → feeds ≡ feeds_of rules (named f)
+pub fed_step : (f g1 g2 g3 h : ℕ → ℕ) (rules : Rules) (phase : Phase) (feeds : Feeds) (trip feeding : Bool) (t token : ℕ) → h ≡ keep 12 token g3 → g3 ≡ counters_kept feeds g2
+    → g2 ≡ keep_where feeds.pedal.found 10 1 g1 → g1 ≡ keep_where trip 11 1 f → trip ≡ trips_of feeds → feeds ≡ feeds_of rules (named f)
     → feeding ≡ feeds_now phase (named f) → feeding ≡ true → token ≡ next_token_of t 6 → t ≡ f 12 → named h ≡ debounce_step rules phase (named f)
 unfolding named
 fed_step f g1 g2 g3 h rules phase feeds trip feeding t token eh e3 e2 e1 etrip ef efeeding on etoken et =
-    let stored : h ≡ keep 12 token (keep_where trip 11 1 (keep_where feeds.pedal.found 10 1 (counters_kept feeds f))) = eh ∙ rw (e3, e2, e1) refl in
+    let stored : h ≡ keep 12 token (counters_kept feeds (keep_where feeds.pedal.found 10 1 (keep_where trip 11 1 f))) = eh ∙ rw (e3, e2, e1) refl in
     ap named stored
     ∙ stored_by feeds feeds.pedal.found trip token f
     ∙ same_words feeds (feeds_of rules (named f)) trip token (next_token_of (f 12) 6) (named f) ef etrip (etoken ∙ ap (λ t. next_token_of t 6) et)
@@ -128,6 +129,43 @@ pub unfed_step : (f h : ℕ → ℕ) (rules : Rules) (phase : Phase) (feeding : 
 unfolding named keep put
 unfed_step f h rules phase feeding t token eh efeeding off etoken et =
     rw (eh, etoken, et) (unfed rules phase (named f) (sym efeeding ∙ off))
+
+pub counting-is : (feeds : Feeds) (f h : ℕ → ℕ) → AreFirst (both 5 feeds.pedal.value (both 6 feeds.plate.value (both 7 feeds.load.value (both 8 feeds.speed.value
+    (both 9 feeds.torque.value []))))) f h → AreFirst (counting feeds []) f h
+unfolding counting
+counting-is feeds f h first = first
+
+-- the stores, in their order
+abbrev fed_stores : Feeds → Bool → ℕ → List Store
+fed_stores feeds trip token = both_where trip 11 1 (both_where feeds.pedal.found 10 1 (counting feeds (both 12 token [])))
+
+free-stores : (rules : Rules) (phase : Phase) (words : Words) → feeds_now phase words ≡ true
+    → fed_stores (feeds_of rules words) (trips_of (feeds_of rules words)) (next_token_of words.token 6)
+    ≡ debounce_stores (feeds_now phase words) (debounced rules phase words) (debounce_step rules phase words)
+unfolding debounce_stores counting debounce_step debounced limits trips counted is_found feeds_of fed_of trips_of
+free-stores rules phase words e = rw e refl
+
+pub fed-is : (f h : ℕ → ℕ) (rules : Rules) (phase : Phase) (feeds : Feeds) (trip feeding : Bool) (t token : ℕ) → trip ≡ trips_of feeds → feeds ≡ feeds_of rules (named f)
+    → feeding ≡ feeds_now phase (named f) → feeding ≡ true → token ≡ next_token_of t 6 → t ≡ f 12 → AreFirst (fed_stores feeds trip token) f h
+    → AreFirst (debounce_stores (feeds_now phase (named f)) (debounced rules phase (named f)) (debounce_step rules phase (named f))) f h
+unfolding named
+fed-is f h rules phase feeds trip feeding t token etrip ef efeeding on etoken et first =
+    subst (λ (l : List Store). AreFirst l f h)
+    (ap (λ t. fed_stores feeds t token) etrip ∙ ap (λ t. fed_stores feeds (trips_of feeds) t) (etoken ∙ ap (λ t. next_token_of t 6) et)
+    ∙ ap (λ (x : Feeds). fed_stores x (trips_of x) (next_token_of (f 12) 6)) ef ∙ free-stores rules phase (named f) (sym efeeding ∙ on)) first
+
+unfed-stores : (rules : Rules) (phase : Phase) (words : Words) → feeds_now phase words ≡ false
+    → both 12 (next_token_of words.token 6) [] ≡ debounce_stores (feeds_now phase words) (debounced rules phase words) (debounce_step rules phase words)
+unfolding debounce_stores debounce_step
+unfed-stores rules phase words e = rw e refl
+
+pub unfed-is : (f h : ℕ → ℕ) (rules : Rules) (phase : Phase) (feeding : Bool) (t token : ℕ) → feeding ≡ feeds_now phase (named f) → feeding ≡ false
+    → token ≡ next_token_of t 6 → t ≡ f 12 → AreFirst (both 12 token []) f h
+    → AreFirst (debounce_stores (feeds_now phase (named f)) (debounced rules phase (named f)) (debounce_step rules phase (named f))) f h
+unfolding named
+unfed-is f h rules phase feeding t token efeeding off etoken et first =
+    subst (λ (l : List Store). AreFirst l f h)
+    (ap (λ t. both 12 t []) (etoken ∙ ap (λ t. next_token_of t 6) et) ∙ unfed-stores rules phase (named f) (sym efeeding ∙ off)) first
 
 -- the watches that are found, as the run answers them
 pub fed_finding : (f : ℕ → ℕ) (rules : Rules) (phase : Phase) (feeds : Feeds) (feeding : Bool) (found : Watches) (step : Step) → step ≡ finding found → found ≡ found_of feeds

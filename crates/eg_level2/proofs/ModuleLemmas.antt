@@ -1,5 +1,5 @@
 -- What the stores of a module make of the words by their names.
-use Rattle.std.proofs.Common.{◌≡◌, ◌∙◌, refl, sym, ap, ap₂, ℕ, ◌+◌, ◌-◌, ◌*◌, ◌%◌, Bool, true, false, arith}
+use Rattle.std.proofs.Common.{◌≡◌, ◌∙◌, refl, sym, ap, ap₂, subst, List, [], ℕ, ◌+◌, ◌-◌, ◌*◌, ◌%◌, Bool, true, false, arith}
 use Rattle.std.specs.Prelude.{Result, Ok, Err, OnOk, if◌then◌else◌, ◌==◌, min, max, bit_xor, slice_index, Option, Some, None}
 use Rattle.eg_num.specs.Interpolation.{grid_at}
 use Rattle.eg_torque.specs.Permit.{permitted}
@@ -14,9 +14,10 @@ use Rattle.eg_answer.specs.declared.rules.TestRow.{TestRow}
 use Rattle.eg_level2.specs.declared.phase.Phase.{Phase}
 use Rattle.eg_level2.specs.declared.lookup.Lookup.{Lookup}
 use Rattle.eg_level2.specs.Inputs.{IsLookup}
-use Rattle.eg_level2.specs.Words.{named, is_set, start}
+use Rattle.eg_level2.specs.Words.{Words, named, is_set, in_order, start}
 use Rattle.eg_level2.specs.Modules.{marked, check_step, given_up, written, signed, pedal_step, permitted_step, actual_step, excess_step, pairs_step, closed_flow, answers_now, number_of, answer_of, react_step}
-use Rattle.eg_level2.specs.Stores.{put, keep, cleared, signalled}
+use Rattle.eg_level2.specs.Stores.{Store, put, keep, kept_from, store, both, after_stores, AreFirst, signalling, signalled}
+use Rattle.eg_level2.specs.Order.{check_stores, signal_stores, react_stores}
 
 -- ---- module 0 ----
 
@@ -25,10 +26,16 @@ pub gone_on : (f g1 g2 g3 h : ℕ → ℕ) (tick seed t token w l flow : ℕ) �
 unfolding named keep put check_step
 gone_on f g1 g2 g3 h tick seed t token w l flow eh e3 e2 e1 ef ew el etoken et = rw (eh, e3, e2, e1, ef, ew, el, etoken, et) refl
 
-pub gave_up : (f g0 g1 g2 g3 h : ℕ → ℕ) (tick : ℕ) → h ≡ keep 14 tick g3 → g3 ≡ keep 13 33023 g2 → g2 ≡ keep 12 1 g1 → g1 ≡ keep 11 1 g0 → g0 ≡ cleared 16 f
-    → named h ≡ given_up tick
-unfolding named keep put cleared given_up
-gave_up f g0 g1 g2 g3 h tick eh e3 e2 e1 e0 = rw (eh, e3, e2, e1, e0) refl
+pub gave_up : (g h : ℕ → ℕ) (tick : ℕ) (values : List ℕ) → h ≡ kept_from values 16 g → values ≡ in_order (given_up tick) → named h ≡ given_up tick
+unfolding named keep put kept_from in_order given_up
+gave_up g h tick values eh ev = rw (eh, ev) refl
+
+-- the stores of module 0, of values that are known
+pub check-is : (f h : ℕ → ℕ) (tick seed t token w l flow : ℕ) → flow ≡ (if (l + 1) % 65536 == tick then w else marked w) → w ≡ f 13 → l ≡ f 14 → token ≡ next_token_of t 0
+    → t ≡ f 12 → AreFirst (both 12 token (both 13 flow (both 14 tick (both 15 seed [])))) f h → AreFirst (check_stores (check_step seed tick (named f))) f h
+unfolding named check_step check_stores
+check-is f h tick seed t token w l flow ef ew el etoken et first =
+    subst (λ (l : List Store). AreFirst l f h) (rw (ef, ew, el, etoken, et) refl) first
 
 -- ---- modules 1 to 5 ----
 
@@ -36,14 +43,22 @@ gave_up f g0 g1 g2 g3 h tick eh e3 e2 e1 e0 = rw (eh, e3, e2, e1, e0) refl
 pub signalled_by : (f g1 g2 h : ℕ → ℕ) (number signal test d place value t token s sign w : ℕ) (trip : Bool) → h ≡ keep 15 sign g2 → g2 ≡ keep 12 token g1
     → g1 ≡ keep place value f → place ≡ number - 1 → value ≡ (if trip then 0 else bit_xor signal d) → trip ≡ is_set w → w ≡ f 11
     → token ≡ next_token_of t number → t ≡ f 12 → sign ≡ bit_xor (mixed s test) d → s ≡ f 15 → h ≡ signalled number signal test d f
-unfolding signalled
+unfolding signalled signalling after_stores both store keep
 signalled_by f g1 g2 h number signal test d place value t token s sign w trip eh e2 e1 ep ev etrip ew etoken et esign es =
     eh ∙ rw (e2, e1, ep, ev, etrip, ew, etoken, et, esign, es) refl
+
+-- of values that are known
+pub signalling-is : (f h : ℕ → ℕ) (number signal test d place value t token s sign w : ℕ) (trip : Bool) → place ≡ number - 1
+    → value ≡ (if trip then 0 else bit_xor signal d) → trip ≡ is_set w → w ≡ f 11 → token ≡ next_token_of t number → t ≡ f 12 → sign ≡ bit_xor (mixed s test) d → s ≡ f 15
+    → AreFirst (both place value (both 12 token (both 15 sign []))) f h → AreFirst (signalling number signal test d f) f h
+unfolding signalling
+signalling-is f h number signal test d place value t token s sign w trip ep ev etrip ew etoken et esign es first =
+    subst (λ (l : List Store). AreFirst l f h) (rw (ep, ev, etrip, ew, etoken, et, esign, es) refl) first
 
 pub pedal_by : (f h : ℕ → ℕ) (read readings : Readings) (row : TestRow) (d signal test w : ℕ) (limp : Bool) → h ≡ signalled 1 signal test d f
     → read ≡ readings → signal ≡ used_pedal read.pedal limp → limp ≡ is_set w → w ≡ f 10 → test ≡ pedal_result row
     → named h ≡ pedal_step readings row d (named f)
-unfolding named signalled keep put pedal_step written signed
+unfolding named signalled signalling after_stores both store keep put pedal_step written signed
 pedal_by f h read readings row d signal test w limp eh er es el ew et = rw (eh, es, el, ew, et, er) refl
 
 -- a signal that is 0 where a trip stands is written as any other, since 0 is written there
@@ -54,7 +69,7 @@ unless_tripped false signal d = refl
 
 signalled_unless : (f : ℕ → ℕ) (number signal value test d : ℕ) → value ≡ (if is_set (f 11) then 0 else signal)
     → signalled number value test d f ≡ signalled number signal test d f
-unfolding signalled
+unfolding signalled signalling after_stores both store keep
 signalled_unless f number signal value test d ev =
     ap (λ v. keep 15 (bit_xor (mixed (f 15) test) d) (keep 12 (next_token_of (f 12) number) (keep (number - 1) v f)))
     (ap (λ v. if is_set (f 11) then 0 else bit_xor v d) ev ∙ unless_tripped (is_set (f 11)) signal d)
@@ -62,7 +77,7 @@ signalled_unless f number signal value test d ev =
 permitted_from : (f h : ℕ → ℕ) (rules : Rules) (read readings : Readings) (row : TestRow) (d signal test pedal : ℕ) → h ≡ signalled 2 signal test d f
     → read ≡ readings → signal ≡ permitted_torque rules read pedal → pedal ≡ f 0 → test ≡ permitted_result rules row
     → named h ≡ permitted_step rules readings row d (named f)
-unfolding named signalled keep put permitted_step written signed
+unfolding named signalled signalling after_stores both store keep put permitted_step written signed
 permitted_from f h rules read readings row d signal test pedal eh er es ep et = rw (eh, es, ep, et, er) refl
 
 pub permitted_by : (f h : ℕ → ℕ) (rules : Rules) (read readings : Readings) (row : TestRow) (d value test pedal w : ℕ) (trip : Bool)
@@ -79,19 +94,19 @@ permitted_by f h rules read readings row d value test pedal w trip eh er ev etri
 pub actual_by : (f h : ℕ → ℕ) (rules : Rules) (read readings : Readings) (row : TestRow) (d signal test : ℕ) → h ≡ signalled 3 signal test d f
     → read ≡ readings → signal ≡ estimated_torque rules read → test ≡ estimate_result rules row
     → named h ≡ actual_step rules readings row d (named f)
-unfolding named signalled keep put actual_step written signed
+unfolding named signalled signalling after_stores both store keep put actual_step written signed
 actual_by f h rules read readings row d signal test eh er es et = rw (eh, es, et, er) refl
 
 pub excess_by : (f h : ℕ → ℕ) (rules : Rules) (row : TestRow) (d signal test actual allowed : ℕ) → h ≡ signalled 4 signal test d f
     → signal ≡ excess_number rules allowed actual → actual ≡ f 2 → allowed ≡ f 1 → test ≡ excess_result rules row
     → named h ≡ excess_step rules row d (named f)
-unfolding named signalled keep put excess_step written signed
+unfolding named signalled signalling after_stores both store keep put excess_step written signed
 excess_by f h rules row d signal test actual allowed eh es ea ep et = rw (eh, es, ea, ep, et) refl
 
 pub pairs_by : (f h : ℕ → ℕ) (rules : Rules) (read readings : Readings) (row : TestRow) (d signal test : ℕ) → h ≡ signalled 5 signal test d f
     → read ≡ readings → signal ≡ disagreeing_pairs rules read → test ≡ pairs_result rules row
     → named h ≡ pairs_step rules readings row d (named f)
-unfolding named signalled keep put pairs_step written signed
+unfolding named signalled signalling after_stores both store keep put pairs_step written signed
 pairs_by f h rules read readings row d signal test eh er es et = rw (eh, es, et, er) refl
 
 -- the permitted torque where both speeds are the one that was looked up
@@ -116,7 +131,34 @@ looked_up-at rules lookup read pedal raise is same at_pedal at_speed checked =
 
 pub ruleset looked_up = (looked_up-at)
 
+-- the stores of a module of number 1 to 5, by the words after it
+pub first-stores : (f h : ℕ → ℕ) (signal test d : ℕ) (after : Words) → named (signalled 1 signal test d f) ≡ after → AreFirst (signalling 1 signal test d f) f h → AreFirst (signal_stores 0 after) f h
+unfolding named signalled signalling signal_stores in_order after_stores both store put
+first-stores f h signal test d after e first = subst (λ (w : Words). AreFirst (signal_stores 0 w) f h) e first
+
+pub second-stores : (f h : ℕ → ℕ) (signal test d : ℕ) (after : Words) → named (signalled 2 signal test d f) ≡ after → AreFirst (signalling 2 signal test d f) f h → AreFirst (signal_stores 1 after) f h
+unfolding named signalled signalling signal_stores in_order after_stores both store put
+second-stores f h signal test d after e first = subst (λ (w : Words). AreFirst (signal_stores 1 w) f h) e first
+
+pub third-stores : (f h : ℕ → ℕ) (signal test d : ℕ) (after : Words) → named (signalled 3 signal test d f) ≡ after → AreFirst (signalling 3 signal test d f) f h → AreFirst (signal_stores 2 after) f h
+unfolding named signalled signalling signal_stores in_order after_stores both store put
+third-stores f h signal test d after e first = subst (λ (w : Words). AreFirst (signal_stores 2 w) f h) e first
+
+pub fourth-stores : (f h : ℕ → ℕ) (signal test d : ℕ) (after : Words) → named (signalled 4 signal test d f) ≡ after → AreFirst (signalling 4 signal test d f) f h → AreFirst (signal_stores 3 after) f h
+unfolding named signalled signalling signal_stores in_order after_stores both store put
+fourth-stores f h signal test d after e first = subst (λ (w : Words). AreFirst (signal_stores 3 w) f h) e first
+
+pub fifth-stores : (f h : ℕ → ℕ) (signal test d : ℕ) (after : Words) → named (signalled 5 signal test d f) ≡ after → AreFirst (signalling 5 signal test d f) f h → AreFirst (signal_stores 4 after) f h
+unfolding named signalled signalling signal_stores in_order after_stores both store put
+fifth-stores f h signal test d after e first = subst (λ (w : Words). AreFirst (signal_stores 4 w) f h) e first
+
 -- ---- module 7 ----
+
+-- the stores, of values that are known
+pub react-is : (f h : ℕ → ℕ) (phase : Phase) (sends : Bool) (flow after : ℕ) → after ≡ (if sends then 255 else flow) → sends ≡ answers_now phase (named f)
+    → flow ≡ closed_flow (named f) → AreFirst (both 12 0 (both 13 after [])) f h → AreFirst (react_stores (react_step phase (named f))) f h
+unfolding named react_step react_stores
+react-is f h phase sends flow after ea es ef first = subst (λ (l : List Store). AreFirst l f h) (rw (ea, es, ef) refl) first
 
 pub reacted : (f g h : ℕ → ℕ) (phase : Phase) (sends : Bool) (flow after : ℕ) → h ≡ keep 13 after g → g ≡ keep 12 0 f → after ≡ (if sends then 255 else flow)
     → sends ≡ answers_now phase (named f) → flow ≡ closed_flow (named f) → named h ≡ react_step phase (named f)
@@ -130,9 +172,9 @@ answered f answer phase sends flow sign ea es ef esign = ea ∙ rw (es, ef, esig
 
 -- ---- the start ----
 
-pub began : (f g0 g1 h : ℕ → ℕ) → h ≡ keep 14 65535 g1 → g1 ≡ keep 13 255 g0 → g0 ≡ cleared 16 f → named h ≡ start
-unfolding named keep put cleared start
-began f g0 g1 h eh e1 e0 = rw (eh, e1, e0) refl
+pub began : (f h : ℕ → ℕ) (values : List ℕ) → values ≡ in_order start → h ≡ kept_from values 16 f → named h ≡ start
+unfolding named keep put kept_from in_order start
+began f h values ev e = rw (e, ev) refl
 
 -- ---- the same of calls that were done ----
 
@@ -142,10 +184,10 @@ pub gone_on-ok : {T E : Type 0} (result : Result T E) (f g1 g2 g3 h : ℕ → �
 gone_on-ok (Ok x) f g1 g2 g3 h tick seed t token w l flow eh e3 e2 e1 ef ew el etoken et = gone_on f g1 g2 g3 h tick seed t token w l flow eh e3 e2 e1 ef ew el etoken et
 gone_on-ok (Err x) f g1 g2 g3 h tick seed t token w l flow eh e3 e2 e1 ef ew el etoken et = eh
 
-pub gave_up-ok : {T E : Type 0} (result : Result T E) (f g0 g1 g2 g3 h : ℕ → ℕ) (tick : ℕ) → OnOk result (h ≡ keep 14 tick g3) → g3 ≡ keep 13 33023 g2 → g2 ≡ keep 12 1 g1
-    → g1 ≡ keep 11 1 g0 → g0 ≡ cleared 16 f → OnOk result (named h ≡ given_up tick)
-gave_up-ok (Ok x) f g0 g1 g2 g3 h tick eh e3 e2 e1 e0 = gave_up f g0 g1 g2 g3 h tick eh e3 e2 e1 e0
-gave_up-ok (Err x) f g0 g1 g2 g3 h tick eh e3 e2 e1 e0 = eh
+pub gave_up-ok : {T E : Type 0} (result : Result T E) (g h : ℕ → ℕ) (tick : ℕ) (values : List ℕ) → OnOk result (h ≡ kept_from values 16 g) → values ≡ in_order (given_up tick)
+    → OnOk result (named h ≡ given_up tick)
+gave_up-ok (Ok x) g h tick values eh ev = gave_up g h tick values eh ev
+gave_up-ok (Err x) g h tick values eh ev = eh
 
 pub signalled-ok : {T E : Type 0} (result : Result T E) (f g1 g2 h : ℕ → ℕ) (number signal test d place value t token s sign w : ℕ) (trip : Bool) → OnOk result (h ≡ keep 15 sign g2)
     → g2 ≡ keep 12 token g1 → g1 ≡ keep place value f → place ≡ number - 1 → value ≡ (if trip then 0 else bit_xor signal d) → trip ≡ is_set w → w ≡ f 11
@@ -154,10 +196,9 @@ signalled-ok (Ok x) f g1 g2 h number signal test d place value t token s sign w 
     signalled_by f g1 g2 h number signal test d place value t token s sign w trip eh e2 e1 ep ev etrip ew etoken et esign es
 signalled-ok (Err x) f g1 g2 h number signal test d place value t token s sign w trip eh e2 e1 ep ev etrip ew etoken et esign es = eh
 
-pub began-ok : {T E : Type 0} (result : Result T E) (f g0 g1 h : ℕ → ℕ) → OnOk result (h ≡ keep 14 65535 g1) → g1 ≡ keep 13 255 g0 → g0 ≡ cleared 16 f
-    → OnOk result (named h ≡ start)
-began-ok (Ok x) f g0 g1 h eh e1 e0 = began f g0 g1 h eh e1 e0
-began-ok (Err x) f g0 g1 h eh e1 e0 = eh
+pub began-ok : {T E : Type 0} (result : Result T E) (f h : ℕ → ℕ) (values : List ℕ) → values ≡ in_order start → OnOk result (h ≡ kept_from values 16 f) → OnOk result (named h ≡ start)
+began-ok (Ok x) f h values ev e = began f h values ev e
+began-ok (Err x) f h values ev e = e
 
 -- what each module's body follows from
 pub ruleset check_laws = (gone_on-ok, gave_up-ok)

@@ -5,7 +5,7 @@ use Rattle.eg_guard.specs.Regions.{region_of}
 use Rattle.std.proofs.lemmas.Bool.Decides.{eqb_tells}
 use Rattle.std.proofs.lemmas.Bool.{eq-eqb, ne_eqb}
 use Rattle.eg_level2.specs.Words.{word_at, AreMirrored, is_level2_own}
-use Rattle.eg_level2.specs.Stores.{put, keep, cleared, outside}
+use Rattle.eg_level2.specs.Stores.{put, keep, kept_from, outside}
 
 -- what follows from the words of a call that was done
 pub on_ok : {T E : Type 0} (result : Result T E) {P Q : Type 0} → (P → Q) → OnOk result P → OnOk result Q
@@ -44,23 +44,24 @@ pub kept_on : {T E : Type 0} (result : Result T E) (f g h : ℕ → ℕ) (number
 kept_on (Ok x) f g h number value e p = kept_at f g h number value e p
 kept_on (Err x) f g h number value e p = e
 
--- ---- all words made 0 ----
+-- ---- all words stored ----
 
-pub cleared-more : (f g h : ℕ → ℕ) (count : ℕ) → h ≡ keep count 0 g → g ≡ cleared count f → h ≡ cleared (count + 1) f
-unfolding cleared
-cleared-more f g h count e p = e ∙ ap (keep count 0) p ∙ ap (λ k. cleared k f) (let one_more : suc count ≡ count + 1 = omega arith in one_more)
+pub kept_from-more : (values : List ℕ) (f g h : ℕ → ℕ) (count value : ℕ) → value ≡ slice_index values count → h ≡ keep count value g → g ≡ kept_from values count f → h ≡ kept_from values (count + 1) f
+unfolding kept_from
+kept_from-more values f g h count value ev e p =
+    e ∙ ap (λ v. keep count v g) ev ∙ ap (keep count (slice_index values count)) p ∙ ap (λ k. kept_from values k f) (let one_more : suc count ≡ count + 1 = omega arith in one_more)
 
 -- the first so many words are mirrored
 abbrev pub MirrorBelow : ℕ → (ℕ → ℕ) → Type 0
 MirrorBelow count word = (k : ℕ) → k < count → word k + word (k + 16) ≡ 65535
 
-pub mirror-more : (g h : ℕ → ℕ) (count : ℕ) → count < 16 → h ≡ keep count 0 g → MirrorBelow count g → MirrorBelow (count + 1) h
+pub mirror-more : (g h : ℕ → ℕ) (count value : ℕ) → count < 16 → value < 65536 → h ≡ keep count value g → MirrorBelow count g → MirrorBelow (count + 1) h
 unfolding keep put
-mirror-more g h count within e m = subst (MirrorBelow (count + 1)) (sym e) below
+mirror-more g h count value within fits e m = subst (MirrorBelow (count + 1)) (sym e) below
   where
-    below : MirrorBelow (count + 1) (keep count 0 g)
+    below : MirrorBelow (count + 1) (keep count value g)
     below k h = elim (eqb_tells k count) [
-      | inl same ↦ rw (ne_eqb k (count + 16) (λ e. omega arith), same.0, eq-eqb (k + 16) (count + 16) (let e = same.1 in omega arith)) refl
+      | inl same ↦ rw (ne_eqb k (count + 16) (λ e. omega arith), same.0, eq-eqb (k + 16) (count + 16) (let e = same.1 in omega arith)) (omega arith)
       | inr other ↦ rw (ne_eqb k (count + 16) (λ e. omega arith), other.0, ne_eqb (k + 16) (count + 16) (λ e. other.1 (omega arith)), ne_eqb (k + 16) count (λ e. omega arith))
           (m k (let apart = other.1 in grind arith))
     ]

@@ -1,6 +1,6 @@
 -- Ticks of level 2 that were worked by hand, against the definitions.
 use Rattle.std.proofs.Common.{◌≡◌, ℕ, true, false, List, [], ◌∷◌, ◌++◌, refl}
-use Rattle.std.specs.Prelude.{fold, map, Some, None}
+use Rattle.std.specs.Prelude.{fold, map, take, Some, None}
 use Rattle.eg_num.specs.Interpolation.{value_at}
 use Rattle.eg_num.specs.Counting.{fed}
 use Rattle.eg_torque.specs.Permit.{permitted}
@@ -16,9 +16,11 @@ use Rattle.eg_answer.specs.declared.questions.Question.{Question}
 use Rattle.eg_level2.specs.declared.phase.Phase.{Phase}
 use Rattle.eg_level2.specs.declared.phase.Phase.TheVariants.{Quiet, Send, Test, TestOrder}
 use Rattle.eg_level2.specs.Phases.{feeds, sends, orders}
-use Rattle.eg_level2.specs.Words.{Words, is_set, start, place, named}
+use Rattle.eg_level2.specs.Words.{Words, is_set, start, place, named, in_order}
 use Rattle.eg_level2.specs.Inputs.{Inputs, row_of}
 use Rattle.eg_level2.specs.Modules.{feeds_now, opens_now, marked, check_step, written, signed, pedal_step, permitted_step, actual_step, excess_step, pairs_step, pedal_bit, plate_bit, load_bit, speed_bit, torque_bit, counted, is_found, debounced, limits, trips, debounce_step, closed_flow, answers_now, number_of, answer_of, react_step, module_step, answer_after, given_up, found_by, order_after, no_watches, mirror_alone}
+use Rattle.eg_level2.specs.Stores.{Store, store, put, both, both_where, both_from, after_stores}
+use Rattle.eg_level2.specs.Order.{check_stores, signal_stores, debounce_stores, react_stores, stores_of, reset_stores, given_up_stores}
 
 -- pedals 0, 500, 1000; speeds 800, 3000, 6000
 abbrev rules : Rules
@@ -233,6 +235,46 @@ flip_found = refl
 flip_later : run (inputs idle 0 Quiet 0) (1 ∷ 2 ∷ 3 ∷ 4 ∷ 5 ∷ 6 ∷ 7 ∷ []) (given_up 0) ≡ record gave_up { token = 0; sign = 11152 }
 unfolding run given_up
 flip_later = refl
+
+-- ---- the order of the stores ----
+
+-- the numbers of the words that a run stores, complements from 16 on
+unfoldable order : Inputs → ℕ → Words → List ℕ
+unfolding stores_of check_stores signal_stores debounce_stores react_stores both both_where store in_order fed has_bit is_set pedal_bit plate_bit load_bit speed_bit torque_bit
+    is_found debounced limits trips feeds_now feeds start
+order given number words = map (λ (one : Store). one.number) (stores_of given number words)
+
+orders_by_module : map (λ number. order (inputs idle 0 Quiet 0) number start) (0 ∷ 1 ∷ 5 ∷ 7 ∷ [])
+    ≡ (12 ∷ 28 ∷ 13 ∷ 29 ∷ 14 ∷ 30 ∷ 15 ∷ 31 ∷ []) ∷ (0 ∷ 16 ∷ 12 ∷ 28 ∷ 15 ∷ 31 ∷ []) ∷ (4 ∷ 20 ∷ 12 ∷ 28 ∷ 15 ∷ 31 ∷ []) ∷ (12 ∷ 28 ∷ 13 ∷ 29 ∷ []) ∷ []
+unfolding order
+orders_by_module = refl
+
+-- debounce: in a test the token alone; else the counters before it; and before those a trip that is found
+order_in_test : order (inputs idle 0 Test 0) 6 start ≡ 12 ∷ 28 ∷ []
+unfolding order
+order_in_test = refl
+
+order_without_trip : order (inputs idle 0 Quiet 0) 6 start ≡ 5 ∷ 21 ∷ 6 ∷ 22 ∷ 7 ∷ 23 ∷ 8 ∷ 24 ∷ 9 ∷ 25 ∷ 12 ∷ 28 ∷ []
+unfolding order
+order_without_trip = refl
+
+order_with_trip : order (inputs idle 0 Quiet 0) 6 (record start { pairs = 2; plate_counter = 9 }) ≡ 11 ∷ 27 ∷ 5 ∷ 21 ∷ 6 ∷ 22 ∷ 7 ∷ 23 ∷ 8 ∷ 24 ∷ 9 ∷ 25 ∷ 12 ∷ 28 ∷ []
+unfolding order
+order_with_trip = refl
+
+-- giving up: the trip stands after one store, and after all of them the words are those that are given up; after
+-- those of a reset they are those of the start
+trip_first : after_stores (take 1 (given_up_stores 3)) (λ k. 0) 11 ≡ 1
+unfolding after_stores given_up_stores both store put
+trip_first = refl
+
+all_given_up : named (after_stores (given_up_stores 3) (λ k. 7)) ≡ given_up 3
+unfolding named after_stores given_up_stores both_from both store put in_order given_up
+all_given_up = refl
+
+all_reset : named (after_stores reset_stores (λ k. 7)) ≡ start
+unfolding named after_stores reset_stores both_from both store put in_order start
+all_reset = refl
 
 -- ---- where the words stand, in numbers ----
 

@@ -1,10 +1,12 @@
 -- What a run of a module by its number makes of a memory, and what it answers.
-use Rattle.std.specs.Prelude.{◌≡◌, ◌↔◌, ℕ, Result, IsTrue, IsOk, OnOk, IfOk}
+use Rattle.std.specs.Prelude.{◌≡◌, ◌↔◌, ◌⊎◌, ℕ, Result, IsTrue, IsOk, OnOk, OnErr, IfOk}
 use Rattle.eg_guard.specs.Memory.{ShownMemory, AreWords, SameOutside}
 use Rattle.eg_level2.specs.declared.phase.Phase.{Phase}
 use Rattle.eg_level2.specs.declared.step.Step.{Step}
-use Rattle.eg_level2.specs.Words.{words_of, AreMirrored, AreWithin, is_level2_own}
+use Rattle.eg_level2.specs.Words.{word_at, words_of, AreMirrored, AreWithin, is_set, is_level2_own}
 use Rattle.eg_level2.specs.Inputs.{Level2Parts, inputs_of}
+use Rattle.eg_level2.specs.Stores.{AreFirst}
+use Rattle.eg_level2.specs.Order.{stores_of, given_up_stores, TellsTrip}
 use Rattle.eg_level2.specs.Modules.{given_up, module_step, answer_after, order_after, mirror_alone, found_by}
 
 -- The run of the module of that number at a tick of that phase, with what disturbs it.
@@ -28,6 +30,18 @@ pub record IsRun {E : Type 0} (parts : Level2Parts) (number tick : ℕ) (phase :
   pub mirrored : OnOk result (AreMirrored new.words)
   pub within : (AreMirrored old.words → AreWithin parts.rules (words_of old.words)) →
       OnOk result (AreWithin parts.rules (words_of new.words))
+  -- Where memory ran out, the first so many of the run's stores were made, in their order, and no other.
+  pub stopped : AreMirrored old.words → OnErr result (AreFirst
+      (stores_of (inputs_of parts old.words tick phase disturbance) number (words_of old.words))
+      (word_at old.words) (word_at new.words))
+  pub given_up_stopped : ¬ AreMirrored old.words →
+      OnErr result (AreFirst (given_up_stores tick) (word_at old.words) (word_at new.words))
+  -- No trip is forgotten then, nor a word that differed: what told one still tells one, and one that the run
+  -- sets is told too, unless nothing was stored at all.
+  pub told : TellsTrip old.words → OnErr result (TellsTrip new.words)
+  pub set_told : AreMirrored old.words → IsTrue (is_set
+      (module_step (inputs_of parts old.words tick phase disturbance) number (words_of old.words)).trip) →
+      OnErr result (TellsTrip new.words ⊎ (word_at new.words ≡ word_at old.words))
   -- No word outside results and protected changes. NoMemory never comes over a sure memory.
   pub outside : SameOutside is_level2_own old.words new.words
   pub sure : IsTrue old.sure → IsOk result

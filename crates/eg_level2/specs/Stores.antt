@@ -1,6 +1,6 @@
 -- What stores make of level 2's words, by their numbers, and what they leave. The public contracts say the
 -- same by the words' names.
-use Rattle.std.specs.Prelude.{◌≡◌, ℕ, zero, suc, ◌+◌, ◌-◌, Bool, false, ◌&&◌, ◌||◌, ◌==◌, nat_lt, if◌then◌else◌, List, slice_index, bit_xor, Result, IsTrue, IsOk, OnOk}
+use Rattle.std.specs.Prelude.{◌≡◌, ℕ, zero, suc, ◌+◌, ◌-◌, Bool, false, ◌&&◌, ◌||◌, ◌==◌, nat_lt, if◌then◌else◌, List, [], ◌∷◌, take, slice_index, bit_xor, Result, IsTrue, IsOk, OnOk}
 use Rattle.eg_guard.specs.Regions.{region_of}
 use Rattle.eg_guard.specs.Memory.{ShownMemory, AreWords}
 use Rattle.eg_num.specs.declared.watches.Watches.{Watches}
@@ -28,17 +28,56 @@ keep number value word = put (number + MIRRORED_WORDS) (65535 - value) (put numb
 unfoldable pub keep_where : Bool → ℕ → ℕ → (ℕ → ℕ) → ℕ → ℕ
 keep_where test number value word = if test then keep number value word else word
 
--- the first so many words made 0
-unfoldable pub cleared : ℕ → (ℕ → ℕ) → ℕ → ℕ
-cleared zero word = word
-cleared (suc count) word = keep count 0 (cleared count word)
+-- so many words, the first, made those of a list
+unfoldable pub kept_from : List ℕ → ℕ → (ℕ → ℕ) → ℕ → ℕ
+kept_from values zero word = word
+kept_from values (suc count) word = keep count (slice_index values count) (kept_from values count word)
 
--- what a module of number 1 to 5 stores: its signal, the token and the fold
+-- ---- stores in their order ----
+
+-- one store: the number of a word, from 16 on of a complement, and what is put there
+pub record Store : Type 0 where
+  pub number : ℕ
+  pub value : ℕ
+
+unfoldable pub store : ℕ → ℕ → Store
+store number value = record { number = number; value = value }
+
+-- a word, its complement behind it, and then all else
+unfoldable pub both : ℕ → ℕ → List Store → List Store
+both number value rest = store number value ∷ store (number + MIRRORED_WORDS) (65535 - value) ∷ rest
+
+-- the same where a test is true, and else all else alone
+unfoldable pub both_where : Bool → ℕ → ℕ → List Store → List Store
+both_where test number value rest = if test then both number value rest else rest
+
+-- the words after these stores, one after another
+unfoldable pub after_stores : List Store → (ℕ → ℕ) → ℕ → ℕ
+after_stores [] word = word
+after_stores (one ∷ rest) word = after_stores rest (put one.number one.value word)
+
+-- Of these stores the first so many were made, in their order, and no other.
+pub record AreFirst (stores : List Store) (before after : ℕ → ℕ) : Type 0 where
+  pub count : ℕ
+  pub made : after ≡ after_stores (take count stores) before
+
+-- words of these values, from this number on
+unfoldable pub both_from : ℕ → List ℕ → List Store
+both_from number [] = []
+both_from number (value ∷ values) = both number value (both_from (number + 1) values)
+
+-- ---- what the modules store ----
+
+-- a module of number 1 to 5: its signal, the token and the fold
+unfoldable pub signalling : ℕ → ℕ → ℕ → ℕ → (ℕ → ℕ) → List Store
+signalling number signal test disturbance word =
+    both (number - 1) (if is_set (word TRIP) then 0 else bit_xor signal disturbance)
+    (both TOKEN (next_token_of (word TOKEN) number)
+    (both SIGN (bit_xor (mixed (word SIGN) test) disturbance) []))
+
 unfoldable pub signalled : ℕ → ℕ → ℕ → ℕ → (ℕ → ℕ) → ℕ → ℕ
 signalled number signal test disturbance word =
-    keep SIGN (bit_xor (mixed (word SIGN) test) disturbance)
-    (keep TOKEN (next_token_of (word TOKEN) number)
-    (keep (number - 1) (if is_set (word TRIP) then 0 else bit_xor signal disturbance) word))
+    after_stores (signalling number signal test disturbance word) word
 
 -- a counter after a feed, and whether it comes to its limit by it
 unfoldable pub fed_of : WeightParts → ℕ → Bool → Fed
@@ -74,12 +113,15 @@ found_of feeds = record {
   start = false;
 }
 
--- their values stored
+-- their values, and then all else
+unfoldable pub counting : Feeds → List Store → List Store
+counting feeds rest =
+    both PEDAL_COUNTER feeds.pedal.value (both PLATE_COUNTER feeds.plate.value
+    (both LOAD_COUNTER feeds.load.value (both SPEED_COUNTER feeds.speed.value
+    (both TORQUE_COUNTER feeds.torque.value rest))))
+
 unfoldable pub counters_kept : Feeds → (ℕ → ℕ) → ℕ → ℕ
-counters_kept feeds word =
-    keep TORQUE_COUNTER feeds.torque.value (keep SPEED_COUNTER feeds.speed.value
-    (keep LOAD_COUNTER feeds.load.value (keep PLATE_COUNTER feeds.plate.value
-    (keep PEDAL_COUNTER feeds.pedal.value word))))
+counters_kept feeds word = after_stores (counting feeds []) word
 
 -- the words outside level 2's own regions, by their addresses
 unfoldable pub outside : List ℕ → ℕ → ℕ

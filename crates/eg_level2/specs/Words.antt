@@ -1,5 +1,5 @@
 -- The sixteen words that level 2 keeps in the guarded memory, each with its complement.
-use Rattle.std.specs.Prelude.{◌≡◌, ◌≢◌, ℕ, ◌+◌, ◌-◌, ◌<◌, ◌≤◌, Bool, true, false, not, ◌==◌, nat_lt, if◌then◌else◌, List, slice_index, slice_set}
+use Rattle.std.specs.Prelude.{◌≡◌, ◌≢◌, ℕ, ◌+◌, ◌-◌, ◌<◌, ◌≤◌, Bool, true, false, not, ◌==◌, nat_lt, if◌then◌else◌, List, [], ◌∷◌, slice_index, slice_set}
 use Rattle.eg_guard.specs.declared.regions.Region.{Region}
 use Rattle.eg_guard.specs.declared.regions.Region.TheVariants.{Results, Protected}
 use Rattle.eg_guard.specs.declared.regions.TheConstants.{RESULTS, PROTECTED}
@@ -61,6 +61,14 @@ named word = record {
   last = word LAST;
   sign = word SIGN;
 }
+
+-- and the other way round: words by their names, in the order of their numbers
+unfoldable pub in_order : Words → List ℕ
+in_order words =
+    words.pedal ∷ words.permitted ∷ words.actual ∷ words.excess ∷ words.pairs
+    ∷ words.pedal_counter ∷ words.plate_counter ∷ words.load_counter ∷ words.speed_counter
+    ∷ words.torque_counter ∷ words.limp ∷ words.trip ∷ words.token ∷ words.flow ∷ words.last
+    ∷ words.sign ∷ []
 
 -- the words that a memory has
 abbrev pub words_of : List ℕ → Words

@@ -1,15 +1,16 @@
 // Module 0: whether level 2's words are what they were left as, and whether it ran at the tick before.
-ghost use Rattle.std.specs.Prelude.{◌≡◌, ◌↔◌, ◌+◌, ◌%◌, ◌==◌, IsTrue, OnOk, IfOk, if◌then◌else◌, None, false};
+ghost use Rattle.std.specs.Prelude.{◌≡◌, ◌↔◌, ◌+◌, ◌%◌, ◌==◌, IsTrue, OnOk, OnErr, IfOk, if◌then◌else◌, None, false};
 ghost use Rattle.eg_answer.specs.declared.rules.Rules.{Rules};
-ghost use Rattle.eg_level2.specs.Words.{words_of, AreMirrored, AreWithin};
+ghost use Rattle.eg_level2.specs.Words.{word_at, words_of, in_order, AreMirrored, AreWithin};
 ghost use Rattle.eg_level2.specs.Modules.{marked, check_step, given_up, no_watches, mirror_alone};
-ghost use Rattle.eg_level2.specs.Stores.{Keeps};
+ghost use Rattle.eg_level2.specs.Stores.{Keeps, AreFirst};
+ghost use Rattle.eg_level2.specs.Order.{check_stores, given_up_stores, TellsTrip};
 
 use crate::Step;
 use crate::words::{
-    BROKEN_FLOW, FLOW, LAST, SIGN, TOKEN, TRIP, WHOLE_FLOW, clear, is_mirrored, keep, word,
+    BROKEN_FLOW, FLOW, LAST, SIGN, TOKEN, TRIP, WHOLE_FLOW, is_mirrored, keep, keep_all, word,
 };
-use eg_answer::next_token;
+use eg_answer::{MIRRORED_WORDS, next_token};
 use eg_base::NoMemory;
 use eg_guard::Guarded;
 
@@ -23,6 +24,14 @@ pub(crate) fn check<M: Guarded>(memory: &mut M, tick: u16, seed: u16) -> Result<
         ≡ check_step seed tick (words_of (M.shows memory.old).words)) }
     ensures given_up { ¬ AreMirrored (M.shows memory.old).words
         → OnOk result (words_of (M.shows memory.new).words ≡ given_up tick) }
+    ensures stopped { AreMirrored (M.shows memory.old).words → OnErr result (AreFirst
+        (check_stores (check_step seed tick (words_of (M.shows memory.old).words)))
+        (word_at (M.shows memory.old).words) (word_at (M.shows memory.new).words)) }
+    ensures given_up_stopped { ¬ AreMirrored (M.shows memory.old).words
+        → OnErr result (AreFirst (given_up_stores tick)
+        (word_at (M.shows memory.old).words) (word_at (M.shows memory.new).words)) }
+    ensures told { TellsTrip (M.shows memory.old).words
+        → OnErr result (TellsTrip (M.shows memory.new).words) }
     ensures answer { IfOk result (λ step. step.answer ≡ None) }
     ensures order { IfOk result (λ step. step.open_path ≡ false) }
     ensures found { AreMirrored (M.shows memory.old).words
@@ -49,6 +58,9 @@ pub(crate) fn check<M: Guarded>(memory: &mut M, tick: u16, seed: u16) -> Result<
 fn go_on<M: Guarded>(memory: &mut M, tick: u16, seed: u16) -> Result<(), NoMemory>
     ensures words { OnOk result (words_of (M.shows memory.new).words
         ≡ check_step seed tick (words_of (M.shows memory.old).words)) }
+    ensures stopped { OnErr result (AreFirst
+        (check_stores (check_step seed tick (words_of (M.shows memory.old).words)))
+        (word_at (M.shows memory.old).words) (word_at (M.shows memory.new).words)) }
     ensures keeps { Keeps (M.shows memory.old) (M.shows memory.new) result }
 {
     let token = next_token(word(memory, TOKEN), eg_answer::CHECK);
@@ -72,15 +84,24 @@ fn flow_after(flow: u16, last: u16, tick: u16) -> u16
     }
 }
 
-/// Gives all words up, and trips.
+/// Gives all words up, and trips. The trip is stored first: so at no store the words are all mirrored without
+/// one, and memory that runs out in between doesn't hide the fault.
 fn give_up<M: Guarded>(memory: &mut M, tick: u16) -> Result<(), NoMemory>
     ensures words { OnOk result (words_of (M.shows memory.new).words ≡ given_up tick) }
+    ensures stopped { OnErr result (AreFirst (given_up_stores tick)
+        (word_at (M.shows memory.old).words) (word_at (M.shows memory.new).words)) }
     ensures mirrored { OnOk result (AreMirrored (M.shows memory.new).words) }
     ensures keeps { Keeps (M.shows memory.old) (M.shows memory.new) result }
 {
-    clear(memory)?;
     keep(memory, TRIP, 1)?;
-    keep(memory, TOKEN, 1)?;
-    keep(memory, FLOW, WHOLE_FLOW | BROKEN_FLOW)?;
-    keep(memory, LAST, tick)
+    keep_all(memory, &given_up_words(tick))
+}
+
+/// The words that are given up, in the order of their numbers.
+#[tactic(auto, unfolding(crate::specs::Words::in_order, crate::specs::Modules::given_up))]
+fn given_up_words(tick: u16) -> [u16; MIRRORED_WORDS as usize]
+    ensures { result ≡ in_order (given_up tick) }
+{
+    let flow = WHOLE_FLOW | BROKEN_FLOW;
+    [0, 0, 0, 0, 0, 0, 0, 0, 0, 0, 0, 1, 1, flow, tick, 0]
 }

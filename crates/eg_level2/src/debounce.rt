@@ -1,9 +1,10 @@
 // Module 6: the signals are debounced, and what is confirmed for the first time is found.
-ghost use Rattle.std.specs.Prelude.{◌≡◌, ◌≤◌, ◌&&◌, nat_lt, OnOk, IfOk};
+ghost use Rattle.std.specs.Prelude.{◌≡◌, ◌≤◌, ◌&&◌, [], nat_lt, OnOk, OnErr, IfOk};
 ghost use Rattle.eg_sensor.specs.Readings.{has_bit};
 ghost use Rattle.eg_level2.specs.Words.{word_at, words_of, AreWithin};
 ghost use Rattle.eg_level2.specs.Modules.{feeds_now, debounced, debounce_step, finding};
-ghost use Rattle.eg_level2.specs.Stores.{Keeps, fed_of, feeds_of, trips_of, found_of, counters_kept};
+ghost use Rattle.eg_level2.specs.Stores.{Keeps, AreFirst, fed_of, feeds_of, trips_of, found_of, counting, counters_kept};
+ghost use Rattle.eg_level2.specs.Order.{debounce_stores};
 
 use crate::step::no_watches;
 use crate::words::{
@@ -35,7 +36,8 @@ struct Feeds {
 }
 
 /// Module 6: debounces the pairs and the excess, but not in a test, nor where a trip stands. A pedal that is
-/// found limits the operation; any other watch that is found trips (docs/CONCEPT.md, "Level 2").
+/// found limits the operation; any other watch that is found trips (docs/CONCEPT.md, "Level 2"). What is found
+/// is stored before the counters, so that none comes to its limit without it where memory runs out.
 #[inline(always)]
 #[tactic(auto, using(crate::proofs::DebounceLemmas::debounce_laws))]
 pub(crate) fn debounce<M: Guarded>(
@@ -46,6 +48,11 @@ pub(crate) fn debounce<M: Guarded>(
     requires { AreWithin rules.now (words_of (M.shows memory.old).words) }
     ensures words { OnOk result (words_of (M.shows memory.new).words
         ≡ debounce_step rules.now phase (words_of (M.shows memory.old).words)) }
+    ensures stopped { OnErr result (AreFirst
+        (debounce_stores (feeds_now phase (words_of (M.shows memory.old).words))
+        (debounced rules.now phase (words_of (M.shows memory.old).words))
+        (debounce_step rules.now phase (words_of (M.shows memory.old).words)))
+        (word_at (M.shows memory.old).words) (word_at (M.shows memory.new).words)) }
     ensures step { IfOk result (λ step. step
         ≡ finding (debounced rules.now phase (words_of (M.shows memory.old).words))) }
     ensures keeps { Keeps (M.shows memory.old) (M.shows memory.new) result }
@@ -56,9 +63,9 @@ pub(crate) fn debounce<M: Guarded>(
         return Ok(Step::quiet());
     }
     let feeds = feed_all(memory, rules);
-    keep_counters(memory, &feeds)?;
-    keep_where(feeds.pedal.found, memory, LIMP, 1)?;
     keep_where(feeds.trips(), memory, TRIP, 1)?;
+    keep_where(feeds.pedal.found, memory, LIMP, 1)?;
+    keep_counters(memory, &feeds)?;
     keep(memory, TOKEN, token)?;
     Ok(Step::finding(feeds.found()))
 }
@@ -143,6 +150,8 @@ fn feed_all<M: Guarded>(memory: &M, rules: &Rules) -> Feeds
 fn keep_counters<M: Guarded>(memory: &mut M, feeds: &Feeds) -> Result<(), NoMemory>
     ensures stored { OnOk result (word_at (M.shows memory.new).words
         ≡ counters_kept feeds.now (word_at (M.shows memory.old).words)) }
+    ensures stopped { OnErr result (AreFirst (counting feeds.now [])
+        (word_at (M.shows memory.old).words) (word_at (M.shows memory.new).words)) }
     ensures keeps { Keeps (M.shows memory.old) (M.shows memory.new) result }
 {
     keep(memory, PEDAL_COUNTER, feeds.pedal.value)?;

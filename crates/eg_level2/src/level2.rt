@@ -1,11 +1,12 @@
 // Level 2 as a whole: its eight modules by their numbers, and its reset.
-ghost use Rattle.std.specs.Prelude.{◌≡◌, ℕ, ◌%◌, ◌<◌, ◌≤◌, length, IsTrue, IsOk, OnOk, IfOk};
+ghost use Rattle.std.specs.Prelude.{◌≡◌, ℕ, ◌%◌, ◌<◌, ◌≤◌, length, IsTrue, IsOk, OnOk, OnErr, IfOk};
 ghost use Rattle.eg_answer.specs.declared.modules.TheConstants.{CHECK, MODULES};
 ghost use Rattle.eg_guard.specs.Memory.{AreWords, SameOutside};
-ghost use Rattle.eg_level2.specs.Words.{ChangeLaw, words_of, AreMirrored, AreWithin, is_level2_own, start};
+ghost use Rattle.eg_level2.specs.Words.{ChangeLaw, word_at, words_of, AreMirrored, AreWithin, is_level2_own, start};
 ghost use Rattle.eg_level2.specs.Inputs.{AreParts, IsLookup, inputs_of, asked_of, results_by, row_of};
 ghost use Rattle.eg_level2.specs.Modules.{module_step, step_of};
-ghost use Rattle.eg_level2.specs.Stores.{Keeps};
+ghost use Rattle.eg_level2.specs.Stores.{Keeps, AreFirst};
+ghost use Rattle.eg_level2.specs.Order.{reset_stores, stores_of};
 ghost use Rattle.eg_level2.specs.Runs.{IsRun};
 
 use crate::check::check;
@@ -14,13 +15,33 @@ use crate::ports::asked;
 use crate::react::react;
 use crate::results::{RowResults, results_of_all};
 use crate::signals::{actual, excess, pairs, pedal, permitted};
-use crate::words::{FLOW, LAST, WHOLE_FLOW, clear, keep};
+use crate::words::{WHOLE_FLOW, keep_all};
 use crate::{Lookup, Phase, Step};
 use arrayvec::ArrayVec;
-use eg_answer::{Questions, Rules};
+use eg_answer::{MIRRORED_WORDS, Questions, Rules};
 use eg_base::NoMemory;
 use eg_guard::Guarded;
 use std::marker::Model;
+
+/// The words after a reset, in the order of their numbers: as if module 0 had last run just before tick 0.
+const START: [u16; MIRRORED_WORDS as usize] = [
+    0,
+    0,
+    0,
+    0,
+    0,
+    0,
+    0,
+    0,
+    0,
+    0,
+    0,
+    0,
+    0,
+    WHOLE_FLOW,
+    u16::MAX,
+    0,
+];
 
 /// Level 2, the function monitoring (docs/CONCEPT.md, "Level 2"): the rules that it goes by, and the
 /// questions that it answers. What it remembers stands in the guarded memory. Contracts see its
@@ -75,12 +96,17 @@ impl Level2 {
         &self.questions
     }
 
-    /// Puts level 2's words, with their complements, to their start (docs/CONCEPT.md, "Level 2").
+    /// Puts level 2's words, with their complements, to their start, in the order of their numbers
+    /// (docs/CONCEPT.md, "Level 2").
     #[tactic(auto, using(crate::proofs::StoreLemmas::outsides))]
     pub fn reset<M: Guarded>(&self, memory: &mut M) -> Result<(), NoMemory>
         ensures words { OnOk result (words_of (M.shows memory.new).words ≡ start) }
         ensures within { OnOk result (AreWithin self.now.rules (words_of (M.shows memory.new).words)) }
         ensures mirrored { OnOk result (AreMirrored (M.shows memory.new).words) }
+
+        // Where memory ran out, the first so many of its stores were made, in their order, and no other.
+        ensures stopped { OnErr result (AreFirst reset_stores
+            (word_at (M.shows memory.old).words) (word_at (M.shows memory.new).words)) }
 
         // No word outside results and protected changes. NoMemory never comes over a sure memory.
         ensures outside { SameOutside is_level2_own (M.shows memory.old).words (M.shows memory.new).words }
@@ -88,16 +114,14 @@ impl Level2 {
         ensures stays_sure { (M.shows memory.new).sure ≡ (M.shows memory.old).sure }
         ensures are_words { AreWords (M.shows memory.old).words → AreWords (M.shows memory.new).words }
     {
-        clear(memory)?;
-        keep(memory, FLOW, WHOLE_FLOW)?;
-        keep(memory, LAST, u16::MAX)
+        keep_all(memory, &START)
     }
 
     /// Runs the module of this number, 0 to 7, over the memory (docs/CONCEPT.md, "Level 2"). The readings and
     /// the number of the question stand at the input ports and at the link. `tick` is the number of the tick
     /// in its span, and `phase` says what is to be done at it. What disturbs the run is mixed in by exclusive
-    /// or; 0 disturbs nothing. After NoMemory, what was stored stays; a test shows that, and `IsRun` that no
-    /// other word has changed.
+    /// or; 0 disturbs nothing. After NoMemory, what was stored stays: the first so many of the run's stores, by
+    /// which no trip is forgotten, and no word that differed from its complement.
     pub fn module<M: Guarded>(
         &self,
         module: u8,
@@ -159,6 +183,10 @@ impl Level2 {
         ensures words { (tick : ℕ) → OnOk result (words_of (M.shows memory.new).words
             ≡ module_step (inputs_of self.now (M.shows memory.old).words tick phase disturbance) number
             (words_of (M.shows memory.old).words)) }
+        ensures stopped { (tick : ℕ) → OnErr result (AreFirst
+            (stores_of (inputs_of self.now (M.shows memory.old).words tick phase disturbance) number
+            (words_of (M.shows memory.old).words))
+            (word_at (M.shows memory.old).words) (word_at (M.shows memory.new).words)) }
         ensures step { (tick : ℕ) → IfOk result (λ step. step
             ≡ step_of (inputs_of self.now (M.shows memory.old).words tick phase disturbance) number
             (words_of (M.shows memory.old).words)) }

@@ -1,8 +1,9 @@
 // Module 7: what comes of a trip, and the answer.
-ghost use Rattle.std.specs.Prelude.{◌≡◌, ◌+◌, ◌*◌, ◌==◌, OnOk, IfOk, if◌then◌else◌, Some, None};
+ghost use Rattle.std.specs.Prelude.{◌≡◌, ◌+◌, ◌*◌, ◌==◌, [], OnOk, OnErr, IfOk, if◌then◌else◌, Some, None};
 ghost use Rattle.eg_level2.specs.Words.{words_of, word_at};
 ghost use Rattle.eg_level2.specs.Modules.{marked, closed_flow, opens_now, answers_now, react_step, answer_of, no_watches};
-ghost use Rattle.eg_level2.specs.Stores.{Keeps, keep};
+ghost use Rattle.eg_level2.specs.Stores.{Keeps, AreFirst, keep, both};
+ghost use Rattle.eg_level2.specs.Order.{react_stores};
 
 use crate::step::no_watches;
 use crate::words::{BROKEN_FLOW, FLOW, SIGN, TOKEN, TRIP, WHOLE_FLOW, is_set, keep, word};
@@ -20,6 +21,9 @@ const WHOLE_TOKEN: u16 = 0x00ff;
 pub(crate) fn react<M: Guarded>(memory: &mut M, phase: Phase) -> Result<Step, NoMemory>
     ensures words { OnOk result (words_of (M.shows memory.new).words
         ≡ react_step phase (words_of (M.shows memory.old).words)) }
+    ensures stopped { OnErr result (AreFirst
+        (react_stores (react_step phase (words_of (M.shows memory.old).words)))
+        (word_at (M.shows memory.old).words) (word_at (M.shows memory.new).words)) }
     ensures answer { IfOk result (λ step. step.answer
         ≡ answer_of phase (words_of (M.shows memory.old).words)) }
     ensures order { IfOk result (λ step. step.open_path
@@ -44,6 +48,8 @@ pub(crate) fn react<M: Guarded>(memory: &mut M, phase: Phase) -> Result<Step, No
 fn begin_token<M: Guarded>(memory: &mut M) -> Result<(), NoMemory>
     ensures stored { OnOk result (word_at (M.shows memory.new).words
         ≡ keep TOKEN 0 (word_at (M.shows memory.old).words)) }
+    ensures stopped { OnErr result (AreFirst (both TOKEN 0 [])
+        (word_at (M.shows memory.old).words) (word_at (M.shows memory.new).words)) }
     ensures keeps { Keeps (M.shows memory.old) (M.shows memory.new) result }
 {
     keep(memory, TOKEN, 0)

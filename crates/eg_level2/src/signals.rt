@@ -1,15 +1,17 @@
 // Modules 1 to 5: each computes a signal, and mixes a result of the question's row into the fold. The results
 // (`test`) were worked out by the same functions when level 2 was made.
-ghost use Rattle.std.specs.Prelude.{◌≡◌, ◌≤◌, OnOk, IfOk, bit_xor, if◌then◌else◌};
+ghost use Rattle.std.specs.Prelude.{◌≡◌, ◌≤◌, OnOk, OnErr, IfOk, bit_xor, if◌then◌else◌};
 ghost use Rattle.eg_answer.specs.declared.modules.TheConstants.{PEDAL as PEDAL_MODULE, PAIRS as PAIRS_MODULE};
 ghost use Rattle.eg_answer.specs.declared.rules.TestRow.{TestRow};
 ghost use Rattle.eg_answer.specs.Answers.{pedal_result, permitted_result, estimate_result, excess_result, pairs_result};
 ghost use Rattle.eg_answer.specs.Formulas.{permitted_torque as torque_of};
 ghost use Rattle.eg_answer.specs.Folds.{mixed};
+ghost use Rattle.eg_level2.specs.declared.words.TheConstants.{EXCESS, PAIRS};
 ghost use Rattle.eg_level2.specs.Words.{word_at, words_of};
 ghost use Rattle.eg_level2.specs.Inputs.{IsLookup, readings_of};
 ghost use Rattle.eg_level2.specs.Modules.{pedal_step, permitted_step, actual_step, excess_step, pairs_step, quiet_step};
-ghost use Rattle.eg_level2.specs.Stores.{Keeps, signalled};
+ghost use Rattle.eg_level2.specs.Stores.{Keeps, AreFirst, signalling, signalled};
+ghost use Rattle.eg_level2.specs.Order.{signal_stores};
 
 use crate::ports::readings;
 use crate::words::{ACTUAL, LIMP, PEDAL, PERMITTED, SIGN, TOKEN, TRIP, is_set, keep, word};
@@ -33,6 +35,10 @@ pub(crate) fn pedal<M: Guarded>(
         → OnOk result (words_of (M.shows memory.new).words
         ≡ pedal_step (readings_of (M.shows memory.old).words) row disturbance
         (words_of (M.shows memory.old).words)) }
+    ensures stopped { (row : TestRow) → test ≡ pedal_result row
+        → OnErr result (AreFirst (signal_stores PEDAL (pedal_step (readings_of (M.shows memory.old).words) row disturbance
+        (words_of (M.shows memory.old).words)))
+        (word_at (M.shows memory.old).words) (word_at (M.shows memory.new).words)) }
     ensures step { IfOk result (λ step. step ≡ quiet_step) }
     ensures keeps { Keeps (M.shows memory.old) (M.shows memory.new) result }
 {
@@ -57,6 +63,10 @@ pub(crate) fn permitted<M: Guarded>(
         → OnOk result (words_of (M.shows memory.new).words
         ≡ permitted_step rules.now (readings_of (M.shows memory.old).words) row disturbance
         (words_of (M.shows memory.old).words)) }
+    ensures stopped { (row : TestRow) → test ≡ permitted_result rules.now row
+        → OnErr result (AreFirst (signal_stores PERMITTED (permitted_step rules.now (readings_of (M.shows memory.old).words) row disturbance
+        (words_of (M.shows memory.old).words)))
+        (word_at (M.shows memory.old).words) (word_at (M.shows memory.new).words)) }
     ensures step { IfOk result (λ step. step ≡ quiet_step) }
     ensures keeps { Keeps (M.shows memory.old) (M.shows memory.new) result }
 {
@@ -80,6 +90,10 @@ pub(crate) fn actual<M: Guarded>(
         → OnOk result (words_of (M.shows memory.new).words
         ≡ actual_step rules.now (readings_of (M.shows memory.old).words) row disturbance
         (words_of (M.shows memory.old).words)) }
+    ensures stopped { (row : TestRow) → test ≡ estimate_result rules.now row
+        → OnErr result (AreFirst (signal_stores ACTUAL (actual_step rules.now (readings_of (M.shows memory.old).words) row disturbance
+        (words_of (M.shows memory.old).words)))
+        (word_at (M.shows memory.old).words) (word_at (M.shows memory.new).words)) }
     ensures step { IfOk result (λ step. step ≡ quiet_step) }
     ensures keeps { Keeps (M.shows memory.old) (M.shows memory.new) result }
 {
@@ -101,6 +115,10 @@ pub(crate) fn excess<M: Guarded>(
     ensures words { (row : TestRow) → test ≡ excess_result rules.now row
         → OnOk result (words_of (M.shows memory.new).words
         ≡ excess_step rules.now row disturbance (words_of (M.shows memory.old).words)) }
+    ensures stopped { (row : TestRow) → test ≡ excess_result rules.now row
+        → OnErr result (AreFirst (signal_stores EXCESS (excess_step rules.now row disturbance
+        (words_of (M.shows memory.old).words)))
+        (word_at (M.shows memory.old).words) (word_at (M.shows memory.new).words)) }
     ensures step { IfOk result (λ step. step ≡ quiet_step) }
     ensures keeps { Keeps (M.shows memory.old) (M.shows memory.new) result }
 {
@@ -122,6 +140,10 @@ pub(crate) fn pairs<M: Guarded>(
         → OnOk result (words_of (M.shows memory.new).words
         ≡ pairs_step rules.now (readings_of (M.shows memory.old).words) row disturbance
         (words_of (M.shows memory.old).words)) }
+    ensures stopped { (row : TestRow) → test ≡ pairs_result rules.now row
+        → OnErr result (AreFirst (signal_stores PAIRS (pairs_step rules.now (readings_of (M.shows memory.old).words) row disturbance
+        (words_of (M.shows memory.old).words)))
+        (word_at (M.shows memory.old).words) (word_at (M.shows memory.new).words)) }
     ensures step { IfOk result (λ step. step ≡ quiet_step) }
     ensures keeps { Keeps (M.shows memory.old) (M.shows memory.new) result }
 {
@@ -161,6 +183,9 @@ fn write<M: Guarded>(
     requires last { number ≤ PAIRS_MODULE }
     ensures stored { OnOk result (word_at (M.shows memory.new).words
         ≡ signalled number signal test disturbance (word_at (M.shows memory.old).words)) }
+    ensures stopped { OnErr result (AreFirst
+        (signalling number signal test disturbance (word_at (M.shows memory.old).words))
+        (word_at (M.shows memory.old).words) (word_at (M.shows memory.new).words)) }
     ensures keeps { Keeps (M.shows memory.old) (M.shows memory.new) result }
 {
     let value = written(is_set(word(memory, TRIP)), signal, disturbance);

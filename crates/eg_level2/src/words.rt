@@ -1,8 +1,8 @@
 // Level 2's words in the guarded memory: each is stored with its complement.
-ghost use Rattle.std.specs.Prelude.{◌≡◌, ◌↔◌, ◌<◌, IsTrue, OnOk};
+ghost use Rattle.std.specs.Prelude.{◌≡◌, ◌↔◌, ◌<◌, [], IsTrue, OnOk, OnErr};
 ghost use Rattle.eg_answer.specs.declared.words.TheConstants.{MIRRORED_WORDS, STORED_WORDS};
 ghost use Rattle.eg_level2.specs.Words.{place, word_at, AreMirrored, is_set};
-ghost use Rattle.eg_level2.specs.Stores.{Keeps, Leaves, put, keep, keep_where, cleared};
+ghost use Rattle.eg_level2.specs.Stores.{Keeps, Leaves, AreFirst, put, keep, keep_where, kept_from, both, both_where, both_from};
 
 use eg_answer::MIRRORED_WORDS;
 use eg_base::NoMemory;
@@ -86,6 +86,8 @@ fn put<M: Guarded>(memory: &mut M, number: u16, value: u16) -> Result<(), NoMemo
     requires { number < STORED_WORDS }
     ensures stored { OnOk result (word_at (M.shows memory.new).words
         ≡ put number value (word_at (M.shows memory.old).words)) }
+    ensures stopped { OnErr result (word_at (M.shows memory.new).words
+        ≡ word_at (M.shows memory.old).words) }
     ensures leaves { Leaves (M.shows memory.old) (M.shows memory.new) result }
 {
     match memory.store(Who::Level2, word_address(number), value) {
@@ -101,6 +103,8 @@ pub(crate) fn keep<M: Guarded>(memory: &mut M, number: u16, value: u16) -> Resul
     requires { number < MIRRORED_WORDS }
     ensures stored { OnOk result (word_at (M.shows memory.new).words
         ≡ keep number value (word_at (M.shows memory.old).words)) }
+    ensures stopped { OnErr result (AreFirst (both number value [])
+        (word_at (M.shows memory.old).words) (word_at (M.shows memory.new).words)) }
     ensures keeps { Keeps (M.shows memory.old) (M.shows memory.new) result }
 {
     put(memory, number, value)?;
@@ -118,6 +122,8 @@ pub(crate) fn keep_where<M: Guarded>(
     requires { number < MIRRORED_WORDS }
     ensures stored { OnOk result (word_at (M.shows memory.new).words
         ≡ keep_where test number value (word_at (M.shows memory.old).words)) }
+    ensures stopped { OnErr result (AreFirst (both_where test number value [])
+        (word_at (M.shows memory.old).words) (word_at (M.shows memory.new).words)) }
     ensures keeps { Keeps (M.shows memory.old) (M.shows memory.new) result }
 {
     if !test {
@@ -126,15 +132,21 @@ pub(crate) fn keep_where<M: Guarded>(
     keep(memory, number, value)
 }
 
-/// Makes all words 0.
-pub(crate) fn clear<M: Guarded>(memory: &mut M) -> Result<(), NoMemory>
+/// Stores all words, in the order of their numbers.
+pub(crate) fn keep_all<M: Guarded>(
+    memory: &mut M,
+    words: &[u16; MIRRORED_WORDS as usize],
+) -> Result<(), NoMemory>
     ensures stored { OnOk result (word_at (M.shows memory.new).words
-        ≡ cleared MIRRORED_WORDS (word_at (M.shows memory.old).words)) }
+        ≡ kept_from words.now MIRRORED_WORDS (word_at (M.shows memory.old).words)) }
+    ensures stopped { OnErr result (AreFirst (both_from 0 words.now)
+        (word_at (M.shows memory.old).words) (word_at (M.shows memory.new).words)) }
     ensures mirrored { OnOk result (AreMirrored (M.shows memory.new).words) }
     ensures keeps { Keeps (M.shows memory.old) (M.shows memory.new) result }
 {
     for number in 0..WORDS {
-        keep(memory, number, 0)?;
+        let value = words[usize::from(number)];
+        keep(memory, number, value)?;
     }
     Ok(())
 }

@@ -44,13 +44,13 @@ fn a_slice_ends_at_a_step_that_is_refused(rt: HostRuntime) {
 fn level_2_keeps_what_was_stored_before_a_refusal(rt: HostRuntime) {
     let calibration = reference();
     let level2 = Level2::new(calibration.rules().copy(), calibration.questions().copy());
-    // The reset takes 36 stores. Without the last of them the word of the last tick is there, and its
-    // complement isn't.
-    let mut memory = StingyMemory::new(35);
+    // The reset takes 32 stores. Without the last of them the complement of the flow is there, and that of
+    // the fold isn't.
+    let mut memory = StingyMemory::new(31);
     assert!(rt; level2.reset(&mut memory).is_err());
-    assert!(rt; memory.load(Who::Level2, 2105) == Ok(65535));
-    assert!(rt; memory.load(Who::Level2, 2121) == Ok(65535));
-    let mut memory = StingyMemory::new(36);
+    assert!(rt; memory.load(Who::Level2, 2120) == Ok(65280));
+    assert!(rt; memory.load(Who::Level2, 2122) == Ok(0));
+    let mut memory = StingyMemory::new(32);
     assert!(rt; level2.reset(&mut memory).is_ok());
     assert!(rt; level2.module(0, &mut memory, 0, Phase::Quiet, 0).is_err());
     assert!(rt; level2.module(0, &mut memory, 0, Phase::Quiet, 0).is_ok());

@@ -1,7 +1,13 @@
 use Rattle.eg_level2.proofs.ModuleLemmas.{gave_up-ok}
+use Rattle.eg_level2.proofs.OrderLemmas.{at_err, on_err, gives_up-here, gives_up-later}
 use Rattle.eg_level2.proofs.check.give_up.Goals as goal
 
+pub returns-in_err-keep-clause-stopped : goal.returns-in_err-keep-clause-stopped
+returns-in_err-keep-clause-stopped g c = at_err c.from_residual.result (gives_up-here c.args.tick _ _ c.in_err-keep.ensures.stopped)
+
 pub returns-clause-words : goal.returns-clause-words
-returns-clause-words g c =
-    gave_up-ok _ _ _ _ _ _ _ _ c.keep-4.ensures.stored c.in_ok-keep-3.ensures.stored c.in_ok-keep-2.ensures.stored
-    c.in_ok-keep.ensures.stored c.in_ok-clear.ensures.stored
+returns-clause-words g c = gave_up-ok _ _ _ _ _ c.keep_all.ensures.stored c.given_up_words.ensures
+
+pub returns-clause-stopped : goal.returns-clause-stopped
+returns-clause-stopped g c = on_err c.keep_all.result
+    (λ first. gives_up-later c.args.tick _ _ _ _ c.given_up_words.ensures c.in_ok-keep.ensures.stored first) c.keep_all.ensures.stopped

@@ -1,7 +1,30 @@
-use Rattle.eg_level2.proofs.ModuleLemmas.{gone_on-ok}
+use Rattle.eg_level2.proofs.ModuleLemmas.{gone_on-ok, check-is}
+use Rattle.eg_level2.proofs.OrderLemmas.{at_err, on_err, here, later}
 use Rattle.eg_level2.proofs.check.go_on.Goals as goal
+
+pub returns-in_err-keep-clause-stopped : goal.returns-in_err-keep-clause-stopped
+returns-in_err-keep-clause-stopped g c = at_err c.from_residual.result (check-is _ _ c.args.tick c.args.seed _ _ _ _ _
+    c.flow_after-flow.ensures c.word-2.ensures c.word-last.ensures c.next_token-token.ensures c.word.ensures
+    (here _ _ _ _ _ c.in_err-keep.ensures.stopped))
+
+pub returns-in_err-keep-2-clause-stopped : goal.returns-in_err-keep-2-clause-stopped
+returns-in_err-keep-2-clause-stopped g c = at_err c.from_residual-in_err-keep-2.result (check-is _ _ c.args.tick c.args.seed _ _ _ _ _
+    c.flow_after-flow.ensures c.word-2.ensures c.word-last.ensures c.next_token-token.ensures c.word.ensures
+    (later _ _ _ _ _ _ c.in_ok-keep.ensures.stored (here _ _ _ _ _ c.in_err-keep-2.ensures.stopped)))
+
+pub returns-in_err-keep-3-clause-stopped : goal.returns-in_err-keep-3-clause-stopped
+returns-in_err-keep-3-clause-stopped g c = at_err c.from_residual-in_err-keep-3.result (check-is _ _ c.args.tick c.args.seed _ _ _ _ _
+    c.flow_after-flow.ensures c.word-2.ensures c.word-last.ensures c.next_token-token.ensures c.word.ensures
+    (later _ _ _ _ _ _ c.in_ok-keep.ensures.stored (later _ _ _ _ _ _ c.in_ok-keep-2.ensures.stored
+    (here _ _ _ _ _ c.in_err-keep-3.ensures.stopped))))
 
 pub returns-clause-words : goal.returns-clause-words
 returns-clause-words g c =
     gone_on-ok _ _ _ _ _ _ _ _ _ _ _ _ _ c.keep-4.ensures.stored c.in_ok-keep-3.ensures.stored c.in_ok-keep-2.ensures.stored
     c.in_ok-keep.ensures.stored c.flow_after-flow.ensures c.word-2.ensures c.word-last.ensures c.next_token-token.ensures c.word.ensures
+
+pub returns-clause-stopped : goal.returns-clause-stopped
+returns-clause-stopped g c = on_err c.keep-4.result (λ first. check-is _ _ c.args.tick c.args.seed _ _ _ _ _
+    c.flow_after-flow.ensures c.word-2.ensures c.word-last.ensures c.next_token-token.ensures c.word.ensures
+    (later _ _ _ _ _ _ c.in_ok-keep.ensures.stored (later _ _ _ _ _ _ c.in_ok-keep-2.ensures.stored
+    (later _ _ _ _ _ _ c.in_ok-keep-3.ensures.stored first)))) c.keep-4.ensures.stopped

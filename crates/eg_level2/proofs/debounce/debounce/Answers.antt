@@ -1,10 +1,37 @@
-use Rattle.eg_level2.proofs.DebounceLemmas.{fed_step, fed_finding}
+use Rattle.eg_level2.proofs.DebounceLemmas.{fed_step, fed_finding, fed-is, unfed-is}
+use Rattle.eg_level2.proofs.OrderLemmas.{at_err, here_where, later_where, counting-here, counting-later}
 use Rattle.eg_level2.proofs.debounce.debounce.Goals as goal
+
+pub returns-in_err-keep-clause-stopped : goal.returns-in_err-keep-clause-stopped
+returns-in_err-keep-clause-stopped g c = at_err c.from_residual.result (unfed-is _ _ c.args.rules.now c.args.phase _ _ _
+    c.feeds_now.ensures c.if-not-feeds_now.true c.next_token-token.ensures c.word.ensures c.in_err-keep.ensures.stopped)
+
+pub returns-in_err-keep_where-clause-stopped : goal.returns-in_err-keep_where-clause-stopped
+returns-in_err-keep_where-clause-stopped g c = at_err c.from_residual-in_err-keep_where.result (fed-is _ _ c.args.rules.now c.args.phase _ _ _ _ _
+    c.trips.ensures c.feed_all-feeds.ensures c.feeds_now.ensures c.if-not-feeds_now.false c.next_token-token.ensures c.word.ensures
+    (here_where _ _ _ _ _ _ c.in_err-keep_where.ensures.stopped))
+
+pub returns-in_err-keep_where-2-clause-stopped : goal.returns-in_err-keep_where-2-clause-stopped
+returns-in_err-keep_where-2-clause-stopped g c = at_err c.from_residual-in_err-keep_where-2.result (fed-is _ _ c.args.rules.now c.args.phase _ _ _ _ _
+    c.trips.ensures c.feed_all-feeds.ensures c.feeds_now.ensures c.if-not-feeds_now.false c.next_token-token.ensures c.word.ensures
+    (later_where _ _ _ _ _ _ _ c.in_ok-keep_where.ensures.stored (here_where _ _ _ _ _ _ c.in_err-keep_where-2.ensures.stopped)))
+
+pub returns-in_err-keep_counters-clause-stopped : goal.returns-in_err-keep_counters-clause-stopped
+returns-in_err-keep_counters-clause-stopped g c = at_err c.from_residual-in_err-keep_counters.result (fed-is _ _ c.args.rules.now c.args.phase _ _ _ _ _
+    c.trips.ensures c.feed_all-feeds.ensures c.feeds_now.ensures c.if-not-feeds_now.false c.next_token-token.ensures c.word.ensures
+    (later_where _ _ _ _ _ _ _ c.in_ok-keep_where.ensures.stored (later_where _ _ _ _ _ _ _ c.in_ok-keep_where-2.ensures.stored
+    (counting-here _ _ _ _ c.in_err-keep_counters.ensures.stopped))))
+
+pub returns-in_err-keep-2-clause-stopped : goal.returns-in_err-keep-2-clause-stopped
+returns-in_err-keep-2-clause-stopped g c = at_err c.from_residual-in_err-keep-2.result (fed-is _ _ c.args.rules.now c.args.phase _ _ _ _ _
+    c.trips.ensures c.feed_all-feeds.ensures c.feeds_now.ensures c.if-not-feeds_now.false c.next_token-token.ensures c.word.ensures
+    (later_where _ _ _ _ _ _ _ c.in_ok-keep_where.ensures.stored (later_where _ _ _ _ _ _ _ c.in_ok-keep_where-2.ensures.stored
+    (counting-later _ _ _ _ _ c.in_ok-keep_counters.ensures.stored c.in_err-keep-2.ensures.stopped))))
 
 pub returns-clause-words : goal.returns-clause-words
 returns-clause-words g c =
-    fed_step _ _ _ _ _ c.args.rules.now c.args.phase _ _ _ _ _ c.in_ok-keep-2.ensures.stored c.in_ok-keep_where-2.ensures.stored
-    c.in_ok-keep_where.ensures.stored c.in_ok-keep_counters.ensures.stored c.trips.ensures c.feed_all-feeds.ensures
+    fed_step _ _ _ _ _ c.args.rules.now c.args.phase _ _ _ _ _ c.in_ok-keep-2.ensures.stored c.in_ok-keep_counters.ensures.stored
+    c.in_ok-keep_where-2.ensures.stored c.in_ok-keep_where.ensures.stored c.trips.ensures c.feed_all-feeds.ensures
     c.feeds_now.ensures c.if-not-feeds_now.false c.next_token-token.ensures c.word.ensures
 
 pub returns-clause-step : goal.returns-clause-step

@@ -1,9 +1,29 @@
 use Rattle.std.proofs.Common.{◌-◌, ap}
-use Rattle.eg_level2.proofs.ModuleLemmas.{signalled-ok}
+use Rattle.eg_level2.proofs.ModuleLemmas.{signalled-ok, signalling-is}
+use Rattle.eg_level2.proofs.OrderLemmas.{at_err, on_err, here, later}
 use Rattle.eg_level2.proofs.signals.write.Goals as goal
+
+pub returns-in_err-keep-clause-stopped : goal.returns-in_err-keep-clause-stopped
+returns-in_err-keep-clause-stopped g c =
+    at_err c.from_residual.result (signalling-is _ _ _ _ _ _ _ _ _ _ _ _ _ _ (ap (λ n. n - 1) c.from.ensures) c.written-value.ensures c.is_set.ensures c.word.ensures
+    c.next_token-token.ensures c.word-2.ensures c.signed-sign.ensures c.word-3.ensures
+    (here _ _ _ _ _ c.in_err-keep.ensures.stopped))
+
+pub returns-in_err-keep-2-clause-stopped : goal.returns-in_err-keep-2-clause-stopped
+returns-in_err-keep-2-clause-stopped g c =
+    at_err c.from_residual-in_err-keep-2.result (signalling-is _ _ _ _ _ _ _ _ _ _ _ _ _ _ (ap (λ n. n - 1) c.from.ensures) c.written-value.ensures c.is_set.ensures c.word.ensures
+    c.next_token-token.ensures c.word-2.ensures c.signed-sign.ensures c.word-3.ensures
+    (later _ _ _ _ _ _ c.in_ok-keep.ensures.stored (here _ _ _ _ _ c.in_err-keep-2.ensures.stopped)))
 
 pub returns-clause-stored : goal.returns-clause-stored
 returns-clause-stored g c =
     signalled-ok _ _ _ _ _ _ _ _ _ _ _ _ _ _ _ _ _ c.keep-3.ensures.stored c.in_ok-keep-2.ensures.stored c.in_ok-keep.ensures.stored
     (ap (λ n. n - 1) c.from.ensures) c.written-value.ensures c.is_set.ensures c.word.ensures c.next_token-token.ensures
     c.word-2.ensures c.signed-sign.ensures c.word-3.ensures
+
+pub returns-clause-stopped : goal.returns-clause-stopped
+returns-clause-stopped g c = on_err c.keep-3.result
+    (λ first. signalling-is _ _ _ _ _ _ _ _ _ _ _ _ _ _ (ap (λ n. n - 1) c.from.ensures) c.written-value.ensures c.is_set.ensures c.word.ensures
+    c.next_token-token.ensures c.word-2.ensures c.signed-sign.ensures c.word-3.ensures
+    (later _ _ _ _ _ _ c.in_ok-keep.ensures.stored (later _ _ _ _ _ _ c.in_ok-keep-2.ensures.stored first)))
+    c.keep-3.ensures.stopped

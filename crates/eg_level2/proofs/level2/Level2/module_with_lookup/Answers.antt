@@ -1,6 +1,7 @@
 use Rattle.std.proofs.Common.{◌≢◌, ◌∙◌, ◌<◌, sym, subst, ℕ, arith}
 use Rattle.eg_level2.specs.Words.{AreWithin}
 use Rattle.eg_level2.proofs.StoreLemmas.{on_ok, same_outside}
+use Rattle.eg_level2.proofs.OrderLemmas.{on_err, checks-stores, told-run, told-set}
 use Rattle.eg_level2.proofs.ResultLemmas.{seed-kept}
 use Rattle.eg_level2.proofs.StepLemmas.{if_ok, checks, first-answer, first-order, first-found, step-answer, step-order, step-found, step-mirror, step-within}
 use Rattle.eg_level2.proofs.level2.Level2.module_with_lookup.Goals as goal
@@ -20,6 +21,13 @@ returns-then-number-eq-CHECK g c = record {
   mirror = c.check.ensures.mirror;
   mirrored = c.check.ensures.mirrored;
   within = c.check.ensures.within c.args.self.now.rules;
+  stopped = λ are. on_err c.check.result (λ first. checks-stores c.args.self.now _ c.args.tick c.args.phase c.args.disturbance _ _ _ _ _ c.if-number-eq-CHECK.true
+      (seed-kept _ _ _ c.test.ensures) first) (c.check.ensures.stopped are);
+  given_up_stopped = c.check.ensures.given_up_stopped;
+  told = c.check.ensures.told;
+  set_told = λ are is. on_err c.check.result (λ first. told-set _ c.args.number _ _ c.requires.number is
+      (checks-stores c.args.self.now _ c.args.tick c.args.phase c.args.disturbance _ _ _ _ _ c.if-number-eq-CHECK.true (seed-kept _ _ _ c.test.ensures) first))
+      (c.check.ensures.stopped are);
   outside = λ address other. same_outside _ _ address c.check.ensures.keeps.leaves.outside other;
   sure = c.check.ensures.keeps.leaves.sure;
   stays_sure = c.check.ensures.keeps.leaves.stays_sure;
@@ -43,6 +51,10 @@ returns g c =
           (λ e. subst (AreWithin c.args.self.now.rules) (sym e)
           (step-within c.args.self.now _ c.args.tick c.args.phase c.args.disturbance _ _ (c.requires.within first)))
           (c.run.ensures.words c.args.tick);
+      stopped = λ before. c.run.ensures.stopped c.args.tick;
+      given_up_stopped = λ differs. absurd (differs are);
+      told = λ tells. on_err c.run.result (λ first. told-run _ c.args.number _ _ c.requires.number are tells first) (c.run.ensures.stopped c.args.tick);
+      set_told = λ before is. on_err c.run.result (λ first. told-set _ c.args.number _ _ c.requires.number is first) (c.run.ensures.stopped c.args.tick);
       outside = λ address other. same_outside _ _ address c.run.ensures.keeps.leaves.outside other;
       sure = c.run.ensures.keeps.leaves.sure;
       stays_sure = c.run.ensures.keeps.leaves.stays_sure;

@@ -2,6 +2,7 @@ use Rattle.std.proofs.Common.{◌∙◌, refl, arith}
 use Rattle.eg_level2.proofs.StoreLemmas.{on_ok}
 use Rattle.eg_level2.proofs.ResultLemmas.{pedal-kept, permitted-kept, estimate-kept, excess-kept, pairs-kept}
 use Rattle.eg_level2.proofs.StepLemmas.{if_ok, if_ok_all, same_rules, pedals, permits, actuals, excesses, pairings, debounces, reacts, quiet, debounces-step, reacts-step}
+use Rattle.eg_level2.proofs.OrderLemmas.{on_err, signals-stores, debounces-stores, reacts-stores}
 use Rattle.eg_level2.proofs.level2.Level2.run.Goals as goal
 
 pub returns-in-1-clause-words : goal.returns-in-1-clause-words
@@ -63,3 +64,38 @@ pub returns-in_default-clause-step : goal.returns-in_default-clause-step
 returns-in_default-clause-step g c = λ tick. if_ok_all c.react.result
     (λ step ea eo ef. reacts-step c.args.self.now _ tick c.args.phase c.args.disturbance _ _ step (omega arith) eo ea ef)
     c.react.ensures.answer c.react.ensures.order c.react.ensures.found
+
+pub returns-in-1-clause-stopped : goal.returns-in-1-clause-stopped
+returns-in-1-clause-stopped g c = λ tick. on_err c.pedal.result
+    (λ first. signals-stores _ _ 1 _ _ _ _ c.in-1.is refl refl refl (pedals c.args.self.now _ tick c.args.phase c.args.disturbance _ _ _ c.in-1.is refl) first)
+    (c.pedal.ensures.stopped _ (pedal-kept _ _ _ c.test.ensures))
+
+pub returns-in-2-clause-stopped : goal.returns-in-2-clause-stopped
+returns-in-2-clause-stopped g c = λ tick. on_err c.permitted.result
+    (λ first. signals-stores _ _ 2 _ _ _ _ c.in-2.is refl refl refl (permits c.args.self.now _ tick c.args.phase c.args.disturbance _ _ _ _ c.in-2.is (same_rules _ _ c.self.view_is) refl) first)
+    (c.permitted.ensures.stopped _ (permitted-kept _ _ _ _ (same_rules _ _ c.self.view_is) c.test.ensures))
+
+pub returns-in-3-clause-stopped : goal.returns-in-3-clause-stopped
+returns-in-3-clause-stopped g c = λ tick. on_err c.actual.result
+    (λ first. signals-stores _ _ 3 _ _ _ _ c.in-3.is refl refl refl (actuals c.args.self.now _ tick c.args.phase c.args.disturbance _ _ _ _ c.in-3.is (same_rules _ _ c.self.view_is) refl) first)
+    (c.actual.ensures.stopped _ (estimate-kept _ _ _ _ (same_rules _ _ c.self.view_is) c.test.ensures))
+
+pub returns-in-4-clause-stopped : goal.returns-in-4-clause-stopped
+returns-in-4-clause-stopped g c = λ tick. on_err c.excess.result
+    (λ first. signals-stores _ _ 4 _ _ _ _ c.in-4.is refl refl refl (excesses c.args.self.now _ tick c.args.phase c.args.disturbance _ _ _ _ c.in-4.is (same_rules _ _ c.self.view_is) refl) first)
+    (c.excess.ensures.stopped _ (excess-kept _ _ _ _ (same_rules _ _ c.self.view_is) c.test.ensures))
+
+pub returns-in-5-clause-stopped : goal.returns-in-5-clause-stopped
+returns-in-5-clause-stopped g c = λ tick. on_err c.pairs.result
+    (λ first. signals-stores _ _ 5 _ _ _ _ c.in-5.is refl refl refl (pairings c.args.self.now _ tick c.args.phase c.args.disturbance _ _ _ _ c.in-5.is (same_rules _ _ c.self.view_is) refl) first)
+    (c.pairs.ensures.stopped _ (pairs-kept _ _ _ _ (same_rules _ _ c.self.view_is) c.test.ensures))
+
+pub returns-in-6-clause-stopped : goal.returns-in-6-clause-stopped
+returns-in-6-clause-stopped g c = λ tick. on_err c.debounce.result
+    (λ first. debounces-stores c.args.self.now _ tick c.args.phase c.args.disturbance _ _ _ _ _ c.in-6.is (same_rules _ _ c.self.view_is) first)
+    c.debounce.ensures.stopped
+
+pub returns-in_default-clause-stopped : goal.returns-in_default-clause-stopped
+returns-in_default-clause-stopped g c = λ tick. on_err c.react.result
+    (λ first. reacts-stores c.args.self.now _ tick c.args.phase c.args.disturbance _ _ _ _ (omega arith) first)
+    c.react.ensures.stopped
