@@ -183,6 +183,13 @@ impl Times {
         Some((rounds * periods + 2) * self.period)
     }
 
+    /// The least distance from which on missed runs of level 2 never cut: each spoils two verdicts at most, and the
+    /// right ones between are to take back what those add. None where two wrong ones confirm.
+    pub fn miss_spacing(&self) -> Option<u32> {
+        let (spoiled, down) = (2 * u32::from(self.weights.up), u32::from(self.weights.down));
+        (down > 0 && spoiled < u32::from(self.weights.limit)).then(|| (spoiled.div_ceil(down) + 2) * self.period)
+    }
+
     /// The tick of a test span at which the paths are read back.
     pub fn test_ticks(&self) -> u32 {
         self.wrong_verdicts() * self.period
@@ -278,7 +285,7 @@ pub fn exceeds(torque: u16, permitted: u16, threshold: u16) -> bool {
 
 impl Weights {
     /// How many bad feeds in a row confirm.
-    fn to_confirm(&self) -> u32 {
+    pub fn to_confirm(&self) -> u32 {
         u32::from(self.limit).div_ceil(u32::from(self.up))
     }
 

@@ -42,6 +42,20 @@ struct PermitPart {
 
 /// The calibration of a file.
 pub fn calibration(bytes: &[u8]) -> Result<Calibration, Refusal> {
+    let (calibration, answers) = unanswered(bytes)?;
+    match calibration.questions.iter().zip(answers).position(|(question, answer)| question.answer != answer) {
+        Some(place) => Err(format!("answer {place}")),
+        None => Ok(calibration),
+    }
+}
+
+/// The right answers to the questions of a file, whatever answers stand in it.
+pub fn answers(bytes: &[u8]) -> Result<Vec<u16>, Refusal> {
+    Ok(unanswered(bytes)?.0.questions.iter().map(|question| question.answer).collect())
+}
+
+/// The calibration of a file with the right answers, and those that stand in it.
+fn unanswered(bytes: &[u8]) -> Result<(Calibration, Vec<u16>), Refusal> {
     let table = str::from_utf8(bytes).ok().and_then(toml::document).ok_or("not TOML")?;
     let mut keys = Keys { table };
     let version = keys.number("version", 1..=2).map_err(|name| format!("key {name}"))?;
@@ -62,7 +76,7 @@ pub fn calibration(bytes: &[u8]) -> Result<Calibration, Refusal> {
     if !(times.first <= times.send && times.send <= times.last && times.last < times.period) {
         return Err("answer window".to_string());
     }
-    let parts = Calibration {
+    let mut calibration = Calibration {
         permit: Permit::new(parted.pedal, parted.speed, &parted.torques),
         threshold: parted.threshold,
         brake: parted.brake,
@@ -76,18 +90,8 @@ pub fn calibration(bytes: &[u8]) -> Result<Calibration, Refusal> {
         times,
         questions: Vec::new(),
     };
-    answered(parts, &rows)
-}
-
-/// The calibration with these questions, whose answers are to be right.
-fn answered(mut parts: Calibration, rows: &[(TestRow, u16)]) -> Result<Calibration, Refusal> {
-    parts.questions = rows.iter().map(|(row, _)| parts.question(row)).collect();
-    let wrong =
-        parts.questions.iter().zip(rows).position(|(question, (_, answer))| question.answer != *answer);
-    match wrong {
-        Some(place) => Err(format!("answer {place}")),
-        None => Ok(parts),
-    }
+    calibration.questions = rows.iter().map(|(row, _)| calibration.question(row)).collect();
+    Ok((calibration, rows.iter().map(|(_, answer)| *answer).collect()))
 }
 
 impl PermitPart {

@@ -4,7 +4,7 @@
 //! the words and files that `egasim` takes, refuses what it refuses, and writes what it writes, notes too. It was
 //! written from docs/, is measured beside the proved program by `bench/unit` and `bench/all`, and compared with it by
 //! `bench/compare` and `bench/fuzz`. Nothing of it is proved.
-//! Usage: check [--cal NAME] FILE, bound [--cal NAME], run [--cal NAME] CAMPAIGN,
+//! Usage: check [--cal NAME] FILE, bound [--cal NAME], limits [--cal NAME], answers FILE, run [--cal NAME] CAMPAIGN,
 //! record [--cal NAME] CAMPAIGN RUN, sweep [--cal NAME] CAMPAIGN RUN STEP, soak SEED RUNS, asm FILE, dis FILE
 
 mod calibration;
@@ -109,12 +109,31 @@ fn check(cal: &Calibration, file: &str, out: &mut Output) -> Result<(), End> {
 
 /// The reaction time, and the bound for lapses.
 fn bound(cal: &Calibration, out: &mut Output) -> Result<(), End> {
-    writeln!(out, "reaction {}", cal.times.reaction())?;
-    match cal.times.lapse_bound(&cal.torque) {
-        None => writeln!(out, "lapse none")?,
-        Some(ticks) => writeln!(out, "lapse {ticks}")?,
-    }
+    put(format!("reaction {}\n", cal.times.reaction()).as_bytes(), out)?;
+    put(format!("lapse {}\n", or_none(cal.times.lapse_bound(&cal.torque))).as_bytes(), out)?;
     Ok(())
+}
+
+/// The bounds, and what else a calibration comes to.
+fn limits(cal: &Calibration, out: &mut Output) -> Result<(), End> {
+    bound(cal, out)?;
+    let times = &cal.times;
+    put(format!("verdicts {}\n", times.weights.to_confirm()).as_bytes(), out)?;
+    put(format!("excess {}\n", cal.torque.to_confirm()).as_bytes(), out)?;
+    put(format!("test {}\n", times.test_ticks()).as_bytes(), out)?;
+    put(format!("spacing {}\n", or_none(times.miss_spacing())).as_bytes(), out)?;
+    Ok(())
+}
+
+fn or_none(number: Option<u32>) -> String {
+    number.map_or("none".to_string(), |number| number.to_string())
+}
+
+/// The right answers to the questions of a calibration file.
+fn answers(file: &str, out: &mut Output) -> Result<(), End> {
+    let right = of_file(file, calibration_file::answers(&files::bytes(file)?))?;
+    let line = |(place, answer)| put(format!("answer {place}: {answer}\n").as_bytes(), out);
+    Ok(right.iter().enumerate().try_for_each(line)?)
 }
 
 fn campaign(file: &str) -> Result<Vec<Plan>, End> {
@@ -246,6 +265,7 @@ fn command(words: &[&str]) -> Result<(), End> {
     };
     match (words.as_slice(), name) {
         (["bound"], _) => bound(&calibration(name)?, out),
+        (["limits"], _) => limits(&calibration(name)?, out),
         (["check", file], _) if is_name(file) => check(&calibration(name)?, file, out),
         (["run", file], _) if is_name(file) => run(&calibration(name)?, file, out),
         (["record", file, run], _) if is_name(file) && is_name(run) => {
@@ -256,6 +276,7 @@ fn command(words: &[&str]) -> Result<(), End> {
             sweep(&calibration(name)?, file, run, step, out)
         }
         (["soak", seed, runs], None) => soak(&calibration(None)?, seed, runs, out),
+        (["answers", file], None) if is_name(file) => answers(file, out),
         (["asm", file], None) if is_name(file) => asm(file, out),
         (["dis", file], None) if is_name(file) => dis(file, out),
         _ => Err(End::Usage),

@@ -11,10 +11,11 @@ use Rattle.eg_outcome.specs.declared.outcome.Role.TheVariants as role
 use Rattle.eg_outcome.specs.Images.{image_file}
 use Rattle.eg_asm.specs.Listings.{source_text, image_text}
 use Rattle.eg_source.specs.Ends.{WordsEnd, source_file, read_alone}
+use Rattle.eg_tuning.specs.Ends.{AnswersEnd, answers_file}
 use Rattle.eg_outcome.specs.Outcomes.{IsDoneOrMemory}
 use Rattle.eg_outcome.specs.Reads.{Finds, Accepts}
 use Rattle.eg_outcome.specs.Calibrations.{calibration_file, CalibrationComes, FindsCalibration, AcceptsCalibration}
-use Rattle.eg_app.specs.Words.{Command, check, bound, run, record_run, sweep, soak, asm, dis}
+use Rattle.eg_app.specs.Words.{Command, check, bound, limits, run, record_run, sweep, soak, answers, asm, dis}
 use Rattle.eg_app.specs.Check.{check_file}
 use Rattle.eg_app.specs.Ends.{CheckWorks, Ends, Completes}
 use Rattle.eg_app.proofs.FileLemmas.{file_done, line_done}
@@ -44,6 +45,13 @@ words_done file says text name store later out now o (Ok words, comes, (same, li
 words_done file says text name store later out now o (Err end, comes, (is, same)) finds accepts still =
     subst IsDoneOrMemory (sym is) (file_done file says name store later end comes finds accepts)
 
+-- the answers of a file that is found and accepted are written
+answers_done : (name : List ℕ) (store later : ShownStore) (out now : ShownSink) (o : Outcome) → AnswersEnd name store later out now o
+    → Finds name store later → Accepts answers_file name store → ¬ Rose out.faults now.faults → IsDoneOrMemory o
+answers_done name store later out now o (Ok asked, comes, (same, line)) finds accepts still = line_done _ out now o line still
+answers_done name store later out now o (Err end, comes, (is, same)) finds accepts still =
+    subst IsDoneOrMemory (sym is) (file_done role.Calibration answers_file name store later end comes finds accepts)
+
 -- a call that ends so completes its work
 pub completes : (command : Option Command) (store later : ShownStore) (out now : ShownSink) (was then : TickCount) (o : Outcome)
     → Ends command store later out now was then o → Completes command store later out now o
@@ -53,10 +61,15 @@ completes (Some (check calibration file)) store later out now was then o (Ok par
     check_done parts.rules file store later out now o works finds_check accepts_check still
 completes (Some (check calibration file)) store later out now was then o (Err end, comes, (is, same)) = λ finds accepts finds_check accepts_check still.
     subst IsDoneOrMemory (sym is) (calibration_done calibration store later end comes finds accepts)
-completes (Some (bound calibration)) store later out now was then o (Ok parts, comes, (same, lapse, is, line)) = λ finds accepts still.
+completes (Some (bound calibration)) store later out now was then o (Ok parts, comes, (same, told, are, line)) = λ finds accepts still.
     line_done _ out now o line still
 completes (Some (bound calibration)) store later out now was then o (Err end, comes, (is, same)) = λ finds accepts still.
     subst IsDoneOrMemory (sym is) (calibration_done calibration store later end comes finds accepts)
+completes (Some (limits calibration)) store later out now was then o (Ok parts, comes, (same, told, are, line)) = λ finds accepts still.
+    line_done _ out now o line still
+completes (Some (limits calibration)) store later out now was then o (Err end, comes, (is, same)) = λ finds accepts still.
+    subst IsDoneOrMemory (sym is) (calibration_done calibration store later end comes finds accepts)
+completes (Some (answers file)) store later out now was then o ends = λ finds accepts still. answers_done file store later out now o ends finds accepts still
 completes (Some (run calibration campaign)) store later out now was then o (Err end, comes, (is, same)) = λ finds accepts found accepted files still.
     subst IsDoneOrMemory (sym is) (calibration_done calibration store later end comes finds accepts)
 completes (Some (run calibration campaign)) store later out now was then o (Ok parts, comes, works) = λ finds accepts found accepted files still.

@@ -21,7 +21,7 @@ use Rattle.eg_outcome.specs.Images.{image_file}
 use Rattle.eg_play.specs.Files.{campaign_file, trace_file}
 use Rattle.eg_play.specs.Inputs.{input_of, TicksCome, InputComes, InputsCome, too_many}
 use Rattle.eg_play.specs.Ends.{RunsEnd, GridEnds, FoundComes, NamedComes, run_named}
-use Rattle.eg_app.specs.Words.{Command, check, bound, run, record_run, sweep, soak, asm, dis}
+use Rattle.eg_app.specs.Words.{Command, check, bound, limits, run, record_run, sweep, soak, answers, asm, dis}
 use Rattle.eg_app.specs.Ends.{Ends}
 use Rattle.eg_app.specs.Headline.{GoesBy, IsInput, AreInputs, IsNamedInput, TellsRuns, TellsHeadline}
 use Rattle.eg_app.proofs.PlayLemmas.{same_error, same_value, no_value}
@@ -155,6 +155,8 @@ done_tells : (command : Option Command) (store later : ShownStore) (out now : Sh
 done_tells None store later out now was then ends = tt
 done_tells (Some (check calibration file)) store later out now was then ends = tt
 done_tells (Some (bound calibration)) store later out now was then ends = tt
+done_tells (Some (limits calibration)) store later out now was then ends = tt
+done_tells (Some (answers file)) store later out now was then ends = tt
 done_tells (Some (asm file)) store later out now was then ends = tt
 done_tells (Some (dis file)) store later out now was then ends = tt
 done_tells (Some (soak seed runs)) store later out now was then plays =

@@ -4,12 +4,10 @@
 -- each outcome comes exactly where its case says (but where a count stands at the last value of a u64); running
 -- out of memory alone may come at any place. Where a call reads several files, the count doesn't tell which of
 -- the reads met a fault: over a sure store `FileComes` and `TellsMissing` do, else a test.
-use Rattle.std.specs.Prelude.{◌≡◌, ◌⊎◌, ◌↔◌, ℕ, List, Option, Some, None, Result, Ok, IsTrue, SomeIff}
+use Rattle.std.specs.Prelude.{◌≡◌, ◌⊎◌, ◌↔◌, ℕ, List, Option, Some, None, Result, Ok, IsTrue}
 use Rattle.eg_num.specs.Places.{IsFirst}
 use Rattle.eg_base.specs.Outside.{ShownStore, ShownSink, Rose, IsMissing}
 use Rattle.eg_answer.specs.declared.rules.Rules.{Rules}
-use Rattle.eg_answer.specs.Times.{HasLapseBound, lapse_bound_of}
-use Rattle.eg_values.specs.Calibration.{CalibrationParts}
 use Rattle.eg_input.specs.CheckFile.{CheckRow}
 use Rattle.eg_tick.specs.Weights.{TickCount}
 use Rattle.eg_plan.specs.declared.run.RunPlan.{RunPlan}
@@ -24,11 +22,11 @@ use Rattle.eg_play.specs.Inputs.{FindsRuns, AcceptsRuns}
 use Rattle.eg_play.specs.Ends.{rows_of_runs, Plays, RunCommandEnds, RecordCommandEnds, SweepCommandEnds, AcceptsNamed, AcceptsGrid, run_named}
 use Rattle.eg_soak.specs.Soak.{drawn_runs, soak_of}
 use Rattle.eg_soak.specs.Texts.{soak_text}
-use Rattle.eg_app.specs.Words.{Command, check, bound, run, record_run, sweep, soak, asm, dis}
 use Rattle.eg_outcome.specs.Images.{image_file}
 use Rattle.eg_source.specs.Ends.{AsmEnds, DisEnds, source_file, read_alone}
+use Rattle.eg_tuning.specs.Ends.{BoundEnds, LimitsEnd, AnswersEnd, answers_file}
+use Rattle.eg_app.specs.Words.{Command, check, bound, limits, run, record_run, sweep, soak, answers, asm, dis}
 use Rattle.eg_app.specs.Check.{excesses, check_line, check_file}
-use Rattle.eg_app.specs.Bound.{bound_text}
 
 -- ---- `check [--cal NAME] FILE` ----
 
@@ -49,22 +47,6 @@ abbrev pub CheckEnds : Option (List ℕ) → List ℕ → ShownStore → ShownSt
 CheckEnds calibration file store later out now o = CalibratedEnds calibration store later (now ≡ out)
     (λ parts. CheckWorks parts.rules file store later out now) o
 
--- ---- `bound [--cal NAME]` ----
-
--- this is the bound for lapses of a calibration, or it has none
-abbrev pub IsLapseBound : CalibrationParts → Option ℕ → Type 0
-IsLapseBound cal lapse = SomeIff lapse (HasLapseBound cal.rules.torque cal.times)
-    (lapse_bound_of cal.rules.torque cal.times)
-
--- the lines tell the reaction time and the bound for lapses, and no fault of reading was met
-abbrev pub BoundWorks : CalibrationParts → ShownStore → ShownStore → ShownSink → ShownSink → Outcome → Type 0
-BoundWorks cal store later out now o = (later.faults ≡ store.faults)
-    × (lapse : Option ℕ) × IsLapseBound cal lapse × LineEnds (bound_text cal.times lapse) out now o
-
-abbrev pub BoundEnds : Option (List ℕ) → ShownStore → ShownStore → ShownSink → ShownSink → Outcome → Type 0
-BoundEnds calibration store later out now o = CalibratedEnds calibration store later (now ≡ out)
-    (λ cal. BoundWorks cal store later out now) o
-
 -- ---- `soak SEED RUNS` ----
 
 -- the runs that are drawn from the seed were played, and the summary on them was written: on Done all of it
@@ -82,6 +64,7 @@ abbrev pub Ends : Option Command → ShownStore → ShownStore → ShownSink →
 Ends (Some (check calibration file)) store later out now was is o =
     CheckEnds calibration file store later out now o
 Ends (Some (bound calibration)) store later out now was is o = BoundEnds calibration store later out now o
+Ends (Some (limits calibration)) store later out now was is o = LimitsEnd calibration store later out now o
 Ends (Some (run calibration campaign)) store later out now was is o =
     RunCommandEnds calibration campaign store later out now was is o
 Ends (Some (record_run calibration campaign name)) store later out now was is o =
@@ -89,6 +72,7 @@ Ends (Some (record_run calibration campaign name)) store later out now was is o 
 Ends (Some (sweep calibration campaign name step)) store later out now was is o =
     SweepCommandEnds calibration campaign name step store later out now was is o
 Ends (Some (soak seed runs)) store later out now was is o = SoakEnds seed runs out now was is o
+Ends (Some (answers file)) store later out now was is o = AnswersEnd file store later out now o
 Ends (Some (asm file)) store later out now was is o = AsmEnds file store later out now o
 Ends (Some (dis file)) store later out now was is o = DisEnds file store later out now o
 Ends None store later out now was is o = (o ≡ outcome.Usage) × (now ≡ out)
@@ -97,10 +81,12 @@ Ends None store later out now was is o = (o ≡ outcome.Usage) × (now ≡ out)
 abbrev pub CountsNothing : Option Command → Type 0
 CountsNothing (Some (check calibration file)) = Unit {0}
 CountsNothing (Some (bound calibration)) = Unit {0}
+CountsNothing (Some (limits calibration)) = Unit {0}
 CountsNothing (Some (run calibration campaign)) = ⊥
 CountsNothing (Some (record_run calibration campaign name)) = ⊥
 CountsNothing (Some (sweep calibration campaign name step)) = ⊥
 CountsNothing (Some (soak seed runs)) = ⊥
+CountsNothing (Some (answers file)) = Unit {0}
 CountsNothing (Some (asm file)) = Unit {0}
 CountsNothing (Some (dis file)) = Unit {0}
 CountsNothing None = Unit {0}
@@ -110,10 +96,13 @@ abbrev pub ReadsNothing : Option Command → Type 0
 ReadsNothing (Some (check calibration file)) = ⊥
 ReadsNothing (Some (bound (Some name))) = ⊥
 ReadsNothing (Some (bound None)) = Unit {0}
+ReadsNothing (Some (limits (Some name))) = ⊥
+ReadsNothing (Some (limits None)) = Unit {0}
 ReadsNothing (Some (run calibration campaign)) = ⊥
 ReadsNothing (Some (record_run calibration campaign name)) = ⊥
 ReadsNothing (Some (sweep calibration campaign name step)) = ⊥
 ReadsNothing (Some (soak seed runs)) = Unit {0}
+ReadsNothing (Some (answers file)) = ⊥
 ReadsNothing (Some (asm file)) = ⊥
 ReadsNothing (Some (dis file)) = ⊥
 ReadsNothing None = Unit {0}
@@ -147,6 +136,8 @@ TellsMissing (Some (check calibration file)) store o = IsTrue store.sure →
     TellsMissingCalibration calibration store o × TellsMissingCheck calibration file store o
 TellsMissing (Some (bound calibration)) store o =
     IsTrue store.sure → TellsMissingCalibration calibration store o
+TellsMissing (Some (limits calibration)) store o =
+    IsTrue store.sure → TellsMissingCalibration calibration store o
 TellsMissing (Some (run calibration campaign)) store o =
     IsTrue store.sure → TellsMissingToPlay calibration campaign store o
 TellsMissing (Some (record_run calibration campaign name)) store o =
@@ -154,6 +145,8 @@ TellsMissing (Some (record_run calibration campaign name)) store o =
 TellsMissing (Some (sweep calibration campaign name step)) store o =
     IsTrue store.sure → TellsMissingToPlay calibration campaign store o
 TellsMissing (Some (soak seed runs)) store o = Unit {0}
+TellsMissing (Some (answers file)) store o =
+    IsTrue store.sure → ((o ≡ outcome.ReadFault role.Calibration) ↔ IsMissing store.files file)
 TellsMissing (Some (asm file)) store o =
     IsTrue store.sure → ((o ≡ outcome.ReadFault role.Source) ↔ IsMissing store.files file)
 TellsMissing (Some (dis file)) store o =
@@ -169,6 +162,9 @@ Completes (Some (check calibration file)) store later out now o =
     FindsCalibration calibration store later → AcceptsCalibration calibration store →
     Finds file store later → Accepts check_file file store → ¬ Rose out.faults now.faults → IsDoneOrMemory o
 Completes (Some (bound calibration)) store later out now o =
+    FindsCalibration calibration store later → AcceptsCalibration calibration store →
+    ¬ Rose out.faults now.faults → IsDoneOrMemory o
+Completes (Some (limits calibration)) store later out now o =
     FindsCalibration calibration store later → AcceptsCalibration calibration store →
     ¬ Rose out.faults now.faults → IsDoneOrMemory o
 Completes (Some (run calibration campaign)) store later out now o =
@@ -190,6 +186,8 @@ Completes (Some (sweep calibration campaign name step)) store later out now o =
     → AcceptsNamed store later (run_named name 1 plans) × AcceptsGrid step store (run_named name 1 plans)) →
     ¬ Rose out.faults now.faults → IsDoneOrMemory o
 Completes (Some (soak seed runs)) store later out now o = ¬ Rose out.faults now.faults → IsDoneOrMemory o
+Completes (Some (answers file)) store later out now o =
+    Finds file store later → Accepts answers_file file store → ¬ Rose out.faults now.faults → IsDoneOrMemory o
 Completes (Some (asm file)) store later out now o =
     Finds file store later → Accepts source_file file store → ¬ Rose out.faults now.faults → IsDoneOrMemory o
 Completes (Some (dis file)) store later out now o =

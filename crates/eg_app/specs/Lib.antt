@@ -1,6 +1,5 @@
 pub mod Words
 pub mod Check
-pub mod Bound
 pub mod Notes
 pub mod Ends
 pub mod Headline

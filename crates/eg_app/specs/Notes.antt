@@ -20,18 +20,20 @@ use Rattle.eg_outcome.specs.declared.outcome.Refusal.TheVariants as refusal
 use Rattle.eg_outcome.specs.declared.outcome.Role.{Role}
 use Rattle.eg_outcome.specs.declared.outcome.Role.TheVariants as role
 use Rattle.eg_play.specs.Ends.{role_in, IsNameIn, NamesFile}
-use Rattle.eg_app.specs.Words.{Command, check, bound, run, record_run, sweep, soak, asm, dis}
+use Rattle.eg_app.specs.Words.{Command, check, bound, limits, run, record_run, sweep, soak, answers, asm, dis}
 
 -- ---- the file that an outcome speaks of ----
 
--- the name behind `--cal`, empty where there is none
+-- the name behind `--cal`, or that of the file of `answers`; empty where there is none
 abbrev pub calibration_name : Command → List ℕ
 calibration_name (check calibration file) = unwrap_or calibration []
 calibration_name (bound calibration) = unwrap_or calibration []
+calibration_name (limits calibration) = unwrap_or calibration []
 calibration_name (run calibration campaign) = unwrap_or calibration []
 calibration_name (record_run calibration campaign name) = unwrap_or calibration []
 calibration_name (sweep calibration campaign name step) = unwrap_or calibration []
 calibration_name (soak seed runs) = []
+calibration_name (answers file) = file
 calibration_name (asm file) = []
 calibration_name (dis file) = []
 

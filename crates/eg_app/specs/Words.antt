@@ -7,18 +7,20 @@ use Rattle.eg_input.specs.Fields.{decimal}
 use Rattle.eg_app.specs.declared.command.Command.{Command as Parsed}
 use Rattle.eg_app.specs.declared.command.Command.TheVariants as parsed
 
--- What can be asked for: to check the file of this name; the bounds; to run the campaign of this name; the
--- record of its run of that name; or to sweep over all classes of faults with that run, at each `step`th tick.
--- Each of these goes by the calibration in the file of the name behind `--cal`, or by the reference
--- calibration where there is none. Or so many runs that are drawn from a number; or the image of a source, or
--- the source of an image.
+-- What can be asked for: to check the file of this name; the bounds, or all limits; to run the campaign of
+-- this name; the record of its run of that name; or to sweep over all classes of faults with that run, at each
+-- `step`th tick. Each of these goes by the calibration in the file of the name behind `--cal`, or by the
+-- reference calibration where there is none. Or so many runs that are drawn from a number; or the right
+-- answers to the questions of a calibration file; or the image of a source, or the source of an image.
 pub data Command : Type 0 where
   check : (calibration : Option (List ℕ)) (file : List ℕ) → Command
   bound : (calibration : Option (List ℕ)) → Command
+  limits : (calibration : Option (List ℕ)) → Command
   run : (calibration : Option (List ℕ)) (campaign : List ℕ) → Command
   record_run : (calibration : Option (List ℕ)) (campaign : List ℕ) (name : List ℕ) → Command
   sweep : (calibration : Option (List ℕ)) (campaign : List ℕ) (name : List ℕ) (step : ℕ) → Command
   soak : (seed runs : ℕ) → Command
+  answers : (file : List ℕ) → Command
   asm : (file : List ℕ) → Command
   dis : (file : List ℕ) → Command
 
@@ -26,11 +28,13 @@ pub data Command : Type 0 where
 abbrev pub said : Parsed → Command
 said (parsed.Check calibration file) = check (option_copied calibration) file.now
 said (parsed.Bound calibration) = bound (option_copied calibration)
+said (parsed.Limits calibration) = limits (option_copied calibration)
 said (parsed.Run calibration campaign) = run (option_copied calibration) campaign.now
 said (parsed.Record calibration campaign name) = record_run (option_copied calibration) campaign.now name.now
 said (parsed.Sweep calibration campaign name step) =
     sweep (option_copied calibration) campaign.now name.now step
 said (parsed.Soak seed runs) = soak seed runs
+said (parsed.Answers file) = answers file.now
 said (parsed.Asm file) = asm file.now
 said (parsed.Dis file) = dis file.now
 
@@ -56,9 +60,9 @@ abbrev pub is_check : List (List ℕ) → ℕ → Bool
 is_check words own =
     (length words == own + 1) && bytes_eq (word words 0) (codes "check") && is_name (word words own)
 
--- likewise: the word is `bound`, alone
-abbrev pub is_bound : List (List ℕ) → ℕ → Bool
-is_bound words own = (length words == own) && bytes_eq (word words 0) (codes "bound")
+-- likewise: the word is this one, alone
+abbrev pub is_alone : List ℕ → List (List ℕ) → ℕ → Bool
+is_alone command words own = (length words == own) && bytes_eq (word words 0) command
 
 -- likewise: the words are `run CAMPAIGN`
 abbrev pub is_run : List (List ℕ) → ℕ → Bool
@@ -90,12 +94,17 @@ step_in word = number_in 5 1 20000 word
 -- what the words ask for by this calibration, where the command's own words begin at place `own`
 unfoldable pub form_of : List (List ℕ) → Option (List ℕ) → ℕ → Option Command
 form_of words calibration own = if is_check words own then Some (check calibration (word words own))
-    else if is_bound words own then Some (bound calibration)
     else if is_run words own then Some (run calibration (word words own))
     else if is_record words own then Some (record_run calibration (word words own) (word words (own + 1)))
     else if is_sweep words own then option_map (sweep calibration (word words own) (word words (own + 1)))
     (step_in (word words (own + 2)))
     else None
+
+-- likewise, where the command may have no words of its own
+abbrev pub alone_of : List (List ℕ) → Option (List ℕ) → ℕ → Option Command
+alone_of words calibration own = if is_alone (codes "bound") words own then Some (bound calibration)
+    else if is_alone (codes "limits") words own then Some (limits calibration)
+    else form_of words calibration own
 
 -- a seed is any word of 32 bits; there are 1 to 500 runs
 abbrev pub seed_in : List ℕ → Option ℕ
@@ -120,16 +129,17 @@ soak_form words =
 
 -- what they ask for, where the first is another: by the calibration behind `--cal`, or by none
 abbrev pub calibrated_of : List (List ℕ) → Option Command
-calibrated_of words = if names_calibration words then form_of words (Some (word words 2)) 3
-    else form_of words None 1
+calibrated_of words = if names_calibration words then alone_of words (Some (word words 2)) 3
+    else alone_of words None 1
 
 -- the words are this one and the name of a file
 abbrev pub is_on_file : List ℕ → List (List ℕ) → Bool
 is_on_file command words = (length words == 2) && bytes_eq (word words 0) command && is_name (word words 1)
 
--- what they ask for, where the first is `asm` or `dis`, or another that takes a calibration
+-- what they ask for, where the first is `answers`, `asm` or `dis`, or another that takes a calibration
 abbrev pub of_file : List (List ℕ) → Option Command
-of_file words = if is_on_file (codes "asm") words then Some (asm (word words 1))
+of_file words = if is_on_file (codes "answers") words then Some (answers (word words 1))
+    else if is_on_file (codes "asm") words then Some (asm (word words 1))
     else if is_on_file (codes "dis") words then Some (dis (word words 1))
     else calibrated_of words
 

@@ -8,7 +8,6 @@ ghost use Rattle.eg_base.specs.Outside.{ShownStore};
 ghost use Rattle.eg_outcome.specs.Outcomes.{EndsOrderly, TellsNoMemory, PutsNothing};
 ghost use Rattle.eg_outcome.specs.declared.outcome.Outcome.TheVariants.{Done};
 
-use crate::bound::bound;
 use crate::check::check;
 use crate::command::Command;
 use crate::note::note;
@@ -19,6 +18,7 @@ use eg_outcome::Outcome;
 use eg_play::End;
 use eg_source::{asm, dis};
 use eg_tick::Ticks;
+use eg_tuning::{answers, bound, limits};
 use std::alloc::Global;
 
 /// Does what the words ask for (docs/FORMATS.md, "Commands"): it reads files from `store`, writes its text to
@@ -125,6 +125,7 @@ fn work<S: Store, K: Sink>(
     match command {
         Command::Check { calibration, file } => end_of(check(alloc, calibration, file, store, out)),
         Command::Bound { calibration } => end_of(bound(alloc, calibration, store, out)),
+        Command::Limits { calibration } => end_of(limits(alloc, calibration, store, out)),
         Command::Run {
             calibration,
             campaign,
@@ -140,6 +141,7 @@ fn work<S: Store, K: Sink>(
             name,
             step,
         } => play_sweep(alloc, calibration, campaign, name, step, store, out, steps),
+        Command::Answers { file } => end_of(answers(alloc, file, store, out)),
         Command::Asm { file } => end_of(asm(alloc, file, store, out)),
         Command::Dis { file } => end_of(dis(alloc, file, store, out)),
         Command::Soak { seed, runs } => end_of(play_drawn(alloc, seed, runs, out, steps)),

@@ -2,13 +2,13 @@
 ghost use Rattle.std.specs.Prelude.{◌≡◌, ◌≤◌, ◌+◌, [], Some, length, option_map, unwrap_or, slice_index_or, IfSome};
 ghost use Rattle.std.specs.Option.{option_copied};
 ghost use Rattle.eg_app.specs.Notes.{calibration_name, check_name, campaign_name, translated_name, name_of, role_of, file_role, name_in_words};
-ghost use Rattle.eg_app.specs.Words.{words_of, is_name, names_calibration, is_check, is_bound, is_run, is_record, is_sweep, step_in, word, sweep, is_on_file, of_file, form_of, is_soak, soak_form, calibrated_of, command_of, said, KeepsLimits};
+ghost use Rattle.eg_app.specs.Words.{words_of, is_name, names_calibration, is_check, is_alone, is_run, is_record, is_sweep, step_in, word, sweep, is_on_file, of_file, form_of, alone_of, is_soak, soak_form, calibrated_of, command_of, said, KeepsLimits};
 
 use crate::number::number_in;
 use eg_outcome::{Outcome, Refusal, Role};
 
-/// What the words of the command line ask for (docs/FORMATS.md, "Commands"). Each command but `soak` goes by
-/// the calibration in the file behind `--cal`, or by the reference calibration where there is none.
+/// What the words of the command line ask for (docs/FORMATS.md, "Commands"). A command with a `calibration`
+/// goes by the one in the file behind `--cal`, or by the reference calibration where there is none.
 #[derive(Clone, Copy)]
 pub(crate) enum Command<'a> {
     /// `check [--cal NAME] FILE`.
@@ -18,6 +18,10 @@ pub(crate) enum Command<'a> {
     },
     /// `bound [--cal NAME]`.
     Bound {
+        calibration: Option<&'a str>,
+    },
+    /// `limits [--cal NAME]`.
+    Limits {
         calibration: Option<&'a str>,
     },
     /// `run [--cal NAME] CAMPAIGN`.
@@ -37,6 +41,10 @@ pub(crate) enum Command<'a> {
         campaign: &'a str,
         name: &'a str,
         step: u32,
+    },
+    /// `answers FILE`.
+    Answers {
+        file: &'a str,
     },
     /// `asm FILE`.
     Asm {
@@ -70,6 +78,11 @@ impl<'a> Command<'a> {
         ensures command { option_map said result ≡ of_file (words_of words.now) }
         ensures limits { IfSome result (λ command. KeepsLimits (said command)) }
     {
+        if is_on_file("answers", words) {
+            return Some(Command::Answers {
+                file: words[1].as_str(),
+            });
+        }
         if is_on_file("asm", words) {
             return Some(Command::Asm {
                 file: words[1].as_str(),
@@ -89,9 +102,9 @@ impl<'a> Command<'a> {
         ensures limits { IfSome result (λ command. KeepsLimits (said command)) }
     {
         if names_calibration(words) {
-            return Command::of_form(words, Some(words[2].as_str()), 3);
+            return Command::of_alone(words, Some(words[2].as_str()), 3);
         }
-        Command::of_form(words, None, 1)
+        Command::of_alone(words, None, 1)
     }
 
     /// What the words ask for, the first of which is `soak`.
@@ -105,6 +118,28 @@ impl<'a> Command<'a> {
         let seed = number_in(words[1].as_bytes(), 10, 0, u32::MAX)?;
         let runs = number_in(words[2].as_bytes(), 10, 1, 500)?;
         Some(Command::Soak { seed, runs })
+    }
+
+    /// What the words ask for by this calibration, where the command's own words begin at place `own`, if it
+    /// has any.
+    fn of_alone(
+        words: &'a [String],
+        calibration: Option<&'a str>,
+        own: usize,
+    ) -> Option<Command<'a>>
+        requires least { 1 ≤ own }
+        requires most { own ≤ 3 }
+        ensures command { option_map said result
+            ≡ alone_of (words_of words.now) (option_copied calibration.entry) own }
+        ensures limits { IfSome result (λ command. KeepsLimits (said command)) }
+    {
+        if is_alone("bound", words, own) {
+            return Some(Command::Bound { calibration });
+        }
+        if is_alone("limits", words, own) {
+            return Some(Command::Limits { calibration });
+        }
+        Command::of_form(words, calibration, own)
     }
 
     /// What the words ask for by this calibration, where the command's own words begin at place `own`.
@@ -121,9 +156,6 @@ impl<'a> Command<'a> {
                 calibration,
                 file: words[own].as_str(),
             });
-        }
-        if is_bound(words, own) {
-            return Some(Command::Bound { calibration });
         }
         if is_run(words, own) {
             return Some(Command::Run {
@@ -191,16 +223,18 @@ impl<'a> Command<'a> {
         }
     }
 
-    /// The name behind `--cal`, if there is one.
+    /// The name behind `--cal`, or that of the file of `answers`, if there is one.
     fn calibration(self) -> Option<&'a str>
         ensures { unwrap_or (option_copied result) [] ≡ calibration_name (said self.entry) }
     {
         match self {
             Command::Check { calibration, .. }
             | Command::Bound { calibration }
+            | Command::Limits { calibration }
             | Command::Run { calibration, .. }
             | Command::Record { calibration, .. }
             | Command::Sweep { calibration, .. } => calibration,
+            Command::Answers { file } => Some(file),
             Command::Soak { .. } | Command::Asm { .. } | Command::Dis { .. } => None,
         }
     }
@@ -295,13 +329,13 @@ fn is_check(words: &[String], own: usize) -> bool
     words.len() == own + 1 && words[0].as_str() == "check" && is_name(words[own].as_str())
 }
 
-/// Whether the word is `bound`, alone, where the command's own words begin at place `own`.
-fn is_bound(words: &[String], own: usize) -> bool
+/// Whether the word is this one, alone, where the command's own words begin at place `own`.
+fn is_alone(command: &str, words: &[String], own: usize) -> bool
     requires least { 1 ≤ own }
     requires most { own ≤ 3 }
-    ensures { result ≡ is_bound (words_of words.now) own }
+    ensures { result ≡ is_alone command.now (words_of words.now) own }
 {
-    words.len() == own && words[0].as_str() == "bound"
+    words.len() == own && words[0].as_str() == command
 }
 
 /// Whether the words are `run CAMPAIGN`, where the command's own words begin at place `own`.

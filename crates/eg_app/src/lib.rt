@@ -1,7 +1,6 @@
 //! The program's top call: words in, bytes out.
 #![tactic(auto)]
 
-mod bound;
 mod call;
 mod check;
 mod command;

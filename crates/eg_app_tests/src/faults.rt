@@ -5,12 +5,14 @@ use eg_input::TraceFault;
 use std::test::Fail;
 
 /// Words, and the files that a call with them reads, in their order.
-const READS: [(&str, &[Role]); 8] = [
+const READS: [(&str, &[Role]); 10] = [
     (
         "check --cal cal.toml in.csv",
         &[Role::Calibration, Role::Check],
     ),
     ("bound --cal cal.toml", &[Role::Calibration]),
+    ("limits --cal cal.toml", &[Role::Calibration]),
+    ("answers cal.toml", &[Role::Calibration]),
     (
         "run --cal cal.toml c.toml",
         &[
@@ -90,9 +92,11 @@ fn a_record_is_written_as_its_ticks_are_made(rt: HostRuntime) -> Result<(), Fail
 }
 
 /// Words, and how many bytes stand where the put of a number fails: the lines before, and half of the next.
-const PUTS: [(&str, &[(u32, usize)]); 8] = [
+const PUTS: [(&str, &[(u32, usize)]); 10] = [
     ("check in.csv", &[(0, 2), (1, 5)]),
     ("bound", &[(0, 6), (1, 16), (2, 21)]),
+    ("limits", &[(0, 6), (2, 26), (5, 54), (6, 60)]),
+    ("answers cal.toml", &[(0, 7), (1, 22), (2, 30)]),
     ("run c.toml", &[(0, 29), (1, 88), (2, 131), (3, 144)]),
     (RECORD, &[(0, 69), (1, 164), (3, 269), (4, 324), (5, 352)]),
     (

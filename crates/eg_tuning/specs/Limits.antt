@@ -1,0 +1,18 @@
+-- What a calibration comes to: its reaction time, and what it tolerates.
+use Rattle.std.specs.Prelude.{◌≡◌, SomeIff}
+use Rattle.eg_answer.specs.Times.{verdicts_to_confirm, reaction_of, test_ticks_of, runs_to_confirm, HasLapseBound, lapse_bound_of, HasMissSpacing, miss_spacing_of}
+use Rattle.eg_values.specs.Calibration.{CalibrationParts}
+use Rattle.eg_tuning.specs.declared.limit.Limits.{Limits}
+
+-- These are the limits of a calibration: the reaction time; the bound for lapses, if it has one; how many
+-- wrong verdicts in a row open path 2; how many runs of level 2 in a row confirm an excess that each of them
+-- finds; how long the test of the shut-off paths takes; and the least distance from which on missed runs of
+-- level 2 never cut, if it has one.
+pub record AreLimits (cal : CalibrationParts) (limits : Limits) : Type 0 where
+  pub reaction : limits.reaction ≡ reaction_of cal.times
+  pub lapse : SomeIff limits.lapse (HasLapseBound cal.rules.torque cal.times)
+      (lapse_bound_of cal.rules.torque cal.times)
+  pub verdicts : limits.verdicts ≡ verdicts_to_confirm cal.times.weights
+  pub excess : limits.excess ≡ runs_to_confirm cal.rules.torque
+  pub test : limits.test ≡ test_ticks_of cal.times
+  pub spacing : SomeIff limits.spacing (HasMissSpacing cal.times) (miss_spacing_of cal.times)

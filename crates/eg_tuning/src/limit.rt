@@ -1,0 +1,40 @@
+// What a calibration comes to.
+ghost use Rattle.eg_tuning.specs.Limits.{AreLimits};
+
+use eg_answer::{lapse_bound, miss_spacing, reaction, verdicts_to_confirm};
+use eg_module::test_ticks;
+use eg_values::Calibration;
+
+/// What a calibration comes to (docs/FORMATS.md, "The text of `limits`").
+#[derive(Clone, Copy, Debug, PartialEq, Eq)]
+pub struct Limits {
+    /// The reaction time, in ticks.
+    pub reaction: u32,
+    /// The bound for lapses, in ticks, if there is one.
+    pub lapse: Option<u32>,
+    /// How many wrong verdicts in a row open path 2.
+    pub verdicts: u32,
+    /// How many runs of level 2 in a row confirm an excess that each of them finds.
+    pub excess: u32,
+    /// How many ticks the test of the shut-off paths takes.
+    pub test: u32,
+    /// The least distance, in ticks, from which on missed runs of level 2 never cut, if there is one.
+    pub spacing: Option<u32>,
+}
+
+/// What a calibration comes to (docs/CONCEPT.md, "Reaction time" and "Lapses").
+#[tactic(auto, unfolding(eg_answer::specs::Times::verdicts_to_confirm, eg_answer::specs::Times::runs_to_confirm))]
+pub fn limits_of(calibration: &Calibration) -> Limits
+    ensures { AreLimits calibration.now result }
+{
+    let torque = &calibration.rules().torque;
+    let times = calibration.times();
+    Limits {
+        reaction: reaction(times),
+        lapse: lapse_bound(torque, times),
+        verdicts: verdicts_to_confirm(times.weights()),
+        excess: verdicts_to_confirm(torque),
+        test: test_ticks(times),
+        spacing: miss_spacing(times),
+    }
+}

@@ -1,0 +1,115 @@
+// `bound [--cal NAME]` and `limits [--cal NAME]`: what a calibration comes to.
+ghost use Rattle.std.specs.Prelude.{◌≡◌, ◌↔◌, ◌++◌, None, IfOk, IsTrue, OnOk, codes, string_bytes};
+ghost use Rattle.std.specs.Option.{option_copied};
+ghost use Rattle.eg_outcome.specs.Calibrations.{MissesCalibration};
+ghost use Rattle.eg_outcome.specs.Outcomes.{LineEnds, TellsNoMemory, PutsNothing};
+ghost use Rattle.eg_outcome.specs.declared.outcome.Outcome.TheVariants.{ReadFault};
+ghost use Rattle.eg_outcome.specs.declared.outcome.Role.TheVariants as role;
+ghost use Rattle.eg_tuning.specs.Ends.{BoundEnds, LimitsEnd};
+ghost use Rattle.eg_tuning.specs.Texts.{bound_text, limits_text, number_or_none};
+
+use crate::{Limits, limits_of};
+use eg_base::{NoMemory, Sink, Store};
+use eg_outcome::{Outcome, calibration_for, put_text};
+use std::alloc::{AllocError, Global};
+
+/// Does `bound [--cal NAME]`, but for its note (docs/FORMATS.md, "Commands"): writes the reaction time and
+/// the bound for lapses.
+pub fn bound<S: Store, K: Sink>(
+    alloc: Global,
+    calibration: Option<&str>,
+    store: &mut S,
+    out: &mut K,
+) -> Outcome
+    ensures ends { BoundEnds (option_copied calibration.entry) (S.shows store.old) (S.shows store.new)
+        (K.shows out.old) (K.shows out.new) result }
+    ensures missing { IsTrue (S.shows store.old).sure → ((result ≡ ReadFault role.Calibration)
+        ↔ MissesCalibration (option_copied calibration.entry) (S.shows store.old)) }
+    ensures no_memory { TellsNoMemory result }
+    ensures unread { option_copied calibration.entry ≡ None → store.new ≡ store.old }
+    ensures files { (S.shows store.new).files ≡ (S.shows store.old).files }
+    ensures nothing_put { PutsNothing result → out.new ≡ out.old }
+{
+    match calibration_for(alloc, calibration, store) {
+        Ok(calibration) => put_bound(alloc, &limits_of(&calibration), out),
+        Err(outcome) => outcome,
+    }
+}
+
+/// Does `limits [--cal NAME]`, but for its note (docs/FORMATS.md, "Commands"): writes all that a calibration
+/// comes to.
+pub fn limits<S: Store, K: Sink>(
+    alloc: Global,
+    calibration: Option<&str>,
+    store: &mut S,
+    out: &mut K,
+) -> Outcome
+    ensures ends { LimitsEnd (option_copied calibration.entry) (S.shows store.old) (S.shows store.new)
+        (K.shows out.old) (K.shows out.new) result }
+    ensures missing { IsTrue (S.shows store.old).sure → ((result ≡ ReadFault role.Calibration)
+        ↔ MissesCalibration (option_copied calibration.entry) (S.shows store.old)) }
+    ensures no_memory { TellsNoMemory result }
+    ensures unread { option_copied calibration.entry ≡ None → store.new ≡ store.old }
+    ensures files { (S.shows store.new).files ≡ (S.shows store.old).files }
+    ensures nothing_put { PutsNothing result → out.new ≡ out.old }
+{
+    match calibration_for(alloc, calibration, store) {
+        Ok(calibration) => put_limits(alloc, &limits_of(&calibration), out),
+        Err(outcome) => outcome,
+    }
+}
+
+/// Puts the lines of the reaction time and of the bound for lapses.
+fn put_bound<K: Sink>(alloc: Global, limits: &Limits, out: &mut K) -> Outcome
+    ensures ends { LineEnds (bound_text limits.now) (K.shows out.old) (K.shows out.new) result }
+    ensures put { PutsNothing result → ⊥ }
+{
+    let Ok(text) = bound_text(alloc, limits) else {
+        return Outcome::Memory;
+    };
+    put_text(text.as_bytes(), out)
+}
+
+/// Puts the lines of all limits.
+fn put_limits<K: Sink>(alloc: Global, limits: &Limits, out: &mut K) -> Outcome
+    ensures ends { LineEnds (limits_text limits.now) (K.shows out.old) (K.shows out.new) result }
+    ensures put { PutsNothing result → ⊥ }
+{
+    let Ok(text) = limits_text(alloc, limits) else {
+        return Outcome::Memory;
+    };
+    put_text(text.as_bytes(), out)
+}
+
+/// The lines of the reaction time and of the bound for lapses.
+fn bound_text(alloc: Global, limits: &Limits) -> Result<String, NoMemory>
+    ensures { IfOk result (λ text. string_bytes text ≡ bound_text limits.now) }
+{
+    let mut text = String::new(alloc);
+    write!(text, "reaction {}\n", limits.reaction)?;
+    push_line(&mut text, "lapse ", limits.lapse)?;
+    Ok(text)
+}
+
+/// The lines of all limits.
+fn limits_text(alloc: Global, limits: &Limits) -> Result<String, NoMemory>
+    ensures { IfOk result (λ text. string_bytes text ≡ limits_text limits.now) }
+{
+    let mut text = bound_text(alloc, limits)?;
+    write!(text, "verdicts {}\n", limits.verdicts)?;
+    write!(text, "excess {}\ntest {}\n", limits.excess, limits.test)?;
+    push_line(&mut text, "spacing ", limits.spacing)?;
+    Ok(text)
+}
+
+/// Appends a line that tells this of a number, or of none.
+#[tactic(auto, unfolding(crate::specs::Texts::number_or_none))]
+fn push_line(text: &mut String, says: &str, number: Option<u32>) -> Result<(), AllocError>
+    ensures { OnOk result (string_bytes text.new
+        ≡ string_bytes text.old ++ (says.now ++ number_or_none number ++ codes "\n")) }
+{
+    match number {
+        Some(number) => write!(text, "{says}{number}\n"),
+        None => write!(text, "{says}none\n"),
+    }
+}
