@@ -37,6 +37,15 @@ impl FlatMemory {
             words: [0; WORDS as usize],
         }
     }
+
+    /// A memory of these words, as a copy of one of another kind.
+    pub fn of_words(words: [u16; WORDS as usize]) -> FlatMemory
+        ensures words { result ≡ words }
+        ensures shown { ⟦<FlatMemory as Guarded>⟧.shows result ≡ record { words = words; sure = true } }
+        ensures are_words { AreWords result }
+    {
+        FlatMemory { words }
+    }
 }
 
 impl Guarded for FlatMemory {

@@ -1,7 +1,10 @@
 -- The words of a memory in pages, and what a store to a page makes of them.
-use Rattle.std.proofs.Common.{◌≡◌, ◌∙◌, ◌⊎◌, inl, inr, sym, ap, ap₂, ℕ, zero, suc, ◌+◌, ◌*◌, ◌^◌, ◌<◌, List, [], ◌∷◌, length, map, get_or, slice_index, slice_set, replicate, Result, Ok, Err, OnOk, OnErr, refl, arith}
+use Rattle.std.proofs.Common.{◌≡◌, ◌∙◌, ◌⊎◌, inl, inr, sym, ap, ap₂, ℕ, zero, suc, ◌+◌, ◌-◌, ◌*◌, ◌^◌, ◌<◌, ◌≤◌, List, [], ◌∷◌, ◌++◌, take, drop, length, map, get_or, slice_index, slice_set, replicate, Result, Ok, Err, OnOk, OnErr, refl, arith}
 use Rattle.std.specs.List.{AllZip, AllByRecursion, concat}
-use Rattle.std.proofs.lemmas.List.{map-set, get_or-map, length-map, length-set, length-replicate, set-get_or}
+use Rattle.std.proofs.lemmas.List.{append-nil, map-set, get_or-map, length-append, length-drop, length-map, length-set, length-replicate, length-take-le, set-get_or, take_more}
+use Rattle.std.proofs.lemmas.List.Folds.{concat-append}
+use Rattle.std.proofs.lemmas.Slice.{take-put_mid}
+use borrow.Rule.Slice.PartMut.{put_mid}
 use Rattle.std.proofs.lemmas.List.Elements.{All-set, All-replicate, recursion_from_All}
 use Rattle.eg_guard.proofs.WordsLemmas.{AreWords-set, zeros_are_words}
 use Rattle.eg_pages.specs.Pages.{IsPage, ArePages}
@@ -110,3 +113,44 @@ map-copies held [] [] same = refl
 map-copies held [] (y ∷ copies) same = absurd same
 map-copies held (x ∷ pages) [] same = absurd same
 map-copies held (x ∷ pages) (y ∷ copies) same = ap₂ (λ a rest. a ∷ rest) same.0 (map-copies held pages copies same.1)
+
+-- ---- pages in one array ----
+
+-- the joined words of the first pages, with those of the next
+concat-more : (pages : List (List ℕ)) (number : ℕ) → number < length pages
+    → concat (take number pages) ++ get_or pages number [] ≡ concat (take (number + 1) pages)
+concat-more pages number within =
+    let page = get_or pages number [] in
+    sym (concat-append (take number pages) (page ∷ []) ∙ ap (λ words. concat (take number pages) ++ words) (append-nil page))
+    ∙ ap concat (sym (take_more pages number [] within))
+
+-- words of a memory, of which a part of this length gave way to so many others
+length-put : (words part : List ℕ) (start count : ℕ) → length words ≡ 4096 → start + count ≤ 4096 → length part ≡ count
+    → length (put_mid start count words part) ≡ 4096
+length-put words part start count long within same =
+    let front : length (take start words) ≡ start = length-take-le start words (omega (arith, long, within)) in
+    let rest : length (drop count (drop start words)) ≡ length words - start - count
+    = length-drop count (drop start words) ∙ ap (λ n. n - count) (length-drop start words) in
+    let behind = length-append part (drop count (drop start words)) in
+    let all = length-append (take start words) (part ++ drop count (drop start words)) in
+    omega (arith, long, within, same, front, rest, behind, all)
+
+-- Where the words of the first pages were copied into one array, and then those of the next, which is held so.
+pub record Copied (words : List ℕ) (pages : List (List ℕ)) (number : ℕ) : Type 0 where
+  pub count : length words ≡ 4096
+  pub copied : take (number * 64) words ≡ concat (take number pages)
+
+pub copied_next : {X : Type 0} (held : X → List ℕ) (pages : List X) (other : X) (number start size : ℕ) (words part : List ℕ) → ArePages (map held pages)
+    → number < 64 → start ≡ number * 64 → size ≡ 64 → part ≡ held (get_or pages number other) → Copied words (map held pages) number
+    → Copied (put_mid start size words part) (map held pages) (number + 1)
+copied_next held pages other number start size words part are below starts sized same copied =
+    let there : number < length (map held pages) = omega (arith, are.count, below) in
+    let within : number < length pages = omega (arith, there, length-map pages held) in
+    let is : part ≡ get_or (map held pages) number [] = same ∙ sym (get_or-map held pages number other [] within) in
+    let long : length part ≡ size = ap length is ∙ are.each number [] there ∙ sym sized in
+    record {
+      count = length-put words part start size copied.count (omega (arith, below, starts, sized)) long;
+      copied = take-put_mid start size words part ((number + 1) * 64) (omega (arith, starts, sized, long)) (omega (arith, starts, below, copied.count))
+          ∙ ap₂ (λ n page. take n words ++ page) starts is ∙ ap (λ front. front ++ get_or (map held pages) number []) copied.copied
+          ∙ concat-more (map held pages) number there;
+    }

@@ -50,6 +50,20 @@ pub(crate) fn word_at(pages: &SharedPages, address: u16) -> u16
     page[usize::from(address % PAGE_WORDS)]
 }
 
+/// The words of the pages in one array, one page after another.
+pub(crate) fn joined(pages: &SharedPages) -> [u16; WORDS as usize]
+    requires { ArePages (pages_of pages.now) }
+    ensures { result ≡ words_of pages.now }
+{
+    let size = usize::from(PAGE_WORDS);
+    let mut words = [0; WORDS as usize];
+    for number in 0..usize::from(PAGES) {
+        let start = number * size;
+        words[start..start + size].copy_from_slice(&*pages[number]);
+    }
+    words
+}
+
 /// Puts a word at an address. NoMemory, which is meant for a page that is shared, changes nothing.
 #[inline]
 pub(crate) fn put_at(

@@ -1,10 +1,10 @@
 // A guarded memory in pages that are copied when they are written.
-ghost use Rattle.std.specs.Prelude.{◌≡◌, IfOk, replicate, false};
+ghost use Rattle.std.specs.Prelude.{◌≡◌, IfOk, replicate, true, false};
 ghost use Rattle.eg_guard.specs.Memory.{ShownMemory, AreWords};
 
-use crate::page::{SharedPages, put_at, share, word_at, zero_pages};
+use crate::page::{SharedPages, joined, put_at, share, word_at, zero_pages};
 use eg_base::NoMemory;
-use eg_guard::{CopyMemory, Guarded, Refused, StoreRefusal, WORDS, Who, access};
+use eg_guard::{CopyMemory, FlatMemory, Guarded, Refused, StoreRefusal, WORDS, Who, access};
 use std::alloc::Global;
 use std::marker::Model;
 
@@ -40,6 +40,15 @@ impl PagedMemory {
     {
         let pages = zero_pages(alloc)?;
         Ok(PagedMemory { pages, alloc })
+    }
+
+    /// A memory of the same words in one array, which shares nothing. It takes no memory and refuses nothing.
+    pub fn flat(&self) -> FlatMemory
+        ensures words { result ≡ self.now }
+        ensures shown { ⟦<FlatMemory as Guarded>⟧.shows result
+            ≡ record { words = (⟦<PagedMemory as Guarded>⟧.shows self.now).words; sure = true } }
+    {
+        FlatMemory::of_words(joined(&self.pages))
     }
 }
 

@@ -1,8 +1,9 @@
 -- A controller that is branched: what it stands for without a fault its branch stands for under one that hasn't
 -- begun.
-use Rattle.std.proofs.Common.{◌≡◌, ◌∙◌, refl, sym, ap, subst, ℕ, Bool, List, [], ◌∷◌, take, length, Option, None}
+use Rattle.std.proofs.Common.{◌≡◌, ◌∙◌, refl, sym, ap, subst, ℕ, Bool, true, false, List, [], ◌∷◌, take, length, Option, None}
 use Rattle.eg_answer.specs.Periods.{place_of}
 use Rattle.eg_word.specs.declared.registers.Registers.{Registers}
+use Rattle.eg_guard.specs.Memory.{ShownMemory, AreWords}
 use Rattle.eg_fault.specs.Faults.{IsNoneOrValid}
 use Rattle.eg_fault.specs.declared.class.Fault.{Fault}
 use Rattle.eg_level2.specs.Words.{Words}
@@ -114,20 +115,41 @@ module _ (s : Setting) (none : s.fault ≡ None) (fault : Option Fault) where
       run : AreOneRun s (under fault s) h
       run = are_one_run s none fault h from
 
+-- ---- over another memory ----
+
+-- of the memory only the words count
+stands-over : (s : Setting) (c : Kept) (memory : ShownMemory) (h : List Entry) → memory.words ≡ c.memory.words → Stands s c h →
+    Stands s (record c { memory = memory }) h
+stands-over s c memory h words stands = record {
+  cal = stands.cal;
+  fault = stands.fault;
+  count = stands.count;
+  are_words = subst AreWords (sym words) stands.are_words;
+  span = subst (λ w. HoldsSpan (span_kind (moments s h)) s c.span c.registers w (span_ticks s h)) (sym words) stands.span;
+  passed = stands.passed;
+  engine = stands.engine;
+  trap = stands.trap;
+  not_lost = stands.not_lost;
+}
+
 -- ---- the controller ----
 
+-- what a branch keeps: the same but the fault, over a memory of its own
+abbrev pub branch_of : Kept → Option Fault → ShownMemory → Kept
+branch_of c fault memory = record c { fault = fault; memory = memory }
+
 -- the branch stands for what the controller stands for
-pub branch_stands : (s : Setting) (c : Kept) (fault : Option Fault) (h : List Entry) → c.fault ≡ None → BeginsFrom c.ticks fault → Stands s c h →
-    Stands (under fault s) (record c { fault = fault }) h
-branch_stands s c fault h none from stands =
-    stands-under s (sym stands.fault ∙ none) fault c h (subst (λ n. BeginsFrom n fault) stands.count from) stands
+pub branch_stands : (s : Setting) (c : Kept) (fault : Option Fault) (memory : ShownMemory) (h : List Entry) → c.fault ≡ None → BeginsFrom c.ticks fault →
+    memory.words ≡ c.memory.words → Stands s c h → Stands (under fault s) (branch_of c fault memory) h
+branch_stands s c fault memory h none from words stands = stands-over (under fault s) (record c { fault = fault }) memory h words
+    (stands-under s (sym stands.fault ∙ none) fault c h (subst (λ n. BeginsFrom n fault) stands.count from) stands)
 
 -- and is a controller
-pub branch_is : (c : Kept) (fault : Option Fault) → c.fault ≡ None → IsNoneOrValid fault → BeginsFrom c.ticks fault → IsController c →
-    IsController (record c { fault = fault })
-branch_is c fault none valid from is = record {
+pub branch_is : (c : Kept) (fault : Option Fault) (memory : ShownMemory) → c.fault ≡ None → IsNoneOrValid fault → BeginsFrom c.ticks fault →
+    memory.words ≡ c.memory.words → (c.lost ≡ true → memory.sure ≡ false) → IsController c → IsController (branch_of c fault memory)
+branch_is c fault memory none valid from words unsure is = record {
   accepted = is.accepted;
   fault = valid;
-  stands = λ kept. let some = is.stands kept in (some.0, some.1, branch_stands _ c fault some.1 none from some.2);
-  unsure = is.unsure;
+  stands = λ kept. let some = is.stands kept in (some.0, some.1, branch_stands _ c fault memory some.1 none from words some.2);
+  unsure = unsure;
 }

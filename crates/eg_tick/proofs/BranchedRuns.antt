@@ -3,6 +3,7 @@
 use Rattle.std.proofs.Common.{◌≡◌, ◌∙◌, sym, ap, subst, ℕ, length, Option, None}
 use Rattle.eg_fault.specs.declared.class.Fault.{Fault}
 use Rattle.eg_word.specs.declared.registers.Trap.{Trap}
+use Rattle.eg_guard.specs.Memory.{ShownMemory}
 use Rattle.eg_record.specs.declared.facts.Facts.{Facts}
 use Rattle.eg_record.specs.Facts.{facts_of}
 use Rattle.eg_model.specs.Premises.{IsProperRun}
@@ -17,16 +18,17 @@ use Rattle.eg_tick.specs.Kept.{ControllerParts}
 use Rattle.eg_tick.specs.Run.{IsAt}
 use Rattle.eg_tick.specs.Facts.{record_facts, IsToldOf}
 use Rattle.eg_tick.specs.Stands.{Stands}
-use Rattle.eg_tick.proofs.BranchLemmas.{proper_run-under, branch_stands}
+use Rattle.eg_tick.proofs.BranchLemmas.{proper_run-under, branch_of, branch_stands}
 
 module _ {S E : Type 0} (b : BenchEngine S) (come_to : ComeTo S E) (r : Run) (none : r.setting.fault ≡ None) (fault : Option Fault) where
-  pub branch_at : (t : ℕ) (c branch : ControllerParts E) → BeginsFrom t fault → branch.kept ≡ record c.kept { fault = fault } →
-      branch.engine ≡ c.engine → IsAt b come_to r t c → IsAt b come_to (record r { setting = under fault r.setting }) t branch
-  branch_at t c branch from kept engine is = record {
+  pub branch_at : (t : ℕ) (c branch : ControllerParts E) (memory : ShownMemory) → BeginsFrom t fault → branch.kept ≡ branch_of c.kept fault memory →
+      memory.words ≡ c.kept.memory.words → branch.engine ≡ c.engine → IsAt b come_to r t c →
+      IsAt b come_to (record r { setting = under fault r.setting }) t branch
+  branch_at t c branch memory from kept words engine is = record {
     stands = subst (Stands (under fault r.setting) branch.kept) (sym alike.entries_are)
         (subst (λ k. Stands (under fault r.setting) k (entries_to b r t)) (sym kept)
-        (branch_stands r.setting c.kept fault (entries_to b r t) (is.stands.fault ∙ none)
-        (subst (λ n. BeginsFrom n fault) (sym (is.stands.count ∙ length-entries b r t)) from) is.stands));
+        (branch_stands r.setting c.kept fault memory (entries_to b r t) (is.stands.fault ∙ none)
+        (subst (λ n. BeginsFrom n fault) (sym (is.stands.count ∙ length-entries b r t)) from) words is.stands));
     engine = engine ∙ is.engine ∙ ap (come_to r.setting.cal.plant) (sym alike.engine_is);
   }
     where

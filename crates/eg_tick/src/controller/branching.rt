@@ -1,5 +1,5 @@
 // A controller that is branched: another goes on from its tick, under a fault that hasn't begun.
-ghost use Rattle.std.specs.Prelude.{◌≡◌, length, List, None, IfOk};
+ghost use Rattle.std.specs.Prelude.{◌≡◌, true, false, length, List, None, IfOk};
 ghost use Rattle.eg_fault.specs.Faults.{IsNoneOrValid};
 ghost use Rattle.eg_model.specs.History.{Setting, Entry};
 ghost use Rattle.eg_model.specs.Branching.{BeginsFrom, under};
@@ -42,10 +42,43 @@ impl<E: CopyEngine + Drop, M: CopyMemory + Drop> Controller<E, M> {
             → IfOk result (λ branch. Stands (under fault s) branch.kept h) }
     {
         let memory = self.memory.copy(alloc)?;
+        Ok(self.branch_over(memory, fault))
+    }
+}
+
+impl<E: CopyEngine + Drop, M: Guarded + Drop> Controller<E, M> {
+    /// The memory (docs/CONCEPT.md, "Guarded memory"), for whoever makes another of the same words.
+    pub fn memory(&self) -> &M
+        ensures { M.shows result.now ≡ self.now.kept.memory }
+    {
+        &self.memory
+    }
+
+    /// The same as `branch` over another memory, of whatever kind, that shows the same words
+    /// (docs/CONCEPT.md, "The controller"). It is no sure one where memory has run out in this controller.
+    /// It takes no memory and refuses nothing.
+    pub fn branch_over<N: Guarded + Drop>(
+        &self,
+        memory: N,
+        fault: Option<Fault>,
+    ) -> Controller<E, N>
+        requires none { self.now.kept.fault ≡ None }
+        requires valid { IsNoneOrValid fault }
+        requires onset { BeginsFrom self.now.kept.ticks fault }
+        requires words { (N.shows memory).words ≡ self.now.kept.memory.words }
+        requires unsure { self.now.kept.lost ≡ true → (N.shows memory).sure ≡ false }
+        // All that it keeps is the same but fault and memory, and its engine is equal.
+        ensures kept { result.kept
+            ≡ record self.now.kept { fault = fault; memory = N.shows memory } }
+        ensures engine { result.engine ≡ self.now.engine }
+        // Whichever history this one stands for, the branch stands for it under the fault.
+        ensures stands { (s : Setting) (h : List Entry) → Stands s self.now.kept h
+            → Stands (under fault s) result.kept h }
+    {
         let calibration = self.calibration.copy();
         let level2 = Level2::new(calibration.rules().copy(), calibration.questions().copy());
         let engine = self.engine.copy();
-        Ok(Controller {
+        Controller {
             calibration,
             fault,
             level2,
@@ -57,7 +90,7 @@ impl<E: CopyEngine + Drop, M: CopyMemory + Drop> Controller<E, M> {
             ticks: self.ticks,
             trap: self.trap,
             lost: self.lost,
-        })
+        }
     }
 }
 
