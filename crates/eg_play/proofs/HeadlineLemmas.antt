@@ -16,8 +16,10 @@ use Rattle.eg_model.specs.Records.{IsRun}
 use Rattle.eg_model.proofs.GasolineLaws.{gasoline_keeps, gasoline_shows_one_load}
 use Rattle.eg_model.proofs.DieselLaws.{diesel_keeps, diesel_shows_one_load}
 use Rattle.eg_model.proofs.RecordLaws.{records_react, records_react_at_once, records_cut_sharply, records_cut_from_onset, records_cut_lapses, records_have_short_lapses, records_test_unpowered, records_pass_tests}
+use Rattle.eg_model.proofs.AvailabilityRecords.{records_stay_available}
 use Rattle.eg_model.proofs.FindingRecords.{records_find_before_off, records_find_failures, records_find_from_onset, records_tell_flips}
 use Rattle.eg_model.proofs.FindingReports.{reports_name_what_cuts}
+use Rattle.eg_model.proofs.OutputRecords.{records_act_by_outputs}
 use Rattle.eg_model.proofs.PowerCycleLaws.{records_begin_in_turn}
 use Rattle.eg_model.proofs.WholeRecord.{are_rows}
 use Rattle.eg_plan.specs.declared.engine.EngineKind.{EngineKind}
@@ -68,9 +70,11 @@ headline r run valid =
       tells_flips = records_tell_flips (bench_of r.engine) r.run;
       lapses = records_cut_lapses keeps r.run run valid;
       short = records_have_short_lapses keeps r.run run valid;
+      stays_available = records_stay_available keeps (shows_one_load_of r.engine) r.run run valid;
       detects = detects r;
       tells_off = tells_off r;
       names = λ name. reports_name_what_cuts (bench_of r.engine) r.run name;
+      by_outputs = records_act_by_outputs (bench_of r.engine) r.run;
     }
 
 -- the run of a playable input keeps it

@@ -1,6 +1,6 @@
 -- The headline, for the record of one run of either engine with its power cycles; its rows stand newest
 -- first. That no image changes a protected word is said of each slice, by the clause `outside` of
--- `eg_host::Host::slice`.
+-- `eg_host::Host::slice`; that it acts on level 2 by its two outputs alone is said here.
 use Rattle.std.specs.Prelude.{◌≡◌, ℕ, false, List, All, None}
 use Rattle.eg_answer.specs.Times.{reaction_of, HasLapseBound}
 use Rattle.eg_fault.specs.Faults.{IsListed}
@@ -15,10 +15,14 @@ use Rattle.eg_model.specs.Records.{ReactWithin, ReactAtOnce, CutFromOnset, CutOn
 use Rattle.eg_model.specs.Records.{CutLapses, LapsesAreShort, AreOff}
 use Rattle.eg_model.specs.Findings.{FindsBeforeOff, FindsFailure, FindsFromOnset, TellsFlips, NamesWhatCuts}
 use Rattle.eg_model.specs.Lapses.{IsLapse}
+use Rattle.eg_model.specs.Outputs.{with_level1, ActByOutputs}
+use Rattle.eg_model.specs.Availability.{IsSpacedLapse, StaysAvailable}
 use Rattle.eg_campaign.specs.Plays.{EngineRun, rows_of_run, report_of_run}
 
--- What the headline says of the record of a run, by its setting, its rows, and its report under each name.
-pub record Headline (s : Setting) (rows : List Row) (report : List ℕ → Summary) : Type 0 where
+-- What the headline says of the record of a run, by its setting, its rows, its report under each name, and
+-- its rows under each image and slice plan.
+pub record Headline (s : Setting) (rows : List Row) (report : List ℕ → Summary)
+    (rows_under : List ℕ → List (List ℕ) → List Row) : Type 0 where
   -- At each reset a start-up test begins, and with it a test span. Else a drive span begins, at the first
   -- tick of the run and right after a test that has found both paths open; at no other tick does any begin.
   pub cycles : SpansBeginInTurn rows
@@ -54,6 +58,11 @@ pub record Headline (s : Setting) (rows : List Row) (report : List ℕ → Summa
       EachDriveSpan (CutLapses s.cal) rows
   pub short : HasLapseBound s.cal.rules.torque s.cal.times → IsLapse s.fault →
       EachDriveSpan (LapsesAreShort s.cal) rows
+  -- Availability: lapses whose misses lie far enough apart never cut. In each drive span, as long as no watch
+  -- has tripped, wrong answers aren't found; so the stages are off only after a trip, and where no
+  -- full-efficiency excess comes they are on at each tick.
+  pub stays_available : IsSpacedLapse s →
+      EachDriveSpan (StaysAvailable s.cal.rules.kt s.cal.rules.threshold) rows
   -- The report, whatever name it gives the run, names the first detecting monitor and its tick, and the first
   -- tick at which the stages are off while no test is running.
   pub detects : (name : List ℕ) → IsFirstDetection rows (report name).first
@@ -61,7 +70,11 @@ pub record Headline (s : Setting) (rows : List Row) (report : List ℕ → Summa
   -- Where it tells the stages off from a tick on it names a monitor that detected before that tick, unless a
   -- fault that opens a shut-off path by itself has begun; so where it names none, such a fault has.
   pub names : (name : List ℕ) → NamesWhatCuts s.fault (report name)
+  -- Level 1 acts by its two outputs alone: under any other image and slice plan, where the two outputs were
+  -- the same after each tick before some tick, the rows up to that tick are the same but for the outputs.
+  pub by_outputs : (image : List ℕ) (plan : List (List ℕ)) → ActByOutputs rows (rows_under image plan)
 
 -- the record of this run keeps it
 abbrev pub KeepsHeadline : EngineRun → Type 0
 KeepsHeadline r = Headline r.run.setting (rows_of_run r) (λ name. report_of_run name r)
+    (λ image plan. rows_of_run (record r { run = with_level1 image plan r.run }))
