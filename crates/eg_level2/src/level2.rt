@@ -120,8 +120,8 @@ impl Level2 {
     /// Runs the module of this number, 0 to 7, over the memory (docs/CONCEPT.md, "Level 2"). The readings and
     /// the number of the question stand at the input ports and at the link. `tick` is the number of the tick
     /// in its span, and `phase` says what is to be done at it. What disturbs the run is mixed in by exclusive
-    /// or; 0 disturbs nothing. After NoMemory, what was stored stays: the first so many of the run's stores, by
-    /// which no trip is forgotten, and no word that differed from its complement.
+    /// or; 0 disturbs nothing. After NoMemory, what was stored stays: the first so many of the run's stores,
+    /// by which no trip is forgotten, and no word that differed from its complement.
     pub fn module<M: Guarded>(
         &self,
         module: u8,

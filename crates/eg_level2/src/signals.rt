@@ -36,7 +36,8 @@ pub(crate) fn pedal<M: Guarded>(
         ≡ pedal_step (readings_of (M.shows memory.old).words) row disturbance
         (words_of (M.shows memory.old).words)) }
     ensures stopped { (row : TestRow) → test ≡ pedal_result row
-        → OnErr result (AreFirst (signal_stores PEDAL (pedal_step (readings_of (M.shows memory.old).words) row disturbance
+        → OnErr result (AreFirst (signal_stores PEDAL
+        (pedal_step (readings_of (M.shows memory.old).words) row disturbance
         (words_of (M.shows memory.old).words)))
         (word_at (M.shows memory.old).words) (word_at (M.shows memory.new).words)) }
     ensures step { IfOk result (λ step. step ≡ quiet_step) }
@@ -64,7 +65,8 @@ pub(crate) fn permitted<M: Guarded>(
         ≡ permitted_step rules.now (readings_of (M.shows memory.old).words) row disturbance
         (words_of (M.shows memory.old).words)) }
     ensures stopped { (row : TestRow) → test ≡ permitted_result rules.now row
-        → OnErr result (AreFirst (signal_stores PERMITTED (permitted_step rules.now (readings_of (M.shows memory.old).words) row disturbance
+        → OnErr result (AreFirst (signal_stores PERMITTED
+        (permitted_step rules.now (readings_of (M.shows memory.old).words) row disturbance
         (words_of (M.shows memory.old).words)))
         (word_at (M.shows memory.old).words) (word_at (M.shows memory.new).words)) }
     ensures step { IfOk result (λ step. step ≡ quiet_step) }
@@ -91,7 +93,8 @@ pub(crate) fn actual<M: Guarded>(
         ≡ actual_step rules.now (readings_of (M.shows memory.old).words) row disturbance
         (words_of (M.shows memory.old).words)) }
     ensures stopped { (row : TestRow) → test ≡ estimate_result rules.now row
-        → OnErr result (AreFirst (signal_stores ACTUAL (actual_step rules.now (readings_of (M.shows memory.old).words) row disturbance
+        → OnErr result (AreFirst (signal_stores ACTUAL
+        (actual_step rules.now (readings_of (M.shows memory.old).words) row disturbance
         (words_of (M.shows memory.old).words)))
         (word_at (M.shows memory.old).words) (word_at (M.shows memory.new).words)) }
     ensures step { IfOk result (λ step. step ≡ quiet_step) }
@@ -116,7 +119,8 @@ pub(crate) fn excess<M: Guarded>(
         → OnOk result (words_of (M.shows memory.new).words
         ≡ excess_step rules.now row disturbance (words_of (M.shows memory.old).words)) }
     ensures stopped { (row : TestRow) → test ≡ excess_result rules.now row
-        → OnErr result (AreFirst (signal_stores EXCESS (excess_step rules.now row disturbance
+        → OnErr result (AreFirst (signal_stores EXCESS
+        (excess_step rules.now row disturbance
         (words_of (M.shows memory.old).words)))
         (word_at (M.shows memory.old).words) (word_at (M.shows memory.new).words)) }
     ensures step { IfOk result (λ step. step ≡ quiet_step) }
@@ -141,7 +145,8 @@ pub(crate) fn pairs<M: Guarded>(
         ≡ pairs_step rules.now (readings_of (M.shows memory.old).words) row disturbance
         (words_of (M.shows memory.old).words)) }
     ensures stopped { (row : TestRow) → test ≡ pairs_result rules.now row
-        → OnErr result (AreFirst (signal_stores PAIRS (pairs_step rules.now (readings_of (M.shows memory.old).words) row disturbance
+        → OnErr result (AreFirst (signal_stores PAIRS
+        (pairs_step rules.now (readings_of (M.shows memory.old).words) row disturbance
         (words_of (M.shows memory.old).words)))
         (word_at (M.shows memory.old).words) (word_at (M.shows memory.new).words)) }
     ensures step { IfOk result (λ step. step ≡ quiet_step) }
