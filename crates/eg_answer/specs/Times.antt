@@ -88,6 +88,6 @@ TakesBack times periods = 2 * times.weights.up ≤ (periods - 2) * times.weights
 unfoldable pub periods_between_misses : TimeParts → ℕ
 periods_between_misses times = quotient_up (2 * times.weights.up) times.weights.down + 2
 
--- the least distance of misses that never cut, in ticks
+-- the least distance of misses that never cut, in whole periods, as ticks
 unfoldable pub miss_spacing_of : TimeParts → ℕ
 miss_spacing_of times = periods_between_misses times * times.period

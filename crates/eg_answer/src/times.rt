@@ -170,10 +170,10 @@ pub fn lapse_bound(torque: &Weights, times: &Times) -> Option<u32>
     }
 }
 
-/// The least distance in ticks from which on missed runs of level 2 never cut (docs/CONCEPT.md, "Lapses"). A
-/// missed run spoils at most two verdicts, which add `2 * up`; of two misses so many periods apart all
-/// verdicts between but those two are right, and take that back. None exactly where two wrong verdicts are
-/// enough to confirm, `limit <= 2 * up`, or a right one takes nothing.
+/// The least number of whole periods, in ticks, from which on missed runs of level 2 never cut where they lie
+/// so far apart (docs/CONCEPT.md, "Lapses"). A missed run spoils at most two verdicts, which add `2 * up`; of
+/// two misses so many periods apart all verdicts between but those two are right, and take that back. None
+/// exactly where two wrong verdicts are enough to confirm, `limit <= 2 * up`, or a right one takes nothing.
 pub fn miss_spacing(times: &Times) -> Option<u32>
     ensures distance { SomeIff result (HasMissSpacing times.now) (miss_spacing_of times.now) }
     ensures least { (periods : ℕ) → TakesBack times.now periods →

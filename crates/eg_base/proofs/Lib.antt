@@ -1,3 +1,4 @@
 pub mod NamedFilesLemmas
 pub mod PutLemmas
 pub mod StreamLemmas
+pub mod OpenerLemmas

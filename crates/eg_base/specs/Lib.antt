@@ -2,5 +2,6 @@ pub mod Outside
 pub mod Counts
 pub mod Fakes
 pub mod Streams
+pub mod Openers
 pub mod NamedFiles
 pub mod Codes

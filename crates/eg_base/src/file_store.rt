@@ -1,62 +1,74 @@
-// The files of the system as a store.
-ghost use Rattle.std.specs.Prelude.{◌≡◌, ◌++◌, ◌≤◌, List, ℕ, length, take, None, false, OnOk, OnErr, IsErrOf, IfSome};
+// Files that are opened by their names as a store.
+ghost use Rattle.std.specs.Prelude.{◌≡◌, ◌++◌, ◌≤◌, List, ℕ, length, take, false, OnOk, OnErr, IsErrOf, IfSome};
 ghost use Rattle.eg_base.specs.declared.store.ReadRefusal.TheVariants.{Failed, Memory};
 ghost use Rattle.eg_base.specs.Counts.{next_count};
 ghost use Rattle.eg_base.specs.Outside.{Reads, BeginsWith};
 
-use crate::{ReadRefusal, Store};
-use std::fs::File;
+use crate::{Opens, ReadRefusal, Store};
 use std::io::Read;
 use std::marker::Model;
-use std::rt::Files;
 
-/// The files of the system, by their paths. They aren't told, and the store isn't sure.
+/// Files that are opened by their names, as those of the system. They are told where what opens them tells
+/// them, and the store isn't sure.
 ///
-/// Each refusal of the system to open or to read a file is a fault, an interrupted read too. Contracts see
-/// the count of faults alone.
+/// Each refusal to open or to read a file is a fault, an interrupted read too. Contracts see an
+/// `OpenerState`: what opens the files, and the count of faults.
 #[derive(Drop)]
-pub struct FileStore<R: Files + Drop> {
-    rt: R,
+pub struct FileStore<O: Opens + Drop> {
+    opener: O,
     faults: u64,
 }
 
-impl<R: Files + Drop> Model for FileStore<R> {
-    ghost use Rattle.std.specs.Prelude.{ℕ};
+impl<O: Opens + Drop> Model for FileStore<O> {
+    ghost use Rattle.eg_base.specs.Openers.{OpenerState};
 
-    ghost Value = { ℕ };
+    ghost Value = { OpenerState O };
 
-    ghost view = { λ s. s.faults };
+    ghost view = { λ s. record { opener = s.opener; faults = s.faults } };
 }
 
-impl<R: Files + Drop> FileStore<R> {
-    /// The files that this part of the runtime reaches.
-    pub fn new(rt: R) -> FileStore<R>
-        ensures state { result ≡ 0 }
-        ensures shown { ⟦<FileStore<R> as Store>⟧.shows result
-            ≡ record { files = None; faults = 0; sure = false } }
+impl<O: Opens + Drop> FileStore<O> {
+    /// The files that this opens, as a part of the runtime does.
+    pub fn new(opener: O) -> FileStore<O>
+        ensures state { result ≡ record { opener = opener; faults = 0 } }
+        ensures shown { ⟦<FileStore<O> as Store>⟧.shows result
+            ≡ record { files = O.files opener; faults = 0; sure = false } }
     {
-        FileStore { rt, faults: 0 }
+        FileStore { opener, faults: 0 }
+    }
+
+    /// Appends the first `most` bytes of the file of that name, or all where they are fewer.
+    #[tactic(auto, using(crate::proofs::OpenerLemmas::opened))]
+    fn append(&self, name: &str, most: usize, into: &mut Vec<u8>) -> Result<(), ReadRefusal>
+        ensures ok { OnOk result
+            (Reads (O.files self.now.opener) name.now most into.old.items into.new.items) }
+        ensures kept { OnErr result (BeginsWith into.old.items into.new.items) }
+    {
+        match self.opener.open(name) {
+            Some(mut file) => append_from(&mut file, most, into),
+            None => Err(ReadRefusal::Failed),
+        }
     }
 }
 
-impl<R: Files + Drop> Store for FileStore<R> {
-    ghost shows = { λ s. record { files = None; faults = s; sure = false } };
+impl<O: Opens + Drop> Store for FileStore<O> {
+    ghost shows = { λ s. record { files = O.files s.opener; faults = s.faults; sure = false } };
 
     fn read(&mut self, name: &str, most: usize, into: &mut Vec<u8>) -> Result<(), ReadRefusal>
         // Each Failed is a fault, and nothing else is.
-        ensures fault { IsErrOf result Failed → self.new ≡ next_count self.old }
+        ensures fault { IsErrOf result Failed
+            → self.new ≡ record self.old { faults = next_count self.old.faults } }
         ensures no_fault { OnOk result (self.new ≡ self.old) }
         ensures memory { IsErrOf result Memory → self.new ≡ self.old }
-        ensures count { self.old ≤ self.new }
+        ensures count { self.old.faults ≤ self.new.faults }
+        ensures opener { self.new.opener ≡ self.old.opener }
 
         // What the buffer holds afterwards.
-        ensures ok { OnOk result (Reads None name.now most into.old.items into.new.items) }
+        ensures ok { OnOk result
+            (Reads (O.files self.old.opener) name.now most into.old.items into.new.items) }
         ensures kept { OnErr result (BeginsWith into.old.items into.new.items) }
     {
-        let outcome = match File::open(&self.rt, name) {
-            Ok(mut file) => append_from(&mut file, most, into),
-            Err(_) => Err(ReadRefusal::Failed),
-        };
+        let outcome = self.append(name, most, into);
         if let Err(ReadRefusal::Failed) = outcome {
             self.faults = self.faults.saturating_add(1);
         }
