@@ -8,6 +8,7 @@ use Rattle.std.proofs.lemmas.List.{length-append, length-take-le}
 use Rattle.eg_num.specs.Drive.{DriveRow}
 use Rattle.eg_fault.specs.declared.class.Fault.{Fault}
 use Rattle.eg_values.specs.Calibration.{CalibrationParts}
+use Rattle.eg_guard.specs.Memory.{ShownMemory}
 use Rattle.eg_word.specs.declared.registers.Trap.{Trap}
 use Rattle.eg_record.specs.declared.row.Row.{Row}
 use Rattle.eg_record.specs.declared.facts.Facts.{Facts}
@@ -27,8 +28,9 @@ use Rattle.eg_tick.specs.Run.{run_by, IsAt}
 use Rattle.eg_tick.specs.Facts.{IsToldOf}
 use Rattle.eg_tick.proofs.RunLemmas.{counted, counted-none, drive-at, more-mod}
 use Rattle.eg_tick.proofs.FactLaws.{counted-next, told}
+use Rattle.eg_tick.proofs.BranchLemmas.{branch_of}
 use Rattle.eg_tick.proofs.BranchedRuns.{branch_at}
-use Rattle.eg_campaign.specs.declared.checkpoints.Checkpoint.{Checkpoint}
+use Rattle.eg_campaign.specs.declared.checkpoints.Played.{Played}
 use Rattle.eg_campaign.specs.declared.checkpoints.Shared.{Shared}
 use Rattle.eg_campaign.specs.declared.checkpoints.TheConstants.{CHECKPOINT_TICKS}
 use Rattle.eg_campaign.specs.declared.play.RunInput.{RunInput}
@@ -108,7 +110,7 @@ module _ {S E : Type 0} (b : BenchEngine S) (come_to : ComeTo S E) (r : Run) whe
 
   -- ---- what was played ----
 
-  pub played_next : (t : ℕ) (old new : Checkpoint E) (row : Row) → HasPlayed b come_to r t old → row ≡ row_at b r t →
+  pub played_next : {M : Type 0} (t : ℕ) (old new : Played E M) (row : Row) → HasPlayed b come_to r t old → row ≡ row_at b r t →
       IsAt b come_to r (t + 1) new.controller → new.controller.kept.ticks ≡ t + 1 →
       new.tally.threshold ≡ old.tally.threshold → new.tally.weights ≡ old.tally.weights → new.tally.facts.ticks ≡ old.tally.facts.ticks + 1 →
       ((rows : List Row) → IsTallyOf old.tally rows → IsTallyOf new.tally (row ∷ rows)) → HasPlayed b come_to r (t + 1) new
@@ -122,7 +124,7 @@ module _ {S E : Type 0} (b : BenchEngine S) (come_to : ComeTo S E) (r : Run) whe
         (stands (rows_to b r t) played.tally);
   }
 
-  pub made_none : (t : ℕ) (played : Checkpoint E) (was : TickCount) → was.count < 2 ^ 64 → was.weights < 2 ^ 64 → HasPlayed b come_to r t played →
+  pub made_none : {M : Type 0} (t : ℕ) (played : Played E M) (was : TickCount) → was.count < 2 ^ 64 → was.weights < 2 ^ 64 → HasPlayed b come_to r t played →
       HasMade b come_to r t t played was was
   made_none t played was count weights is = record {
     least = omega arith;
@@ -130,7 +132,7 @@ module _ {S E : Type 0} (b : BenchEngine S) (come_to : ComeTo S E) (r : Run) whe
     counted = counted_none was (rows_between b r t t) (rows_between-none t) count weights;
   }
 
-  pub made_next : (from t : ℕ) (old new : Checkpoint E) (was is now : TickCount) (row : Row) → HasMade b come_to r from t old was is →
+  pub made_next : {M : Type 0} (from t : ℕ) (old new : Played E M) (was is now : TickCount) (row : Row) → HasMade b come_to r from t old was is →
       row ≡ row_at b r t → HasPlayed b come_to r (t + 1) new →
       now.count ≡ (is.count + 1) % 2 ^ 64 → now.weights ≡ (is.weights + weight_of row) % 2 ^ 64 → HasMade b come_to r from (t + 1) new was now
   made_next from t old new was is now row made here played count weight = record {
@@ -141,20 +143,20 @@ module _ {S E : Type 0} (b : BenchEngine S) (come_to : ComeTo S E) (r : Run) whe
   }
 
   -- how many ticks were counted, also where the next one was stopped
-  pub made_count : (from t : ℕ) (played : Checkpoint E) (was is : TickCount) → HasMade b come_to r from t played was is →
+  pub made_count : {M : Type 0} (from t : ℕ) (played : Played E M) (was is : TickCount) → HasMade b come_to r from t played was is →
       is.count ≡ (was.count + (t - from)) % 2 ^ 64
   made_count from t played was is made = ap (λ (k : TickCount). k.count) made.counted ∙ ap (λ n. (was.count + n) % 2 ^ 64) (length-between from t)
 
-  pub made_stop : (from t : ℕ) (played : Checkpoint E) (was is now : TickCount) → HasMade b come_to r from t played was is →
+  pub made_stop : {M : Type 0} (from t : ℕ) (played : Played E M) (was is now : TickCount) → HasMade b come_to r from t played was is →
       now.count ≡ (is.count + 1) % 2 ^ 64 → now.count ≡ (was.count + (t - from + 1)) % 2 ^ 64
   made_stop from t played was is now made count = count ∙ more-mod (2 ^ 64) was.count (t - from) is.count 1 (made_count from t played was is made)
 
   -- all of the run was played from its first tick on
-  pub made_all : (played : Checkpoint E) (was is : TickCount) → HasMade b come_to r 0 (length r.drive) played was is → is ≡ count_with was (record_rows b r)
+  pub made_all : {M : Type 0} (played : Played E M) (was is : TickCount) → HasMade b come_to r 0 (length r.drive) played was is → is ≡ count_with was (record_rows b r)
   made_all played was is made = made.counted ∙ ap (count_with was) (rows_between-all (length r.drive) ∙ sym (record_rows-is b r))
 
   -- what is told of a run that was played to its end
-  pub told_at : (played : Checkpoint E) (facts : Facts) (trap : Option (Trap × ℕ)) → HasPlayed b come_to r (length r.drive) played →
+  pub told_at : {M : Type 0} (played : Played E M) (facts : Facts) (trap : Option (Trap × ℕ)) → HasPlayed b come_to r (length r.drive) played →
       ((rows : List Row) → IsTallyOf played.tally rows → facts ≡ facts_of played.tally.weights played.tally.threshold rows) →
       trap ≡ played.controller.kept.trap → IsToldOf b r facts trap
   told_at played facts trap is facts_are trap_is = told b come_to r played.controller facts trap is.at
@@ -163,14 +165,14 @@ module _ {S E : Type 0} (b : BenchEngine S) (come_to : ComeTo S E) (r : Run) whe
 
   -- ---- what is kept ----
 
-  pub kept_none : (kept : List (Checkpoint E)) → kept ≡ [] → AreCheckpoints b come_to r 0 kept
+  pub kept_none : {M : Type 0} (kept : List (Played E M)) → kept ≡ [] → AreCheckpoints b come_to r 0 kept
   kept_none kept none = subst (AreCheckpoints b come_to r 0) (sym none) (record {
     enough = omega arith;
     no_more = omega arith;
     each = λ k below d. absurd (omega (arith, below));
   })
 
-  pub kept_more : (t : ℕ) (kept after : List (Checkpoint E)) (one : Checkpoint E) → after ≡ kept ++ one ∷ [] → t % CHECKPOINT_TICKS ≡ 0 →
+  pub kept_more : {M : Type 0} (t : ℕ) (kept after : List (Played E M)) (one : Played E M) → after ≡ kept ++ one ∷ [] → t % CHECKPOINT_TICKS ≡ 0 →
       HasPlayed b come_to r t one → AreCheckpoints b come_to r t kept → AreCheckpoints b come_to r (t + 1) after
   kept_more t kept after one pushed whole played are =
       let long : length (kept ++ one ∷ []) ≡ length kept + 1 = length-append kept (one ∷ []) in
@@ -188,14 +190,15 @@ module _ {S E : Type 0} (b : BenchEngine S) (come_to : ComeTo S E) (r : Run) whe
 
 module _ {S E : Type 0} (b : BenchEngine S) (come_to : ComeTo S E) (r : Run) where
   -- a branch under a fault has played the run under it
-  pub branched_at : (t : ℕ) (fault : Option Fault) (old new : Checkpoint E) → old.controller.kept.fault ≡ None → BeginsFrom old.controller.kept.ticks fault →
-      new.controller.kept ≡ record old.controller.kept { fault = fault } → new.controller.engine ≡ old.controller.engine → new.tally ≡ old.tally →
-      HasPlayed b come_to r t old → HasPlayed b come_to (run_under fault r) t new
-  branched_at t fault old new without from kept engine same is =
+  pub branched_at : {M N : Type 0} (t : ℕ) (fault : Option Fault) (memory : ShownMemory) (old : Played E M) (new : Played E N) →
+      old.controller.kept.fault ≡ None → BeginsFrom old.controller.kept.ticks fault →
+      new.controller.kept ≡ branch_of old.controller.kept fault memory → memory.words ≡ old.controller.kept.memory.words →
+      new.controller.engine ≡ old.controller.engine → new.tally ≡ old.tally → HasPlayed b come_to r t old → HasPlayed b come_to (run_under fault r) t new
+  branched_at t fault memory old new without from kept words engine same is =
       let none : r.setting.fault ≡ None = sym is.at.stands.fault ∙ without in
       let begins : BeginsFrom t fault = subst (λ n. BeginsFrom n fault) is.ticks from in
       record {
-        at = branch_at b come_to r none fault t old.controller new.controller begins kept engine is.at;
+        at = branch_at b come_to r none fault t old.controller new.controller memory begins kept words engine is.at;
         ticks = ap (λ (k : Kept). k.ticks) kept ∙ is.ticks;
         threshold = ap (λ (p : TallyParts). p.threshold) same ∙ is.threshold;
         weights = ap (λ (p : TallyParts). p.weights) same ∙ is.weights;
@@ -212,7 +215,7 @@ module _ {S E : Type 0} (b : BenchEngine S) (come_to : ComeTo S E) (r : Run) whe
 module _ {S E : Type 0} (b : BenchEngine S) (come_to : ComeTo S E) (cal : CalibrationParts) (input : RunInput) (fault : Fault)
     (is : input.plan.fault ≡ Some fault) (within : fault.onset < length input.drive) where
   pub played_under : (shared : Shared E) → IsSharedBy b come_to (run_with cal (faultless input)).run shared →
-      (copy : Fault) → copy ≡ fault → (from branch : Checkpoint E) → from ≡ slice_index_or shared.checkpoints.items (fault.onset / CHECKPOINT_TICKS) from →
+      (copy : Fault) → copy ≡ fault → {N : Type 0} (from : Played E (List ℕ)) (branch : Played E N) → from ≡ slice_index_or shared.checkpoints.items (fault.onset / CHECKPOINT_TICKS) from →
       ((r : Run) (t : ℕ) → HasPlayed b come_to r t from → HasPlayed b come_to (run_under (Some copy) r) t branch) →
       HasPlayed b come_to (run_with cal input).run (fault.onset / CHECKPOINT_TICKS * CHECKPOINT_TICKS) branch
   played_under shared kept copy same from branch at branched =

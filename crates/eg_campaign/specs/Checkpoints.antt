@@ -13,7 +13,7 @@ use Rattle.eg_tick.specs.Weights.{TickCount}
 use Rattle.eg_tick.specs.Benched.{ComeTo}
 use Rattle.eg_tick.specs.Run.{IsAt}
 use Rattle.eg_tick.specs.Facts.{IsToldOf}
-use Rattle.eg_campaign.specs.declared.checkpoints.Checkpoint.{Checkpoint}
+use Rattle.eg_campaign.specs.declared.checkpoints.Played.{Played}
 use Rattle.eg_campaign.specs.declared.checkpoints.Shared.{Shared}
 use Rattle.eg_campaign.specs.declared.checkpoints.TheConstants.{CHECKPOINT_TICKS}
 use Rattle.eg_campaign.specs.declared.play.RunInput.{RunInput}
@@ -33,8 +33,8 @@ pub record GoesBy (input : RunInput) (r : Run) : Type 0 where
 
 -- Of a run of this engine so many ticks were played: the controller has come to the last of them, and the
 -- tally, which goes by the calibration of the run, stands for their rows.
-pub record HasPlayed {S E : Type 0} (b : BenchEngine S) (come_to : ComeTo S E) (r : Run) (t : ℕ)
-    (played : Checkpoint E) : Type 0 where
+pub record HasPlayed {S E M : Type 0} (b : BenchEngine S) (come_to : ComeTo S E) (r : Run) (t : ℕ)
+    (played : Played E M) : Type 0 where
   pub at : IsAt b come_to r t played.controller
   pub ticks : played.controller.kept.ticks ≡ t
   pub threshold : played.tally.threshold ≡ r.setting.cal.rules.threshold
@@ -47,8 +47,8 @@ unfoldable pub rows_between : {S : Type 0} → BenchEngine S → Run → (from t
 rows_between b r from t = take (t - from) (rows_to b r t)
 
 -- A run of this engine was played from tick `from` on, up to tick t, and these ticks were counted.
-pub record HasMade {S E : Type 0} (b : BenchEngine S) (come_to : ComeTo S E) (r : Run) (from t : ℕ)
-    (played : Checkpoint E) (was is : TickCount) : Type 0 where
+pub record HasMade {S E M : Type 0} (b : BenchEngine S) (come_to : ComeTo S E) (r : Run) (from t : ℕ)
+    (played : Played E M) (was is : TickCount) : Type 0 where
   pub least : from ≤ t
   pub to : HasPlayed b come_to r t played
   pub counted : is ≡ count_with was (rows_between b r from t)
@@ -56,11 +56,11 @@ pub record HasMade {S E : Type 0} (b : BenchEngine S) (come_to : ComeTo S E) (r 
 -- ---- what is kept of it ----
 
 -- What is kept of the first n ticks of a run: what was played at tick 0, and at each hundredth tick below n.
-pub record AreCheckpoints {S E : Type 0} (b : BenchEngine S) (come_to : ComeTo S E) (r : Run) (n : ℕ)
-    (kept : List (Checkpoint E)) : Type 0 where
+pub record AreCheckpoints {S E M : Type 0} (b : BenchEngine S) (come_to : ComeTo S E) (r : Run) (n : ℕ)
+    (kept : List (Played E M)) : Type 0 where
   pub enough : n ≤ length kept * CHECKPOINT_TICKS
   pub no_more : length kept * CHECKPOINT_TICKS < n + CHECKPOINT_TICKS
-  pub each : (k : ℕ) → k < length kept → (d : Checkpoint E) →
+  pub each : (k : ℕ) → k < length kept → (d : Played E M) →
       HasPlayed b come_to r (k * CHECKPOINT_TICKS) (slice_index_or kept k d)
 
 -- what is shared of a run: its checkpoints, its facts and its trap

@@ -1,5 +1,5 @@
 // The run without a fault of a group, and runs under faults that go on from it.
-ghost use Rattle.std.specs.Prelude.{◌≡◌, ℕ, ◌+◌, ◌-◌, ◌%◌, ◌^◌, ◌≤◌, ◌<◌, None, Some, length, IfOk, OnOk, OnErr, IsOk};
+ghost use Rattle.std.specs.Prelude.{◌≡◌, ℕ, ◌+◌, ◌%◌, ◌^◌, ◌≤◌, ◌<◌, false, None, length, IfOk, OnOk, OnErr, IsOk, IsTrue};
 ghost use Rattle.eg_fault.specs.Faults.{IsNoneOrValid};
 ghost use Rattle.eg_values.specs.Calibration.{CalibrationParts};
 ghost use Rattle.eg_model.specs.Bench.{Run};
@@ -14,6 +14,7 @@ ghost use Rattle.eg_campaign.specs.Checkpoints.{run_under, GoesBy, HasPlayed, Ha
 use crate::RunInput;
 use eg_base::NoMemory;
 use eg_fault::Fault;
+use eg_guard::{FlatMemory, Guarded};
 use eg_pages::PagedMemory;
 use eg_plant::CopyEngine;
 use eg_record::{Facts, Tally};
@@ -27,10 +28,13 @@ pub(crate) const CHECKPOINT_TICKS: usize = 100;
 
 /// What was played of a run, up to a tick: who goes on with it, and the tally of its rows.
 #[derive(Drop)]
-pub(crate) struct Checkpoint<E: BenchedEngine + CopyEngine> {
-    controller: Controller<E, PagedMemory>,
+pub(crate) struct Played<E: BenchedEngine + CopyEngine, M: Guarded + Drop> {
+    controller: Controller<E, M>,
     tally: Tally,
 }
+
+/// What is kept of a run: its memory is in pages, so that what stays the same is meant to be kept once.
+pub(crate) type Checkpoint<E> = Played<E, PagedMemory>;
 
 /// The run without a fault of a group: its facts, its trap, and where runs under faults go on from.
 #[derive(Drop)]
@@ -108,33 +112,52 @@ fn keep<E: BenchedEngine + CopyEngine>(
     if tick % CHECKPOINT_TICKS != 0 {
         return Ok(());
     }
-    let checkpoint = branched(alloc, played, None)?;
-    kept.push(checkpoint)?;
+    keep_copy(alloc, kept, played)
+}
+
+/// The same at such a tick. It is called, so that its large locals are set to 0 there alone.
+#[inline(never)]
+fn keep_copy<E: BenchedEngine + CopyEngine>(
+    alloc: Global,
+    kept: &mut Vec<Checkpoint<E>>,
+    played: &Checkpoint<E>,
+) -> Result<(), NoMemory>
+    requires { played.now.controller.kept.fault ≡ None }
+    ensures { (r : Run) (t : ℕ) → t % CHECKPOINT_TICKS ≡ 0 → HasPlayed E.bench E.come_to r t played.now →
+        AreCheckpoints E.bench E.come_to r t kept.old.items →
+        OnOk result (AreCheckpoints E.bench E.come_to r (t + 1) kept.new.items) }
+{
+    let controller = played.controller.branch(alloc, None)?;
+    let tally = played.tally;
+    kept.push(Played { controller, tally })?;
     Ok(())
 }
 
-/// Another that goes on from where a run without a fault was played up to, under this fault.
-fn branched<E: BenchedEngine + CopyEngine>(
-    alloc: Global,
-    played: &Checkpoint<E>,
+/// Goes on under this fault from where a run without one was kept. The memory is one array now: it is copied
+/// once, and each tick is shorter for it. It takes no memory and refuses nothing.
+fn go_on<E: BenchedEngine + CopyEngine>(
+    kept: &Checkpoint<E>,
     fault: Option<Fault>,
-) -> Result<Checkpoint<E>, NoMemory>
-    requires none { played.now.controller.kept.fault ≡ None }
+) -> Played<E, FlatMemory>
+    requires none { kept.now.controller.kept.fault ≡ None }
     requires valid { IsNoneOrValid fault }
-    requires onset { BeginsFrom played.now.controller.kept.ticks fault }
-    ensures { (r : Run) (t : ℕ) → HasPlayed E.bench E.come_to r t played.now →
-        IfOk result (HasPlayed E.bench E.come_to (run_under fault r) t) }
+    requires onset { BeginsFrom kept.now.controller.kept.ticks fault }
+    requires held { kept.now.controller.kept.lost ≡ false }
+    ensures played { (r : Run) (t : ℕ) → HasPlayed E.bench E.come_to r t kept.now →
+        HasPlayed E.bench E.come_to (run_under fault r) t result }
+    ensures sure { IsTrue result.controller.kept.memory.sure }
 {
-    let controller = played.controller.branch(alloc, fault)?;
-    Ok(Checkpoint {
-        controller,
-        tally: played.tally,
-    })
+    let memory = kept.controller.memory().flat();
+    Played {
+        controller: kept.controller.branch_over(memory, fault),
+        tally: kept.tally,
+    }
 }
 
-/// Plays the next tick of the run of an input.
-fn play_tick<E: BenchedEngine + CopyEngine>(
-    played: &mut Checkpoint<E>,
+/// Plays the next tick of the run of an input. NoMemory never comes over a sure memory.
+#[inline(always)]
+fn play_tick<E: BenchedEngine + CopyEngine, M: Guarded + Drop>(
+    played: &mut Played<E, M>,
     input: &RunInput,
     tick: usize,
     steps: &mut Ticks,
@@ -146,6 +169,9 @@ fn play_tick<E: BenchedEngine + CopyEngine>(
         HasMade E.bench E.come_to r from tick played.old was steps.old →
         OnOk result (HasMade E.bench E.come_to r from (tick + 1) played.new was steps.new) }
     ensures count { steps.new.count ≡ (steps.old.count + 1) % 2 ^ 64 }
+    ensures sure { IsTrue played.old.controller.kept.memory.sure → IsOk result }
+    ensures stays_sure { played.new.controller.kept.memory.sure
+        ≡ played.old.controller.kept.memory.sure }
 {
     let (plan, drive) = (&input.plan.plan, &input.drive.as_slice()[tick]);
     let row = bench_tick(&mut played.controller, plan, drive, tick as u32, steps)?;
@@ -155,92 +181,77 @@ fn play_tick<E: BenchedEngine + CopyEngine>(
 
 /// Plays the run of another input of the group: from the last checkpoint on that isn't after the onset of
 /// its fault. Where it has no fault, or one that begins after the run, nothing is played, and what is told is
-/// what the run without a fault tells. The ticks are counted in `steps`. NoMemory is its one refusal.
+/// what the run without a fault tells. The ticks are counted in `steps`. It takes no memory and refuses
+/// nothing.
 pub(crate) fn play_from<E: BenchedEngine + CopyEngine>(
-    alloc: Global,
     shared: &Shared<E>,
     input: &RunInput,
     steps: &mut Ticks,
-) -> Result<(Facts, Option<(Trap, u32)>), NoMemory>
+) -> (Facts, Option<(Trap, u32)>)
     requires playable { IsPlayable input.now }
     requires shared { (cal : CalibrationParts)
         × IsSharedFor E.bench E.come_to cal input.now shared.now }
     ensures told { (cal : CalibrationParts) →
         IsSharedFor E.bench E.come_to cal input.now shared.now →
-        IfOk result (λ told. IsToldOf E.bench (run_with cal input.now).run told.0 told.1) }
+        IsToldOf E.bench (run_with cal input.now).run result.0 result.1 }
     ensures counted { (cal : CalibrationParts) →
         IsSharedFor E.bench E.come_to cal input.now shared.now →
-        OnOk result (steps.new ≡ count_with steps.old (own_on E.bench cal input.now)) }
-    ensures count { (cal : CalibrationParts) →
-        IsSharedFor E.bench E.come_to cal input.now shared.now →
-        OnErr result ((n : ℕ) × (n ≤ length (own_on E.bench cal input.now))
-        × (steps.new.count ≡ (steps.old.count + n) % 2 ^ 64)) }
-    // Where nothing is played no memory is taken.
-    ensures idle { BeginsFrom (length input.now.drive) input.now.plan.fault → IsOk result }
+        steps.new ≡ count_with steps.old (own_on E.bench cal input.now) }
 {
     // Whoever reads them learns that both numbers are a u64.
     let _numbers = (steps.count(), steps.sum());
     let Some(fault) = &input.plan.fault else {
-        return Ok((shared.facts, shared.trap));
+        return (shared.facts, shared.trap);
     };
     if fault.onset as usize >= input.drive.as_slice().len() {
-        return Ok((shared.facts, shared.trap));
+        return (shared.facts, shared.trap);
     }
-    play_under(alloc, shared, input, fault, steps)
-}
-
-/// The same where it has this fault, which begins within the run.
-fn play_under<E: BenchedEngine + CopyEngine>(
-    alloc: Global,
-    shared: &Shared<E>,
-    input: &RunInput,
-    fault: &Fault,
-    steps: &mut Ticks,
-) -> Result<(Facts, Option<(Trap, u32)>), NoMemory>
-    requires playable { IsPlayable input.now }
-    requires fault { input.now.plan.fault ≡ Some fault.now }
-    requires within { fault.now.onset < length input.now.drive }
-    requires shared { (cal : CalibrationParts)
-        × IsSharedFor E.bench E.come_to cal input.now shared.now }
-    ensures told { (cal : CalibrationParts) →
-        IsSharedFor E.bench E.come_to cal input.now shared.now →
-        IfOk result (λ told. IsToldOf E.bench (run_with cal input.now).run told.0 told.1) }
-    ensures counted { (cal : CalibrationParts) →
-        IsSharedFor E.bench E.come_to cal input.now shared.now →
-        OnOk result (steps.new ≡ count_with steps.old (own_on E.bench cal input.now)) }
-    ensures count { (cal : CalibrationParts) →
-        IsSharedFor E.bench E.come_to cal input.now shared.now →
-        OnErr result ((n : ℕ) × (n ≤ length (own_on E.bench cal input.now))
-        × (steps.new.count ≡ (steps.old.count + n) % 2 ^ 64)) }
-{
-    // Whoever reads it learns that the count is a u64.
-    let _count = steps.count();
     let place = fault.onset as usize / CHECKPOINT_TICKS;
-    let mut played = branched(alloc, &shared.checkpoints[place], Some(fault.copy()))?;
-    play_on(&mut played, input, place * CHECKPOINT_TICKS, steps)?;
-    Ok((played.tally.facts(), played.controller.trap()))
+    let mut played = go_on(&shared.checkpoints[place], Some(fault.copy()));
+    play_on(&mut played, input, place * CHECKPOINT_TICKS, steps);
+    (played.tally.facts(), played.controller.trap())
 }
 
 /// Plays the ticks of the run of an input from one on.
 fn play_on<E: BenchedEngine + CopyEngine>(
-    played: &mut Checkpoint<E>,
+    played: &mut Played<E, FlatMemory>,
     input: &RunInput,
     from: usize,
     steps: &mut Ticks,
-) -> Result<(), NoMemory>
+)
     requires playable { IsPlayable input.now }
     requires within { from ≤ length input.now.drive }
+    requires sure { IsTrue played.old.controller.kept.memory.sure }
     requires run { (r : Run) × GoesBy input.now r × HasPlayed E.bench E.come_to r from played.old }
-    ensures made { (r : Run) → GoesBy input.now r → HasPlayed E.bench E.come_to r from played.old →
-        OnOk result
-        (HasMade E.bench E.come_to r from (length r.drive) played.new steps.old steps.new) }
-    ensures count { OnErr result ((n : ℕ) × (n ≤ length input.now.drive - from)
-        × (steps.new.count ≡ (steps.old.count + n) % 2 ^ 64)) }
+    ensures { (r : Run) → GoesBy input.now r → HasPlayed E.bench E.come_to r from played.old →
+        HasMade E.bench E.come_to r from (length r.drive) played.new steps.old steps.new }
 {
     // Whoever reads them learns that both numbers are a u64.
     let _numbers = (steps.count(), steps.sum());
     for tick in from..input.drive.as_slice().len() {
-        play_tick(played, input, tick, steps)?;
+        play_row(played, input, tick, steps);
     }
-    Ok(())
+}
+
+/// Plays the next tick of the run of an input over a sure memory.
+#[inline(always)]
+fn play_row<E: BenchedEngine + CopyEngine>(
+    played: &mut Played<E, FlatMemory>,
+    input: &RunInput,
+    tick: usize,
+    steps: &mut Ticks,
+)
+    requires playable { IsPlayable input.now }
+    requires within { tick < length input.now.drive }
+    requires sure { IsTrue played.old.controller.kept.memory.sure }
+    requires run { (r : Run) × GoesBy input.now r × HasPlayed E.bench E.come_to r tick played.old }
+    ensures made { (r : Run) (from : ℕ) (was : TickCount) → GoesBy input.now r →
+        HasMade E.bench E.come_to r from tick played.old was steps.old →
+        HasMade E.bench E.come_to r from (tick + 1) played.new was steps.new }
+    ensures stays_sure { IsTrue played.new.controller.kept.memory.sure }
+{
+    match play_tick(played, input, tick, steps) {
+        Ok(()) => (),
+        Err(_) => unreachable!("a sure memory never runs out"),
+    }
 }

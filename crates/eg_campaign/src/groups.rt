@@ -134,7 +134,7 @@ fn play_group<E: BenchedEngine + CopyEngine>(
         if !is_alike(input, other) {
             continue;
         }
-        let one = play_from(alloc, &shared, other, steps)?;
+        let one = play_from(&shared, other, steps);
         told[i] = Some(one);
     }
     Ok(())

@@ -1,10 +1,15 @@
-use Rattle.std.proofs.Common.{◌<◌, ◌≤◌, refl, sym, subst, length}
+use Rattle.std.proofs.Common.{◌≡◌, ◌∙◌, ◌*◌, ◌/◌, ◌<◌, ◌≤◌, refl, sym, ap, subst, length, Some}
 use Rattle.eg_model.specs.Branching.{BeginsFrom}
 use Rattle.eg_model.specs.Rows.{record_rows}
+use Rattle.eg_model.specs.Bench.{Run}
+use Rattle.eg_values.specs.Calibration.{CalibrationParts}
 use Rattle.eg_tick.proofs.BranchedRuns.{told_under}
 use Rattle.eg_campaign.specs.Plays.{run_with}
-use Rattle.eg_campaign.specs.Groups.{faultless, rows_under}
-use Rattle.eg_campaign.proofs.CheckpointLemmas.{counted_none, never_begins, makes_none}
+use Rattle.eg_campaign.specs.declared.checkpoints.TheConstants.{CHECKPOINT_TICKS}
+use Rattle.eg_campaign.specs.Groups.{faultless, rows_under, count_with}
+use Rattle.eg_campaign.specs.Checkpoints.{HasMade, IsSharedFor}
+use Rattle.eg_campaign.proofs.CheckpointLemmas.{counted_none, never_begins, makes_none, played_under, rows-are, told_at}
+use Rattle.eg_campaign.proofs.checkpoints.play_from.Given.{Over}
 use Rattle.eg_campaign.proofs.checkpoints.play_from.Goals as goal
 
 pub returns-in_default-clause-counted : goal.returns-in_default-clause-counted
@@ -33,3 +38,28 @@ returns-then-fault-as_slice-clause-counted g c = λ cal shared.
     counted_none c.args.steps.now (rows_under x.plan.fault (length x.drive) rows) (makes_none (length x.drive) x.plan.fault rows begins)
     (let e = c.count.ensures in let l = c.count.type_inv in subst (λ n. n < 18446744073709551616) e l)
     (let e = c.sum.ensures in let l = c.sum.type_inv in subst (λ n. n < 18446744073709551616) e l)
+
+-- the fault begins within the run
+within : (g : Over) (c : goal.After-play_on g) → c.in-Some.fault.onset < length c.args.input.now.drive
+within g c = subst (λ d. c.in-Some.fault.onset < length d) c.as_slice.ensures c.if-fault-as_slice.false
+
+-- the run was played from the checkpoint on
+made : (g : Over) (c : goal.After-play_on g) (cal : CalibrationParts) →
+    IsSharedFor g.E.BenchedEngine.bench g.E.BenchedEngine.come_to cal c.args.input.now c.args.shared.now →
+    HasMade g.E.BenchedEngine.bench g.E.BenchedEngine.come_to (run_with cal c.args.input.now).run (c.in-Some.fault.onset / CHECKPOINT_TICKS * CHECKPOINT_TICKS)
+    (length c.args.input.now.drive) c.play_on.new.played c.args.steps.now c.play_on.new.steps
+made g c cal shared = c.play_on.ensures (run_with cal c.args.input.now).run (record { plan = refl; drive = refl })
+    (played_under g.E.BenchedEngine.bench g.E.BenchedEngine.come_to cal c.args.input.now c.in-Some.fault c.in-Some.is (within g c) c.args.shared.now shared
+    c.copy.result c.copy.ensures c.index.result.now c.go_on.result c.index.ensures c.go_on.ensures.played)
+
+pub returns-clause-told : goal.returns-clause-told
+returns-clause-told g c = λ cal shared.
+    told_at g.E.BenchedEngine.bench g.E.BenchedEngine.come_to (run_with cal c.args.input.now).run c.play_on.new.played c.facts.result c.trap.result
+    (made g c cal shared).to c.facts.ensures.facts c.trap.ensures.trap
+
+pub returns-clause-counted : goal.returns-clause-counted
+returns-clause-counted g c = λ cal shared.
+    let x = c.args.input.now in
+    let r : Run = (run_with cal x).run in
+    (made g c cal shared).counted ∙ ap (count_with c.args.steps.now)
+    (sym (rows-are g.E.BenchedEngine.bench g.E.BenchedEngine.come_to cal x c.in-Some.fault c.in-Some.is (within g c) (record_rows g.E.BenchedEngine.bench r) refl))

@@ -51,24 +51,6 @@ play_from-requires-clause-shared g c =
           (sym c.is_alike.ensures ∙ c.if-not-is_alike.false) c.in_ok-shared.ensures.shared,
     )
 
-pub returns-in_err-one-clause-count : goal.returns-in_err-one-clause-count
-returns-in_err-one-clause-count g c =
-    let bench = g.E.BenchedEngine.bench in
-    let cal = c.args.calibration.now in
-    let x = c.args.input.now in
-    let y = c.index-inputs-i.result in
-    let inputs = c.args.inputs.now in
-    let i = c.loop-i.i in
-    let own = own_on bench cal in
-    let so : is_alike x y ≡ true = sym c.is_alike.ensures ∙ c.if-not-is_alike.false in
-    on_err _ c.from_residual-in_err-one.result (stopped c.args.steps.now c.loop-i.steps c.play_from.new.steps (own y)
-    (flat_map own (filter (is_alike x) (drop (i + 1) inputs))) (rows_shared bench cal inputs x)
-    (said c.args.steps.now c.loop-i.steps (flat_map own (filter (is_alike x) (drop i inputs)))
-    (own y ++ flat_map own (filter (is_alike x) (drop (i + 1) inputs))) (rows_shared bench cal inputs x)
-    (rest-in own (is_alike x) inputs i y c.loop-i-test.true c.index-inputs-i.is so) c.loop-i.invariant.counts)
-    (c.in_err-one.ensures.count cal
-    (shared_of bench g.E.BenchedEngine.come_to c.in_ok-shared.shared cal x y so c.in_ok-shared.ensures.shared)))
-
 pub loop-i-preserved : goal.loop-i-preserved
 loop-i-preserved g c =
     let bench = g.E.BenchedEngine.bench in
@@ -78,20 +60,20 @@ loop-i-preserved g c =
     let inputs = c.args.inputs.now in
     let i = c.loop-i.i in
     let own = own_on bench cal in
-    let one = c.in_ok-one.one in
+    let one = c.play_from.result in
     let so : is_alike x y ≡ true = sym c.is_alike.ensures ∙ c.if-not-is_alike.false in
     let is_shared = shared_of bench g.E.BenchedEngine.come_to c.in_ok-shared.shared cal x y so c.in_ok-shared.ensures.shared in
     record {
       places = length-set c.loop-i.told i (Some one) ∙ c.loop-i.invariant.places;
       told = λ before h. wrote (written_over (told_on bench cal) x before) before inputs i y c.loop-i.told (Some one) c.loop-i-test.true c.index-inputs-i.is
-          (ap Some (told_is bench cal y one (c.in_ok-one.ensures.told cal is_shared)) ∙ written-in (told_on bench cal) x before y so)
+          (ap Some (told_is bench cal y one (c.play_from.ensures.told cal is_shared)) ∙ written-in (told_on bench cal) x before y so)
           (c.loop-i.invariant.told before h);
       counts = more c.args.steps.now c.loop-i.steps c.play_from.new.steps (own y)
           (flat_map own (filter (is_alike x) (drop (i + 1) inputs))) (rows_shared bench cal inputs x)
           (said c.args.steps.now c.loop-i.steps (flat_map own (filter (is_alike x) (drop i inputs)))
           (own y ++ flat_map own (filter (is_alike x) (drop (i + 1) inputs))) (rows_shared bench cal inputs x)
           (rest-in own (is_alike x) inputs i y c.loop-i-test.true c.index-inputs-i.is so) c.loop-i.invariant.counts)
-          (c.in_ok-one.ensures.counted cal is_shared);
+          (c.play_from.ensures.counted cal is_shared);
     }
 
 pub returns-clause-told : goal.returns-clause-told

@@ -1,0 +1,22 @@
+use Rattle.std.proofs.Common.{◌∙◌, refl, sym, subst, None}
+use Rattle.eg_fault.specs.Faults.{IsNoneOrValid}
+use Rattle.eg_model.specs.Bench.{Run}
+use Rattle.eg_campaign.specs.declared.checkpoints.Played.{Played}
+use Rattle.eg_campaign.specs.Checkpoints.{HasPlayed}
+use Rattle.eg_campaign.proofs.CheckpointLemmas.{kept_more, branched_at, without-is}
+use Rattle.eg_campaign.proofs.checkpoints.keep_copy.Goals as goal
+
+pub branch-played-requires-clause-valid : goal.branch-played-requires-clause-valid
+unfolding IsNoneOrValid
+branch-played-requires-clause-valid g c = tt
+
+pub returns : goal.returns
+returns g c = λ r t whole played are.
+    let bench = g.E.BenchedEngine.bench in
+    let come_to = g.E.BenchedEngine.come_to in
+    let was = c.args.played.now in
+    let one : Played _ _ = record { controller = c.in_ok-controller.controller; tally = was.tally } in
+    kept_more bench come_to r t c.args.kept.now.items c.push.new.self.items one c.in_ok-push.ensures.items whole
+    (subst (λ (q : Run). HasPlayed bench come_to q t one) (without-is bench come_to r (sym played.at.stands.fault ∙ c.requires))
+    (branched_at bench come_to r t None was.controller.kept.memory was one c.requires tt c.in_ok-controller.ensures.kept refl
+    c.in_ok-controller.ensures.engine refl played)) are
