@@ -57,10 +57,10 @@ fn made(refuse: u32) -> Result<[bool; 3], Fail> {
 
 #[test]
 fn out_of_memory_is_told_and_stays(rt: HostRuntime) -> Result<(), Fail> {
-    // The image takes 1 store, and the reset of level 2 takes 36.
-    assert!(rt; controller(0).is_err() && controller(36).is_err());
+    // The image takes 1 store, and the reset of level 2 takes 32.
+    assert!(rt; controller(0).is_err() && controller(32).is_err());
     // The first store of the first tick, and one of the second.
-    assert!(rt; made(37)? == [false, false, false]);
+    assert!(rt; made(33)? == [false, false, false]);
     assert!(rt; made(120)? == [true, false, false]);
     Ok(())
 }

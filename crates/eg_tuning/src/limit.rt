@@ -16,9 +16,10 @@ pub struct Limits {
     pub verdicts: u32,
     /// How many runs of level 2 in a row confirm an excess that each of them finds.
     pub excess: u32,
-    /// How many ticks the test of the shut-off paths takes.
+    /// The local tick at which a start-up test reads the shut-off paths back.
     pub test: u32,
-    /// The least distance, in ticks, from which on missed runs of level 2 never cut, if there is one.
+    /// How far apart, in ticks, missed runs of level 2 have to lie so that wrong answers never cut before a
+    /// watch trips: the least number of whole periods that is proved to be enough, if there is one.
     pub spacing: Option<u32>,
 }
 
