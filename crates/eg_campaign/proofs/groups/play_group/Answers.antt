@@ -43,8 +43,8 @@ loop-i-init g c =
           c.in_ok-shared.ensures.counted;
     }
 
-pub play_from-requires-clause-shared : goal.play_from-requires-clause-shared
-play_from-requires-clause-shared g c =
+pub play_from-one-requires-clause-shared : goal.play_from-one-requires-clause-shared
+play_from-one-requires-clause-shared g c =
     let cal = c.args.calibration.now in (
       cal,
       shared_of g.E.BenchedEngine.bench g.E.BenchedEngine.come_to c.in_ok-shared.shared cal c.args.input.now c.index-inputs-i.result
@@ -60,20 +60,20 @@ loop-i-preserved g c =
     let inputs = c.args.inputs.now in
     let i = c.loop-i.i in
     let own = own_on bench cal in
-    let one = c.play_from.result in
+    let one = c.play_from-one.result in
     let so : is_alike x y ≡ true = sym c.is_alike.ensures ∙ c.if-not-is_alike.false in
     let is_shared = shared_of bench g.E.BenchedEngine.come_to c.in_ok-shared.shared cal x y so c.in_ok-shared.ensures.shared in
     record {
       places = length-set c.loop-i.told i (Some one) ∙ c.loop-i.invariant.places;
       told = λ before h. wrote (written_over (told_on bench cal) x before) before inputs i y c.loop-i.told (Some one) c.loop-i-test.true c.index-inputs-i.is
-          (ap Some (told_is bench cal y one (c.play_from.ensures.told cal is_shared)) ∙ written-in (told_on bench cal) x before y so)
+          (ap Some (told_is bench cal y one (c.play_from-one.ensures.told cal is_shared)) ∙ written-in (told_on bench cal) x before y so)
           (c.loop-i.invariant.told before h);
-      counts = more c.args.steps.now c.loop-i.steps c.play_from.new.steps (own y)
+      counts = more c.args.steps.now c.loop-i.steps c.play_from-one.new.steps (own y)
           (flat_map own (filter (is_alike x) (drop (i + 1) inputs))) (rows_shared bench cal inputs x)
           (said c.args.steps.now c.loop-i.steps (flat_map own (filter (is_alike x) (drop i inputs)))
           (own y ++ flat_map own (filter (is_alike x) (drop (i + 1) inputs))) (rows_shared bench cal inputs x)
           (rest-in own (is_alike x) inputs i y c.loop-i-test.true c.index-inputs-i.is so) c.loop-i.invariant.counts)
-          (c.play_from.ensures.counted cal is_shared);
+          (c.play_from-one.ensures.counted cal is_shared);
     }
 
 pub returns-clause-told : goal.returns-clause-told
