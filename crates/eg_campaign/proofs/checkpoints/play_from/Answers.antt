@@ -51,7 +51,7 @@ made : (g : Over) (c : After-play_on g) (cal : CalibrationParts) →
     (length c.args.input.now.drive) c.play_on.new.played c.args.steps.now c.play_on.new.steps
 made g c cal shared = c.play_on.ensures (run_with cal c.args.input.now).run (record { plan = refl; drive = refl })
     (played_under g.E.BenchedEngine.bench g.E.BenchedEngine.come_to cal c.args.input.now c.in-Some.fault c.in-Some.is (within g c) c.args.shared.now shared
-    c.copy.result c.copy.ensures c.index.result.now c.go_on.result c.index.ensures c.go_on.ensures.played)
+    c.copy.result c.copy.ensures c.index.result.now c.go_on-played.result c.index.ensures c.go_on-played.ensures.played)
 
 pub returns-clause-told : goal.returns-clause-told
 returns-clause-told g c = λ cal shared.
