@@ -10,7 +10,6 @@ use Rattle.eg_campaign.specs.Groups.{faultless, rows_under, count_with}
 use Rattle.eg_campaign.specs.Checkpoints.{HasMade, IsSharedFor}
 use Rattle.eg_campaign.proofs.CheckpointLemmas.{counted_none, never_begins, makes_none, played_under, rows-are, told_at}
 use Rattle.eg_campaign.proofs.checkpoints.play_from.Given.{Over}
-use Rattle.eg_campaign.proofs.checkpoints.play_from.Goals.{After-play_on}
 use Rattle.eg_campaign.proofs.checkpoints.play_from.Goals as goal
 
 pub returns-in_default-clause-counted : goal.returns-in_default-clause-counted
@@ -41,11 +40,11 @@ returns-then-fault-as_slice-clause-counted g c = λ cal shared.
     (let e = c.sum.ensures in let l = c.sum.type_inv in subst (λ n. n < 18446744073709551616) e l)
 
 -- the fault begins within the run
-within : (g : Over) (c : After-play_on g) → c.in-Some.fault.onset < length c.args.input.now.drive
+within : (g : Over) (c : goal.After-drop-played g) → c.in-Some.fault.onset < length c.args.input.now.drive
 within g c = subst (λ d. c.in-Some.fault.onset < length d) c.as_slice.ensures c.if-fault-as_slice.false
 
 -- the run was played from the checkpoint on
-made : (g : Over) (c : After-play_on g) (cal : CalibrationParts) →
+made : (g : Over) (c : goal.After-drop-played g) (cal : CalibrationParts) →
     IsSharedFor g.E.BenchedEngine.bench g.E.BenchedEngine.come_to cal c.args.input.now c.args.shared.now →
     HasMade g.E.BenchedEngine.bench g.E.BenchedEngine.come_to (run_with cal c.args.input.now).run (c.in-Some.fault.onset / CHECKPOINT_TICKS * CHECKPOINT_TICKS)
     (length c.args.input.now.drive) c.play_on.new.played c.args.steps.now c.play_on.new.steps
