@@ -16,6 +16,8 @@ use Rattle.eg_model.proofs.BranchLaws.{records_branch}
 use Rattle.eg_tick.specs.Benched.{ComeTo}
 use Rattle.eg_tick.specs.Kept.{ControllerParts}
 use Rattle.eg_tick.specs.Run.{IsAt}
+use Rattle.eg_record.specs.declared.run_facts.RunFacts.{RunFacts}
+use Rattle.eg_record.specs.Reactions.{reactions_of}
 use Rattle.eg_tick.specs.Facts.{record_facts, IsToldOf}
 use Rattle.eg_tick.specs.Stands.{Stands}
 use Rattle.eg_tick.proofs.BranchLemmas.{proper_run-under, branch_of, branch_stands}
@@ -36,12 +38,15 @@ module _ {S E : Type 0} (b : BenchEngine S) (come_to : ComeTo S E) (r : Run) (no
       alike = records_branch b r none fault t from
 
   -- and where the fault begins after the run, what the one comes to the other does
-  pub told_under : (facts : Facts) (trap : Option (Trap × ℕ)) → BeginsFrom (length r.drive) fault → IsToldOf b r facts trap →
-      IsToldOf b (record r { setting = under fault r.setting }) facts trap
+  pub told_under : (is_told : RunFacts) → BeginsFrom (length r.drive) fault → IsToldOf b r is_told →
+      IsToldOf b (record r { setting = under fault r.setting }) is_told
   unfolding record_facts record_rows record_trap
-  told_under facts trap from told = record {
-    facts_are = told.facts_are ∙ ap (λ past. facts_of r.setting.cal.rules.torque r.setting.cal.rules.threshold (rows_of past)) (sym alike.moments_are);
-    trap_is = told.trap_is ∙ ap first_trap (sym alike.moments_are);
+  told_under is_told from told = record {
+    is = told.is ∙ ap (λ past. record {
+          facts = facts_of r.setting.cal.rules.torque r.setting.cal.rules.threshold (rows_of past);
+          reactions = reactions_of r.setting.cal.rules.torque r.setting.cal.rules.threshold (rows_of past);
+          trap = first_trap past;
+        }) (sym alike.moments_are);
     proper = subst (IsProperRun (under fault r.setting)) (sym alike.entries_are)
         (proper_run-under r.setting none fault (entries_to b r (length r.drive))
         (subst (λ n. BeginsFrom n fault) (sym (length-entries b r (length r.drive))) from) told.proper);

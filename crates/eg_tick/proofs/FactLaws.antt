@@ -37,6 +37,9 @@ use Rattle.eg_tick.specs.Benched.{ComeTo}
 use Rattle.eg_tick.specs.Kept.{ControllerParts}
 use Rattle.eg_tick.specs.Weights.{TickCount, weight_of}
 use Rattle.eg_tick.specs.Run.{IsAt}
+use Rattle.eg_record.specs.declared.run_facts.RunFacts.{RunFacts}
+use Rattle.eg_record.specs.Reactions.{reactions_of}
+use Rattle.eg_record.specs.Tallies.{TallyParts}
 use Rattle.eg_tick.specs.Facts.{record_facts, IsToldOf, IsWithoutReset, FactsReactWithin, FactsReactAtOnce, GoOffOnce}
 use Rattle.eg_tick.proofs.RunLemmas.{counted, more-mod}
 
@@ -204,18 +207,39 @@ rows-next b r n row is = ap (λ (x : Row). x ∷ rows_to b r n) is ∙ sym (rows
 
 -- ---- the whole run ----
 
-pub told : {S E : Type 0} (b : BenchEngine S) (come_to : ComeTo S E) (r : Run) (c : ControllerParts E) (facts : Facts) (trap : Option (Trap × ℕ)) →
-    IsAt b come_to r (length r.drive) c →
-    facts ≡ facts_of r.setting.cal.rules.torque r.setting.cal.rules.threshold (rows_to b r (length r.drive)) →
-    trap ≡ c.kept.trap → IsToldOf b r facts trap
-told b come_to r c facts trap at are is = record {
-  facts_are = are ∙ ap (facts_of r.setting.cal.rules.torque r.setting.cal.rules.threshold) (sym (record_rows-is b r)) ∙ (unfold record_facts in refl);
-  trap_is = is ∙ at.stands.trap ∙ ap first_trap (sym (records_are_histories b r (length r.drive))) ∙ (unfold record_trap in refl);
+-- what is told of so many of its rows, where this is its trap
+abbrev pub told_to : {S : Type 0} (b : BenchEngine S) (r : Run) (n : ℕ) (trap : Option (Trap × ℕ)) → RunFacts
+told_to b r n trap = record {
+  facts = facts_of r.setting.cal.rules.torque r.setting.cal.rules.threshold (rows_to b r n);
+  reactions = reactions_of r.setting.cal.rules.torque r.setting.cal.rules.threshold (rows_to b r n);
+  trap = trap;
+}
+
+pub told : {S E : Type 0} (b : BenchEngine S) (come_to : ComeTo S E) (r : Run) (c : ControllerParts E) (is_told : RunFacts) →
+    IsAt b come_to r (length r.drive) c → is_told ≡ told_to b r (length r.drive) c.kept.trap → IsToldOf b r is_told
+unfolding record_facts record_trap
+told b come_to r c is_told at are = record {
+  is = are ∙ ap₂ (λ (rows : List Row) (trap : Option (Trap × ℕ)). record {
+        facts = facts_of r.setting.cal.rules.torque r.setting.cal.rules.threshold rows;
+        reactions = reactions_of r.setting.cal.rules.torque r.setting.cal.rules.threshold rows;
+        trap = trap;
+      }) (sym (record_rows-is b r)) (at.stands.trap ∙ ap first_trap (sym (records_are_histories b r (length r.drive))));
   proper = at.stands.engine.proper;
 }
 
-pub is_run : {S : Type 0} (b : BenchEngine S) (r : Run) (facts : Facts) (trap : Option (Trap × ℕ)) → IsAccepted r.setting.cal → IsToldOf b r facts trap → IsRun r
-is_run b r facts trap accepted told = record {
+-- what a tally of so many rows tells, with this trap
+pub tallied : {S : Type 0} (b : BenchEngine S) (r : Run) (n : ℕ) (tally : TallyParts) (is_told : RunFacts) (trap : Option (Trap × ℕ)) →
+    tally.weights ≡ r.setting.cal.rules.torque → tally.threshold ≡ r.setting.cal.rules.threshold →
+    is_told.facts ≡ facts_of tally.weights tally.threshold (rows_to b r n) →
+    is_told.reactions ≡ reactions_of tally.weights tally.threshold (rows_to b r n) → is_told.trap ≡ trap → is_told ≡ told_to b r n trap
+tallied b r n tally is_told trap weights threshold facts reactions is = λ i. record {
+  facts = (facts ∙ ap₂ (λ w t. facts_of w t (rows_to b r n)) weights threshold) i;
+  reactions = (reactions ∙ ap₂ (λ w t. reactions_of w t (rows_to b r n)) weights threshold) i;
+  trap = is i;
+}
+
+pub is_run : {S : Type 0} (b : BenchEngine S) (r : Run) (is_told : RunFacts) → IsAccepted r.setting.cal → IsToldOf b r is_told → IsRun r
+is_run b r is_told accepted told = record {
   accepted = accepted;
   drive = drive_keeps b r told.proper;
 }

@@ -1,11 +1,12 @@
--- What a run comes to where its rows aren't kept: their facts, and the trap. And what the facts tell of the
+-- What a run comes to where its rows aren't kept: what is told of them. And what the facts tell of the
 -- reaction, for drives that never reset the unit: such a run is one drive span from tick 0 on.
 use Rattle.std.specs.Prelude.{◌≡◌, ℕ, ◌+◌, ◌<◌, true, false, List, All, length, Option, IfSome, IsSomeAnd, MatchOption}
 use Rattle.eg_num.specs.Drive.{DriveRow}
 use Rattle.eg_fault.specs.declared.class.Fault.{Fault}
-use Rattle.eg_word.specs.declared.registers.Trap.{Trap}
 use Rattle.eg_record.specs.declared.facts.Facts.{Facts}
+use Rattle.eg_record.specs.declared.run_facts.RunFacts.{RunFacts}
 use Rattle.eg_record.specs.Facts.{facts_of}
+use Rattle.eg_record.specs.Reactions.{reactions_of}
 use Rattle.eg_model.specs.Premises.{IsProperRun}
 use Rattle.eg_model.specs.Reaction.{is_at_once}
 use Rattle.eg_model.specs.Engines.{BenchEngine}
@@ -16,11 +17,17 @@ use Rattle.eg_model.specs.Rows.{record_rows, record_trap}
 unfoldable pub record_facts : {S : Type 0} → BenchEngine S → Run → Facts
 record_facts b r = facts_of r.setting.cal.rules.torque r.setting.cal.rules.threshold (record_rows b r)
 
--- A run of this engine comes to these facts and this trap. What came in at each of its ticks was proper.
-pub record IsToldOf {S : Type 0} (b : BenchEngine S) (r : Run) (facts : Facts) (trap : Option (Trap × ℕ)) :
-    Type 0 where
-  pub facts_are : facts ≡ record_facts b r
-  pub trap_is : trap ≡ record_trap b r
+-- what is told of it: the facts of its record, the reactions in its spans, and its trap
+abbrev pub told_of : {S : Type 0} → BenchEngine S → Run → RunFacts
+told_of b r = record {
+  facts = record_facts b r;
+  reactions = reactions_of r.setting.cal.rules.torque r.setting.cal.rules.threshold (record_rows b r);
+  trap = record_trap b r;
+}
+
+-- This is told of a run of this engine. What came in at each of its ticks was proper.
+pub record IsToldOf {S : Type 0} (b : BenchEngine S) (r : Run) (told : RunFacts) : Type 0 where
+  pub is : told ≡ told_of b r
   pub proper : IsProperRun r.setting (entries_to b r (length r.drive))
 
 -- ---- the reaction ----

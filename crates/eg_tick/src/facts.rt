@@ -17,7 +17,7 @@ use crate::{BenchedEngine, SlicePlan, Ticks};
 use eg_fault::Fault;
 use eg_num::Drive;
 use eg_plant::GasolineEngine;
-use eg_record::{Facts, Tally};
+use eg_record::{Facts, RunFacts, Tally};
 use eg_values::Calibration;
 use eg_word::Trap;
 
@@ -63,11 +63,13 @@ pub fn run_facts(
 {
     // Whoever reads it learns that the calibration is an accepted one.
     let _rules = calibration.rules();
-    bench_facts::<GasolineEngine>(calibration, image, plan, drive, fault, steps)
+    let told = bench_facts::<GasolineEngine>(calibration, image, plan, drive, fault, steps);
+    (told.facts, told.trap)
 }
 
-/// The same of an engine of either kind, for callers that run one by its type: it tells the facts of the run
-/// and its trap (docs/CONCEPT.md, "The record of a run"), keeps no row, takes no memory and refuses nothing.
+/// The same of an engine of either kind, for callers that run one by its type: it tells the facts of the run,
+/// the reactions in its spans and its trap (docs/CONCEPT.md, "The report of a run" and "`table`"), keeps no
+/// row, takes no memory and refuses nothing.
 /// What facts tell of the reaction is said of the gasoline engine alone, by `run_facts`; of either engine the
 /// headline says it, of the rows.
 pub fn bench_facts<E: BenchedEngine>(
@@ -77,13 +79,12 @@ pub fn bench_facts<E: BenchedEngine>(
     drive: &[Drive],
     fault: Option<&Fault>,
     steps: &mut Ticks,
-) -> (Facts, Option<(Trap, u32)>)
+) -> RunFacts
     requires most { length drive.now ≤ 20000 }
     requires image { length image.now ≤ CODE_END }
     requires fault { IsNoneOrValid (option_copied fault) }
     ensures told { IsToldOf E.bench
-        (run_by calibration.now image.now (option_copied fault.entry) plan.now drive.now)
-        result.0 result.1 }
+        (run_by calibration.now image.now (option_copied fault.entry) plan.now drive.now) result }
     ensures counted { steps.new ≡ record {
       count = (steps.old.count + length drive.now) % 2 ^ 64;
       weights = (steps.old.weights + sum (map weight_of (record_rows E.bench
@@ -99,5 +100,9 @@ pub fn bench_facts<E: BenchedEngine>(
         let row = bench_row(&mut controller, plan, &drive[tick], tick as u32, steps);
         tally.feed(&row);
     }
-    (tally.facts(), controller.trap())
+    RunFacts {
+        facts: tally.facts(),
+        reactions: tally.reactions(),
+        trap: controller.trap(),
+    }
 }

@@ -2,14 +2,13 @@ use Rattle.std.proofs.Common.{◌≡◌, ◌∙◌, sym, ap, subst, refl, ◌+�
 use Rattle.std.specs.Option.{option_copied}
 use Rattle.eg_answer.specs.declared.rules.Rules.{Rules}
 use Rattle.eg_record.specs.declared.row.Row.{Row}
-use Rattle.eg_record.specs.Facts.{facts_of}
 use Rattle.eg_record.specs.Tallies.{IsTallyOf}
 use Rattle.eg_model.specs.Bench.{Run, drive_at}
 use Rattle.eg_model.specs.Records.{row_at, rows_to}
 use Rattle.eg_model.proofs.RecordTicks.{no_rows, row_tick, record_rows-is}
 use Rattle.eg_tick.specs.Run.{run_by, IsAt}
 use Rattle.eg_tick.proofs.RunLemmas.{counted, counted-none, drive-at}
-use Rattle.eg_tick.proofs.FactLaws.{told, counted-next, rows-next}
+use Rattle.eg_tick.proofs.FactLaws.{told, told_to, tallied, counted-next, rows-next}
 use Rattle.eg_tick.proofs.facts.bench_facts.Goals as goal
 
 pub loop-tick-init : goal.loop-tick-init
@@ -66,12 +65,11 @@ returns-clause-told g c =
     let bench = g.E.BenchedEngine.bench in
     let r : Run = run_by c.args.calibration.now c.args.image.now (option_copied c.args.fault) c.args.plan.now c.args.drive.now in
     let end : c.loop-tick.tick ≡ length c.args.drive.now = omega (arith, c.loop-tick-test.false, c.loop-tick.auto.tick-end) in
-    told bench g.E.BenchedEngine.come_to r c.loop-tick.controller c.facts.result c.trap.result (subst (λ n. IsAt bench g.E.BenchedEngine.come_to r n c.loop-tick.controller) end c.loop-tick.invariant.at)
-    (c.facts.ensures.facts (rows_to bench r c.loop-tick.tick) c.loop-tick.invariant.stands
-    ∙ ap (λ w. facts_of w c.loop-tick.tally.threshold (rows_to bench r c.loop-tick.tick)) c.loop-tick.invariant.weights
-    ∙ ap (λ t. facts_of r.setting.cal.rules.torque t (rows_to bench r c.loop-tick.tick)) c.loop-tick.invariant.threshold
-    ∙ ap (λ n. facts_of r.setting.cal.rules.torque r.setting.cal.rules.threshold (rows_to bench r n)) end)
-    c.trap.ensures.trap
+    told bench g.E.BenchedEngine.come_to r c.loop-tick.controller _ (subst (λ n. IsAt bench g.E.BenchedEngine.come_to r n c.loop-tick.controller) end c.loop-tick.invariant.at)
+    (tallied bench r c.loop-tick.tick c.loop-tick.tally _ _ c.loop-tick.invariant.weights c.loop-tick.invariant.threshold
+    (c.facts.ensures.facts (rows_to bench r c.loop-tick.tick) c.loop-tick.invariant.stands)
+    (c.reactions.ensures.reactions (rows_to bench r c.loop-tick.tick) c.loop-tick.invariant.stands) c.trap.ensures.trap
+    ∙ ap (λ n. told_to bench r n c.loop-tick.controller.kept.trap) end)
 
 pub returns-clause-counted : goal.returns-clause-counted
 returns-clause-counted g c =
