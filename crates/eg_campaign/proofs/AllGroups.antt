@@ -8,9 +8,8 @@ use Rattle.std.proofs.lemmas.Map.Steps.{list_any_congr}
 use Rattle.std.proofs.lemmas.Simd.{splat_is_map}
 use borrow.Author.Count.{below_more}
 use Rattle.eg_values.specs.Calibration.{CalibrationParts}
-use Rattle.eg_word.specs.declared.registers.Trap.{Trap}
 use Rattle.eg_record.specs.declared.row.Row.{Row}
-use Rattle.eg_record.specs.declared.facts.Facts.{Facts}
+use Rattle.eg_record.specs.declared.run_facts.RunFacts.{RunFacts}
 use Rattle.eg_tick.specs.Weights.{TickCount}
 use Rattle.eg_plan.specs.declared.engine.EngineKind.{EngineKind}
 use Rattle.eg_campaign.specs.declared.play.RunInput.{RunInput}
@@ -125,7 +124,7 @@ shared_rows cal inputs x k long is = ap (λ (k : EngineKind). rows_shared (bench
     ∙ sym (more_rows cal x (group_of inputs x) long (head_passes (is_alike x) inputs))
 
 -- what is written by the engine of the group is written by each that a run names
-pub written_by : (cal : CalibrationParts) (x : RunInput) (k : EngineKind) (before : RunInput → Option (Facts × Option (Trap × ℕ))) (inputs : List RunInput) →
+pub written_by : (cal : CalibrationParts) (x : RunInput) (k : EngineKind) (before : RunInput → Option RunFacts) (inputs : List RunInput) →
     x.plan.engine ≡ k → map (written_over (told_on (bench_of k) cal) x before) inputs ≡ map (written_over (told_with cal) x before) inputs
 written_by cal x k before inputs is = map_same (written_over (told_on (bench_of k) cal) x before) (written_over (told_with cal) x before) each inputs
   where
@@ -139,7 +138,7 @@ written_by cal x k before inputs is = map_same (written_over (told_on (bench_of 
 -- ---- the groups of a campaign ----
 
 -- what stands at the place of an input once the groups of these were played
-unfoldable pub told_after : CalibrationParts → List RunInput → RunInput → Option (Facts × Option (Trap × ℕ))
+unfoldable pub told_after : CalibrationParts → List RunInput → RunInput → Option RunFacts
 told_after cal earlier y = if list_any (is_alike y) earlier then Some (told_with cal y) else None
 
 -- the rows of the groups that are still to be played
@@ -147,7 +146,7 @@ unfoldable pub rows_left : CalibrationParts → (inputs earlier later : List Run
 rows_left cal inputs earlier later = flat_map (rows_of_group cal) (map (group_of inputs) (firsts_after earlier later))
 
 -- Up to this place all runs were told, and the groups of the earlier ones were counted.
-pub record Goes (cal : CalibrationParts) (inputs : List RunInput) (i : ℕ) (told : List (Option (Facts × Option (Trap × ℕ)))) (was is : TickCount) : Type 0 where
+pub record Goes (cal : CalibrationParts) (inputs : List RunInput) (i : ℕ) (told : List (Option RunFacts)) (was is : TickCount) : Type 0 where
   pub earlier : List RunInput
   pub told_are : told ≡ map (told_after cal earlier) inputs
   pub so_far : (j : ℕ) (d : RunInput) → j < i → list_any (is_alike (get_or inputs j d)) earlier ≡ true
@@ -158,8 +157,8 @@ unfolding rows_left rows_made groups_of
 rows_all cal inputs = refl
 
 -- a place is told where its group was played
-told_place : (cal : CalibrationParts) (inputs earlier : List RunInput) (i : ℕ) (x : RunInput) (told : List (Option (Facts × Option (Trap × ℕ))))
-    (d : Option (Facts × Option (Trap × ℕ))) → i < length inputs → x ≡ get_or inputs i x → told ≡ map (told_after cal earlier) inputs → get_or told i d ≡ told_after cal earlier x
+told_place : (cal : CalibrationParts) (inputs earlier : List RunInput) (i : ℕ) (x : RunInput) (told : List (Option RunFacts))
+    (d : Option RunFacts) → i < length inputs → x ≡ get_or inputs i x → told ≡ map (told_after cal earlier) inputs → get_or told i d ≡ told_after cal earlier x
 told_place cal inputs earlier i x told d below is so_far = ap (λ l. get_or l i d) so_far
     ∙ get_or-map (told_after cal earlier) inputs i x d below ∙ ap (told_after cal earlier) (sym is)
 
@@ -180,7 +179,7 @@ so_far_more inputs earlier i x below is so_far j d within =
     (λ d. ap (λ (z : RunInput). is_alike z x || list_any (is_alike z) earlier) (get_or_default inputs i d x below ∙ sym is)
     ∙ ap (λ b. b || list_any (is_alike x) earlier) (is_alike-equality.refl x)) j within d
 
-pub nowhere : (inputs : List RunInput) (told : List (Option (Facts × Option (Trap × ℕ)))) → told ≡ replicate (length inputs) None →
+pub nowhere : (inputs : List RunInput) (told : List (Option RunFacts)) → told ≡ replicate (length inputs) None →
     told ≡ map (λ (y : RunInput). None) inputs
 nowhere inputs told is = is ∙ splat_is_map inputs (length inputs) None refl
 
@@ -193,7 +192,7 @@ wrote_back len now items xs f is places all =
     ∙ take_all len now (omega (arith, long, places, all))
 
 -- no place is told yet
-pub goes-begin : (cal : CalibrationParts) (inputs : List RunInput) (told : List (Option (Facts × Option (Trap × ℕ)))) (was : TickCount) →
+pub goes-begin : (cal : CalibrationParts) (inputs : List RunInput) (told : List (Option RunFacts)) (was : TickCount) →
     told ≡ map (λ (y : RunInput). None) inputs → Counted was was (rows_made cal inputs) (rows_made cal inputs) → Goes cal inputs 0 told was was
 unfolding told_after
 goes-begin cal inputs told was none counts = record {
@@ -239,7 +238,7 @@ module _ (cal : CalibrationParts) (inputs : List RunInput) (earlier : List RunIn
 
 module _ (cal : CalibrationParts) (inputs : List RunInput) (i : ℕ) (x : RunInput) (below : i < length inputs) (is : x ≡ get_or inputs i x) where
   -- an input whose group was played
-  pub goes-on : (told : List (Option (Facts × Option (Trap × ℕ)))) (was mid : TickCount) (so_far : Goes cal inputs i told was mid) →
+  pub goes-on : (told : List (Option RunFacts)) (was mid : TickCount) (so_far : Goes cal inputs i told was mid) →
       list_any (is_alike x) so_far.earlier ≡ true → Goes cal inputs (i + 1) told was mid
   goes-on told was mid so_far so = record {
     earlier = x ∷ so_far.earlier;
@@ -250,7 +249,7 @@ module _ (cal : CalibrationParts) (inputs : List RunInput) (i : ℕ) (x : RunInp
   }
 
   -- an input whose group is played now
-  pub goes-new : (told now : List (Option (Facts × Option (Trap × ℕ)))) (was mid new : TickCount) (so_far : Goes cal inputs i told was mid) →
+  pub goes-new : (told now : List (Option RunFacts)) (was mid new : TickCount) (so_far : Goes cal inputs i told was mid) →
       list_any (is_alike x) so_far.earlier ≡ false →
       now ≡ map (written_over (told_with cal) x (told_after cal so_far.earlier)) inputs →
       new ≡ count_with mid (rows_of_group cal (group_of inputs x)) → Goes cal inputs (i + 1) now was new
@@ -266,7 +265,7 @@ module _ (cal : CalibrationParts) (inputs : List RunInput) (i : ℕ) (x : RunInp
   }
 
   -- it is stopped there
-  pub goes-stopped : (told : List (Option (Facts × Option (Trap × ℕ)))) (was mid new : TickCount) (so_far : Goes cal inputs i told was mid) →
+  pub goes-stopped : (told : List (Option RunFacts)) (was mid new : TickCount) (so_far : Goes cal inputs i told was mid) →
       list_any (is_alike x) so_far.earlier ≡ false → Stopped mid new (rows_of_group cal (group_of inputs x)) → Stopped was new (rows_made cal inputs)
   goes-stopped told was mid new so_far so within =
       stopped was mid new (rows_of_group cal (group_of inputs x)) (rows_left cal inputs (x ∷ so_far.earlier) (drop (i + 1) inputs)) (rows_made cal inputs)
@@ -275,20 +274,20 @@ module _ (cal : CalibrationParts) (inputs : List RunInput) (i : ℕ) (x : RunInp
       (left-new cal inputs so_far.earlier i x below is so) so_far.counts) within
 
   -- whether its group was played is told by its place
-  pub place-some : (told : List (Option (Facts × Option (Trap × ℕ)))) (was mid : TickCount) (so_far : Goes cal inputs i told was mid)
-      (d : Option (Facts × Option (Trap × ℕ))) (r : Bool) → r ≡ is_some (get_or told i d) → r ≡ list_any (is_alike x) so_far.earlier
+  pub place-some : (told : List (Option RunFacts)) (was mid : TickCount) (so_far : Goes cal inputs i told was mid)
+      (d : Option RunFacts) (r : Bool) → r ≡ is_some (get_or told i d) → r ≡ list_any (is_alike x) so_far.earlier
   unfolding told_after
   place-some told was mid so_far d r e = e ∙ ap is_some (told_place cal inputs so_far.earlier i x told d below is so_far.told_are)
       ∙ told_if (list_any (is_alike x) so_far.earlier) (told_with cal x)
 
 -- all were played
-pub goes-end-told : (cal : CalibrationParts) (inputs : List RunInput) (i : ℕ) (told : List (Option (Facts × Option (Trap × ℕ)))) (was mid : TickCount) →
+pub goes-end-told : (cal : CalibrationParts) (inputs : List RunInput) (i : ℕ) (told : List (Option RunFacts)) (was mid : TickCount) →
     length inputs ≤ i → Goes cal inputs i told was mid → told ≡ map (λ (y : RunInput). Some (told_with cal y)) inputs
 unfolding told_after
 goes-end-told cal inputs i told was mid end so_far = so_far.told_are ∙ map_same_at (told_after cal so_far.earlier) (λ (y : RunInput). Some (told_with cal y)) inputs
     (λ j d below. ap (λ b. if b then Some (told_with cal (get_or inputs j d)) else None) (so_far.so_far j d (omega (arith, below, end))))
 
-pub goes-end-counted : (cal : CalibrationParts) (inputs : List RunInput) (i : ℕ) (told : List (Option (Facts × Option (Trap × ℕ)))) (was mid : TickCount) →
+pub goes-end-counted : (cal : CalibrationParts) (inputs : List RunInput) (i : ℕ) (told : List (Option RunFacts)) (was mid : TickCount) →
     length inputs ≤ i → Goes cal inputs i told was mid → mid ≡ count_with was (rows_made cal inputs)
 unfolding rows_left firsts_after
 goes-end-counted cal inputs i told was mid end so_far = ended was mid (rows_made cal inputs)

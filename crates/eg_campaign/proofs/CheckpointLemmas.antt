@@ -155,14 +155,6 @@ module _ {S E : Type 0} (b : BenchEngine S) (come_to : ComeTo S E) (r : Run) whe
   pub made_all : {M : Type 0} (played : Played E M) (was is : TickCount) → HasMade b come_to r 0 (length r.drive) played was is → is ≡ count_with was (record_rows b r)
   made_all played was is made = made.counted ∙ ap (count_with was) (rows_between-all (length r.drive) ∙ sym (record_rows-is b r))
 
-  -- what is told of a run that was played to its end
-  pub told_at : {M : Type 0} (played : Played E M) (facts : Facts) (trap : Option (Trap × ℕ)) → HasPlayed b come_to r (length r.drive) played →
-      ((rows : List Row) → IsTallyOf played.tally rows → facts ≡ facts_of played.tally.weights played.tally.threshold rows) →
-      trap ≡ played.controller.kept.trap → IsToldOf b r facts trap
-  told_at played facts trap is facts_are trap_is = told b come_to r played.controller facts trap is.at
-      (facts_are (rows_to b r (length r.drive)) is.tally
-      ∙ ap₂ (λ w t. facts_of w t (rows_to b r (length r.drive))) is.weights is.threshold) trap_is
-
   -- ---- what is kept ----
 
   pub kept_none : {M : Type 0} (kept : List (Played E M)) → kept ≡ [] → AreCheckpoints b come_to r 0 kept

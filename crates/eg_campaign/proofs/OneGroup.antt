@@ -155,13 +155,6 @@ pub shared_of : {S E : Type 0} (b : BenchEngine S) (come_to : ComeTo S E) (share
 shared_of b come_to shared cal x y so is =
     subst (λ (r : EngineRun). IsSharedBy b come_to r.run shared) (faultless-same cal x y (alike x y so)) is
 
-pub told_is : {S : Type 0} (b : BenchEngine S) (cal : CalibrationParts) (x : RunInput) (told : Facts × Option (Trap × ℕ)) →
-    IsToldOf b (run_with cal x).run told.0 told.1 → told ≡ told_on b cal x
-told_is b cal x told is = ap₂ both is.facts_are is.trap_is
-  where
-    both : Facts → Option (Trap × ℕ) → Facts × Option (Trap × ℕ)
-    both f t = (f, t)
-
 pub written-in : {T : Type 0} (tells : RunInput → T) (x : RunInput) (before : RunInput → Option T) (y : RunInput) → is_alike x y ≡ true →
     Some (tells y) ≡ written_over tells x before y
 written-in tells x before y so = sym (ap (λ b. if b then Some (tells y) else before y) so)

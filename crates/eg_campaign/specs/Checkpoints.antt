@@ -63,11 +63,11 @@ pub record AreCheckpoints {S E M : Type 0} (b : BenchEngine S) (come_to : ComeTo
   pub each : (k : ℕ) → k < length kept → (d : Played E M) →
       HasPlayed b come_to r (k * CHECKPOINT_TICKS) (slice_index_or kept k d)
 
--- what is shared of a run: its checkpoints, its facts and its trap
+-- what is shared of a run: its checkpoints, and what is told of it
 pub record IsSharedBy {S E : Type 0} (b : BenchEngine S) (come_to : ComeTo S E) (r : Run)
     (shared : Shared E) : Type 0 where
   pub checkpoints : AreCheckpoints b come_to r (length r.drive) shared.checkpoints.items
-  pub told : IsToldOf b r shared.facts shared.trap
+  pub told : IsToldOf b r shared.told
 
 -- ---- runs of a group ----
 

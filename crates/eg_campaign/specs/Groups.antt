@@ -9,13 +9,13 @@ use Rattle.std.specs.Cmp.Lexicographic.{pointwise}
 use Rattle.eg_num.specs.Drive.{DriveRow}
 use Rattle.eg_fault.specs.declared.class.Fault.{Fault}
 use Rattle.eg_values.specs.Calibration.{CalibrationParts}
-use Rattle.eg_word.specs.declared.registers.Trap.{Trap}
 use Rattle.eg_record.specs.declared.row.Row.{Row}
 use Rattle.eg_record.specs.declared.facts.Facts.{Facts}
+use Rattle.eg_record.specs.declared.run_facts.RunFacts.{RunFacts}
 use Rattle.eg_model.specs.Engines.{BenchEngine}
-use Rattle.eg_model.specs.Rows.{record_rows, record_trap}
+use Rattle.eg_model.specs.Rows.{record_rows}
 use Rattle.eg_tick.specs.Weights.{TickCount, weight_of}
-use Rattle.eg_tick.specs.Facts.{record_facts}
+use Rattle.eg_tick.specs.Facts.{record_facts, told_of}
 use Rattle.eg_plan.specs.declared.engine.EngineKind.{EngineKind}
 use Rattle.eg_plan.specs.declared.engine.EngineKind.TheVariants as kind
 use Rattle.eg_campaign.specs.declared.play.RunInput.{RunInput}
@@ -113,12 +113,12 @@ count_with was rows = record {
 
 -- ---- what is told ----
 
--- the facts and the trap of the run of an input, by an engine of the model
-abbrev pub told_on : {S : Type 0} → BenchEngine S → CalibrationParts → RunInput → Facts × Option (Trap × ℕ)
-told_on b cal x = (record_facts b (run_with cal x).run, record_trap b (run_with cal x).run)
+-- what is told of the run of an input, by an engine of the model
+abbrev pub told_on : {S : Type 0} → BenchEngine S → CalibrationParts → RunInput → RunFacts
+told_on b cal x = told_of b (run_with cal x).run
 
 -- by that which it names
-abbrev pub told_with : CalibrationParts → RunInput → Facts × Option (Trap × ℕ)
+abbrev pub told_with : CalibrationParts → RunInput → RunFacts
 told_with cal x = told_on (bench_of x.plan.engine) cal x
 
 -- What stands at the place of input y once the group of input x was played, where `before` stood there: what

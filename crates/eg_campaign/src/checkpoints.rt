@@ -17,10 +17,9 @@ use eg_fault::Fault;
 use eg_guard::{FlatMemory, Guarded};
 use eg_pages::PagedMemory;
 use eg_plant::CopyEngine;
-use eg_record::{Facts, Tally};
+use eg_record::{RunFacts, Tally};
 use eg_tick::{BenchedEngine, Controller, Ticks, bench_begin, bench_tick};
 use eg_values::Calibration;
-use eg_word::Trap;
 use std::alloc::Global;
 
 /// How many ticks lie between two ticks at which the run without a fault is kept.
@@ -36,12 +35,11 @@ pub(crate) struct Played<E: BenchedEngine + CopyEngine, M: Guarded + Drop> {
 /// What is kept of a run: its memory is in pages, so that what stays the same is meant to be kept once.
 pub(crate) type Checkpoint<E> = Played<E, PagedMemory>;
 
-/// The run without a fault of a group: its facts, its trap, and where runs under faults go on from.
+/// The run without a fault of a group: what is told of it, and where runs under faults go on from.
 #[derive(Drop)]
 pub(crate) struct Shared<E: BenchedEngine + CopyEngine> {
     pub(crate) checkpoints: Vec<Checkpoint<E>>,
-    pub(crate) facts: Facts,
-    pub(crate) trap: Option<(Trap, u32)>,
+    pub(crate) told: RunFacts,
 }
 
 /// Plays the run of an input without its fault, and keeps it at each hundredth tick: up to its onset a run
@@ -70,8 +68,7 @@ pub(crate) fn share<E: BenchedEngine + CopyEngine>(
     }
     Ok(Shared {
         checkpoints,
-        facts: played.tally.facts(),
-        trap: played.controller.trap(),
+        told: told_of(&played),
     })
 }
 
@@ -187,13 +184,13 @@ pub(crate) fn play_from<E: BenchedEngine + CopyEngine>(
     shared: &Shared<E>,
     input: &RunInput,
     steps: &mut Ticks,
-) -> (Facts, Option<(Trap, u32)>)
+) -> RunFacts
     requires playable { IsPlayable input.now }
     requires shared { (cal : CalibrationParts)
         × IsSharedFor E.bench E.come_to cal input.now shared.now }
     ensures told { (cal : CalibrationParts) →
         IsSharedFor E.bench E.come_to cal input.now shared.now →
-        IsToldOf E.bench (run_with cal input.now).run result.0 result.1 }
+        IsToldOf E.bench (run_with cal input.now).run result }
     ensures counted { (cal : CalibrationParts) →
         IsSharedFor E.bench E.come_to cal input.now shared.now →
         steps.new ≡ count_with steps.old (own_on E.bench cal input.now) }
@@ -201,15 +198,27 @@ pub(crate) fn play_from<E: BenchedEngine + CopyEngine>(
     // Whoever reads them learns that both numbers are a u64.
     let _numbers = (steps.count(), steps.sum());
     let Some(fault) = &input.plan.fault else {
-        return (shared.facts, shared.trap);
+        return shared.told;
     };
     if fault.onset as usize >= input.drive.as_slice().len() {
-        return (shared.facts, shared.trap);
+        return shared.told;
     }
     let place = fault.onset as usize / CHECKPOINT_TICKS;
     let mut played = go_on(&shared.checkpoints[place], Some(fault.copy()));
     play_on(&mut played, input, place * CHECKPOINT_TICKS, steps);
-    (played.tally.facts(), played.controller.trap())
+    told_of(&played)
+}
+
+/// What is told of a run that was played to its end.
+fn told_of<E: BenchedEngine + CopyEngine, M: Guarded + Drop>(played: &Played<E, M>) -> RunFacts
+    ensures { (r : Run) → HasPlayed E.bench E.come_to r (length r.drive) played.now →
+        IsToldOf E.bench r result }
+{
+    RunFacts {
+        facts: played.tally.facts(),
+        reactions: played.tally.reactions(),
+        trap: played.controller.trap(),
+    }
 }
 
 /// Plays the ticks of the run of an input from one on.

@@ -1,26 +1,21 @@
 // The runs of a campaign, played group by group.
 ghost use Rattle.std.specs.Prelude.{◌≡◌, ℕ, ◌+◌, ◌%◌, ◌^◌, ◌≤◌, ◌<◌, All, Option, map, length, replicate, slice_index_or, IfOk, OnOk, OnErr, Some, None};
-ghost use Rattle.eg_word.specs.declared.registers.Trap.{Trap};
-ghost use Rattle.eg_record.specs.declared.facts.Facts.{Facts};
+ghost use Rattle.eg_record.specs.declared.run_facts.RunFacts.{RunFacts};
 ghost use Rattle.eg_campaign.specs.Plays.{IsPlayable};
 ghost use Rattle.eg_campaign.specs.Groups.{is_alike, group_of, rows_shared, rows_of_group, rows_made, count_with, told_on, told_with, written_over};
 
 use crate::RunInput;
 use crate::alike::is_alike;
 use crate::checkpoints::{play_from, share};
-use crate::play::facts_with;
+use crate::play::tell_one;
 use eg_base::NoMemory;
 use eg_diesel::DieselEngine;
 use eg_plan::EngineKind;
 use eg_plant::{CopyEngine, GasolineEngine};
-use eg_record::Facts;
+use eg_record::RunFacts;
 use eg_tick::{BenchedEngine, Ticks};
 use eg_values::Calibration;
-use eg_word::Trap;
 use std::alloc::Global;
-
-/// What is told of a run: its facts, and its trap with the tick at which it came, if any.
-pub(crate) type Told = (Facts, Option<(Trap, u32)>);
 
 /// Plays the runs of a campaign group by group, and answers what each tells, in their order
 /// (docs/CONCEPT.md, "The record of a run"). The ticks are counted in `steps`. NoMemory is its one refusal.
@@ -29,7 +24,7 @@ pub(crate) fn tell_all(
     calibration: &Calibration,
     inputs: &[RunInput],
     steps: &mut Ticks,
-) -> Result<Vec<Option<Told>>, NoMemory>
+) -> Result<Vec<Option<RunFacts>>, NoMemory>
     requires { All IsPlayable inputs.now }
     ensures told { IfOk result (λ all.
         all.items ≡ map (λ x. Some (told_with calibration.now x)) inputs.now) }
@@ -52,7 +47,7 @@ pub(crate) fn tell_all(
 }
 
 /// Places for what so many runs tell.
-fn nothing_told(alloc: Global, count: usize) -> Result<Vec<Option<Told>>, NoMemory>
+fn nothing_told(alloc: Global, count: usize) -> Result<Vec<Option<RunFacts>>, NoMemory>
     ensures { IfOk result (λ told. told.items ≡ replicate count None) }
 {
     Ok(vec![in alloc; None; count]?)
@@ -66,7 +61,7 @@ fn play_first(
     inputs: &[RunInput],
     input: &RunInput,
     place: usize,
-    told: &mut [Option<Told>],
+    told: &mut [Option<RunFacts>],
     steps: &mut Ticks,
 ) -> Result<(), NoMemory>
     requires playable { All IsPlayable inputs.now }
@@ -74,7 +69,7 @@ fn play_first(
     requires place { place < length inputs.now }
     requires there { input.now ≡ slice_index_or inputs.now place input.now }
     requires places { length told.old ≡ length inputs.now }
-    ensures told { (before : RunInput → Option (Facts × Option (Trap × ℕ))) →
+    ensures told { (before : RunInput → Option RunFacts) →
         told.old ≡ map before inputs.now → OnOk result
         (told.new ≡ map (written_over (told_with calibration.now) input.now before) inputs.now) }
     ensures counted { OnOk result (steps.new ≡
@@ -84,7 +79,7 @@ fn play_first(
         × (steps.new.count ≡ (steps.old.count + n) % 2 ^ 64)) }
 {
     if count_alike(inputs, input) < 2 {
-        told[place] = Some(facts_with(calibration, input, steps));
+        told[place] = Some(tell_one(calibration, input, steps));
         return Ok(());
     }
     match input.plan.engine {
@@ -111,13 +106,13 @@ fn play_group<E: BenchedEngine + CopyEngine>(
     calibration: &Calibration,
     inputs: &[RunInput],
     input: &RunInput,
-    told: &mut [Option<Told>],
+    told: &mut [Option<RunFacts>],
     steps: &mut Ticks,
 ) -> Result<(), NoMemory>
     requires all { All IsPlayable inputs.now }
     requires playable { IsPlayable input.now }
     requires places { length told.old ≡ length inputs.now }
-    ensures told { (before : RunInput → Option (Facts × Option (Trap × ℕ))) →
+    ensures told { (before : RunInput → Option RunFacts) →
         told.old ≡ map before inputs.now → OnOk result
         (told.new ≡ map (written_over (told_on E.bench calibration.now) input.now before) inputs.now) }
     ensures counted { OnOk result (steps.new ≡

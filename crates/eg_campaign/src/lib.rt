@@ -13,5 +13,5 @@ pub use eg_plan::{
     CampaignFault, EngineKind, RunKey, RunPlan, accepted_files_keep_the_rules, add_ticks,
     read_campaign, usual_slices,
 };
-pub use play::{RunInput, facts_all, run_all};
+pub use play::{RunInput, facts_all, run_all, told_all};
 pub use recording::{RecordStop, record_into};

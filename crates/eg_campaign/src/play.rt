@@ -1,22 +1,20 @@
 // The runs of a campaign, played.
 ghost use Rattle.std.specs.Prelude.{◌≡◌, ℕ, ◌+◌, ◌%◌, ◌^◌, ◌≤◌, ◌<◌, All, List, [], ◌∷◌, map, length, slice_index_or, Option, Some, None, IsSome, IfOk, OnOk, OnErr};
-ghost use Rattle.eg_word.specs.declared.registers.Trap.{Trap};
-ghost use Rattle.eg_record.specs.declared.facts.Facts.{Facts};
+ghost use Rattle.eg_record.specs.declared.run_facts.RunFacts.{RunFacts};
 ghost use Rattle.eg_tick.specs.Facts.{IsToldOf};
 ghost use Rattle.eg_campaign.specs.Plays.{IsPlayable, bench_of, run_with, report_with, IsCounted, count_after};
 ghost use Rattle.eg_campaign.specs.Groups.{rows_made, count_with, told_with, facts_by};
 
-use crate::groups::{Told, tell_all};
+use crate::groups::tell_all;
 use eg_answer::reaction;
 use eg_base::{Items, NoMemory};
 use eg_diesel::DieselEngine;
 use eg_num::Drive;
 use eg_plan::{EngineKind, RunPlan};
 use eg_plant::GasolineEngine;
-use eg_record::{Facts, Summary};
+use eg_record::{Facts, RunFacts, Summary};
 use eg_tick::{BenchedEngine, Ticks, bench_facts};
 use eg_values::Calibration;
-use eg_word::Trap;
 use std::alloc::Global;
 
 /// A run of a campaign with what its files hold (docs/CONCEPT.md, "The record of a run").
@@ -47,7 +45,7 @@ pub fn run_all(
     ensures count { OnErr result ((n : ℕ) × (n ≤ length (rows_made calibration.now inputs.now))
         × (steps.new.count ≡ (steps.old.count + n) % 2 ^ 64)) }
 {
-    let told = tell_all(alloc, calibration, inputs, steps)?;
+    let told = told_all(alloc, calibration, inputs, steps)?;
     summaries_of(alloc, calibration, inputs, &told)
 }
 
@@ -66,8 +64,28 @@ pub fn facts_all(
     ensures count { OnErr result ((n : ℕ) × (n ≤ length (rows_made calibration.now inputs.now))
         × (steps.new.count ≡ (steps.old.count + n) % 2 ^ 64)) }
 {
-    let told = tell_all(alloc, calibration, inputs, steps)?;
+    let told = told_all(alloc, calibration, inputs, steps)?;
     facts_of_all(alloc, &told)
+}
+
+/// Plays the runs of a campaign as `run_all` does, and tells of each its facts, the reactions in its spans and
+/// its trap (docs/CONCEPT.md, "The report of a run" and "`table`"). The ticks that are made are counted in
+/// `steps`. NoMemory is its one refusal.
+pub fn told_all(
+    alloc: Global,
+    calibration: &Calibration,
+    inputs: &[RunInput],
+    steps: &mut Ticks,
+) -> Result<Vec<RunFacts>, NoMemory>
+    requires { All IsPlayable inputs.now }
+    ensures told { IfOk result (λ all. all.items ≡ map (told_with calibration.now) inputs.now) }
+    ensures counted { OnOk result
+        (steps.new ≡ count_with steps.old (rows_made calibration.now inputs.now)) }
+    ensures count { OnErr result ((n : ℕ) × (n ≤ length (rows_made calibration.now inputs.now))
+        × (steps.new.count ≡ (steps.old.count + n) % 2 ^ 64)) }
+{
+    let told = tell_all(alloc, calibration, inputs, steps)?;
+    each_told(alloc, &told)
 }
 
 /// What the report says of each run of which this is told.
@@ -75,15 +93,14 @@ fn summaries_of(
     alloc: Global,
     calibration: &Calibration,
     inputs: &[RunInput],
-    told: &[Option<Told>],
+    told: &[RunFacts],
 ) -> Result<Vec<Summary>, NoMemory>
-    requires { told.now ≡ map (λ x. Some (told_with calibration.now x)) inputs.now }
+    requires { told.now ≡ map (told_with calibration.now) inputs.now }
     ensures { IfOk result (λ all. all.items ≡ map (report_with calibration.now) inputs.now) }
 {
     let mut summaries = Vec::new(alloc);
     for i in 0..inputs.len() {
-        let one = told_at(told, i);
-        let summary = report_one(alloc, calibration, &inputs[i], one)?;
+        let summary = report_one(alloc, calibration, &inputs[i], &told[i])?;
         summaries.push(summary)?;
     }
     Ok(summaries)
@@ -94,32 +111,43 @@ fn report_one(
     alloc: Global,
     calibration: &Calibration,
     input: &RunInput,
-    told: Told,
+    told: &RunFacts,
 ) -> Result<Summary, NoMemory>
-    requires { told ≡ told_with calibration.now input.now }
+    requires { told.now ≡ told_with calibration.now input.now }
     ensures { IfOk result (λ summary. summary ≡ report_with calibration.now input.now) }
 {
-    let (facts, trap) = told;
     let name = input.plan.name.as_str();
-    facts.summary(alloc, name, trap, reaction(calibration.times()))
+    told.facts
+        .summary(alloc, name, told.trap, reaction(calibration.times()))
 }
 
-/// The facts that are told of all runs.
-fn facts_of_all(alloc: Global, told: &[Option<Told>]) -> Result<Vec<Facts>, NoMemory>
-    requires { All IsSome told.now }
-    ensures { (all : List (Facts × Option (Trap × ℕ))) → told.now ≡ map (λ one. Some one) all →
-        IfOk result (λ facts. facts.items ≡ map (λ one. one.0) all) }
+/// The facts of runs of which this is told.
+fn facts_of_all(alloc: Global, told: &[RunFacts]) -> Result<Vec<Facts>, NoMemory>
+    ensures { IfOk result (λ facts. facts.items ≡ map (λ one. one.facts) told.now) }
 {
     let mut facts = Vec::new(alloc);
-    for i in 0..told.len() {
-        let (one, _) = told_at(told, i);
-        facts.push(one)?;
+    for one in told {
+        facts.push(one.facts)?;
     }
     Ok(facts)
 }
 
+/// What is told at each of these places, at each of which something is.
+fn each_told(alloc: Global, told: &[Option<RunFacts>]) -> Result<Vec<RunFacts>, NoMemory>
+    requires { All IsSome told.now }
+    ensures { (all : List RunFacts) → told.now ≡ map (λ one. Some one) all →
+        IfOk result (λ each. each.items ≡ all) }
+{
+    let mut each = Vec::new(alloc);
+    for i in 0..told.len() {
+        let one = told_at(told, i);
+        each.push(one)?;
+    }
+    Ok(each)
+}
+
 /// What is told at a place at which something is.
-fn told_at(told: &[Option<Told>], place: usize) -> Told
+fn told_at(told: &[Option<RunFacts>], place: usize) -> RunFacts
     requires place { place < length told.now }
     requires some { IsSome (slice_index_or told.now place None) }
     ensures { slice_index_or told.now place None ≡ Some result }
@@ -130,31 +158,31 @@ fn told_at(told: &[Option<Told>], place: usize) -> Told
     }
 }
 
-/// Plays one run of the engine that it names, and tells its facts and its trap.
-pub(crate) fn facts_with(
+/// Plays one run of the engine that it names, and tells of it.
+pub(crate) fn tell_one(
     calibration: &Calibration,
     input: &RunInput,
     steps: &mut Ticks,
-) -> (Facts, Option<(Trap, u32)>)
+) -> RunFacts
     requires { IsPlayable input.now }
     ensures told { IsToldOf (bench_of input.now.plan.engine) (run_with calibration.now input.now).run
-        result.0 result.1 }
+        result }
     ensures counted { steps.new ≡ count_after steps.old (run_with calibration.now input.now ∷ []) }
 {
     match input.plan.engine {
-        EngineKind::Gasoline => facts_on::<GasolineEngine>(calibration, input, steps),
-        EngineKind::Diesel => facts_on::<DieselEngine>(calibration, input, steps),
+        EngineKind::Gasoline => tell_on::<GasolineEngine>(calibration, input, steps),
+        EngineKind::Diesel => tell_on::<DieselEngine>(calibration, input, steps),
     }
 }
 
 /// The same of an engine of this type, whichever the run names.
-fn facts_on<E: BenchedEngine>(
+fn tell_on<E: BenchedEngine>(
     calibration: &Calibration,
     input: &RunInput,
     steps: &mut Ticks,
-) -> (Facts, Option<(Trap, u32)>)
+) -> RunFacts
     requires { IsPlayable input.now }
-    ensures told { IsToldOf E.bench (run_with calibration.now input.now).run result.0 result.1 }
+    ensures told { IsToldOf E.bench (run_with calibration.now input.now).run result }
     ensures counted { IsCounted E.bench (run_with calibration.now input.now).run steps.old steps.new }
 {
     let (image, drive) = (input.image.as_slice(), input.drive.as_slice());

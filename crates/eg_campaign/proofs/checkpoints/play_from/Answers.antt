@@ -8,7 +8,7 @@ use Rattle.eg_campaign.specs.Plays.{run_with}
 use Rattle.eg_campaign.specs.declared.checkpoints.TheConstants.{CHECKPOINT_TICKS}
 use Rattle.eg_campaign.specs.Groups.{faultless, rows_under, count_with}
 use Rattle.eg_campaign.specs.Checkpoints.{HasMade, IsSharedFor}
-use Rattle.eg_campaign.proofs.CheckpointLemmas.{counted_none, never_begins, makes_none, played_under, rows-are, told_at}
+use Rattle.eg_campaign.proofs.CheckpointLemmas.{counted_none, never_begins, makes_none, played_under, rows-are}
 use Rattle.eg_campaign.proofs.checkpoints.play_from.Given.{Over}
 use Rattle.eg_campaign.proofs.checkpoints.play_from.Goals as goal
 
@@ -27,7 +27,7 @@ returns-then-fault-as_slice-clause-told g c = λ cal shared.
     let begins : BeginsFrom (length x.drive) x.plan.fault = subst (BeginsFrom (length x.drive)) (sym c.in-Some.is)
     (subst (λ d. length d ≤ c.in-Some.fault.onset) c.as_slice.ensures c.if-fault-as_slice.true) in
     told_under g.E.BenchedEngine.bench g.E.BenchedEngine.come_to (run_with cal (faultless x)).run refl x.plan.fault
-    c.args.shared.now.facts c.args.shared.now.trap begins shared.told
+    c.args.shared.now.told begins shared.told
 
 pub returns-then-fault-as_slice-clause-counted : goal.returns-then-fault-as_slice-clause-counted
 returns-then-fault-as_slice-clause-counted g c = λ cal shared.
@@ -53,9 +53,7 @@ made g c cal shared = c.play_on.ensures (run_with cal c.args.input.now).run (rec
     c.copy.result c.copy.ensures c.index.result.now c.go_on-played.result c.index.ensures c.go_on-played.ensures.played)
 
 pub returns-clause-told : goal.returns-clause-told
-returns-clause-told g c = λ cal shared.
-    told_at g.E.BenchedEngine.bench g.E.BenchedEngine.come_to (run_with cal c.args.input.now).run c.play_on.new.played c.facts.result c.trap.result
-    (made g c cal shared).to c.facts.ensures.facts c.trap.ensures.trap
+returns-clause-told g c = λ cal shared. c.told_of.ensures (run_with cal c.args.input.now).run (made g c cal shared).to
 
 pub returns-clause-counted : goal.returns-clause-counted
 returns-clause-counted g c = λ cal shared.

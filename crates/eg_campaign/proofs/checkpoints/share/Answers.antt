@@ -4,7 +4,7 @@ use Rattle.eg_tick.proofs.RunLemmas.{on_err}
 use Rattle.eg_campaign.specs.Plays.{run_with}
 use Rattle.eg_campaign.specs.Groups.{faultless}
 use Rattle.eg_campaign.specs.Checkpoints.{HasMade, AreCheckpoints}
-use Rattle.eg_campaign.proofs.CheckpointLemmas.{made_none, made_count, made_stop, made_all, told_at, kept_none}
+use Rattle.eg_campaign.proofs.CheckpointLemmas.{made_none, made_count, made_stop, made_all, kept_none}
 use Rattle.eg_campaign.proofs.checkpoints.share.Goals as goal
 
 pub loop-tick-init : goal.loop-tick-init
@@ -50,7 +50,7 @@ returns-clause-shared g c =
     let made = subst (λ n. HasMade bench come_to r 0 n c.loop-tick.played c.args.steps.now c.loop-tick.steps) all c.loop-tick.invariant.made in
     record {
       checkpoints = subst (λ n. AreCheckpoints bench come_to r n c.loop-tick.checkpoints.items) all c.loop-tick.invariant.kept;
-      told = told_at bench come_to r c.loop-tick.played c.facts.result c.trap.result made.to c.facts.ensures.facts c.trap.ensures.trap;
+      told = c.told_of.ensures r made.to;
     }
 
 pub returns-clause-counted : goal.returns-clause-counted

@@ -1,7 +1,6 @@
 use Rattle.std.proofs.Common.{◌∙◌, sym, ap, ap₂, subst, ◌<◌, ◌≤◌, ℕ, List, Option, Some, length}
 use Rattle.std.specs.Prelude.{OnErr, slice_set}
-use Rattle.eg_word.specs.declared.registers.Trap.{Trap}
-use Rattle.eg_record.specs.declared.facts.Facts.{Facts}
+use Rattle.eg_record.specs.declared.run_facts.RunFacts.{RunFacts}
 use Rattle.eg_record.specs.declared.row.Row.{Row}
 use Rattle.eg_plan.specs.declared.engine.EngineKind.TheVariants as kind
 use Rattle.eg_campaign.specs.declared.play.RunInput.{RunInput}
@@ -9,7 +8,7 @@ use Rattle.eg_campaign.specs.Plays.{bench_of, run_with}
 use Rattle.eg_campaign.specs.Groups.{is_alike, group_of, rows_of_group, count_with, told_with}
 use Rattle.eg_campaign.proofs.PlayLemmas.{if_on_ok}
 use Rattle.eg_campaign.proofs.AlikeLemmas.{is_alike-equality}
-use Rattle.eg_campaign.proofs.OneGroup.{Stopped, told_is}
+use Rattle.eg_campaign.proofs.OneGroup.{Stopped}
 use Rattle.eg_campaign.proofs.AllGroups.{alone, written_alone, counted_one, shared_rows, written_by}
 use Rattle.eg_campaign.proofs.groups.play_first.Goals as goal
 
@@ -20,8 +19,8 @@ returns-then-count_alike-lt2-clause-told c =
     let inputs = c.args.inputs.now in
     let few : length (group_of inputs x) < 2 = subst (λ n. n < 2) c.count_alike.ensures c.if-count_alike-lt2.true in
     λ before h.
-    ap₂ (λ (all : List (Option (Facts × Option (Trap × ℕ)))) (one : Facts × Option (Trap × ℕ)). slice_set all c.args.place (Some one)) h
-    (told_is (bench_of x.plan.engine) cal x c.facts_with.result c.facts_with.ensures.told)
+    ap₂ (λ (all : List (Option RunFacts)) (one : RunFacts). slice_set all c.args.place (Some one)) h
+    c.tell_one.ensures.told.is
     ∙ written_alone (is_alike x) (λ (y : RunInput). Some (told_with cal y)) before inputs c.args.place x c.requires.place c.requires.there (is_alike-equality.refl x) few
 
 pub returns-then-count_alike-lt2-clause-counted : goal.returns-then-count_alike-lt2-clause-counted
@@ -31,7 +30,7 @@ returns-then-count_alike-lt2-clause-counted c =
     let x = c.args.input.now in
     let inputs = c.args.inputs.now in
     let few : length (group_of inputs x) < 2 = subst (λ n. n < 2) c.count_alike.ensures c.if-count_alike-lt2.true in
-    counted_one c.args.steps.now c.facts_with.new.steps (run_with cal x) c.facts_with.ensures.counted
+    counted_one c.args.steps.now c.tell_one.new.steps (run_with cal x) c.tell_one.ensures.counted
     ∙ ap (λ (g : List RunInput). count_with c.args.steps.now (rows_of_group cal g))
     (sym (alone (is_alike x) inputs c.args.place x c.requires.place c.requires.there (is_alike-equality.refl x) few))
 

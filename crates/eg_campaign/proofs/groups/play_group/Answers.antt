@@ -1,13 +1,13 @@
-use Rattle.std.proofs.Common.{◌≡◌, ◌∙◌, sym, ap, subst, ◌+◌, ◌<◌, ◌≤◌, true, [], ◌++◌, drop, length, Some}
+use Rattle.std.proofs.Common.{◌≡◌, ◌∙◌, sym, ap, subst, ◌+◌, ◌<◌, ◌≤◌, true, false, [], ◌++◌, drop, length, Some}
 use Rattle.std.specs.Prelude.{filter}
 use Rattle.std.specs.List.{flat_map}
 use Rattle.std.proofs.lemmas.List.{length-set, drop_all}
 use Rattle.eg_model.specs.Bench.{Run}
 use Rattle.eg_model.specs.Rows.{record_rows}
 use Rattle.eg_tick.proofs.RunLemmas.{on_err}
-use Rattle.eg_campaign.specs.Plays.{run_with}
+use Rattle.eg_campaign.specs.Plays.{IsPlayable, run_with}
 use Rattle.eg_campaign.specs.Groups.{is_alike, faultless, own_on, rows_shared, told_on, written_over}
-use Rattle.eg_campaign.proofs.OneGroup.{begun, more, said, stopped, ended, within, shared_of, rest-in, wrote, all_written, told_is, written-in}
+use Rattle.eg_campaign.proofs.OneGroup.{begun, more, said, stopped, ended, within, shared_of, rest-in, rest-out, wrote, left, all_written, written-in, written-out}
 use Rattle.eg_campaign.proofs.groups.play_group.Goals as goal
 
 pub returns-in_err-shared-clause-count : goal.returns-in_err-shared-clause-count
@@ -51,6 +51,29 @@ play_from-one-requires-clause-shared g c =
           (sym c.is_alike.ensures ∙ c.if-not-is_alike.false) c.in_ok-shared.ensures.shared,
     )
 
+-- a run of another group is left out
+pub loop-i-preserved-then-not-is_alike : goal.loop-i-preserved-then-not-is_alike
+loop-i-preserved-then-not-is_alike g c =
+    let bench = g.E.BenchedEngine.bench in
+    let cal = c.args.calibration.now in
+    let x = c.args.input.now in
+    let y = c.index-inputs-i.result in
+    let inputs = c.args.inputs.now in
+    let i = c.loop-i.i in
+    let own = own_on bench cal in
+    let other : is_alike x y ≡ false = sym c.is_alike.ensures ∙ c.if-not-is_alike.true in
+    record {
+      places = c.loop-i.invariant.places;
+      told = λ before h. left (written_over (told_on bench cal) x before) before inputs i y c.loop-i.told c.loop-i-test.true c.index-inputs-i.is
+          (written-out (told_on bench cal) x before y other) (c.loop-i.invariant.told before h);
+      counts = said c.args.steps.now c.loop-i.steps (flat_map own (filter (is_alike x) (drop i inputs))) (flat_map own (filter (is_alike x) (drop (i + 1) inputs)))
+          (rows_shared bench cal inputs x) (rest-out own (is_alike x) inputs i y c.loop-i-test.true c.index-inputs-i.is other) c.loop-i.invariant.counts;
+    }
+
+pub play_from-one-requires-clause-playable : goal.play_from-one-requires-clause-playable
+play_from-one-requires-clause-playable g c =
+    subst IsPlayable (sym c.index-inputs-i.is) (c.requires.all c.loop-i.i c.index-inputs-i.result c.loop-i-test.true)
+
 pub loop-i-preserved : goal.loop-i-preserved
 loop-i-preserved g c =
     let bench = g.E.BenchedEngine.bench in
@@ -66,7 +89,7 @@ loop-i-preserved g c =
     record {
       places = length-set c.loop-i.told i (Some one) ∙ c.loop-i.invariant.places;
       told = λ before h. wrote (written_over (told_on bench cal) x before) before inputs i y c.loop-i.told (Some one) c.loop-i-test.true c.index-inputs-i.is
-          (ap Some (told_is bench cal y one (c.play_from-one.ensures.told cal is_shared)) ∙ written-in (told_on bench cal) x before y so)
+          (ap Some ((c.play_from-one.ensures.told cal is_shared).is) ∙ written-in (told_on bench cal) x before y so)
           (c.loop-i.invariant.told before h);
       counts = more c.args.steps.now c.loop-i.steps c.play_from-one.new.steps (own y)
           (flat_map own (filter (is_alike x) (drop (i + 1) inputs))) (rows_shared bench cal inputs x)

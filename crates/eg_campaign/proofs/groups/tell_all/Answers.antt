@@ -1,8 +1,7 @@
 use Rattle.std.proofs.Common.{◌≡◌, ◌∙◌, sym, ap, subst, ℕ, ◌+◌, ◌<◌, List, Option, None, map, length}
 use Rattle.std.specs.Option.{is_some}
 use Rattle.std.proofs.lemmas.List.{length-map}
-use Rattle.eg_word.specs.declared.registers.Trap.{Trap}
-use Rattle.eg_record.specs.declared.facts.Facts.{Facts}
+use Rattle.eg_record.specs.declared.run_facts.RunFacts.{RunFacts}
 use Rattle.eg_tick.proofs.RunLemmas.{on_err}
 use Rattle.eg_campaign.specs.declared.play.RunInput.{RunInput}
 use Rattle.eg_campaign.specs.Groups.{rows_made, told_with, written_over}
@@ -60,7 +59,7 @@ loop-i-preserved c =
     let back = wrote_back c.loop-i.told.len now told inputs w written c.loop-i.invariant.places c.loop-i.told.ok.0 in
     record {
       places = ap length back ∙ ap length written ∙ length-map inputs w;
-      goes = subst (λ (l : List (Option (Facts × Option (Trap × ℕ)))). Goes cal inputs (c.loop-i.i + 1) l c.args.steps.now c.play_first.new.steps) (sym back)
+      goes = subst (λ (l : List (Option RunFacts)). Goes cal inputs (c.loop-i.i + 1) l c.args.steps.now c.play_first.new.steps) (sym back)
           (goes-new cal inputs c.loop-i.i x c.loop-i-test.true c.index-inputs-i.is told now c.args.steps.now c.loop-i.steps c.play_first.new.steps so_far
           (sym (place-some cal inputs c.loop-i.i x c.loop-i-test.true c.index-inputs-i.is told c.args.steps.now c.loop-i.steps so_far
           c.index.result.now c.is_some.result (c.is_some.ensures ∙ ap is_some c.index.ensures)) ∙ c.if-is_some.false)

@@ -1,9 +1,9 @@
-use Rattle.std.proofs.Common.{◌≡◌, ℕ, List, map, take, Option, Some}
-use Rattle.eg_word.specs.declared.registers.Trap.{Trap}
-use Rattle.eg_record.specs.declared.facts.Facts.{Facts}
+use Rattle.std.proofs.Common.{◌≡◌, map, take}
+use Rattle.eg_record.specs.declared.run_facts.RunFacts.{RunFacts}
 use Rattle.eg_campaign.proofs.play.facts_of_all.Given as goal
 
 -- the facts so far
-abbrev pub invariant-loop-i : goal.invariant-loop-i
-invariant-loop-i l = (all : List (Facts × Option (Trap × ℕ))) → l.told ≡ map (λ (one : Facts × Option (Trap × ℕ)). Some one) all →
-    l.facts.items ≡ map (λ (one : Facts × Option (Trap × ℕ)). one.0) (take l.i all)
+abbrev pub invariant-loop-one : goal.invariant-loop-one
+invariant-loop-one l = record {
+  facts : l.facts.items ≡ map (λ (one : RunFacts). one.facts) (take l.one-index l.told);
+}

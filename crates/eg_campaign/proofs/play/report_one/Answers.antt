@@ -1,7 +1,6 @@
 use Rattle.std.proofs.Common.{◌∙◌, ap, ℕ, Option}
 use Rattle.eg_answer.specs.Times.{reaction_of}
-use Rattle.eg_word.specs.declared.registers.Trap.{Trap}
-use Rattle.eg_record.specs.declared.facts.Facts.{Facts}
+use Rattle.eg_record.specs.declared.run_facts.RunFacts.{RunFacts}
 use Rattle.eg_tick.specs.Facts.{record_facts}
 use Rattle.eg_tick.proofs.RunLemmas.{if_ok}
 use Rattle.eg_campaign.specs.Plays.{run_with, rows_of_run}
@@ -14,5 +13,5 @@ returns c =
     let cal = c.args.calibration.now in
     let r = run_with cal c.args.input.now in
     if_ok _ _ c.summary.result (λ summary is. report_is _ _ r _ _ summary c.as_str-name.ensures
-    (ap (λ (t : Facts × Option (Trap × ℕ)). t.1) c.requires) (c.reaction.ensures ∙ ap reaction_of c.times.ensures.times) is)
-    (c.summary.ensures.rows cal.rules.torque cal.rules.threshold (rows_of_run r) (ap (λ (t : Facts × Option (Trap × ℕ)). t.0) c.requires))
+    (ap (λ (t : RunFacts). t.trap) c.requires) (c.reaction.ensures ∙ ap reaction_of c.times.ensures.times) is)
+    (c.summary.ensures.rows cal.rules.torque cal.rules.threshold (rows_of_run r) (ap (λ (t : RunFacts). t.facts) c.requires))

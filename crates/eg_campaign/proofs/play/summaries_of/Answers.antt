@@ -10,12 +10,6 @@ use Rattle.eg_campaign.proofs.play.summaries_of.Goals as goal
 pub loop-i-init : goal.loop-i-init
 loop-i-init c = c.new-summaries.ensures.items
 
-pub told_at-one-requires-clause-some : goal.told_at-one-requires-clause-some
-told_at-one-requires-clause-some c =
-    let below : c.loop-i.i < length c.args.told.now = subst (λ n. c.loop-i.i < n)
-    (sym (ap length c.requires ∙ length-map c.args.inputs.now (λ (x : RunInput). Some (told_with c.args.calibration.now x)))) c.loop-i-test.true in
-    all_some (told_with c.args.calibration.now) c.args.inputs.now c.args.told.now c.requires c.loop-i.i None below
-
 pub loop-i-preserved : goal.loop-i-preserved
 loop-i-preserved c = c.in_ok-push.ensures.items
     ∙ ap₂ (λ all one. all ++ one ∷ []) c.loop-i.invariant c.in_ok-summary.ensures
