@@ -33,7 +33,8 @@ const CLASS_NAMES: [&str; 14] = [
 pub fn class_name(class: &Class) -> &'static str
     ensures { result.now ≡ class_name class.now }
 {
-    CLASS_NAMES[class_place(class)]
+    let names = CLASS_NAMES.as_slice();
+    names[class_place(class)]
 }
 
 /// How many classes stand before the last, the lapses.
