@@ -7,11 +7,10 @@ ghost use Rattle.eg_table.specs.Acting.{acts_within, has_acted, has_effect};
 
 use eg_fault::{Class, Fault, Script};
 
-/// Whether the fault of a run has an effect at one of its ticks, at most 20,000, and None where there is no
-/// fault (docs/CONCEPT.md, "`table`"). It takes no memory.
+/// Whether the fault of a run of so many ticks has an effect at one of them, and None where there is no fault
+/// (docs/CONCEPT.md, "`table`"). It takes no memory.
 #[tactic(auto, unfolding(crate::specs::Acting::has_acted))]
 pub fn has_acted(fault: Option<&Fault>, ticks: u32) -> Option<bool>
-    requires { ticks ≤ 20000 }
     ensures { result ≡ has_acted (option_copied fault.entry) ticks }
 {
     match fault {
@@ -43,10 +42,18 @@ fn has_effect_within(class: &Class, ticks: u32) -> bool
 fn is_left_out_within(after: &Script, every: u16, ticks: u32) -> bool
     ensures { result ≡ list_any (is_left_out after.now every) (range_with_len 0 ticks) }
 {
-    after.values().iter().any(|tick| comes_within(*tick, every, ticks))
+    some_comes_within(after.values(), every, ticks)
 }
 
-/// Whether a number of the list comes at one of so many ticks from the onset on.
+/// Whether one of these numbers alone leaves level 2 out at one of so many ticks.
+fn some_comes_within(numbers: &[u16], every: u16, ticks: u32) -> bool
+    ensures { result
+        ≡ list_any (λ tick. list_any (is_left_out (tick ∷ []) every) (range_with_len 0 ticks)) numbers.now }
+{
+    numbers.iter().any(|tick| comes_within(*tick, every, ticks))
+}
+
+/// Whether this number alone leaves level 2 out at one of so many ticks.
 fn comes_within(tick: u16, every: u16, ticks: u32) -> bool
     ensures { result ≡ list_any (is_left_out (tick ∷ []) every) (range_with_len 0 ticks) }
 {

@@ -1,5 +1,5 @@
 // The text of a table, line by line.
-ghost use Rattle.std.specs.Prelude.{◌≡◌, ◌≤◌, ◌++◌, OnOk, codes, string_bytes};
+ghost use Rattle.std.specs.Prelude.{◌≡◌, ◌++◌, OnOk, codes, string_bytes};
 ghost use Rattle.std.specs.Option.{option_copied};
 ghost use Rattle.eg_record.specs.Texts.{bit};
 ghost use Rattle.eg_table.specs.Texts.{acted_column, class_column, fault_columns, first_columns, number_column, reaction_columns, table_header, table_line, tick_columns, trap_columns};
@@ -21,7 +21,6 @@ pub fn table_header() -> &'static str
 
 /// Appends the line of a run with this name, with its LF, to a text (docs/FORMATS.md, "The table of
 /// `table`"). The reaction time is `bound`, in ticks. It is refused where memory runs out.
-#[tactic(auto, unfolding(crate::specs::Texts::table_line))]
 pub fn push_table_line(
     text: &mut String,
     name: &str,
@@ -29,7 +28,6 @@ pub fn push_table_line(
     bound: u32,
     told: &RunFacts,
 ) -> Result<(), AllocError>
-    requires { told.now.facts.ticks ≤ 20000 }
     ensures { OnOk result (string_bytes text.new
         ≡ string_bytes text.old ++ table_line name.now (option_copied fault.entry) bound told.now) }
 {
@@ -45,7 +43,6 @@ pub fn push_table_line(
 /// Appends the class of a fault, its onset and whether it has acted in a run of so many ticks.
 #[tactic(auto, unfolding(crate::specs::Texts::fault_columns))]
 fn push_fault(text: &mut String, fault: Option<&Fault>, ticks: u32) -> Result<(), AllocError>
-    requires { ticks ≤ 20000 }
     ensures { OnOk result (string_bytes text.new
         ≡ string_bytes text.old ++ fault_columns (option_copied fault.entry) ticks) }
 {
