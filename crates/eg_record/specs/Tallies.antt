@@ -1,23 +1,16 @@
 -- What a tally keeps of rows that are gone, and for which rows it stands. Lists of rows stand newest first.
-use Rattle.std.specs.Prelude.{◌≡◌, ℕ, ◌≤◌, List, map, drop, Option}
+use Rattle.std.specs.Prelude.{◌≡◌, ℕ, ◌≤◌, List, map, drop}
 use Rattle.eg_num.specs.Windows.{WeightParts, AreWeights}
 use Rattle.eg_num.specs.Counting.{StandsFor}
 use Rattle.eg_record.specs.declared.row.Row.{Row}
 use Rattle.eg_record.specs.declared.facts.Facts.{Facts}
 use Rattle.eg_record.specs.Rows.{AreRows}
-use Rattle.eg_record.specs.declared.reactions.Reactions.{Reactions}
+use Rattle.eg_record.specs.declared.span_tally.SpanTally.{SpanTally}
 use Rattle.eg_record.specs.Spans.{this_span, spans_of}
 use Rattle.eg_record.specs.Stages.{last_on}
 use Rattle.eg_record.specs.Excess.{true_excess}
 use Rattle.eg_record.specs.Facts.{facts_of}
 use Rattle.eg_record.specs.Reactions.{confirmed_in, reactions_of_spans}
-
--- what is kept of the span that the rows end with: the last tick at which the stages are on in it, and the
--- first by which the true excess is confirmed in it; and the reactions of the spans before
-pub record SpanParts : Type 0 where
-  pub last_on : Option ℕ
-  pub confirmed : Option ℕ
-  pub ended : Reactions
 
 -- the threshold and the weights by which the true excess goes, the facts of the rows, the value of the counter
 -- of the true excess, and what is kept of the spans
@@ -26,10 +19,10 @@ pub record TallyParts : Type 0 where
   pub weights : WeightParts
   pub facts : Facts
   pub value : ℕ
-  pub spans : SpanParts
+  pub spans : SpanTally
 
 -- it is what is to be kept of the spans of these rows
-pub record AreSpansOf (weights : WeightParts) (threshold : ℕ) (spans : SpanParts) (rows : List Row) : Type 0
+pub record AreSpansOf (weights : WeightParts) (threshold : ℕ) (spans : SpanTally) (rows : List Row) : Type 0
     where
   pub last_on : spans.last_on ≡ last_on (this_span rows)
   pub confirmed : spans.confirmed ≡ confirmed_in weights threshold (this_span rows)

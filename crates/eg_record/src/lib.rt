@@ -9,6 +9,7 @@ mod reactions;
 mod row;
 mod row_line;
 mod run_facts;
+mod span_tally;
 mod summary;
 mod summary_line;
 mod tally;

@@ -1,9 +1,6 @@
 // The reactions of a run, span by span.
 ghost use Rattle.std.specs.Prelude.{◌≡◌};
-ghost use Rattle.eg_record.specs.Facts.{reaction_by};
-ghost use Rattle.eg_record.specs.Reactions.{both, greater, is_settled, less, no_reactions};
-
-use crate::facts::reaction_by;
+ghost use Rattle.eg_record.specs.Reactions.{both, greater, is_settled, less};
 
 /// What is told of the reactions of a run once its rows are gone (docs/CONCEPT.md, "`table`"). Spans are the
 /// stretches of ticks in which the engine is driven, and the start-up tests.
@@ -27,5 +24,40 @@ impl Reactions {
             Some(ticks) => bound <= ticks,
             None => true,
         }
+    }
+
+    /// What is told of these spans and of others.
+    #[tactic(auto, unfolding(crate::specs::Reactions::both))]
+    pub(crate) fn and(&self, others: &Reactions) -> Reactions
+        ensures { result ≡ both self.now others.now }
+    {
+        Reactions {
+            longest: greater(self.longest, others.longest),
+            followed: less(self.followed, others.followed),
+        }
+    }
+}
+
+/// The greater of two numbers, each of which may be missing.
+#[tactic(auto, unfolding(crate::specs::Reactions::greater))]
+fn greater(one: Option<u32>, other: Option<u32>) -> Option<u32>
+    ensures { result ≡ greater one other }
+{
+    match (one, other) {
+        (Some(one), Some(other)) => Some(one.max(other)),
+        (Some(one), None) => Some(one),
+        (None, other) => other,
+    }
+}
+
+/// The less of two numbers, each of which may be missing.
+#[tactic(auto, unfolding(crate::specs::Reactions::less))]
+fn less(one: Option<u32>, other: Option<u32>) -> Option<u32>
+    ensures { result ≡ less one other }
+{
+    match (one, other) {
+        (Some(one), Some(other)) => Some(one.min(other)),
+        (Some(one), None) => Some(one),
+        (None, other) => other,
     }
 }
