@@ -24,6 +24,6 @@ pub use row::Row;
 pub use row_line::{push_row, record_header, row_text};
 pub use run_facts::RunFacts;
 pub use summary::{Summary, summarize};
-pub use summary_line::{report_end_text, summary_text};
+pub use summary_line::{report_end_text, summary_text, trap_name};
 pub use tally::Tally;
 pub use watch::Watch;

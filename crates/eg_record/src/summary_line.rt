@@ -83,9 +83,9 @@ fn push_trap(line: &mut String, trap: Option<(Trap, u32)>) -> Result<(), AllocEr
     }
 }
 
-/// The name of a trap's kind.
+/// The name of a trap's kind (docs/FORMATS.md, "The report").
 #[tactic(auto, unfolding(crate::specs::Texts::trap_name))]
-fn trap_name(kind: Trap) -> &'static str
+pub fn trap_name(kind: Trap) -> &'static str
     ensures { result.now ≡ trap_name kind }
 {
     match kind {

@@ -1,13 +1,18 @@
 -- The text of a table, line by line.
-use Rattle.std.proofs.Common.{◌≡◌, ◌∙◌, sym, ap, ℕ, List, [], ◌∷◌, ◌++◌, map, append_assoc}
+use Rattle.std.proofs.Common.{◌≡◌, ◌∙◌, sym, ap, ap₂, ℕ, List, [], ◌∷◌, ◌++◌, map, get_or, append_assoc}
 use Rattle.std.specs.Prelude.{codes, decimal, Result, Ok, Err, is_ok, OnOk, if◌then◌else◌}
 use Rattle.std.specs.List.{concat, zip}
+use Rattle.std.proofs.Math.ListN.{get_or-map}
 use Rattle.std.proofs.lemmas.List.{append-nil}
 use Rattle.std.proofs.lemmas.List.Folds.{concat-append}
+use Rattle.eg_fault.specs.declared.class.Class.{Class}
 use Rattle.eg_record.specs.declared.watch.Watch.{Watch}
 use Rattle.eg_record.specs.Texts.{watch_name}
 use Rattle.eg_sweep.specs.declared.row.SweepRow.{SweepRow}
-use Rattle.eg_sweep.specs.Texts.{class_names, reaction_text, watch_text, watches_text, sweep_line, sweep_end, sweep_lines, sweep_text_of}
+use Rattle.eg_sweep.specs.Table.{class_place}
+use Rattle.eg_sweep.specs.Texts.{class_name, class_names, reaction_text, watch_text, watches_text, sweep_line, sweep_end, sweep_lines, sweep_text_of}
+use Rattle.eg_sweep.proofs.PairLemmas.{texts_of}
+use denote.Ref.{Bor}
 
 -- ---- lines that are written one after another ----
 
@@ -22,6 +27,19 @@ pub all_written : {X : Type 0} (line : X → List ℕ) (text : List ℕ) (left :
     left ≡ [] → text ++ concat (map line left) ≡ all → text ≡ all
 all_written line text left all none whole =
     sym (append-nil text) ∙ ap (λ xs. text ++ concat (map line xs)) (sym none) ∙ whole
+
+-- ---- the names of the classes ----
+
+-- the name at the place of a class, of references to the names
+pub name_at : (names : List (Bor (List ℕ))) (place : ℕ) (absent : Bor (List ℕ)) (class : Class) → absent.now ≡ [] →
+    texts_of names ≡ class_names → place ≡ class_place class → (get_or names place absent).now ≡ class_name class
+unfolding texts_of class_name
+name_at names place absent class empty are is =
+    sym (get_or-map (λ (text : Bor (List ℕ)). text.now) names place absent)
+    ∙ ap (get_or (map (λ (text : Bor (List ℕ)). text.now) names) place) empty
+    ∙ ap₂ (λ texts n. get_or texts n []) are is
+
+-- ---- the last piece ----
 
 -- a last piece, which is appended or isn't
 pub on_ok : {T E : Type 0} (result : Result T E) (now whole before all : List ℕ) →

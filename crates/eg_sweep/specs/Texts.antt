@@ -1,11 +1,12 @@
 -- What `sweep` writes: a line for each class, and a last line.
-use Rattle.std.specs.Prelude.{ℕ, List, [], ◌∷◌, ◌++◌, map, codes, decimal, Option, Some, None}
+use Rattle.std.specs.Prelude.{ℕ, List, [], ◌∷◌, ◌++◌, map, get_or, codes, decimal, Option, Some, None}
 use Rattle.std.specs.List.{concat, zip}
+use Rattle.eg_fault.specs.declared.class.Class.{Class}
 use Rattle.eg_record.specs.declared.watch.Watch.{Watch}
 use Rattle.eg_record.specs.Detection.{watches}
 use Rattle.eg_record.specs.Texts.{watch_name}
 use Rattle.eg_sweep.specs.declared.row.SweepRow.{SweepRow}
-use Rattle.eg_sweep.specs.Table.{greatest_listed}
+use Rattle.eg_sweep.specs.Table.{class_place, greatest_listed}
 
 -- the names of the classes in their order, as campaigns spell them
 unfoldable pub class_names : List (List ℕ)
@@ -13,6 +14,10 @@ class_names =
     codes "script" ∷ codes "offset" ∷ codes "bus" ∷ codes "plate" ∷ codes "skip" ∷ codes "disturb"
     ∷ codes "flip" ∷ codes "halt" ∷ codes "timing" ∷ codes "wild" ∷ codes "path1-closed"
     ∷ codes "path2-closed" ∷ codes "path-open" ∷ codes "lapse" ∷ []
+
+-- the name of a class, whatever its numbers: the one at its place
+unfoldable pub class_name : Class → List ℕ
+class_name class = get_or class_names (class_place class) []
 
 -- a reaction, or `none`
 unfoldable pub reaction_text : Option ℕ → List ℕ

@@ -14,4 +14,4 @@ pub use grid::{SweepFault, sweep_faults};
 pub use laws::{swept_faults_are_listed, tables_are_bounded};
 pub use row::SweepRow;
 pub use table::tabulate;
-pub use text::sweep_text;
+pub use text::{class_name, sweep_text};

@@ -26,7 +26,7 @@ pub fn tabulate(faults: &[Fault], facts: &[Facts]) -> [SweepRow; 14]
 
 /// The place of a class in their order.
 #[tactic(auto, unfolding(crate::specs::Table::class_place))]
-fn class_place(class: &Class) -> usize
+pub(crate) fn class_place(class: &Class) -> usize
     ensures place { result ≡ class_place class.now }
     ensures within { result < 14 }
 {

@@ -2,10 +2,12 @@
 ghost use Rattle.std.specs.Prelude.{◌≡◌, ◌++◌, IfOk, OnOk, string_bytes};
 ghost use Rattle.std.specs.List.{filter_map};
 ghost use Rattle.eg_sweep.specs.Table.{greatest, greatest_listed};
-ghost use Rattle.eg_sweep.specs.Texts.{reaction_text, sweep_end, sweep_line, sweep_text_of, watches_text};
+ghost use Rattle.eg_sweep.specs.Texts.{class_name, reaction_text, sweep_end, sweep_line, sweep_text_of, watches_text};
 
 use crate::SweepRow;
+use crate::table::class_place;
 use eg_base::NoMemory;
+use eg_fault::Class;
 use eg_record::Watch;
 use std::alloc::{AllocError, Global};
 
@@ -26,6 +28,14 @@ const CLASS_NAMES: [&str; 14] = [
     "path-open",
     "lapse",
 ];
+
+/// The name of a class, whatever its numbers, as campaigns spell it (docs/FORMATS.md, "Campaign files").
+pub fn class_name(class: &Class) -> &'static str
+    ensures { result.now ≡ class_name class.now }
+{
+    let names = CLASS_NAMES.as_slice();
+    names[class_place(class)]
+}
 
 /// How many classes stand before the last, the lapses.
 const LISTED: usize = 13;

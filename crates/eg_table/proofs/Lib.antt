@@ -1,0 +1,5 @@
+pub mod CountLemmas
+pub mod ActingLemmas
+pub mod LawLemmas
+pub mod LineLemmas
+mod Worked

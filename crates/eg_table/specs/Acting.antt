@@ -1,0 +1,27 @@
+-- Whether a fault has acted: whether anything is out of order by it at some tick of a run.
+use Rattle.std.specs.Prelude.{ℕ, ◌-◌, ◌==◌, Bool, true, ◌&&◌, nat_le, Option, Some, None}
+use Rattle.std.specs.List.{list_any, range_with_len}
+use Rattle.eg_fault.specs.declared.class.Class.{Class}
+use Rattle.eg_fault.specs.declared.class.Class.TheVariants.{Flip, Lapse}
+use Rattle.eg_fault.specs.declared.class.Fault.{Fault}
+use Rattle.eg_fault.specs.Faults.{is_left_out}
+
+-- Whether a class has an effect k ticks after the onset: a flip has one at the onset alone, a lapse at the
+-- ticks at which level 2 is left out, and any other class at each tick.
+unfoldable pub has_effect : Class → ℕ → Bool
+has_effect (Flip word mask) k = k == 0
+has_effect (Lapse after every) k = is_left_out after every k
+has_effect _ k = true
+
+-- whether a fault has an effect at a tick: never before its onset, and then as its class does
+unfoldable pub acts_at : Fault → ℕ → Bool
+acts_at fault tick = nat_le fault.onset tick && has_effect fault.class (tick - fault.onset)
+
+-- whether it has one at some tick of a run of so many
+unfoldable pub acts_within : Fault → (ticks : ℕ) → Bool
+acts_within fault ticks = list_any (acts_at fault) (range_with_len 0 ticks)
+
+-- the same of the fault of a run, where there is one
+unfoldable pub has_acted : Option Fault → (ticks : ℕ) → Option Bool
+has_acted None ticks = None
+has_acted (Some fault) ticks = Some (acts_within fault ticks)

@@ -1,0 +1,36 @@
+-- What "has acted" means: what a fault does at some tick of the run isn't nothing.
+use Rattle.std.specs.Prelude.{◌≡◌, ◌≢◌, ◌↔◌, ℕ, ◌<◌, true, false, Some}
+use Rattle.eg_fault.specs.Effects.{no_effects}
+use Rattle.eg_fault.specs.declared.class.Class.{Class}
+use Rattle.eg_fault.specs.declared.class.Fault.{Fault}
+use Rattle.eg_fault.specs.Faults.{does, effects, IsValid, IsValidClass}
+use Rattle.eg_table.specs.Acting.{has_effect, has_acted}
+
+-- where a class has no effect, nothing is out of order
+abbrev pub OthersDoNothing : Type 0
+OthersDoNothing = (class : Class) (k : ℕ) → has_effect class k ≡ false → does class k ≡ no_effects
+
+-- and where a valid class has one, something is
+abbrev pub EffectsDoSomething : Type 0
+EffectsDoSomething =
+    (class : Class) (k : ℕ) → IsValidClass class → has_effect class k ≡ true → does class k ≢ no_effects
+
+-- at some tick of so many something is out of order by this fault
+abbrev pub DoesSomething : Fault → (ticks : ℕ) → Type 0
+DoesSomething fault ticks = (tick : ℕ) × (tick < ticks) × (effects (Some fault) tick ≢ no_effects)
+
+-- at each of them nothing is
+abbrev pub DoesNothing : Fault → (ticks : ℕ) → Type 0
+DoesNothing fault ticks = (tick : ℕ) → tick < ticks → effects (Some fault) tick ≡ no_effects
+
+-- so a valid fault has acted exactly where it does something at some tick of the run
+abbrev pub ActedLaw : Type 0
+ActedLaw =
+    (fault : Fault) → IsValid fault → (ticks : ℕ) →
+    (has_acted (Some fault) ticks ≡ Some true) ↔ DoesSomething fault ticks
+
+-- and it hasn't exactly where it does nothing at any
+abbrev pub UnactedLaw : Type 0
+UnactedLaw =
+    (fault : Fault) → IsValid fault → (ticks : ℕ) →
+    (has_acted (Some fault) ticks ≡ Some false) ↔ DoesNothing fault ticks

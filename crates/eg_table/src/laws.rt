@@ -1,0 +1,12 @@
+// The laws of what a fault does within a run.
+ghost use Rattle.eg_table.specs.Laws.{OthersDoNothing, EffectsDoSomething, ActedLaw, UnactedLaw};
+
+/// Does nothing when it runs. Its contract has the laws of `acted` (docs/CONCEPT.md, "`table`"): at a tick at
+/// which a class has no effect nothing is out of order, and at one at which a valid class has one something
+/// is; so a valid fault has acted exactly where something is out of order by it at some tick of the run.
+pub fn acting_is_doing_something()
+    ensures nothing { OthersDoNothing }
+    ensures something { EffectsDoSomething }
+    ensures acted { ActedLaw }
+    ensures unacted { UnactedLaw }
+{}
