@@ -150,7 +150,7 @@ module _ (s : Setting) (accepted : IsAccepted s.cal) (e : Entry) (h : List Tick)
     torque = none-cons torque_bit now past feeds torque_good spared.torque;
   }
 
--- where level 2 is missed it is fed nothing
+-- where level 2 misses a tick it is fed nothing
 spared_missed : (s : Setting) (e : Entry) (h : List Tick) → Spared s h → Spared s (record { effects = missed; entry = e } ∷ h)
 unfolding moments_of
 spared_missed s e h spared = record {

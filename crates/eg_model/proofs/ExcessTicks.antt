@@ -1,12 +1,13 @@
 -- Ticks of excess over quiet ones: what is so of them in any setting.
-use Rattle.std.proofs.Common.{◌≡◌, ℕ, zero, suc, ◌+◌, ◌-◌, ◌*◌, ◌/◌, ◌≤◌, ◌<◌, Bool, true, false, not, List, ◌∷◌, ◌++◌, length, refl, sym, ap, ap₂, ◌∙◌, arith, length-append, min, replicate, Some, []}
+use Rattle.std.proofs.Common.{◌≡◌, ℕ, zero, suc, ◌+◌, ◌-◌, ◌*◌, ◌/◌, ◌≤◌, ◌<◌, Bool, true, false, not, List, ◌∷◌, ◌++◌, All, length, refl, sym, ap, ap₂, ◌∙◌, arith, length-append, min, replicate, Some, []}
 use Rattle.std.proofs.lemmas.Bool.{le-ltb}
 use Rattle.std.proofs.lemmas.List.{length-replicate}
+use Rattle.std.proofs.lemmas.List.Elements.{All-append, All-replicate}
 use Rattle.std.proofs.Math.Nat.{zero-mul}
 use Rattle.eg_num.specs.Arithmetic.{estimate}
 use Rattle.eg_num.specs.Windows.{WeightParts, is_confirmed}
 use Rattle.eg_torque.specs.Excess.{is_excess}
-use Rattle.eg_answer.specs.Times.{verdicts_to_confirm, reaction_of, runs_to_confirm}
+use Rattle.eg_answer.specs.Times.{feeds_to_confirm, reaction_of}
 use Rattle.eg_values.specs.Calibration.{IsAccepted}
 use Rattle.eg_fault.specs.Faults.{does}
 use Rattle.eg_fault.specs.declared.class.Fault.{Fault}
@@ -19,7 +20,7 @@ use Rattle.eg_model.specs.Moments.{limit_at, moment, moment_in, moments_of}
 use Rattle.eg_model.specs.Rows.{row_of, rows_of}
 use Rattle.eg_model.specs.Premises.{IsProper, AreProper, Follows, is_on_after, true_excesses, full_excesses}
 use Rattle.eg_model.specs.SharpCut.{ArePlain}
-use Rattle.eg_model.specs.LeastReaction.{CanExceed, giving, quiet, exceeding}
+use Rattle.eg_model.specs.LeastReaction.{CanExceed, GoesOn, ShowsWord, giving, quiet, exceeding}
 use Rattle.eg_model.proofs.TickLemmas.{Each, moment-limit, moment-on, moment-full_excess}
 use Rattle.eg_model.proofs.Silence.{TrueRun, run_confirms, period_least, send_within}
 use Rattle.eg_model.proofs.LapseWeights.{rounded_up}
@@ -86,7 +87,7 @@ module _ (s : Setting) (accepted : IsAccepted s.cal) (can : CanExceed s.cal) (qu
   torque = s.cal.rules.torque
 
   abbrev many : ℕ
-  many = runs_to_confirm torque
+  many = feeds_to_confirm torque
 
   abbrev calm_tick : Tick
   calm_tick = quiet no_effects can.drive
@@ -105,7 +106,7 @@ module _ (s : Setting) (accepted : IsAccepted s.cal) (can : CanExceed s.cal) (qu
   limit_positive = let a = accepted.torque.3 in omega arith
 
   pub many_positive : 0 < many
-  many_positive = unfold runs_to_confirm in quotient_positive torque.limit torque.up limit_positive up_positive
+  many_positive = unfold feeds_to_confirm in quotient_positive torque.limit torque.up limit_positive up_positive
 
   -- ---- what is plain, and its excess ----
 
@@ -149,7 +150,7 @@ module _ (s : Setting) (accepted : IsAccepted s.cal) (can : CanExceed s.cal) (qu
   pub unconfirmed : (j : ℕ) → j < many → is_confirmed torque (bits j) ≡ false
   unconfirmed j less = too_few torque (replicate j true) (replicate quiets false) limit_positive (all_good quiets)
       (rw (length-replicate j true) (quotient_short torque.limit torque.up j limit_positive up_positive
-      (unfold runs_to_confirm in less)))
+      (unfold feeds_to_confirm in less)))
 
   true_run : (j : ℕ) → TrueRun j (bits j)
   unfolding TrueRun
@@ -158,7 +159,7 @@ module _ (s : Setting) (accepted : IsAccepted s.cal) (can : CanExceed s.cal) (qu
 
   pub confirmed : is_confirmed torque (bits many) ≡ true
   confirmed = run_confirms torque many (bits many) limit_positive
-      (unfold runs_to_confirm in rounded_up torque.limit torque.up up_positive) (true_run many)
+      (unfold feeds_to_confirm in rounded_up torque.limit torque.up up_positive) (true_run many)
 
   -- ---- the history is one in which the engine keeps its laws ----
 
@@ -176,6 +177,17 @@ module _ (s : Setting) (accepted : IsAccepted s.cal) (can : CanExceed s.cal) (qu
     engine = record { position = omega arith; load_1 = omega arith; load_2 = omega arith };
     no_torque = λ off. absurd (let both : true ≡ false = sym on ∙ off in cc);
   }
+
+  -- no drive row of it resets the unit, and its loads are words
+  pub all_go_on : (j : ℕ) → All GoesOn (ticks j)
+  all_go_on j = All-append GoesOn (replicate j (exceeding s.cal can.drive can.load)) (replicate quiets calm_tick)
+      (All-replicate GoesOn j (exceeding s.cal can.drive can.load) can.goes_on)
+      (All-replicate GoesOn quiets calm_tick can.goes_on)
+
+  pub all_words : (j : ℕ) → All ShowsWord (ticks j)
+  all_words j = All-append ShowsWord (replicate j (exceeding s.cal can.drive can.load)) (replicate quiets calm_tick)
+      (All-replicate ShowsWord j (exceeding s.cal can.drive can.load) (can.is_word, can.is_word))
+      (All-replicate ShowsWord quiets calm_tick (omega arith, omega arith))
 
   quiet_all : (n : ℕ) → AreProper s (replicate n calm_tick)
   unfolding AreProper
@@ -209,10 +221,10 @@ module _ (s : Setting) (accepted : IsAccepted s.cal) (can : CanExceed s.cal) (qu
   period_positive = period_least s.cal.times accepted.times
 
   abbrev confirm : ℕ
-  confirm = verdicts_to_confirm s.cal.times.weights
+  confirm = feeds_to_confirm s.cal.times.weights
 
   pub confirm_positive : 0 < confirm
-  confirm_positive = unfold verdicts_to_confirm in quotient_positive s.cal.times.weights.limit s.cal.times.weights.up
+  confirm_positive = unfold feeds_to_confirm in quotient_positive s.cal.times.weights.limit s.cal.times.weights.up
       (let a = accepted.answers.3 in omega arith) (let a = accepted.answers.0 in omega arith)
 
   pub reaction_is : reaction_of s.cal.times + s.cal.times.send + 1 ≡ (confirm + 1) * s.cal.times.period

@@ -7,7 +7,7 @@ use Rattle.std.proofs.lemmas.Bool.{or_from, lt-leb, ne_eqb}
 use Rattle.eg_num.specs.Arithmetic.{quotient_up}
 use Rattle.eg_num.specs.Windows.{WeightParts, is_confirmed, greatest}
 use Rattle.eg_num.proofs.CounterLemmas.{greatest-bad, greatest-good, is_reached-greatest}
-use Rattle.eg_answer.specs.Times.{TimeParts, AreTimes, verdicts_to_confirm}
+use Rattle.eg_answer.specs.Times.{TimeParts, AreTimes, feeds_to_confirm}
 use Rattle.eg_answer.specs.Periods.{is_wrong}
 use Rattle.eg_answer.specs.declared.marks.AnswerMark.TheVariants.{Absent, Good}
 use Rattle.eg_answer.specs.declared.marks.Verdict.{Verdict}
@@ -219,8 +219,8 @@ few_on s are p (x ∷ more) h regular none later was =
 -- until as many periods have ended as confirm, path 2 isn't open
 pub still_shut : (s : Setting) → 0 < s.cal.times.period → 0 < s.cal.times.weights.up → 0 < s.cal.times.weights.limit →
     (k : ℕ) (h : List Tick) → HasFew s k h → NoneOpens h →
-    length h < (k + verdicts_to_confirm s.cal.times.weights) * s.cal.times.period → latch2 (moments_of s h) ≡ false
-unfolding verdicts_to_confirm
+    length h < (k + feeds_to_confirm s.cal.times.weights) * s.cal.times.period → latch2 (moments_of s h) ≡ false
+unfolding feeds_to_confirm
 still_shut s some up limit k h few shut early =
     shut_unless_confirmed s h shut
     (subst (λ bits. is_confirmed s.cal.times.weights bits ≡ false) (sym few.are)

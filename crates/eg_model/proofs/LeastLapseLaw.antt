@@ -1,13 +1,13 @@
 -- R and as many ticks as confirm is the least bound under lapses: the history that shows it.
-use Rattle.std.proofs.Common.{◌≡◌, ℕ, zero, suc, ◌+◌, ◌-◌, ◌*◌, ◌≤◌, ◌<◌, ◌%◌, Bool, true, false, not, ◌||◌, ◌&&◌, List, [], ◌∷◌, ◌++◌, length, take, replicate, refl, sym, ap, ap₂, ◌∙◌, subst, arith, length-append}
+use Rattle.std.proofs.Common.{◌≡◌, ℕ, zero, suc, ◌+◌, ◌-◌, ◌*◌, ◌≤◌, ◌<◌, ◌%◌, Bool, true, false, not, ◌||◌, ◌&&◌, List, [], ◌∷◌, ◌++◌, All, length, take, replicate, refl, sym, ap, ap₂, ◌∙◌, subst, arith, length-append}
 use Rattle.std.specs.Prelude.{if◌then◌else◌, ◌==◌}
 use Rattle.std.specs.List.{list_all}
 use Rattle.std.proofs.lemmas.Bool.{and_from, and_left, and_right, or_from}
 use Rattle.std.proofs.lemmas.List.{length-replicate}
-use Rattle.std.proofs.lemmas.List.Elements.{All-cons, All-nil}
+use Rattle.std.proofs.lemmas.List.Elements.{All-cons, All-nil, All-append, All-replicate}
 use Rattle.eg_num.specs.Windows.{WeightParts, is_confirmed}
 use Rattle.eg_torque.specs.Excess.{is_excess}
-use Rattle.eg_answer.specs.Times.{TimeParts, runs_to_confirm, reaction_of, verdicts_to_confirm}
+use Rattle.eg_answer.specs.Times.{TimeParts, feeds_to_confirm, reaction_of}
 use Rattle.eg_answer.specs.declared.marks.AnswerMark.TheVariants.{Absent, Good, Bad}
 use Rattle.eg_values.specs.Calibration.{CalibrationParts, IsAccepted}
 use Rattle.eg_fault.specs.Effects.{no_effects, sends_at}
@@ -18,19 +18,19 @@ use Rattle.eg_model.specs.Answers.{is_sent, is_good, mark_at}
 use Rattle.eg_model.specs.Paths.{latch2, path1_at, path2_at, on_at}
 use Rattle.eg_model.specs.Moments.{moments_of, limit_at}
 use Rattle.eg_model.specs.Premises.{AreProper}
-use Rattle.eg_model.specs.LeastReaction.{CanExceed, quiet, exceeding}
-use Rattle.eg_model.specs.LeastLapse.{RunsFit, least_lapse_bound, lapse_onset, missing, lapse_setting, before_lapse, missed, Lasts, ExcessLastsSoLong, LapseBoundIsLeast}
+use Rattle.eg_model.specs.LeastReaction.{CanExceed, GoesOn, ShowsWord, quiet, exceeding}
+use Rattle.eg_model.specs.LeastLapse.{RunsFit, least_lapse_bound, lapse_onset, missing_all, lapse_setting, before_lapse, missed_excess, Lasts, ExcessLastsSoLong, LapseBoundIsLeast}
 use Rattle.eg_model.proofs.TickLemmas.{Each, moment-mark, tripped-cons}
 use Rattle.eg_model.proofs.Silence.{AreRegular, send_within}
 use Rattle.eg_model.proofs.ReactionLaw.{Unanswered}
 use Rattle.eg_model.proofs.SharpCutLaw.{Calm, calm_until, latch1_shut}
 use Rattle.eg_model.proofs.FewVerdicts.{NoneOpens, HasFew, few_of_calm, few_on, still_shut}
 use Rattle.eg_model.proofs.LapseRuns.{AllOrNone, trip_out, AllExceed}
-use Rattle.eg_model.proofs.ExcessTicks.{follows_plain, follows_alike, ticks_shut, true_excesses-cons, many_positive, all_bits, all_plain, unconfirmed, loaded_proper, all_proper, size, period_positive, reaction_is}
+use Rattle.eg_model.proofs.ExcessTicks.{follows_plain, follows_alike, ticks_shut, true_excesses-cons, many_positive, all_bits, all_plain, unconfirmed, loaded_proper, all_go_on, all_words, all_proper, size, period_positive, reaction_is}
 
 -- ---- a tick that level 2 misses ----
 
-missed_out : AllOrNone (does missing 0)
+missed_out : AllOrNone (does missing_all 0)
 unfolding does no_effects is_left_out
 missed_out = record {
   runs = false;
@@ -49,15 +49,15 @@ always_out k = ap (λ n. (0 == n) || false) (one k)
     one : (k : ℕ) → k % 1 ≡ 0
     one k = omega arith
 
-same_always : (k : ℕ) → does missing k ≡ does missing 0
+same_always : (k : ℕ) → does missing_all k ≡ does missing_all 0
 unfolding does
 same_always k = ap (λ out. record no_effects { ran = λ i. not out }) (always_out k ∙ sym (always_out 0))
 
-never_sent : (times : TimeParts) (trip : Bool) (past : List Moment) → mark_at times (does missing 0) trip past ≡ Absent
+never_sent : (times : TimeParts) (trip : Bool) (past : List Moment) → mark_at times (does missing_all 0) trip past ≡ Absent
 unfolding mark_at is_sent does no_effects is_left_out
 never_sent times trip past =
-    ap (λ sent. if sent then (if is_good (does missing 0) past then Good else Bad) else Absent)
-    (and_left _ _ (and_right (sends_at (does missing 0) times (length past)) false refl))
+    ap (λ sent. if sent then (if is_good (does missing_all 0) past then Good else Bad) else Absent)
+    (and_left _ _ (and_right (sends_at (does missing_all 0) times (length past)) false refl))
 
 -- ---- one tick more of excess ----
 
@@ -77,7 +77,7 @@ module _ (cal : CalibrationParts) (accepted : IsAccepted cal) (fit : RunsFit cal
   torque = cal.rules.torque
 
   abbrev many : ℕ
-  many = runs_to_confirm torque
+  many = feeds_to_confirm torque
 
   abbrev first_quiet : ℕ
   first_quiet = lapse_onset cal + 1 - many
@@ -86,7 +86,7 @@ module _ (cal : CalibrationParts) (accepted : IsAccepted cal) (fit : RunsFit cal
   base = before_lapse cal can.drive can.load
 
   abbrev miss : Tick
-  miss = missed cal can.drive can.load
+  miss = missed_excess cal can.drive can.load
 
   abbrev whole : ℕ → List Tick
   whole n = replicate n miss ++ base
@@ -123,7 +123,7 @@ module _ (cal : CalibrationParts) (accepted : IsAccepted cal) (fit : RunsFit cal
   unfolding Unanswered
   unanswered zero = tt
   unanswered (suc n) = (
-    moment-mark s (does missing 0) miss.entry (moments_of s (whole n)) ∙ never_sent cal.times _ (moments_of s (whole n)),
+    moment-mark s (does missing_all 0) miss.entry (moments_of s (whole n)) ∙ never_sent cal.times _ (moments_of s (whole n)),
     unanswered n,
   )
 
@@ -144,14 +144,14 @@ module _ (cal : CalibrationParts) (accepted : IsAccepted cal) (fit : RunsFit cal
   shut : (n : ℕ) → n < reaction_of cal.times → latch2 (moments_of s (whole n)) ≡ false
   shut n early = still_shut s (period_positive s accepted can first_quiet) (let a = accepted.answers.0 in omega arith)
       (let a = accepted.answers.3 in omega arith) (1 + 1) (whole n) (few n) (none_opens n)
-      (law (length (whole n)) n (reaction_of cal.times) (verdicts_to_confirm cal.times.weights) cal.times.period cal.times.send
+      (law (length (whole n)) n (reaction_of cal.times) (feeds_to_confirm cal.times.weights) cal.times.period cal.times.send
       (reaction_is s accepted can first_quiet) (size_whole n ∙ ap (λ k. n + k) onset_is) early)
     where
       law : (l n r c period send : ℕ) → r + send + 1 ≡ (c + 1) * period → l ≡ n + (period + send + 1) →
           n < r → l < (1 + 1 + c) * period
       law l n r c period send is long early = grind arith
 
-  on : (n : ℕ) → n < reaction_of cal.times → on_at (does missing 0) (moments_of s (whole n)) ≡ true
+  on : (n : ℕ) → n < reaction_of cal.times → on_at (does missing_all 0) (moments_of s (whole n)) ≡ true
   unfolding on_at path1_at path2_at does no_effects
   on n early = ap₂ (λ a b. not a && not b) (latch1_shut s (whole n) (untripped n)) (shut n early)
 
@@ -159,7 +159,7 @@ module _ (cal : CalibrationParts) (accepted : IsAccepted cal) (fit : RunsFit cal
   unfolding AreProper
   proper zero within = all_proper s accepted can first_quiet (many - 1) (let a = less in omega arith)
   proper (suc n) within =
-      (loaded_proper s accepted can first_quiet (does missing 0) _ (on n (omega arith)), proper n (omega arith))
+      (loaded_proper s accepted can first_quiet (does missing_all 0) _ (on n (omega arith)), proper n (omega arith))
 
   base_exceeds : (j : ℕ) → AllExceed s j (replicate j (exceeding cal can.drive can.load) ++ replicate first_quiet (quiet no_effects can.drive))
   base_exceeds zero = refl
@@ -175,11 +175,16 @@ module _ (cal : CalibrationParts) (accepted : IsAccepted cal) (fit : RunsFit cal
 
   lasts : Lasts s (whole (reaction_of cal.times)) (least_lapse_bound cal - 1)
   lasts = record {
-    follows = follows_alike (record { onset = lapse_onset cal; class = missing }) miss same_always (reaction_of cal.times) base
+    follows = follows_alike (record { onset = lapse_onset cal; class = missing_all }) miss same_always (reaction_of cal.times) base
         (let a = size_base in omega arith)
-        (follows_plain (record { onset = lapse_onset cal; class = missing }) base
+        (follows_plain (record { onset = lapse_onset cal; class = missing_all }) base
         (all_plain s accepted can first_quiet (many - 1)) (let a = size_base in omega arith));
     proper = proper (reaction_of cal.times) (omega arith);
+    goes_on = All-append GoesOn (replicate (reaction_of cal.times) miss) base
+        (All-replicate GoesOn (reaction_of cal.times) miss can.goes_on) (all_go_on s accepted can first_quiet (many - 1));
+    words = All-append ShowsWord (replicate (reaction_of cal.times) miss) base
+        (All-replicate ShowsWord (reaction_of cal.times) miss (can.is_word, can.is_word))
+        (all_words s accepted can first_quiet (many - 1));
     exceeds = record {
       within = (let a = size_whole (reaction_of cal.times) in let b = bound_is in let c = onset_is in let d = fit in omega arith);
       each = exceeds (reaction_of cal.times) (least_lapse_bound cal - 1)

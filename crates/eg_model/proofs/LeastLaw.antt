@@ -1,12 +1,17 @@
 -- R is the least number that can stand in the reaction theorem: the history that shows it.
-use Rattle.std.proofs.Common.{◌≡◌, ℕ, zero, suc, ◌+◌, ◌-◌, ◌*◌, ◌≤◌, ◌<◌, Bool, true, false, not, List, [], ◌∷◌, ◌++◌, length, refl, sym, ap, ap₂, ◌∙◌, arith, inl, inr, ◌⊎◌, subst, length-append, append_assoc, replicate}
+use Rattle.std.proofs.Common.{◌≡◌, ℕ, zero, suc, ◌+◌, ◌-◌, ◌*◌, ◌≤◌, ◌<◌, Bool, true, false, not, ◌&&◌, List, [], ◌∷◌, ◌++◌, All, length, refl, sym, ap, ap₂, ◌∙◌, arith, inl, inr, ◌⊎◌, subst, length-append, append_assoc, replicate}
 use Rattle.std.proofs.lemmas.Bool.{lt-ltb, ltb-true}
+use Rattle.std.specs.Prelude.{if◌then◌else◌}
 use Rattle.std.proofs.lemmas.List.{length-replicate}
+use Rattle.std.proofs.lemmas.List.Elements.{All-head, All-tail, All-append, All-replicate}
 use Rattle.std.proofs.Math.Nat.{div-mul-le_self}
+use Rattle.eg_num.specs.Arithmetic.{estimate}
+use Rattle.eg_num.specs.Drive.{DriveRow}
 use Rattle.eg_num.specs.Windows.{WeightParts, is_confirmed, is_first}
 use Rattle.eg_num.proofs.FirstPlaceLemmas.{is_first_from}
+use Rattle.eg_torque.specs.Permit.{drive_permits}
 use Rattle.eg_torque.specs.Excess.{is_excess}
-use Rattle.eg_answer.specs.Times.{verdicts_to_confirm, reaction_of, runs_to_confirm, periods_to_confirm}
+use Rattle.eg_answer.specs.Times.{feeds_to_confirm, reaction_of, periods_to_confirm}
 use Rattle.eg_values.specs.Calibration.{CalibrationParts, IsAccepted}
 use Rattle.eg_fault.specs.Effects.{no_effects}
 use Rattle.eg_fault.specs.Faults.{does, IsListed, IsValidClass, is_lapse}
@@ -16,18 +21,18 @@ use Rattle.eg_fault.specs.declared.class.Fault.{Fault}
 use Rattle.eg_model.specs.History.{Setting, Tick}
 use Rattle.eg_model.specs.Signals.{tripped}
 use Rattle.eg_model.specs.Paths.{latch2, path1_at, path2_at, on_at}
-use Rattle.eg_model.specs.Moments.{limit_at, moments_of}
+use Rattle.eg_model.specs.Moments.{effective_drive, limit_at, moments_of}
 use Rattle.eg_model.specs.Rows.{rows_of}
 use Rattle.eg_model.specs.Premises.{AreProper, Follows, is_on_after, true_excesses, IsExcessConfirmed}
 use Rattle.eg_model.specs.Reaction.{ReactsBy}
-use Rattle.eg_model.specs.LeastReaction.{CanExceed, NeedsCanExceed, quiet, exceeding, last_excess, until_confirmed, closed_setting, quiet_after, IsStillOn, StaysOnSoLong, ReactionTimeIsLeast}
+use Rattle.eg_model.specs.LeastReaction.{CanExceed, GoesOn, ShowsWord, NeedsCanExceed, quiet, exceeding, last_excess, until_confirmed, closed_setting, quiet_after, IsStillOn, StaysOnSoLong, ReactionTimeIsLeast}
 use Rattle.eg_model.proofs.TickLemmas.{Each, moment-on}
 use Rattle.eg_model.proofs.Silence.{AreRegular, send_within}
 use Rattle.eg_model.proofs.LapseWeights.{rounded_up}
 use Rattle.eg_model.proofs.ReactionLaw.{AreProper-tail, unanswered_on}
 use Rattle.eg_model.proofs.SharpCutLaw.{AllGood, Calm, calm_until, trip_once_confirmed}
 use Rattle.eg_model.proofs.FewVerdicts.{never, quotient_short, NoneOpens, HasFew, few_of_calm, few_on, still_shut}
-use Rattle.eg_model.proofs.ExcessTicks.{follows_plain, follows_alike, ticks_shut, true_excesses-cons, many_positive, all_bits, all_plain, unconfirmed, confirmed, quiet_proper, all_proper, size, period_positive, confirm_positive, reaction_is, up_positive, limit_positive}
+use Rattle.eg_model.proofs.ExcessTicks.{follows_plain, follows_alike, ticks_shut, true_excesses-cons, many_positive, all_bits, all_plain, unconfirmed, confirmed, quiet_proper, all_go_on, all_words, all_proper, size, period_positive, confirm_positive, reaction_is, up_positive, limit_positive}
 
 -- ---- a condition without which no excess is confirmed ----
 
@@ -37,24 +42,41 @@ unfolding is_excess
 more_exceeds torque most limit threshold le e =
     let less = ltb-true (limit + threshold) torque e in lt-ltb (limit + threshold) most (omega arith)
 
-none_or_some : (s : Setting) (h : List Tick) → AreProper s h → AllGood (true_excesses s h) ⊎ CanExceed s.cal
+-- what a drive row permits doesn't go by whether the unit is reset
+without_reset : (cal : CalibrationParts) (drive : DriveRow) → limit_at cal (record drive { reset = false }) ≡ limit_at cal drive
+unfolding limit_at effective_drive drive_permits
+without_reset cal drive = go (cal.brake && drive.brake)
+  where
+    same : DriveRow
+    same = record drive { reset = false }
+
+    go : (b : Bool) →
+        drive_permits cal.rules.permit (if b then record same { pedal = 0; raise = 0 } else same)
+        ≡ drive_permits cal.rules.permit (if b then record drive { pedal = 0; raise = 0 } else drive)
+    go true = refl
+    go false = refl
+
+none_or_some : (s : Setting) (h : List Tick) → AreProper s h → All ShowsWord h → AllGood (true_excesses s h) ⊎ CanExceed s.cal
 unfolding AreProper
-none_or_some s [] proper = inl (unfold true_excesses moments_of rows_of AllGood in tt)
-none_or_some s (x ∷ h) proper = go _ refl (none_or_some s h proper.1)
+none_or_some s [] proper words = inl (unfold true_excesses moments_of rows_of AllGood in tt)
+none_or_some s (x ∷ h) proper words = go _ refl (none_or_some s h proper.1 (All-tail ShowsWord x h words))
   where
     go : (b : Bool) → is_excess x.entry.shown.torque (limit_at s.cal x.entry.drive) s.cal.rules.threshold ≡ b →
         AllGood (true_excesses s h) ⊎ CanExceed s.cal → AllGood (true_excesses s (x ∷ h)) ⊎ CanExceed s.cal
     go true is others = inr (record {
-      drive = x.entry.drive;
+      drive = record x.entry.drive { reset = false };
       within = proper.0.drive;
+      goes_on = refl;
       load = x.entry.shown.load_1;
-      exceeds = more_exceeds _ _ _ _ proper.0.engine.load_1 is;
+      is_word = (All-head ShowsWord x h words).0;
+      exceeds = ap (λ limit. is_excess (estimate s.cal.rules.kt x.entry.shown.load_1) limit s.cal.rules.threshold)
+          (without_reset s.cal x.entry.drive) ∙ more_exceeds _ _ _ _ proper.0.engine.load_1 is;
     })
     go false is (inr can) = inr can
     go false is (inl good) = inl (subst AllGood (sym (true_excesses-cons s x h)) (unfold AllGood in (is, good)))
 
 pub needs_can_exceed : NeedsCanExceed
-needs_can_exceed s accepted h proper confirmed = elim (none_or_some s h proper) [
+needs_can_exceed s accepted h proper words confirmed = elim (none_or_some s h proper words) [
   | inl good ↦ absurd (let none = never s.cal.rules.torque (true_excesses s h)
       (let l = accepted.torque.3 in omega arith) good in
       let both : true ≡ false = sym confirmed ∙ none in cc)
@@ -72,7 +94,7 @@ module _ (cal : CalibrationParts) (accepted : IsAccepted cal) (can : CanExceed c
 
   -- how many ticks of excess there are, how many quiet ones before them, and in which period the last comes
   abbrev many : ℕ
-  many = runs_to_confirm torque
+  many = feeds_to_confirm torque
 
   abbrev first_quiet : ℕ
   first_quiet = last_excess cal + 1 - many
@@ -91,7 +113,7 @@ module _ (cal : CalibrationParts) (accepted : IsAccepted cal) (can : CanExceed c
   bits j = replicate j true ++ replicate first_quiet false
 
   abbrev confirm : ℕ
-  confirm = verdicts_to_confirm cal.times.weights
+  confirm = feeds_to_confirm cal.times.weights
 
   -- ---- sizes ----
 
@@ -115,7 +137,7 @@ module _ (cal : CalibrationParts) (accepted : IsAccepted cal) (can : CanExceed c
       go zero is = omega arith
       go (suc n) is =
           let low : n * torque.up < torque.limit =
-          quotient_short torque.limit torque.up n (limit_positive s accepted can first_quiet) (up_positive s accepted can first_quiet) (unfold runs_to_confirm in less n is) in
+          quotient_short torque.limit torque.up n (limit_positive s accepted can first_quiet) (up_positive s accepted can first_quiet) (unfold feeds_to_confirm in less n is) in
           let most = accepted.torque.4 in below n torque.up torque.limit (up_positive s accepted can first_quiet) low most
         where
           below : (n u l : ℕ) → 0 < u → n * u < l → l ≤ 10000 → suc n ≤ 10000
@@ -148,6 +170,14 @@ module _ (cal : CalibrationParts) (accepted : IsAccepted cal) (can : CanExceed c
   unfolding AreProper
   after_proper zero = all_proper s accepted can first_quiet many (omega arith)
   after_proper (suc n) = (quiet_proper s accepted can first_quiet (does Path1Closed 0) _, after_proper n)
+
+  goes_on_after : (n : ℕ) → All GoesOn (whole n)
+  goes_on_after n = All-append GoesOn (after n) (until_confirmed cal can.drive can.load)
+      (All-replicate GoesOn n (quiet_after can.drive) can.goes_on) (all_go_on s accepted can first_quiet many)
+
+  words_after : (n : ℕ) → All ShowsWord (whole n)
+  words_after n = All-append ShowsWord (after n) (until_confirmed cal can.drive can.load)
+      (All-replicate ShowsWord n (quiet_after can.drive) (omega arith, omega arith)) (all_words s accepted can first_quiet many)
 
   abbrev the_fault : Fault
   the_fault = record { onset = last_excess cal + 1; class = Path1Closed }
@@ -235,6 +265,8 @@ module _ (cal : CalibrationParts) (accepted : IsAccepted cal) (can : CanExceed c
   stays = record {
     follows = follows_on (suc (reaction_of cal.times - 2));
     proper = after_proper (suc (reaction_of cal.times - 2));
+    goes_on = goes_on_after (suc (reaction_of cal.times - 2));
+    words = words_after (suc (reaction_of cal.times - 2));
     first = first_now;
     comes = ap (λ n. n + 1) (length-replicate (reaction_of cal.times - 2) (quiet_after can.drive))
         ∙ (let long = reaction_long in omega arith);

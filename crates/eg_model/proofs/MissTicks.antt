@@ -1,4 +1,4 @@
--- A tick under a lapse: nothing is out of order, or level 2 as a whole is missed.
+-- A tick under a lapse: nothing is out of order, or level 2 as a whole misses it.
 use Rattle.std.proofs.Common.{◌≡◌, ℕ, ◌%◌, Bool, true, false, not, ◌||◌, ◌&&◌, List, length, inl, inr, ◌⊎◌, Option, refl, sym, ap, ◌∙◌, subst}
 use Rattle.std.specs.Prelude.{if◌then◌else◌}
 use Rattle.std.proofs.lemmas.Bool.{and_left, or_from, eq-eqb}
@@ -17,7 +17,7 @@ use Rattle.eg_model.specs.Detection.{feeds_at, finds, pedal_bit, plate_bit, load
 use Rattle.eg_model.specs.Answers.{is_whole, is_answer, is_sent, is_good, mark_at}
 use Rattle.eg_model.specs.Moments.{moment}
 use Rattle.eg_model.specs.Lapses.{IsLapse}
-use Rattle.eg_model.specs.Availability.{is_missed}
+use Rattle.eg_model.specs.Availability.{misses_tick}
 use Rattle.eg_model.proofs.TickLemmas.{moment-feeds_at, moment-trip, moment-mirror, moment-pedal, moment-plate, moment-load, moment-speed, moment-torque_found}
 use Rattle.eg_model.proofs.SharpCutLaw.{send_plain, reacts_plain}
 
@@ -59,12 +59,12 @@ missed_not_whole : is_whole missed ≡ false
 unfolding is_whole modules modules_before_react missed no_effects
 missed_not_whole = refl
 
--- where level 2 is missed it is so by the fault
-pub counts_as_missed : (f : Option Fault) (t : ℕ) → effects f t ≡ missed → is_missed f t ≡ true
-unfolding is_missed
+-- where level 2 misses a tick it is so by the fault
+pub counts_as_missed : (f : Option Fault) (t : ℕ) → effects f t ≡ missed → misses_tick f t ≡ true
+unfolding misses_tick
 counts_as_missed f t out = ap (λ x. not (is_whole x)) out ∙ ap not missed_not_whole
 
--- ---- a tick at which it is missed ----
+-- ---- a tick that it misses ----
 
 module _ (s : Setting) (e : Entry) (past : List Moment) where
   abbrev m : Moment

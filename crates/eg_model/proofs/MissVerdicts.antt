@@ -17,7 +17,7 @@ use Rattle.eg_model.specs.Answers.{is_answer, whole_since_answer, with_answer, a
 use Rattle.eg_model.specs.Paths.{latch2}
 use Rattle.eg_model.specs.Moments.{moment, moments_of}
 use Rattle.eg_model.specs.Premises.{Follows}
-use Rattle.eg_model.specs.Availability.{is_missed, IsSpacedLapse}
+use Rattle.eg_model.specs.Availability.{misses_tick, IsSpacedLapse}
 use Rattle.eg_model.proofs.PeriodLemmas.{quotient}
 use Rattle.eg_model.proofs.TickLemmas.{length-moments, moment-tick, moment-mark, moment-whole, moment-verdict, moment-confirms, moment-opens, untripped_before}
 use Rattle.eg_model.proofs.Silence.{period_least, send_within, verdict_none, verdict_some, wrongs, with_wrong, wrongs-cons, latch2-cons}
@@ -31,7 +31,7 @@ use Rattle.eg_model.proofs.MissTicks.{missed, as_tick, to_tick, lapse_tick, coun
 pub record Miss (s : Setting) (start settled now : ℕ) : Type 0 where
   pub tick : ℕ
   pub earlier : tick < now
-  pub counts : is_missed s.fault (start + tick) ≡ true
+  pub counts : misses_tick s.fault (start + tick) ≡ true
   pub settles : settled ≡ tick / s.cal.times.period + 2
 
 -- What is so after each tick by which no trip has come: q periods have a verdict, and n ticks came since.
@@ -286,7 +286,7 @@ module _ (s : Setting) (are : AreTimes s.cal.times) (start : ℕ) (e : Entry) (h
     last = miss_later s start r.settled (length h) r.last;
   }
 
--- ---- a tick at which it is missed ----
+-- ---- a tick that it misses ----
 
 -- a miss comes so many periods after the last one
 periods_apart : (m t q n period most : ℕ) → 0 < period → n < period → t ≡ q * period + n → m + most * period ≤ t →
@@ -298,7 +298,7 @@ periods_apart m t q n period most some room at apart =
     less a q period n l room = grind arith
 
 module _ (s : Setting) (are : AreTimes s.cal.times) (lapse : IsSpacedLapse s) (start : ℕ) (e : Entry) (h : List Tick)
-    (r : Recovering s start h) (counts : is_missed s.fault (start + length h) ≡ true) where
+    (r : Recovering s start h) (counts : misses_tick s.fault (start + length h) ≡ true) where
   apart : Miss s start r.settled (length h) → r.settled + periods_between_misses s.cal.times ≤ r.q + 2
   unfolding miss_spacing_of
   apart miss = later (periods_apart miss.tick (length h) r.q r.n s.cal.times.period (periods_between_misses s.cal.times)

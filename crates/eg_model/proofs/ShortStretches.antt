@@ -3,7 +3,7 @@
 use Rattle.std.proofs.Common.{◌≡◌, ◌≢◌, ℕ, zero, suc, ◌+◌, ◌-◌, ◌*◌, ◌/◌, ◌%◌, ◌≤◌, ◌<◌, Bool, true, false, List, [], ◌∷◌, ◌++◌, length, refl, sym, ap, ◌∙◌, subst, arith, inl, inr, ◌⊎◌, length-append}
 use Rattle.std.specs.Prelude.{if◌then◌else◌, ◌==◌}
 use Rattle.std.proofs.lemmas.Bool.{ne_eqb, and_parts}
-use Rattle.eg_answer.specs.Times.{TimeParts, runs_to_confirm, reaction_of}
+use Rattle.eg_answer.specs.Times.{TimeParts, feeds_to_confirm, reaction_of}
 use Rattle.eg_answer.specs.declared.marks.AnswerMark.TheVariants.{Absent, Good}
 use Rattle.eg_values.specs.Calibration.{CalibrationParts, IsAccepted}
 use Rattle.eg_fault.specs.declared.paths.TheConstants.{PATH_2}
@@ -76,7 +76,7 @@ all_ran s (x ∷ h) regular (suc k) within off whole =
 
 module _ (s : Setting) (accepted : IsAccepted s.cal) (fit : RunsFit s.cal) where
   abbrev many : ℕ
-  many = runs_to_confirm s.cal.rules.torque
+  many = feeds_to_confirm s.cal.rules.torque
 
   -- where level 2 ran at so many ticks of it a trip has come
   trip_from_runs : (h : List Tick) → AllOrNoneEach h → AreProper s h → AllExceed s many h →
@@ -88,7 +88,7 @@ module _ (s : Setting) (accepted : IsAccepted s.cal) (fit : RunsFit s.cal) where
       go false u = trip_from_fed s h
           (run_confirms s.cal.rules.torque many (fed_bits torque_bit (moments_of s h))
           (let f = accepted.torque.3 in omega arith)
-          (unfold runs_to_confirm in rounded_up s.cal.rules.torque.limit s.cal.rules.torque.up (let f = accepted.torque.0 in omega arith))
+          (unfold feeds_to_confirm in rounded_up s.cal.rules.torque.limit s.cal.rules.torque.up (let f = accepted.torque.0 in omega arith))
           (subst (λ n. TrueRun n (fed_bits torque_bit (moments_of s h))) ran (runs_find s accepted h each proper many exceed u)))
 
   -- so an answer there isn't good
@@ -163,12 +163,12 @@ module _ (s : Setting) (accepted : IsAccepted s.cal) (fit : RunsFit s.cal) where
 less_or : (a b : ℕ) → (a < b) ⊎ (b ≤ a)
 less_or a b = grind arith
 
-runs_positive : (s : Setting) → IsAccepted s.cal → 0 < runs_to_confirm s.cal.rules.torque
-unfolding runs_to_confirm
+runs_positive : (s : Setting) → IsAccepted s.cal → 0 < feeds_to_confirm s.cal.rules.torque
+unfolding feeds_to_confirm
 runs_positive s accepted = quotient_positive s.cal.rules.torque.limit s.cal.rules.torque.up
     (let a = accepted.torque.3 in omega arith) (let a = accepted.torque.0 in omega arith)
 
-bound_is : (cal : CalibrationParts) → least_lapse_bound cal ≡ reaction_of cal.times + runs_to_confirm cal.rules.torque
+bound_is : (cal : CalibrationParts) → least_lapse_bound cal ≡ reaction_of cal.times + feeds_to_confirm cal.rules.torque
 unfolding least_lapse_bound
 bound_is cal = refl
 
@@ -180,10 +180,10 @@ too_long s accepted fit lapse start [] follows proper m exceed long =
 too_long s accepted fit lapse start (x ∷ h) follows proper m exceed long =
     off_no_excess s x (moments_of s h) proper.0 off (and_parts _ _ now).0
   where
-    some : 0 < runs_to_confirm s.cal.rules.torque
+    some : 0 < feeds_to_confirm s.cal.rules.torque
     some = runs_positive s accepted
 
-    bound : least_lapse_bound s.cal ≡ reaction_of s.cal.times + runs_to_confirm s.cal.rules.torque
+    bound : least_lapse_bound s.cal ≡ reaction_of s.cal.times + feeds_to_confirm s.cal.rules.torque
     bound = bound_is s.cal
 
     now : AllExceed s (suc (least_lapse_bound s.cal - 1)) (x ∷ h)
@@ -195,13 +195,13 @@ too_long s accepted fit lapse start (x ∷ h) follows proper m exceed long =
     sizes : length cut.front + length cut.back ≡ length h
     sizes = sym (length-append cut.front cut.back) ∙ ap length cut.whole
 
-    long_front : least_lapse_bound s.cal - 1 ≡ length cut.front + (runs_to_confirm s.cal.rules.torque - 1)
+    long_front : least_lapse_bound s.cal - 1 ≡ length cut.front + (feeds_to_confirm s.cal.rules.torque - 1)
     long_front = let w = exceed.within in let c = cut.size in let z = sizes in let b = bound in let l = long in
         let p = some in omega arith
 
-    behind : AllExceed s (length cut.front + (runs_to_confirm s.cal.rules.torque - 1)) h
+    behind : AllExceed s (length cut.front + (feeds_to_confirm s.cal.rules.torque - 1)) h
     behind = exceed_behind s (x ∷ []) h (suc (least_lapse_bound s.cal - 1))
-        (length cut.front + (runs_to_confirm s.cal.rules.torque - 1)) (let e = long_front in omega arith) now
+        (length cut.front + (feeds_to_confirm s.cal.rules.torque - 1)) (let e = long_front in omega arith) now
 
     each : AllOrNoneEach (cut.front ++ cut.back)
     each = rw cut.whole (lapsing_history s lapse start h follows.1)

@@ -9,7 +9,7 @@ use Rattle.eg_fault.specs.declared.class.Class.TheVariants.{Lapse}
 use Rattle.eg_fault.specs.declared.class.Fault.{Fault}
 use Rattle.eg_fault.proofs.ActingLemmas.{at_tick}
 use Rattle.eg_model.specs.Answers.{is_whole}
-use Rattle.eg_model.specs.Availability.{is_missed, SingleMissesAreSpaced}
+use Rattle.eg_model.specs.Availability.{misses_tick, SingleMissesAreSpaced}
 use Rattle.eg_model.proofs.SharpCutLaw.{whole_plain}
 
 whole_lapse : (out : Bool) → is_whole (record no_effects { ran = λ i. not out }) ≡ not out
@@ -37,9 +37,9 @@ left_out after every k missed = elim (or_cases (after == (if every == 0 then k e
     out true e = e
     out false e = absurd (true≢false (sym missed ∙ ap (λ o. not (is_whole (record no_effects { ran = λ i. not o }))) e ∙ ap not (whole_lapse false)))
 
-comes : (onset after every tick : ℕ) → is_missed (Some (record { onset = onset; class = Lapse (after ∷ []) every })) tick ≡ true →
+comes : (onset after every tick : ℕ) → misses_tick (Some (record { onset = onset; class = Lapse (after ∷ []) every })) tick ≡ true →
     Comes onset after every tick
-unfolding is_missed
+unfolding misses_tick
 comes onset after every tick missed = at_tick (λ x. not (is_whole x) ≡ true → Comes onset after every tick) fault tick
     (λ early none. absurd (true≢false (sym none ∙ ap not whole_plain)))
     (λ from out. record { from = from; place = left_out after every (tick - onset) out }) missed

@@ -4,7 +4,7 @@ use Rattle.eg_answer.specs.declared.marks.AnswerMark.TheVariants.{Good, Bad}
 use Rattle.eg_answer.specs.declared.marks.Verdict.TheVariants.{Right, Wrong}
 use Rattle.eg_fault.specs.declared.class.Class.TheVariants.{Plate, Skip, Flip, Halt, Wild, Path2Closed, PathOpen, Lapse}
 use Rattle.eg_record.specs.declared.watch.Watch.TheVariants as found
-use Rattle.eg_answer.specs.Times.{verdicts_to_confirm, reaction_of, runs_to_confirm, periods_to_confirm}
+use Rattle.eg_answer.specs.Times.{feeds_to_confirm, reaction_of, periods_to_confirm}
 use Rattle.eg_values.specs.Reference.{reference_rules, reference_parts}
 use Rattle.eg_record.specs.Excess.{true_excess, first_confirmed}
 use Rattle.eg_model.specs.LeastReaction.{last_excess}
@@ -150,24 +150,24 @@ raise-signals = refl
 
 pub latest_confirmed : first_confirmed reference_rules.torque reference_rules.threshold (rows_of latest_cut)
     ≡ Some 16
-unfolding whole_model last_excess runs_to_confirm periods_to_confirm
+unfolding whole_model last_excess feeds_to_confirm periods_to_confirm
 latest_confirmed = refl
 
 pub latest_stages : map (λ m. m.on) (reverse latest_cut) ≡ replicate 50 true ++ false ∷ []
-unfolding whole_model last_excess runs_to_confirm periods_to_confirm
+unfolding whole_model last_excess feeds_to_confirm periods_to_confirm
 latest_stages = refl
 
 -- ---- level 2 misses every tick from the one on at which an excess would be confirmed ----
 
 pub longest-bound : least_lapse_bound reference_parts ≡ 39
-unfolding least_lapse_bound reaction_of verdicts_to_confirm runs_to_confirm
+unfolding least_lapse_bound reaction_of feeds_to_confirm
 longest-bound = refl
 
 pub longest-stages : map (λ m. m.on) (reverse longest_excess) ≡ replicate 50 true ++ false ∷ []
-unfolding whole_model lapse_onset runs_to_confirm
+unfolding whole_model lapse_onset feeds_to_confirm
 longest-stages = refl
 
 pub longest-excess : map (true_excess reference_rules.threshold) (reverse (rows_of longest_excess))
     ≡ replicate 12 false ++ replicate 38 true ++ false ∷ []
-unfolding whole_model lapse_onset runs_to_confirm
+unfolding whole_model lapse_onset feeds_to_confirm
 longest-excess = refl

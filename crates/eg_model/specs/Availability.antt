@@ -1,8 +1,9 @@
--- Availability: which lapses never cut. One missed run of level 2 spoils at most two verdicts: the answer of
--- its period is bad, or, where it is missed at the send tick itself, that answer is absent and the next one
--- bad. So where misses are far enough apart, right verdicts take back what the spoiled ones add, and wrong
--- answers are never confirmed before a trip. (After one no answer is sent, so that they are.) Rows stand
--- newest first.
+-- Availability: under which lapses wrong answers never cut before a trip. Where level 2 misses a tick before
+-- the send tick of its period, that period's answer is bad; where it misses one behind it, that of the next
+-- period; and where it misses the send tick itself, no answer comes in that period, and the next one is bad.
+-- So one miss spoils at most two verdicts. Where misses are far enough apart, right verdicts take back what
+-- the spoiled ones add, and wrong answers are never confirmed before a trip. (After one no answer is sent, so
+-- that they are.) Rows stand newest first.
 use Rattle.std.specs.Prelude.{◌≡◌, ◌⊎◌, ℕ, ◌+◌, ◌≤◌, ◌<◌, Bool, true, false, not, ◌||◌, List, [], ◌∷◌, ◌++◌, All, Option, Some}
 use Rattle.std.specs.List.{list_any}
 use Rattle.eg_num.specs.declared.watches.Watches.{Watches}
@@ -28,14 +29,14 @@ use Rattle.eg_model.specs.Records.{IsRun}
 
 -- ---- which lapses ----
 
--- level 2 is missed at a tick of a run with this fault: not all of its modules run
-unfoldable pub is_missed : Option Fault → ℕ → Bool
-is_missed fault tick = not (is_whole (effects fault tick))
+-- level 2 misses a tick of a run with this fault: not all of its modules run
+unfoldable pub misses_tick : Option Fault → ℕ → Bool
+misses_tick fault tick = not (is_whole (effects fault tick))
 
--- any two ticks at which it is missed lie at least so many ticks apart
+-- any two ticks that it misses lie at least so many ticks apart
 abbrev pub MissesAreSpaced : Option Fault → (distance : ℕ) → Type 0
 MissesAreSpaced fault distance =
-    (first second : ℕ) → is_missed fault first ≡ true → is_missed fault second ≡ true → first < second →
+    (first second : ℕ) → misses_tick fault first ≡ true → misses_tick fault second ≡ true → first < second →
     first + distance ≤ second
 
 -- so it is where one tick alone is left out, and where one is left out every so many ticks
@@ -44,8 +45,8 @@ SingleMissesAreSpaced =
     (onset after every distance : ℕ) → (every ≡ 0) ⊎ (distance ≤ every) →
     MissesAreSpaced (Some (record { onset = onset; class = Lapse (after ∷ []) every })) distance
 
--- the fault is a lapse whose misses lie so far apart that they never cut, by a calibration that has such a
--- distance
+-- the fault is a lapse whose misses lie so far apart that wrong answers never cut before a trip, by a
+-- calibration that has such a distance
 pub record IsSpacedLapse (s : Setting) : Type 0 where
   pub has : HasMissSpacing s.cal.times
   pub lapse : IsLapse s.fault
@@ -86,7 +87,7 @@ trips found = found.mirror || found.plate || found.load || found.speed || found.
 unfoldable pub has_tripped : List Row → Bool
 has_tripped rows = list_any (λ row. trips row.found) rows
 
--- What never cuts: by the rows of a drive span.
+-- What stays on under such a lapse, by the rows of a drive span.
 pub record StaysAvailable (kt threshold start : ℕ) (rows : List Row) : Type 0 where
   -- as long as no trip has come, wrong answers aren't found, and path 2 conducts
   pub answered : (later before : List Row) (row : Row) → rows ≡ later ++ row ∷ before →

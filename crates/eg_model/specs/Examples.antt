@@ -23,7 +23,7 @@ use Rattle.eg_model.specs.Bench.{Run, moments_to}
 use Rattle.eg_model.specs.Rows.{record_rows, report_of}
 use Rattle.eg_model.specs.Moments.{moments_of}
 use Rattle.eg_model.specs.LeastReaction.{quiet, closed_setting, until_confirmed, quiet_after}
-use Rattle.eg_model.specs.LeastLapse.{missing, lapse_setting, before_lapse, missed}
+use Rattle.eg_model.specs.LeastLapse.{missing_all, lapse_setting, before_lapse, missed_excess}
 
 -- waits for ever
 abbrev pub idle : List ℕ
@@ -181,7 +181,7 @@ latest_cut =
 abbrev pub longest_excess : List Moment
 longest_excess =
     moments_of (lapse_setting reference_parts)
-    (quiet (does missing 0) at_rest ∷ replicate 34 (missed reference_parts at_rest 1000)
+    (quiet (does missing_all 0) at_rest ∷ replicate 34 (missed_excess reference_parts at_rest 1000)
     ++ before_lapse reference_parts at_rest 1000)
 
 -- ---- what is told of a run ----

@@ -1,12 +1,12 @@
 -- R is the least number of ticks that can stand in the reaction theorem. Of each accepted calibration under
 -- which an excess can be confirmed at all there is a history, with path 1 closed and nothing else out of
 -- order, in which the stages are still on R - 1 ticks after the true excess was confirmed.
-use Rattle.std.specs.Prelude.{◌≡◌, ℕ, ◌+◌, ◌*◌, ◌-◌, ◌≤◌, true, List, [], ◌++◌, ◌∷◌, length, replicate, Some}
+use Rattle.std.specs.Prelude.{◌≡◌, ℕ, ◌+◌, ◌*◌, ◌-◌, ◌^◌, ◌≤◌, ◌<◌, true, false, List, [], ◌++◌, ◌∷◌, All, length, replicate, Some}
 use Rattle.eg_num.specs.Arithmetic.{estimate}
 use Rattle.eg_num.specs.Drive.{DriveRow, IsDrive}
 use Rattle.eg_num.specs.Windows.{is_first}
 use Rattle.eg_torque.specs.Excess.{is_excess}
-use Rattle.eg_answer.specs.Times.{runs_to_confirm, periods_to_confirm, reaction_of}
+use Rattle.eg_answer.specs.Times.{feeds_to_confirm, periods_to_confirm, reaction_of}
 use Rattle.eg_values.specs.Calibration.{CalibrationParts, IsAccepted}
 use Rattle.eg_fault.specs.Effects.{Effects, no_effects}
 use Rattle.eg_fault.specs.Faults.{does, IsListed}
@@ -18,19 +18,26 @@ use Rattle.eg_model.specs.Reaction.{ReactsBy}
 
 -- ---- under which calibrations an excess can be confirmed ----
 
--- some drive row within its limits, and some load whose torque is more than what the row permits and the
--- threshold together
+-- some drive row within its limits, at which the unit isn't reset, and some load that is a word, whose torque
+-- is more than what the row permits and the threshold together
 pub record CanExceed (cal : CalibrationParts) : Type 0 where
   pub drive : DriveRow
   pub within : IsDrive drive
+  pub goes_on : drive.reset ≡ false
   pub load : ℕ
+  pub is_word : load < 2 ^ 16
   pub exceeds : is_excess (estimate cal.rules.kt load) (limit_at cal drive) cal.rules.threshold ≡ true
 
--- Without these none is ever confirmed, under any fault: so this is the exact condition.
+-- what the engine tells on each track of the load is a word
+abbrev pub ShowsWord : Tick → Type 0
+ShowsWord x = (x.entry.shown.load_1 < 2 ^ 16) × (x.entry.shown.load_2 < 2 ^ 16)
+
+-- Without these none is ever confirmed, under any fault, where each load is a word: so this is the exact
+-- condition.
 abbrev pub NeedsCanExceed : Type 0
 NeedsCanExceed =
-    (s : Setting) → IsAccepted s.cal → (h : List Tick) → AreProper s h → IsExcessConfirmed s h →
-    CanExceed s.cal
+    (s : Setting) → IsAccepted s.cal → (h : List Tick) → AreProper s h → All ShowsWord h →
+    IsExcessConfirmed s h → CanExceed s.cal
 
 -- ---- the history ----
 
@@ -58,8 +65,8 @@ last_excess cal = periods_to_confirm cal.rules.torque cal.times * cal.times.peri
 -- the ticks up to that one: quiet ones, and then as many with excess as confirm it (newest first)
 abbrev pub until_confirmed : CalibrationParts → DriveRow → (load : ℕ) → List Tick
 until_confirmed cal drive load =
-    replicate (runs_to_confirm cal.rules.torque) (exceeding cal drive load)
-    ++ replicate (last_excess cal + 1 - runs_to_confirm cal.rules.torque) (quiet no_effects drive)
+    replicate (feeds_to_confirm cal.rules.torque) (exceeding cal drive load)
+    ++ replicate (last_excess cal + 1 - feeds_to_confirm cal.rules.torque) (quiet no_effects drive)
 
 -- after that path 1 conducts, whatever react orders; level 1 has no image
 abbrev pub closed_setting : CalibrationParts → Setting
@@ -75,12 +82,18 @@ quiet_after drive = quiet (does Path1Closed 0) drive
 
 -- ---- the laws ----
 
+-- no drive row resets the unit: so a history of such ticks is one drive span of a run
+abbrev pub GoesOn : Tick → Type 0
+GoesOn x = x.entry.drive.reset ≡ false
+
 -- The tick x comes n ticks after the last of h, at which the true excess is first confirmed; `more` are the
--- ticks between. All of them are ticks of a run under the setting's fault, in which the engine keeps its
--- laws; and the stages are on at x.
+-- ticks between. All of them are ticks of one drive span of a run under the setting's fault, in which the
+-- engine keeps its laws and tells loads that are words; and the stages are on at x.
 pub record IsStillOn (s : Setting) (h more : List Tick) (x : Tick) (n : ℕ) : Type 0 where
   pub follows : Follows s.fault 0 (x ∷ more ++ h)
   pub proper : AreProper s (x ∷ more ++ h)
+  pub goes_on : All GoesOn (x ∷ more ++ h)
+  pub words : All ShowsWord (x ∷ more ++ h)
   pub first : is_first s.cal.rules.torque (true_excesses s h) ≡ true
   pub comes : length more + 1 ≡ n
   pub on : is_on_after s (more ++ h) x ≡ true

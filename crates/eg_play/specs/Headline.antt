@@ -58,9 +58,9 @@ pub record Headline (s : Setting) (rows : List Row) (report : List ℕ → Summa
       EachDriveSpan (CutLapses s.cal) rows
   pub short : HasLapseBound s.cal.rules.torque s.cal.times → IsLapse s.fault →
       EachDriveSpan (LapsesAreShort s.cal) rows
-  -- Availability: lapses whose misses lie far enough apart never cut. In each drive span, as long as no watch
-  -- has tripped, wrong answers aren't found; so the stages are off only after a trip, and where no
-  -- full-efficiency excess comes they are on at each tick.
+  -- Availability: under lapses whose misses lie far enough apart wrong answers never cut before a trip. In
+  -- each drive span, as long as no watch has tripped, wrong answers aren't found; so the stages are off only
+  -- after a trip, and where no full-efficiency excess comes they are on at each tick.
   pub stays_available : IsSpacedLapse s →
       EachDriveSpan (StaysAvailable s.cal.rules.kt s.cal.rules.threshold) rows
   -- The report, whatever name it gives the run, names the first detecting monitor and its tick, and the first

@@ -1,4 +1,4 @@
--- Runs in which level 2 is missed at a tick now and then, computed from the definitions.
+-- Runs in which level 2 misses a tick now and then, computed from the definitions.
 use Rattle.std.proofs.Common.{◌≡◌, ◌<◌, true, false, [], ◌∷◌, ◌++◌, map, replicate, Some, None, inr, refl, sym, subst, arith}
 use Rattle.eg_answer.specs.Times.{HasMissSpacing, periods_between_misses, miss_spacing_of}
 use Rattle.eg_answer.specs.declared.marks.Verdict.TheVariants.{Right, Wrong}
@@ -57,7 +57,7 @@ pub gap-uncut : report_on (gap_run None) ≡ reported None None None None
 unfolding whole_model
 gap-uncut = refl
 
--- where level 2 is missed at tick 9 it is fed with five bits that are set
+-- where level 2 misses tick 9 it is fed with five bits that are set
 pub gap-cut : report_on (gap_run (missed_from 9 0)) ≡ reported (Some (Torque, 10)) (Some 11) None None
 unfolding whole_model
 gap-cut = refl

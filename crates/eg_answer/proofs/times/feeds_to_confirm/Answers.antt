@@ -1,11 +1,11 @@
 use Rattle.std.proofs.Common.{◌≡◌, ◌<◌, ap₂, ◌∙◌, arith}
 use Rattle.eg_num.specs.Arithmetic.{quotient_up}
-use Rattle.eg_answer.specs.Times.{verdicts_to_confirm}
+use Rattle.eg_answer.specs.Times.{feeds_to_confirm}
 use Rattle.eg_answer.proofs.QuotientLemmas.{div_ceil-quotient_up}
-use Rattle.eg_answer.proofs.times.verdicts_to_confirm.Goals as goal
+use Rattle.eg_answer.proofs.times.feeds_to_confirm.Goals as goal
 
 pub returns-clause-number : goal.returns-clause-number
-unfolding verdicts_to_confirm
+unfolding feeds_to_confirm
 returns-clause-number c =
     let limit : c.from.result ≡ c.args.weights.now.limit = c.from.ensures ∙ c.limit.ensures.limit in
     let up : c.from-2.result ≡ c.args.weights.now.up = c.from-2.ensures ∙ c.up.ensures.up in
