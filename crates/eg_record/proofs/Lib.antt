@@ -9,6 +9,7 @@ pub mod GivenLemmas
 pub mod LawLemmas
 pub mod LastOnLemmas
 pub mod FactLemmas
+pub mod ReactionLemmas
 pub mod TallyLemmas
 mod Worked
 pub mod AsciiLemmas

@@ -1,5 +1,5 @@
 -- One row more: what facts become, and what a tally stands for.
-use Rattle.std.proofs.Common.{◌≡◌, ◌∙◌, ◌∷◌, [], List, ℕ, Bool, Some, None, map, length, refl, sym, ap, ap₂, add-one}
+use Rattle.std.proofs.Common.{◌≡◌, ◌∙◌, ◌∷◌, [], List, ℕ, Bool, Some, None, map, length, refl, sym, ap, ap₂, subst, add-one}
 use Rattle.std.specs.Prelude.{Option, if◌then◌else◌}
 use Rattle.std.specs.Option.{option_or}
 use Rattle.eg_num.specs.Windows.{WeightParts, is_confirmed}
@@ -15,8 +15,12 @@ use Rattle.eg_record.specs.Excess.{true_excess, is_excess_confirmed, first_confi
 use Rattle.eg_record.specs.Stages.{first_off, last_on}
 use Rattle.eg_record.specs.Facts.{facts_of, facts_with, summary_with}
 use Rattle.eg_record.specs.Summaries.{summary_of}
-use Rattle.eg_record.specs.Tallies.{TallyParts, IsTallyOf}
+use Rattle.eg_record.specs.declared.reactions.Reactions.{Reactions}
+use Rattle.eg_record.specs.declared.span_tally.SpanTally.{SpanTally}
+use Rattle.eg_record.specs.Reactions.{both, reactions_of, spans_with, told_at}
+use Rattle.eg_record.specs.Tallies.{TallyParts, AreSpansOf, IsTallyOf}
 use Rattle.eg_record.proofs.ExcessLemmas.{begins, fed_stands, fed_answers}
+use Rattle.eg_record.proofs.ReactionLemmas.{told-all, spans_with-is}
 
 -- the facts of these rows and of one more
 pub facts_of-more : (w : WeightParts) (t : ℕ) (row : Row) (rows : List Row) → row.tick ≡ length rows →
@@ -33,10 +37,10 @@ unfolding facts_of
 ticks_of w t rows = refl
 
 -- a tally that was fed nothing
-pub new_tally : (w : WeightParts) (t value : ℕ) (facts : Facts) → facts ≡ facts_of w t [] → value ≡ 0 →
-    IsTallyOf (record { threshold = t; weights = w; facts = facts; value = value }) []
+pub new_tally : (w : WeightParts) (t value : ℕ) (facts : Facts) (spans : SpanTally) → facts ≡ facts_of w t [] → value ≡ 0 → AreSpansOf w t spans [] →
+    IsTallyOf (record { threshold = t; weights = w; facts = facts; value = value; spans = spans }) []
 unfolding this_span
-new_tally w t value facts same zero = record { run = tt; facts = same; counter = zero ∙ sym (counted-nil w) }
+new_tally w t value facts spans same zero are = record { run = tt; facts = same; counter = zero ∙ sym (counted-nil w); spans = are }
 
 -- What the counter of a tally is fed at a row: it begins anew where a span does, gets the bit of the row, and answers whether the excess is confirmed.
 pub record IsFed (tally : TallyParts) (row : Row) (new : ℕ) (confirmed : Bool) : Type 0 where
@@ -48,10 +52,10 @@ pub record IsFed (tally : TallyParts) (row : Row) (new : ℕ) (confirmed : Bool)
   pub answers : (bits : List Bool) → StandsFor tally.weights begun bits → confirmed ≡ is_confirmed tally.weights (bit ∷ bits)
 
 -- a tally that stands for these rows, fed one row more
-pub fed_tally : (tally : TallyParts) (row : Row) (new : ℕ) (confirmed : Bool) (facts : Facts) (rows : List Row) → row.tick ≡ tally.facts.ticks →
-    IsFed tally row new confirmed → facts ≡ facts_with row confirmed tally.facts →
-    IsTallyOf tally rows → IsTallyOf (record { threshold = tally.threshold; weights = tally.weights; facts = facts; value = new }) (row ∷ rows)
-fed_tally tally row new confirmed facts rows tick fed added before =
+pub fed_tally : (tally : TallyParts) (row : Row) (new : ℕ) (confirmed : Bool) (facts : Facts) (spans : SpanTally) (rows : List Row) → row.tick ≡ tally.facts.ticks →
+    IsFed tally row new confirmed → facts ≡ facts_with row confirmed tally.facts → spans ≡ spans_with row confirmed tally.spans →
+    IsTallyOf tally rows → IsTallyOf (record { threshold = tally.threshold; weights = tally.weights; facts = facts; value = new; spans = spans }) (row ∷ rows)
+fed_tally tally row new confirmed facts spans rows tick fed added kept before =
     let w = tally.weights in
     let t = tally.threshold in
     let here : row.tick ≡ length rows = tick ∙ ap (λ (f : Facts). f.ticks) before.facts ∙ ticks_of w t rows in
@@ -62,7 +66,15 @@ fed_tally tally row new confirmed facts rows tick fed added before =
       run = (here, before.run);
       facts = added ∙ ap₂ (facts_with row) (sym told) before.facts ∙ sym (facts_of-more w t row rows here);
       counter = fed_stands w t row rows fed.bit new fed.bit_is (fed.windows bits begun);
+      spans = subst (λ s. AreSpansOf w t s (row ∷ rows)) (sym kept) (spans_with-is w t tally.spans row rows confirmed here before.run (sym told) before.spans);
     }
+
+-- what a tally that stands for these rows tells of their reactions
+pub tally_tells : (tally : TallyParts) (rows : List Row) (told : Reactions) → told ≡ both (told_at tally.facts.ticks tally.spans) tally.spans.ended →
+    IsTallyOf tally rows → told ≡ reactions_of tally.weights tally.threshold rows
+tally_tells tally rows told is stands =
+    is ∙ ap (λ n. both (told_at n tally.spans) tally.spans.ended) (ap (λ (f : Facts). f.ticks) stands.facts ∙ ticks_of tally.weights tally.threshold rows)
+    ∙ told-all tally.weights tally.threshold tally.spans rows stands.run stands.spans
 
 -- the summary with the facts of some rows is theirs
 pub summary_with-rows : (name : List ℕ) (w : WeightParts) (t : ℕ) (rows : List Row) (trap : Option (Trap × ℕ)) (bound : ℕ) →

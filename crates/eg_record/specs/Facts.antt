@@ -25,13 +25,16 @@ unfoldable pub off_from : (last_on : Option ℕ) → ℕ
 off_from None = 0
 off_from (Some last) = last + 1
 
--- The reaction of a run with these facts: how many ticks go by from the first one by which a true excess is
--- confirmed until the stages are off for good, 0 where they are off for good before. There is none where no
--- excess is confirmed, or the stages are on at the last tick.
+-- How many ticks go by from the one by which a true excess is confirmed until the stages are off for good, 0
+-- where they are off for good before. There is none where no excess is confirmed, or the stages are on at the
+-- last tick before the end.
+abbrev pub reaction_by : (last_on confirmed : Option ℕ) → (end : ℕ) → Option ℕ
+reaction_by last_on confirmed end =
+    if nat_lt (off_from last_on) end then option_map (λ c. off_from last_on - c) confirmed else None
+
+-- the reaction of a run with these facts, from the first tick by which a true excess is confirmed
 unfoldable pub reaction_in : Facts → Option ℕ
-reaction_in facts =
-    if nat_lt (off_from facts.last_on) facts.ticks
-    then option_map (λ confirmed. off_from facts.last_on - confirmed) facts.confirmed else None
+reaction_in facts = reaction_by facts.last_on facts.confirmed facts.ticks
 
 -- the summary that tells these facts, with this name, trap and reaction time
 unfoldable pub summary_with : (name : List ℕ) → Facts → (trap : Option (Trap × ℕ)) → (bound : ℕ) → Summary

@@ -36,3 +36,13 @@ EachDriveSpan P rows =
 abbrev pub EachTestSpan : (ℕ → List Row → Type 0) → List Row → Type 0
 EachTestSpan P rows =
     (newer span older : List Row) → rows ≡ newer ++ (span ++ older) → IsTestSpan span → P (length older) span
+
+-- this row at the end of the last of these spans
+unfoldable pub in_last : Row → List (List Row) → List (List Row)
+in_last row [] = (row ∷ []) ∷ []
+in_last row (span ∷ earlier) = (row ∷ span) ∷ earlier
+
+-- the spans of these rows, the last one first
+unfoldable pub spans_of : List Row → List (List Row)
+spans_of [] = []
+spans_of (row ∷ before) = if row.fresh then (row ∷ []) ∷ spans_of before else in_last row (spans_of before)

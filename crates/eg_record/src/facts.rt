@@ -4,7 +4,7 @@ ghost use Rattle.std.specs.Option.{option_or};
 ghost use Rattle.eg_num.specs.Windows.{WeightParts};
 ghost use Rattle.eg_record.specs.Detection.{detected_at};
 ghost use Rattle.eg_record.specs.Stages.{off_at};
-ghost use Rattle.eg_record.specs.Facts.{facts_of, facts_with, reaction_in, summary_with};
+ghost use Rattle.eg_record.specs.Facts.{facts_of, facts_with, reaction_by, reaction_in, summary_with};
 ghost use Rattle.eg_record.specs.Summaries.{summary_of};
 
 use crate::detection::is_off;
@@ -59,16 +59,11 @@ impl Facts {
 
     /// The reaction of the run, in ticks (docs/CONCEPT.md, "`soak`"). None where it has none: no true excess
     /// is confirmed, or the power stages are on at the last tick.
-    #[tactic(auto, unfolding(crate::specs::Facts::reaction_in, crate::specs::Facts::off_from))]
+    #[tactic(auto, unfolding(crate::specs::Facts::reaction_in))]
     pub fn reaction(&self) -> Option<u32>
         ensures { result ≡ reaction_in self.now }
     {
-        // At the greatest u32, which no run reaches, there is none either way.
-        let off_from = self.last_on.map_or(0, |last| last.saturating_add(1));
-        match self.confirmed {
-            Some(confirmed) if off_from < self.ticks => Some(off_from.saturating_sub(confirmed)),
-            _ => None,
-        }
+        reaction_by(self.last_on, self.confirmed, self.ticks)
     }
 
     /// The facts of no rows.
@@ -98,6 +93,20 @@ impl Facts {
     }
 }
 
+/// How many ticks go by from the one by which a true excess is confirmed until the stages are off for good, where
+/// they were on last at this tick, and `end` is the tick after the last one.
+#[tactic(auto, unfolding(crate::specs::Facts::off_from))]
+pub(crate) fn reaction_by(last_on: Option<u32>, confirmed: Option<u32>, end: u32) -> Option<u32>
+    ensures { result ≡ reaction_by last_on confirmed end }
+{
+    // At the greatest u32, which no run reaches, there is none either way.
+    let off_from = last_on.map_or(0, |last| last.saturating_add(1));
+    match confirmed {
+        Some(confirmed) if off_from < end => Some(off_from.saturating_sub(confirmed)),
+        _ => None,
+    }
+}
+
 /// Notes what is detected at a row, unless something is noted already.
 #[tactic(auto, unfolding(crate::specs::Detection::detected_at))]
 fn note_detection(first: &mut Option<(Watch, u32)>, row: &Row)
@@ -111,7 +120,7 @@ fn note_detection(first: &mut Option<(Watch, u32)>, row: &Row)
 }
 
 /// Notes the tick of a row at which the stages are on, in place of any earlier one.
-fn note_on(last: &mut Option<u32>, row: &Row)
+pub(crate) fn note_on(last: &mut Option<u32>, row: &Row)
     ensures { last.new ≡ if row.now.on then Some row.now.tick else last.old }
 {
     if row.on {
@@ -120,7 +129,7 @@ fn note_on(last: &mut Option<u32>, row: &Row)
 }
 
 /// Notes a tick at which something is so, unless one is noted already.
-fn note_tick(first: &mut Option<u32>, tick: u32, is_so: bool)
+pub(crate) fn note_tick(first: &mut Option<u32>, tick: u32, is_so: bool)
     ensures { first.new ≡ option_or first.old (if is_so then Some tick else None) }
 {
     if is_so && first.is_none() {

@@ -5,8 +5,11 @@
 
 mod detection;
 mod facts;
+mod reactions;
 mod row;
 mod row_line;
+mod run_facts;
+mod span_tally;
 mod summary;
 mod summary_line;
 mod tally;
@@ -16,8 +19,10 @@ pub use detection::{detections_are_first, off_ticks_are_first, on_ticks_are_last
 pub use eg_answer::{AnswerMark, Verdict};
 pub use eg_num::{Drive, Watches};
 pub use facts::Facts;
+pub use reactions::Reactions;
 pub use row::Row;
 pub use row_line::{push_row, record_header, row_text};
+pub use run_facts::RunFacts;
 pub use summary::{Summary, summarize};
 pub use summary_line::{report_end_text, summary_text};
 pub use tally::Tally;

@@ -1,10 +1,12 @@
 // The tally of the rows of a run.
 ghost use Rattle.std.specs.Prelude.{◌≡◌, ◌+◌, ◌<◌, List, [], ◌∷◌};
 ghost use Rattle.eg_record.specs.Facts.{facts_of};
+ghost use Rattle.eg_record.specs.Reactions.{reactions_of};
 ghost use Rattle.eg_record.specs.Tallies.{IsTallyOf, IsTally};
 
 use crate::detection::{counter_at, is_excess};
-use crate::{Facts, Row};
+use crate::span_tally::SpanTally;
+use crate::{Facts, Reactions, Row};
 use eg_num::{Counter, Weights};
 use std::marker::Model;
 
@@ -17,6 +19,7 @@ pub struct Tally {
     weights: Weights,
     facts: Facts,
     counter: Counter,
+    spans: SpanTally,
 }
 
 impl Model for Tally {
@@ -29,6 +32,7 @@ impl Model for Tally {
       weights = t.weights;
       facts = t.facts;
       value = t.counter.value;
+      spans = t.spans;
     } };
 
     ghost invariant = { λ t. IsTally (record {
@@ -36,6 +40,7 @@ impl Model for Tally {
       weights = t.weights;
       facts = t.facts;
       value = t.counter.value;
+      spans = t.spans;
     }) };
 
     ghost inverse = { λ p. record {
@@ -43,6 +48,7 @@ impl Model for Tally {
       weights = p.weights;
       facts = p.facts;
       counter = record { value = p.value };
+      spans = p.spans;
     } };
 }
 
@@ -62,6 +68,7 @@ impl Tally {
             weights,
             facts: Facts::new(),
             counter: Counter::new(),
+            spans: SpanTally::new(),
         }
     }
 
@@ -80,6 +87,7 @@ impl Tally {
         let is_confirmed = counter.feed(&self.weights, is_excess(row, self.threshold));
         self.counter = counter;
         self.facts.add(row, is_confirmed);
+        self.spans.add(row, is_confirmed);
     }
 
     /// The facts of the rows that it was fed.
@@ -91,5 +99,14 @@ impl Tally {
         ensures some { IsTally self.now }
     {
         self.facts
+    }
+
+    /// The reactions in the spans of these rows.
+    pub fn reactions(&self) -> Reactions
+        ensures reactions { (rows : List Row) → IsTallyOf self.now rows →
+            result ≡ reactions_of self.now.weights self.now.threshold rows }
+        ensures some { IsTally self.now }
+    {
+        self.spans.reactions_to(self.facts.ticks)
     }
 }

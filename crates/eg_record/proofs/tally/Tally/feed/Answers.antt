@@ -7,12 +7,12 @@ use Rattle.eg_record.proofs.TallyLemmas.{IsFed, fed_tally}
 use Rattle.eg_record.proofs.tally.Tally.feed.Goals as goal
 
 -- the tally before the row
-abbrev before : goal.After-add → TallyParts
-before c = record { threshold = c.self.inside.threshold; weights = c.self.inside.weights; facts = c.self.inside.facts; value = c.self.inside.counter.value }
+abbrev before : goal.After-add-2 → TallyParts
+before c = record { threshold = c.self.inside.threshold; weights = c.self.inside.weights; facts = c.self.inside.facts; value = c.self.inside.counter.value; spans = c.self.inside.spans }
 
 -- it stands for the row and for those before it
-goes_on : (c : goal.After-add) (rows : List Row) → IsTallyOf (before c) rows →
-    IsTallyOf (record { threshold = c.self.inside.threshold; weights = c.self.inside.weights; facts = c.add.new.self; value = c.feed-is_confirmed.new.self.value }) (c.args.row.now ∷ rows)
+goes_on : (c : goal.After-add-2) (rows : List Row) → IsTallyOf (before c) rows →
+    IsTallyOf (record { threshold = c.self.inside.threshold; weights = c.self.inside.weights; facts = c.add.new.self; value = c.feed-is_confirmed.new.self.value; spans = c.add-2.new.self }) (c.args.row.now ∷ rows)
 goes_on c rows stands =
     let tick = c.requires.tick ∙ sym (ap (λ v. v.facts.ticks) c.self.view_is) in
     let fed : IsFed (before c) c.args.row.now c.feed-is_confirmed.new.self.value c.feed-is_confirmed.result = record {
@@ -23,7 +23,7 @@ goes_on c rows stands =
       windows = c.feed-is_confirmed.ensures.windows;
       answers = c.feed-is_confirmed.ensures.confirmed;
     } in
-    fed_tally (before c) c.args.row.now _ _ c.add.new.self rows tick fed c.add.ensures stands
+    fed_tally (before c) c.args.row.now _ _ c.add.new.self c.add-2.new.self rows tick fed c.add.ensures c.add-2.ensures stands
 
 pub invariant_of-self : goal.invariant_of-self
 invariant_of-self c = record {

@@ -1,0 +1,116 @@
+-- The reactions of a run, span by span: how long the stages stay on once a true excess is confirmed, and
+-- whether a span goes on long enough afterwards to say so. All ticks are those of the run.
+use Rattle.std.specs.Prelude.{ℕ, ◌+◌, ◌-◌, Bool, true, max, min, nat_le, List, [], ◌∷◌, map, Option, Some, None, option_map, if◌then◌else◌}
+use Rattle.std.specs.Option.{option_or}
+use Rattle.eg_num.specs.Windows.{WeightParts, is_confirmed}
+use Rattle.eg_record.specs.declared.row.Row.{Row}
+use Rattle.eg_record.specs.declared.reactions.Reactions.{Reactions}
+use Rattle.eg_record.specs.declared.span_tally.SpanTally.{SpanTally}
+use Rattle.eg_record.specs.Spans.{spans_of}
+use Rattle.eg_record.specs.Stages.{last_on}
+use Rattle.eg_record.specs.Excess.{true_excess}
+use Rattle.eg_record.specs.Facts.{reaction_by}
+
+-- ---- in one span, by its rows ----
+
+-- the first tick by which the true excess is confirmed in it, or none
+unfoldable pub confirmed_in : WeightParts → (threshold : ℕ) → List Row → Option ℕ
+confirmed_in weights threshold [] = None
+confirmed_in weights threshold (row ∷ before) =
+    option_or (confirmed_in weights threshold before)
+    (if is_confirmed weights (map (true_excess threshold) (row ∷ before)) then Some row.tick else None)
+
+-- the tick after its last one
+unfoldable pub end_of : List Row → ℕ
+end_of [] = 0
+end_of (row ∷ before) = row.tick + 1
+
+-- The reaction in it: how many ticks go by from the one by which the excess is confirmed until the stages are
+-- off for good. There is none where no excess is confirmed, or the stages are on at the last tick.
+unfoldable pub reaction_in_span : WeightParts → (threshold : ℕ) → List Row → Option ℕ
+reaction_in_span weights threshold span =
+    reaction_by (last_on span) (confirmed_in weights threshold span) (end_of span)
+
+-- how many ticks of it follow the one by which the excess is confirmed, or none where it isn't
+unfoldable pub followed_in : WeightParts → (threshold : ℕ) → List Row → Option ℕ
+followed_in weights threshold span = option_map (λ c. end_of span - (c + 1)) (confirmed_in weights threshold span)
+
+-- ---- in several spans ----
+
+-- the greater of two numbers, and the less, where each may be missing
+unfoldable pub greater : Option ℕ → Option ℕ → Option ℕ
+greater None other = other
+greater (Some n) None = Some n
+greater (Some n) (Some other) = Some (max n other)
+
+unfoldable pub less : Option ℕ → Option ℕ → Option ℕ
+less None other = other
+less (Some n) None = Some n
+less (Some n) (Some other) = Some (min n other)
+
+-- what is told where nothing is confirmed
+unfoldable pub no_reactions : Reactions
+no_reactions = record { longest = None; followed = None }
+
+-- what is told of some spans and of others
+unfoldable pub both : Reactions → Reactions → Reactions
+both these others = record {
+  longest = greater these.longest others.longest;
+  followed = less these.followed others.followed;
+}
+
+-- what is told of one span, and of several: the longest reaction, and the least number of ticks that follow a
+-- confirmed excess
+unfoldable pub reactions_in : WeightParts → (threshold : ℕ) → List Row → Reactions
+reactions_in weights threshold span = record {
+  longest = reaction_in_span weights threshold span;
+  followed = followed_in weights threshold span;
+}
+
+unfoldable pub reactions_of_spans : WeightParts → (threshold : ℕ) → List (List Row) → Reactions
+reactions_of_spans weights threshold [] = no_reactions
+reactions_of_spans weights threshold (span ∷ earlier) =
+    both (reactions_in weights threshold span) (reactions_of_spans weights threshold earlier)
+
+-- what is told of the spans of a run
+unfoldable pub reactions_of : WeightParts → (threshold : ℕ) → List Row → Reactions
+reactions_of weights threshold rows = reactions_of_spans weights threshold (spans_of rows)
+
+-- so many ticks follow, where this is the least number of ticks that follow a confirmed excess
+unfoldable pub settled_by : (bound : ℕ) → Option ℕ → Bool
+settled_by bound None = true
+settled_by bound (Some ticks) = nat_le bound ticks
+
+-- Each confirmed excess is followed by so many ticks of its span, so that the run shows whether a reaction
+-- takes no more.
+unfoldable pub is_settled : (bound : ℕ) → Reactions → Bool
+is_settled bound reactions = settled_by bound reactions.followed
+
+-- ---- one row more ----
+
+-- what is told of the span that is going on, where it ends before this tick
+unfoldable pub told_at : (end : ℕ) → SpanTally → Reactions
+told_at end spans = record {
+  longest = reaction_by spans.last_on spans.confirmed end;
+  followed = option_map (λ c. end - (c + 1)) spans.confirmed;
+}
+
+-- the span that is going on ends before this tick, and another begins
+unfoldable pub ended_at : (end : ℕ) → SpanTally → SpanTally
+ended_at end spans = record {
+  last_on = None;
+  confirmed = None;
+  ended = both (told_at end spans) spans.ended;
+}
+
+-- one row more of the span that is going on, at which the true excess is confirmed or isn't
+unfoldable pub gone_on : Row → (confirmed : Bool) → SpanTally → SpanTally
+gone_on row confirmed spans = record spans {
+  last_on = if row.on then Some row.tick else spans.last_on;
+  confirmed = option_or spans.confirmed (if confirmed then Some row.tick else None);
+}
+
+-- what is kept of the spans becomes this by one row more
+unfoldable pub spans_with : Row → (confirmed : Bool) → SpanTally → SpanTally
+spans_with row confirmed spans =
+    gone_on row confirmed (if row.fresh then ended_at row.tick spans else spans)

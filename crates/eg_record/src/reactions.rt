@@ -1,0 +1,63 @@
+// The reactions of a run, span by span.
+ghost use Rattle.std.specs.Prelude.{◌≡◌};
+ghost use Rattle.eg_record.specs.Reactions.{both, greater, is_settled, less};
+
+/// What is told of the reactions of a run once its rows are gone (docs/CONCEPT.md, "`table`"). Spans are the
+/// stretches of ticks in which the engine is driven, and the start-up tests.
+#[derive(Clone, Copy, Debug, PartialEq, Eq)]
+pub struct Reactions {
+    /// The longest reaction in a span, in ticks, or None where no span has one.
+    pub longest: Option<u32>,
+    /// The least number of ticks that follow a confirmed true excess in its span, or None where none is
+    /// confirmed.
+    pub followed: Option<u32>,
+}
+
+impl Reactions {
+    /// Whether each confirmed true excess is followed by so many ticks of its span, so that the run shows
+    /// whether a reaction takes no more.
+    #[tactic(auto, unfolding(crate::specs::Reactions::is_settled, crate::specs::Reactions::settled_by))]
+    pub fn is_settled(&self, bound: u32) -> bool
+        ensures { result ≡ is_settled bound self.now }
+    {
+        match self.followed {
+            Some(ticks) => bound <= ticks,
+            None => true,
+        }
+    }
+
+    /// What is told of these spans and of others.
+    #[tactic(auto, unfolding(crate::specs::Reactions::both))]
+    pub(crate) fn and(&self, others: &Reactions) -> Reactions
+        ensures { result ≡ both self.now others.now }
+    {
+        Reactions {
+            longest: greater(self.longest, others.longest),
+            followed: less(self.followed, others.followed),
+        }
+    }
+}
+
+/// The greater of two numbers, each of which may be missing.
+#[tactic(auto, unfolding(crate::specs::Reactions::greater))]
+fn greater(one: Option<u32>, other: Option<u32>) -> Option<u32>
+    ensures { result ≡ greater one other }
+{
+    match (one, other) {
+        (Some(one), Some(other)) => Some(one.max(other)),
+        (Some(one), None) => Some(one),
+        (None, other) => other,
+    }
+}
+
+/// The less of two numbers, each of which may be missing.
+#[tactic(auto, unfolding(crate::specs::Reactions::less))]
+fn less(one: Option<u32>, other: Option<u32>) -> Option<u32>
+    ensures { result ≡ less one other }
+{
+    match (one, other) {
+        (Some(one), Some(other)) => Some(one.min(other)),
+        (Some(one), None) => Some(one),
+        (None, other) => other,
+    }
+}

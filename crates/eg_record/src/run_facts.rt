@@ -1,0 +1,14 @@
+// What is told of a run.
+use crate::{Facts, Reactions};
+use eg_word::Trap;
+
+/// What is told of a run once its rows are gone (docs/CONCEPT.md, "The report of a run" and "`table`").
+#[derive(Clone, Copy, Debug, PartialEq, Eq)]
+pub struct RunFacts {
+    /// The facts of its rows.
+    pub facts: Facts,
+    /// The reactions in its spans.
+    pub reactions: Reactions,
+    /// Level 1's trap, with the tick at which it came, if any.
+    pub trap: Option<(Trap, u32)>,
+}
