@@ -16,7 +16,7 @@ use Rattle.eg_model.specs.Records.{CutLapses, LapsesAreShort, AreOff}
 use Rattle.eg_model.specs.Findings.{FindsBeforeOff, FindsFailure, FindsFromOnset, TellsFlips, NamesWhatCuts}
 use Rattle.eg_model.specs.Lapses.{IsLapse}
 use Rattle.eg_model.specs.Outputs.{with_level1, ActByOutputs}
-use Rattle.eg_model.specs.Availability.{IsSpacedLapse, StaysAvailable}
+use Rattle.eg_laws.specs.Availability.{IsSpacedLapse, StaysAvailable}
 use Rattle.eg_campaign.specs.Plays.{EngineRun, rows_of_run, report_of_run}
 
 -- What the headline says of the record of a run, by its setting, its rows, its report under each name, and

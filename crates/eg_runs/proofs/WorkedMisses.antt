@@ -5,8 +5,8 @@ use Rattle.eg_answer.specs.declared.marks.Verdict.TheVariants.{Right, Wrong}
 use Rattle.eg_record.specs.declared.watch.Watch.TheVariants.{Answers, Torque}
 use Rattle.eg_record.specs.Excess.{full_excess}
 use Rattle.eg_model.specs.Examples.{verdicts_of, rows_in_time, report_on, reported}
-use Rattle.eg_model.specs.Availability.{MissesAreSpaced, IsSpacedLapse}
-use Rattle.eg_model.proofs.SingleMisses.{single_misses_are_spaced}
+use Rattle.eg_laws.specs.Availability.{MissesAreSpaced, IsSpacedLapse}
+use Rattle.eg_laws.proofs.SingleMisses.{single_misses_are_spaced}
 use Rattle.eg_runs.specs.WorkedMisses.{missed_from, sevens, missed_run, single_miss, gap_run, reported_with}
 use Rattle.eg_model.proofs.WholeModel.{whole_model}
 

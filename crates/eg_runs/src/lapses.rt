@@ -6,7 +6,7 @@ ghost use Rattle.eg_record.specs.declared.watch.Watch.TheVariants.{Answers, Torq
 ghost use Rattle.eg_record.specs.Excess.{full_excess};
 ghost use Rattle.eg_model.specs.Examples.{rows_in_time, report_on, reported, answers_of, stages_of};
 ghost use Rattle.eg_runs.specs.WorkedLapses.{lapsing_run, excesses_of};
-ghost use Rattle.eg_model.specs.Availability.{IsSpacedLapse};
+ghost use Rattle.eg_laws.specs.Availability.{IsSpacedLapse};
 ghost use Rattle.eg_runs.specs.WorkedMisses.{missed_from, sevens, missed_run, single_miss, gap_run, reported_with};
 
 /// A run under lapses that is cut: level 2 runs at one tick of ten, so it feeds too few bits to find the

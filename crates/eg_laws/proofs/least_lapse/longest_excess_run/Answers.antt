@@ -1,5 +1,5 @@
-use Rattle.eg_model.proofs.WorkedFaults.{longest-bound, longest-excess, longest-stages}
-use Rattle.eg_model.proofs.lapses.longest_excess_run.Goals as goal
+use Rattle.eg_laws.proofs.Worked.{longest-bound, longest-excess, longest-stages}
+use Rattle.eg_laws.proofs.least_lapse.longest_excess_run.Goals as goal
 
 pub returns-clause-bound : goal.returns-clause-bound
 returns-clause-bound c = longest-bound

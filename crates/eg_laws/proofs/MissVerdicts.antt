@@ -17,14 +17,14 @@ use Rattle.eg_model.specs.Answers.{is_answer, whole_since_answer, with_answer, a
 use Rattle.eg_model.specs.Paths.{latch2}
 use Rattle.eg_model.specs.Moments.{moment, moments_of}
 use Rattle.eg_model.specs.Premises.{Follows}
-use Rattle.eg_model.specs.Availability.{misses_tick, IsSpacedLapse}
+use Rattle.eg_laws.specs.Availability.{misses_tick, IsSpacedLapse}
 use Rattle.eg_model.proofs.PeriodLemmas.{quotient}
 use Rattle.eg_model.proofs.TickLemmas.{length-moments, moment-tick, moment-mark, moment-whole, moment-verdict, moment-confirms, moment-opens, untripped_before}
 use Rattle.eg_model.proofs.Silence.{period_least, send_within, verdict_none, verdict_some, wrongs, with_wrong, wrongs-cons, latch2-cons}
 use Rattle.eg_model.proofs.PlainTick.{plain}
 use Rattle.eg_model.proofs.SharpCutLaw.{usual_mark, one_answer, sent_now, mark_plain, whole_plain, whole-cons, right_alone}
-use Rattle.eg_model.proofs.MissWeights.{Weighs, weighs_at_first, weighs_anew, weighs_more, weighs_nothing, never_reached, never_confirmed}
-use Rattle.eg_model.proofs.MissTicks.{missed, as_tick, to_tick, lapse_tick, counts_as_missed, answered_plain}
+use Rattle.eg_laws.proofs.MissWeights.{Weighs, weighs_at_first, weighs_anew, weighs_more, weighs_nothing, never_reached, never_confirmed}
+use Rattle.eg_laws.proofs.MissTicks.{missed, as_tick, to_tick, lapse_tick, counts_as_missed, answered_plain}
 
 -- a miss before tick `now` of a history that begins at tick `start`: the verdicts of its period and of the next
 -- may be wrong, those from period `settled` on are right again

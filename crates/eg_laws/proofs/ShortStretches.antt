@@ -16,7 +16,7 @@ use Rattle.eg_model.specs.Rows.{row_of, rows_of}
 use Rattle.eg_record.specs.Excess.{true_excess}
 use Rattle.eg_model.specs.Premises.{AreProper, Follows, is_on_after, true_excesses}
 use Rattle.eg_model.specs.Lapses.{IsLapse, Exceeds}
-use Rattle.eg_model.specs.LeastLapse.{RunsFit, least_lapse_bound, StretchesAreShorter}
+use Rattle.eg_laws.specs.LeastLapse.{RunsFit, least_lapse_bound, StretchesAreShorter}
 use Rattle.eg_model.proofs.TickLemmas.{Each, Each-map, length-moments, moment-mark, moment-whole, untripped_before}
 use Rattle.eg_model.proofs.TripLemmas.{off_by_latch1}
 use Rattle.eg_model.proofs.Silence.{AreRegular, TrueRun, NoGood, sent_at_place, run_confirms, off_after_silence}
@@ -25,7 +25,7 @@ use Rattle.eg_model.proofs.LapseAnswers.{is_good_mark, absent_off_place, whole_b
 use Rattle.eg_model.proofs.LapseWeights.{all_of_fewer, rounded_up}
 use Rattle.eg_model.proofs.LapseLaw.{exceed_behind, off_no_excess, lapsing_history}
 use Rattle.eg_model.proofs.ReactionLaw.{Split, split}
-use Rattle.eg_model.proofs.FewVerdicts.{quotient_positive}
+use Rattle.eg_laws.proofs.FewVerdicts.{quotient_positive}
 
 -- fewer than a period before a send tick none is
 not_again : (times : TimeParts) (t i : ℕ) → t % times.period ≡ times.send → i < t → t < i + times.period →

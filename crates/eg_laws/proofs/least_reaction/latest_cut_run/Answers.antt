@@ -1,5 +1,5 @@
-use Rattle.eg_model.proofs.WorkedFaults.{latest_confirmed, latest_stages}
-use Rattle.eg_model.proofs.reaction.latest_cut_run.Goals as goal
+use Rattle.eg_laws.proofs.Worked.{latest_confirmed, latest_stages}
+use Rattle.eg_laws.proofs.least_reaction.latest_cut_run.Goals as goal
 
 pub returns-clause-confirmed : goal.returns-clause-confirmed
 returns-clause-confirmed c = latest_confirmed

@@ -13,7 +13,7 @@ use Rattle.eg_fault.specs.declared.class.Class.TheVariants.{Lapse}
 use Rattle.eg_model.specs.History.{Setting, Tick}
 use Rattle.eg_model.specs.Premises.{AreProper, Follows}
 use Rattle.eg_model.specs.Lapses.{Exceeds, StretchesStayBelow}
-use Rattle.eg_model.specs.LeastReaction.{CanExceed, GoesOn, ShowsWord, quiet, giving, exceeding}
+use Rattle.eg_laws.specs.LeastReaction.{CanExceed, GoesOn, ShowsWord, quiet, giving, exceeding}
 
 -- as many runs as confirm an excess fit into one period
 abbrev pub RunsFit : CalibrationParts → Type 0

@@ -14,13 +14,13 @@ use Rattle.eg_model.specs.Moments.{moment, moments_of}
 use Rattle.eg_model.specs.Rows.{row_of}
 use Rattle.eg_model.specs.Premises.{AreProper, Follows, full_excesses}
 use Rattle.eg_model.specs.Engines.{BenchEngine, KeepsBenchLaws, ShowsOneLoad}
-use Rattle.eg_model.specs.Availability.{IsSpacedLapse, ShowsTwice, trips, has_tripped, StaysAvailable, RecordsStayAvailable}
+use Rattle.eg_laws.specs.Availability.{IsSpacedLapse, ShowsTwice, trips, has_tripped, StaysAvailable, RecordsStayAvailable}
 use Rattle.eg_model.proofs.TickLemmas.{moment-trip, moment-answers, tripped-cons, untripped_before}
 use Rattle.eg_model.proofs.Silence.{latch2-cons}
 use Rattle.eg_model.proofs.SpanRows.{follows-end, rows_after, SpanRows, RowAfter, row_on, all_rows, LastTick, last_tick, bits_after, full_unnumbered}
 use Rattle.eg_model.proofs.RecordSpans.{SpanTo}
 use Rattle.eg_model.proofs.RecordLaws.{each_drive, proper_span, loads_in}
-use Rattle.eg_model.proofs.AvailabilityLaws.{keeps_path_2, path_2_conducts, trips_alone_cut, no_trip_comes}
+use Rattle.eg_laws.proofs.AvailabilityLaws.{keeps_path_2, path_2_conducts, trips_alone_cut, no_trip_comes}
 
 -- ---- by the rows of a history ----
 

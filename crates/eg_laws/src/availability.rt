@@ -1,5 +1,5 @@
 // Availability: under which lapses wrong answers never cut before a trip.
-ghost use Rattle.eg_model.specs.Availability.{KeepsPath2, TripsAloneCut, NoTripComes, SingleMissesAreSpaced, RecordsStayAvailable};
+ghost use Rattle.eg_laws.specs.Availability.{KeepsPath2, TripsAloneCut, NoTripComes, SingleMissesAreSpaced, RecordsStayAvailable};
 ghost use Rattle.eg_model.specs.Engines.{gasoline, diesel};
 
 /// Under which lapses wrong answers never cut before a trip (docs/CONCEPT.md, "Lapses"): where any two ticks

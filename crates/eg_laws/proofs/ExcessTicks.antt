@@ -20,12 +20,12 @@ use Rattle.eg_model.specs.Moments.{limit_at, moment, moment_in, moments_of}
 use Rattle.eg_model.specs.Rows.{row_of, rows_of}
 use Rattle.eg_model.specs.Premises.{IsProper, AreProper, Follows, is_on_after, true_excesses, full_excesses}
 use Rattle.eg_model.specs.SharpCut.{ArePlain}
-use Rattle.eg_model.specs.LeastReaction.{CanExceed, GoesOn, ShowsWord, giving, quiet, exceeding}
+use Rattle.eg_laws.specs.LeastReaction.{CanExceed, GoesOn, ShowsWord, giving, quiet, exceeding}
 use Rattle.eg_model.proofs.TickLemmas.{Each, moment-limit, moment-on, moment-full_excess}
 use Rattle.eg_model.proofs.Silence.{TrueRun, run_confirms, period_least, send_within}
 use Rattle.eg_model.proofs.LapseWeights.{rounded_up}
 use Rattle.eg_model.proofs.SharpCutLaw.{AllGood, full_excesses-cons, cuts_sharply}
-use Rattle.eg_model.proofs.FewVerdicts.{too_few, quotient_short, quotient_positive, NoneOpens}
+use Rattle.eg_laws.proofs.FewVerdicts.{too_few, quotient_short, quotient_positive, NoneOpens}
 
 -- ---- the bits of excess ----
 

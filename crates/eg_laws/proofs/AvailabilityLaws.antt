@@ -15,14 +15,14 @@ use Rattle.eg_model.specs.Moments.{moment, moments_of}
 use Rattle.eg_model.specs.Rows.{row_of}
 use Rattle.eg_model.specs.Premises.{IsProper, AreProper, Follows, is_on_after, full_excesses}
 use Rattle.eg_model.specs.Lapses.{IsLapse}
-use Rattle.eg_model.specs.Availability.{IsSpacedLapse, ShowsTwice, KeepsPath2, TripsAloneCut, NoTripComes}
+use Rattle.eg_laws.specs.Availability.{IsSpacedLapse, ShowsTwice, KeepsPath2, TripsAloneCut, NoTripComes}
 use Rattle.eg_model.proofs.TickLemmas.{moment-path2, moment-on, moment-trip, moment-mirror, moment-pedal, moment-plate, moment-load, moment-speed, moment-torque_found, moment-feeds, tripped-cons}
 use Rattle.eg_model.proofs.PlainTick.{plain, plain_runs, torque_bit-is, pedal_bit-is, plate_bit-is, load_bit-is, speed_bit-is}
 use Rattle.eg_model.proofs.SharpCutLaw.{AllGood, none-cons, unfound_now, unlimited-cons, latch1_shut, full_excesses-cons}
 use Rattle.eg_model.proofs.LapseRuns.{AllOrNone, AllOrNoneEach, lapse_all_or_none, trip_opens, fed_bits-skip}
 use Rattle.eg_model.proofs.ClassLemmas.{of_history}
-use Rattle.eg_model.proofs.MissTicks.{missed, as_tick, to_tick, lapse_tick, lapse_conducts, missed-feeds, missed-pedal, missed-trip}
-use Rattle.eg_model.proofs.MissVerdicts.{recovering}
+use Rattle.eg_laws.proofs.MissTicks.{missed, as_tick, to_tick, lapse_tick, lapse_conducts, missed-feeds, missed-pedal, missed-trip}
+use Rattle.eg_laws.proofs.MissVerdicts.{recovering}
 
 -- ---- a trip alone cuts ----
 

@@ -1,5 +1,5 @@
 -- R and as many ticks as confirm is the least bound under lapses: the history that shows it.
-use Rattle.std.proofs.Common.{◌≡◌, ℕ, zero, suc, ◌+◌, ◌-◌, ◌*◌, ◌≤◌, ◌<◌, ◌%◌, Bool, true, false, not, ◌||◌, ◌&&◌, List, [], ◌∷◌, ◌++◌, All, length, take, replicate, refl, sym, ap, ap₂, ◌∙◌, subst, arith, length-append}
+use Rattle.std.proofs.Common.{◌≡◌, ℕ, zero, suc, ◌+◌, ◌-◌, ◌*◌, ◌≤◌, ◌<◌, ◌%◌, Bool, true, false, not, ◌||◌, ◌&&◌, List, [], ◌∷◌, ◌++◌, length, take, replicate, refl, sym, ap, ap₂, ◌∙◌, subst, arith, length-append}
 use Rattle.std.specs.Prelude.{if◌then◌else◌, ◌==◌}
 use Rattle.std.specs.List.{list_all}
 use Rattle.std.proofs.lemmas.Bool.{and_from, and_left, and_right, or_from}
@@ -18,15 +18,15 @@ use Rattle.eg_model.specs.Answers.{is_sent, is_good, mark_at}
 use Rattle.eg_model.specs.Paths.{latch2, path1_at, path2_at, on_at}
 use Rattle.eg_model.specs.Moments.{moments_of, limit_at}
 use Rattle.eg_model.specs.Premises.{AreProper}
-use Rattle.eg_model.specs.LeastReaction.{CanExceed, GoesOn, ShowsWord, quiet, exceeding}
-use Rattle.eg_model.specs.LeastLapse.{RunsFit, least_lapse_bound, lapse_onset, missing_all, lapse_setting, before_lapse, missed_excess, Lasts, ExcessLastsSoLong, LapseBoundIsLeast}
+use Rattle.eg_laws.specs.LeastReaction.{CanExceed, GoesOn, ShowsWord, quiet, exceeding}
+use Rattle.eg_laws.specs.LeastLapse.{RunsFit, least_lapse_bound, lapse_onset, missing_all, lapse_setting, before_lapse, missed_excess, Lasts, ExcessLastsSoLong, LapseBoundIsLeast}
 use Rattle.eg_model.proofs.TickLemmas.{Each, moment-mark, tripped-cons}
 use Rattle.eg_model.proofs.Silence.{AreRegular, send_within}
 use Rattle.eg_model.proofs.ReactionLaw.{Unanswered}
 use Rattle.eg_model.proofs.SharpCutLaw.{Calm, calm_until, latch1_shut}
-use Rattle.eg_model.proofs.FewVerdicts.{NoneOpens, HasFew, few_of_calm, few_on, still_shut}
+use Rattle.eg_laws.proofs.FewVerdicts.{NoneOpens, HasFew, few_of_calm, few_on, still_shut}
 use Rattle.eg_model.proofs.LapseRuns.{AllOrNone, trip_out, AllExceed}
-use Rattle.eg_model.proofs.ExcessTicks.{follows_plain, follows_alike, ticks_shut, true_excesses-cons, many_positive, all_bits, all_plain, unconfirmed, loaded_proper, all_go_on, all_words, all_proper, size, period_positive, reaction_is}
+use Rattle.eg_laws.proofs.ExcessTicks.{follows_plain, follows_alike, ticks_shut, true_excesses-cons, many_positive, all_bits, all_plain, unconfirmed, loaded_proper, all_go_on, all_words, all_proper, size, period_positive, reaction_is}
 
 -- ---- a tick that level 2 misses ----
 

@@ -25,14 +25,14 @@ use Rattle.eg_model.specs.Moments.{effective_drive, limit_at, moments_of}
 use Rattle.eg_model.specs.Rows.{rows_of}
 use Rattle.eg_model.specs.Premises.{AreProper, Follows, is_on_after, true_excesses, IsExcessConfirmed}
 use Rattle.eg_model.specs.Reaction.{ReactsBy}
-use Rattle.eg_model.specs.LeastReaction.{CanExceed, GoesOn, ShowsWord, NeedsCanExceed, quiet, exceeding, last_excess, until_confirmed, closed_setting, quiet_after, IsStillOn, StaysOnSoLong, ReactionTimeIsLeast}
+use Rattle.eg_laws.specs.LeastReaction.{CanExceed, GoesOn, ShowsWord, NeedsCanExceed, quiet, exceeding, last_excess, until_confirmed, closed_setting, quiet_after, IsStillOn, StaysOnSoLong, ReactionTimeIsLeast}
 use Rattle.eg_model.proofs.TickLemmas.{Each, moment-on}
 use Rattle.eg_model.proofs.Silence.{AreRegular, send_within}
 use Rattle.eg_model.proofs.LapseWeights.{rounded_up}
 use Rattle.eg_model.proofs.ReactionLaw.{AreProper-tail, unanswered_on}
 use Rattle.eg_model.proofs.SharpCutLaw.{AllGood, Calm, calm_until, trip_once_confirmed}
-use Rattle.eg_model.proofs.FewVerdicts.{never, quotient_short, NoneOpens, HasFew, few_of_calm, few_on, still_shut}
-use Rattle.eg_model.proofs.ExcessTicks.{follows_plain, follows_alike, ticks_shut, true_excesses-cons, many_positive, all_bits, all_plain, unconfirmed, confirmed, quiet_proper, all_go_on, all_words, all_proper, size, period_positive, confirm_positive, reaction_is, up_positive, limit_positive}
+use Rattle.eg_laws.proofs.FewVerdicts.{never, quotient_short, NoneOpens, HasFew, few_of_calm, few_on, still_shut}
+use Rattle.eg_laws.proofs.ExcessTicks.{follows_plain, follows_alike, ticks_shut, true_excesses-cons, many_positive, all_bits, all_plain, unconfirmed, confirmed, quiet_proper, all_go_on, all_words, all_proper, size, period_positive, confirm_positive, reaction_is, up_positive, limit_positive}
 
 -- ---- a condition without which no excess is confirmed ----
 

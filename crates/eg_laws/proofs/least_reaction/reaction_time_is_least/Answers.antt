@@ -1,5 +1,5 @@
-use Rattle.eg_model.proofs.LeastLaw.{stays_on_so_long, reaction_time_is_least, needs_can_exceed}
-use Rattle.eg_model.proofs.reaction.reaction_time_is_least.Goals as goal
+use Rattle.eg_laws.proofs.LeastLaw.{stays_on_so_long, reaction_time_is_least, needs_can_exceed}
+use Rattle.eg_laws.proofs.least_reaction.reaction_time_is_least.Goals as goal
 
 pub returns-clause-stays_on : goal.returns-clause-stays_on
 returns-clause-stays_on c = stays_on_so_long

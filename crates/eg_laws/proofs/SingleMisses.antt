@@ -9,7 +9,7 @@ use Rattle.eg_fault.specs.declared.class.Class.TheVariants.{Lapse}
 use Rattle.eg_fault.specs.declared.class.Fault.{Fault}
 use Rattle.eg_fault.proofs.ActingLemmas.{at_tick}
 use Rattle.eg_model.specs.Answers.{is_whole}
-use Rattle.eg_model.specs.Availability.{misses_tick, SingleMissesAreSpaced}
+use Rattle.eg_laws.specs.Availability.{misses_tick, SingleMissesAreSpaced}
 use Rattle.eg_model.proofs.SharpCutLaw.{whole_plain}
 
 whole_lapse : (out : Bool) → is_whole (record no_effects { ran = λ i. not out }) ≡ not out

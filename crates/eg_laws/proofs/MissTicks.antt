@@ -17,7 +17,7 @@ use Rattle.eg_model.specs.Detection.{feeds_at, finds, pedal_bit, plate_bit, load
 use Rattle.eg_model.specs.Answers.{is_whole, is_answer, is_sent, is_good, mark_at}
 use Rattle.eg_model.specs.Moments.{moment}
 use Rattle.eg_model.specs.Lapses.{IsLapse}
-use Rattle.eg_model.specs.Availability.{misses_tick}
+use Rattle.eg_laws.specs.Availability.{misses_tick}
 use Rattle.eg_model.proofs.TickLemmas.{moment-feeds_at, moment-trip, moment-mirror, moment-pedal, moment-plate, moment-load, moment-speed, moment-torque_found}
 use Rattle.eg_model.proofs.SharpCutLaw.{send_plain, reacts_plain}
 
