@@ -34,3 +34,4 @@ pub mod LapseRuns
 pub mod LapseAnswers
 pub mod LapseWeights
 pub mod LapseLaw
+pub mod InTimeLaws

@@ -20,3 +20,4 @@ pub mod Outputs
 pub mod PowerCycles
 pub mod StartUp
 pub mod Lapses
+pub mod InTime

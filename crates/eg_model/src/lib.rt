@@ -26,7 +26,7 @@ pub use outputs::level_1_acts_by_its_outputs;
 pub use reaction::{cuts_from_onset, reacts_in_time};
 pub use records::{
     records_are_histories, records_cut_from_onset, records_cut_lapses, records_cut_sharply,
-    records_react, records_test_the_paths,
+    records_react, records_test_the_paths, spans_react_in_time,
 };
 pub use sharp_cut::cuts_sharply;
 pub use start_up::{runs_without_reset_are_one_span, tests_pass};
