@@ -92,7 +92,7 @@ module _ (cal : CalibrationParts) (accepted : IsAccepted cal) (fit : RunsFit cal
   whole n = replicate n miss ++ base
 
   onset_is : lapse_onset cal ≡ cal.times.period + cal.times.send + 1
-  onset_is = unfold lapse_onset in refl
+  onset_is = unfold lapse_onset in omega arith
 
   some : 0 < many
   some = many_positive s accepted can first_quiet
@@ -171,7 +171,7 @@ module _ (cal : CalibrationParts) (accepted : IsAccepted cal) (fit : RunsFit cal
       more_exceed s miss (whole n) (n + (many - 1)) m (omega arith) can.exceeds (exceeds n (n + (many - 1)) refl)
 
   bound_is : least_lapse_bound cal ≡ reaction_of cal.times + many
-  bound_is = unfold least_lapse_bound in refl
+  bound_is = unfold least_lapse_bound in omega arith
 
   lasts : Lasts s (whole (reaction_of cal.times)) (least_lapse_bound cal - 1)
   lasts = record {

@@ -122,7 +122,7 @@ module _ (cal : CalibrationParts) (accepted : IsAccepted cal) (can : CanExceed c
   room = unfold periods_to_confirm in rounded_up many cal.times.period (period_positive s accepted can first_quiet)
 
   last_is : last_excess cal ≡ p * cal.times.period + cal.times.send + 1
-  last_is = unfold last_excess in refl
+  last_is = unfold last_excess in omega arith
 
   size_until : length (until_confirmed cal can.drive can.load) ≡ last_excess cal + 1
   size_until = size s accepted can first_quiet many ∙ (let fits = room in let last = last_is in omega arith)

@@ -170,7 +170,7 @@ runs_positive s accepted = quotient_positive s.cal.rules.torque.limit s.cal.rule
 
 bound_is : (cal : CalibrationParts) → least_lapse_bound cal ≡ reaction_of cal.times + feeds_to_confirm cal.rules.torque
 unfolding least_lapse_bound
-bound_is cal = refl
+bound_is cal = omega arith
 
 too_long : (s : Setting) → IsAccepted s.cal → RunsFit s.cal → IsLapse s.fault → (start : ℕ) (h : List Tick) →
     Follows s.fault start h → AreProper s h → (m : ℕ) → Exceeds s m h → least_lapse_bound s.cal ≤ m → ⊥
@@ -216,7 +216,7 @@ too_long s accepted fit lapse start (x ∷ h) follows proper m exceed long =
 
 pub stretches_are_shorter : StretchesAreShorter
 stretches_are_shorter cal accepted fit s is lapse start h follows proper m exceed = elim (less_or m (least_lapse_bound cal)) [
-  | inl less ↦ less
+  | inl less ↦ omega (arith, less)
   | inr long ↦ absurd (too_long s (subst IsAccepted (sym is) accepted) (subst RunsFit (sym is) fit) lapse start h follows proper m exceed
       (subst (λ c. least_lapse_bound c ≤ m) (sym is) long))
 ]

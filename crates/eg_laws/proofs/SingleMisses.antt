@@ -1,5 +1,5 @@
 -- A lapse that leaves out one tick, or one every so many ticks: how far apart its misses lie.
-use Rattle.std.proofs.Common.{◌≡◌, ℕ, zero, suc, ◌+◌, ◌-◌, ◌*◌, ◌/◌, ◌%◌, ◌≤◌, ◌<◌, Bool, true, false, not, [], ◌∷◌, inl, inr, ◌⊎◌, Some, refl, sym, ap, ◌∙◌, arith}
+use Rattle.std.proofs.Common.{◌≡◌, ℕ, zero, suc, ◌+◌, ◌-◌, ◌*◌, ◌/◌, ◌%◌, ◌≤◌, ◌<◌, Bool, true, false, not, [], ◌∷◌, inl, inr, Some, refl, sym, ap, ◌∙◌, arith}
 use Rattle.std.specs.Prelude.{if◌then◌else◌, ◌==◌}
 use Rattle.std.proofs.lemmas.Bool.{or_cases, ne_eqb, eqb-true, true≢false}
 use Rattle.eg_answer.specs.Modules.{modules_before_react, modules}
@@ -76,11 +76,9 @@ every_turn onset after n first second a b less =
     place tick c = c.place ∙ ap (λ b. if b then tick - onset else (tick - onset) % suc n) (ne_eqb (suc n) 0 (λ e. omega (arith, e)))
 
 pub single_misses_are_spaced : SingleMissesAreSpaced
-single_misses_are_spaced onset after every distance far first second one two less =
-    go every far (comes onset after every first one) (comes onset after every second two)
-  where
-    go : (every : ℕ) → (every ≡ 0) ⊎ (distance ≤ every) → Comes onset after every first → Comes onset after every second →
-        first + distance ≤ second
-    go zero far a b = absurd (once onset after first second a b less)
-    go (suc n) (inl none) a b = absurd (omega (arith, none))
-    go (suc n) (inr fits) a b = let apart = every_turn onset after n first second a b less in omega (arith, apart, fits)
+single_misses_are_spaced onset after zero distance far first second one two less =
+    absurd (once onset after first second (comes onset after 0 first one) (comes onset after 0 second two) less)
+single_misses_are_spaced onset after (suc n) distance (inl none) first second one two less = absurd (omega (arith, none))
+single_misses_are_spaced onset after (suc n) distance (inr fits) first second one two less =
+    let apart = every_turn onset after n first second (comes onset after (suc n) first one) (comes onset after (suc n) second two) less in
+    omega (arith, apart, fits)

@@ -23,8 +23,8 @@ RunsFit cal = feeds_to_confirm cal.rules.torque ≤ cal.times.period
 unfoldable pub least_lapse_bound : CalibrationParts → ℕ
 least_lapse_bound cal = reaction_of cal.times + feeds_to_confirm cal.rules.torque
 
--- Where the runs fit into a period this number is such a bound. An answer isn't good at which as many ticks of
--- the stretch have passed as confirm the excess: level 2 would have run at all of them, and confirmed it.
+-- Where the runs fit into a period this number is such a bound. An answer isn't good at which as many ticks
+-- of the stretch have passed as confirm the excess: level 2 would have run at all of them, and confirmed it.
 abbrev pub StretchesAreShorter : Type 0
 StretchesAreShorter =
     (cal : CalibrationParts) → IsAccepted cal → RunsFit cal → StretchesStayBelow cal (least_lapse_bound cal)
@@ -57,8 +57,8 @@ abbrev pub missed_excess : CalibrationParts → DriveRow → (load : ℕ) → Ti
 missed_excess cal drive load =
     record { effects = does missing_all 0; entry = giving drive load (estimate cal.rules.kt load) }
 
--- All ticks of h are ticks of one drive span of a run under the setting's fault, in which the engine keeps its
--- laws and tells loads that are words; and there is true excess at each of the last n.
+-- All ticks of h are ticks of one drive span of a run under the setting's fault, in which the engine keeps
+-- its laws and tells loads that are words; and there is true excess at each of the last n.
 pub record Lasts (s : Setting) (h : List Tick) (n : ℕ) : Type 0 where
   pub follows : Follows s.fault 0 h
   pub proper : AreProper s h
@@ -72,7 +72,8 @@ ExcessLastsSoLong =
     (cal : CalibrationParts) → IsAccepted cal → RunsFit cal → (can : CanExceed cal) →
     IsNoneOrValid (lapse_setting cal).fault
     × Lasts (lapse_setting cal)
-    (replicate (reaction_of cal.times) (missed_excess cal can.drive can.load) ++ before_lapse cal can.drive can.load)
+    (replicate (reaction_of cal.times) (missed_excess cal can.drive can.load)
+    ++ before_lapse cal can.drive can.load)
     (least_lapse_bound cal - 1)
 
 -- and where an excess can be confirmed at all no smaller number is a bound

@@ -1,6 +1,6 @@
 -- The longest reaction that is told of a run, by the law of each span: first of any rows, then of each record.
 use Rattle.std.proofs.Common.{◌≡◌, ◌∙◌, refl, sym, ap, ap₂, subst, ℕ, ◌+◌, ◌-◌, ◌≤◌, ◌<◌, ◌⊎◌, inl, inr, Bool, true, false, List, [], ◌∷◌, ◌++◌, map, min, length, append_assoc, length-append, Option, Some, None, arith}
-use Rattle.std.specs.Prelude.{if◌then◌else◌, is_some, nat_lt, option_map, IfSome}
+use Rattle.std.specs.Prelude.{if◌then◌else◌, is_some, nat_lt, option_map}
 use Rattle.std.specs.Option.{option_or}
 use Rattle.std.specs.List.{All}
 use Rattle.std.proofs.lemmas.Bool.{cases_Bool, lt-ltb, leb-true, le-leb}
@@ -24,7 +24,7 @@ use Rattle.eg_record.proofs.LastOnLemmas.{last_on-on, last_on-off}
 use Rattle.eg_model.specs.Engines.{BenchEngine, KeepsBenchLaws}
 use Rattle.eg_model.specs.Rows.{record_rows}
 use Rattle.eg_model.specs.Records.{ReactWithin, AreOff}
-use Rattle.eg_model.specs.InTime.{IsInTime, RecordsReactInTime}
+use Rattle.eg_model.specs.InTime.{IsWithin, IsInTime, RecordsReactInTime}
 use Rattle.eg_model.proofs.RecordLaws.{records_react, records_test_unpowered}
 use Rattle.eg_model.proofs.PowerCycleLaws.{records_begin_in_turn}
 use Rattle.eg_model.proofs.WholeRecord.{are_rows}
@@ -35,15 +35,14 @@ use Rattle.eg_model.proofs.FindingReports.{FirstBegins, first_begins}
 -- the law of one span, over plain numbers
 abbrev InTime : (bound : ℕ) → (longest followed : Option ℕ) → Type 0
 InTime bound longest followed =
-    IfSome longest (λ ticks. ticks ≤ bound)
+    IsWithin bound longest
     × (settled_by bound followed ≡ true → (ticks : ℕ) → followed ≡ Some ticks → is_some longest ≡ true)
 
 in_time : (bound : ℕ) (r : Reactions) → InTime bound r.longest r.followed → IsInTime bound r
 unfolding is_settled
 in_time bound r is = record { within = is.0; told = is.1 }
 
-greater_within : (bound : ℕ) (a b : Option ℕ) → IfSome a (λ n. n ≤ bound) → IfSome b (λ n. n ≤ bound) →
-    IfSome (greater a b) (λ n. n ≤ bound)
+greater_within : (bound : ℕ) (a b : Option ℕ) → IsWithin bound a → IsWithin bound b → IsWithin bound (greater a b)
 unfolding greater
 greater_within bound None b first second = second
 greater_within bound (Some n) None first second = first

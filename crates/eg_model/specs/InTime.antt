@@ -1,6 +1,6 @@
 -- The longest reaction that is told of a run: it is within the reaction time, and it is told of each run that
 -- goes on long enough.
-use Rattle.std.specs.Prelude.{◌≡◌, ℕ, ◌≤◌, true, is_some, Some, IfSome}
+use Rattle.std.specs.Prelude.{◌≡◌, ℕ, ◌≤◌, true, is_some, Option, Some, IfSome}
 use Rattle.eg_answer.specs.Times.{reaction_of}
 use Rattle.eg_fault.specs.Faults.{IsListed}
 use Rattle.eg_record.specs.declared.reactions.Reactions.{Reactions}
@@ -10,12 +10,16 @@ use Rattle.eg_model.specs.Bench.{Run}
 use Rattle.eg_model.specs.Rows.{record_rows}
 use Rattle.eg_model.specs.Records.{IsRun}
 
+-- a reaction, if there is one, takes no more ticks than the bound
+abbrev pub IsWithin : (bound : ℕ) → Option ℕ → Type 0
+IsWithin bound reaction = IfSome reaction (λ ticks. ticks ≤ bound)
+
 -- what is told of the reactions of a run is in time
 pub record IsInTime (bound : ℕ) (reactions : Reactions) : Type 0 where
-  -- no reaction takes more ticks than the bound
-  pub within : IfSome reactions.longest (λ ticks. ticks ≤ bound)
-  -- and where a true excess is confirmed, and each span goes on for so many ticks after its own is, there is a
-  -- longest reaction
+  -- the longest is within the bound
+  pub within : IsWithin bound reactions.longest
+  -- and where a true excess is confirmed, and each span in which one is goes on for so many ticks after that,
+  -- there is a longest reaction
   pub told : is_settled bound reactions ≡ true → (ticks : ℕ) → reactions.followed ≡ Some ticks →
       is_some reactions.longest ≡ true
 

@@ -34,9 +34,9 @@ pub fn records_cut_sharply()
     ensures before { RecordsCutSharplyBefore gasoline × RecordsCutSharplyBefore diesel }
 {}
 
-/// What is told of the reactions of a run once its rows are gone (docs/CONCEPT.md, "`table`"), for runs on the
-/// bench with at most one listed fault: no reaction in any span takes more than R ticks; and where a true
-/// excess is confirmed, and each span in which it is goes on for R ticks after that, a longest reaction is
+/// What is told of the reactions of a run once its rows are gone (docs/CONCEPT.md, "`table`"), for runs on
+/// the bench with at most one listed fault: no reaction in any span takes more than R ticks; and where a true
+/// excess is confirmed, and each span in which one is goes on for R ticks after that, a longest reaction is
 /// told. It does nothing when it runs.
 pub fn spans_react_in_time()
     ensures { RecordsReactInTime gasoline × RecordsReactInTime diesel }
