@@ -13,7 +13,7 @@ use Rattle.eg_sensor.specs.Readings.{has_bit}
 use Rattle.eg_answer.specs.Answers.{pedal_result, permitted_result, estimate_result, excess_result, pairs_result, answer_number}
 use Rattle.eg_answer.specs.Token.{next_token_of}
 use Rattle.eg_answer.specs.Periods.{period_of, place_of, is_send_tick, asked}
-use Rattle.eg_answer.specs.Times.{verdicts_to_confirm, test_ticks_of}
+use Rattle.eg_answer.specs.Times.{feeds_to_confirm, test_ticks_of}
 use Rattle.eg_answer.specs.declared.marks.AnswerMark.{AnswerMark}
 use Rattle.eg_answer.specs.declared.marks.AnswerMark.TheVariants.{Absent, Good, Bad}
 use Rattle.eg_values.specs.Reference.{reference_parts}
@@ -51,7 +51,7 @@ unfolding value_at permitted is_excess mixed pedal_result permitted_result estim
     permitted_step actual_step excess_step pairs_step has_bit pedal_bit plate_bit load_bit speed_bit torque_bit feeds_now counted is_found debounced
     limits trips debounce_step closed_flow answers_now react_step module_step inputs_for after_module after_modules after_tick start
     answer_of number_of answer_at period_of place_of is_send_tick asked no_effects readings_under contacts_under sends_in sends_at asked_in asked_at
-    is_left_out does effects is_braking sensed_at readings_at ticks drives verdicts_to_confirm test_ticks_of is_told_to_open feeds sends orders phase_at doing_at
+    is_left_out does effects is_braking sensed_at readings_at ticks drives feeds_to_confirm test_ticks_of is_told_to_open feeds sends orders phase_at doing_at
     doing_after words_over
 sent kind fault tick =
     let s = under fault in

@@ -12,7 +12,7 @@ use Rattle.eg_answer.specs.Feeds.{pedal_feed, plate_feed, load_feed, speed_feed,
 use Rattle.eg_answer.specs.Modules.{modules_before_react, modules}
 use Rattle.eg_answer.specs.Answers.{pedal_result, permitted_result, estimate_result, excess_result, pairs_result, results_of, expected_of, answer_number}
 use Rattle.eg_answer.specs.Token.{next_token_of, token_after}
-use Rattle.eg_answer.specs.Times.{TimeParts, verdicts_to_confirm, reaction_of, test_ticks_of, runs_to_confirm, periods_to_confirm, worth_of, rounds_to_confirm, lapse_periods, lapse_bound_of, HasLapseBound, periods_between_misses, miss_spacing_of, HasMissSpacing}
+use Rattle.eg_answer.specs.Times.{TimeParts, feeds_to_confirm, reaction_of, test_ticks_of, periods_to_confirm, worth_of, rounds_to_confirm, lapse_periods, lapse_bound_of, HasLapseBound, periods_between_misses, miss_spacing_of, HasMissSpacing}
 use Rattle.eg_answer.specs.declared.words.TheConstants.{MIRRORED_WORDS, STORED_WORDS}
 use Rattle.eg_answer.specs.declared.rules.Rules.{Rules}
 use Rattle.eg_answer.specs.declared.rules.TestRow.{TestRow}
@@ -20,8 +20,8 @@ use Rattle.eg_answer.specs.declared.rules.TestRow.{TestRow}
 -- every definition that these rows need
 unfoldable answering : ℕ
 unfolding value_at permitted is_excess permitted_torque estimated_torque excess_number disagreeing_pairs mixed fold_of pedal_result permitted_result estimate_result excess_result pairs_result
-    results_of expected_of answer_number next_token_of token_after modules_before_react modules verdicts_to_confirm reaction_of test_ticks_of
-    runs_to_confirm periods_to_confirm worth_of rounds_to_confirm lapse_periods lapse_bound_of periods_between_misses miss_spacing_of
+    results_of expected_of answer_number next_token_of token_after modules_before_react modules feeds_to_confirm reaction_of test_ticks_of
+    periods_to_confirm worth_of rounds_to_confirm lapse_periods lapse_bound_of periods_between_misses miss_spacing_of
 answering = 0
 
 -- pedals 0, 500, 1000; speeds 800, 3000, 6000

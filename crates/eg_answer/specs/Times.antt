@@ -1,6 +1,6 @@
 -- When answers are sent and may come, and how long it takes until wrong ones open a path. The ticks of a
 -- period are counted from its begin.
-use Rattle.std.specs.Prelude.{ℕ, ◌+◌, ◌*◌, ◌-◌, ◌≤◌, ◌<◌}
+use Rattle.std.specs.Prelude.{◌≡◌, ℕ, ◌+◌, ◌*◌, ◌-◌, ◌≤◌, ◌<◌}
 use Rattle.eg_num.specs.Arithmetic.{quotient_up}
 use Rattle.eg_num.specs.Windows.{WeightParts}
 
@@ -21,32 +21,29 @@ pub record AreTimes (t : TimeParts) : Type 0 where
   pub to_last : t.send ≤ t.last
   pub inside : t.last < t.period
 
--- how many wrong verdicts in a row are enough to confirm
-unfoldable pub verdicts_to_confirm : WeightParts → ℕ
-verdicts_to_confirm w = quotient_up w.limit w.up
+-- How many bad feeds of a debouncer in a row are enough to confirm: wrong verdicts, by the weights of the
+-- answers; runs of level 2 that find an excess, by those of the torque.
+unfoldable pub feeds_to_confirm : WeightParts → ℕ
+feeds_to_confirm w = quotient_up w.limit w.up
 
 -- The reaction time: suppose that from the tick after a period's send tick no answer is right any more. The
 -- verdict of that period may still be right, those of the next periods are wrong, and the path is open at the
 -- tick after the verdict that confirms. So many ticks lie between the first tick without a right answer and
 -- the first tick with an open path.
 unfoldable pub reaction_of : TimeParts → ℕ
-reaction_of t = (verdicts_to_confirm t.weights + 1) * t.period - t.send - 1
+reaction_of t = (feeds_to_confirm t.weights + 1) * t.period - t.send - 1
 
 -- How long the test of the shut-off paths takes: no answer is sent in it, so that each verdict is wrong, and
 -- so many ticks from its begin on path 2 is open.
 unfoldable pub test_ticks_of : TimeParts → ℕ
-test_ticks_of t = verdicts_to_confirm t.weights * t.period
+test_ticks_of t = feeds_to_confirm t.weights * t.period
 
 -- ---- lapses: level 2 as a whole doesn't run at some ticks, again and again ----
 
--- how many runs of level 2 in a row are enough to confirm an excess, where each of them finds it
-unfoldable pub runs_to_confirm : WeightParts → ℕ
-runs_to_confirm torque = quotient_up torque.limit torque.up
-
--- How many periods so many runs fill. A right verdict takes the runs of a whole period, so fewer verdicts
--- than this are right until the excess is confirmed.
+-- How many periods the runs of level 2 fill that are enough to confirm an excess. A right verdict takes the
+-- runs of a whole period, so fewer verdicts than this are right until the excess is confirmed.
 unfoldable pub periods_to_confirm : WeightParts → TimeParts → ℕ
-periods_to_confirm torque times = quotient_up (runs_to_confirm torque) times.period
+periods_to_confirm torque times = quotient_up (feeds_to_confirm torque) times.period
 
 -- There is a bound for lapses exactly where one wrong verdict adds more than the right ones take.
 abbrev pub HasLapseBound : WeightParts → TimeParts → Type 0
@@ -71,10 +68,11 @@ lapse_periods torque times = rounds_to_confirm torque times * periods_to_confirm
 unfoldable pub lapse_bound_of : WeightParts → TimeParts → ℕ
 lapse_bound_of torque times = (lapse_periods torque times + 1) * times.period
 
--- ---- missed runs of level 2 that never cut ----
+-- ---- missed runs of level 2 after which wrong answers never cut ----
 
--- There is a distance from which on missed runs never cut: two wrong verdicts in a row, which is as much as
--- one missed run spoils, don't confirm, and right ones take back what they add.
+-- There is a distance from which on wrong answers never cut before a trip, where runs are missed so far
+-- apart: two wrong verdicts in a row, which is as much as one missed run spoils, don't confirm, and right
+-- ones take back what they add.
 pub record HasMissSpacing (times : TimeParts) : Type 0 where
   pub two_are_few : 2 * times.weights.up < times.weights.limit
   pub some_taken : 1 ≤ times.weights.down
@@ -84,10 +82,16 @@ pub record HasMissSpacing (times : TimeParts) : Type 0 where
 abbrev pub TakesBack : TimeParts → ℕ → Type 0
 TakesBack times periods = 2 * times.weights.up ≤ (periods - 2) * times.weights.down
 
+-- so many ticks are whole periods, and as many as that
+pub record TakesBackWithin (times : TimeParts) (ticks : ℕ) : Type 0 where
+  pub periods : ℕ
+  pub are : ticks ≡ periods * times.period
+  pub enough : TakesBack times periods
+
 -- the least number of periods of which this is so
 unfoldable pub periods_between_misses : TimeParts → ℕ
 periods_between_misses times = quotient_up (2 * times.weights.up) times.weights.down + 2
 
--- the least distance of misses that never cut, in whole periods, as ticks
+-- these periods as ticks: misses that lie so far apart never cut by wrong answers before a trip
 unfoldable pub miss_spacing_of : TimeParts → ℕ
 miss_spacing_of times = periods_between_misses times * times.period

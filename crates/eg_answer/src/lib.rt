@@ -22,6 +22,6 @@ pub use marks::{AnswerMark, Verdict};
 pub use modules::{ACTUAL, CHECK, DEBOUNCE, EXCESS, MODULES, PAIRS, PEDAL, PERMITTED, REACT};
 pub use questions::{Question, Questions};
 pub use rules::{Rules, TestRow};
-pub use times::{Times, lapse_bound, miss_spacing, reaction, verdicts_to_confirm};
+pub use times::{Times, feeds_to_confirm, lapse_bound, miss_spacing, reaction};
 pub use token::{next_token, token_counts_modules};
 pub use words::{MIRRORED_WORDS, STORED_WORDS, words_in_numbers};

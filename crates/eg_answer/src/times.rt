@@ -1,8 +1,8 @@
 // The times of the answers, and what follows from them: the reaction time, the bound for lapses, and the
-// distance of missed runs that never cut.
+// distance of missed runs from which on wrong answers never cut before a trip.
 ghost use Rattle.std.specs.Prelude.{◌≡◌, ℕ, ◌+◌, ◌*◌, ◌≤◌, ◌<◌, SomeIff, IfSome};
 ghost use Rattle.eg_num.specs.Windows.{AreWeights};
-ghost use Rattle.eg_answer.specs.Times.{TimeParts, AreTimes, verdicts_to_confirm, reaction_of, periods_to_confirm, HasLapseBound, lapse_bound_of, HasMissSpacing, TakesBack, miss_spacing_of};
+ghost use Rattle.eg_answer.specs.Times.{TimeParts, AreTimes, feeds_to_confirm, reaction_of, periods_to_confirm, HasLapseBound, lapse_bound_of, HasMissSpacing, TakesBack, TakesBackWithin, miss_spacing_of};
 
 use eg_num::Weights;
 use std::marker::Model;
@@ -125,13 +125,15 @@ impl Times {
 pub fn reaction(times: &Times) -> u32
     ensures { result ≡ reaction_of times.now }
 {
-    let verdicts = verdicts_to_confirm(times.weights());
+    let verdicts = feeds_to_confirm(times.weights());
     (verdicts + 1) * u32::from(times.period()) - u32::from(times.send()) - 1
 }
 
-/// How many wrong verdicts in a row are enough to confirm (docs/CONCEPT.md, "Reaction time").
-pub fn verdicts_to_confirm(weights: &Weights) -> u32
-    ensures number { result ≡ verdicts_to_confirm weights.now }
+/// How many bad feeds of a debouncer in a row are enough to confirm (docs/CONCEPT.md, "Reaction time" and
+/// "Debouncing"): wrong verdicts, by the weights of the answers; runs of level 2 that find an excess, by
+/// those of the torque.
+pub fn feeds_to_confirm(weights: &Weights) -> u32
+    ensures number { result ≡ feeds_to_confirm weights.now }
     ensures some { 1 ≤ result }
     ensures within { result ≤ 10000 }
 {
@@ -146,7 +148,7 @@ fn periods_to_confirm(torque: &Weights, times: &Times) -> u32
     ensures within { result ≤ 10000 }
     ensures ticks { result * times.now.period < 10000 + times.now.period }
 {
-    let runs = u32::from(torque.limit()).div_ceil(u32::from(torque.up()));
+    let runs = feeds_to_confirm(torque);
     runs.div_ceil(u32::from(times.period()))
 }
 
@@ -170,12 +172,14 @@ pub fn lapse_bound(torque: &Weights, times: &Times) -> Option<u32>
     }
 }
 
-/// The least number of whole periods, in ticks, from which on missed runs of level 2 never cut where they lie
-/// so far apart (docs/CONCEPT.md, "Lapses"). A missed run spoils at most two verdicts, which add `2 * up`; of
-/// two misses so many periods apart all verdicts between but those two are right, and take that back. None
-/// exactly where two wrong verdicts are enough to confirm, `limit <= 2 * up`, or a right one takes nothing.
+/// How far apart, in ticks, missed runs of level 2 have to lie so that wrong answers never cut before a trip
+/// (docs/CONCEPT.md, "Lapses"). A missed run spoils at most two verdicts, which add `2 * up`; of two misses
+/// so far apart all verdicts between but those two are right, and take that back. The number is the least
+/// count of whole periods in which they do; nothing is said of misses that lie nearer. None exactly where two
+/// wrong verdicts are enough to confirm, `limit <= 2 * up`, or a right one takes nothing.
 pub fn miss_spacing(times: &Times) -> Option<u32>
     ensures distance { SomeIff result (HasMissSpacing times.now) (miss_spacing_of times.now) }
+    ensures enough { IfSome result (λ ticks. TakesBackWithin times.now ticks) }
     ensures least { (periods : ℕ) → TakesBack times.now periods →
         IfSome result (λ ticks. ticks ≤ periods * times.now.period) }
 {

@@ -27,10 +27,10 @@ use Rattle.eg_model.proofs.FindingRecords.{records_find_before_off, records_find
 -- ---- the span of a row ----
 
 -- the earliest of these rows begins a span
-abbrev FirstBegins : List Row → Type 0
+abbrev pub FirstBegins : List Row → Type 0
 FirstBegins rows = (newer : List Row) (first : Row) → rows ≡ newer ++ first ∷ [] → first.fresh ≡ true
 
-first_begins : (rows : List Row) → SpansBeginInTurn rows → FirstBegins rows
+pub first_begins : (rows : List Row) → SpansBeginInTurn rows → FirstBegins rows
 first_begins rows turns newer first is = by_reset first.drive.reset refl
   where
     begins : BeginsInTurn first []

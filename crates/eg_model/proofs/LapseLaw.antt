@@ -6,8 +6,8 @@ use Rattle.std.proofs.lemmas.Bool.{or_right, and_right, and_parts, le-ltb}
 use Rattle.eg_num.specs.Arithmetic.{quotient_up}
 use Rattle.eg_num.specs.Windows.{is_confirmed}
 use Rattle.eg_torque.specs.Excess.{is_excess}
-use Rattle.eg_answer.specs.Times.{runs_to_confirm, periods_to_confirm, worth_of, HasLapseBound, rounds_to_confirm, lapse_periods, lapse_bound_of}
-use Rattle.eg_values.specs.Calibration.{IsAccepted}
+use Rattle.eg_answer.specs.Times.{feeds_to_confirm, periods_to_confirm, worth_of, HasLapseBound, rounds_to_confirm, lapse_periods, lapse_bound_of}
+use Rattle.eg_values.specs.Calibration.{CalibrationParts, IsAccepted}
 use Rattle.eg_fault.specs.Effects.{Effects}
 use Rattle.eg_fault.specs.declared.paths.TheConstants.{PATH_2}
 use Rattle.eg_record.specs.Excess.{true_excess}
@@ -62,7 +62,7 @@ module _ (s : Setting) (h : List Tick) (g : EndsWithPeriods s h)
   send = s.cal.times.send
 
   abbrev runs : ℕ
-  runs = runs_to_confirm s.cal.rules.torque
+  runs = feeds_to_confirm s.cal.rules.torque
 
   abbrev round : ℕ
   round = periods_to_confirm s.cal.rules.torque s.cal.times
@@ -108,7 +108,7 @@ module _ (s : Setting) (h : List Tick) (g : EndsWithPeriods s h)
   ]
     where
       weighs : s.cal.rules.torque.limit ≤ runs * s.cal.rules.torque.up
-      weighs = unfold runs_to_confirm in
+      weighs = unfold feeds_to_confirm in
           rounded_up s.cal.rules.torque.limit s.cal.rules.torque.up
           (let f = g.lapsing.accepted.torque.0 in omega arith)
 
@@ -290,7 +290,9 @@ room from whole period n positive long = record {
     back : first + whole - whole ≡ first
     back = omega arith
 
-pub lapses_are_short : StretchesAreShort
+pub lapses_are_short : (s : Setting) → IsAccepted s.cal → HasLapseBound s.cal.rules.torque s.cal.times → IsLapse s.fault →
+    (start : ℕ) (h : List Tick) → Follows s.fault start h → AreProper s h →
+    (n : ℕ) → Exceeds s n h → n < lapse_bound_of s.cal.rules.torque s.cal.times
 unfolding lapse_bound_of
 lapses_are_short s accepted bounded lapse start h follows proper n exceed =
     elim (less_or n (lapse_bound_of s.cal.rules.torque s.cal.times)) [
@@ -313,3 +315,10 @@ lapses_are_short s accepted bounded lapse start h follows proper n exceed =
         none_longer s has start r.periods n cut.front cut.back (rw cut.whole follows)
         (rw cut.whole proper) cut.size r.fits (omega arith)
         (rw cut.whole exceed.each)
+
+pub stretches_are_short : StretchesAreShort
+stretches_are_short cal accepted bounded s is lapse start h follows proper n exceed =
+    subst (λ (c : CalibrationParts). n < lapse_bound_of c.rules.torque c.times) is
+    (lapses_are_short s (subst IsAccepted (sym is) accepted)
+    (subst (λ (c : CalibrationParts). HasLapseBound c.rules.torque c.times) (sym is) bounded)
+    lapse start h follows proper n exceed)

@@ -34,14 +34,4 @@ pub mod LapseRuns
 pub mod LapseAnswers
 pub mod LapseWeights
 pub mod LapseLaw
-pub mod FewVerdicts
-pub mod ExcessTicks
-pub mod LeastLaw
-pub mod MissWeights
-pub mod MissTicks
-pub mod SingleMisses
-pub mod MissVerdicts
-pub mod AvailabilityLaws
-pub mod AvailabilityRecords
-pub mod ShortStretches
-pub mod LeastLapseLaw
+pub mod InTimeLaws

@@ -6,7 +6,7 @@ use Rattle.std.proofs.Math.Nat.{lt-div-mul-add}
 use Rattle.eg_num.specs.Windows.{WeightParts, is_confirmed, greatest}
 use Rattle.eg_num.proofs.CounterLemmas.{greatest-nil, greatest-bad, is_reached-greatest}
 use Rattle.eg_num.proofs.FirstPlaceLemmas.{is_first_from}
-use Rattle.eg_answer.specs.Times.{TimeParts, AreTimes, verdicts_to_confirm, reaction_of}
+use Rattle.eg_answer.specs.Times.{TimeParts, AreTimes, feeds_to_confirm, reaction_of}
 use Rattle.eg_answer.specs.Periods.{place_of, is_last_tick, is_send_tick, is_in_window, MarkedAnswer, verdict_of, with_verdict, is_wrong}
 use Rattle.eg_answer.specs.declared.marks.AnswerMark.{AnswerMark}
 use Rattle.eg_answer.specs.declared.marks.AnswerMark.TheVariants.{Absent, Good, Bad}
@@ -360,8 +360,8 @@ opens_when_confirmed s (x ∷ h) c =
     opens_step s.cal.times (moment s x.effects x.entry (moments_of s h)) (moments_of s h)
     (moment-confirms s x.effects x.entry (moments_of s h)) (opens_when_confirmed s h) c
 
-pub enough_weight : (w : WeightParts) → 0 < w.up → w.limit ≤ verdicts_to_confirm w * w.up
-unfolding verdicts_to_confirm
+pub enough_weight : (w : WeightParts) → 0 < w.up → w.limit ≤ feeds_to_confirm w * w.up
+unfolding feeds_to_confirm
 enough_weight w h = go w.limit w.up h
   where
     go : (l u : ℕ) → 0 < u → l ≤ ((l + (u - 1)) / u) * u
@@ -383,7 +383,7 @@ pub off_after_silence : (s : Setting) → AreTimes s.cal.times → 0 < s.cal.tim
 unfolding on_at path2_at reaction_of closed is_on_after
 off_after_silence s are up limit more h r none long x opens =
     let times = s.cal.times in
-    let n = verdicts_to_confirm times.weights in
+    let n = feeds_to_confirm times.weights in
     let sum : length (more ++ h) ≡ length more + length h = length-append more h in
     let whole = enough_periods times.period times.send (length h) n (length (more ++ h))
     (period_least times are) (send_within times are) (omega arith) in
@@ -395,7 +395,7 @@ off_after_silence s are up limit more h r none long x opens =
     ∙ and_right _ _ (ap (x.effects.conducts PATH_2) (opens_when_confirmed s (more ++ h) c) ∙ opens)
   where
     many :
-        (length h + s.cal.times.period - 1 - s.cal.times.send) / s.cal.times.period + verdicts_to_confirm s.cal.times.weights ≤ length
+        (length h + s.cal.times.period - 1 - s.cal.times.send) / s.cal.times.period + feeds_to_confirm s.cal.times.weights ≤ length
         (more ++ h) / s.cal.times.period →
-        verdicts_to_confirm s.cal.times.weights ≤ closed s.cal.times (length h) (length (more ++ h))
+        feeds_to_confirm s.cal.times.weights ≤ closed s.cal.times (length h) (length (more ++ h))
     many f = omega arith

@@ -2,7 +2,7 @@
 use Rattle.std.proofs.Common.{◌≡◌, ◌∙◌, refl, sym, ap, subst, ℕ, zero, suc, ◌+◌, ◌-◌, ◌*◌, ◌≤◌, ◌<◌, Bool, true, false, not, List, [], ◌∷◌, ◌++◌, All, map, length, length-append, append_assoc, arith, inl, inr, ◌⊎◌, Option, Some, None, nat_le, max}
 use Rattle.std.proofs.lemmas.Bool.{lt-leb, le-leb}
 use Rattle.eg_num.specs.Windows.{WeightParts, AreWeights, is_confirmed, first_place}
-use Rattle.eg_answer.specs.Times.{TimeParts, AreTimes, verdicts_to_confirm, reaction_of, HasLapseBound, lapse_periods}
+use Rattle.eg_answer.specs.Times.{TimeParts, AreTimes, feeds_to_confirm, reaction_of, HasLapseBound, lapse_periods}
 use Rattle.eg_values.specs.Calibration.{IsAccepted}
 use Rattle.eg_fault.specs.Effects.{no_effects}
 use Rattle.eg_fault.specs.Faults.{IsNoneOrValid, IsListed}
@@ -27,7 +27,7 @@ use Rattle.eg_model.proofs.SpanRows.{Between, between, EndOf, end_of, follows-en
 pub reaction_least : (times : TimeParts) → AreTimes times → AreWeights times.weights → 1 ≤ reaction_of times
 unfolding reaction_of
 reaction_least times are weights =
-    least (verdicts_to_confirm times.weights) times.period times.send times.weights.limit times.weights.up
+    least (feeds_to_confirm times.weights) times.period times.send times.weights.limit times.weights.up
     (enough_weight times.weights (let a = weights.0 in omega arith)) weights.3
     (let a = are.to_last in let b = are.inside in omega arith) are.shortest
   where

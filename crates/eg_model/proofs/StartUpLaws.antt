@@ -4,7 +4,7 @@ use Rattle.std.specs.Prelude.{◌==◌}
 use Rattle.std.proofs.lemmas.Bool.{or_left, or_right, eq-eqb, eqb-true}
 use Rattle.std.proofs.lemmas.List.Elements.{All-head, All-tail}
 use Rattle.eg_num.specs.Windows.{WeightParts, is_confirmed}
-use Rattle.eg_answer.specs.Times.{TimeParts, AreTimes, verdicts_to_confirm, test_ticks_of}
+use Rattle.eg_answer.specs.Times.{TimeParts, AreTimes, feeds_to_confirm, test_ticks_of}
 use Rattle.eg_answer.specs.Periods.{verdict_of}
 use Rattle.eg_answer.specs.declared.marks.AnswerMark.TheVariants.{Absent}
 use Rattle.eg_answer.specs.declared.marks.Verdict.TheVariants.{Wrong}
@@ -160,7 +160,7 @@ are_open s accepted h plain long = record {
     w = s.cal.times.weights
 
     n : ℕ
-    n = verdicts_to_confirm w
+    n = feeds_to_confirm w
 
     enough : w.limit ≤ n * w.up
     enough = enough_weight w (omega (arith, accepted.answers.0))

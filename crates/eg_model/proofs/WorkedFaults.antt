@@ -1,16 +1,11 @@
 -- Runs under a fault, computed from the definitions.
-use Rattle.std.proofs.Common.{◌≡◌, true, false, [], ◌∷◌, ◌++◌, map, replicate, reverse, Some, None, refl}
+use Rattle.std.proofs.Common.{◌≡◌, true, false, [], ◌∷◌, ◌++◌, map, replicate, Some, None, refl}
 use Rattle.eg_answer.specs.declared.marks.AnswerMark.TheVariants.{Good, Bad}
 use Rattle.eg_answer.specs.declared.marks.Verdict.TheVariants.{Right, Wrong}
 use Rattle.eg_fault.specs.declared.class.Class.TheVariants.{Plate, Skip, Flip, Halt, Wild, Path2Closed, PathOpen, Lapse}
 use Rattle.eg_record.specs.declared.watch.Watch.TheVariants as found
-use Rattle.eg_answer.specs.Times.{verdicts_to_confirm, reaction_of, runs_to_confirm, periods_to_confirm}
-use Rattle.eg_values.specs.Reference.{reference_rules, reference_parts}
-use Rattle.eg_record.specs.Excess.{true_excess, first_confirmed}
-use Rattle.eg_model.specs.LeastReaction.{last_excess}
-use Rattle.eg_model.specs.LeastLapse.{least_lapse_bound, lapse_onset}
-use Rattle.eg_model.specs.Rows.{signal_list, rows_of}
-use Rattle.eg_model.specs.Examples.{idle, full, fault_from, bench_run, pressed_run, offset_run, disturbed_raise_run, latest_cut, longest_excess, moments_in_time, answers_of, verdicts_of, stages_of, report_on, reported}
+use Rattle.eg_model.specs.Rows.{signal_list}
+use Rattle.eg_model.specs.Examples.{idle, full, fault_from, bench_run, pressed_run, offset_run, disturbed_raise_run, moments_in_time, answers_of, verdicts_of, stages_of, report_on, reported}
 use Rattle.eg_model.specs.Findings.{opens_path, opens_by_itself, is_flip, flips_at}
 use Rattle.eg_model.proofs.WholeModel.{whole_model}
 
@@ -145,29 +140,3 @@ pub raise-signals : map (λ m. signal_list m.signals) (moments_in_time disturbed
     ≡ (0 ∷ 200 ∷ 100 ∷ 0 ∷ 0 ∷ []) ∷ []
 unfolding whole_model
 raise-signals = refl
-
--- ---- path 1 is closed right after an excess that is confirmed at the tick after a send tick ----
-
-pub latest_confirmed : first_confirmed reference_rules.torque reference_rules.threshold (rows_of latest_cut)
-    ≡ Some 16
-unfolding whole_model last_excess runs_to_confirm periods_to_confirm
-latest_confirmed = refl
-
-pub latest_stages : map (λ m. m.on) (reverse latest_cut) ≡ replicate 50 true ++ false ∷ []
-unfolding whole_model last_excess runs_to_confirm periods_to_confirm
-latest_stages = refl
-
--- ---- level 2 misses every tick from the one on at which an excess would be confirmed ----
-
-pub longest-bound : least_lapse_bound reference_parts ≡ 39
-unfolding least_lapse_bound reaction_of verdicts_to_confirm runs_to_confirm
-longest-bound = refl
-
-pub longest-stages : map (λ m. m.on) (reverse longest_excess) ≡ replicate 50 true ++ false ∷ []
-unfolding whole_model lapse_onset runs_to_confirm
-longest-stages = refl
-
-pub longest-excess : map (true_excess reference_rules.threshold) (reverse (rows_of longest_excess))
-    ≡ replicate 12 false ++ replicate 38 true ++ false ∷ []
-unfolding whole_model lapse_onset runs_to_confirm
-longest-excess = refl

@@ -7,7 +7,6 @@ use Rattle.eg_answer.specs.declared.marks.AnswerMark.TheVariants.{Absent}
 use Rattle.eg_answer.specs.declared.marks.Verdict.{Verdict}
 use Rattle.eg_word.specs.declared.images.TheConstants.{IDLE, FULL}
 use Rattle.eg_word.specs.declared.registers.Trap.{Trap}
-use Rattle.eg_fault.specs.Faults.{does}
 use Rattle.eg_fault.specs.declared.class.Class.{Class}
 use Rattle.eg_fault.specs.declared.class.Class.TheVariants.{Script, Offset, Bus, Flip, Path1Closed}
 use Rattle.eg_fault.specs.declared.class.Fault.{Fault}
@@ -21,9 +20,6 @@ use Rattle.eg_model.specs.Answers.{is_answer}
 use Rattle.eg_model.specs.Engines.{gasoline}
 use Rattle.eg_model.specs.Bench.{Run, moments_to}
 use Rattle.eg_model.specs.Rows.{record_rows, report_of}
-use Rattle.eg_model.specs.Moments.{moments_of}
-use Rattle.eg_model.specs.LeastReaction.{quiet, closed_setting, until_confirmed, quiet_after}
-use Rattle.eg_model.specs.LeastLapse.{missing, lapse_setting, before_lapse, missed}
 
 -- waits for ever
 abbrev pub idle : List ℕ
@@ -169,20 +165,6 @@ storing = 0x1210 ∷ 0x2220 ∷ 0xc240 ∷ []
 -- jumps to itself for ever, a thousand times a tick
 abbrev pub looping_run : Run
 looping_run = record (bench_run (0xd1ff ∷ []) None 30) { plan = (1000 ∷ replicate 8 0) ∷ [] }
-
--- the history of `LeastReaction` with the reference calibration, the pedal at rest and a load of 1000: its 17
--- ticks, and 34 after them
-abbrev pub latest_cut : List Moment
-latest_cut =
-    moments_of (closed_setting reference_parts)
-    (replicate 34 (quiet_after at_rest) ++ until_confirmed reference_parts at_rest 1000)
-
--- the history of `LeastLapse` likewise: the 16 ticks before the lapse and 34 under it, and then a quiet one
-abbrev pub longest_excess : List Moment
-longest_excess =
-    moments_of (lapse_setting reference_parts)
-    (quiet (does missing 0) at_rest ∷ replicate 34 (missed reference_parts at_rest 1000)
-    ++ before_lapse reference_parts at_rest 1000)
 
 -- ---- what is told of a run ----
 

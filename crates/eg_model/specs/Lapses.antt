@@ -4,7 +4,7 @@
 use Rattle.std.specs.Prelude.{◌≡◌, ℕ, ◌*◌, ◌<◌, ◌≤◌, true, List, length, take, Option, Some}
 use Rattle.std.specs.List.{list_all}
 use Rattle.eg_answer.specs.Times.{HasLapseBound, lapse_periods, lapse_bound_of}
-use Rattle.eg_values.specs.Calibration.{IsAccepted}
+use Rattle.eg_values.specs.Calibration.{CalibrationParts, IsAccepted}
 use Rattle.eg_fault.specs.declared.class.Class.TheVariants.{Lapse}
 use Rattle.eg_fault.specs.declared.class.Fault.{Fault}
 use Rattle.eg_model.specs.History.{Setting, Tick}
@@ -32,10 +32,15 @@ CutsLapses =
     (start periods : ℕ) (h : List Tick) → length h ≡ periods * s.cal.times.period →
     Exceeds s (lapse_periods s.cal.rules.torque s.cal.times * s.cal.times.period) h → OffFrom s start h 1
 
--- The law of stretches. Under the same premises each stretch of ticks in a row with true excess is shorter
--- than the bound. (Here h is the history up to the end of the stretch, and n the ticks of the stretch.)
+-- Under every lapse, each stretch of ticks in a row with true excess is shorter than so many ticks. (Here h
+-- is the history up to the end of the stretch, and n the ticks of the stretch.)
+abbrev pub StretchesStayBelow : CalibrationParts → ℕ → Type 0
+StretchesStayBelow cal bound =
+    (s : Setting) → s.cal ≡ cal → IsLapse s.fault → (start : ℕ) (h : List Tick) →
+    Follows s.fault start h → AreProper s h → (n : ℕ) → Exceeds s n h → n < bound
+
+-- The law of stretches. Where the calibration is an accepted one with a bound for lapses, it is such a bound.
 abbrev pub StretchesAreShort : Type 0
 StretchesAreShort =
-    (s : Setting) → IsAccepted s.cal → HasLapseBound s.cal.rules.torque s.cal.times → IsLapse s.fault →
-    (start : ℕ) (h : List Tick) → Follows s.fault start h → AreProper s h →
-    (n : ℕ) → Exceeds s n h → n < lapse_bound_of s.cal.rules.torque s.cal.times
+    (cal : CalibrationParts) → IsAccepted cal → HasLapseBound cal.rules.torque cal.times →
+    StretchesStayBelow cal (lapse_bound_of cal.rules.torque cal.times)

@@ -20,6 +20,4 @@ pub mod Outputs
 pub mod PowerCycles
 pub mod StartUp
 pub mod Lapses
-pub mod LeastReaction
-pub mod Availability
-pub mod LeastLapse
+pub mod InTime

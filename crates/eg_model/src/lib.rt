@@ -1,9 +1,8 @@
 //! What a run of the simulated unit is, tick by tick, and what holds of every run. Nothing here runs:
 //! specs/ has the definitions, and the functions carry the laws, and a few short runs that are worked out, as
-//! their contracts. Longer runs are in `eg_runs`.
+//! their contracts. Further laws are in `eg_laws`, and longer runs in `eg_runs`.
 #![tactic(auto)]
 
-mod availability;
 mod branching;
 mod examples;
 mod faulty_runs;
@@ -15,7 +14,6 @@ mod records;
 mod sharp_cut;
 mod start_up;
 
-pub use availability::{far_misses_never_cut, records_stay_available};
 pub use branching::runs_branch;
 pub use examples::{alternating_slices, full_run, passed_test, probing_run, raise_is_read};
 pub use faulty_runs::{
@@ -23,12 +21,12 @@ pub use faulty_runs::{
     latched_run, limited_run, offset_track, path_2_runs, wild_run,
 };
 pub use findings::{records_find_in_time, records_name_what_cuts};
-pub use lapses::{lapse_bound_is_least, lapses_are_cut, longest_excess_run};
+pub use lapses::lapses_are_cut;
 pub use outputs::level_1_acts_by_its_outputs;
-pub use reaction::{cuts_from_onset, latest_cut_run, reaction_time_is_least, reacts_in_time};
+pub use reaction::{cuts_from_onset, reacts_in_time};
 pub use records::{
     records_are_histories, records_cut_from_onset, records_cut_lapses, records_cut_sharply,
-    records_react, records_test_the_paths,
+    records_react, records_test_the_paths, spans_react_in_time,
 };
 pub use sharp_cut::cuts_sharply;
 pub use start_up::{runs_without_reset_are_one_span, tests_pass};

@@ -1,6 +1,7 @@
 // The laws of records of runs on the bench, for the gasoline engine and for the diesel engine. They are
 // proved of any engine that brings what `KeepsBenchLaws` says.
 ghost use Rattle.eg_model.specs.Engines.{gasoline, diesel};
+ghost use Rattle.eg_model.specs.InTime.{RecordsReactInTime};
 ghost use Rattle.eg_model.specs.PowerCycles.{RecordsBeginInTurn};
 ghost use Rattle.eg_model.specs.Records.{RecordsAreHistories, RecordsAreRows, RecordsReact, RecordsReactAtOnce, RecordsCutFromOnset, RecordsCutSharply, RecordsCutSharplyBefore, RecordsCutLapses, RecordsHaveShortLapses, RecordsTestUnpowered, RecordsPassTests};
 
@@ -31,6 +32,14 @@ pub fn records_cut_from_onset()
 pub fn records_cut_sharply()
     ensures rows { RecordsCutSharply gasoline × RecordsCutSharply diesel }
     ensures before { RecordsCutSharplyBefore gasoline × RecordsCutSharplyBefore diesel }
+{}
+
+/// What is told of the reactions of a run once its rows are gone (docs/CONCEPT.md, "`table`"), for runs on
+/// the bench with at most one listed fault: no reaction in any span takes more than R ticks; and where a true
+/// excess is confirmed, and each span in which one is goes on for R ticks after that, a longest reaction is
+/// told. It does nothing when it runs.
+pub fn spans_react_in_time()
+    ensures { RecordsReactInTime gasoline × RecordsReactInTime diesel }
 {}
 
 /// The laws of lapses by the rows of each drive span of the record of a run on the bench, for a calibration

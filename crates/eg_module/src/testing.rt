@@ -2,7 +2,7 @@
 ghost use Rattle.std.specs.Prelude.{◌≡◌, ◌≤◌};
 ghost use Rattle.eg_answer.specs.Times.{test_ticks_of};
 
-use eg_answer::{Times, verdicts_to_confirm};
+use eg_answer::{Times, feeds_to_confirm};
 
 /// How many ticks the start-up test of the shut-off paths takes (docs/CONCEPT.md, "Reaction time"): where no
 /// answer is sent from its begin on, the monitoring module's path is open so many ticks later.
@@ -11,5 +11,5 @@ pub fn test_ticks(times: &Times) -> u32
     ensures number { result ≡ test_ticks_of times.now }
     ensures within { result ≤ 1000000 }
 {
-    verdicts_to_confirm(times.weights()) * u32::from(times.period())
+    feeds_to_confirm(times.weights()) * u32::from(times.period())
 }

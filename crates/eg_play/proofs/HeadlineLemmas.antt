@@ -16,7 +16,7 @@ use Rattle.eg_model.specs.Records.{IsRun}
 use Rattle.eg_model.proofs.GasolineLaws.{gasoline_keeps, gasoline_shows_one_load}
 use Rattle.eg_model.proofs.DieselLaws.{diesel_keeps, diesel_shows_one_load}
 use Rattle.eg_model.proofs.RecordLaws.{records_react, records_react_at_once, records_cut_sharply, records_cut_from_onset, records_cut_lapses, records_have_short_lapses, records_test_unpowered, records_pass_tests}
-use Rattle.eg_model.proofs.AvailabilityRecords.{records_stay_available}
+use Rattle.eg_laws.proofs.AvailabilityRecords.{records_stay_available}
 use Rattle.eg_model.proofs.FindingRecords.{records_find_before_off, records_find_failures, records_find_from_onset, records_tell_flips}
 use Rattle.eg_model.proofs.FindingReports.{reports_name_what_cuts}
 use Rattle.eg_model.proofs.OutputRecords.{records_act_by_outputs}

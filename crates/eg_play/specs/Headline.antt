@@ -16,7 +16,7 @@ use Rattle.eg_model.specs.Records.{CutLapses, LapsesAreShort, AreOff}
 use Rattle.eg_model.specs.Findings.{FindsBeforeOff, FindsFailure, FindsFromOnset, TellsFlips, NamesWhatCuts}
 use Rattle.eg_model.specs.Lapses.{IsLapse}
 use Rattle.eg_model.specs.Outputs.{with_level1, ActByOutputs}
-use Rattle.eg_model.specs.Availability.{IsSpacedLapse, StaysAvailable}
+use Rattle.eg_laws.specs.Availability.{IsSpacedLapse, StaysAvailable}
 use Rattle.eg_campaign.specs.Plays.{EngineRun, rows_of_run, report_of_run}
 
 -- What the headline says of the record of a run, by its setting, its rows, its report under each name, and
@@ -58,9 +58,9 @@ pub record Headline (s : Setting) (rows : List Row) (report : List ℕ → Summa
       EachDriveSpan (CutLapses s.cal) rows
   pub short : HasLapseBound s.cal.rules.torque s.cal.times → IsLapse s.fault →
       EachDriveSpan (LapsesAreShort s.cal) rows
-  -- Availability: lapses whose misses lie far enough apart never cut. In each drive span, as long as no watch
-  -- has tripped, wrong answers aren't found; so the stages are off only after a trip, and where no
-  -- full-efficiency excess comes they are on at each tick.
+  -- Availability: under lapses whose misses lie far enough apart wrong answers never cut before a trip. In
+  -- each drive span, as long as no watch has tripped, wrong answers aren't found; so the stages are off only
+  -- after a trip, and where no full-efficiency excess comes they are on at each tick.
   pub stays_available : IsSpacedLapse s →
       EachDriveSpan (StaysAvailable s.cal.rules.kt s.cal.rules.threshold) rows
   -- The report, whatever name it gives the run, names the first detecting monitor and its tick, and the first

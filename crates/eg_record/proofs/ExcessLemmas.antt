@@ -38,7 +38,7 @@ first_confirmed-append w t (row ∷ more) rows c first =
 -- ---- in one span ----
 
 -- one bit more: the first place is that of the bits before, or else the last one if the bits are confirmed now
-first_place-now : (w : WeightParts) (b : Bool) (bits : List Bool) →
+pub first_place-now : (w : WeightParts) (b : Bool) (bits : List Bool) →
     option_or (first_place w bits) (if is_confirmed w (b ∷ bits) then Some (length bits) else None) ≡ first_place w (b ∷ bits)
 first_place-now w b bits = elim (cases_Bool (is_confirmed w bits)) [
   | inl confirmed ↦ stays (first_place w bits) (is_some-first_place w bits ∙ confirmed) (if is_confirmed w (b ∷ bits) then Some (length bits) else None)

@@ -1,6 +1,6 @@
 -- A run under lapses, computed from the definitions.
 use Rattle.std.proofs.Common.{◌≡◌, true, false, [], ◌∷◌, ◌++◌, map, filter, replicate, Some, None, refl}
-use Rattle.eg_answer.specs.Times.{runs_to_confirm, periods_to_confirm, worth_of, rounds_to_confirm, lapse_periods, lapse_bound_of}
+use Rattle.eg_answer.specs.Times.{feeds_to_confirm, periods_to_confirm, worth_of, rounds_to_confirm, lapse_periods, lapse_bound_of}
 use Rattle.eg_answer.specs.declared.marks.Verdict.TheVariants.{Wrong}
 use Rattle.eg_record.specs.declared.watch.Watch.TheVariants.{Answers}
 use Rattle.eg_values.specs.Reference.{reference_parts}
@@ -41,9 +41,9 @@ lapsing-stages = refl
 
 -- its calibration's numbers: four whole periods, and 50 ticks
 reference-periods : lapse_periods reference_parts.rules.torque reference_parts.times ≡ 4
-unfolding runs_to_confirm periods_to_confirm worth_of rounds_to_confirm lapse_periods
+unfolding feeds_to_confirm periods_to_confirm worth_of rounds_to_confirm lapse_periods
 reference-periods = refl
 
 pub reference-bound : lapse_bound_of reference_parts.rules.torque reference_parts.times ≡ 50
-unfolding runs_to_confirm periods_to_confirm worth_of rounds_to_confirm lapse_periods lapse_bound_of
+unfolding feeds_to_confirm periods_to_confirm worth_of rounds_to_confirm lapse_periods lapse_bound_of
 reference-bound = refl

@@ -1,12 +1,12 @@
--- Runs in which level 2 is missed at a tick now and then, computed from the definitions.
+-- Runs in which level 2 misses a tick now and then, computed from the definitions.
 use Rattle.std.proofs.Common.{◌≡◌, ◌<◌, true, false, [], ◌∷◌, ◌++◌, map, replicate, Some, None, inr, refl, sym, subst, arith}
 use Rattle.eg_answer.specs.Times.{HasMissSpacing, periods_between_misses, miss_spacing_of}
 use Rattle.eg_answer.specs.declared.marks.Verdict.TheVariants.{Right, Wrong}
 use Rattle.eg_record.specs.declared.watch.Watch.TheVariants.{Answers, Torque}
 use Rattle.eg_record.specs.Excess.{full_excess}
 use Rattle.eg_model.specs.Examples.{verdicts_of, rows_in_time, report_on, reported}
-use Rattle.eg_model.specs.Availability.{MissesAreSpaced, IsSpacedLapse}
-use Rattle.eg_model.proofs.SingleMisses.{single_misses_are_spaced}
+use Rattle.eg_laws.specs.Availability.{MissesAreSpaced, IsSpacedLapse}
+use Rattle.eg_laws.proofs.SingleMisses.{single_misses_are_spaced}
 use Rattle.eg_runs.specs.WorkedMisses.{missed_from, sevens, missed_run, single_miss, gap_run, reported_with}
 use Rattle.eg_model.proofs.WholeModel.{whole_model}
 
@@ -57,7 +57,7 @@ pub gap-uncut : report_on (gap_run None) ≡ reported None None None None
 unfolding whole_model
 gap-uncut = refl
 
--- where level 2 is missed at tick 9 it is fed with five bits that are set
+-- where level 2 misses tick 9 it is fed with five bits that are set
 pub gap-cut : report_on (gap_run (missed_from 9 0)) ≡ reported (Some (Torque, 10)) (Some 11) None None
 unfolding whole_model
 gap-cut = refl

@@ -1,4 +1,4 @@
--- Runs in which level 2 is missed at a tick now and then: at two distances, at a send tick where two wrong
+-- Runs in which level 2 misses a tick now and then: at two distances, at a send tick where two wrong
 -- verdicts are enough, and within an excess that has a gap.
 use Rattle.std.specs.Prelude.{ℕ, [], ◌∷◌, ◌++◌, replicate, List, Option, None}
 use Rattle.eg_num.specs.Drive.{DriveRow, driven}
@@ -11,7 +11,7 @@ use Rattle.eg_record.specs.declared.watch.Watch.{Watch}
 use Rattle.eg_model.specs.Bench.{Run}
 use Rattle.eg_model.specs.Examples.{idle, full, at_rest, fault_from, bench_run, run_of, reported}
 
--- level 2 is missed at this tick, and then once every so many ticks, where that isn't 0
+-- level 2 misses this tick, and then one every so many ticks, where that isn't 0
 abbrev pub missed_from : (tick every : ℕ) → Option Fault
 missed_from tick every = fault_from tick (Lapse (0 ∷ []) every)
 

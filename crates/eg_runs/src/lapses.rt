@@ -6,7 +6,7 @@ ghost use Rattle.eg_record.specs.declared.watch.Watch.TheVariants.{Answers, Torq
 ghost use Rattle.eg_record.specs.Excess.{full_excess};
 ghost use Rattle.eg_model.specs.Examples.{rows_in_time, report_on, reported, answers_of, stages_of};
 ghost use Rattle.eg_runs.specs.WorkedLapses.{lapsing_run, excesses_of};
-ghost use Rattle.eg_model.specs.Availability.{IsSpacedLapse};
+ghost use Rattle.eg_laws.specs.Availability.{IsSpacedLapse};
 ghost use Rattle.eg_runs.specs.WorkedMisses.{missed_from, sevens, missed_run, single_miss, gap_run, reported_with};
 
 /// A run under lapses that is cut: level 2 runs at one tick of ten, so it feeds too few bits to find the
@@ -21,7 +21,7 @@ pub fn a_run_with_lapses_is_cut()
 {}
 
 /// Misses that cut and misses that don't, by one calibration with a question every 7 ticks: a wrong verdict
-/// adds 3 of 9, and a right one takes 2. Level 2 is missed at tick 3, which is a send tick, and so spoils two
+/// adds 3 of 9, and a right one takes 2. Level 2 misses tick 3, which is a send tick, and so spoils two
 /// verdicts. Every 28 ticks that cuts, at tick 70; every 35, which is `eg_answer::miss_spacing`, it doesn't.
 /// Where two wrong verdicts are enough there is no such distance: a single miss cuts. It does nothing when
 /// it runs.
@@ -35,8 +35,8 @@ pub fn near_misses_cut_and_far_ones_do_not()
 {}
 
 /// A single miss that cuts by a trip: the full-efficiency excess of ticks 5 to 8 and of tick 10 isn't
-/// confirmed, since tick 9 takes one from its weight. Where level 2 is missed at tick 9 it is fed with five
-/// bits that are set, and finds the torque. It does nothing when it runs.
+/// confirmed, since tick 9 takes one from its weight. Where level 2 misses tick 9 it is fed with five bits
+/// that are set, and finds the torque. It does nothing when it runs.
 pub fn missed_gap_is_cut()
     ensures excesses { map (full_excess 2500 200) (rows_in_time (gap_run None))
         ≡ replicate 5 false ++ replicate 4 true ++ false ∷ true ∷ replicate 19 false }

@@ -1,6 +1,6 @@
 -- What a calibration comes to: its reaction time, and what it tolerates.
 use Rattle.std.specs.Prelude.{◌≡◌, SomeIff}
-use Rattle.eg_answer.specs.Times.{verdicts_to_confirm, reaction_of, test_ticks_of, runs_to_confirm, HasLapseBound, lapse_bound_of, HasMissSpacing, miss_spacing_of}
+use Rattle.eg_answer.specs.Times.{feeds_to_confirm, reaction_of, test_ticks_of, HasLapseBound, lapse_bound_of, HasMissSpacing, miss_spacing_of}
 use Rattle.eg_values.specs.Calibration.{CalibrationParts}
 use Rattle.eg_tuning.specs.declared.limit.Limits.{Limits}
 
@@ -12,7 +12,7 @@ pub record AreLimits (cal : CalibrationParts) (limits : Limits) : Type 0 where
   pub reaction : limits.reaction ≡ reaction_of cal.times
   pub lapse : SomeIff limits.lapse (HasLapseBound cal.rules.torque cal.times)
       (lapse_bound_of cal.rules.torque cal.times)
-  pub verdicts : limits.verdicts ≡ verdicts_to_confirm cal.times.weights
-  pub excess : limits.excess ≡ runs_to_confirm cal.rules.torque
+  pub verdicts : limits.verdicts ≡ feeds_to_confirm cal.times.weights
+  pub excess : limits.excess ≡ feeds_to_confirm cal.rules.torque
   pub test : limits.test ≡ test_ticks_of cal.times
   pub spacing : SomeIff limits.spacing (HasMissSpacing cal.times) (miss_spacing_of cal.times)

@@ -1,7 +1,7 @@
 // What a calibration comes to.
 ghost use Rattle.eg_tuning.specs.Limits.{AreLimits};
 
-use eg_answer::{lapse_bound, miss_spacing, reaction, verdicts_to_confirm};
+use eg_answer::{feeds_to_confirm, lapse_bound, miss_spacing, reaction};
 use eg_module::test_ticks;
 use eg_values::Calibration;
 
@@ -24,7 +24,7 @@ pub struct Limits {
 }
 
 /// What a calibration comes to (docs/CONCEPT.md, "Reaction time" and "Lapses").
-#[tactic(auto, unfolding(eg_answer::specs::Times::verdicts_to_confirm, eg_answer::specs::Times::runs_to_confirm))]
+#[tactic(auto, unfolding(eg_answer::specs::Times::feeds_to_confirm))]
 pub fn limits_of(calibration: &Calibration) -> Limits
     ensures { AreLimits calibration.now result }
 {
@@ -33,8 +33,8 @@ pub fn limits_of(calibration: &Calibration) -> Limits
     Limits {
         reaction: reaction(times),
         lapse: lapse_bound(torque, times),
-        verdicts: verdicts_to_confirm(times.weights()),
-        excess: verdicts_to_confirm(torque),
+        verdicts: feeds_to_confirm(times.weights()),
+        excess: feeds_to_confirm(torque),
         test: test_ticks(times),
         spacing: miss_spacing(times),
     }

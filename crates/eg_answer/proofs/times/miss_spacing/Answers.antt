@@ -47,3 +47,20 @@ returns-then-spoiled-from-clause-least c periods enough =
   where
     scaled : (a b p : ℕ) → a ≤ b → a * p ≤ b * p
     scaled a b p h = grind (arith, h)
+
+pub returns-then-spoiled-from-clause-enough : goal.returns-then-spoiled-from-clause-enough
+returns-then-spoiled-from-clause-enough c =
+    let weights = c.weights-answers.ensures.weights in
+    let up : c.from-spoiled.result ≡ c.args.times.now.weights.up = c.from-spoiled.ensures ∙ c.up.ensures.up ∙ ap (λ (w : WeightParts). w.up) weights in
+    let down : c.from-down.result ≡ c.args.times.now.weights.down = c.from-down.ensures ∙ c.down.ensures.down ∙ ap (λ (w : WeightParts). w.down) weights in
+    let period = c.from-then-spoiled-from.ensures ∙ c.period.ensures.period in
+    let rounded = (div_ceil_times (2 * c.from-spoiled.result) c.from-down.result c.if-down-ge1.true).0 in
+    let back = subst (λ q. 2 * c.from-spoiled.result ≤ q * c.from-down.result) (sym c.div_ceil-periods.ensures) rounded in
+    record {
+      periods = c.div_ceil-periods.result + 2;
+      are = ap (λ p. (c.div_ceil-periods.result + 2) * p) period;
+      enough = rw (← up, ← down) (all_but_two c.div_ceil-periods.result _ c.from-down.result back);
+    }
+  where
+    all_but_two : (q spoiled down : ℕ) → spoiled ≤ q * down → spoiled ≤ (q + 2 - 2) * down
+    all_but_two q spoiled down h = subst (λ n. spoiled ≤ n * down) (let two : q ≡ q + 2 - 2 = omega arith in two) h

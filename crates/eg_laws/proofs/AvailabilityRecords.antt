@@ -1,0 +1,137 @@
+-- Misses that are far apart never cut: by the rows of a history, and of the record of a run on the bench.
+use Rattle.std.proofs.Common.{◌≡◌, ℕ, Bool, true, false, not, ◌||◌, List, [], ◌∷◌, ◌++◌, All, map, refl, sym, ap, ap₂, ◌∙◌, subst}
+use Rattle.std.specs.List.{list_any}
+use Rattle.std.proofs.lemmas.List.Elements.{All-head, All-tail}
+use Rattle.std.proofs.lemmas.Bool.{or_from, or_parts}
+use Rattle.eg_values.specs.Calibration.{IsAccepted}
+use Rattle.eg_plant.specs.PlantParts.{PlantParts}
+use Rattle.eg_record.specs.declared.row.Row.{Row}
+use Rattle.eg_record.specs.Excess.{full_excess}
+use Rattle.eg_model.specs.History.{Setting, Tick, Moment}
+use Rattle.eg_model.specs.Signals.{tripped}
+use Rattle.eg_model.specs.Paths.{latch2}
+use Rattle.eg_model.specs.Moments.{moment, moments_of}
+use Rattle.eg_model.specs.Rows.{row_of}
+use Rattle.eg_model.specs.Premises.{AreProper, Follows, full_excesses}
+use Rattle.eg_model.specs.Engines.{BenchEngine, KeepsBenchLaws, ShowsOneLoad}
+use Rattle.eg_laws.specs.Availability.{IsSpacedLapse, ShowsTwice, trips, has_tripped, StaysAvailable, RecordsStayAvailable}
+use Rattle.eg_model.proofs.TickLemmas.{moment-trip, moment-answers, tripped-cons, untripped_before}
+use Rattle.eg_model.proofs.Silence.{latch2-cons}
+use Rattle.eg_model.proofs.SpanRows.{follows-end, rows_after, SpanRows, RowAfter, row_on, all_rows, LastTick, last_tick, bits_after, full_unnumbered}
+use Rattle.eg_model.proofs.RecordSpans.{SpanTo}
+use Rattle.eg_model.proofs.RecordLaws.{each_drive, proper_span, loads_in}
+use Rattle.eg_laws.proofs.AvailabilityLaws.{keeps_path_2, path_2_conducts, trips_alone_cut, no_trip_comes}
+
+-- ---- by the rows of a history ----
+
+-- the rows tell whether a trip has come
+tripped_rows : (s : Setting) (start : ℕ) (h : List Tick) → has_tripped (SpanRows s start h) ≡ tripped (moments_of s h)
+unfolding has_tripped rows_after moments_of
+tripped_rows s start [] = unfold tripped in refl
+tripped_rows s start (x ∷ h) = ap₂ (λ a b. a || b) now (tripped_rows s start h)
+    ∙ sym (tripped-cons (moment s x.effects x.entry (moments_of s h)) (moments_of s h))
+  where
+    now : trips (RowAfter s start x h).found ≡ (moment s x.effects x.entry (moments_of s h)).trip
+    now = unfold trips row_of in sym (moment-trip s x.effects x.entry (moments_of s h))
+
+rows-cons : (s : Setting) (start : ℕ) (x : Tick) (h : List Tick) → SpanRows s start (x ∷ h) ≡ RowAfter s start x h ∷ SpanRows s start h
+unfolding rows_after moments_of
+rows-cons s start x h = refl
+
+-- none had come by an end of a history, where none has come
+untripped_end : (s : Setting) (more h : List Tick) → tripped (moments_of s (more ++ h)) ≡ false → tripped (moments_of s h) ≡ false
+unfolding moments_of
+untripped_end s [] h none = none
+untripped_end s (x ∷ more) h none = untripped_end s more h
+    (untripped_before (moment s x.effects x.entry (moments_of s (more ++ h))) (moments_of s (more ++ h)) none)
+
+none_set : (bit : Row → Bool) (rows : List Row) → All (λ row. bit row ≡ false) rows → list_any (λ b. b) (map bit rows) ≡ false
+none_set bit [] all = refl
+none_set bit (row ∷ rows) all = or_from _ _ (All-head (λ r. bit r ≡ false) row rows all)
+    (none_set bit rows (All-tail (λ r. bit r ≡ false) row rows all))
+
+module _ (s : Setting) (start : ℕ) (h : List Tick) (accepted : IsAccepted s.cal) (lapse : IsSpacedLapse s)
+    (follows : Follows s.fault start h) where
+  answered_rows : (later before : List Row) (row : Row) → SpanRows s start h ≡ later ++ row ∷ before →
+      has_tripped (row ∷ before) ≡ false → row.found.answers ≡ false
+  unfolding moments_of
+  answered_rows later before row e none = ap (λ (r : Row). r.found.answers) at.row_is ∙ unfound
+    where
+      at : LastTick s start row before
+      at = last_tick s start h follows later before row e
+
+      past : List Moment
+      past = moments_of s at.past
+
+      now : Moment
+      now = moment s at.tick.effects at.tick.entry past
+
+      rows_are : SpanRows s start (at.tick ∷ at.past) ≡ row ∷ before
+      rows_are = rows-cons s start at.tick at.past ∙ sym (ap₂ (λ r rs. r ∷ rs) at.row_is at.before_are)
+
+      untripped : tripped (moments_of s (at.tick ∷ at.past)) ≡ false
+      untripped = sym (tripped_rows s start (at.tick ∷ at.past)) ∙ ap has_tripped rows_are ∙ none
+
+      closed : latch2 (now ∷ past) ≡ false
+      closed = keeps_path_2 s accepted lapse start (at.tick ∷ at.past) at.follows untripped
+
+      unfound : (RowAfter s start at.tick at.past).found.answers ≡ false
+      unfound = unfold row_of in moment-answers s at.tick.effects at.tick.entry past
+          ∙ (or_parts now.confirms now.opens (or_parts _ (latch2 past) (sym (latch2-cons now past) ∙ closed)).0).0
+
+  conducts_rows : (later before : List Row) (row : Row) → SpanRows s start h ≡ later ++ row ∷ before →
+      has_tripped before ≡ false → row.path2 ≡ true
+  conducts_rows later before row e none = ap (λ (r : Row). r.path2) at.row_is ∙ path_2
+    where
+      at : LastTick s start row before
+      at = last_tick s start h follows later before row e
+
+      untripped : tripped (moments_of s at.past) ≡ false
+      untripped = sym (tripped_rows s start at.past) ∙ ap has_tripped (sym at.before_are) ∙ none
+
+      path_2 : (RowAfter s start at.tick at.past).path2 ≡ true
+      path_2 = unfold row_of in path_2_conducts s accepted lapse start at.past at.tick at.follows untripped
+
+  cut_rows : (later before : List Row) (row : Row) → SpanRows s start h ≡ later ++ row ∷ before → row.on ≡ not (has_tripped before)
+  cut_rows later before row e = ap (λ (r : Row). r.on) at.row_is ∙ row_on s start at.tick at.past
+      ∙ trips_alone_cut s accepted lapse start at.past at.tick at.follows
+      ∙ ap not (sym (ap has_tripped at.before_are ∙ tripped_rows s start at.past))
+    where
+      at : LastTick s start row before
+      at = last_tick s start h follows later before row e
+
+  stay_available : AreProper s h → All ShowsTwice h → StaysAvailable s.cal.rules.kt s.cal.rules.threshold start (SpanRows s start h)
+  stay_available proper loads = record { answered = answered_rows; conducts = conducts_rows; cut_by_trips = cut_rows; stays_on = stays_on }
+    where
+      bit : Row → Bool
+      bit = full_excess s.cal.rules.kt s.cal.rules.threshold
+
+      untripped : All (λ row. bit row ≡ false) (SpanRows s start h) → tripped (moments_of s h) ≡ false
+      untripped none = no_trip_comes s accepted lapse start h follows proper loads
+          (unfold full_excesses in subst (λ bits. list_any (λ b. b) bits ≡ false)
+          (bits_after bit (full_unnumbered s.cal.rules.kt s.cal.rules.threshold) s start h) (none_set bit (SpanRows s start h) none))
+
+      on_at_each : tripped (moments_of s h) ≡ false → (newer : List Tick) (x : Tick) (before : List Tick) → h ≡ newer ++ x ∷ before →
+          (RowAfter s start x before).on ≡ true
+      on_at_each quiet newer x before whole = row_on s start x before
+          ∙ trips_alone_cut s accepted lapse start before x (follows-end s.fault start newer (x ∷ before) (subst (Follows s.fault start) whole follows))
+          ∙ ap not (earlier (untripped_end s newer (x ∷ before) (subst (λ g. tripped (moments_of s g) ≡ false) whole quiet)))
+        where
+          earlier : tripped (moments_of s (x ∷ before)) ≡ false → tripped (moments_of s before) ≡ false
+          earlier none = unfold moments_of in untripped_before (moment s x.effects x.entry (moments_of s before)) (moments_of s before) none
+
+      stays_on : All (λ row. bit row ≡ false) (SpanRows s start h) →
+          All (λ row. row.on ≡ true) (SpanRows s start h) × (has_tripped (SpanRows s start h) ≡ false)
+      stays_on none = (
+        all_rows (λ row. row.on ≡ true) s start h (on_at_each (untripped none)),
+        tripped_rows s start h ∙ untripped none,
+      )
+
+-- ---- by the rows of a record ----
+
+pub records_stay_available : {E : Type 0} {b : BenchEngine E} {Keeps : PlantParts → E → Type 0} → KeepsBenchLaws b Keeps → ShowsOneLoad b →
+    RecordsStayAvailable b
+records_stay_available {b = b} keeps once r run valid lapse =
+    each_drive b (StaysAvailable r.setting.cal.rules.kt r.setting.cal.rules.threshold) r (λ start count span is.
+    stay_available r.setting start (SpanTo b r count) run.accepted lapse is.follows
+    (proper_span keeps r run valid start count span is) (loads_in keeps once r count))

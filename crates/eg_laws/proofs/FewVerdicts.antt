@@ -1,0 +1,230 @@
+-- Path 2 stays closed as long as few verdicts have come since the last one that was surely right.
+use Rattle.std.proofs.Common.{◌≡◌, ℕ, zero, suc, ◌+◌, ◌-◌, ◌*◌, ◌/◌, ◌%◌, ◌≤◌, ◌<◌, Bool, true, false, List, [], ◌∷◌, ◌++◌, length, refl, sym, ap, ◌∙◌, arith, inl, inr, ◌⊎◌, Option, Some, None, subst, length-append}
+use Rattle.std.specs.Prelude.{if◌then◌else◌, ◌==◌}
+use Rattle.std.proofs.Math.Nat.{le-div_iff_mul-le, div-lt_iff_lt-mul, div-mul-le_self}
+use Rattle.std.proofs.lemmas.Nat.{mod-mul-add}
+use Rattle.std.proofs.lemmas.Bool.{or_from, lt-leb, ne_eqb}
+use Rattle.eg_num.specs.Arithmetic.{quotient_up}
+use Rattle.eg_num.specs.Windows.{WeightParts, is_confirmed, greatest}
+use Rattle.eg_num.proofs.CounterLemmas.{greatest-bad, greatest-good, is_reached-greatest}
+use Rattle.eg_answer.specs.Times.{TimeParts, AreTimes, feeds_to_confirm}
+use Rattle.eg_answer.specs.Periods.{is_wrong}
+use Rattle.eg_answer.specs.declared.marks.AnswerMark.TheVariants.{Absent, Good}
+use Rattle.eg_answer.specs.declared.marks.Verdict.{Verdict}
+use Rattle.eg_fault.specs.Classes.{IsRegular}
+use Rattle.eg_model.specs.History.{Setting, Tick, Moment}
+use Rattle.eg_model.specs.Answers.{confirms_at}
+use Rattle.eg_model.specs.Paths.{latch2}
+use Rattle.eg_model.specs.Moments.{moment, moments_of}
+use Rattle.eg_model.proofs.PeriodLemmas.{period_closes}
+use Rattle.eg_model.proofs.TickLemmas.{Each, length-moments, moment-verdict, moment-confirms, moment-opens}
+use Rattle.eg_model.proofs.Silence.{AreRegular, wrongs, with_wrong, wrongs-cons, latch2-cons, period_least, verdict_none}
+use Rattle.eg_model.proofs.ReactionLaw.{Unanswered}
+use Rattle.eg_model.proofs.SharpCutLaw.{AllGood, Calm, greatest-AllGood, not_reached, AreUsual, usual_mark, IsNotWrong, verdict_usual, right_bits, not_first, not_before}
+
+-- ---- few bits after good ones don't confirm ----
+
+pub never : (w : WeightParts) (bits : List Bool) → 0 < w.limit → AllGood bits → is_confirmed w bits ≡ false
+unfolding is_confirmed AllGood
+never w [] some good = refl
+never w (b ∷ bits) some good = or_from _ _ (not_reached w (b ∷ bits) some good) (never w bits some good.1)
+
+weighs_at_most : (w : WeightParts) (bits good : List Bool) → AllGood good →
+    greatest w (bits ++ good) ≤ length bits * w.up
+weighs_at_most w [] good none = let z = greatest-AllGood w good none in omega arith
+weighs_at_most w (true ∷ bits) good none =
+    rw (greatest-bad w (bits ++ good)) (let rest = weighs_at_most w bits good none in omega arith)
+weighs_at_most w (false ∷ bits) good none =
+    rw (greatest-good w (bits ++ good)) (let rest = weighs_at_most w bits good none in omega arith)
+
+pub too_few : (w : WeightParts) (bits good : List Bool) → 0 < w.limit → AllGood good →
+    length bits * w.up < w.limit → is_confirmed w (bits ++ good) ≡ false
+unfolding is_confirmed
+too_few w [] good some none few = never w good some none
+too_few w (b ∷ bits) good some none few =
+    or_from _ _
+    (is_reached-greatest w (b ∷ bits ++ good) some
+    ∙ lt-leb w.limit _ (let most = weighs_at_most w (b ∷ bits) good none in omega arith))
+    (too_few w bits good some none (omega arith))
+
+-- fewer than the quotient, rounded up, don't come to the number
+pub quotient_short : (n d j : ℕ) → 0 < n → 0 < d → j < quotient_up n d → j * d < n
+quotient_short n d j some h less = let within : suc j * d ≤ n + (d - 1) = (le-div_iff_mul-le h).0 less in omega arith
+
+pub quotient_positive : (n d : ℕ) → 0 < n → 0 < d → 0 < quotient_up n d
+quotient_positive n d some h = (le-div_iff_mul-le h).1 (let one : 1 * d ≤ n + (d - 1) = omega arith in one)
+
+-- ---- where the verdicts aren't confirmed, path 2 isn't open ----
+
+abbrev pub NoneOpens : List Tick → Type 0
+NoneOpens h = Each (λ x. x.effects.opens ≡ false) h
+
+unconfirmed_now : (times : TimeParts) (v : Option Verdict) (past : List Moment) →
+    is_confirmed times.weights (with_wrong v (wrongs past)) ≡ false →
+    (confirms_at times v past ≡ false) × (is_confirmed times.weights (wrongs past) ≡ false)
+unfolding confirms_at with_wrong
+unconfirmed_now times None past none = (refl, none)
+unconfirmed_now times (Some v) past none = unfold wrongs in
+    (not_first times.weights _ _ none, not_before times.weights _ _ none)
+
+pub shut_unless_confirmed : (s : Setting) (h : List Tick) → NoneOpens h →
+    is_confirmed s.cal.times.weights (wrongs (moments_of s h)) ≡ false → latch2 (moments_of s h) ≡ false
+unfolding moments_of Each
+shut_unless_confirmed s [] shut none = unfold latch2 in refl
+shut_unless_confirmed s (x ∷ h) shut none =
+    let past = moments_of s h in
+    let m = moment s x.effects x.entry past in
+    let both = unconfirmed_now s.cal.times m.verdict past
+    (subst (λ bits. is_confirmed s.cal.times.weights bits ≡ false) (wrongs-cons m past) none) in
+    latch2-cons m past
+    ∙ or_from _ _ (or_from _ _ (moment-confirms s x.effects x.entry past ∙ both.0)
+    (moment-opens s x.effects x.entry past ∙ shut.0)) (shut_unless_confirmed s h shut.1 both.1)
+
+-- ---- how many verdicts have come since period k began ----
+
+-- Before period k began each verdict was right. Since then no more came than periods have ended.
+pub record HasFew (s : Setting) (k : ℕ) (h : List Tick) : Type 0 where
+  pub bits : List Bool
+  pub good : List Bool
+  pub are : wrongs (moments_of s h) ≡ bits ++ good
+  pub none_bad : AllGood good
+  pub few : length bits ≤ length h / s.cal.times.period - k
+  pub usual : length h ≤ k * s.cal.times.period → AreUsual s h
+
+-- while all is as usual each was
+pub few_of_calm : (s : Setting) (k : ℕ) (h : List Tick) → Calm s h → HasFew s k h
+few_of_calm s k h calm = record {
+  bits = [];
+  good = wrongs (moments_of s h);
+  are = refl;
+  none_bad = calm.right;
+  few = omega arith;
+  usual = λ within. calm.answers;
+}
+
+-- where a period isn't over no period has ended
+none_ended : (k period t : ℕ) → 0 < period → t ≤ k * period → t / period - k ≡ 0
+none_ended k period t h le = let low : t / period < k + 1 = (div-lt_iff_lt-mul h).1 (omega arith) in omega arith
+
+some_begun : (k period t : ℕ) → 0 < period → k * period ≤ t → k ≤ t / period
+some_begun k period t h le = (le-div_iff_mul-le h).1 le
+
+no_less : (period t : ℕ) → 0 < period → t / period ≤ suc t / period
+no_less period t h = (le-div_iff_mul-le h).1 (let f = div-mul-le_self t period in omega arith)
+
+closes : (period t : ℕ) → 0 < period → (t + 1) % period ≡ 0 → suc t / period ≡ t / period + 1
+closes period t h ends = ap (λ n. n / period) (one_more t) ∙ period_closes period t h ends
+  where
+    one_more : (t : ℕ) → suc t ≡ t + 1
+    one_more t = omega arith
+
+still_few : (b q q' k : ℕ) → b ≤ q - k → q ≤ q' → b ≤ q' - k
+still_few b q q' k few grows = omega arith
+
+one_few : (b q q' k : ℕ) → b ≤ q - k → q' ≡ q + 1 → k ≤ q → suc b ≤ q' - k
+one_few b q q' k few grows begun = omega arith
+
+under : (b q k m : ℕ) → b ≤ q - k → q < k + m → 0 < m → b < m
+under b q k m few early some = omega arith
+
+nothing : (bits : List Bool) → length bits ≤ 0 → bits ≡ []
+nothing [] l = refl
+nothing (b ∷ bits) l = absurd (omega arith)
+
+-- a tick between the send tick of period p and its end sends nothing
+not_sent : (times : TimeParts) (p t : ℕ) → p * times.period + times.send < t → t < (p + 1) * times.period →
+    usual_mark times t ≡ Absent
+not_sent times p t low high = go (t - p * times.period) (omega arith) (omega arith) (omega arith)
+  where
+    go : (r : ℕ) → t ≡ p * times.period + r → times.send < r → r < times.period →
+        (if t % times.period == times.send then Good else Absent) ≡ Absent
+    go r at more room =
+        rw (ap (λ n. n % times.period) at ∙ mod-mul-add p times.period r room, ne_eqb r times.send (λ e. omega arith)) refl
+
+-- one tick more, at which no answer is sent, past the send tick of the period before
+few_more : (s : Setting) → AreTimes s.cal.times → (p : ℕ) (x : Tick) (h : List Tick) → IsRegular x.effects →
+    (moment s x.effects x.entry (moments_of s h)).mark ≡ Absent →
+    p * s.cal.times.period + s.cal.times.send < length h → HasFew s (p + 1) h → HasFew s (p + 1) (x ∷ h)
+unfolding moments_of
+few_more s are p x h regular absent later was = elim (before_or_past (length h + 1) ((p + 1) * s.cal.times.period)) [
+  | inl before ↦ early before
+  | inr past_it ↦ late ((length h + 1) % s.cal.times.period) refl m.verdict refl (omega arith)
+]
+  where
+    past : List Moment
+    past = moments_of s h
+
+    m : Moment
+    m = moment s x.effects x.entry past
+
+    before_or_past : (n l : ℕ) → (n ≤ l) ⊎ (l < n)
+    before_or_past n l = grind arith
+
+    some : 0 < s.cal.times.period
+    some = period_least s.cal.times are
+
+    early : length h + 1 ≤ (p + 1) * s.cal.times.period → HasFew s (p + 1) (x ∷ h)
+    early before = record {
+      bits = [];
+      good = with_wrong m.verdict (wrongs past);
+      are = wrongs-cons m past;
+      none_bad = right_bits m.verdict (wrongs past) (subst IsNotWrong (sym (moment-verdict s x.effects x.entry past))
+          (verdict_usual s are x h regular.judged usual)) (subst AllGood (sym (was.are ∙ ap (λ bits. bits ++ was.good) empty)) was.none_bad);
+      few = omega arith;
+      usual = λ within. usual;
+    }
+      where
+        empty : was.bits ≡ []
+        empty = nothing was.bits (let none = none_ended (p + 1) s.cal.times.period (length h) some (omega arith) in let few = was.few in omega arith)
+
+        usual : AreUsual s (x ∷ h)
+        usual = unfold AreUsual in (absent ∙ sym (not_sent s.cal.times p (length h) later (omega arith)), was.usual (omega arith))
+
+    late : (r : ℕ) → (length h + 1) % s.cal.times.period ≡ r → (v : Option Verdict) → m.verdict ≡ v → (p + 1) * s.cal.times.period ≤ length h →
+        HasFew s (p + 1) (x ∷ h)
+    late r ends None is over = record {
+      bits = was.bits;
+      good = was.good;
+      are = wrongs-cons m past ∙ ap (λ v. with_wrong v (wrongs past)) is ∙ (unfold with_wrong in was.are);
+      none_bad = was.none_bad;
+      few = still_few (length was.bits) _ _ (p + 1) was.few (no_less s.cal.times.period (length h) some);
+      usual = λ within. absurd (omega arith);
+    }
+    late (suc r) ends (Some v) is over = absurd (let none : m.verdict ≡ None = moment-verdict s x.effects x.entry past
+        ∙ verdict_none s.cal.times are x.effects m.mark past (subst (λ n. 0 < (n + 1) % s.cal.times.period) (sym (length-moments s h)) (omega arith)) in
+        let both : Some v ≡ None = sym is ∙ none in cc)
+    late zero ends (Some v) is over = record {
+      bits = is_wrong v ∷ was.bits;
+      good = was.good;
+      are = wrongs-cons m past ∙ ap (λ v. with_wrong v (wrongs past)) is ∙ (unfold with_wrong in ap (λ bits. is_wrong v ∷ bits) was.are);
+      none_bad = was.none_bad;
+      few = one_few (length was.bits) _ _ (p + 1) was.few (closes s.cal.times.period (length h) some ends)
+          (some_begun (p + 1) s.cal.times.period (length h) some over);
+      usual = λ within. absurd (omega arith);
+    }
+
+-- and so many ticks more
+pub few_on : (s : Setting) → AreTimes s.cal.times → (p : ℕ) (more h : List Tick) → AreRegular more →
+    Unanswered s more h → p * s.cal.times.period + s.cal.times.send < length h → HasFew s (p + 1) h →
+    HasFew s (p + 1) (more ++ h)
+unfolding Each Unanswered
+few_on s are p [] h regular none later was = was
+few_on s are p (x ∷ more) h regular none later was =
+    few_more s are p x (more ++ h) regular.0 none.0 (longer more)
+    (few_on s are p more h regular.1 none.1 later was)
+  where
+    longer : (more : List Tick) → p * s.cal.times.period + s.cal.times.send < length (more ++ h)
+    longer more = let size = length-append more h in omega arith
+
+-- until as many periods have ended as confirm, path 2 isn't open
+pub still_shut : (s : Setting) → 0 < s.cal.times.period → 0 < s.cal.times.weights.up → 0 < s.cal.times.weights.limit →
+    (k : ℕ) (h : List Tick) → HasFew s k h → NoneOpens h →
+    length h < (k + feeds_to_confirm s.cal.times.weights) * s.cal.times.period → latch2 (moments_of s h) ≡ false
+unfolding feeds_to_confirm
+still_shut s some up limit k h few shut early =
+    shut_unless_confirmed s h shut
+    (subst (λ bits. is_confirmed s.cal.times.weights bits ≡ false) (sym few.are)
+    (too_few s.cal.times.weights few.bits few.good limit few.none_bad
+    (quotient_short s.cal.times.weights.limit s.cal.times.weights.up (length few.bits) limit up
+    (under (length few.bits) (length h / s.cal.times.period) k _ few.few ((div-lt_iff_lt-mul some).1 early)
+    (quotient_positive s.cal.times.weights.limit s.cal.times.weights.up limit up)))))

@@ -1,0 +1,216 @@
+-- R and as many ticks as confirm is the least bound under lapses: the history that shows it.
+use Rattle.std.proofs.Common.{◌≡◌, ℕ, zero, suc, ◌+◌, ◌-◌, ◌*◌, ◌≤◌, ◌<◌, ◌%◌, Bool, true, false, not, ◌||◌, ◌&&◌, List, [], ◌∷◌, ◌++◌, length, take, replicate, refl, sym, ap, ap₂, ◌∙◌, subst, arith, length-append}
+use Rattle.std.specs.Prelude.{if◌then◌else◌, ◌==◌}
+use Rattle.std.specs.List.{list_all}
+use Rattle.std.proofs.lemmas.Bool.{and_from, and_left, and_right, or_from}
+use Rattle.std.proofs.lemmas.List.{length-replicate}
+use Rattle.std.proofs.lemmas.List.Elements.{All-cons, All-nil, All-append, All-replicate}
+use Rattle.eg_num.specs.Windows.{WeightParts, is_confirmed}
+use Rattle.eg_torque.specs.Excess.{is_excess}
+use Rattle.eg_answer.specs.Times.{TimeParts, feeds_to_confirm, reaction_of}
+use Rattle.eg_answer.specs.declared.marks.AnswerMark.TheVariants.{Absent, Good, Bad}
+use Rattle.eg_values.specs.Calibration.{CalibrationParts, IsAccepted}
+use Rattle.eg_fault.specs.Effects.{no_effects, sends_at}
+use Rattle.eg_fault.specs.Faults.{does, is_left_out, IsValidClass, IsNoneOrValid}
+use Rattle.eg_model.specs.History.{Setting, Tick, Moment}
+use Rattle.eg_model.specs.Signals.{tripped}
+use Rattle.eg_model.specs.Answers.{is_sent, is_good, mark_at}
+use Rattle.eg_model.specs.Paths.{latch2, path1_at, path2_at, on_at}
+use Rattle.eg_model.specs.Moments.{moments_of, limit_at}
+use Rattle.eg_model.specs.Premises.{AreProper}
+use Rattle.eg_laws.specs.LeastReaction.{CanExceed, GoesOn, ShowsWord, quiet, exceeding}
+use Rattle.eg_laws.specs.LeastLapse.{RunsFit, least_lapse_bound, lapse_onset, missing_all, lapse_setting, before_lapse, missed_excess, Lasts, ExcessLastsSoLong, LapseBoundIsLeast}
+use Rattle.eg_model.proofs.TickLemmas.{Each, moment-mark, tripped-cons}
+use Rattle.eg_model.proofs.Silence.{AreRegular, send_within}
+use Rattle.eg_model.proofs.ReactionLaw.{Unanswered}
+use Rattle.eg_model.proofs.SharpCutLaw.{Calm, calm_until, latch1_shut}
+use Rattle.eg_laws.proofs.FewVerdicts.{NoneOpens, HasFew, few_of_calm, few_on, still_shut}
+use Rattle.eg_model.proofs.LapseRuns.{AllOrNone, trip_out, AllExceed}
+use Rattle.eg_laws.proofs.ExcessTicks.{follows_plain, follows_alike, ticks_shut, true_excesses-cons, many_positive, all_bits, all_plain, unconfirmed, loaded_proper, all_go_on, all_words, all_proper, size, period_positive, reaction_is}
+
+-- ---- a tick that level 2 misses ----
+
+missed_out : AllOrNone (does missing_all 0)
+unfolding does no_effects is_left_out
+missed_out = record {
+  runs = false;
+  ran = λ i. refl;
+  unflipped = refl;
+  undisturbed = λ i. refl;
+  sound = λ i v. refl;
+  regular = record { sends = refl; judged = refl };
+  obeys = λ path. refl;
+}
+
+always_out : (k : ℕ) → is_left_out (0 ∷ []) 1 k ≡ true
+unfolding is_left_out
+always_out k = ap (λ n. (0 == n) || false) (one k)
+  where
+    one : (k : ℕ) → k % 1 ≡ 0
+    one k = omega arith
+
+same_always : (k : ℕ) → does missing_all k ≡ does missing_all 0
+unfolding does
+same_always k = ap (λ out. record no_effects { ran = λ i. not out }) (always_out k ∙ sym (always_out 0))
+
+never_sent : (times : TimeParts) (trip : Bool) (past : List Moment) → mark_at times (does missing_all 0) trip past ≡ Absent
+unfolding mark_at is_sent does no_effects is_left_out
+never_sent times trip past =
+    ap (λ sent. if sent then (if is_good (does missing_all 0) past then Good else Bad) else Absent)
+    (and_left _ _ (and_right (sends_at (does missing_all 0) times (length past)) false refl))
+
+-- ---- one tick more of excess ----
+
+more_exceed : (s : Setting) (x : Tick) (h : List Tick) (k m : ℕ) → m ≡ suc k →
+    is_excess x.entry.shown.torque (limit_at s.cal x.entry.drive) s.cal.rules.threshold ≡ true →
+    AllExceed s k h → AllExceed s m (x ∷ h)
+more_exceed s x h k m same now before = subst (λ n. AllExceed s n (x ∷ h)) (sym same)
+    (subst (λ bits. list_all (λ b. b) (take (suc k) bits) ≡ true) (sym (true_excesses-cons s x h)) (and_from _ _ now before))
+
+-- ---- the history ----
+
+module _ (cal : CalibrationParts) (accepted : IsAccepted cal) (fit : RunsFit cal) (can : CanExceed cal) where
+  abbrev s : Setting
+  s = lapse_setting cal
+
+  abbrev torque : WeightParts
+  torque = cal.rules.torque
+
+  abbrev many : ℕ
+  many = feeds_to_confirm torque
+
+  abbrev first_quiet : ℕ
+  first_quiet = lapse_onset cal + 1 - many
+
+  abbrev base : List Tick
+  base = before_lapse cal can.drive can.load
+
+  abbrev miss : Tick
+  miss = missed_excess cal can.drive can.load
+
+  abbrev whole : ℕ → List Tick
+  whole n = replicate n miss ++ base
+
+  onset_is : lapse_onset cal ≡ cal.times.period + cal.times.send + 1
+  onset_is = unfold lapse_onset in omega arith
+
+  some : 0 < many
+  some = many_positive s accepted can first_quiet
+
+  less : many - 1 < many
+  less = let a = some in omega arith
+
+  size_base : length base ≡ lapse_onset cal
+  size_base = size s accepted can first_quiet (many - 1)
+      ∙ (let a = some in let b = fit in let c = onset_is in omega arith)
+
+  size_whole : (n : ℕ) → length (whole n) ≡ n + lapse_onset cal
+  size_whole n = length-append (replicate n miss) base ∙ ap₂ (λ a b. a + b) (length-replicate n miss) size_base
+
+  calm : Calm s base
+  calm = calm_until s accepted base (all_plain s accepted can first_quiet (many - 1))
+      (all_proper s accepted can first_quiet (many - 1) (let a = less in omega arith))
+      (ap (is_confirmed torque) (all_bits s accepted can first_quiet (many - 1)).1
+      ∙ unconfirmed s accepted can first_quiet (many - 1) less)
+
+  untripped : (n : ℕ) → tripped (moments_of s (whole n)) ≡ false
+  unfolding moments_of missed_out
+  untripped zero = calm.untripped
+  untripped (suc n) = tripped-cons _ (moments_of s (whole n))
+      ∙ or_from _ _ (trip_out s miss (moments_of s (whole n)) missed_out refl) (untripped n)
+
+  unanswered : (n : ℕ) → Unanswered s (replicate n miss) base
+  unfolding Unanswered
+  unanswered zero = tt
+  unanswered (suc n) = (
+    moment-mark s (does missing_all 0) miss.entry (moments_of s (whole n)) ∙ never_sent cal.times _ (moments_of s (whole n)),
+    unanswered n,
+  )
+
+  regular : (n : ℕ) → AreRegular (replicate n miss)
+  unfolding Each
+  regular zero = tt
+  regular (suc n) = (missed_out.regular, regular n)
+
+  none_opens : (n : ℕ) → NoneOpens (whole n)
+  unfolding Each
+  none_opens zero = ticks_shut s accepted can first_quiet (many - 1)
+  none_opens (suc n) = (unfold does no_effects in refl, none_opens n)
+
+  few : (n : ℕ) → HasFew s (1 + 1) (whole n)
+  few n = few_on s accepted.times 1 (replicate n miss) base (regular n) (unanswered n)
+      (let a = size_base in let b = onset_is in omega arith) (few_of_calm s (1 + 1) base calm)
+
+  shut : (n : ℕ) → n < reaction_of cal.times → latch2 (moments_of s (whole n)) ≡ false
+  shut n early = still_shut s (period_positive s accepted can first_quiet) (let a = accepted.answers.0 in omega arith)
+      (let a = accepted.answers.3 in omega arith) (1 + 1) (whole n) (few n) (none_opens n)
+      (law (length (whole n)) n (reaction_of cal.times) (feeds_to_confirm cal.times.weights) cal.times.period cal.times.send
+      (reaction_is s accepted can first_quiet) (size_whole n ∙ ap (λ k. n + k) onset_is) early)
+    where
+      law : (l n r c period send : ℕ) → r + send + 1 ≡ (c + 1) * period → l ≡ n + (period + send + 1) →
+          n < r → l < (1 + 1 + c) * period
+      law l n r c period send is long early = grind arith
+
+  on : (n : ℕ) → n < reaction_of cal.times → on_at (does missing_all 0) (moments_of s (whole n)) ≡ true
+  unfolding on_at path1_at path2_at does no_effects
+  on n early = ap₂ (λ a b. not a && not b) (latch1_shut s (whole n) (untripped n)) (shut n early)
+
+  proper : (n : ℕ) → n ≤ reaction_of cal.times → AreProper s (whole n)
+  unfolding AreProper
+  proper zero within = all_proper s accepted can first_quiet (many - 1) (let a = less in omega arith)
+  proper (suc n) within =
+      (loaded_proper s accepted can first_quiet (does missing_all 0) _ (on n (omega arith)), proper n (omega arith))
+
+  base_exceeds : (j : ℕ) → AllExceed s j (replicate j (exceeding cal can.drive can.load) ++ replicate first_quiet (quiet no_effects can.drive))
+  base_exceeds zero = refl
+  base_exceeds (suc j) = more_exceed s (exceeding cal can.drive can.load) _ j (suc j) refl can.exceeds (base_exceeds j)
+
+  exceeds : (n m : ℕ) → m ≡ n + (many - 1) → AllExceed s m (whole n)
+  exceeds zero m is = subst (λ k. AllExceed s k base) (let e = is in omega arith) (base_exceeds (many - 1))
+  exceeds (suc n) m is =
+      more_exceed s miss (whole n) (n + (many - 1)) m (omega arith) can.exceeds (exceeds n (n + (many - 1)) refl)
+
+  bound_is : least_lapse_bound cal ≡ reaction_of cal.times + many
+  bound_is = unfold least_lapse_bound in omega arith
+
+  lasts : Lasts s (whole (reaction_of cal.times)) (least_lapse_bound cal - 1)
+  lasts = record {
+    follows = follows_alike (record { onset = lapse_onset cal; class = missing_all }) miss same_always (reaction_of cal.times) base
+        (let a = size_base in omega arith)
+        (follows_plain (record { onset = lapse_onset cal; class = missing_all }) base
+        (all_plain s accepted can first_quiet (many - 1)) (let a = size_base in omega arith));
+    proper = proper (reaction_of cal.times) (omega arith);
+    goes_on = All-append GoesOn (replicate (reaction_of cal.times) miss) base
+        (All-replicate GoesOn (reaction_of cal.times) miss can.goes_on) (all_go_on s accepted can first_quiet (many - 1));
+    words = All-append ShowsWord (replicate (reaction_of cal.times) miss) base
+        (All-replicate ShowsWord (reaction_of cal.times) miss (can.is_word, can.is_word))
+        (all_words s accepted can first_quiet (many - 1));
+    exceeds = record {
+      within = (let a = size_whole (reaction_of cal.times) in let b = bound_is in let c = onset_is in let d = fit in omega arith);
+      each = exceeds (reaction_of cal.times) (least_lapse_bound cal - 1)
+          (let a = bound_is in let b = some in omega arith);
+    };
+  }
+
+  valid : IsNoneOrValid s.fault
+  unfolding IsNoneOrValid IsValidClass
+  valid = (
+    (let a = onset_is in let b = accepted.times.longest in let c = send_within cal.times accepted.times in omega arith),
+    (
+      (omega arith, omega arith),
+      All-cons (λ k. k ≤ 19999) 0 [] (omega arith) (All-nil (λ k. k ≤ 19999)),
+      (λ k l. absurd (omega arith)),
+      omega arith,
+    ),
+  )
+
+pub excess_lasts_so_long : ExcessLastsSoLong
+excess_lasts_so_long cal accepted fit can = (valid cal accepted fit can, lasts cal accepted fit can)
+
+pub lapse_bound_is_least : LapseBoundIsLeast
+lapse_bound_is_least cal accepted fit can bound stay =
+    let these = lasts cal accepted fit can in
+    let below : least_lapse_bound cal - 1 < bound =
+    stay (lapse_setting cal) refl (record { onset = lapse_onset cal; after = 0 ∷ []; every = 1; is = refl }) 0 _
+    these.follows these.proper (least_lapse_bound cal - 1) these.exceeds in
+    omega arith

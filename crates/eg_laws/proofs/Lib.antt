@@ -1,0 +1,12 @@
+pub mod Worked
+pub mod FewVerdicts
+pub mod ExcessTicks
+pub mod LeastLaw
+pub mod MissWeights
+pub mod MissTicks
+pub mod SingleMisses
+pub mod MissVerdicts
+pub mod AvailabilityLaws
+pub mod AvailabilityRecords
+pub mod ShortStretches
+pub mod LeastLapseLaw

@@ -1,0 +1,222 @@
+-- Under lapses an answer at which a stretch of excess is as long as the runs that confirm it isn't good, so
+-- where these runs fit into a period the stretch is soon over.
+use Rattle.std.proofs.Common.{◌≡◌, ◌≢◌, ℕ, zero, suc, ◌+◌, ◌-◌, ◌*◌, ◌/◌, ◌%◌, ◌≤◌, ◌<◌, Bool, true, false, List, [], ◌∷◌, ◌++◌, length, refl, sym, ap, ◌∙◌, subst, arith, inl, inr, ◌⊎◌, length-append}
+use Rattle.std.specs.Prelude.{if◌then◌else◌, ◌==◌}
+use Rattle.std.proofs.lemmas.Bool.{ne_eqb, and_parts}
+use Rattle.eg_answer.specs.Times.{TimeParts, feeds_to_confirm, reaction_of}
+use Rattle.eg_answer.specs.declared.marks.AnswerMark.TheVariants.{Absent, Good}
+use Rattle.eg_values.specs.Calibration.{CalibrationParts, IsAccepted}
+use Rattle.eg_fault.specs.declared.paths.TheConstants.{PATH_2}
+use Rattle.eg_model.specs.History.{Setting, Tick, Moment}
+use Rattle.eg_model.specs.Signals.{tripped}
+use Rattle.eg_model.specs.Detection.{fed_bits, torque_bit}
+use Rattle.eg_model.specs.Answers.{whole_since_answer, mark_at}
+use Rattle.eg_model.specs.Moments.{moment, moments_of}
+use Rattle.eg_model.specs.Rows.{row_of, rows_of}
+use Rattle.eg_record.specs.Excess.{true_excess}
+use Rattle.eg_model.specs.Premises.{AreProper, Follows, is_on_after, true_excesses}
+use Rattle.eg_model.specs.Lapses.{IsLapse, Exceeds}
+use Rattle.eg_laws.specs.LeastLapse.{RunsFit, least_lapse_bound, StretchesAreShorter}
+use Rattle.eg_model.proofs.TickLemmas.{Each, Each-map, length-moments, moment-mark, moment-whole, untripped_before}
+use Rattle.eg_model.proofs.TripLemmas.{off_by_latch1}
+use Rattle.eg_model.proofs.Silence.{AreRegular, TrueRun, NoGood, sent_at_place, run_confirms, off_after_silence}
+use Rattle.eg_model.proofs.LapseRuns.{AllOrNone, AllOrNoneEach, lapse_all_or_none, trip_opens, trip_from_fed, runs_in, runs_in-cons, AllExceed, runs_find}
+use Rattle.eg_model.proofs.LapseAnswers.{is_good_mark, absent_off_place, whole_before, whole_where_good}
+use Rattle.eg_model.proofs.LapseWeights.{all_of_fewer, rounded_up}
+use Rattle.eg_model.proofs.LapseLaw.{exceed_behind, off_no_excess, lapsing_history}
+use Rattle.eg_model.proofs.ReactionLaw.{Split, split}
+use Rattle.eg_laws.proofs.FewVerdicts.{quotient_positive}
+
+-- fewer than a period before a send tick none is
+not_again : (times : TimeParts) (t i : ℕ) → t % times.period ≡ times.send → i < t → t < i + times.period →
+    (i % times.period == times.send) ≡ false
+not_again times t i at before near = ne_eqb (i % times.period) times.send
+    (λ same. apart (t / times.period) (i / times.period) times.period times.send t i (omega arith) (omega arith) before near)
+  where
+    apart : (q k period send t i : ℕ) → t ≡ q * period + send → i ≡ k * period + send → i < t → t < i + period → ⊥
+    apart q k period send t i e f before near =
+        more q k period (less q k period (omega arith)) (omega arith)
+      where
+        less : (q k period : ℕ) → k * period < q * period → k < q
+        less q k period l = grind arith
+
+        next : (q k period : ℕ) → k + 1 ≤ q → (k + 1) * period ≤ q * period
+        next q k period l = grind arith
+
+        more : (q k period : ℕ) → k < q → q * period < k * period + period → ⊥
+        more q k period l m = let n = next q k period (omega arith) in omega arith
+
+-- where all modules ran since the last answer, they ran at each tick since the last send tick
+all_ran : (s : Setting) (h : List Tick) → AreRegular h → (k : ℕ) → k ≤ length h →
+    ((i : ℕ) → length h ≤ i + k → i < length h → (i % s.cal.times.period == s.cal.times.send) ≡ false) →
+    whole_since_answer (moments_of s h) ≡ true → runs_in k (moments_of s h) ≡ k
+unfolding Each moments_of
+all_ran s h regular zero within off whole = unfold runs_in in refl
+all_ran s [] regular (suc k) within off whole = absurd (omega arith)
+all_ran s (x ∷ h) regular (suc k) within off whole =
+    runs_in-cons k m past
+    ∙ ap (λ b. if b then suc (runs_in k past) else runs_in k past) both.0
+    ∙ ap suc (all_ran s h regular.1 k (omega arith) (λ i low high. off i (omega arith) (omega arith)) both.1)
+  where
+    past : List Moment
+    past = moments_of s h
+
+    m : Moment
+    m = moment s x.effects x.entry past
+
+    absent : m.mark ≡ Absent
+    absent = moment-mark s x.effects x.entry past
+        ∙ absent_off_place s.cal.times x.effects m.trip past regular.0
+        (ap (λ n. n % s.cal.times.period == s.cal.times.send) (length-moments s h) ∙ off (length h) (omega arith) (omega arith))
+
+    both : (m.whole ≡ true) × (whole_since_answer past ≡ true)
+    both = whole_before m past absent whole
+
+-- ---- a stretch as long as the runs that confirm it ----
+
+module _ (s : Setting) (accepted : IsAccepted s.cal) (fit : RunsFit s.cal) where
+  abbrev many : ℕ
+  many = feeds_to_confirm s.cal.rules.torque
+
+  -- where level 2 ran at so many ticks of it a trip has come
+  trip_from_runs : (h : List Tick) → AllOrNoneEach h → AreProper s h → AllExceed s many h →
+      runs_in many (moments_of s h) ≡ many → tripped (moments_of s h) ≡ true
+  trip_from_runs h each proper exceed ran = go (tripped (moments_of s h)) refl
+    where
+      go : (b : Bool) → tripped (moments_of s h) ≡ b → tripped (moments_of s h) ≡ true
+      go true u = u
+      go false u = trip_from_fed s h
+          (run_confirms s.cal.rules.torque many (fed_bits torque_bit (moments_of s h))
+          (let f = accepted.torque.3 in omega arith)
+          (unfold feeds_to_confirm in rounded_up s.cal.rules.torque.limit s.cal.rules.torque.up (let f = accepted.torque.0 in omega arith))
+          (subst (λ n. TrueRun n (fed_bits torque_bit (moments_of s h))) ran (runs_find s accepted h each proper many exceed u)))
+
+  -- so an answer there isn't good
+  not_good : (x : Tick) (h : List Tick) → AllOrNoneEach (x ∷ h) → AreProper s (x ∷ h) → AllExceed s many (x ∷ h) →
+      0 < many → many ≤ suc (length h) → tripped (moments_of s (x ∷ h)) ≡ false →
+      (moment s x.effects x.entry (moments_of s h)).mark ≢ Good
+  unfolding Each moments_of
+  not_good x h each proper exceed some within untripped good = absurd
+      (let trip : tripped (moments_of s (x ∷ h)) ≡ true = trip_from_runs (x ∷ h) each proper exceed ran in
+      let both : true ≡ false = sym trip ∙ untripped in cc)
+    where
+      past : List Moment
+      past = moments_of s h
+
+      m : Moment
+      m = moment s x.effects x.entry past
+
+      marked : mark_at s.cal.times x.effects m.trip past ≡ Good
+      marked = sym (moment-mark s x.effects x.entry past) ∙ good
+
+      place : length h % s.cal.times.period ≡ s.cal.times.send
+      place = ap (λ n. n % s.cal.times.period) (sym (length-moments s h))
+          ∙ sent_at_place s.cal.times x.effects m.trip past each.0.regular
+          (λ absent. let both : Good ≡ Absent = sym marked ∙ absent in cc)
+
+      whole : (m.whole ≡ true) × (whole_since_answer past ≡ true)
+      whole = (let both = whole_where_good s.cal.times x.effects m.trip past (unfold is_good_mark in ap is_good_mark marked) in
+          (moment-whole s x.effects x.entry past ∙ both.0, both.1))
+
+      go : (k : ℕ) → k ≡ many → 0 < k → runs_in k (m ∷ past) ≡ k
+      go zero is none = absurd (omega arith)
+      go (suc k) is none = runs_in-cons k m past
+          ∙ ap (λ b. if b then suc (runs_in k past) else runs_in k past) whole.0
+          ∙ ap suc (all_ran s h (Each-map (λ y one. one.regular) h each.1) k (omega arith)
+          (λ i low high. not_again s.cal.times (length h) i place high (let f = fit in omega arith)) whole.1)
+
+      ran : runs_in many (m ∷ past) ≡ many
+      ran = go many refl some
+
+  -- none of the ticks after so many has a good answer
+  silence : (front back : List Tick) → AllOrNoneEach (front ++ back) → AreProper s (front ++ back) → 0 < many →
+      many ≤ length back + 1 →
+      AllExceed s (length front + (many - 1)) (front ++ back) → tripped (moments_of s (front ++ back)) ≡ false →
+      NoGood s front back
+  unfolding NoGood Each AreProper moments_of true_excesses rows_of
+  silence [] back each proper some within exceed untripped = tt
+  silence (x ∷ front) back each proper some within exceed untripped = (
+    not_good x (front ++ back) each proper
+        (all_of_fewer (λ b. b) many (length (x ∷ front) + (many - 1)) (true_excesses s (x ∷ front ++ back)) (omega arith) exceed) some
+        (let size = length-append front back in omega arith) untripped,
+    silence front back each.1 proper.1 some within
+        (exceed_behind s (x ∷ []) (front ++ back) (length (x ∷ front) + (many - 1)) (length front + (many - 1)) (omega arith) exceed)
+        (untripped_before _ (moments_of s (front ++ back)) untripped),
+  )
+
+  off_by_then : (x : Tick) (front back : List Tick) → AllOrNone x.effects → AllOrNoneEach (front ++ back) →
+      AreProper s (front ++ back) → 0 < many → many ≤ length back + 1 →
+      AllExceed s (length front + (many - 1)) (front ++ back) → reaction_of s.cal.times ≤ length front →
+      is_on_after s (front ++ back) x ≡ false
+  off_by_then x front back one each proper some within exceed long = go (tripped (moments_of s (front ++ back))) refl
+    where
+      go : (b : Bool) → tripped (moments_of s (front ++ back)) ≡ b → is_on_after s (front ++ back) x ≡ false
+      go true u = unfold is_on_after in
+          off_by_latch1 s x.effects x.entry (moments_of s (front ++ back)) (one.obeys 1) (trip_opens s (front ++ back) each u)
+      go false u = off_after_silence s accepted.times (let a = accepted.answers.0 in omega arith)
+          (let a = accepted.answers.3 in omega arith) front back
+          (Each-map (λ y one. one.regular) (front ++ back) each)
+          (silence front back each proper some within exceed u) long x (one.obeys PATH_2)
+
+-- ---- the law ----
+
+less_or : (a b : ℕ) → (a < b) ⊎ (b ≤ a)
+less_or a b = grind arith
+
+runs_positive : (s : Setting) → IsAccepted s.cal → 0 < feeds_to_confirm s.cal.rules.torque
+unfolding feeds_to_confirm
+runs_positive s accepted = quotient_positive s.cal.rules.torque.limit s.cal.rules.torque.up
+    (let a = accepted.torque.3 in omega arith) (let a = accepted.torque.0 in omega arith)
+
+bound_is : (cal : CalibrationParts) → least_lapse_bound cal ≡ reaction_of cal.times + feeds_to_confirm cal.rules.torque
+unfolding least_lapse_bound
+bound_is cal = omega arith
+
+too_long : (s : Setting) → IsAccepted s.cal → RunsFit s.cal → IsLapse s.fault → (start : ℕ) (h : List Tick) →
+    Follows s.fault start h → AreProper s h → (m : ℕ) → Exceeds s m h → least_lapse_bound s.cal ≤ m → ⊥
+unfolding Follows AreProper true_excesses moments_of rows_of row_of true_excess is_on_after
+too_long s accepted fit lapse start [] follows proper m exceed long =
+    absurd (let w = exceed.within in let some = runs_positive s accepted in let b = bound_is s.cal in omega arith)
+too_long s accepted fit lapse start (x ∷ h) follows proper m exceed long =
+    off_no_excess s x (moments_of s h) proper.0 off (and_parts _ _ now).0
+  where
+    some : 0 < feeds_to_confirm s.cal.rules.torque
+    some = runs_positive s accepted
+
+    bound : least_lapse_bound s.cal ≡ reaction_of s.cal.times + feeds_to_confirm s.cal.rules.torque
+    bound = bound_is s.cal
+
+    now : AllExceed s (suc (least_lapse_bound s.cal - 1)) (x ∷ h)
+    now = all_of_fewer (λ b. b) (suc (least_lapse_bound s.cal - 1)) m (true_excesses s (x ∷ h)) (let b = bound in let l = long in let p = some in omega arith) exceed.each
+
+    cut : Split h (length h - reaction_of s.cal.times)
+    cut = split h (length h - reaction_of s.cal.times) (omega arith)
+
+    sizes : length cut.front + length cut.back ≡ length h
+    sizes = sym (length-append cut.front cut.back) ∙ ap length cut.whole
+
+    long_front : least_lapse_bound s.cal - 1 ≡ length cut.front + (feeds_to_confirm s.cal.rules.torque - 1)
+    long_front = let w = exceed.within in let c = cut.size in let z = sizes in let b = bound in let l = long in
+        let p = some in omega arith
+
+    behind : AllExceed s (length cut.front + (feeds_to_confirm s.cal.rules.torque - 1)) h
+    behind = exceed_behind s (x ∷ []) h (suc (least_lapse_bound s.cal - 1))
+        (length cut.front + (feeds_to_confirm s.cal.rules.torque - 1)) (let e = long_front in omega arith) now
+
+    each : AllOrNoneEach (cut.front ++ cut.back)
+    each = rw cut.whole (lapsing_history s lapse start h follows.1)
+
+    off : (moment s x.effects x.entry (moments_of s h)).on ≡ false
+    off = subst (λ l. (moment s x.effects x.entry (moments_of s l)).on ≡ false) cut.whole
+        (off_by_then s accepted fit x cut.front cut.back
+        (subst AllOrNone (sym follows.0) (lapse_all_or_none s.fault lapse (start + length h))) each
+        (rw cut.whole proper.1) some (let w = exceed.within in let c = cut.size in let b = bound in let l = long in let p = some in omega arith)
+        (rw cut.whole behind)
+        (let w = exceed.within in let c = cut.size in let z = sizes in let b = bound in let l = long in let p = some in omega arith))
+
+pub stretches_are_shorter : StretchesAreShorter
+stretches_are_shorter cal accepted fit s is lapse start h follows proper m exceed = elim (less_or m (least_lapse_bound cal)) [
+  | inl less ↦ omega (arith, less)
+  | inr long ↦ absurd (too_long s (subst IsAccepted (sym is) accepted) (subst RunsFit (sym is) fit) lapse start h follows proper m exceed
+      (subst (λ c. least_lapse_bound c ≤ m) (sym is) long))
+]

@@ -1,0 +1,84 @@
+-- A lapse that leaves out one tick, or one every so many ticks: how far apart its misses lie.
+use Rattle.std.proofs.Common.{◌≡◌, ℕ, zero, suc, ◌+◌, ◌-◌, ◌*◌, ◌/◌, ◌%◌, ◌≤◌, ◌<◌, Bool, true, false, not, [], ◌∷◌, inl, inr, Some, refl, sym, ap, ◌∙◌, arith}
+use Rattle.std.specs.Prelude.{if◌then◌else◌, ◌==◌}
+use Rattle.std.proofs.lemmas.Bool.{or_cases, ne_eqb, eqb-true, true≢false}
+use Rattle.eg_answer.specs.Modules.{modules_before_react, modules}
+use Rattle.eg_fault.specs.Effects.{no_effects}
+use Rattle.eg_fault.specs.Faults.{is_left_out, does}
+use Rattle.eg_fault.specs.declared.class.Class.TheVariants.{Lapse}
+use Rattle.eg_fault.specs.declared.class.Fault.{Fault}
+use Rattle.eg_fault.proofs.ActingLemmas.{at_tick}
+use Rattle.eg_model.specs.Answers.{is_whole}
+use Rattle.eg_laws.specs.Availability.{misses_tick, SingleMissesAreSpaced}
+use Rattle.eg_model.proofs.SharpCutLaw.{whole_plain}
+
+whole_lapse : (out : Bool) → is_whole (record no_effects { ran = λ i. not out }) ≡ not out
+unfolding is_whole modules modules_before_react no_effects
+whole_lapse true = refl
+whole_lapse false = refl
+
+-- the number of a tick, from the onset on, by which it is left out
+unfoldable turn : (every k : ℕ) → ℕ
+turn every k = if every == 0 then k else k % every
+
+-- a tick that is missed comes at the onset or later, at the one number of the list
+record Comes (onset after every tick : ℕ) : Type 0 where
+  pub from : onset ≤ tick
+  pub place : after ≡ turn every (tick - onset)
+
+left_out : (after every k : ℕ) → not (is_whole (does (Lapse (after ∷ []) every) k)) ≡ true → after ≡ turn every k
+unfolding does is_left_out turn
+left_out after every k missed = elim (or_cases (after == (if every == 0 then k else k % every)) false (out (is_left_out (after ∷ []) every k) refl)) [
+  | inl same ↦ eqb-true _ _ same
+  | inr none ↦ absurd (true≢false (sym none))
+]
+  where
+    out : (b : Bool) → is_left_out (after ∷ []) every k ≡ b → is_left_out (after ∷ []) every k ≡ true
+    out true e = e
+    out false e = absurd (true≢false (sym missed ∙ ap (λ o. not (is_whole (record no_effects { ran = λ i. not o }))) e ∙ ap not (whole_lapse false)))
+
+comes : (onset after every tick : ℕ) → misses_tick (Some (record { onset = onset; class = Lapse (after ∷ []) every })) tick ≡ true →
+    Comes onset after every tick
+unfolding misses_tick
+comes onset after every tick missed = at_tick (λ x. not (is_whole x) ≡ true → Comes onset after every tick) fault tick
+    (λ early none. absurd (true≢false (sym none ∙ ap not whole_plain)))
+    (λ from out. record { from = from; place = left_out after every (tick - onset) out }) missed
+  where
+    fault : Fault
+    fault = record { onset = onset; class = Lapse (after ∷ []) every }
+
+once : (onset after first second : ℕ) → Comes onset after 0 first → Comes onset after 0 second → first < second → ⊥
+unfolding turn
+once onset after first second a b less = let p = a.place in let q = b.place in let l = a.from in let m = b.from in
+    omega (arith, p, q, l, m, less)
+
+-- two numbers of one place lie a whole turn apart
+turn_apart : (u v n : ℕ) → u % suc n ≡ v % suc n → u < v → u + suc n ≤ v
+turn_apart u v n same less = more (u / suc n) (v / suc n) (v % suc n) (omega (arith, same)) (omega arith)
+  where
+    further : (q k p r : ℕ) → q * p + r < k * p + r → q < k
+    further q k p r l = grind arith
+
+    more : (q k r : ℕ) → u ≡ q * suc n + r → v ≡ k * suc n + r → u + suc n ≤ v
+    more q k r e f = whole q k (suc n) r (further q k (suc n) r (omega (arith, e, f, less))) e f
+      where
+        whole : (q k p r : ℕ) → q < k → u ≡ q * p + r → v ≡ k * p + r → u + p ≤ v
+        whole q k p r l e f = grind arith
+
+every_turn : (onset after n first second : ℕ) → Comes onset after (suc n) first → Comes onset after (suc n) second → first < second →
+    first + suc n ≤ second
+unfolding turn
+every_turn onset after n first second a b less =
+    let apart = turn_apart (first - onset) (second - onset) n (sym (place first a) ∙ place second b) (omega (arith, a.from, less)) in
+    omega (arith, apart, a.from)
+  where
+    place : (tick : ℕ) → Comes onset after (suc n) tick → after ≡ (tick - onset) % suc n
+    place tick c = c.place ∙ ap (λ b. if b then tick - onset else (tick - onset) % suc n) (ne_eqb (suc n) 0 (λ e. omega (arith, e)))
+
+pub single_misses_are_spaced : SingleMissesAreSpaced
+single_misses_are_spaced onset after zero distance far first second one two less =
+    absurd (once onset after first second (comes onset after 0 first one) (comes onset after 0 second two) less)
+single_misses_are_spaced onset after (suc n) distance (inl none) first second one two less = absurd (omega (arith, none))
+single_misses_are_spaced onset after (suc n) distance (inr fits) first second one two less =
+    let apart = every_turn onset after n first second (comes onset after (suc n) first one) (comes onset after (suc n) second two) less in
+    omega (arith, apart, fits)

@@ -1,0 +1,83 @@
+-- The least bound for stretches of excess under lapses, where the runs of level 2 that confirm an excess fit
+-- into one period: R and as many ticks as confirm. (The bound of `Lapses` is greater, and holds of more
+-- calibrations.)
+use Rattle.std.specs.Prelude.{ℕ, ◌+◌, ◌-◌, ◌≤◌, List, [], ◌++◌, ◌∷◌, All, replicate, Some}
+use Rattle.eg_num.specs.Arithmetic.{estimate}
+use Rattle.eg_num.specs.Drive.{DriveRow}
+use Rattle.eg_answer.specs.Times.{feeds_to_confirm, reaction_of}
+use Rattle.eg_values.specs.Calibration.{CalibrationParts, IsAccepted}
+use Rattle.eg_fault.specs.Effects.{no_effects}
+use Rattle.eg_fault.specs.Faults.{does, IsNoneOrValid}
+use Rattle.eg_fault.specs.declared.class.Class.{Class}
+use Rattle.eg_fault.specs.declared.class.Class.TheVariants.{Lapse}
+use Rattle.eg_model.specs.History.{Setting, Tick}
+use Rattle.eg_model.specs.Premises.{AreProper, Follows}
+use Rattle.eg_model.specs.Lapses.{Exceeds, StretchesStayBelow}
+use Rattle.eg_laws.specs.LeastReaction.{CanExceed, GoesOn, ShowsWord, quiet, giving, exceeding}
+
+-- as many runs as confirm an excess fit into one period
+abbrev pub RunsFit : CalibrationParts → Type 0
+RunsFit cal = feeds_to_confirm cal.rules.torque ≤ cal.times.period
+
+-- the number of ticks
+unfoldable pub least_lapse_bound : CalibrationParts → ℕ
+least_lapse_bound cal = reaction_of cal.times + feeds_to_confirm cal.rules.torque
+
+-- Where the runs fit into a period this number is such a bound. An answer isn't good at which as many ticks
+-- of the stretch have passed as confirm the excess: level 2 would have run at all of them, and confirmed it.
+abbrev pub StretchesAreShorter : Type 0
+StretchesAreShorter =
+    (cal : CalibrationParts) → IsAccepted cal → RunsFit cal → StretchesStayBelow cal (least_lapse_bound cal)
+
+-- ---- the history that shows that no smaller number is ----
+
+-- level 2 misses every tick from the one on that comes after the send tick of the second period
+unfoldable pub lapse_onset : CalibrationParts → ℕ
+lapse_onset cal = cal.times.period + cal.times.send + 1
+
+-- the class of that lapse
+abbrev pub missing_all : Class
+missing_all = Lapse (0 ∷ []) 1
+
+abbrev pub lapse_setting : CalibrationParts → Setting
+lapse_setting cal = record {
+  cal = cal;
+  image = [];
+  fault = Some (record { onset = lapse_onset cal; class = missing_all });
+}
+
+-- up to there quiet ticks, and then one tick of excess less than would confirm it (newest first)
+abbrev pub before_lapse : CalibrationParts → DriveRow → (load : ℕ) → List Tick
+before_lapse cal drive load =
+    replicate (feeds_to_confirm cal.rules.torque - 1) (exceeding cal drive load)
+    ++ replicate (lapse_onset cal + 1 - feeds_to_confirm cal.rules.torque) (quiet no_effects drive)
+
+-- and after that ticks that level 2 misses, each with as much excess
+abbrev pub missed_excess : CalibrationParts → DriveRow → (load : ℕ) → Tick
+missed_excess cal drive load =
+    record { effects = does missing_all 0; entry = giving drive load (estimate cal.rules.kt load) }
+
+-- All ticks of h are ticks of one drive span of a run under the setting's fault, in which the engine keeps
+-- its laws and tells loads that are words; and there is true excess at each of the last n.
+pub record Lasts (s : Setting) (h : List Tick) (n : ℕ) : Type 0 where
+  pub follows : Follows s.fault 0 h
+  pub proper : AreProper s h
+  pub goes_on : All GoesOn h
+  pub words : All ShowsWord h
+  pub exceeds : Exceeds s n h
+
+-- so the excess lasts one tick less than the bound: those before the lapse, and R under it
+abbrev pub ExcessLastsSoLong : Type 0
+ExcessLastsSoLong =
+    (cal : CalibrationParts) → IsAccepted cal → RunsFit cal → (can : CanExceed cal) →
+    IsNoneOrValid (lapse_setting cal).fault
+    × Lasts (lapse_setting cal)
+    (replicate (reaction_of cal.times) (missed_excess cal can.drive can.load)
+    ++ before_lapse cal can.drive can.load)
+    (least_lapse_bound cal - 1)
+
+-- and where an excess can be confirmed at all no smaller number is a bound
+abbrev pub LapseBoundIsLeast : Type 0
+LapseBoundIsLeast =
+    (cal : CalibrationParts) → IsAccepted cal → RunsFit cal → CanExceed cal → (bound : ℕ) →
+    StretchesStayBelow cal bound → least_lapse_bound cal ≤ bound

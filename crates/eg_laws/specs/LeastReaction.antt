@@ -1,0 +1,114 @@
+-- R is the least number of ticks that can stand in the reaction theorem. Of each accepted calibration under
+-- which an excess can be confirmed at all there is a history, with path 1 closed and nothing else out of
+-- order, in which the stages are still on R - 1 ticks after the true excess was confirmed.
+use Rattle.std.specs.Prelude.{◌≡◌, ℕ, ◌+◌, ◌*◌, ◌-◌, ◌^◌, ◌≤◌, ◌<◌, true, false, List, [], ◌++◌, ◌∷◌, All, length, replicate, Some}
+use Rattle.eg_num.specs.Arithmetic.{estimate}
+use Rattle.eg_num.specs.Drive.{DriveRow, IsDrive}
+use Rattle.eg_num.specs.Windows.{is_first}
+use Rattle.eg_torque.specs.Excess.{is_excess}
+use Rattle.eg_answer.specs.Times.{feeds_to_confirm, periods_to_confirm, reaction_of}
+use Rattle.eg_values.specs.Calibration.{CalibrationParts, IsAccepted}
+use Rattle.eg_fault.specs.Effects.{Effects, no_effects}
+use Rattle.eg_fault.specs.Faults.{does, IsListed}
+use Rattle.eg_fault.specs.declared.class.Class.TheVariants.{Path1Closed}
+use Rattle.eg_model.specs.History.{Setting, Entry, Tick}
+use Rattle.eg_model.specs.Moments.{limit_at}
+use Rattle.eg_model.specs.Premises.{AreProper, Follows, is_on_after, true_excesses, IsExcessConfirmed}
+use Rattle.eg_model.specs.Reaction.{ReactsBy}
+
+-- ---- under which calibrations an excess can be confirmed ----
+
+-- some drive row within its limits, at which the unit isn't reset, and some load that is a word, whose torque
+-- is more than what the row permits and the threshold together
+pub record CanExceed (cal : CalibrationParts) : Type 0 where
+  pub drive : DriveRow
+  pub within : IsDrive drive
+  pub goes_on : drive.reset ≡ false
+  pub load : ℕ
+  pub is_word : load < 2 ^ 16
+  pub exceeds : is_excess (estimate cal.rules.kt load) (limit_at cal drive) cal.rules.threshold ≡ true
+
+-- what the engine tells on each track of the load is a word
+abbrev pub ShowsWord : Tick → Type 0
+ShowsWord x = (x.entry.shown.load_1 < 2 ^ 16) × (x.entry.shown.load_2 < 2 ^ 16)
+
+-- Without these none is ever confirmed, under any fault, where each load is a word: so this is the exact
+-- condition.
+abbrev pub NeedsCanExceed : Type 0
+NeedsCanExceed =
+    (s : Setting) → IsAccepted s.cal → (h : List Tick) → AreProper s h → All ShowsWord h →
+    IsExcessConfirmed s h → CanExceed s.cal
+
+-- ---- the history ----
+
+-- what comes in at a tick of it: the engine gives this torque, and tells this load on both tracks
+abbrev pub giving : DriveRow → (load torque : ℕ) → Entry
+giving drive load torque = record {
+  drive = drive;
+  slices = [];
+  shown = record { position = 0; load_1 = load; load_2 = load; torque = torque };
+}
+
+-- a quiet tick, at which there is no torque; and a tick of excess, with all the torque of the load
+abbrev pub quiet : Effects → DriveRow → Tick
+quiet x drive = record { effects = x; entry = giving drive 0 0 }
+
+abbrev pub exceeding : CalibrationParts → DriveRow → (load : ℕ) → Tick
+exceeding cal drive load =
+    record { effects = no_effects; entry = giving drive load (estimate cal.rules.kt load) }
+
+-- the last tick of excess: it comes right after a send tick, whose answer is still good, in a period before
+-- which there is room for all ticks of excess
+unfoldable pub last_excess : CalibrationParts → ℕ
+last_excess cal = periods_to_confirm cal.rules.torque cal.times * cal.times.period + cal.times.send + 1
+
+-- the ticks up to that one: quiet ones, and then as many with excess as confirm it (newest first)
+abbrev pub until_confirmed : CalibrationParts → DriveRow → (load : ℕ) → List Tick
+until_confirmed cal drive load =
+    replicate (feeds_to_confirm cal.rules.torque) (exceeding cal drive load)
+    ++ replicate (last_excess cal + 1 - feeds_to_confirm cal.rules.torque) (quiet no_effects drive)
+
+-- after that path 1 conducts, whatever react orders; level 1 has no image
+abbrev pub closed_setting : CalibrationParts → Setting
+closed_setting cal = record {
+  cal = cal;
+  image = [];
+  fault = Some (record { onset = last_excess cal + 1; class = Path1Closed });
+}
+
+-- and each tick is quiet
+abbrev pub quiet_after : DriveRow → Tick
+quiet_after drive = quiet (does Path1Closed 0) drive
+
+-- ---- the laws ----
+
+-- no drive row resets the unit: so a history of such ticks is one drive span of a run
+abbrev pub GoesOn : Tick → Type 0
+GoesOn x = x.entry.drive.reset ≡ false
+
+-- The tick x comes n ticks after the last of h, at which the true excess is first confirmed; `more` are the
+-- ticks between. All of them are ticks of one drive span of a run under the setting's fault, in which the
+-- engine keeps its laws and tells loads that are words; and the stages are on at x.
+pub record IsStillOn (s : Setting) (h more : List Tick) (x : Tick) (n : ℕ) : Type 0 where
+  pub follows : Follows s.fault 0 (x ∷ more ++ h)
+  pub proper : AreProper s (x ∷ more ++ h)
+  pub goes_on : All GoesOn (x ∷ more ++ h)
+  pub words : All ShowsWord (x ∷ more ++ h)
+  pub first : is_first s.cal.rules.torque (true_excesses s h) ≡ true
+  pub comes : length more + 1 ≡ n
+  pub on : is_on_after s (more ++ h) x ≡ true
+
+-- in this history it is so R - 1 ticks after the excess is confirmed
+abbrev pub StaysOnSoLong : Type 0
+StaysOnSoLong =
+    (cal : CalibrationParts) → IsAccepted cal → (can : CanExceed cal) →
+    IsListed (closed_setting cal).fault
+    × IsStillOn (closed_setting cal) (until_confirmed cal can.drive can.load)
+    (replicate (reaction_of cal.times - 2) (quiet_after can.drive)) (quiet_after can.drive)
+    (reaction_of cal.times - 1)
+
+-- so any number that serves in the reaction theorem is R or more
+abbrev pub ReactionTimeIsLeast : Type 0
+ReactionTimeIsLeast =
+    (cal : CalibrationParts) → IsAccepted cal → CanExceed cal → (n : ℕ) →
+    ReactsBy cal n → reaction_of cal.times ≤ n

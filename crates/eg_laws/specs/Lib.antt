@@ -1,0 +1,4 @@
+pub mod LeastReaction
+pub mod LeastLapse
+pub mod Availability
+pub mod Examples

@@ -1,0 +1,22 @@
+// Availability: under which lapses wrong answers never cut before a trip.
+ghost use Rattle.eg_laws.specs.Availability.{KeepsPath2, TripsAloneCut, NoTripComes, SingleMissesAreSpaced, RecordsStayAvailable};
+ghost use Rattle.eg_model.specs.Engines.{gasoline, diesel};
+
+/// Under which lapses wrong answers never cut before a trip (docs/CONCEPT.md, "Lapses"): where any two ticks
+/// at which level 2 doesn't run lie at least `eg_answer::miss_spacing` ticks apart, in every drive span wrong
+/// answers aren't confirmed as long as no trip has come, and path 2 isn't ordered open. So a trip alone cuts;
+/// and where the engine shows one load twice, none comes where the full-efficiency excess comes at no tick of
+/// the span. A lapse that leaves out one tick, or one every so many ticks, has its misses so far apart. It
+/// does nothing when it runs.
+pub fn far_misses_never_cut()
+    ensures path_2 { KeepsPath2 }
+    ensures trips { TripsAloneCut }
+    ensures none { NoTripComes }
+    ensures single { SingleMissesAreSpaced }
+{}
+
+/// The same by the rows of each drive span of the record of a run on the bench, for the gasoline engine and
+/// for the diesel engine. It does nothing when it runs.
+pub fn records_stay_available()
+    ensures { RecordsStayAvailable gasoline × RecordsStayAvailable diesel }
+{}

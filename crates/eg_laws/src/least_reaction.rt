@@ -1,0 +1,24 @@
+// The reaction time is the least.
+ghost use Rattle.std.specs.Prelude.{◌≡◌, true, false, [], ◌∷◌, ◌++◌, map, replicate, reverse, Some};
+ghost use Rattle.eg_record.specs.Excess.{first_confirmed};
+ghost use Rattle.eg_values.specs.Reference.{reference_rules};
+ghost use Rattle.eg_model.specs.Rows.{rows_of};
+ghost use Rattle.eg_laws.specs.LeastReaction.{StaysOnSoLong, ReactionTimeIsLeast, NeedsCanExceed};
+ghost use Rattle.eg_laws.specs.Examples.{latest_cut};
+
+/// No smaller number than R can stand in the reaction theorem (docs/CONCEPT.md, "Why the unit reacts"):
+/// where an excess can be confirmed at all, there is a history with path 1 closed in which the stages are
+/// still on R - 1 ticks after it was confirmed. It does nothing when it runs.
+pub fn reaction_time_is_least()
+    ensures stays_on { StaysOnSoLong }
+    ensures least { ReactionTimeIsLeast }
+    ensures needed { NeedsCanExceed }
+{}
+
+/// The same, worked out with the reference calibration, whose R is 34: the excess is confirmed at tick 16,
+/// and the stages are on up to tick 49 and off at tick 50. It does nothing when it runs.
+pub fn latest_cut_run()
+    ensures confirmed { first_confirmed reference_rules.torque reference_rules.threshold (rows_of latest_cut)
+        ≡ Some 16 }
+    ensures stages { map (λ m. m.on) (reverse latest_cut) ≡ replicate 50 true ++ false ∷ [] }
+{}

@@ -1,0 +1,12 @@
+//! Laws of all runs beside those of `eg_model`: that its two bounds are the least, and under which lapses
+//! wrong answers never cut before a trip. Nothing here runs: specs/ has the definitions, and the functions
+//! carry the laws as their contracts. They stand apart so that each of these laws has edits that it refuses.
+#![tactic(auto)]
+
+mod availability;
+mod least_lapse;
+mod least_reaction;
+
+pub use availability::{far_misses_never_cut, records_stay_available};
+pub use least_lapse::{lapse_bound_is_least, longest_excess_run};
+pub use least_reaction::{latest_cut_run, reaction_time_is_least};

@@ -1,6 +1,0 @@
-use Rattle.eg_model.proofs.ShortStretches.{stretches_are_shorter}
-use Rattle.eg_model.proofs.LeastLapseLaw.{excess_lasts_so_long, lapse_bound_is_least}
-use Rattle.eg_model.proofs.lapses.lapse_bound_is_least.Goals as goal
-
-pub returns : goal.returns
-returns c = record { shorter = stretches_are_shorter; lasts = excess_lasts_so_long; least = lapse_bound_is_least }

@@ -1,8 +1,0 @@
-use Rattle.eg_model.proofs.WorkedFaults.{latest_confirmed, latest_stages}
-use Rattle.eg_model.proofs.reaction.latest_cut_run.Goals as goal
-
-pub returns-clause-confirmed : goal.returns-clause-confirmed
-returns-clause-confirmed c = latest_confirmed
-
-pub returns-clause-stages : goal.returns-clause-stages
-returns-clause-stages c = latest_stages

@@ -1,0 +1,31 @@
+-- The longest reaction that is told of a run: it is within the reaction time, and it is told of each run that
+-- goes on long enough.
+use Rattle.std.specs.Prelude.{◌≡◌, ℕ, ◌≤◌, true, is_some, Option, Some, IfSome}
+use Rattle.eg_answer.specs.Times.{reaction_of}
+use Rattle.eg_fault.specs.Faults.{IsListed}
+use Rattle.eg_record.specs.declared.reactions.Reactions.{Reactions}
+use Rattle.eg_record.specs.Reactions.{reactions_of, is_settled}
+use Rattle.eg_model.specs.Engines.{BenchEngine}
+use Rattle.eg_model.specs.Bench.{Run}
+use Rattle.eg_model.specs.Rows.{record_rows}
+use Rattle.eg_model.specs.Records.{IsRun}
+
+-- a reaction, if there is one, takes no more ticks than the bound
+abbrev pub IsWithin : (bound : ℕ) → Option ℕ → Type 0
+IsWithin bound reaction = IfSome reaction (λ ticks. ticks ≤ bound)
+
+-- what is told of the reactions of a run is in time
+pub record IsInTime (bound : ℕ) (reactions : Reactions) : Type 0 where
+  -- the longest is within the bound
+  pub within : IsWithin bound reactions.longest
+  -- and where a true excess is confirmed, and each span in which one is goes on for so many ticks after that,
+  -- there is a longest reaction
+  pub told : is_settled bound reactions ≡ true → (ticks : ℕ) → reactions.followed ≡ Some ticks →
+      is_some reactions.longest ≡ true
+
+-- it is so of each run with at most one listed fault, by its reaction time
+abbrev pub RecordsReactInTime : {E : Type 0} → BenchEngine E → Type 0
+RecordsReactInTime b =
+    (r : Run) → IsRun r → IsListed r.setting.fault →
+    IsInTime (reaction_of r.setting.cal.times)
+    (reactions_of r.setting.cal.rules.torque r.setting.cal.rules.threshold (record_rows b r))
