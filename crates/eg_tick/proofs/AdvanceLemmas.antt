@@ -1,9 +1,9 @@
 -- A tick, from what each of its parts says of itself.
-use Rattle.std.proofs.Common.{◌≡◌, ◌∙◌, refl, sym, ap, ap₂, subst, ℕ, ◌+◌, ◌≤◌, ◌<◌, not, ◌||◌, ◌&&◌, All, Bool, false, None, Option, Some, List, [], ◌∷◌, length, slice_index, arith}
-use Rattle.std.specs.Prelude.{◌==◌}
+use Rattle.std.proofs.Common.{◌≡◌, ◌∙◌, refl, sym, ap, ap₂, subst, inr, ℕ, ◌+◌, ◌≤◌, ◌<◌, not, ◌||◌, ◌&&◌, All, Bool, false, None, Option, Some, List, [], ◌∷◌, length, slice_index, arith}
+use Rattle.std.specs.Prelude.{◌==◌, Result, OnErr}
 use Rattle.std.specs.Option.{option_or}
 use Rattle.eg_num.specs.Drive.{DriveRow, IsDrive}
-use Rattle.eg_plant.specs.Engine.{KeepsLaws}
+use Rattle.eg_plant.specs.Engine.{Shown, KeepsLaws}
 use Rattle.eg_fault.specs.declared.class.Fault.{Fault}
 use Rattle.eg_answer.specs.Periods.{period_of}
 use Rattle.eg_fault.specs.Effects.{asked_at}
@@ -18,6 +18,7 @@ use Rattle.eg_record.specs.declared.row.Row.{Row}
 use Rattle.eg_level2.specs.Words.{AreWithin, words_of}
 use Rattle.eg_level2.specs.Inputs.{Level2Parts}
 use Rattle.eg_level2.specs.declared.step.Step.{Step}
+use Rattle.eg_level2.proofs.OrderLemmas.{at_err}
 use Rattle.eg_model.specs.History.{Setting, Entry, Tick, SpanKind, drives}
 use Rattle.eg_model.specs.Paths.{is_testing, reads_back}
 use Rattle.eg_model.specs.Level1.{last_world}
@@ -26,22 +27,21 @@ use Rattle.eg_model.specs.Spans.{span_kind, kind_at, moments, next, span_ticks}
 use Rattle.eg_model.specs.Premises.{Follows}
 use Rattle.eg_model.proofs.SpanLemmas.{tick_after, ticks_before, Continues, continues, begin_of, EndsIn, ends_in}
 use Rattle.eg_agree.specs.Doings.{phase_at}
-use Rattle.eg_model.specs.Rows.{trap_in, row_of, signal_list}
-use Rattle.eg_agree.specs.Standing.{signals_of}
+use Rattle.eg_model.specs.Rows.{trap_in, row_of}
 use Rattle.eg_agree.specs.Replies.{moment_after}
 use Rattle.eg_agree.proofs.HistoryLemmas.{within_law}
 use Rattle.eg_tick.specs.Kept.{Kept}
 use Rattle.eg_tick.specs.Stands.{kind_of, Stands, HoldsMonitor}
 use Rattle.eg_tick.specs.Working.{Serves, Served, IsStep}
 use Rattle.eg_tick.specs.Judging.{ComesNext, Tells}
-use Rattle.eg_tick.specs.Advancing.{effects_after, entry_of, world_before}
+use Rattle.eg_tick.specs.Advancing.{effects_after, entry_of, world_before, StaysOrSteps}
 use Rattle.eg_tick.specs.declared.monitoring.Judgement.{Judgement}
 use Rattle.eg_tick.specs.declared.paths.Paths.{Paths}
 use Rattle.eg_tick.specs.declared.span.Place.{Place}
 use Rattle.eg_tick.specs.declared.span.Span.{Span}
 use Rattle.eg_tick.specs.declared.working.Task.{Task}
 use Rattle.eg_tick.proofs.MonitorLemmas.{span-period, span-later, span-asked}
-use Rattle.eg_tick.proofs.StandsLemmas.{Enters, entered, ComesIn, enters, Makes, next-on, next_row}
+use Rattle.eg_tick.proofs.StandsLemmas.{Enters, entered, ComesIn, enters, Leads, next-on, Makes, row_by, next_row}
 
 -- ---- the setting of a controller ----
 
@@ -141,6 +141,55 @@ module _ (c : Kept) (some : (image : List ℕ) × (h : List Entry) × Stands (se
 four : (P : ℕ → ℕ → Bool → Option ℕ → Type 0) {a a′ b b′ : ℕ} {o o′ : Bool} {k k′ : Option ℕ} → a ≡ a′ → b ≡ b′ → o ≡ o′ → k ≡ k′ → P a b o k → P a′ b′ o′ k′
 four P {a} {a′} {b} {b′} {o} {o′} {k} {k′} first second third fourth told =
     subst (λ n. P n b′ o′ k′) first (subst (λ n. P a n o′ k′) second (subst (λ n. P a b n k′) third (subst (λ n. P a b o n) fourth told)))
+
+-- The paths at a tick, and the engine's step: by the commands as the tick before left them, or by none where a span begins.
+module _ (s : Setting) (e : Entry) (h : List Entry) (old : Kept) (paths : Paths) (enter : Enters s old e h)
+    (path1 : paths.path1 ≡ (effects old.fault old.ticks).conducts 1 old.span.open1)
+    (path2 : paths.path2 ≡ (effects old.fault old.ticks).conducts 2 old.span.open2)
+    (on : paths.on ≡ (drives (kind_of old.span.tests) && (paths.path1 && paths.path2))) where
+  effects-in : effects old.fault old.ticks ≡ (tick_after s e h).effects
+  unfolding tick_after
+  effects-in = ap₂ effects enter.fault enter.count
+
+  leads-in : Leads (tick_after s e h) old paths
+  leads-in = record {
+    path1 = path1 ∙ ap (λ y. y.conducts 1 old.span.open1) effects-in;
+    path2 = path2 ∙ ap (λ y. y.conducts 2 old.span.open2) effects-in;
+    on = on;
+  }
+
+  world-in : world_of old.registers old.memory.words ≡ world_before s e.drive h
+  unfolding world_before
+  world-in = enter.span.level1.world ∙ ap last_world (sym (continues s e h).before_are)
+
+  pub step-begun : (P : ℕ → ℕ → Bool → Option ℕ → Type 0) → P (slice_index old.memory.words 2064) (slice_index old.memory.words 2065) paths.on (effects old.fault old.ticks).held
+      → P (world_before s e.drive h).throttle (world_before s e.drive h).ignition (next s e h).on (effects_after s h).held
+  unfolding effects_after world_of
+  step-begun P told =
+      let throttle : slice_index old.memory.words 2064 ≡ (world_before s e.drive h).throttle = ap (λ (world : World). world.throttle) world-in in
+      let ignition : slice_index old.memory.words 2065 ≡ (world_before s e.drive h).ignition = ap (λ (world : World). world.ignition) world-in in
+      let held : (effects old.fault old.ticks).held ≡ (effects_after s h).held = ap₂ (λ f t. (effects f t).held) enter.fault enter.count in
+      four P throttle ignition (next-on s e h old paths enter leads-in) held told
+
+-- where memory ran out behind it: the engine made its one step
+pub stepped : {T X E : Type 0} (result : Result T X) (steps : E → ℕ → ℕ → Bool → Option ℕ → E → Type 0) (s : Setting) (drive : DriveRow) (slices : List ℕ) (shown : Shown)
+    (h : List Entry) (now before : Kept) (span : Span) (m : Registers) (memory : ShownMemory) (reset : Bool) (paths : Paths) (under : Option Fault) (held : Option ℕ)
+    (engine old new : E) → before ≡ now → under ≡ before.fault → engine ≡ old → Stands s now h → reset ≡ drive.reset → ComesIn before reset span m memory →
+    paths.path1 ≡ (effects under before.ticks).conducts 1 span.open1 → paths.path2 ≡ (effects under before.ticks).conducts 2 span.open2 →
+    paths.on ≡ (drives (kind_of span.tests) && (paths.path1 && paths.path2)) → held ≡ (effects under before.ticks).held →
+    steps engine (slice_index memory.words 2064) (slice_index memory.words 2065) paths.on held new →
+    OnErr result (StaysOrSteps steps s drive slices shown h old new)
+unfolding entry_of
+stepped result steps s drive slices shown h now before span m memory reset paths under held engine old new same is_under is_old stands resets comes path1 path2 on is_held told =
+    let e : Entry = entry_of drive slices shown in
+    let throttle = slice_index memory.words 2064 in
+    let ignition = slice_index memory.words 2065 in
+    at_err result (inr (step-begun s e h (entered before span m memory) paths
+    (enters s before e h reset span m memory (subst (λ k. Stands s k h) (sym same) stands) resets comes)
+    (path1 ∙ ap (λ f. (effects f before.ticks).conducts 1 span.open1) is_under) (path2 ∙ ap (λ f. (effects f before.ticks).conducts 2 span.open2) is_under) on
+    (λ throttle ignition on held. steps old throttle ignition on held new)
+    (subst (λ x. steps x throttle ignition paths.on (effects before.fault before.ticks).held new) is_old
+    (subst (λ k. steps engine throttle ignition paths.on k new) (is_held ∙ ap (λ f. (effects f before.ticks).held) is_under) told))))
 
 -- What the parts of a tick say, where `old` is the controller as it begins: `under` is the fault, and level 2 is `made` of these parts.
 pub record Advance (old new : Kept) (drive : DriveRow) (budgets : List ℕ) (under : Option Fault) (made : Level2Parts)
@@ -273,9 +322,7 @@ module _ (old new : Kept) (drive : DriveRow) (budgets : List ℕ) (made : Level2
     fault = advance.fault;
     count = advance.count;
     are_words = advance.are_words;
-    path1 = advance.path1 ∙ ap (λ y. y.conducts 1 old.span.open1) effects-now;
-    path2 = advance.path2 ∙ ap (λ y. y.conducts 2 old.span.open2) effects-now;
-    on = advance.on;
+    leads = leads-in s e h old paths enter advance.path1 advance.path2 advance.on;
     placed = advance.placed;
     fresh = advance.fresh;
     testing = advance.testing;
@@ -299,41 +346,11 @@ module _ (old new : Kept) (drive : DriveRow) (budgets : List ℕ) (made : Level2
   }
 
   -- its row is the model's
-  pub row-told : (row : Row) (allowed : ℕ) → allowed ≡ limit_at old.cal drive → row ≡ record {
-    tick = old.ticks;
-    drive = drive;
-    plate = new.shown.position;
-    charge = new.shown.load_1;
-    torque = new.shown.torque;
-    limit = allowed;
-    path1 = paths.path1;
-    path2 = paths.path2;
-    on = paths.on;
-    signals = signal_list (signals_of (words_of new.memory.words));
-    throttle = slice_index new.memory.words 2064;
-    ignition = slice_index new.memory.words 2065;
-    found = record done.found {
-      answers = drives (kind_of place.tests) && judged.confirms;
-      start = place.reads_back && (paths.path1 || paths.path2);
-    };
-    answer = judged.mark;
-    verdict = judged.verdict;
-    testing = place.testing;
-    fresh = place.fresh;
-  } → row ≡ row_of (length h) (next s e h)
+  pub row-told : (row : Row) (allowed : ℕ) → allowed ≡ limit_at old.cal drive → row ≡ row_by old.ticks drive allowed new paths place done judged → row ≡ row_of (length h) (next s e h)
   unfolding entry_of
   row-told row allowed permits is = next_row s e h old new paths place done judged enter makes row allowed permits is
 
-  -- the engine's step is by the commands as the tick before left them, or by none where a span begins
-  world-now : world_of old.registers old.memory.words ≡ world_before s drive h
-  unfolding world_before entry_of
-  world-now = enter.span.level1.world ∙ ap last_world (sym (continues s e h).before_are)
-
   pub step-told : (P : ℕ → ℕ → Bool → Option ℕ → Type 0) → P (slice_index old.memory.words 2064) (slice_index old.memory.words 2065) paths.on (effects old.fault old.ticks).held
       → P (world_before s drive h).throttle (world_before s drive h).ignition (next s e h).on (effects_after s h).held
-  unfolding effects_after world_of
-  step-told P told =
-      let throttle : slice_index old.memory.words 2064 ≡ (world_before s drive h).throttle = ap (λ (world : World). world.throttle) world-now in
-      let ignition : slice_index old.memory.words 2065 ≡ (world_before s drive h).ignition = ap (λ (world : World). world.ignition) world-now in
-      let held : (effects old.fault old.ticks).held ≡ (effects_after s h).held = ap (λ t. (effects old.fault t).held) enter.count in
-      four P throttle ignition (next-on s e h old new paths place done judged enter makes) held told
+  unfolding entry_of
+  step-told = step-begun s e h old paths enter advance.path1 advance.path2 advance.on

@@ -19,7 +19,7 @@ use Rattle.eg_sensor.specs.declared.readings.Readings.{Readings}
 use Rattle.eg_level2.specs.Words.{place, word_at, AreMirrored, is_level2_own}
 use Rattle.eg_level2.specs.Inputs.{readings_of, asked_of}
 use Rattle.eg_level2.proofs.PlaceLemmas.{place_is, change_law}
-use Rattle.eg_tick.specs.Board.{IsWritten, is_board_own, by_tracks}
+use Rattle.eg_tick.specs.Board.{IsWritten, is_board_own, by_tracks, ten_ports}
 use Rattle.eg_tick.proofs.FrameLemmas.{protected-is}
 
 -- what a fact of a call that answers Ok gives
@@ -195,12 +195,6 @@ module _ (old mid new : List ℕ) (words : IsWritten old mid 1024 (replicate 102
           one_of address from to = grind arith
 
 -- ---- what is shown at a tick ----
-
--- the ten ports, in their order
-abbrev pub ten_ports : Readings → List ℕ
-ten_ports r =
-    slice_index r.pedal 0 ∷ slice_index r.pedal 1 ∷ slice_index r.plate 0 ∷ slice_index r.plate 1 ∷ slice_index r.load 0
-    ∷ slice_index r.load 1 ∷ slice_index r.speed 0 ∷ slice_index r.speed 1 ∷ r.raise ∷ r.raise_check ∷ []
 
 module _ (old mid new : List ℕ) (asked : ℕ) (r : Readings) (e : new ≡ slice_set mid 2128 asked) (so : IsWritten old mid 2048 (ten_ports r) 10) where
   at : (k : ℕ) → k < 10 → slice_index new (2048 + k) ≡ slice_index (ten_ports r) k

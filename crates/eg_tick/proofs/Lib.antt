@@ -3,6 +3,7 @@ pub mod FrameLemmas
 pub mod MidwayLemmas
 pub mod TickLemmas
 pub mod BoardLemmas
+pub mod MadeLemmas
 pub mod LevelLemmas
 pub mod StartLemmas
 pub mod WorkLemmas

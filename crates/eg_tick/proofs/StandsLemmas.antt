@@ -2,7 +2,7 @@
 use Rattle.std.proofs.Common.{◌≡◌, ◌∙◌, refl, sym, ap, ap₂, subst, ℕ, ◌+◌, not, ◌||◌, ◌&&◌, Bool, true, false, List, ◌∷◌, length, slice_index, arith}
 use Rattle.std.specs.Prelude.{◌==◌, if◌then◌else◌}
 use Rattle.std.specs.Option.{option_or}
-use Rattle.eg_num.specs.Drive.{IsDrive}
+use Rattle.eg_num.specs.Drive.{DriveRow, IsDrive}
 use Rattle.eg_num.specs.declared.watches.Watches.{Watches}
 use Rattle.eg_plant.specs.Engine.{Shown, KeepsLaws}
 use Rattle.eg_guard.specs.Memory.{AreWords, ShownMemory}
@@ -79,7 +79,67 @@ enters s c e h reset span m memory stands resets comes = record {
   trap = stands.trap;
 }
 
+-- ---- the paths ----
+
+-- The paths at tick x of a controller, as it is when the tick begins.
+pub record Leads (x : Tick) (old : Kept) (paths : Paths) : Type 0 where
+  pub path1 : paths.path1 ≡ x.effects.conducts 1 old.span.open1
+  pub path2 : paths.path2 ≡ x.effects.conducts 2 old.span.open2
+  pub on : paths.on ≡ (drives (kind_of old.span.tests) && (paths.path1 && paths.path2))
+
+module _ (kind : SpanKind) (s : Setting) (x : Tick) (h : List Tick) (old : Kept) (paths : Paths) (leads : Leads x old paths)
+    (holds : HoldsSpan kind s old.span old.registers old.memory.words h) where
+  abbrev ticks-past : List Moment
+  ticks-past = moments_in kind s h
+
+  led1 : paths.path1 ≡ (moment_after kind s x h).path1
+  unfolding path1_at
+  led1 = leads.path1 ∙ ap (x.effects.conducts 1) holds.latches.path1 ∙ sym (moment_in-path1 kind s x.effects x.entry ticks-past)
+
+  led2 : paths.path2 ≡ (moment_after kind s x h).path2
+  unfolding path2_at
+  led2 = leads.path2 ∙ ap (x.effects.conducts 2) holds.latches.path2 ∙ sym (moment_in-path2 kind s x.effects x.entry ticks-past)
+
+  led-both : (paths.path1 && paths.path2) ≡ on_at x.effects ticks-past
+  unfolding on_at
+  led-both = ap₂ (λ a b. a && b) (led1 ∙ moment_in-path1 kind s x.effects x.entry ticks-past) (led2 ∙ moment_in-path2 kind s x.effects x.entry ticks-past)
+
+  led-on : paths.on ≡ (moment_after kind s x h).on
+  led-on = leads.on ∙ ap₂ (λ k b. drives k && b) holds.kind_is led-both ∙ sym (moment_in-on kind s x.effects x.entry ticks-past)
+
+-- whether the stages are on is what the model says of the next tick of the run
+pub next-on : (s : Setting) (e : Entry) (h : List Entry) (old : Kept) (paths : Paths) → Enters s old e h → Leads (tick_after s e h) old paths → paths.on ≡ (next s e h).on
+unfolding tick_after
+next-on s e h old paths enter leads =
+    led-on (kind_at e.drive (moments s h)) s (tick_after s e h) (ticks_before s e h) old paths leads enter.span
+    ∙ ap (λ (m : Moment). m.on) (sym (let goes : Continues s e h (kind_at e.drive (moments s h)) (ticks_before s e h) = continues s e h in goes.moment_is))
+
 -- ---- a tick that was made ----
+
+-- the row of a tick of this number, at which so much is allowed, by what its parts say, where the controller is `new` after it
+abbrev pub row_by : (tick : ℕ) → DriveRow → (allowed : ℕ) → (new : Kept) → Paths → Place → Step → Judgement → Row
+row_by tick drive allowed new paths place step judgement = record {
+  tick = tick;
+  drive = drive;
+  plate = new.shown.position;
+  charge = new.shown.load_1;
+  torque = new.shown.torque;
+  limit = allowed;
+  path1 = paths.path1;
+  path2 = paths.path2;
+  on = paths.on;
+  signals = signal_list (signals_of (words_of new.memory.words));
+  throttle = slice_index new.memory.words 2064;
+  ignition = slice_index new.memory.words 2065;
+  found = record step.found {
+    answers = drives (kind_of place.tests) && judgement.confirms;
+    start = place.reads_back && (paths.path1 || paths.path2);
+  };
+  answer = judgement.mark;
+  verdict = judgement.verdict;
+  testing = place.testing;
+  fresh = place.fresh;
+}
 
 -- the watches of level 2 with those of the monitoring module and of the start-up test are those of the tick
 watches-are : (found : Watches) (answers start : Bool) (m : Moment) → found ≡ found_in_level2 m → answers ≡ m.found.answers → start ≡ m.found.start →
@@ -94,9 +154,7 @@ pub record Makes (kind : SpanKind) (s : Setting) (x : Tick) (h : List Tick) (old
   pub fault : new.fault ≡ old.fault
   pub count : new.ticks ≡ old.ticks + 1
   pub are_words : AreWords new.memory.words
-  pub path1 : paths.path1 ≡ x.effects.conducts 1 old.span.open1
-  pub path2 : paths.path2 ≡ x.effects.conducts 2 old.span.open2
-  pub on : paths.on ≡ (drives (kind_of old.span.tests) && (paths.path1 && paths.path2))
+  pub leads : Leads x old paths
   pub placed : place.tests ≡ old.span.tests
   pub fresh : place.fresh ≡ (old.span.local == 0)
   pub testing : place.testing ≡ is_testing (kind_of old.span.tests) s.cal.times old.span.local
@@ -141,19 +199,13 @@ module _ (kind : SpanKind) (s : Setting) (x : Tick) (h : List Tick) (old new : K
   -- ---- the paths, and the start-up test ----
 
   path1-is : paths.path1 ≡ m.path1
-  unfolding path1_at
-  path1-is = makes.path1 ∙ ap (x.effects.conducts 1) holds.latches.path1 ∙ sym (moment_in-path1 kind s x.effects x.entry past)
+  path1-is = led1 kind s x h old paths makes.leads holds
 
   path2-is : paths.path2 ≡ m.path2
-  unfolding path2_at
-  path2-is = makes.path2 ∙ ap (x.effects.conducts 2) holds.latches.path2 ∙ sym (moment_in-path2 kind s x.effects x.entry past)
+  path2-is = led2 kind s x h old paths makes.leads holds
 
-  both-are : (paths.path1 && paths.path2) ≡ on_at x.effects past
-  unfolding on_at
-  both-are = ap₂ (λ a b. a && b) (path1-is ∙ moment_in-path1 kind s x.effects x.entry past) (path2-is ∙ moment_in-path2 kind s x.effects x.entry past)
-
-  pub on-is : paths.on ≡ m.on
-  on-is = makes.on ∙ ap₂ (λ k b. drives k && b) holds.kind_is both-are ∙ sym (moment_in-on kind s x.effects x.entry past)
+  on-is : paths.on ≡ m.on
+  on-is = led-on kind s x h old paths makes.leads holds
 
   read-is : place.reads_back ≡ reads_back kind s.cal.times (length past)
   read-is = makes.read ∙ ap₂ (λ k n. reads_back k s.cal.times n) holds.kind_is local-is
@@ -196,28 +248,7 @@ module _ (kind : SpanKind) (s : Setting) (x : Tick) (h : List Tick) (old new : K
   answers-are = ap₂ (λ k b. drives k && b) (ap kind_of makes.placed ∙ holds.kind_is) makes.judged.confirms
       ∙ sym (moment_in-answers kind s x.effects x.entry past)
 
-  pub row-is : (row : Row) (allowed : ℕ) → allowed ≡ limit_at s.cal x.entry.drive → row ≡ record {
-    tick = old.ticks;
-    drive = x.entry.drive;
-    plate = new.shown.position;
-    charge = new.shown.load_1;
-    torque = new.shown.torque;
-    limit = allowed;
-    path1 = paths.path1;
-    path2 = paths.path2;
-    on = paths.on;
-    signals = signal_list (signals_of (words_of new.memory.words));
-    throttle = slice_index new.memory.words 2064;
-    ignition = slice_index new.memory.words 2065;
-    found = record step.found {
-      answers = drives (kind_of place.tests) && judgement.confirms;
-      start = place.reads_back && (paths.path1 || paths.path2);
-    };
-    answer = judgement.mark;
-    verdict = judgement.verdict;
-    testing = place.testing;
-    fresh = place.fresh;
-  } → row ≡ row_of old.ticks m
+  pub row-is : (row : Row) (allowed : ℕ) → allowed ≡ limit_at s.cal x.entry.drive → row ≡ row_by old.ticks x.entry.drive allowed new paths place step judgement → row ≡ row_of old.ticks m
   unfolding row_of world_of
   row-is row allowed permits is = is ∙ (λ i. record {
     tick = old.ticks;
@@ -261,9 +292,6 @@ module _ (s : Setting) (e : Entry) (h : List Entry) (old new : Kept) (paths : Pa
   unfolding tick_after
   moment-is = goes.moment_is
 
-  pub next-on : paths.on ≡ (next s e h).on
-  next-on = on-is kind s x before old new paths place step judgement makes enter.span ∙ ap (λ (m : Moment). m.on) (sym moment-is)
-
   entry-is : x.entry ≡ e
   unfolding tick_after
   entry-is = refl
@@ -277,7 +305,7 @@ module _ (s : Setting) (e : Entry) (h : List Entry) (old new : Kept) (paths : Pa
         drive = makes.drive;
         engine = subst (λ shown. KeepsLaws s.cal.rules.kt shown) (sym makes.shown)
             (subst (λ kt. KeepsLaws kt new.shown) (makes.kt ∙ enter.engine.one_kt) makes.laws);
-        no_torque = λ off. ap (λ (shown : Shown). shown.torque) makes.shown ∙ makes.off (next-on ∙ off);
+        no_torque = λ off. ap (λ (shown : Shown). shown.torque) makes.shown ∙ makes.off (next-on s e h old paths enter makes.leads ∙ off);
       },
       enter.engine.proper,
     );
@@ -314,28 +342,7 @@ module _ (s : Setting) (e : Entry) (h : List Entry) (old new : Kept) (paths : Pa
     not_lost = makes.not_lost;
   }
 
-  pub next_row : (row : Row) (allowed : ℕ) → allowed ≡ limit_at s.cal e.drive → row ≡ record {
-    tick = old.ticks;
-    drive = e.drive;
-    plate = new.shown.position;
-    charge = new.shown.load_1;
-    torque = new.shown.torque;
-    limit = allowed;
-    path1 = paths.path1;
-    path2 = paths.path2;
-    on = paths.on;
-    signals = signal_list (signals_of (words_of new.memory.words));
-    throttle = slice_index new.memory.words 2064;
-    ignition = slice_index new.memory.words 2065;
-    found = record step.found {
-      answers = drives (kind_of place.tests) && judgement.confirms;
-      start = place.reads_back && (paths.path1 || paths.path2);
-    };
-    answer = judgement.mark;
-    verdict = judgement.verdict;
-    testing = place.testing;
-    fresh = place.fresh;
-  } → row ≡ row_of (length h) (next s e h)
+  pub next_row : (row : Row) (allowed : ℕ) → allowed ≡ limit_at s.cal e.drive → row ≡ row_by old.ticks e.drive allowed new paths place step judgement → row ≡ row_of (length h) (next s e h)
   unfolding tick_after
   next_row row allowed permits is = row-is kind s x before old new paths place step judgement makes enter.span row allowed permits is
       ∙ ap₂ row_of enter.count (sym moment-is)

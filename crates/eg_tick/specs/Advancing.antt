@@ -1,6 +1,6 @@
 -- A tick of a controller, from a history that it stands for to the history with one entry more; and what its
 -- row owes to the laws of a run.
-use Rattle.std.specs.Prelude.{◌≡◌, ℕ, ◌+◌, ◌-◌, ◌*◌, ◌≤◌, ◌<◌, true, false, List, ◌++◌, length}
+use Rattle.std.specs.Prelude.{◌≡◌, ℕ, ◌+◌, ◌-◌, ◌*◌, ◌≤◌, ◌<◌, ◌⊎◌, Bool, true, false, List, ◌++◌, length, Option}
 use Rattle.eg_num.specs.Drive.{DriveRow}
 use Rattle.eg_plant.specs.Engine.{Shown}
 use Rattle.eg_answer.specs.Times.{reaction_of, HasLapseBound, lapse_periods, lapse_bound_of}
@@ -15,7 +15,7 @@ use Rattle.eg_model.specs.Level1.{last_world}
 use Rattle.eg_model.specs.Premises.{IsExcessConfirmed}
 use Rattle.eg_model.specs.Reaction.{is_at_once}
 use Rattle.eg_model.specs.Lapses.{IsLapse, Exceeds}
-use Rattle.eg_model.specs.Spans.{span_kind, kind_at, before_at, moments, span_ticks}
+use Rattle.eg_model.specs.Spans.{span_kind, kind_at, before_at, moments, next, span_ticks}
 use Rattle.eg_tick.specs.Kept.{Kept}
 use Rattle.eg_tick.specs.Stands.{Stands}
 
@@ -31,6 +31,15 @@ entry_of drive slices shown = record { drive = drive; slices = slices; shown = s
 -- where a span begins.
 unfoldable pub world_before : Setting → DriveRow → List Entry → World
 world_before s drive h = last_world (before_at drive (moments s h))
+
+-- In a tick of this drive row and this slice row, after a history, in which memory ran out, an engine stayed
+-- as it was, or made its one step (`steps`, as its type has it): by the commands as the tick before left them
+-- in this span, with the stages on or off as the model says of the tick.
+abbrev pub StaysOrSteps : {E : Type 0} → (steps : E → ℕ → ℕ → Bool → Option ℕ → E → Type 0) → Setting →
+    DriveRow → List ℕ → Shown → List Entry → (old new : E) → Type 0
+StaysOrSteps steps s drive slices shown h old new =
+    (new ≡ old) ⊎ steps old (world_before s drive h).throttle (world_before s drive h).ignition
+    (next s (entry_of drive slices shown) h).on (effects_after s h).held new
 
 -- its machine is trapped
 pub record IsTrapped (world : World) : Type 0 where

@@ -1,7 +1,8 @@
 -- How a tick comes into its span: by whether its drive row resets the unit, whether a start-up test was
 -- passed at the tick before, and the span of that tick.
-use Rattle.std.specs.Prelude.{Bool, ◌||◌, List, [], if◌then◌else◌}
+use Rattle.std.specs.Prelude.{◌≡◌, ◌⊎◌, Bool, false, ◌||◌, List, [], if◌then◌else◌}
 use Rattle.eg_model.specs.History.{Tick, SpanKind}
+use Rattle.eg_tick.specs.declared.span.Span.{Span}
 use Rattle.eg_tick.specs.Stands.{kind_of}
 
 -- what the span is for: where one begins, the paths are tested in it if the row resets
@@ -11,3 +12,24 @@ kind_from reset passed kind = if reset || passed then kind_of reset else kind
 -- its ticks so far: none where a span begins
 unfoldable pub ticks_from : (reset passed : Bool) → List Tick → List Tick
 ticks_from reset passed h = if reset || passed then [] else h
+
+-- a span as it begins: it has no tick, no latch is open, and the monitoring module has heard and judged
+-- nothing
+unfoldable pub begun : (tests : Bool) → Span → Span
+begun tests span = record {
+  tests = tests;
+  passed = false;
+  local = 0;
+  monitor = record span.monitor { verdicts = 0; heard = []; value = 0 };
+  open1 = false;
+  open2 = false;
+}
+
+-- what is kept of it as a tick comes into it
+abbrev pub span_from : (reset : Bool) → Span → Span
+span_from reset span = if reset || span.passed then begun reset span else span
+
+-- A tick in which memory ran out has left what is kept of the span, its latches too, as before, or as the
+-- tick came into its span.
+abbrev pub StaysOrBegins : (reset : Bool) → (old new : Span) → Type 0
+StaysOrBegins reset old new = (new ≡ old) ⊎ (new ≡ span_from reset old)

@@ -1,5 +1,5 @@
 // What the board itself writes into the memory.
-ghost use Rattle.std.specs.Prelude.{◌≡◌, ℕ, ◌+◌, ◌<◌, ◌≤◌, length, slice_index, slice_set, bit_xor, [], ◌∷◌, IsTrue, OnOk};
+ghost use Rattle.std.specs.Prelude.{◌≡◌, ℕ, ◌+◌, ◌<◌, ◌≤◌, length, slice_index, slice_set, bit_xor, [], ◌∷◌, IsTrue, OnOk, OnErr};
 ghost use Rattle.eg_guard.specs.declared.regions.Who.TheVariants.{Board};
 ghost use Rattle.eg_guard.specs.Memory.{AreWords, SameOutside, KeepsMemory};
 ghost use Rattle.eg_guard.specs.declared.regions.TheConstants.{DATA as CODE_END, WORDS};
@@ -9,7 +9,8 @@ ghost use Rattle.eg_word.specs.Memory.{is_level1_own};
 ghost use Rattle.eg_word.specs.World.{world_of, new_registers, new_world};
 ghost use Rattle.eg_level2.specs.Words.{place, word_at, AreMirrored, is_level2_own};
 ghost use Rattle.eg_level2.specs.Inputs.{readings_of, asked_of};
-ghost use Rattle.eg_tick.specs.Board.{IsWritten, is_board_own, by_tracks};
+ghost use Rattle.eg_level2.specs.Stores.{after_stores};
+ghost use Rattle.eg_tick.specs.Board.{IsWritten, is_board_own, by_tracks, stores_from, clearing, showing, AreMade};
 
 use eg_base::NoMemory;
 use eg_guard::{DATA, Guarded, IN_PORTS, LINK, StoreRefusal, THROTTLE, Who};
@@ -24,6 +25,7 @@ fn put<M: Guarded>(memory: &mut M, address: u16, word: u16) -> Result<(), NoMemo
     requires { IsTrue (Regions.access Board address).store }
     ensures stored { OnOk result
         ((M.shows memory.new).words ≡ slice_set (M.shows memory.old).words address word) }
+    ensures stopped { OnErr result ((M.shows memory.new).words ≡ (M.shows memory.old).words) }
     ensures keeps { KeepsMemory (M.shows memory.old) (M.shows memory.new) result }
 {
     match memory.store(Who::Board, address, word) {
@@ -45,13 +47,18 @@ pub(crate) fn load<M: Guarded>(memory: &M, address: u16) -> u16
     }
 }
 
-/// Stores these words from an address on.
+/// Stores these words from an address on. Where memory runs out the first so many stand, and nothing else
+/// has changed.
 fn write<M: Guarded>(memory: &mut M, first: u16, values: &[u16]) -> Result<(), NoMemory>
     requires stored { (k : ℕ) → k < length values.now → IsTrue (Regions.access Board (first + k)).store }
     requires within { first + length values.now ≤ WORDS }
     requires are_words { AreWords (M.shows memory.old).words }
     ensures written { OnOk result (IsWritten (M.shows memory.old).words (M.shows memory.new).words
         first values.now (length values.now)) }
+    ensures made { OnOk result (slice_index (M.shows memory.new).words
+        ≡ after_stores (stores_from first values.now) (slice_index (M.shows memory.old).words)) }
+    ensures stopped { OnErr result (AreMade (stores_from first values.now)
+        (M.shows memory.old).words (M.shows memory.new).words) }
     ensures keeps { KeepsMemory (M.shows memory.old) (M.shows memory.new) result }
 {
     let mut address = first;
@@ -69,6 +76,8 @@ pub(crate) fn load_image<M: Guarded>(memory: &mut M, image: &[u16]) -> Result<()
     requires are_words { AreWords (M.shows memory.old).words }
     ensures written { OnOk result
         (IsWritten (M.shows memory.old).words (M.shows memory.new).words 0 image.now (length image.now)) }
+    ensures stopped { OnErr result (AreMade (stores_from 0 image.now)
+        (M.shows memory.old).words (M.shows memory.new).words) }
     ensures keeps { KeepsMemory (M.shows memory.old) (M.shows memory.new) result }
 {
     write(memory, CODE, image)
@@ -81,6 +90,8 @@ pub(crate) fn clear<M: Guarded>(memory: &mut M) -> Result<(), NoMemory>
     ensures world { OnOk result (world_of new_registers (M.shows memory.new).words ≡ new_world) }
     ensures outside { OnOk result
         (SameOutside is_level1_own (M.shows memory.old).words (M.shows memory.new).words) }
+    ensures stopped { OnErr result (AreMade clearing
+        (M.shows memory.old).words (M.shows memory.new).words) }
     ensures keeps { KeepsMemory (M.shows memory.old) (M.shows memory.new) result }
 {
     write(memory, DATA, &[0; 1024])?;
@@ -100,6 +111,8 @@ pub(crate) fn show<M: Guarded>(
     ensures asked { OnOk result (asked_of (M.shows memory.new).words ≡ asked) }
     ensures outside { OnOk result
         (SameOutside is_board_own (M.shows memory.old).words (M.shows memory.new).words) }
+    ensures stopped { OnErr result (AreMade (showing readings.now asked)
+        (M.shows memory.old).words (M.shows memory.new).words) }
     ensures keeps { KeepsMemory (M.shows memory.old) (M.shows memory.new) result }
 {
     let ports = [
@@ -130,6 +143,7 @@ pub(crate) fn flip<M: Guarded>(memory: &mut M, word: u8, mask: u16) -> Result<()
         → OnOk result (¬ AreMirrored (M.shows memory.new).words) }
     ensures outside { OnOk result
         (SameOutside is_level2_own (M.shows memory.old).words (M.shows memory.new).words) }
+    ensures stopped { OnErr result ((M.shows memory.new).words ≡ (M.shows memory.old).words) }
     ensures keeps { KeepsMemory (M.shows memory.old) (M.shows memory.new) result }
 {
     let address = word_address(u16::from(word));

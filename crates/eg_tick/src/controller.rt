@@ -8,7 +8,8 @@ ghost use Rattle.eg_model.specs.Spans.{moments, next};
 ghost use Rattle.eg_model.specs.Rows.{row_of, trap_in, first_trap};
 ghost use Rattle.eg_fault.specs.Faults.{IsNoneOrValid};
 ghost use Rattle.eg_tick.specs.Stands.{Stands, IsController};
-ghost use Rattle.eg_tick.specs.Advancing.{effects_after, entry_of, world_before, IsTrapped, HoldsOutputs, RowIsUnpowered, RowReactsInTime, RowReactsAtOnce, RowCutsLapses, HistoryHasShortLapses};
+ghost use Rattle.eg_tick.specs.Entering.{StaysOrBegins};
+ghost use Rattle.eg_tick.specs.Advancing.{effects_after, entry_of, world_before, StaysOrSteps, IsTrapped, HoldsOutputs, RowIsUnpowered, RowReactsInTime, RowReactsAtOnce, RowCutsLapses, HistoryHasShortLapses};
 ghost use Rattle.eg_tick.specs.Weights.{weight_of};
 
 use crate::Slices;
@@ -190,6 +191,13 @@ impl<E: Engine + Drop, M: Guarded + Drop> Controller<E, M> {
         ensures rests { self.old.kept.lost ≡ true → self.new ≡ self.old }
         ensures same_ticks { OnErr result (self.new.kept.ticks ≡ self.old.kept.ticks) }
         ensures same_trap { OnErr result (self.new.kept.trap ≡ self.old.kept.trap) }
+        // In a tick in which memory runs out the engine stays, or makes its one step; and what is kept of the
+        // span, the latches of the paths too, stays, or is as the tick came into its span.
+        ensures same_or_stepped { (s : Setting) (h : List Entry) → Stands s self.old.kept h → OnErr result
+            (StaysOrSteps E.steps s drive.now slices.now self.new.kept.shown h
+            self.old.engine self.new.engine) }
+        ensures same_or_begun { OnErr result
+            (StaysOrBegins drive.now.reset self.old.kept.span self.new.kept.span) }
         ensures sure { IsTrue self.old.kept.memory.sure → IsOk result }
         ensures stays_sure { self.new.kept.memory.sure ≡ self.old.kept.memory.sure }
         // It stays a controller of its run.
@@ -226,6 +234,11 @@ impl<E: Engine + Drop, M: Guarded + Drop> Controller<E, M> {
         ensures rests { self.old.kept.lost ≡ true → self.new ≡ self.old }
         ensures same_ticks { OnErr result (self.new.kept.ticks ≡ self.old.kept.ticks) }
         ensures same_trap { OnErr result (self.new.kept.trap ≡ self.old.kept.trap) }
+        ensures same_or_stepped { (s : Setting) (h : List Entry) → Stands s self.old.kept h → OnErr result
+            (StaysOrSteps E.steps s drive.now slices.now self.new.kept.shown h
+            self.old.engine self.new.engine) }
+        ensures same_or_begun { OnErr result
+            (StaysOrBegins drive.now.reset self.old.kept.span self.new.kept.span) }
         ensures sure { IsTrue self.old.kept.memory.sure → IsOk result }
         ensures stays_sure { self.new.kept.memory.sure ≡ self.old.kept.memory.sure }
     {

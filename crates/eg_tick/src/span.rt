@@ -1,5 +1,5 @@
 // The span of ticks that a controller is in, and how one begins.
-ghost use Rattle.std.specs.Prelude.{◌≡◌, ℕ, ◌+◌, ◌<◌, ◌==◌, ◌||◌, false, List, [], OnOk};
+ghost use Rattle.std.specs.Prelude.{◌≡◌, ℕ, ◌+◌, ◌<◌, ◌==◌, ◌||◌, false, List, [], OnOk, OnErr};
 ghost use Rattle.std.specs.Option.{option_copied};
 ghost use Rattle.eg_guard.specs.Memory.{KeepsMemory};
 ghost use Rattle.eg_answer.specs.Times.{TimeParts, test_ticks_of};
@@ -9,7 +9,7 @@ ghost use Rattle.eg_model.specs.Paths.{is_testing, is_told_to_open, reads_back};
 ghost use Rattle.eg_agree.specs.Doings.{phase_at};
 ghost use Rattle.eg_tick.specs.Midway.{IsReady};
 ghost use Rattle.eg_tick.specs.Stands.{kind_of, HoldsSpan};
-ghost use Rattle.eg_tick.specs.Entering.{kind_from, ticks_from};
+ghost use Rattle.eg_tick.specs.Entering.{kind_from, ticks_from, begun, span_from};
 
 use crate::board::clear;
 use crate::monitoring::Judgement;
@@ -182,6 +182,8 @@ pub(crate) fn enter<M: Guarded>(
         → HoldsSpan kind s span.old level1.old.host.registers (M.shows memory.old).words h
         → OnOk result (HoldsSpan (kind_from reset span.old.passed kind) s span.new
         level1.new.host.registers (M.shows memory.new).words (ticks_from reset span.old.passed h)) }
+    ensures begun { OnOk result (span.new ≡ span_from reset span.old) }
+    ensures stopped { OnErr result (span.new ≡ span.old) }
     ensures ready { OnOk result (IsReady level2.now.rules level1.new.program (M.shows memory.new).words) }
     ensures keeps { KeepsMemory (M.shows memory.old) (M.shows memory.new) result }
 {
@@ -206,6 +208,9 @@ fn begin<M: Guarded>(
         → HoldsSpan kind s span.old level1.old.host.registers (M.shows memory.old).words h
         → OnOk result (HoldsSpan (kind_of tests) s span.new level1.new.host.registers
         (M.shows memory.new).words []) }
+    ensures begun { OnOk result (span.new ≡ begun tests span.old) }
+    // Where memory runs out no latch has closed yet.
+    ensures stopped { OnErr result (span.new ≡ span.old) }
     ensures ready { OnOk result (IsReady level2.now.rules level1.new.program (M.shows memory.new).words) }
     ensures keeps { KeepsMemory (M.shows memory.old) (M.shows memory.new) result }
 {

@@ -55,8 +55,8 @@ impl<E: CopyEngine + Drop, M: Guarded + Drop> Controller<E, M> {
     }
 
     /// The same as `branch` over another memory, of whatever kind, that shows the same words
-    /// (docs/CONCEPT.md, "The controller"). It is no sure one where memory has run out in this controller.
-    /// It takes no memory and refuses nothing.
+    /// (docs/CONCEPT.md, "The controller"). Where memory has run out in this controller, that other memory
+    /// must not be a sure one. The call takes no memory and refuses nothing.
     pub fn branch_over<N: Guarded + Drop>(
         &self,
         memory: N,

@@ -1,4 +1,6 @@
+use Rattle.eg_level2.proofs.OrderLemmas.{on_err, at_err}
 use Rattle.eg_tick.proofs.BoardLemmas.{on_ok, cleared-world, cleared-outside}
+use Rattle.eg_tick.proofs.MadeLemmas.{clears-data, clears-outputs}
 use Rattle.eg_tick.proofs.board.clear.Goals as goal
 
 pub returns-clause-world : goal.returns-clause-world
@@ -8,3 +10,9 @@ returns-clause-world g c = on_ok c.write-2.result
 
 pub returns-clause-outside : goal.returns-clause-outside
 returns-clause-outside g c = on_ok c.write-2.result (cleared-outside _ _ _ c.in_ok-write.ensures.written) c.write-2.ensures.written
+
+pub returns-in_err-write-clause-stopped : goal.returns-in_err-write-clause-stopped
+returns-in_err-write-clause-stopped g c = at_err c.from_residual.result (clears-data _ _ c.in_err-write.ensures.stopped)
+
+pub returns-clause-stopped : goal.returns-clause-stopped
+returns-clause-stopped g c = on_err c.write-2.result (λ outs. clears-outputs _ _ _ c.in_ok-write.ensures.made outs) c.write-2.ensures.stopped

@@ -1,5 +1,7 @@
 use Rattle.eg_level2.proofs.StoreLemmas.{on_ok}
+use Rattle.eg_level2.proofs.OrderLemmas.{on_err, at_err}
 use Rattle.eg_tick.proofs.BoardLemmas.{shown_readings, shown_asked, shown_outside}
+use Rattle.eg_tick.proofs.MadeLemmas.{shows-readings, shows-asked}
 use Rattle.eg_tick.proofs.board.show.Goals as goal
 
 pub returns-clause-readings : goal.returns-clause-readings
@@ -13,3 +15,10 @@ returns-clause-asked g c =
 pub returns-clause-outside : goal.returns-clause-outside
 returns-clause-outside g c =
     on_ok c.put.result (λ stored. shown_outside _ _ _ c.args.asked c.args.readings.now stored c.in_ok-write.ensures.written) c.put.ensures.stored
+
+pub returns-in_err-write-clause-stopped : goal.returns-in_err-write-clause-stopped
+returns-in_err-write-clause-stopped g c = at_err c.from_residual.result (shows-readings c.args.readings.now c.args.asked _ _ c.in_err-write.ensures.stopped)
+
+pub returns-clause-stopped : goal.returns-clause-stopped
+returns-clause-stopped g c =
+    on_err c.put.result (λ same. shows-asked c.args.readings.now c.args.asked _ _ _ c.in_ok-write.ensures.made same) c.put.ensures.stopped

@@ -1,4 +1,5 @@
-use Rattle.std.proofs.Common.{refl}
+use Rattle.std.proofs.Common.{refl, false}
+use Rattle.eg_tick.specs.Entering.{begun}
 use Rattle.eg_tick.proofs.StartLemmas.{begun_span, begun_ready}
 use Rattle.eg_tick.proofs.span.begin.Goals as goal
 
@@ -14,3 +15,8 @@ returns-clause-ready g c =
     begun_ready _ _ _ _ _ c.in_ok-clear.ensures.outside c.reset.ensures.outside
     (c.reset.ensures.are_words (c.clear.ensures.keeps.are_words c.requires.are_words))
     c.in_ok-reset.ensures.mirrored c.in_ok-reset.ensures.within c.requires
+
+pub returns-clause-begun : goal.returns-clause-begun
+unfolding begun
+returns-clause-begun g c =
+    λ i. record { tests = c.args.tests; passed = false; local = 0; monitor = c.restart.ensures.begins i; open1 = false; open2 = false }

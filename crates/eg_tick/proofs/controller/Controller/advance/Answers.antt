@@ -19,7 +19,7 @@ use Rattle.eg_tick.specs.declared.span.Span.{Span}
 use Rattle.eg_tick.specs.Advancing.{effects_after, entry_of, world_before}
 use Rattle.eg_tick.specs.declared.working.Task.{Task}
 use Rattle.eg_tick.proofs.StandsLemmas.{Enters, entered, enters, next_stands}
-use Rattle.eg_tick.proofs.AdvanceLemmas.{of_setting, held-within, within, few-in, period-in, later-in, Advance, makes, row-told, step-told}
+use Rattle.eg_tick.proofs.AdvanceLemmas.{of_setting, held-within, within, few-in, period-in, later-in, stepped, Advance, makes, row-told, step-told}
 use Rattle.eg_tick.proofs.controller.Controller.advance.Given.{Over}
 use Rattle.eg_tick.proofs.controller.Controller.advance.Goals as goal
 
@@ -243,3 +243,10 @@ returns-clause-engine g c s h stands =
 
 pub returns-clause-keeps : goal.returns-clause-keeps
 returns-clause-keeps g c = still g c
+
+pub returns-in_err-step-clause-same_or_stepped : goal.returns-in_err-step-clause-same_or_stepped
+returns-in_err-step-clause-same_or_stepped g c s h stands =
+    stepped _ g.E.Engine.steps s c.args.drive.now c.args.slices.now _ h c.args.self.now.kept _ c.enter.new.span c.enter.new.level1.host.registers
+    (g.M.Guarded.shows c.enter.new.memory) _ c.at.result _ c.held-held.result _ _ c.step_engine.new.engine (ap (λ v. v.kept) c.self.view_is)
+    c.as_ref-fault.ensures.value (ap (λ v. v.engine) c.self.view_is) stands c.reset.ensures.reset c.in_ok-enter.ensures.holds c.at.ensures.path1 c.at.ensures.path2
+    c.at.ensures.on c.held-held.ensures c.step_engine.ensures.steps
