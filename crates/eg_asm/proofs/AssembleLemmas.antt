@@ -27,11 +27,14 @@ read-fault source e is =
     subst P answer (assembled-gives source)
 
 -- what is linked is the answer
-pub linked-answer : (bytes : List ℕ) (source : Source) (items : List Item) (result : Result (Vec ℕ Global) AsmFault) → items_from 0 1 (lines_of bytes) ≡ Ok items → Holds source items
-    → ((labels : Labels) → HasLabels source.labels labels → IsAssembled (linked_kept labels (map placed_shown source.instructions.items) source.repeated) result) → IsAssembled (assembled bytes) result
+pub linked-answer : (bytes : List ℕ) (source : Source) (items : List Item) (result : Result (Vec ℕ Global) AsmFault)
+    → items_from 0 1 (lines_of bytes) ≡ Ok items → Holds source items
+    → ((labels : Labels) → HasLabels source.labels labels
+    → IsAssembled (linked_kept labels (map placed_shown source.instructions.items) source.repeated) result) → IsAssembled (assembled bytes) result
 unfolding assembled words_read
 linked-answer bytes source items result read holds links =
-    let kept : linked_kept (labels_of items) (map placed_shown source.instructions.items) source.repeated ≡ linked_kept (labels_of items) (instructions_from 1 items) (repeat_behind [] items) =
+    let kept : linked_kept (labels_of items) (map placed_shown source.instructions.items) source.repeated
+        ≡ linked_kept (labels_of items) (instructions_from 1 items) (repeat_behind [] items) =
     ap (λ (is : List (ℕ × Encoded)). linked_kept (labels_of items) is source.repeated) holds.all ∙ ap (linked_kept (labels_of items) (instructions_from 1 items)) holds.repeat in
     let answer : linked_kept (labels_of items) (map placed_shown source.instructions.items) source.repeated ≡ assembled bytes =
     kept ∙ same_answer items (read-may bytes items read).0 ∙ sym (ap words_read read) in
@@ -43,7 +46,8 @@ pub answer-words : (source : List ℕ) (result : Result (Vec ℕ Global) AsmFaul
 answer-words source (Ok words) is = let P : Result (List ℕ) AsmFault → Type 0 = Assembles source in subst P is (assembled-gives source)
 answer-words source (Err e) is = tt
 
-pub answer-faults : (source : List ℕ) (result : Result (Vec ℕ Global) AsmFault) → IsAssembled (assembled source) result → IfErr result (λ e. (e ≡ fault.Memory) ⊎ Assembles source (Err e))
+pub answer-faults : (source : List ℕ) (result : Result (Vec ℕ Global) AsmFault) → IsAssembled (assembled source) result
+    → IfErr result (λ e. (e ≡ fault.Memory) ⊎ Assembles source (Err e))
 answer-faults source (Ok words) is = tt
 answer-faults source (Err e) (inl memory) = inl memory
 answer-faults source (Err e) (inr is) = let P : Result (List ℕ) AsmFault → Type 0 = Assembles source in inr (subst P is (assembled-gives source))

@@ -29,8 +29,10 @@ word_count-one items item = word_count-append items (item ∷ []) ∙ omega arit
 labels_from-append : (place : ℕ) (items more : List Item) → labels_from place (items ++ more) ≡ labels_from place items ++ labels_from (place + word_count items) more
 unfolding labels_from word_count size
 labels_from-append place [] more = let same : place + 0 ≡ place = omega arith in rw same refl
-labels_from-append place (Nothing ∷ items) more = let h = labels_from-append (place + 0) items more in let same : place + 0 + word_count items ≡ place + (0 + word_count items) = omega arith in h ∙ rw same refl
-labels_from-append place (Comment bytes ∷ items) more = let h = labels_from-append (place + 0) items more in let same : place + 0 + word_count items ≡ place + (0 + word_count items) = omega arith in h ∙ rw same refl
+labels_from-append place (Nothing ∷ items) more =
+    let h = labels_from-append (place + 0) items more in let same : place + 0 + word_count items ≡ place + (0 + word_count items) = omega arith in h ∙ rw same refl
+labels_from-append place (Comment bytes ∷ items) more =
+    let h = labels_from-append (place + 0) items more in let same : place + 0 + word_count items ≡ place + (0 + word_count items) = omega arith in h ∙ rw same refl
 labels_from-append place (Label name ∷ items) more =
     let h = labels_from-append place items more in let same : place + (0 + word_count items) ≡ place + word_count items = omega arith in
     rw same (ap (λ (ls : Labels). (name, place) ∷ ls) h)
@@ -38,19 +40,22 @@ labels_from-append place (Instruction mnemonic values ∷ items) more =
     let h = labels_from-append (place + 1) items more in let same : place + 1 + word_count items ≡ place + (1 + word_count items) = omega arith in h ∙ rw same refl
 
 -- the instructions
-instructions_from-append : (place : ℕ) (items more : List Item) → instructions_from place (items ++ more) ≡ instructions_from place items ++ instructions_from (place + length items) more
+instructions_from-append : (place : ℕ) (items more : List Item)
+    → instructions_from place (items ++ more) ≡ instructions_from place items ++ instructions_from (place + length items) more
 unfolding instructions_from
 instructions_from-append place [] more = let same : place + 0 ≡ place = omega arith in rw same refl
 instructions_from-append place (item ∷ items) more =
     let same : place + 1 + length items ≡ place + length (item ∷ items) = omega arith in
-    ap (cons_option (numbered place (told item))) (instructions_from-append (place + 1) items more ∙ rw same refl) ∙ moved (numbered place (told item)) (instructions_from (place + 1) items)
+    ap (cons_option (numbered place (told item))) (instructions_from-append (place + 1) items more ∙ rw same refl)
+        ∙ moved (numbered place (told item)) (instructions_from (place + 1) items)
   where
     moved : (o : Option (ℕ × Encoded)) (front : List (ℕ × Encoded))
         → cons_option o (front ++ instructions_from (place + length (item ∷ items)) more) ≡ cons_option o front ++ instructions_from (place + length (item ∷ items)) more
     moved None front = refl
     moved (Some i) front = refl
 
-pub instructions_from-one : (items : List Item) (item : Item) → instructions_from 1 (items ++ item ∷ []) ≡ instructions_from 1 items ++ cons_option (numbered (length items + 1) (told item)) []
+pub instructions_from-one : (items : List Item) (item : Item)
+    → instructions_from 1 (items ++ item ∷ []) ≡ instructions_from 1 items ++ cons_option (numbered (length items + 1) (told item)) []
 unfolding instructions_from
 instructions_from-one items item = let same : 1 + length items ≡ length items + 1 = omega arith in instructions_from-append 1 items (item ∷ []) ∙ rw same refl
 
@@ -63,16 +68,19 @@ repeat_behind-append before [] item = rw (append-nil before) (at (is_repeat befo
     at : (b : Bool) → cond b (Some (length before + 1)) (repeat_behind (before ++ item ∷ []) []) ≡ cond b (Some (length before + 1)) None
     at true = refl
     at false = refl
-repeat_behind-append before (first ∷ items) item = at (is_repeat before first) (repeat_behind-append (before ++ first ∷ []) items item ∙ rw (append_assoc before (first ∷ []) items) refl)
+repeat_behind-append before (first ∷ items) item =
+    at (is_repeat before first) (repeat_behind-append (before ++ first ∷ []) items item ∙ rw (append_assoc before (first ∷ []) items) refl)
   where
     at : (b : Bool) → repeat_behind (before ++ first ∷ []) (items ++ item ∷ [])
         ≡ option_or (repeat_behind (before ++ first ∷ []) items) (cond (is_repeat (before ++ (first ∷ items)) item) (Some (length (before ++ (first ∷ items)) + 1)) None)
         → cond b (Some (length before + 1)) (repeat_behind (before ++ first ∷ []) (items ++ item ∷ []))
-        ≡ option_or (cond b (Some (length before + 1)) (repeat_behind (before ++ first ∷ []) items)) (cond (is_repeat (before ++ (first ∷ items)) item) (Some (length (before ++ (first ∷ items)) + 1)) None)
+        ≡ option_or (cond b (Some (length before + 1)) (repeat_behind (before ++ first ∷ []) items))
+        (cond (is_repeat (before ++ (first ∷ items)) item) (Some (length (before ++ (first ∷ items)) + 1)) None)
     at true h = refl
     at false h = h
 
-pub repeat-one : (items : List Item) (item : Item) → repeat_behind [] (items ++ item ∷ []) ≡ option_or (repeat_behind [] items) (cond (is_repeat items item) (Some (length items + 1)) None)
+pub repeat-one : (items : List Item) (item : Item)
+    → repeat_behind [] (items ++ item ∷ []) ≡ option_or (repeat_behind [] items) (cond (is_repeat items item) (Some (length items + 1)) None)
 repeat-one items item = repeat_behind-append [] items item
 
 -- the place of a label
@@ -85,10 +93,12 @@ lookup-append name (x ∷ xs) ys = at (bytes_eq name x.0) (lookup-append name xs
     at true h = refl
     at false h = h
 
-pub labels-one : (items : List Item) (item : Item) (name : List ℕ) → place_of (labels_of (items ++ item ∷ [])) name ≡ option_or (place_of (labels_of items) name) (place_of (labels_from (word_count items) (item ∷ [])) name)
+pub labels-one : (items : List Item) (item : Item) (name : List ℕ)
+    → place_of (labels_of (items ++ item ∷ [])) name ≡ option_or (place_of (labels_of items) name) (place_of (labels_from (word_count items) (item ∷ [])) name)
 labels-one items item name =
     let same : 0 + word_count items ≡ word_count items = omega arith in
-    ap (λ (ls : Labels). place_of ls name) (labels_from-append 0 items (item ∷ []) ∙ rw same refl) ∙ lookup-append name (labels_of items) (labels_from (word_count items) (item ∷ []))
+    ap (λ (ls : Labels). place_of ls name) (labels_from-append 0 items (item ∷ []) ∙ rw same refl)
+        ∙ lookup-append name (labels_of items) (labels_from (word_count items) (item ∷ []))
 
 -- ---- what is kept ----
 
@@ -111,7 +121,8 @@ keeps-more : {K : Type 0} (name_of : K → List ℕ) (items : List Item) (item :
 keeps-more name_of items item instructions place now repeated later sized found again k = record {
   all = ap (λ (is : List (ℕ × Encoded)). is ++ cons_option (numbered (length items + 1) (told item)) []) k.all ∙ sym (instructions_from-one items item);
   count = (let counted = k.count in omega (arith, length-append instructions (cons_option (numbered (length items + 1) (told item)) []), sized, word_count-one items item));
-  labels = λ key. found key ∙ ap (λ o. option_or o (place_of (labels_from (word_count items) (item ∷ [])) (name_of key))) (k.labels key) ∙ sym (labels-one items item (name_of key));
+  labels = λ key. found key ∙ ap (λ o. option_or o (place_of (labels_from (word_count items) (item ∷ [])) (name_of key))) (k.labels key)
+      ∙ sym (labels-one items item (name_of key));
   repeat = again ∙ ap (λ o. option_or o (cond (is_repeat items item) (Some (length items + 1)) None)) k.repeat ∙ sym (repeat-one items item);
 }
 
@@ -124,13 +135,18 @@ keeps-nothing name_of items item instructions place repeated has is k = at item 
     Same : List Item → List (ℕ × Encoded) → Type 0
     Same all is = Keeps name_of all is place repeated
 
-    named : (mnemonic : List ℕ) (values : List Value) (o : Option Form) → form_named mnemonic ≡ o → IsSome o → option_map_or (λ form. tells.Instruction (encoded form values)) o tells.Nothing ≡ tells.Nothing → ⊥
+    named : (mnemonic : List ℕ) (values : List Value) (o : Option Form) → form_named mnemonic ≡ o → IsSome o
+        → option_map_or (λ form. tells.Instruction (encoded form values)) o tells.Nothing ≡ tells.Nothing → ⊥
     named mnemonic values None is some none = absurd cc
     named mnemonic values (Some f) is some none = absurd cc
 
     at : (item : Item) → HasForm item → told item ≡ tells.Nothing → Keeps name_of (items ++ item ∷ []) instructions place repeated
-    at Nothing has is = subst (Same (items ++ Nothing ∷ [])) (append-nil instructions) (keeps-more name_of items Nothing instructions place place repeated repeated refl (λ key. option_or-none (place key)) (option_or-none repeated) k)
-    at (Comment bytes) has is = subst (Same (items ++ Comment bytes ∷ [])) (append-nil instructions) (keeps-more name_of items (Comment bytes) instructions place place repeated repeated refl (λ key. option_or-none (place key)) (option_or-none repeated) k)
+    at Nothing has is =
+        subst (Same (items ++ Nothing ∷ [])) (append-nil instructions)
+        (keeps-more name_of items Nothing instructions place place repeated repeated refl (λ key. option_or-none (place key)) (option_or-none repeated) k)
+    at (Comment bytes) has is =
+        subst (Same (items ++ Comment bytes ∷ [])) (append-nil instructions)
+        (keeps-more name_of items (Comment bytes) instructions place place repeated repeated refl (λ key. option_or-none (place key)) (option_or-none repeated) k)
     at (Label name) has is = absurd cc
     at (Instruction mnemonic values) has is = absurd (named mnemonic values (form_named mnemonic) refl has is)
 
@@ -155,9 +171,11 @@ keeps-again_label {K = K} name_of items instructions place repeated key some k =
     let there : is_some (place_of (labels_of items) (name_of key)) ≡ true = ap is_some (sym (k.labels key)) ∙ some in
     let P : List (ℕ × Encoded) → Type 0 = λ is. Keeps name_of (items ++ Label (name_of key) ∷ []) is place (option_or repeated (Some (length items + 1))) in
     subst P (append-nil instructions)
-    (keeps-more name_of items (Label (name_of key)) instructions place place repeated (option_or repeated (Some (length items + 1))) refl (λ other. at other (place other) (k.labels other) there) (rw there refl) k)
+    (keeps-more name_of items (Label (name_of key)) instructions place place repeated (option_or repeated (Some (length items + 1))) refl
+    (λ other. at other (place other) (k.labels other) there) (rw there refl) k)
   where
-    here : (a b : List ℕ) (o : Option ℕ) → place_of (labels_of items) a ≡ o → is_some (place_of (labels_of items) b) ≡ true → (t : Bool) → bytes_eq a b ≡ t → o ≡ option_or o (cond t (Some (word_count items)) None)
+    here : (a b : List ℕ) (o : Option ℕ) → place_of (labels_of items) a ≡ o → is_some (place_of (labels_of items) b) ≡ true → (t : Bool)
+        → bytes_eq a b ≡ t → o ≡ option_or o (cond t (Some (word_count items)) None)
     here a b (Some n) is there t same = refl
     here a b None is there false same = refl
     here a b None is there true same =
@@ -199,10 +217,13 @@ keeps-new_label {K = K} name_of items instructions place now repeated key none p
         absurd cc
 
     at : (other : K) → is_some (place_of (labels_of items) (name_of key)) ≡ false
-        → cond (bytes_eq (name_of key) (name_of other)) (Some (word_count items)) (place other) ≡ option_or (place other) (place_of (labels_from (word_count items) (Label (name_of key) ∷ [])) (name_of other))
+        → cond (bytes_eq (name_of key) (name_of other)) (Some (word_count items)) (place other)
+        ≡ option_or (place other) (place_of (labels_from (word_count items) (Label (name_of key) ∷ [])) (name_of other))
     at other absent =
-        let P : Option ℕ → Type 0 = λ o. cond (bytes_eq (name_of key) (name_of other)) (Some (word_count items)) o ≡ option_or o (place_of (labels_from (word_count items) (Label (name_of key) ∷ [])) (name_of other)) in
-        subst P (sym (k.labels other)) (here (name_of key) (name_of other) (place_of (labels_of items) (name_of other)) refl absent (bytes_eq (name_of key) (name_of other)) (bytes_eq (name_of other) (name_of key)) refl refl)
+        let P : Option ℕ → Type 0 = λ o. cond (bytes_eq (name_of key) (name_of other)) (Some (word_count items)) o
+            ≡ option_or o (place_of (labels_from (word_count items) (Label (name_of key) ∷ [])) (name_of other)) in
+        subst P (sym (k.labels other)) (here (name_of key) (name_of other) (place_of (labels_of items) (name_of other)) refl absent
+            (bytes_eq (name_of key) (name_of other)) (bytes_eq (name_of other) (name_of key)) refl refl)
 
 -- items that tell these labels
 pub keeps-again : {K : Type 0} (name_of : K → List ℕ) (items : List Item) (item : Item) (instructions : List (ℕ × Encoded)) (place : K → Option ℕ) (repeated : Option ℕ) (key : K)
@@ -222,7 +243,8 @@ keeps-new {K = K} name_of items item instructions place now repeated key has is 
     subst P (sym (label-of item (name_of key) has is)) (keeps-new_label name_of items instructions place now repeated key none there k)
 
 -- an instruction
-pub keeps-instruction : {K : Type 0} (name_of : K → List ℕ) (items : List Item) (item : Item) (e : Encoded) (instructions : List (ℕ × Encoded)) (place : K → Option ℕ) (repeated : Option ℕ)
+pub keeps-instruction : {K : Type 0} (name_of : K → List ℕ) (items : List Item) (item : Item) (e : Encoded) (instructions : List (ℕ × Encoded))
+    (place : K → Option ℕ) (repeated : Option ℕ)
     → HasForm item → told item ≡ tells.Instruction e → Keeps name_of items instructions place repeated
     → Keeps name_of (items ++ item ∷ []) (instructions ++ (length items + 1, e) ∷ []) place repeated
 unfolding told HasForm numbered size labels_from is_repeat
@@ -233,4 +255,5 @@ keeps-instruction name_of items (Instruction mnemonic values) e instructions pla
     let one : cons_option (numbered (length items + 1) (told (Instruction mnemonic values))) [] ≡ (length items + 1, e) ∷ [] = rw is refl in
     let P : List (ℕ × Encoded) → Type 0 = λ is. Keeps name_of (items ++ Instruction mnemonic values ∷ []) (instructions ++ is) place repeated in
     subst P one
-    (keeps-more name_of items (Instruction mnemonic values) instructions place place repeated repeated (ap length one) (λ key. option_or-none (place key)) (option_or-none repeated) k)
+    (keeps-more name_of items (Instruction mnemonic values) instructions place place repeated repeated (ap length one)
+    (λ key. option_or-none (place key)) (option_or-none repeated) k)

@@ -118,7 +118,8 @@ texts-lack [] [] fit = All-nil (Lacks 44)
 texts-lack [] (value ∷ values) fit = absurd fit
 texts-lack (operand ∷ operands) [] fit = absurd fit
 texts-lack (operand ∷ operands) (value ∷ values) fit =
-    All-cons (Lacks 44) (text_of_value value) (map text_of_value values) (lacks-plain 44 refl (text_of_value value) (value-plain operand value fit.0)) (texts-lack operands values fit.1)
+    All-cons (Lacks 44) (text_of_value value) (map text_of_value values)
+        (lacks-plain 44 refl (text_of_value value) (value-plain operand value fit.0)) (texts-lack operands values fit.1)
 
 -- the texts of values lack each byte that no operand has, but a comma
 joined-lack : (c : ℕ) → is_plain c ≡ false → Lacks c (44 ∷ []) → (operands : List Operand) (values : List Value) → AllZip Fits operands values
@@ -184,7 +185,8 @@ texts-back : (text : List ℕ) (values : List Value) → texts_in (behind_first 
 unfolding texts_in text_of_values
 texts-back text values is = at (behind_first 32 text) refl values is
   where
-    at : (o : Option (List ℕ)) → behind_first 32 text ≡ o → (values : List Value) → texts_in o ≡ map text_of_value values → text ≡ before_first (is_byte 32) text ++ text_of_values values
+    at : (o : Option (List ℕ)) → behind_first 32 text ≡ o → (values : List Value) → texts_in o ≡ map text_of_value values
+        → text ≡ before_first (is_byte 32) text ++ text_of_values values
     at None none [] is = sym (cut-back_none 32 text none) ∙ sym (append-nil (before_first (is_byte 32) text))
     at None none (value ∷ values) is = absurd cc
     at (Some rest) some [] is = let long = ap length is in absurd (omega (arith, length-slice_split (is_byte 44) rest))
@@ -221,11 +223,13 @@ instruction_in-back text item is = at (form_named (before_first (is_byte 32) tex
 -- ---- items ----
 
 -- the form and what fits it, of an instruction that may be said
-pub instruction-form : (mnemonic : List ℕ) (values : List Value) → IsItem (Instruction mnemonic values) → (f : Form) × (form_named mnemonic ≡ Some f) × AllZip Fits f.operands values
+pub instruction-form : (mnemonic : List ℕ) (values : List Value) → IsItem (Instruction mnemonic values)
+    → (f : Form) × (form_named mnemonic ≡ Some f) × AllZip Fits f.operands values
 unfolding IsItem
 instruction-form mnemonic values may = at (form_named mnemonic) refl may
   where
-    at : (o : Option Form) → form_named mnemonic ≡ o → IsSomeAnd o (λ form. AllZip Fits form.operands values) → (f : Form) × (form_named mnemonic ≡ Some f) × AllZip Fits f.operands values
+    at : (o : Option Form) → form_named mnemonic ≡ o → IsSomeAnd o (λ form. AllZip Fits form.operands values)
+        → (f : Form) × (form_named mnemonic ≡ Some f) × AllZip Fits f.operands values
     at None named may = absurd may
     at (Some f) named may = (f, named, may)
 
@@ -332,7 +336,8 @@ item_of_text-back (b ∷ bs) item feed is = at (b == 59) refl feed is
     other (Some name) last is = named name (before_last-back 58 (b ∷ bs) name last) (is_name name) refl (sym (named_is (b ∷ bs) name) ∙ is)
     other None last is = of_instruction (b ∷ bs) item (instruction_in-back (b ∷ bs) item (sym (instruction (b ∷ bs)) ∙ is))
 
-    at : (s : Bool) → (b == 59) ≡ s → Lacks 10 (b ∷ bs) → cond s (Some (Comment bs)) (labelled (b ∷ bs) (before_last_byte 58 (b ∷ bs))) ≡ Some item → IsItem item × (b ∷ bs ≡ text_of item)
+    at : (s : Bool) → (b == 59) ≡ s → Lacks 10 (b ∷ bs) → cond s (Some (Comment bs)) (labelled (b ∷ bs) (before_last_byte 58 (b ∷ bs))) ≡ Some item
+        → IsItem item × (b ∷ bs ≡ text_of item)
     at true semicolon feed is =
         let same : Comment bs ≡ item = cc in
         let first : b ≡ 59 = grind (arith, nat_tests) in
@@ -360,7 +365,8 @@ said_by_text (b ∷ bs) mnemonic values is = at (b == 59) is
         let same : mnemonic ≡ back.mnemonic = cc in
         (back.form, ap form_named same ∙ back.named)
 
-    at : (s : Bool) → cond s (Some (Comment bs)) (labelled (b ∷ bs) (before_last_byte 58 (b ∷ bs))) ≡ Some (Instruction mnemonic values) → (f : Form) × (form_named mnemonic ≡ Some f)
+    at : (s : Bool) → cond s (Some (Comment bs)) (labelled (b ∷ bs) (before_last_byte 58 (b ∷ bs))) ≡ Some (Instruction mnemonic values)
+        → (f : Form) × (form_named mnemonic ≡ Some f)
     at true is = absurd cc
     at false is = other (before_last_byte 58 (b ∷ bs)) is
 

@@ -114,8 +114,10 @@ alone labels place word (operand.Target reach) value target near fits =
 
 -- one operand more
 one-operand : (labels : Labels) (place word : ℕ) (o : Operand) (operands : List Operand) (value : Value) (values : List Value) → is_target o ≡ false → Fits o value
-    → ((word : ℕ) → completed labels place (with_operands (record { word = word; jump = None }) operands values) ≡ option_map (λ field. word + field) (fields_of labels place operands values))
-    → completed labels place (with_operands (record { word = word; jump = None }) (o ∷ operands) (value ∷ values)) ≡ option_map (λ field. word + field) (fields_of labels place (o ∷ operands) (value ∷ values))
+    → ((word : ℕ) → completed labels place (with_operands (record { word = word; jump = None }) operands values)
+    ≡ option_map (λ field. word + field) (fields_of labels place operands values))
+    → completed labels place (with_operands (record { word = word; jump = None }) (o ∷ operands) (value ∷ values))
+    ≡ option_map (λ field. word + field) (fields_of labels place (o ∷ operands) (value ∷ values))
 unfolding with_operands fields_of
 one-operand labels place word o operands value values other fits more =
     let p = plain labels place word o value other fits in
@@ -123,8 +125,10 @@ one-operand labels place word o operands value values other fits more =
     ∙ ap (λ field. option_map (λ field. word + field) (added field (fields_of labels place operands values))) (sym p.field)
 
 -- the word of what is kept of operands
-completed-operands : (labels : Labels) (operands : List Operand) (values : List Value) → last_target operands ≡ true → list_all is_near operands ≡ true → AllZip Fits operands values
-    → (place word : ℕ) → completed labels place (with_operands (record { word = word; jump = None }) operands values) ≡ option_map (λ field. word + field) (fields_of labels place operands values)
+completed-operands : (labels : Labels) (operands : List Operand) (values : List Value) → last_target operands ≡ true
+    → list_all is_near operands ≡ true → AllZip Fits operands values
+    → (place word : ℕ) → completed labels place (with_operands (record { word = word; jump = None }) operands values)
+    ≡ option_map (λ field. word + field) (fields_of labels place operands values)
 unfolding completed jump_field with_operands fields_of
 completed-operands labels [] [] last near fit place word = refl
 completed-operands labels [] (value ∷ values) last near fit place word = absurd fit
@@ -142,8 +146,10 @@ completed-operands labels (o ∷ p ∷ operands) (value ∷ values) last near fi
   where
     at : (t n : Bool) → is_target o ≡ t → (not t && last_target (p ∷ operands)) ≡ true → (n && list_all is_near (p ∷ operands)) ≡ true
         → (last_target (p ∷ operands) ≡ true → list_all is_near (p ∷ operands) ≡ true → (word : ℕ)
-        → completed labels place (with_operands (record { word = word; jump = None }) (p ∷ operands) values) ≡ option_map (λ field. word + field) (fields_of labels place (p ∷ operands) values))
-        → completed labels place (with_operands (record { word = word; jump = None }) (o ∷ p ∷ operands) (value ∷ values)) ≡ option_map (λ field. word + field) (fields_of labels place (o ∷ p ∷ operands) (value ∷ values))
+        → completed labels place (with_operands (record { word = word; jump = None }) (p ∷ operands) values)
+        ≡ option_map (λ field. word + field) (fields_of labels place (p ∷ operands) values))
+        → completed labels place (with_operands (record { word = word; jump = None }) (o ∷ p ∷ operands) (value ∷ values))
+        ≡ option_map (λ field. word + field) (fields_of labels place (o ∷ p ∷ operands) (value ∷ values))
     at true n target last near more = absurd cc
     at false true other last near more = one-operand labels place word o (p ∷ operands) value values other fit.0 (more last near)
     at false false other last near more = absurd cc
@@ -152,7 +158,8 @@ completed-operands labels (o ∷ p ∷ operands) (value ∷ values) last near fi
 pub completed-word : (labels : Labels) (place : ℕ) (mnemonic : List ℕ) (values : List Value) (f : Form) → form_named mnemonic ≡ Some f → AllZip Fits f.operands values
     → completed labels place (encoded f values) ≡ word_of labels place mnemonic values
 unfolding word_of word_with
-completed-word labels place mnemonic values f named fit = rw named (at (last_target f.operands) (list_all is_near f.operands) refl refl (each_form (λ f. last_target f.operands && list_all is_near f.operands) shaped mnemonic f named))
+completed-word labels place mnemonic values f named fit =
+    rw named (at (last_target f.operands) (list_all is_near f.operands) refl refl (each_form (λ f. last_target f.operands && list_all is_near f.operands) shaped mnemonic f named))
   where
     at : (a b : Bool) → last_target f.operands ≡ a → list_all is_near f.operands ≡ b → (a && b) ≡ true
         → completed labels place (encoded f values) ≡ option_map (λ fields. f.base + fields) (fields_of labels place f.operands values)
@@ -192,7 +199,8 @@ unfolding repeat_behind
 repeat_behind-from before [] found is = absurd cc
 repeat_behind-from before (item ∷ items) found is = at (is_repeat before item) (repeat_behind-from (before ++ item ∷ []) items found) is
   where
-    at : (b : Bool) → (repeat_behind (before ++ item ∷ []) items ≡ Some found → length (before ++ item ∷ []) + 1 ≤ found) → cond b (Some (length before + 1)) (repeat_behind (before ++ item ∷ []) items) ≡ Some found → length before + 1 ≤ found
+    at : (b : Bool) → (repeat_behind (before ++ item ∷ []) items ≡ Some found → length (before ++ item ∷ []) + 1 ≤ found)
+        → cond b (Some (length before + 1)) (repeat_behind (before ++ item ∷ []) items) ≡ Some found → length before + 1 ≤ found
     at true more is = let here : length before + 1 ≡ found = cc in omega arith
     at false more is = omega (arith, more is, length-append before (item ∷ []))
 
@@ -240,10 +248,12 @@ kept labels mnemonic values may =
     }
 
 -- a label that is repeated
-repeated-label : (labels : Labels) (before : List Item) (name : List ℕ) (items : List Item) (place : ℕ) → place_of (labels_of before) name ≡ Some place → SameFault labels before (Label name ∷ items)
+repeated-label : (labels : Labels) (before : List Item) (name : List ℕ) (items : List Item) (place : ℕ)
+    → place_of (labels_of before) name ≡ Some place → SameFault labels before (Label name ∷ items)
 unfolding fault_behind instructions_from repeat_behind is_sound is_repeat told numbered
 repeated-label labels before name items place some =
-    rw some (sym (earlier-right (length before + 1) (unresolved labels (word_count before) (instructions_from (length before + 1 + 1) items)) (unresolved-from labels (word_count before) (length before + 1 + 1) items)))
+    rw some (sym (earlier-right (length before + 1) (unresolved labels (word_count before) (instructions_from (length before + 1 + 1) items))
+        (unresolved-from labels (word_count before) (length before + 1 + 1) items)))
 
 -- an instruction without a word
 wordless : (labels : Labels) (before : List Item) (mnemonic : List ℕ) (values : List Value) (items : List Item) (k : IsKept labels mnemonic values)
@@ -251,7 +261,8 @@ wordless : (labels : Labels) (before : List Item) (mnemonic : List ℕ) (values 
 unfolding fault_behind instructions_from repeat_behind is_sound is_repeat numbered unresolved
 wordless labels before mnemonic values items k none =
     let e_none : completed labels (word_count before) k.e ≡ None = k.word (word_count before) ∙ none in
-    rw (none, k.tells_it, e_none) (sym (earlier-left (length before + 1) (repeat_behind (before ++ Instruction mnemonic values ∷ []) items) (later (before ++ Instruction mnemonic values ∷ []) (length-append before (Instruction mnemonic values ∷ [])))))
+    rw (none, k.tells_it, e_none) (sym (earlier-left (length before + 1) (repeat_behind (before ++ Instruction mnemonic values ∷ []) items)
+        (later (before ++ Instruction mnemonic values ∷ []) (length-append before (Instruction mnemonic values ∷ [])))))
   where
     later : (front : List Item) → length front ≡ length before + 1 → From (length before + 1 + 1) (repeat_behind front items)
     later front long found is = let least = repeat_behind-from front items found is in omega arith
@@ -265,10 +276,13 @@ unfolding unresolved numbered
 worded labels before e mnemonic values items word is some = rw (is, some) refl
 
 -- one item, where what is said of those behind it is known
-fault-item : (labels : Labels) (before : List Item) (item : Item) (items : List Item) → IsItem item → SameFault labels (before ++ item ∷ []) items → SameFault labels before (item ∷ items)
+fault-item : (labels : Labels) (before : List Item) (item : Item) (items : List Item) → IsItem item → SameFault labels (before ++ item ∷ []) items
+    → SameFault labels before (item ∷ items)
 unfolding is_sound is_repeat told numbered size
-fault-item labels before Nothing items may h = fault-sound labels before Nothing items refl refl (let same : word_count before + 0 ≡ word_count before = omega arith in rw same refl) h
-fault-item labels before (Comment bytes) items may h = fault-sound labels before (Comment bytes) items refl refl (let same : word_count before + 0 ≡ word_count before = omega arith in rw same refl) h
+fault-item labels before Nothing items may h =
+    fault-sound labels before Nothing items refl refl (let same : word_count before + 0 ≡ word_count before = omega arith in rw same refl) h
+fault-item labels before (Comment bytes) items may h =
+    fault-sound labels before (Comment bytes) items refl refl (let same : word_count before + 0 ≡ word_count before = omega arith in rw same refl) h
 fault-item labels before (Label name) items may h = at (place_of (labels_of before) name) refl
   where
     same : word_count before + 0 ≡ word_count before
@@ -305,14 +319,16 @@ kept_word labels place line mnemonic values items k h = rw (k.tells_it, k.word p
 
 same_word : (labels : Labels) (place line : ℕ) (item : Item) (items : List Item) → IsItem item
     → words_from labels (place + size item) items ≡ completed_words labels (place + size item) (instructions_from (line + 1) items)
-    → cons_option (word_at labels place item) (words_from labels (place + size item) items) ≡ completed_words labels place (cons_option (numbered line (told item)) (instructions_from (line + 1) items))
+    → cons_option (word_at labels place item) (words_from labels (place + size item) items)
+    ≡ completed_words labels place (cons_option (numbered line (told item)) (instructions_from (line + 1) items))
 unfolding word_at told numbered size completed_words
 same_word labels place line Nothing items may h = let same : place + 0 ≡ place = omega arith in h ∙ rw same refl
 same_word labels place line (Comment bytes) items may h = let same : place + 0 ≡ place = omega arith in h ∙ rw same refl
 same_word labels place line (Label name) items may h = let same : place + 0 ≡ place = omega arith in h ∙ rw same refl
 same_word labels place line (Instruction mnemonic values) items may h = kept_word labels place line mnemonic values items (kept labels mnemonic values may) h
 
-pub same_words : (labels : Labels) (place line : ℕ) (items : List Item) → AllByRecursion IsItem items → words_from labels place items ≡ completed_words labels place (instructions_from line items)
+pub same_words : (labels : Labels) (place line : ℕ) (items : List Item) → AllByRecursion IsItem items
+    → words_from labels place items ≡ completed_words labels place (instructions_from line items)
 unfolding words_from instructions_from completed_words
 same_words labels place line [] may = refl
 same_words labels place line (item ∷ items) may = same_word labels place line item items may.0 (same_words labels (place + size item) (line + 1) items may.1)
@@ -324,9 +340,11 @@ unfolding words_unless linked
 linked_is items None = refl
 linked_is items (Some place) = refl
 
-pub same_answer : (items : List Item) → AllByRecursion IsItem items → linked_kept (labels_of items) (instructions_from 1 items) (repeat_behind [] items) ≡ linked items (first_fault items)
+pub same_answer : (items : List Item) → AllByRecursion IsItem items
+    → linked_kept (labels_of items) (instructions_from 1 items) (repeat_behind [] items) ≡ linked items (first_fault items)
 unfolding linked_kept word_count
 same_answer items may =
     let fault = same_fault (labels_of items) [] items may in
-    ap (λ (words : List ℕ). words_unless words (earlier (unresolved (labels_of items) 0 (instructions_from 1 items)) (repeat_behind [] items))) (sym (same_words (labels_of items) 0 1 items may))
+    ap (λ (words : List ℕ). words_unless words (earlier (unresolved (labels_of items) 0 (instructions_from 1 items)) (repeat_behind [] items)))
+        (sym (same_words (labels_of items) 0 1 items may))
     ∙ ap (words_unless (words_of items)) (sym fault) ∙ linked_is items (first_fault items)

@@ -60,7 +60,8 @@ usable-at operands i d h room = at (nat_le (length operands) 3) (list_all is_usa
 abbrev pub listed_from : ℕ → ℕ → List Operand → Option ℕ
 listed_from word i operands = fields_of [] 0 (drop i operands) (map (value_in word) (drop i operands))
 
-pub listed-more : (word made n i : ℕ) (operands : List Operand) (d : Operand) → i < length operands → Some n ≡ field_of [] 0 (get_or operands i d) (value_in word (get_or operands i d))
+pub listed-more : (word made n i : ℕ) (operands : List Operand) (d : Operand) → i < length operands
+    → Some n ≡ field_of [] 0 (get_or operands i d) (value_in word (get_or operands i d))
     → option_map (λ fields. made + n + fields) (listed_from word (i + 1) operands) ≡ option_map (λ fields. made + fields) (listed_from word i operands)
 unfolding fields_of
 listed-more word made n i operands d room is =
@@ -91,13 +92,16 @@ joined-more text [] last = refl
 joined-more text (next ∷ texts) last =
     ap (λ (l : List ℕ). text ++ 44 ∷ l) (joined-more next texts last) ∙ sym (append_assoc text (44 ∷ join_with_byte 44 (next ∷ texts)) (44 ∷ last))
 
-pub text_of_values-more : (values : List Value) (value : Value) → text_of_values (values ++ value ∷ []) ≡ text_of_values values ++ cond (length values == 0) 32 44 ∷ text_of_value value
+pub text_of_values-more : (values : List Value) (value : Value)
+    → text_of_values (values ++ value ∷ []) ≡ text_of_values values ++ cond (length values == 0) 32 44 ∷ text_of_value value
 unfolding text_of_values
 text_of_values-more [] value = refl
 text_of_values-more (first ∷ values) value =
     let some : (length (first ∷ values) == 0) ≡ false = grind (arith, nat_tests) in
-    rw some (ap (λ (ts : List (List ℕ)). 32 ∷ join_with_byte 44 ts) (map-append text_of_value (first ∷ values) (value ∷ [])) ∙ ap (λ (l : List ℕ). 32 ∷ l) (joined-more (text_of_value first) (map text_of_value values) (text_of_value value)))
+    rw some (ap (λ (ts : List (List ℕ)). 32 ∷ join_with_byte 44 ts) (map-append text_of_value (first ∷ values) (value ∷ []))
+        ∙ ap (λ (l : List ℕ). 32 ∷ l) (joined-more (text_of_value first) (map text_of_value values) (text_of_value value)))
 
 -- the values of the operands up to a place, and one more
-pub listed-one : (word i : ℕ) (operands : List Operand) (d : Operand) → i < length operands → map (value_in word) (take (i + 1) operands) ≡ map (value_in word) (take i operands) ++ value_in word (get_or operands i d) ∷ []
+pub listed-one : (word i : ℕ) (operands : List Operand) (d : Operand) → i < length operands
+    → map (value_in word) (take (i + 1) operands) ≡ map (value_in word) (take i operands) ++ value_in word (get_or operands i d) ∷ []
 listed-one word i operands d room = rw (add-one i, take-suc operands i d room) (map-append (value_in word) (take i operands) (get_or operands i d ∷ []))

@@ -36,7 +36,8 @@ narrow word op a b n a_few b_few n_few is =
     rw (op_is, a_is, b_is, c_is, n6_is, n9_is) refl
 
 -- a word of three registers
-three : (word op a b c : ℕ) → a < 8 → b < 8 → c < 8 → op * 4096 + (a * 512 + (b * 64 + (c * 8 + 0))) ≡ word → instruction_of word ≡ instruction_with op a b c (c * 8) (b * 64 + c * 8)
+three : (word op a b c : ℕ) → a < 8 → b < 8 → c < 8 → op * 4096 + (a * 512 + (b * 64 + (c * 8 + 0))) ≡ word
+    → instruction_of word ≡ instruction_with op a b c (c * 8) (b * 64 + c * 8)
 three word op a b c a_few b_few c_few is =
     let c_is : c * 8 / 8 ≡ c = omega arith in
     narrow word op a b (c * 8) a_few b_few (omega arith) (omega arith) ∙ rw c_is refl
@@ -47,11 +48,14 @@ unfolding complement_of signed
 signed-complement reach (pos m) n is = at (nat_lt m reach) refl is
   where
     at : (b : Bool) → nat_lt m reach ≡ b → cond b (Some m) None ≡ Some n → (n < 2 * reach) × (cond (nat_lt n reach) (pos n) (pos n -ℤ pos (2 * reach)) ≡ pos m)
-    at true low is = let same : m ≡ n = cc in let low : m < reach = grind (arith, nat_tests) in let inside : nat_lt n reach ≡ true = grind (arith, nat_tests) in (omega arith, rw (inside, same) refl)
+    at true low is =
+        let same : m ≡ n = cc in let low : m < reach = grind (arith, nat_tests) in let inside : nat_lt n reach ≡ true = grind (arith, nat_tests) in
+        (omega arith, rw (inside, same) refl)
     at false high is = absurd cc
 signed-complement reach (negsuc m) n is = at (nat_lt m reach) refl is
   where
-    at : (b : Bool) → nat_lt m reach ≡ b → cond b (Some (2 * reach - (m + 1))) None ≡ Some n → (n < 2 * reach) × (cond (nat_lt n reach) (pos n) (pos n -ℤ pos (2 * reach)) ≡ negsuc m)
+    at : (b : Bool) → nat_lt m reach ≡ b → cond b (Some (2 * reach - (m + 1))) None ≡ Some n
+        → (n < 2 * reach) × (cond (nat_lt n reach) (pos n) (pos n -ℤ pos (2 * reach)) ≡ negsuc m)
     at true low is =
         let same : 2 * reach - (m + 1) ≡ n = cc in
         let low : m < reach = grind (arith, nat_tests) in
@@ -62,23 +66,27 @@ signed-complement reach (negsuc m) n is = at (nat_lt m reach) refl is
 
 -- ---- instructions ----
 
-jz_read : (word a : ℕ) (d : ℤ) → a < 8 → option_map (λ fields. 53248 + fields) (added (Some (a * 512)) (added (complement_of 256 d) (Some 0))) ≡ Some word → instruction_of word ≡ machine.Jz a d
+jz_read : (word a : ℕ) (d : ℤ) → a < 8 → option_map (λ fields. 53248 + fields) (added (Some (a * 512)) (added (complement_of 256 d) (Some 0)))
+    ≡ Some word → instruction_of word ≡ machine.Jz a d
 unfolding instruction_with
 jz_read word a d a_few is = at (complement_of 256 d) refl is
   where
-    at : (o : Option ℕ) → complement_of 256 d ≡ o → option_map (λ fields. 53248 + fields) (added (Some (a * 512)) (added o (Some 0))) ≡ Some word → instruction_of word ≡ machine.Jz a d
+    at : (o : Option ℕ) → complement_of 256 d ≡ o → option_map (λ fields. 53248 + fields) (added (Some (a * 512)) (added o (Some 0))) ≡ Some word
+        → instruction_of word ≡ machine.Jz a d
     at None out is = absurd cc
     at (Some n) inside is =
         let same : 53248 + (a * 512 + (n + 0)) ≡ word = cc in
         let back = signed-complement 256 d n inside in
         wide word 13 a n a_few (let few = back.0 in omega arith) (omega arith) ∙ ap (machine.Jz a) back.1
 
-jlt_read : (word a b : ℕ) (d : ℤ) → a < 8 → b < 8 → option_map (λ fields. 57344 + fields) (added (Some (a * 512)) (added (Some (b * 64)) (added (complement_of 32 d) (Some 0)))) ≡ Some word
+jlt_read : (word a b : ℕ) (d : ℤ) → a < 8 → b < 8
+    → option_map (λ fields. 57344 + fields) (added (Some (a * 512)) (added (Some (b * 64)) (added (complement_of 32 d) (Some 0)))) ≡ Some word
     → instruction_of word ≡ machine.Jlt a b d
 unfolding instruction_with
 jlt_read word a b d a_few b_few is = at (complement_of 32 d) refl is
   where
-    at : (o : Option ℕ) → complement_of 32 d ≡ o → option_map (λ fields. 57344 + fields) (added (Some (a * 512)) (added (Some (b * 64)) (added o (Some 0)))) ≡ Some word → instruction_of word ≡ machine.Jlt a b d
+    at : (o : Option ℕ) → complement_of 32 d ≡ o
+        → option_map (λ fields. 57344 + fields) (added (Some (a * 512)) (added (Some (b * 64)) (added o (Some 0)))) ≡ Some word → instruction_of word ≡ machine.Jlt a b d
     at None out is = absurd cc
     at (Some n) inside is =
         let same : 57344 + (a * 512 + (b * 64 + (n + 0))) ≡ word = cc in
@@ -89,18 +97,30 @@ pub meaning-law : (labels : Labels) (place : ℕ) (mnemonic : List ℕ) (values 
     → IsItem (instruction mnemonic values) → word_of labels place mnemonic values ≡ Some word → instruction_of word ≡ means
 unfolding IsItem forms form_named Fits word_of word_with fields_of field_of instruction_with
 meaning-law labels place mnemonic values means word nop item is = let same : 0 ≡ word = cc in wide word 0 0 0 (omega arith) (omega arith) (omega arith)
-meaning-law labels place mnemonic values means word (ldi a n) item is = let few = item.1.0 in let same : 4096 + (a * 512 + (n + 0)) ≡ word = cc in wide word 1 a n item.0 (omega arith) (omega arith)
-meaning-law labels place mnemonic values means word (ldx a n) item is = let few = item.1.0 in let same : 8192 + (a * 512 + (n + 0)) ≡ word = cc in wide word 2 a n item.0 (omega arith) (omega arith)
-meaning-law labels place mnemonic values means word (mov a b) item is = let same : 12288 + (a * 512 + (b * 64 + 0)) ≡ word = cc in narrow word 3 a b 0 item.0 item.1.0 (omega arith) (omega arith)
-meaning-law labels place mnemonic values means word (add a b c) item is = let same : 16384 + (a * 512 + (b * 64 + (c * 8 + 0))) ≡ word = cc in three word 4 a b c item.0 item.1.0 item.1.1.0 (omega arith)
-meaning-law labels place mnemonic values means word (sub a b c) item is = let same : 20480 + (a * 512 + (b * 64 + (c * 8 + 0))) ≡ word = cc in three word 5 a b c item.0 item.1.0 item.1.1.0 (omega arith)
-meaning-law labels place mnemonic values means word (and a b c) item is = let same : 24576 + (a * 512 + (b * 64 + (c * 8 + 0))) ≡ word = cc in three word 6 a b c item.0 item.1.0 item.1.1.0 (omega arith)
-meaning-law labels place mnemonic values means word (or a b c) item is = let same : 28672 + (a * 512 + (b * 64 + (c * 8 + 0))) ≡ word = cc in three word 7 a b c item.0 item.1.0 item.1.1.0 (omega arith)
-meaning-law labels place mnemonic values means word (xor a b c) item is = let same : 32768 + (a * 512 + (b * 64 + (c * 8 + 0))) ≡ word = cc in three word 8 a b c item.0 item.1.0 item.1.1.0 (omega arith)
-meaning-law labels place mnemonic values means word (shr a b n) item is = let few = item.1.1.0 in let same : 36864 + (a * 512 + (b * 64 + (n + 0))) ≡ word = cc in narrow word 9 a b n item.0 item.1.0 (omega arith) (omega arith)
-meaning-law labels place mnemonic values means word (mul a b c) item is = let same : 40960 + (a * 512 + (b * 64 + (c * 8 + 0))) ≡ word = cc in three word 10 a b c item.0 item.1.0 item.1.1.0 (omega arith)
-meaning-law labels place mnemonic values means word (ld a b n) item is = let few = item.1.1.0 in let same : 45056 + (a * 512 + (b * 64 + (n + 0))) ≡ word = cc in narrow word 11 a b n item.0 item.1.0 (omega arith) (omega arith)
-meaning-law labels place mnemonic values means word (st a b n) item is = let few = item.1.1.0 in let same : 49152 + (a * 512 + (b * 64 + (n + 0))) ≡ word = cc in narrow word 12 a b n item.0 item.1.0 (omega arith) (omega arith)
+meaning-law labels place mnemonic values means word (ldi a n) item is =
+    let few = item.1.0 in let same : 4096 + (a * 512 + (n + 0)) ≡ word = cc in wide word 1 a n item.0 (omega arith) (omega arith)
+meaning-law labels place mnemonic values means word (ldx a n) item is =
+    let few = item.1.0 in let same : 8192 + (a * 512 + (n + 0)) ≡ word = cc in wide word 2 a n item.0 (omega arith) (omega arith)
+meaning-law labels place mnemonic values means word (mov a b) item is =
+    let same : 12288 + (a * 512 + (b * 64 + 0)) ≡ word = cc in narrow word 3 a b 0 item.0 item.1.0 (omega arith) (omega arith)
+meaning-law labels place mnemonic values means word (add a b c) item is =
+    let same : 16384 + (a * 512 + (b * 64 + (c * 8 + 0))) ≡ word = cc in three word 4 a b c item.0 item.1.0 item.1.1.0 (omega arith)
+meaning-law labels place mnemonic values means word (sub a b c) item is =
+    let same : 20480 + (a * 512 + (b * 64 + (c * 8 + 0))) ≡ word = cc in three word 5 a b c item.0 item.1.0 item.1.1.0 (omega arith)
+meaning-law labels place mnemonic values means word (and a b c) item is =
+    let same : 24576 + (a * 512 + (b * 64 + (c * 8 + 0))) ≡ word = cc in three word 6 a b c item.0 item.1.0 item.1.1.0 (omega arith)
+meaning-law labels place mnemonic values means word (or a b c) item is =
+    let same : 28672 + (a * 512 + (b * 64 + (c * 8 + 0))) ≡ word = cc in three word 7 a b c item.0 item.1.0 item.1.1.0 (omega arith)
+meaning-law labels place mnemonic values means word (xor a b c) item is =
+    let same : 32768 + (a * 512 + (b * 64 + (c * 8 + 0))) ≡ word = cc in three word 8 a b c item.0 item.1.0 item.1.1.0 (omega arith)
+meaning-law labels place mnemonic values means word (shr a b n) item is =
+    let few = item.1.1.0 in let same : 36864 + (a * 512 + (b * 64 + (n + 0))) ≡ word = cc in narrow word 9 a b n item.0 item.1.0 (omega arith) (omega arith)
+meaning-law labels place mnemonic values means word (mul a b c) item is =
+    let same : 40960 + (a * 512 + (b * 64 + (c * 8 + 0))) ≡ word = cc in three word 10 a b c item.0 item.1.0 item.1.1.0 (omega arith)
+meaning-law labels place mnemonic values means word (ld a b n) item is =
+    let few = item.1.1.0 in let same : 45056 + (a * 512 + (b * 64 + (n + 0))) ≡ word = cc in narrow word 11 a b n item.0 item.1.0 (omega arith) (omega arith)
+meaning-law labels place mnemonic values means word (st a b n) item is =
+    let few = item.1.1.0 in let same : 49152 + (a * 512 + (b * 64 + (n + 0))) ≡ word = cc in narrow word 12 a b n item.0 item.1.0 (omega arith) (omega arith)
 meaning-law labels place mnemonic values means word (jz a target d there) item is = let made = rw there at is in jz_read word a d item.0 made
 meaning-law labels place mnemonic values means word (jlt a b target d there) item is = let made = rw there at is in jlt_read word a b d item.0 item.1.0 made
 meaning-law labels place mnemonic values means word wait item is = let same : 61440 ≡ word = cc in wide word 15 0 0 (omega arith) (omega arith) (omega arith)

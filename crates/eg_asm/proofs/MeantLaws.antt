@@ -66,7 +66,8 @@ three_fit values fit =
     let b = register_first 64 (rC ∷ []) a.rest a.fit in
     let c = register_first 8 [] b.rest b.fit in
     let end = nothing_left c.rest c.fit in
-    record { a = a.n; b = b.n; c = c.n; is = a.is ∙ ap (λ (l : List Value). Register a.n ∷ l) (b.is ∙ ap (λ (l : List Value). Register b.n ∷ l) (c.is ∙ ap (λ (l : List Value). Register c.n ∷ l) end)) }
+    record { a = a.n; b = b.n; c = c.n; is = a.is
+        ∙ ap (λ (l : List Value). Register a.n ∷ l) (b.is ∙ ap (λ (l : List Value). Register b.n ∷ l) (c.is ∙ ap (λ (l : List Value). Register c.n ∷ l) end)) }
 
 record AreTwo (operands : List Operand) (values : List Value) : Type 0 where
   a : ℕ
@@ -84,11 +85,13 @@ two_fit operands values fit =
 -- ---- targets ----
 
 -- there is a distance where the word has a field of it
-distance_there : (base m reach : ℕ) (o : Option ℤ) (word : ℕ) → option_map (λ fields. base + fields) (added (Some m) (added (option_and_then (complement_of reach) o) (Some 0))) ≡ Some word → (d : ℤ) × (o ≡ Some d)
+distance_there : (base m reach : ℕ) (o : Option ℤ) (word : ℕ)
+    → option_map (λ fields. base + fields) (added (Some m) (added (option_and_then (complement_of reach) o) (Some 0))) ≡ Some word → (d : ℤ) × (o ≡ Some d)
 distance_there base m reach None word is = absurd cc
 distance_there base m reach (Some d) word is = (d, refl)
 
-distance_behind : (base m n reach : ℕ) (o : Option ℤ) (word : ℕ) → option_map (λ fields. base + fields) (added (Some m) (added (Some n) (added (option_and_then (complement_of reach) o) (Some 0)))) ≡ Some word
+distance_behind : (base m n reach : ℕ) (o : Option ℤ) (word : ℕ)
+    → option_map (λ fields. base + fields) (added (Some m) (added (Some n) (added (option_and_then (complement_of reach) o) (Some 0)))) ≡ Some word
     → (d : ℤ) × (o ≡ Some d)
 distance_behind base m n reach None word is = absurd cc
 distance_behind base m n reach (Some d) word is = (d, refl)
@@ -113,14 +116,16 @@ numbered mnemonic base most i means labels place values word fit is =
     rw (a.is, n.1) (i a.n n.0, means labels place a.n n.0)
 
 -- one of three registers
-of_three : (mnemonic : List ℕ) (base : ℕ) (i : ℕ → ℕ → ℕ → Instruction) → ((labels : Labels) (place a b c : ℕ) → Means labels place mnemonic (Register a ∷ Register b ∷ Register c ∷ []) (i a b c))
+of_three : (mnemonic : List ℕ) (base : ℕ) (i : ℕ → ℕ → ℕ → Instruction)
+    → ((labels : Labels) (place a b c : ℕ) → Means labels place mnemonic (Register a ∷ Register b ∷ Register c ∷ []) (i a b c))
     → Meant mnemonic base (rA ∷ rB ∷ rC ∷ [])
 of_three mnemonic base i means labels place values word fit is =
     let three = three_fit values fit in
     rw three.is (i three.a three.b three.c, means labels place three.a three.b three.c)
 
 -- one of two registers and a number
-of_two : (mnemonic : List ℕ) (base most : ℕ) (i : ℕ → ℕ → ℕ → Instruction) → ((labels : Labels) (place a b n : ℕ) → Means labels place mnemonic (Register a ∷ Register b ∷ Number n ∷ []) (i a b n))
+of_two : (mnemonic : List ℕ) (base most : ℕ) (i : ℕ → ℕ → ℕ → Instruction)
+    → ((labels : Labels) (place a b n : ℕ) → Means labels place mnemonic (Register a ∷ Register b ∷ Number n ∷ []) (i a b n))
     → Meant mnemonic base (rA ∷ rB ∷ operand.Number most ∷ [])
 of_two mnemonic base most i means labels place values word fit is =
     let two = two_fit (operand.Number most ∷ []) values fit in
@@ -214,7 +219,8 @@ all_meant = (
 )
 
 -- an instruction but `word` means something, where it has a word
-pub meant-law : (labels : Labels) (place : ℕ) (mnemonic : List ℕ) (values : List Value) (word : ℕ) → mnemonic ≢ codes "word" → IsItem (instruction mnemonic values) → word_of labels place mnemonic values ≡ Some word
+pub meant-law : (labels : Labels) (place : ℕ) (mnemonic : List ℕ) (values : List Value) (word : ℕ) → mnemonic ≢ codes "word"
+    → IsItem (instruction mnemonic values) → word_of labels place mnemonic values ≡ Some word
     → (i : Instruction) × Means labels place mnemonic values i
 unfolding word_of word_with form_named
 meant-law labels place mnemonic values word other item is =
@@ -226,7 +232,8 @@ meant-law labels place mnemonic values word other item is =
     rw (← same) (meant (λ named. other (sym same ∙ named)) labels place values word form.2 found)
 
 -- the machine reads its word as what it means
-pub read-law : (labels : Labels) (place word : ℕ) (mnemonic : List ℕ) (values : List Value) → mnemonic ≢ codes "word" → IsItem (instruction mnemonic values) → word_of labels place mnemonic values ≡ Some word
+pub read-law : (labels : Labels) (place word : ℕ) (mnemonic : List ℕ) (values : List Value) → mnemonic ≢ codes "word"
+    → IsItem (instruction mnemonic values) → word_of labels place mnemonic values ≡ Some word
     → Means labels place mnemonic values (instruction_of word)
 read-law labels place word mnemonic values other item is =
     let means = meant-law labels place mnemonic values word other item is in

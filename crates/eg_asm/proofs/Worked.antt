@@ -68,31 +68,36 @@ unfolding assembling
 places = refl
 
 -- a number past the end of its range isn't of the grammar
-past_numbers : answers (codes "ldi r0,512\n" ∷ codes "ldi r8,0\n" ∷ codes "ldx r0,128\n" ∷ codes "shr r0,r0,16\n" ∷ codes "ld r0,r0,64\n" ∷ codes "st r0,r0,64\n" ∷ codes "word 65536\n"
+past_numbers : answers (codes "ldi r0,512\n" ∷ codes "ldi r8,0\n" ∷ codes "ldx r0,128\n" ∷ codes "shr r0,r0,16\n" ∷ codes "ld r0,r0,64\n"
+    ∷ codes "st r0,r0,64\n" ∷ codes "word 65536\n"
     ∷ codes "ldi r0,99999999999999999999\n" ∷ []) ≡ replicate 8 (Err (fault.Line 1))
 unfolding assembling
 past_numbers = refl
 
 -- a target past the end of its range is, and is at fault
-past_targets : answers (codes "jz r0,256\n" ∷ codes "jz r0,-257\n" ∷ codes "jlt r0,r0,32\n" ∷ codes "jlt r0,r0,-33\n" ∷ codes "jz r0,99999999999999999999\n" ∷ codes "jz r0,-99999999999999999999\n"
+past_targets : answers (codes "jz r0,256\n" ∷ codes "jz r0,-257\n" ∷ codes "jlt r0,r0,32\n" ∷ codes "jlt r0,r0,-33\n"
+    ∷ codes "jz r0,99999999999999999999\n" ∷ codes "jz r0,-99999999999999999999\n"
     ∷ []) ≡ replicate 6 (Err (fault.Label 1))
 unfolding assembling
 past_targets = refl
 
 -- numbers with a leading 0, and a 0 with a sign
-zeros : answers (codes "jz r0,-0\n" ∷ codes "jz r0,01\n" ∷ codes "jz r0,-01\n" ∷ codes "ldi r0,00\n" ∷ codes "ldi r0,-1\n" ∷ codes "jz r0,+1\n" ∷ codes "jz r0,-\n" ∷ codes "jz r0,\n" ∷ [])
+zeros : answers (codes "jz r0,-0\n" ∷ codes "jz r0,01\n" ∷ codes "jz r0,-01\n" ∷ codes "ldi r0,00\n" ∷ codes "ldi r0,-1\n" ∷ codes "jz r0,+1\n"
+    ∷ codes "jz r0,-\n" ∷ codes "jz r0,\n" ∷ [])
     ≡ replicate 8 (Err (fault.Line 1))
 unfolding assembling
 zeros = refl
 
 -- blanks, and other ends of a line
-blanks : answers (codes "nop \n" ∷ codes " nop\n" ∷ codes "ldi  r0,1\n" ∷ codes "ldi r0, 1\n" ∷ codes "ldi r0,1 \n" ∷ codes "nop\r\n" ∷ codes "a:\r\n" ∷ codes "\r\n" ∷ codes "nop" ∷ codes ";" ∷ codes "a:" ∷ [])
+blanks : answers (codes "nop \n" ∷ codes " nop\n" ∷ codes "ldi  r0,1\n" ∷ codes "ldi r0, 1\n" ∷ codes "ldi r0,1 \n" ∷ codes "nop\r\n"
+    ∷ codes "a:\r\n" ∷ codes "\r\n" ∷ codes "nop" ∷ codes ";" ∷ codes "a:" ∷ [])
     ≡ replicate 11 (Err (fault.Line 1))
 unfolding assembling
 blanks = refl
 
 -- operands that are missing, and such as aren't wanted
-operands : answers (codes "nop r0\n" ∷ codes "ldi\n" ∷ codes "ldi r0\n" ∷ codes "ldi r0,1,2\n" ∷ codes "ldi 1,r0\n" ∷ codes "add r0,r0,0\n" ∷ codes "jz r0,r1\n" ∷ codes "word\n" ∷ codes "dbl r0\n" ∷ codes "NOP\n" ∷ [])
+operands : answers (codes "nop r0\n" ∷ codes "ldi\n" ∷ codes "ldi r0\n" ∷ codes "ldi r0,1,2\n" ∷ codes "ldi 1,r0\n" ∷ codes "add r0,r0,0\n"
+    ∷ codes "jz r0,r1\n" ∷ codes "word\n" ∷ codes "dbl r0\n" ∷ codes "NOP\n" ∷ [])
     ≡ replicate 10 (Err (fault.Line 1))
 unfolding assembling
 operands = refl
@@ -106,7 +111,8 @@ unfolding assembling
 named = refl
 
 -- it may not have 17 letters, nor none, nor another byte
-unnamed : answers (codes "abcdefghijklmnopq:\n" ∷ codes ":\n" ∷ codes "a1:\n" ∷ codes "A:\n" ∷ codes "a::\n" ∷ codes "a: \n" ∷ codes "a:nop\n" ∷ codes "jz r0,abcdefghijklmnopq\n" ∷ [])
+unnamed : answers (codes "abcdefghijklmnopq:\n" ∷ codes ":\n" ∷ codes "a1:\n" ∷ codes "A:\n" ∷ codes "a::\n" ∷ codes "a: \n" ∷ codes "a:nop\n"
+    ∷ codes "jz r0,abcdefghijklmnopq\n" ∷ [])
     ≡ replicate 8 (Err (fault.Line 1))
 unfolding assembling
 unnamed = refl
@@ -137,7 +143,8 @@ back = refl
 -- ---- many lines ----
 
 -- behind 1,024 instructions comes nothing but empty lines, comments and labels
-long : answers ((nops 1024 ++ codes "nop\n") ∷ (nops 1024 ++ codes "\n;\na:\nno\n") ∷ (nops 1024 ++ codes "nop") ∷ (nops 1023 ++ codes "no\n") ∷ []) ≡ Err fault.Long ∷ Err fault.Long ∷ Err fault.Long ∷ Err (fault.Line 1024) ∷ []
+long : answers ((nops 1024 ++ codes "nop\n") ∷ (nops 1024 ++ codes "\n;\na:\nno\n") ∷ (nops 1024 ++ codes "nop") ∷ (nops 1023 ++ codes "no\n") ∷ [])
+    ≡ Err fault.Long ∷ Err fault.Long ∷ Err fault.Long ∷ Err (fault.Line 1024) ∷ []
 unfolding assembling lines
 long = refl
 
@@ -155,7 +162,8 @@ unfolding listing
 full = refl
 
 -- words of each form
-each : source_text (0x0000 ∷ 0x1fff ∷ 0x2e7f ∷ 0x3fc0 ∷ 0x4ff8 ∷ 0x5ff8 ∷ 0x6ff8 ∷ 0x7ff8 ∷ 0x8ff8 ∷ 0x9fcf ∷ 0xaff8 ∷ 0xbfff ∷ 0xcfff ∷ 0xdeff ∷ 0xefdf ∷ 0xf000 ∷ 0xfe01 ∷ 0xffff ∷ [])
+each : source_text (0x0000 ∷ 0x1fff ∷ 0x2e7f ∷ 0x3fc0 ∷ 0x4ff8 ∷ 0x5ff8 ∷ 0x6ff8 ∷ 0x7ff8 ∷ 0x8ff8 ∷ 0x9fcf ∷ 0xaff8 ∷ 0xbfff ∷ 0xcfff ∷ 0xdeff
+    ∷ 0xefdf ∷ 0xf000 ∷ 0xfe01 ∷ 0xffff ∷ [])
     ≡ codes "nop\nldi r7,511\nldx r7,127\nmov r7,r7\nadd r7,r7,r7\nsub r7,r7,r7\nand r7,r7,r7\nor r7,r7,r7\nxor r7,r7,r7\n"
     ++ codes "shr r7,r7,15\nmul r7,r7,r7\nld r7,r7,63\nst r7,r7,63\njz r7,255\njlt r7,r7,31\nwait\njr r7\nword 65535\n"
 unfolding listing

@@ -1,4 +1,5 @@
--- What the code keeps of an instruction until all labels are known: its word but for its target, and the target.
+-- What the code keeps of an instruction until all labels are known: its word but for its target, and the
+-- target.
 use Rattle.std.specs.Prelude.{ℕ, ◌+◌, ◌*◌, ◌==◌, if◌then◌else◌, ℤ, pos, negsuc, min, List, [], ◌∷◌, Option, Some, None, option_map}
 use Rattle.std.specs.Option.{option_map_or}
 use Rattle.eg_input.specs.declared.image.TheConstants.{MOST_WORDS}
@@ -49,7 +50,7 @@ encoded form values = with_operands (record { word = form.base; jump = None }) f
 
 -- ---- what the code's values show ----
 
-unfoldable pub target_shown : Target → Value
+abbrev pub target_shown : Target → Value
 target_shown (target.Label name) = Name name.now
 target_shown (target.Distance d) = Distance d
 

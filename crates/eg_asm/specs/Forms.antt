@@ -1,4 +1,4 @@
--- The forms of instructions. Assembling and disassembling both go by this table.
+-- The forms of instructions. Assembling and disassembling both use this table.
 use Rattle.std.specs.Prelude.{ℕ, List, [], ◌∷◌, codes, Option, find}
 use Rattle.std.specs.Str.{bytes_eq}
 use Rattle.eg_asm.specs.declared.operand.Operand.{Operand}
@@ -23,7 +23,7 @@ rB = Register 64
 abbrev pub rC : Operand
 rC = Register 8
 
--- the last one, which any word is of
+-- the last form: any word is of it
 abbrev pub word_form : Form
 word_form = form (codes "word") 0x0000 (Number 65535 ∷ [])
 

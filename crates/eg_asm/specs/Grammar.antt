@@ -48,7 +48,7 @@ line_of item = text_of item ++ codes "\n"
 
 -- ---- what may be said ----
 
--- the value may stand in the operand's place: how far a jump may go is no matter of the grammar
+-- the value may stand in the operand's place; the grammar doesn't limit how far a jump goes
 unfoldable pub Fits : Operand → Value → Type 0
 Fits (operand.Register weight) (Register n) = n < 8
 Fits (operand.Number most) (Number n) = n ≤ most
@@ -61,7 +61,8 @@ unfoldable pub IsItem : Item → Type 0
 IsItem Nothing = Unit {0}
 IsItem (Comment bytes) = list_any is_newline bytes ≡ false
 IsItem (Label name) = is_name name ≡ true
-IsItem (Instruction mnemonic values) = IsSomeAnd (form_named mnemonic) (λ form. AllZip Fits form.operands values)
+IsItem (Instruction mnemonic values) =
+    IsSomeAnd (form_named mnemonic) (λ form. AllZip Fits form.operands values)
 
 -- a line is of the grammar where it is that of an item
 pub record IsLineOf (line : List ℕ) (item : Item) : Type 0 where

@@ -23,14 +23,15 @@ numbered place _ = None
 -- the instructions among items, the first of which stands at this place
 unfoldable pub instructions_from : ℕ → List Item → List (ℕ × Encoded)
 instructions_from place [] = []
-instructions_from place (item ∷ items) = cons_option (numbered place (told item)) (instructions_from (place + 1) items)
+instructions_from place (item ∷ items) =
+    cons_option (numbered place (told item)) (instructions_from (place + 1) items)
 
 -- whether an item is a label that stands before it
 unfoldable pub is_repeat : List Item → Item → Bool
 is_repeat before (Label name) = is_some (place_of (labels_of before) name)
 is_repeat before _ = false
 
--- the place of the first of these items that is, where they stand behind others
+-- the place of the first of these items that is a repeat, where other items stand before them
 unfoldable pub repeat_behind : List Item → List Item → Option ℕ
 repeat_behind before [] = None
 repeat_behind before (item ∷ items) =
@@ -61,13 +62,15 @@ Holds source items =
     Keeps (λ (name : Bor (List ℕ)). name.now) items (map placed_shown source.instructions.items)
     (get (λ x y. slice_cmp nat_cmp x.now y.now) source.labels) source.repeated
 
--- what was kept of some items and what is kept now: of an item more, whose line is at this place and tells this
+-- Where the old source is kept of some items, the new one is kept of these and one more, whose line is at
+-- this place and tells this.
 abbrev pub Adds : ℕ → Told → Source → Source → Type 0
 Adds line tells old new =
-    (items : List Item) (item : Item) → HasForm item → told item ≡ tells → line ≡ length items + 1 → Holds old items
-    → Holds new (items ++ item ∷ [])
+    (items : List Item) (item : Item) → HasForm item → told item ≡ tells → line ≡ length items + 1
+    → Holds old items → Holds new (items ++ item ∷ [])
 
--- what was kept of some items and what is kept now: of an item more, which the line at this place says
+-- Where the old source is kept of some items, the new one is kept of these and of the item that the line at
+-- this place says.
 abbrev pub ReadsMore : ℕ → List ℕ → Source → Source → Type 0
 ReadsMore place line old new =
     (items : List Item) → place ≡ length items + 1 → Holds old items

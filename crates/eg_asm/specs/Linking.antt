@@ -14,7 +14,8 @@ use Rattle.eg_asm.specs.Encodings.{Encoded}
 -- what a target adds to its word at this place, where it is there and in range
 unfoldable pub jump_field : Labels → ℕ → Option (ℕ × Value) → Option ℕ
 jump_field labels place None = Some 0
-jump_field labels place (Some (reach, target)) = option_and_then (complement_of reach) (distance_to labels place target)
+jump_field labels place (Some (reach, target)) =
+    option_and_then (complement_of reach) (distance_to labels place target)
 
 -- the word of what is kept of an instruction at this place
 unfoldable pub completed : Labels → ℕ → Encoded → Option ℕ

@@ -5,31 +5,32 @@ use Rattle.eg_word.specs.declared.instruction.Instruction.TheVariants as machine
 use Rattle.eg_asm.specs.Grammar.{Value, Register, Number}
 use Rattle.eg_asm.specs.Words.{Labels, distance_to}
 
+-- operands: a register and a number, three registers, or two registers and a number
+abbrev pub of_number : (a n : ℕ) → List Value
+of_number a n = Register a ∷ Number n ∷ []
+
+abbrev pub of_three : (a b c : ℕ) → List Value
+of_three a b c = Register a ∷ Register b ∷ Register c ∷ []
+
+abbrev pub of_two : (a b n : ℕ) → List Value
+of_two a b n = Register a ∷ Register b ∷ Number n ∷ []
+
 -- The instruction that a name and its operands mean, where it stands at this place among these labels. `word`
 -- means none: it writes any word.
 pub data Means (labels : Labels) (place : ℕ) : List ℕ → List Value → Instruction → Type 0 where
   nop : Means labels place (codes "nop") [] machine.Nop
-  ldi : (a n : ℕ) → Means labels place (codes "ldi") (Register a ∷ Number n ∷ []) (machine.Ldi a n)
-  ldx : (a n : ℕ) → Means labels place (codes "ldx") (Register a ∷ Number n ∷ []) (machine.Ldx a n)
+  ldi : (a n : ℕ) → Means labels place (codes "ldi") (of_number a n) (machine.Ldi a n)
+  ldx : (a n : ℕ) → Means labels place (codes "ldx") (of_number a n) (machine.Ldx a n)
   mov : (a b : ℕ) → Means labels place (codes "mov") (Register a ∷ Register b ∷ []) (machine.Mov a b)
-  add : (a b c : ℕ)
-      → Means labels place (codes "add") (Register a ∷ Register b ∷ Register c ∷ []) (machine.Add a b c)
-  sub : (a b c : ℕ)
-      → Means labels place (codes "sub") (Register a ∷ Register b ∷ Register c ∷ []) (machine.Sub a b c)
-  and : (a b c : ℕ)
-      → Means labels place (codes "and") (Register a ∷ Register b ∷ Register c ∷ []) (machine.And a b c)
-  or : (a b c : ℕ)
-      → Means labels place (codes "or") (Register a ∷ Register b ∷ Register c ∷ []) (machine.Or a b c)
-  xor : (a b c : ℕ)
-      → Means labels place (codes "xor") (Register a ∷ Register b ∷ Register c ∷ []) (machine.Xor a b c)
-  shr : (a b n : ℕ)
-      → Means labels place (codes "shr") (Register a ∷ Register b ∷ Number n ∷ []) (machine.Shr a b n)
-  mul : (a b c : ℕ)
-      → Means labels place (codes "mul") (Register a ∷ Register b ∷ Register c ∷ []) (machine.Mul a b c)
-  ld : (a b n : ℕ)
-      → Means labels place (codes "ld") (Register a ∷ Register b ∷ Number n ∷ []) (machine.Ld a b n)
-  st : (a b n : ℕ)
-      → Means labels place (codes "st") (Register a ∷ Register b ∷ Number n ∷ []) (machine.St a b n)
+  add : (a b c : ℕ) → Means labels place (codes "add") (of_three a b c) (machine.Add a b c)
+  sub : (a b c : ℕ) → Means labels place (codes "sub") (of_three a b c) (machine.Sub a b c)
+  and : (a b c : ℕ) → Means labels place (codes "and") (of_three a b c) (machine.And a b c)
+  or : (a b c : ℕ) → Means labels place (codes "or") (of_three a b c) (machine.Or a b c)
+  xor : (a b c : ℕ) → Means labels place (codes "xor") (of_three a b c) (machine.Xor a b c)
+  shr : (a b n : ℕ) → Means labels place (codes "shr") (of_two a b n) (machine.Shr a b n)
+  mul : (a b c : ℕ) → Means labels place (codes "mul") (of_three a b c) (machine.Mul a b c)
+  ld : (a b n : ℕ) → Means labels place (codes "ld") (of_two a b n) (machine.Ld a b n)
+  st : (a b n : ℕ) → Means labels place (codes "st") (of_two a b n) (machine.St a b n)
   jz : (a : ℕ) (target : Value) (distance : ℤ) → distance_to labels place target ≡ Some distance
       → Means labels place (codes "jz") (Register a ∷ target ∷ []) (machine.Jz a distance)
   jlt : (a b : ℕ) (target : Value) (distance : ℤ) → distance_to labels place target ≡ Some distance

@@ -1,5 +1,5 @@
 -- How a source is read, line by line: this undoes what the grammar writes. That it does so is a law
--- (`sources_have_one_answer`); what a source is says Sources.antt.
+-- (`sources_have_one_answer`); Sources.antt says what a source is.
 use Rattle.std.specs.Prelude.{◌≡◌, ◌⊎◌, ℕ, ◌+◌, ◌-◌, ◌==◌, ℤ, pos, negsuc, if◌then◌else◌, nat_lt, nat_le, Bool, ◌&&◌, ◌||◌, List, [], ◌∷◌, length, drop, take, slice_index, codes, Option, Some, None, option_map, option_and_then, Result, Ok, Err}
 use Rattle.std.specs.Char.{is_ascii_digit}
 use Rattle.std.specs.Int.{is_in_range}
@@ -48,7 +48,8 @@ integer_in text =
 -- the number of a register
 unfoldable pub register_in : List ℕ → Option ℕ
 register_in text =
-    if length text == 2 && slice_index text 0 == byte "r" && is_in_range (byte "0") (byte "7") (slice_index text 1)
+    if length text == 2 && slice_index text 0 == byte "r"
+        && is_in_range (byte "0") (byte "7") (slice_index text 1)
     then Some (slice_index text 1 - byte "0")
     else None
 
@@ -72,7 +73,8 @@ unfoldable pub values_of : List Operand → List (List ℕ) → Option (List Val
 values_of [] [] = Some []
 values_of [] (text ∷ texts) = None
 values_of (operand ∷ operands) [] = None
-values_of (operand ∷ operands) (text ∷ texts) = value_before (value_of operand text) (values_of operands texts)
+values_of (operand ∷ operands) (text ∷ texts) =
+    value_before (value_of operand text) (values_of operands texts)
 
 -- ---- lines ----
 
@@ -83,7 +85,8 @@ is_byte wanted b = b == wanted
 -- what stands behind the first such byte, where there is one
 unfoldable pub behind_first : ℕ → List ℕ → Option (List ℕ)
 behind_first wanted text =
-    if nat_lt (position_or_len (is_byte wanted) text) (length text) then Some (after_first (is_byte wanted) text)
+    if nat_lt (position_or_len (is_byte wanted) text) (length text)
+    then Some (after_first (is_byte wanted) text)
     else None
 
 -- what stands before the last byte, where it is this one
@@ -99,7 +102,9 @@ texts_in (Some text) = slice_split (is_byte (byte ",")) text
 -- the instruction that a text writes
 unfoldable pub instruction_in : List ℕ → Option Item
 instruction_in text =
-    option_and_then (λ form. option_map (Instruction form.mnemonic) (values_of form.operands (texts_in (behind_first (byte " ") text))))
+    option_and_then
+    (λ form. option_map (Instruction form.mnemonic)
+        (values_of form.operands (texts_in (behind_first (byte " ") text))))
     (form_named (before_first (is_byte (byte " ")) text))
 
 -- what a text says that is neither empty nor a comment, where this stands before a colon at its end
@@ -111,7 +116,8 @@ labelled text None = instruction_in text
 unfoldable pub item_of_text : List ℕ → Option Item
 item_of_text [] = Some Nothing
 item_of_text (first ∷ rest) =
-    if first == byte ";" then Some (Comment rest) else labelled (first ∷ rest) (before_last_byte (byte ":") (first ∷ rest))
+    if first == byte ";" then Some (Comment rest)
+    else labelled (first ∷ rest) (before_last_byte (byte ":") (first ∷ rest))
 
 -- what a line says
 unfoldable pub item_in : Line → Option Item
@@ -132,7 +138,8 @@ unfoldable pub refusal : ℕ → ℕ → AsmFault
 refusal words place = if words == MOST_WORDS then fault.Long else fault.Line place
 
 -- an item before others, or the fault of its line
-unfoldable pub item_before : AsmFault → Option Item → Result (List Item) AsmFault → Result (List Item) AsmFault
+unfoldable pub item_before :
+    AsmFault → Option Item → Result (List Item) AsmFault → Result (List Item) AsmFault
 item_before e None read = Err e
 item_before e (Some item) (Ok items) = Ok (item ∷ items)
 item_before e (Some item) (Err later) = Err later

@@ -18,10 +18,11 @@ pub record IsSourceOf (source words : List ℕ) : Type 0 where
 -- the text goes on, and its next line isn't one of such an item
 pub record GoesWrong (may_come : Item → Type 0) (text : List ℕ) : Type 0 where
   pub more : text ≢ []
-  pub wrong : (line rest : List ℕ) (item : Item) → text ≡ line ++ rest → IsLineOf line item → may_come item → ⊥
+  pub wrong : (line rest : List ℕ) (item : Item) → text ≡ line ++ rest → IsLineOf line item
+      → may_come item → ⊥
 
--- The source begins with lines of the grammar, of fewer than 1,024 instructions, and the line that comes then,
--- at this place, isn't of the grammar.
+-- The source begins with lines of the grammar, of fewer than 1,024 instructions, and the line that comes
+-- then, at this place, isn't of the grammar.
 pub record HasBadLineAt (source : List ℕ) (place : ℕ) : Type 0 where
   pub good : List Item
   pub front : List ℕ
@@ -32,8 +33,8 @@ pub record HasBadLineAt (source : List ℕ) (place : ℕ) : Type 0 where
   pub bad : GoesWrong (λ item. Unit {0}) rest
   pub at : place ≡ length good + 1
 
--- the source begins with lines of the grammar, of 1,024 instructions, and then comes no empty line, comment or
--- label
+-- the source begins with lines of the grammar, of 1,024 instructions, and then comes no empty line, comment
+-- or label
 pub record IsTooLong (source : List ℕ) : Type 0 where
   pub good : List Item
   pub front : List ℕ
@@ -43,7 +44,8 @@ pub record IsTooLong (source : List ℕ) : Type 0 where
   pub full : word_count good ≡ MOST_WORDS
   pub bad : GoesWrong (λ item. size item ≡ 0) rest
 
--- the source is lines of the grammar, of at most 1,024 instructions, the first of which at fault is at this place
+-- the source is lines of the grammar, of at most 1,024 instructions, and the first line at fault is at this
+-- place
 pub record HasBadLabelAt (source : List ℕ) (place : ℕ) : Type 0 where
   pub items : List Item
   pub text : IsTextOf source items

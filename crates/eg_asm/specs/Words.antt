@@ -100,10 +100,11 @@ words_of items = words_from (labels_of items) 0 items
 -- instruction are there and in range.
 unfoldable pub is_sound : Labels → List Item → Item → Bool
 is_sound labels before (Label name) = is_none (place_of (labels_of before) name)
-is_sound labels before (Instruction mnemonic values) = is_some (word_of labels (word_count before) mnemonic values)
+is_sound labels before (Instruction mnemonic values) =
+    is_some (word_of labels (word_count before) mnemonic values)
 is_sound labels before _ = true
 
--- the place in the source of the first of these items that isn't, where they stand behind others
+-- the place in the source of the first of these items that isn't sound, where other items stand before them
 unfoldable pub fault_behind : Labels → List Item → List Item → Option ℕ
 fault_behind labels before [] = None
 fault_behind labels before (item ∷ items) =

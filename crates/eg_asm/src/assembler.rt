@@ -17,7 +17,7 @@ use crate::AsmFault;
 use crate::source::Source;
 use std::alloc::Global;
 
-/// The words of an image that stands in words with names (docs/FORMATS.md, "Sources").
+/// The words of the image that a source writes (docs/FORMATS.md, "Sources"), or why it is refused.
 pub fn assemble(alloc: Global, bytes: &[u8]) -> Result<Vec<u16>, AsmFault>
     requires { length bytes.now ≤ 4194304 }
     ensures words { IfOk result (λ words. Assembles bytes.now (Ok words.items)) }
@@ -43,9 +43,9 @@ fn read_source(alloc: Global, bytes: &[u8]) -> Result<Source<'_>, AsmFault>
 }
 
 /// What `assemble` says of a source is all that there is to say (docs/FORMATS.md, "Sources"): each source has
-/// one answer, which is found by reading its lines. That of what words are written as is these words.
+/// one answer, which is found by reading its lines. The source of an image has the image's words as its
+/// answer.
 pub fn sources_have_one_answer()
-    ensures some { (source : List ℕ) → (answer : Result (List ℕ) AsmFault) × Assembles source answer }
     ensures one { (source : List ℕ) (one other : Result (List ℕ) AsmFault) →
         Assembles source one → Assembles source other → one ≡ other }
     ensures reads { (source : List ℕ) → Assembles source (assembled source) }
@@ -54,8 +54,8 @@ pub fn sources_have_one_answer()
         Assembles (source_text words) answer → answer ≡ Ok words }
 {}
 
-/// What the machine makes of a source (docs/FORMATS.md, "Sources"): it reads the word of an instruction as what
-/// the instruction means. `word` gives the word that it has.
+/// What the machine makes of a source (docs/FORMATS.md, "Sources"): it reads the word of an instruction as
+/// what the instruction means. `word` gives the word that it has.
 pub fn words_mean_their_instructions()
     ensures meant { (labels : Labels) (place word : ℕ) (mnemonic : List ℕ) (values : List Value) →
         mnemonic ≢ codes "word" → IsItem (Instruction mnemonic values) →

@@ -9,8 +9,8 @@ ghost use Rattle.eg_asm.specs.Reading.{at_most, negative, numeral_in, register_i
 use crate::Operand;
 use crate::numeral::numeral;
 
-/// Where a jump goes: to a label, or so far. A distance of more than 65,536 words either way is told as one of
-/// 65,536.
+/// Where a jump goes: to a label, or by a distance in words. A distance of more than 65,536 words either way
+/// is told as one of 65,536.
 #[derive(Clone, Copy)]
 pub(crate) enum Target<'a> {
     Label(&'a [u8]),
@@ -32,7 +32,7 @@ pub(crate) struct Encoding<'a> {
 }
 
 impl<'a> Encoding<'a> {
-    /// This with one operand more, that a text writes.
+    /// This with one operand more, the one that a text writes.
     #[tactic(auto, unfolding(crate::specs::Encodings::with_operand, crate::specs::Reading::value_of))]
     pub(crate) fn with(self, operand: Operand, text: &'a [u8]) -> Option<Encoding<'a>>
         requires { self.word < 2 ^ 24 }
@@ -73,7 +73,7 @@ fn register_in(text: &[u8]) -> Option<u8>
 }
 
 /// The target that a text writes.
-#[tactic(auto, unfolding(crate::specs::Reading::target_in, crate::specs::Encodings::capped_target, crate::specs::Encodings::target_shown))]
+#[tactic(auto, unfolding(crate::specs::Reading::target_in, crate::specs::Encodings::capped_target))]
 fn target_in(text: &[u8]) -> Option<Target<'_>>
     ensures { option_map target_shown result ≡ option_map capped_target (target_in text.now) }
 {
@@ -83,7 +83,8 @@ fn target_in(text: &[u8]) -> Option<Target<'_>>
     Some(Target::Distance(integer_in(text)?))
 }
 
-/// The number that a numeral with or without a sign writes, where 65,536 stands for those past it, either way.
+/// The number that a numeral with or without a sign writes, where 65,536 stands for those past it, either
+/// way.
 #[tactic(auto, unfolding(crate::specs::Reading::integer_in, crate::specs::Encodings::capped))]
 fn integer_in(text: &[u8]) -> Option<i32>
     ensures { result ≡ option_map capped (integer_in text.now) }

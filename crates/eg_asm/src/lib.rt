@@ -1,4 +1,4 @@
-//! Images of level 1 in words with names: an assembler and a disassembler.
+//! Sources of images of level 1, with names for instructions and labels: an assembler and a disassembler.
 #![tactic(auto)]
 
 mod assembler;

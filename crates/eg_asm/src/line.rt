@@ -71,8 +71,8 @@ fn read_instruction(text: &[u8]) -> Option<Instruction<'_>>
     })
 }
 
-/// The instruction of a form whose operands stand in a text, between commas, or that has none where there is no
-/// text.
+/// The instruction of a form whose operands stand in a text, between commas, or that has none where there is
+/// no text.
 fn read_operands<'a>(form: &FormRow, text: Option<&'a [u8]>) -> Option<Encoding<'a>>
     requires { length form.now.operands.now ≤ 3 }
     ensures { option_map encoding_shown result

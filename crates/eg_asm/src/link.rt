@@ -56,7 +56,7 @@ impl<'a> Source<'a> {
     }
 
     /// The distance to a target from the word after this place, where the target is there.
-    #[tactic(auto, unfolding(crate::specs::Words::distance_to, crate::specs::Encodings::target_shown))]
+    #[tactic(auto, unfolding(crate::specs::Words::distance_to))]
     fn distance_to(&self, place: usize, target: Target<'a>) -> Option<i32>
         requires { place < MOST_WORDS }
         ensures { (labels : Labels) → HasLabels self.now.labels labels →

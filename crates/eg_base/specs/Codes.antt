@@ -1,4 +1,4 @@
--- How the states of the stores in memory are put into numbers and lists, which the prover asks for of a
+-- How the states of the stores in memory are written as numbers and lists. The prover asks for that of each
 -- value that a contract sees.
 use Rattle.std.specs.Prelude.{ℕ, List, refl}
 use Rattle.std.specs.Coded.{Coded, code_by, coded×, coded_ℕ, coded_list}
@@ -6,11 +6,11 @@ use Rattle.std.specs.FinMap.{code}
 use Rattle.eg_base.specs.Outside.{Files}
 use Rattle.eg_base.specs.Fakes.{StoreState, SureStoreState}
 
--- files go by their sorted entries
+-- files are written as their sorted entries
 abbrev pub files_code : Coded Files
 files_code = code (coded_list coded_ℕ) (coded_list coded_ℕ)
 
--- a state goes by the tuple of its parts
+-- a state is written as the tuple of its parts
 abbrev pub store_code : Coded StoreState
 store_code =
     code_by (Files × (List ℕ × (ℕ × ℕ)))
@@ -19,7 +19,7 @@ store_code =
     (λ t. record { files = t.0; failing = t.1.0; reads = t.1.1.0; faults = t.1.1.1 })
     (λ _. refl)
 
--- a state goes by the pair of its parts
+-- a state is written as the pair of its parts
 abbrev pub sure_store_code : Coded SureStoreState
 sure_store_code =
     code_by (Files × ℕ) (coded× files_code coded_ℕ) (λ s. (s.files, s.faults))

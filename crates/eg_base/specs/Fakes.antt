@@ -17,8 +17,8 @@ pub record PlanState : Type 0 where
 
 -- ---- stores ----
 
--- a store of which reads of chosen numbers fail: its files, those numbers, how many reads were made, and
--- how many faults were met
+-- a store of which chosen reads fail, by their numbers: its files, those numbers, how many reads were made,
+-- and how many faults were met
 pub record StoreState : Type 0 where
   pub files : Files
   pub failing : List ℕ
@@ -49,8 +49,8 @@ after_sure_read store name = record store {
 
 -- ---- outputs ----
 
--- an output of which puts of chosen numbers fail: the bytes written, those numbers, how many puts were made,
--- and how many faults were met
+-- an output of which chosen puts fail, by their numbers: the bytes written, those numbers, how many puts were
+-- made, and how many faults were met
 pub record SinkState : Type 0 where
   pub bytes : List ℕ
   pub failing : List ℕ
@@ -73,7 +73,8 @@ after_failed_put sink bytes = record sink {
   faults = next_count sink.faults;
 }
 
--- an output with a stated room: the bytes written, how many it may hold, and how many faults were met
+-- an output with room for a stated number of bytes: the bytes written, how many it may hold, and how many
+-- faults were met
 pub record SureSinkState : Type 0 where
   pub bytes : List ℕ
   pub room : ℕ

@@ -8,6 +8,6 @@ use Rattle.eg_base.specs.declared.named_files.NamedFile.{NamedFile}
 abbrev pub is_named : List ℕ → NamedFile → Bool
 is_named name file = bytes_eq name (string_bytes file.name)
 
--- files by name: of two of one name the later one stands
+-- files by name: of two files with one name the later one counts
 abbrev pub files_of : List NamedFile → Files
 files_of files = from_entries (map (λ f. (string_bytes f.name, f.bytes.items)) (reverse files))

@@ -9,15 +9,15 @@ use Rattle.std.specs.FinMap.{FinMap, get}
 abbrev pub Files : Type 0
 Files = FinMap (slice_cmp nat_cmp) (List ℕ)
 
--- what a store shows: its files, where they are told; how many faults of reading it has met; and whether
--- it is sure, so that reading fails only where there is no such file
+-- what a store shows: its files, where contracts are told of them; how many faults of reading it has met; and
+-- whether it is sure, so that reading fails only where there is no such file
 pub record ShownStore : Type 0 where
   pub files : Option Files
   pub faults : ℕ
   pub sure : Bool
 
--- what an output shows: what was written, where it is told; how many faults of writing it has met; and
--- whether it is sure, so that writing takes no memory
+-- what an output shows: what was written, where contracts are told of it; how many faults of writing it has
+-- met; and whether it is sure, so that writing takes no memory
 pub record ShownSink : Type 0 where
   pub written : Option (List ℕ)
   pub faults : ℕ
@@ -29,7 +29,8 @@ Rose before now = min (before + 1) (2 ^ 64 - 1) ≤ now
 
 -- ---- files ----
 
--- the bytes are the first `most` of the file of that name, where the files are told, and else at most so many
+-- where the files are told, the bytes are the first `most` of the file of that name; else they are at most so
+-- many
 abbrev pub AreFirstBytes : Option Files → List ℕ → ℕ → List ℕ → Type 0
 AreFirstBytes files name most bytes =
     (length bytes ≤ most) × IfSome files (λ m. IsSomeAnd (get m name) (λ file. bytes ≡ take most file))

@@ -8,8 +8,8 @@ use crate::{Opens, ReadRefusal, Store};
 use std::io::Read;
 use std::marker::Model;
 
-/// Files that are opened by their names, as those of the system. They are told where what opens them tells
-/// them, and the store isn't sure.
+/// Files that are opened by their names, as those of the system. Contracts are told of them where what opens
+/// them tells them, and the store isn't sure.
 ///
 /// Each refusal to open or to read a file is a fault, an interrupted read too. Contracts see an
 /// `OpenerState`: what opens the files, and the count of faults.
@@ -60,10 +60,11 @@ impl<O: Opens + Drop> Store for FileStore<O> {
             → self.new ≡ record self.old { faults = next_count self.old.faults } }
         ensures no_fault { OnOk result (self.new ≡ self.old) }
         ensures memory { IsErrOf result Memory → self.new ≡ self.old }
-        ensures count { self.old.faults ≤ self.new.faults }
         ensures opener { self.new.opener ≡ self.old.opener }
 
-        // What the buffer holds afterwards.
+        // As the trait has them: beside clauses of its own an impl has to say again what the trait's follow
+        // from.
+        ensures count { self.old.faults ≤ self.new.faults }
         ensures ok { OnOk result
             (Reads (O.files self.old.opener) name.now most into.old.items into.new.items) }
         ensures kept { OnErr result (BeginsWith into.old.items into.new.items) }

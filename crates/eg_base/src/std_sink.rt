@@ -77,7 +77,7 @@ fn write_through<W: Write>(stream: &mut W, bytes: &[u8]) -> Result<(), PutRefusa
     stream.flush().map_err(|_| PutRefusal::Failed)
 }
 
-/// Writes all of these bytes. Of what a refused `write_all` took std says nothing, so the loop over `write`
+/// Writes all of these bytes. std says nothing of what a refused `write_all` took, so the loop over `write`
 /// stands here.
 #[tactic(auto, using(crate::proofs::StreamLemmas::taken))]
 fn write_whole<W: Write>(stream: &mut W, bytes: &[u8]) -> Result<(), PutRefusal>
@@ -96,7 +96,7 @@ fn write_whole<W: Write>(stream: &mut W, bytes: &[u8]) -> Result<(), PutRefusal>
 }
 
 /// Writes as many of these bytes as the stream takes at once, and tells how many: none where the write is
-/// interrupted. A stream that takes none without that has failed.
+/// interrupted. A stream that takes none though it wasn't interrupted has failed.
 fn write_once<W: Write>(stream: &mut W, bytes: &[u8]) -> Result<usize, PutRefusal>
     ensures refused { IsOkUnless result Failed }
     ensures most { IfOk result (λ count. count ≤ length bytes.now) }

@@ -8,8 +8,8 @@ use crate::{NoMemory, PutRefusal, Sink};
 use std::alloc::Global;
 use std::marker::Model;
 
-/// An output in memory with a stated room, in bytes, that is taken when it is made. What was written is told,
-/// and it is sure.
+/// An output in memory with room for a stated number of bytes, which is taken when it is made. What was
+/// written is told, and it is sure.
 ///
 /// Contracts see a `SureSinkState`: the bytes written, the room and the count of faults.
 #[derive(Drop)]

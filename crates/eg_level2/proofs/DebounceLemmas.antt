@@ -12,7 +12,7 @@ use Rattle.eg_level2.specs.declared.step.Step.{Step}
 use Rattle.eg_level2.specs.declared.debounce.Feeds.{Feeds}
 use Rattle.eg_level2.specs.Words.{Words, named, AreWithin}
 use Rattle.eg_level2.specs.Modules.{feeds_now, counted, is_found, debounced, limits, trips, debounce_step, pedal_bit, plate_bit, load_bit, speed_bit, torque_bit, no_watches, finding}
-use Rattle.eg_level2.specs.Stores.{put, keep, keep_where, Store, store, both, both_where, after_stores, AreFirst, fed_of, feeds_of, counting, counters_kept, trips_of, found_of}
+use Rattle.eg_level2.specs.Stores.{put, keep, keep_where, Store, store, both, both_where, after_stores, AreFirst, fed_of, feeds_of, counting, counters_kept, found_of}
 use Rattle.eg_level2.specs.Order.{debounce_stores}
 
 -- ---- what is fed ----
@@ -78,23 +78,23 @@ stored_by feeds false true token f = refl
 stored_by feeds false false token f = refl
 
 -- the same of feeds, tests and token that are known
-same_words : (feeds other : Feeds) (trip : Bool) (token moved : ℕ) (words : Words) → feeds ≡ other → trip ≡ trips_of feeds → token ≡ moved
-    → fed_words feeds feeds.pedal.found trip token words ≡ fed_words other other.pedal.found (trips_of other) moved words
+same_words : (feeds other : Feeds) (trip : Bool) (token moved : ℕ) (words : Words) → feeds ≡ other → trip ≡ trips (found_of feeds) → token ≡ moved
+    → fed_words feeds feeds.pedal.found trip token words ≡ fed_words other other.pedal.found (trips (found_of other)) moved words
 same_words feeds other trip token moved words ef et em =
     ap (λ t. fed_words feeds feeds.pedal.found t token words) et
-    ∙ ap (λ t. fed_words feeds feeds.pedal.found (trips_of feeds) t words) em
-    ∙ ap (λ (x : Feeds). fed_words x x.pedal.found (trips_of x) moved words) ef
+    ∙ ap (λ t. fed_words feeds feeds.pedal.found (trips (found_of feeds)) t words) em
+    ∙ ap (λ (x : Feeds). fed_words x x.pedal.found (trips (found_of x)) moved words) ef
 
 -- ---- the step ----
 
 -- the counters are fed
 free : (rules : Rules) (phase : Phase) (words : Words) → feeds_now phase words ≡ true
-    → fed_words (feeds_of rules words) (feeds_of rules words).pedal.found (trips_of (feeds_of rules words)) (next_token_of words.token 6) words ≡ debounce_step rules phase words
-unfolding debounce_step debounced limits trips counted is_found feeds_of fed_of trips_of
+    → fed_words (feeds_of rules words) (feeds_of rules words).pedal.found (trips (found_of (feeds_of rules words))) (next_token_of words.token 6) words ≡ debounce_step rules phase words
+unfolding debounce_step debounced limits trips counted is_found feeds_of fed_of found_of
 free rules phase words e = rw e refl
 
 free-found : (rules : Rules) (phase : Phase) (words : Words) → feeds_now phase words ≡ true → found_of (feeds_of rules words) ≡ debounced rules phase words
-unfolding debounced is_found feeds_of fed_of found_of
+unfolding debounced is_found feeds_of fed_of found_of no_watches
 free-found rules phase words e = rw e refl
 
 -- where they aren't fed the token alone moves
@@ -109,7 +109,7 @@ unfed-found rules phase words e = rw e refl
 -- ---- both, from the calls ----
 
 pub fed_step : (f g1 g2 g3 h : ℕ → ℕ) (rules : Rules) (phase : Phase) (feeds : Feeds) (trip feeding : Bool) (t token : ℕ) → h ≡ keep 12 token g3 → g3 ≡ counters_kept feeds g2
-    → g2 ≡ keep_where feeds.pedal.found 10 1 g1 → g1 ≡ keep_where trip 11 1 f → trip ≡ trips_of feeds → feeds ≡ feeds_of rules (named f)
+    → g2 ≡ keep_where feeds.pedal.found 10 1 g1 → g1 ≡ keep_where trip 11 1 f → trip ≡ trips (found_of feeds) → feeds ≡ feeds_of rules (named f)
     → feeding ≡ feeds_now phase (named f) → feeding ≡ true → token ≡ next_token_of t 6 → t ≡ f 12 → named h ≡ debounce_step rules phase (named f)
 unfolding named
 fed_step f g1 g2 g3 h rules phase feeds trip feeding t token eh e3 e2 e1 etrip ef efeeding on etoken et =
@@ -140,19 +140,19 @@ abbrev fed_stores : Feeds → Bool → ℕ → List Store
 fed_stores feeds trip token = both_where trip 11 1 (both_where feeds.pedal.found 10 1 (counting feeds (both 12 token [])))
 
 free-stores : (rules : Rules) (phase : Phase) (words : Words) → feeds_now phase words ≡ true
-    → fed_stores (feeds_of rules words) (trips_of (feeds_of rules words)) (next_token_of words.token 6)
+    → fed_stores (feeds_of rules words) (trips (found_of (feeds_of rules words))) (next_token_of words.token 6)
     ≡ debounce_stores (feeds_now phase words) (debounced rules phase words) (debounce_step rules phase words)
-unfolding debounce_stores counting debounce_step debounced limits trips counted is_found feeds_of fed_of trips_of
+unfolding debounce_stores counting debounce_step debounced limits trips counted is_found feeds_of fed_of found_of
 free-stores rules phase words e = rw e refl
 
-pub fed-is : (f h : ℕ → ℕ) (rules : Rules) (phase : Phase) (feeds : Feeds) (trip feeding : Bool) (t token : ℕ) → trip ≡ trips_of feeds → feeds ≡ feeds_of rules (named f)
+pub fed-is : (f h : ℕ → ℕ) (rules : Rules) (phase : Phase) (feeds : Feeds) (trip feeding : Bool) (t token : ℕ) → trip ≡ trips (found_of feeds) → feeds ≡ feeds_of rules (named f)
     → feeding ≡ feeds_now phase (named f) → feeding ≡ true → token ≡ next_token_of t 6 → t ≡ f 12 → AreFirst (fed_stores feeds trip token) f h
     → AreFirst (debounce_stores (feeds_now phase (named f)) (debounced rules phase (named f)) (debounce_step rules phase (named f))) f h
 unfolding named
 fed-is f h rules phase feeds trip feeding t token etrip ef efeeding on etoken et first =
     subst (λ (l : List Store). AreFirst l f h)
-    (ap (λ t. fed_stores feeds t token) etrip ∙ ap (λ t. fed_stores feeds (trips_of feeds) t) (etoken ∙ ap (λ t. next_token_of t 6) et)
-    ∙ ap (λ (x : Feeds). fed_stores x (trips_of x) (next_token_of (f 12) 6)) ef ∙ free-stores rules phase (named f) (sym efeeding ∙ on)) first
+    (ap (λ t. fed_stores feeds t token) etrip ∙ ap (λ t. fed_stores feeds (trips (found_of feeds)) t) (etoken ∙ ap (λ t. next_token_of t 6) et)
+    ∙ ap (λ (x : Feeds). fed_stores x (trips (found_of x)) (next_token_of (f 12) 6)) ef ∙ free-stores rules phase (named f) (sym efeeding ∙ on)) first
 
 unfed-stores : (rules : Rules) (phase : Phase) (words : Words) → feeds_now phase words ≡ false
     → both 12 (next_token_of words.token 6) [] ≡ debounce_stores (feeds_now phase words) (debounced rules phase words) (debounce_step rules phase words)

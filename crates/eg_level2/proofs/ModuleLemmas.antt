@@ -43,7 +43,7 @@ check-is f h tick seed t token w l flow ef ew el etoken et first =
 pub signalled_by : (f g1 g2 h : ℕ → ℕ) (number signal test d place value t token s sign w : ℕ) (trip : Bool) → h ≡ keep 15 sign g2 → g2 ≡ keep 12 token g1
     → g1 ≡ keep place value f → place ≡ number - 1 → value ≡ (if trip then 0 else bit_xor signal d) → trip ≡ is_set w → w ≡ f 11
     → token ≡ next_token_of t number → t ≡ f 12 → sign ≡ bit_xor (mixed s test) d → s ≡ f 15 → h ≡ signalled number signal test d f
-unfolding signalled signalling after_stores both store keep
+unfolding named written signed signalled signalling after_stores both store keep
 signalled_by f g1 g2 h number signal test d place value t token s sign w trip eh e2 e1 ep ev etrip ew etoken et esign es =
     eh ∙ rw (e2, e1, ep, ev, etrip, ew, etoken, et, esign, es) refl
 
@@ -51,7 +51,7 @@ signalled_by f g1 g2 h number signal test d place value t token s sign w trip eh
 pub signalling-is : (f h : ℕ → ℕ) (number signal test d place value t token s sign w : ℕ) (trip : Bool) → place ≡ number - 1
     → value ≡ (if trip then 0 else bit_xor signal d) → trip ≡ is_set w → w ≡ f 11 → token ≡ next_token_of t number → t ≡ f 12 → sign ≡ bit_xor (mixed s test) d → s ≡ f 15
     → AreFirst (both place value (both 12 token (both 15 sign []))) f h → AreFirst (signalling number signal test d f) f h
-unfolding signalling
+unfolding named written signed signalling
 signalling-is f h number signal test d place value t token s sign w trip ep ev etrip ew etoken et esign es first =
     subst (λ (l : List Store). AreFirst l f h) (rw (ep, ev, etrip, ew, etoken, et, esign, es) refl) first
 
@@ -69,7 +69,7 @@ unless_tripped false signal d = refl
 
 signalled_unless : (f : ℕ → ℕ) (number signal value test d : ℕ) → value ≡ (if is_set (f 11) then 0 else signal)
     → signalled number value test d f ≡ signalled number signal test d f
-unfolding signalled signalling after_stores both store keep
+unfolding named written signed signalled signalling after_stores both store keep
 signalled_unless f number signal value test d ev =
     ap (λ v. keep 15 (bit_xor (mixed (f 15) test) d) (keep 12 (next_token_of (f 12) number) (keep (number - 1) v f)))
     (ap (λ v. if is_set (f 11) then 0 else bit_xor v d) ev ∙ unless_tripped (is_set (f 11)) signal d)
@@ -132,24 +132,29 @@ looked_up-at rules lookup read pedal raise is same at_pedal at_speed checked =
 pub ruleset looked_up = (looked_up-at)
 
 -- the stores of a module of number 1 to 5, by the words after it
-pub first-stores : (f h : ℕ → ℕ) (signal test d : ℕ) (after : Words) → named (signalled 1 signal test d f) ≡ after → AreFirst (signalling 1 signal test d f) f h → AreFirst (signal_stores 0 after) f h
-unfolding named signalled signalling signal_stores in_order after_stores both store put
+pub first-stores : (f h : ℕ → ℕ) (signal test d : ℕ) (after : Words) → named (signalled 1 signal test d f) ≡ after
+    → AreFirst (signalling 1 signal test d f) f h → AreFirst (signal_stores 0 after) f h
+unfolding named written signed signalled signalling signal_stores in_order after_stores both store put
 first-stores f h signal test d after e first = subst (λ (w : Words). AreFirst (signal_stores 0 w) f h) e first
 
-pub second-stores : (f h : ℕ → ℕ) (signal test d : ℕ) (after : Words) → named (signalled 2 signal test d f) ≡ after → AreFirst (signalling 2 signal test d f) f h → AreFirst (signal_stores 1 after) f h
-unfolding named signalled signalling signal_stores in_order after_stores both store put
+pub second-stores : (f h : ℕ → ℕ) (signal test d : ℕ) (after : Words) → named (signalled 2 signal test d f) ≡ after
+    → AreFirst (signalling 2 signal test d f) f h → AreFirst (signal_stores 1 after) f h
+unfolding named written signed signalled signalling signal_stores in_order after_stores both store put
 second-stores f h signal test d after e first = subst (λ (w : Words). AreFirst (signal_stores 1 w) f h) e first
 
-pub third-stores : (f h : ℕ → ℕ) (signal test d : ℕ) (after : Words) → named (signalled 3 signal test d f) ≡ after → AreFirst (signalling 3 signal test d f) f h → AreFirst (signal_stores 2 after) f h
-unfolding named signalled signalling signal_stores in_order after_stores both store put
+pub third-stores : (f h : ℕ → ℕ) (signal test d : ℕ) (after : Words) → named (signalled 3 signal test d f) ≡ after
+    → AreFirst (signalling 3 signal test d f) f h → AreFirst (signal_stores 2 after) f h
+unfolding named written signed signalled signalling signal_stores in_order after_stores both store put
 third-stores f h signal test d after e first = subst (λ (w : Words). AreFirst (signal_stores 2 w) f h) e first
 
-pub fourth-stores : (f h : ℕ → ℕ) (signal test d : ℕ) (after : Words) → named (signalled 4 signal test d f) ≡ after → AreFirst (signalling 4 signal test d f) f h → AreFirst (signal_stores 3 after) f h
-unfolding named signalled signalling signal_stores in_order after_stores both store put
+pub fourth-stores : (f h : ℕ → ℕ) (signal test d : ℕ) (after : Words) → named (signalled 4 signal test d f) ≡ after
+    → AreFirst (signalling 4 signal test d f) f h → AreFirst (signal_stores 3 after) f h
+unfolding named written signed signalled signalling signal_stores in_order after_stores both store put
 fourth-stores f h signal test d after e first = subst (λ (w : Words). AreFirst (signal_stores 3 w) f h) e first
 
-pub fifth-stores : (f h : ℕ → ℕ) (signal test d : ℕ) (after : Words) → named (signalled 5 signal test d f) ≡ after → AreFirst (signalling 5 signal test d f) f h → AreFirst (signal_stores 4 after) f h
-unfolding named signalled signalling signal_stores in_order after_stores both store put
+pub fifth-stores : (f h : ℕ → ℕ) (signal test d : ℕ) (after : Words) → named (signalled 5 signal test d f) ≡ after
+    → AreFirst (signalling 5 signal test d f) f h → AreFirst (signal_stores 4 after) f h
+unfolding named written signed signalled signalling signal_stores in_order after_stores both store put
 fifth-stores f h signal test d after e first = subst (λ (w : Words). AreFirst (signal_stores 4 w) f h) e first
 
 -- ---- module 7 ----
@@ -189,14 +194,16 @@ pub gave_up-ok : {T E : Type 0} (result : Result T E) (g h : ℕ → ℕ) (tick 
 gave_up-ok (Ok x) g h tick values eh ev = gave_up g h tick values eh ev
 gave_up-ok (Err x) g h tick values eh ev = eh
 
-pub signalled-ok : {T E : Type 0} (result : Result T E) (f g1 g2 h : ℕ → ℕ) (number signal test d place value t token s sign w : ℕ) (trip : Bool) → OnOk result (h ≡ keep 15 sign g2)
+pub signalled-ok : {T E : Type 0} (result : Result T E) (f g1 g2 h : ℕ → ℕ) (number signal test d place value t token s sign w : ℕ) (trip : Bool)
+    → OnOk result (h ≡ keep 15 sign g2)
     → g2 ≡ keep 12 token g1 → g1 ≡ keep place value f → place ≡ number - 1 → value ≡ (if trip then 0 else bit_xor signal d) → trip ≡ is_set w → w ≡ f 11
     → token ≡ next_token_of t number → t ≡ f 12 → sign ≡ bit_xor (mixed s test) d → s ≡ f 15 → OnOk result (h ≡ signalled number signal test d f)
 signalled-ok (Ok x) f g1 g2 h number signal test d place value t token s sign w trip eh e2 e1 ep ev etrip ew etoken et esign es =
     signalled_by f g1 g2 h number signal test d place value t token s sign w trip eh e2 e1 ep ev etrip ew etoken et esign es
 signalled-ok (Err x) f g1 g2 h number signal test d place value t token s sign w trip eh e2 e1 ep ev etrip ew etoken et esign es = eh
 
-pub began-ok : {T E : Type 0} (result : Result T E) (f h : ℕ → ℕ) (values : List ℕ) → values ≡ in_order start → OnOk result (h ≡ kept_from values 16 f) → OnOk result (named h ≡ start)
+pub began-ok : {T E : Type 0} (result : Result T E) (f h : ℕ → ℕ) (values : List ℕ) → values ≡ in_order start
+    → OnOk result (h ≡ kept_from values 16 f) → OnOk result (named h ≡ start)
 began-ok (Ok x) f h values ev e = began f h values ev e
 began-ok (Err x) f h values ev e = e
 

@@ -71,7 +71,8 @@ later number value rest f g h e first = record {
   made = first.made ∙ ap (after_stores (take first.count rest)) e;
 }
 
-pub here_where : (test : Bool) (number value : ℕ) (rest : List Store) (f h : ℕ → ℕ) → AreFirst (both_where test number value []) f h → AreFirst (both_where test number value rest) f h
+pub here_where : (test : Bool) (number value : ℕ) (rest : List Store) (f h : ℕ → ℕ) → AreFirst (both_where test number value []) f h
+    → AreFirst (both_where test number value rest) f h
 unfolding both_where after_stores
 here_where true number value rest f h first = here number value rest f h first
 here_where false number value rest f h first = record {
@@ -79,11 +80,13 @@ here_where false number value rest f h first = record {
   made = first.made ∙ ap (λ (l : List Store). after_stores l f) (take-nil first.count);
 }
 
-pub where_true : (test : Bool) (number value : ℕ) (rest : List Store) (f h : ℕ → ℕ) → test ≡ true → AreFirst (both number value rest) f h → AreFirst (both_where test number value rest) f h
+pub where_true : (test : Bool) (number value : ℕ) (rest : List Store) (f h : ℕ → ℕ) → test ≡ true → AreFirst (both number value rest) f h
+    → AreFirst (both_where test number value rest) f h
 unfolding both_where
 where_true test number value rest f h e first = rw e first
 
-pub later_where : (test : Bool) (number value : ℕ) (rest : List Store) (f g h : ℕ → ℕ) → g ≡ keep_where test number value f → AreFirst rest g h → AreFirst (both_where test number value rest) f h
+pub later_where : (test : Bool) (number value : ℕ) (rest : List Store) (f g h : ℕ → ℕ) → g ≡ keep_where test number value f → AreFirst rest g h
+    → AreFirst (both_where test number value rest) f h
 unfolding both_where keep_where
 later_where true number value rest f g h e first = later number value rest f g h e first
 later_where false number value rest f g h e first = record {
@@ -267,7 +270,8 @@ debounce-set rules phase f h after is first = fork (trips (debounced rules phase
     fork : (trip : Bool) → trips (debounced rules phase (named f)) ≡ trip → IsTrue (is_set (if trip then 1 else f 11)) → IsTrue (is_set (h 11)) ⊎ (h ≡ f)
     fork true e is = debounced-first (feeds_now phase (named f)) (trips (debounced rules phase (named f))) (limits (debounced rules phase (named f))) after f h
         (tripping rules phase (named f) e) e first
-    fork false e is = inl (stays _ f h first (debounced-keep (feeds_now phase (named f)) (trips (debounced rules phase (named f))) (limits (debounced rules phase (named f))) after) is)
+    fork false e is =
+        inl (stays _ f h first (debounced-keep (feeds_now phase (named f)) (trips (debounced rules phase (named f))) (limits (debounced rules phase (named f))) after) is)
 
 run-set : (inputs : Inputs) (f h : ℕ → ℕ) (n : ℕ) → n < 8 → IsTrue (is_set (module_step inputs n (named f)).trip) → AreFirst (stores_of inputs n (named f)) f h
     → IsTrue (is_set (h 11)) ⊎ (h ≡ f)

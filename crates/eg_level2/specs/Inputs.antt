@@ -1,4 +1,4 @@
--- What goes into one run of a module beside level 2's words.
+-- What goes into one run of a module besides level 2's words.
 use Rattle.std.specs.Prelude.{◌≡◌, ◌≤◌, ℕ, ◌+◌, ◌%◌, List, [], ◌∷◌, length, slice_index}
 use Rattle.eg_guard.specs.declared.regions.TheConstants.{IN_PORTS, LINK}
 use Rattle.eg_sensor.specs.declared.readings.Readings.{Readings}
@@ -12,7 +12,7 @@ use Rattle.eg_level2.specs.declared.results.RowResults.{RowResults}
 use Rattle.eg_level2.specs.declared.lookup.Lookup.{Lookup}
 use Rattle.eg_level2.specs.declared.phase.Phase.{Phase}
 
--- what level 2 is made of: the rules that it goes by, and the questions that it answers
+-- what level 2 is made of: the rules that it follows, and the questions that it answers
 pub record Level2Parts : Type 0 where
   pub rules : Rules
   pub questions : List Question

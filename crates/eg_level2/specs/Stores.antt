@@ -1,20 +1,20 @@
--- What stores make of level 2's words, by their numbers, and what they leave. The public contracts say the
--- same by the words' names.
-use Rattle.std.specs.Prelude.{◌≡◌, ℕ, zero, suc, ◌+◌, ◌-◌, Bool, false, ◌&&◌, ◌||◌, ◌==◌, nat_lt, if◌then◌else◌, List, [], ◌∷◌, take, slice_index, bit_xor, Result, IsTrue, IsOk, OnOk}
+-- What stores make of level 2's words, by their numbers, and what they leave alone. What is stored is said by
+-- the definitions of the modules (`Modules.antt`), which have the words by their names, as public contracts
+-- do.
+use Rattle.std.specs.Prelude.{◌≡◌, ℕ, zero, suc, ◌+◌, ◌-◌, Bool, true, ◌==◌, if◌then◌else◌, List, [], ◌∷◌, take, slice_index, Result, IsTrue, IsOk, OnOk}
 use Rattle.eg_guard.specs.Regions.{region_of}
 use Rattle.eg_guard.specs.Memory.{ShownMemory, AreWords}
 use Rattle.eg_num.specs.declared.watches.Watches.{Watches}
 use Rattle.eg_num.specs.Windows.{WeightParts}
 use Rattle.eg_num.specs.Counting.{fed}
-use Rattle.eg_answer.specs.Folds.{mixed}
 use Rattle.eg_answer.specs.Token.{next_token_of}
 use Rattle.eg_answer.specs.declared.rules.Rules.{Rules}
 use Rattle.eg_answer.specs.declared.words.TheConstants.{MIRRORED_WORDS}
-use Rattle.eg_level2.specs.declared.words.TheConstants.{PEDAL_COUNTER, PLATE_COUNTER, LOAD_COUNTER, SPEED_COUNTER, TORQUE_COUNTER, TRIP, TOKEN, SIGN}
+use Rattle.eg_level2.specs.declared.words.TheConstants.{PEDAL_COUNTER, PLATE_COUNTER, LOAD_COUNTER, SPEED_COUNTER, TORQUE_COUNTER, TOKEN, SIGN}
 use Rattle.eg_level2.specs.declared.debounce.Fed.{Fed}
 use Rattle.eg_level2.specs.declared.debounce.Feeds.{Feeds}
-use Rattle.eg_level2.specs.Words.{Words, is_set, is_level2_own, AreMirrored}
-use Rattle.eg_level2.specs.Modules.{pedal_bit, plate_bit, load_bit, speed_bit, torque_bit}
+use Rattle.eg_level2.specs.Words.{Words, named, is_level2_own, AreMirrored}
+use Rattle.eg_level2.specs.Modules.{written, signed, pedal_bit, plate_bit, load_bit, speed_bit, torque_bit, is_found, no_watches}
 
 -- a store of one word
 unfoldable pub put : ℕ → ℕ → (ℕ → ℕ) → ℕ → ℕ
@@ -28,7 +28,7 @@ keep number value word = put (number + MIRRORED_WORDS) (65535 - value) (put numb
 unfoldable pub keep_where : Bool → ℕ → ℕ → (ℕ → ℕ) → ℕ → ℕ
 keep_where test number value word = if test then keep number value word else word
 
--- so many words, the first, made those of a list
+-- the first so many words made those of a list
 unfoldable pub kept_from : List ℕ → ℕ → (ℕ → ℕ) → ℕ → ℕ
 kept_from values zero word = word
 kept_from values (suc count) word = keep count (slice_index values count) (kept_from values count word)
@@ -43,11 +43,11 @@ pub record Store : Type 0 where
 unfoldable pub store : ℕ → ℕ → Store
 store number value = record { number = number; value = value }
 
--- a word, its complement behind it, and then all else
+-- the store of a word, that of its complement, and then the rest
 unfoldable pub both : ℕ → ℕ → List Store → List Store
 both number value rest = store number value ∷ store (number + MIRRORED_WORDS) (65535 - value) ∷ rest
 
--- the same where a test is true, and else all else alone
+-- the same where a test is true, and else the rest alone
 unfoldable pub both_where : Bool → ℕ → ℕ → List Store → List Store
 both_where test number value rest = if test then both number value rest else rest
 
@@ -71,22 +71,22 @@ both_from number (value ∷ values) = both number value (both_from (number + 1) 
 -- a module of number 1 to 5: its signal, the token and the fold
 unfoldable pub signalling : ℕ → ℕ → ℕ → ℕ → (ℕ → ℕ) → List Store
 signalling number signal test disturbance word =
-    both (number - 1) (if is_set (word TRIP) then 0 else bit_xor signal disturbance)
+    both (number - 1) (written (named word) signal disturbance)
     (both TOKEN (next_token_of (word TOKEN) number)
-    (both SIGN (bit_xor (mixed (word SIGN) test) disturbance) []))
+    (both SIGN (signed (named word) test disturbance) []))
 
 unfoldable pub signalled : ℕ → ℕ → ℕ → ℕ → (ℕ → ℕ) → ℕ → ℕ
 signalled number signal test disturbance word =
     after_stores (signalling number signal test disturbance word) word
 
--- a counter after a feed, and whether it comes to its limit by it
+-- a counter after a feed, and whether that feed brings it to its limit
 unfoldable pub fed_of : WeightParts → ℕ → Bool → Fed
 fed_of weights value bad = record {
   value = fed weights value bad;
-  found = nat_lt value weights.limit && fed weights value bad == weights.limit;
+  found = is_found true weights value bad;
 }
 
--- all five
+-- all five counters, fed by the words
 unfoldable pub feeds_of : Rules → Words → Feeds
 feeds_of rules words = record {
   pedal = fed_of rules.pair words.pedal_counter (pedal_bit words);
@@ -96,24 +96,17 @@ feeds_of rules words = record {
   torque = fed_of rules.torque words.torque_counter (torque_bit words);
 }
 
--- whether a watch is found that trips the unit
-unfoldable pub trips_of : Feeds → Bool
-trips_of feeds = feeds.plate.found || feeds.load.found || feeds.speed.found || feeds.torque.found
-
 -- the watches that are found
 unfoldable pub found_of : Feeds → Watches
-found_of feeds = record {
-  mirror = false;
+found_of feeds = record no_watches {
   pedal = feeds.pedal.found;
   plate = feeds.plate.found;
   load = feeds.load.found;
   speed = feeds.speed.found;
   torque = feeds.torque.found;
-  answers = false;
-  start = false;
 }
 
--- their values, and then all else
+-- the stores of the counters' values, and then the rest
 unfoldable pub counting : Feeds → List Store → List Store
 counting feeds rest =
     both PEDAL_COUNTER feeds.pedal.value (both PLATE_COUNTER feeds.plate.value
@@ -127,15 +120,15 @@ counters_kept feeds word = after_stores (counting feeds []) word
 unfoldable pub outside : List ℕ → ℕ → ℕ
 outside memory address = if is_level2_own (region_of address) then 0 else slice_index memory address
 
--- What each store of level 2's leaves, whatever it answers: the words outside level 2's own regions, and
--- whether the memory is sure. Over a sure memory it is done.
+-- What each store of level 2 leaves as it was, whatever it answers: the words outside level 2's own regions,
+-- and whether the memory is sure. Over a sure memory it is done.
 pub record Leaves {T E : Type 0} (old new : ShownMemory) (result : Result T E) : Type 0 where
   pub outside : outside new.words ≡ outside old.words
   pub stays_sure : new.sure ≡ old.sure
   pub are_words : AreWords old.words → AreWords new.words
   pub sure : IsTrue old.sure → IsOk result
 
--- What each of level 2's calls keeps: it leaves that, and where it is done mirrored words stay so.
+-- What each of level 2's calls keeps: what a store leaves, and where it is done mirrored words stay so.
 pub record Keeps {T E : Type 0} (old new : ShownMemory) (result : Result T E) : Type 0 where
   pub leaves : Leaves old new result
   pub mirrored : AreMirrored old.words → OnOk result (AreMirrored new.words)

@@ -41,7 +41,7 @@ place number = if nat_lt number SIGNALS then RESULTS + number else PROTECTED + (
 unfoldable pub word_at : List ℕ → ℕ → ℕ
 word_at memory number = slice_index memory (place number)
 
--- words by their numbers, by their names
+-- words that are given by their numbers, under their names
 unfoldable pub named : (ℕ → ℕ) → Words
 named word = record {
   pedal = word PEDAL;
@@ -62,7 +62,7 @@ named word = record {
   sign = word SIGN;
 }
 
--- and the other way round: words by their names, in the order of their numbers
+-- and the other way round: words that are given by their names, in the order of their numbers
 unfoldable pub in_order : Words → List ℕ
 in_order words =
     words.pedal ∷ words.permitted ∷ words.actual ∷ words.excess ∷ words.pairs
@@ -79,8 +79,8 @@ pub record AreMirrored (memory : List ℕ) : Type 0 where
   pub sums : (number : ℕ) → number < MIRRORED_WORDS →
       word_at memory number + word_at memory (number + MIRRORED_WORDS) ≡ 65535
 
--- The law: where of mirrored words one word alone changes, or one complement alone, they are
--- mirrored no longer.
+-- The law: where one of the mirrored words changes alone, or one complement alone, they are mirrored no
+-- longer.
 abbrev pub ChangeLaw : Type 0
 ChangeLaw = (memory : List ℕ) (number word : ℕ) → AreWords memory → number < STORED_WORDS →
     AreMirrored memory → word ≢ word_at memory number → ¬ AreMirrored (slice_set memory (place number) word)

@@ -2,8 +2,8 @@
 ghost use Rattle.std.specs.Prelude.{◌≡◌, ◌≤◌, ◌&&◌, [], nat_lt, OnOk, OnErr, IfOk};
 ghost use Rattle.eg_sensor.specs.Readings.{has_bit};
 ghost use Rattle.eg_level2.specs.Words.{word_at, words_of, AreWithin};
-ghost use Rattle.eg_level2.specs.Modules.{feeds_now, debounced, debounce_step, finding};
-ghost use Rattle.eg_level2.specs.Stores.{Keeps, AreFirst, fed_of, feeds_of, trips_of, found_of, counting, counters_kept};
+ghost use Rattle.eg_level2.specs.Modules.{feeds_now, debounced, debounce_step, trips, finding};
+ghost use Rattle.eg_level2.specs.Stores.{Keeps, AreFirst, fed_of, feeds_of, found_of, counting, counters_kept};
 ghost use Rattle.eg_level2.specs.Order.{debounce_stores};
 
 use crate::step::no_watches;
@@ -18,7 +18,7 @@ use eg_guard::Guarded;
 use eg_num::{Counter, Watches, Weights};
 use eg_sensor::{LOAD_PAIR, PEDAL_PAIR, PLATE_PAIR, SPEED_PAIR};
 
-/// A counter after a feed, and whether it comes to its limit by that feed.
+/// A counter after a feed, and whether that feed brings it to its limit.
 #[derive(Clone, Copy)]
 struct Fed {
     value: u16,
@@ -79,7 +79,7 @@ fn feeds_now<M: Guarded>(memory: &M, phase: Phase) -> bool
 }
 
 /// One feed of a counter.
-#[tactic(auto, unfolding(crate::specs::Stores::fed_of))]
+#[tactic(auto, unfolding(crate::specs::Stores::fed_of, crate::specs::Modules::is_found))]
 fn feed(weights: &Weights, value: u16, bad: bool) -> Fed
     requires { value ≤ weights.now.limit }
     ensures { result ≡ fed_of weights.now value bad }
@@ -163,9 +163,9 @@ fn keep_counters<M: Guarded>(memory: &mut M, feeds: &Feeds) -> Result<(), NoMemo
 
 impl Feeds {
     /// Whether a watch is found that trips the unit: any but the pedal's.
-    #[tactic(auto, unfolding(crate::specs::Stores::trips_of))]
+    #[tactic(auto, unfolding(crate::specs::Modules::trips, crate::specs::Stores::found_of))]
     fn trips(&self) -> bool
-        ensures { result ≡ trips_of self.now }
+        ensures { result ≡ trips (found_of self.now) }
     {
         self.plate.found || self.load.found || self.speed.found || self.torque.found
     }

@@ -43,7 +43,7 @@ const START: [u16; MIRRORED_WORDS as usize] = [
     0,
 ];
 
-/// Level 2, the function monitoring (docs/CONCEPT.md, "Level 2"): the rules that it goes by, and the
+/// Level 2, the function monitoring (docs/CONCEPT.md, "Level 2"): the rules that it follows, and the
 /// questions that it answers. What it remembers stands in the guarded memory. Contracts see its
 /// `Level2Parts`.
 #[derive(Drop)]
@@ -80,7 +80,7 @@ impl Level2 {
         }
     }
 
-    /// The rules that it goes by.
+    /// The rules that it follows.
     pub fn rules(&self) -> &Rules
         ensures rules { result.now ≡ self.now.rules }
         ensures keeps { AreParts self.now }
@@ -224,7 +224,7 @@ fn place(asked: u16, count: usize) -> usize
     if asked < count { asked } else { asked % count }
 }
 
-/// Does nothing when it runs. Its contract is a law: where of mirrored words one word alone changes, or one
+/// Does nothing when it runs. Its contract is a law: where one of the mirrored words changes alone, or one
 /// complement alone, they are mirrored no longer, so that module 0 finds it (docs/CONCEPT.md, "Level 2").
 pub fn one_changed_word_is_found()
     ensures { ChangeLaw }

@@ -1,12 +1,7 @@
 use Rattle.std.proofs.Common.{◌∙◌, sym}
-use Rattle.eg_asm.specs.Listings.{source_text}
-use Rattle.eg_asm.specs.Reading.{assembled}
 use Rattle.eg_asm.proofs.SourceLaws.{assembled-then, assembled-gives}
 use Rattle.eg_asm.proofs.ListingLaws.{back-law}
 use Rattle.eg_asm.proofs.assembler.sources_have_one_answer.Goals as goal
-
-pub returns-clause-some : goal.returns-clause-some
-returns-clause-some c = λ source. (assembled source, assembled-gives source)
 
 pub returns-clause-one : goal.returns-clause-one
 returns-clause-one c = λ source one other h k. sym (assembled-then source one h) ∙ assembled-then source other k

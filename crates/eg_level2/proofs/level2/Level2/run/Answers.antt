@@ -72,22 +72,26 @@ returns-in-1-clause-stopped g c = λ tick. on_err c.pedal.result
 
 pub returns-in-2-clause-stopped : goal.returns-in-2-clause-stopped
 returns-in-2-clause-stopped g c = λ tick. on_err c.permitted.result
-    (λ first. signals-stores _ _ 2 _ _ _ _ c.in-2.is refl refl refl (permits c.args.self.now _ tick c.args.phase c.args.disturbance _ _ _ _ c.in-2.is (same_rules _ _ c.self.view_is) refl) first)
+    (λ first. signals-stores _ _ 2 _ _ _ _ c.in-2.is refl refl refl
+    (permits c.args.self.now _ tick c.args.phase c.args.disturbance _ _ _ _ c.in-2.is (same_rules _ _ c.self.view_is) refl) first)
     (c.permitted.ensures.stopped _ (permitted-kept _ _ _ _ (same_rules _ _ c.self.view_is) c.test.ensures))
 
 pub returns-in-3-clause-stopped : goal.returns-in-3-clause-stopped
 returns-in-3-clause-stopped g c = λ tick. on_err c.actual.result
-    (λ first. signals-stores _ _ 3 _ _ _ _ c.in-3.is refl refl refl (actuals c.args.self.now _ tick c.args.phase c.args.disturbance _ _ _ _ c.in-3.is (same_rules _ _ c.self.view_is) refl) first)
+    (λ first. signals-stores _ _ 3 _ _ _ _ c.in-3.is refl refl refl
+    (actuals c.args.self.now _ tick c.args.phase c.args.disturbance _ _ _ _ c.in-3.is (same_rules _ _ c.self.view_is) refl) first)
     (c.actual.ensures.stopped _ (estimate-kept _ _ _ _ (same_rules _ _ c.self.view_is) c.test.ensures))
 
 pub returns-in-4-clause-stopped : goal.returns-in-4-clause-stopped
 returns-in-4-clause-stopped g c = λ tick. on_err c.excess.result
-    (λ first. signals-stores _ _ 4 _ _ _ _ c.in-4.is refl refl refl (excesses c.args.self.now _ tick c.args.phase c.args.disturbance _ _ _ _ c.in-4.is (same_rules _ _ c.self.view_is) refl) first)
+    (λ first. signals-stores _ _ 4 _ _ _ _ c.in-4.is refl refl refl
+    (excesses c.args.self.now _ tick c.args.phase c.args.disturbance _ _ _ _ c.in-4.is (same_rules _ _ c.self.view_is) refl) first)
     (c.excess.ensures.stopped _ (excess-kept _ _ _ _ (same_rules _ _ c.self.view_is) c.test.ensures))
 
 pub returns-in-5-clause-stopped : goal.returns-in-5-clause-stopped
 returns-in-5-clause-stopped g c = λ tick. on_err c.pairs.result
-    (λ first. signals-stores _ _ 5 _ _ _ _ c.in-5.is refl refl refl (pairings c.args.self.now _ tick c.args.phase c.args.disturbance _ _ _ _ c.in-5.is (same_rules _ _ c.self.view_is) refl) first)
+    (λ first. signals-stores _ _ 5 _ _ _ _ c.in-5.is refl refl refl
+    (pairings c.args.self.now _ tick c.args.phase c.args.disturbance _ _ _ _ c.in-5.is (same_rules _ _ c.self.view_is) refl) first)
     (c.pairs.ensures.stopped _ (pairs-kept _ _ _ _ (same_rules _ _ c.self.view_is) c.test.ensures))
 
 pub returns-in-6-clause-stopped : goal.returns-in-6-clause-stopped
