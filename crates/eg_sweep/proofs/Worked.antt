@@ -13,12 +13,12 @@ use Rattle.eg_record.specs.Facts.{off_from, reaction_in}
 use Rattle.eg_record.specs.Texts.{watch_name}
 use Rattle.eg_sweep.specs.Grid.{swept_classes, onset_count, onsets, faults_of, swept_faults, is_too_large}
 use Rattle.eg_sweep.specs.Table.{class_place, facts_under, is_found_first, greatest, row_of, rows_of, table_of, greatest_listed}
-use Rattle.eg_sweep.specs.Texts.{class_names, reaction_text, watch_text, watches_text, sweep_line, sweep_end, sweep_lines, sweep_text_of}
+use Rattle.eg_sweep.specs.Texts.{class_name, class_names, reaction_text, watch_text, watches_text, sweep_line, sweep_end, sweep_lines, sweep_text_of}
 
 -- every definition that these need
 unfoldable sweeping : ℕ
 unfolding swept_classes onset_count onsets faults_of swept_faults is_too_large class_place facts_under is_found_first greatest row_of rows_of table_of greatest_listed
-    class_names reaction_text watch_text watches_text sweep_line sweep_end sweep_lines sweep_text_of is_watch rank off_from reaction_in watch_name digits
+    class_name class_names reaction_text watch_text watches_text sweep_line sweep_end sweep_lines sweep_text_of is_watch rank off_from reaction_in watch_name digits
 sweeping = 0
 
 -- ---- onsets ----
@@ -121,6 +121,11 @@ unfolding sweeping
 small_greatest = refl
 
 -- ---- the text ----
+
+-- each class has its name, in the order of the classes
+names_in_order : map class_name swept_classes ≡ class_names
+unfolding sweeping
+names_in_order = refl
 
 script_line : sweep_line (codes "script", record { runs = 3; none = 0; by_watch = 0 ∷ 0 ∷ 0 ∷ 1 ∷ 0 ∷ 2 ∷ 0 ∷ 0 ∷ []; reaction = Some 1 })
     ≡ codes "script: runs 3; none 0; mirror 0; pedal 0; plate 0; load 1; speed 0; torque 2; answers 0; start 0; reaction 1\n"

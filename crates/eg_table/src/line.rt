@@ -2,7 +2,9 @@
 ghost use Rattle.std.specs.Prelude.{◌≡◌, ◌++◌, OnOk, codes, string_bytes};
 ghost use Rattle.std.specs.Option.{option_copied};
 ghost use Rattle.eg_record.specs.Texts.{bit};
-ghost use Rattle.eg_table.specs.Texts.{acted_column, class_column, fault_columns, first_columns, number_column, reaction_columns, table_header, table_line, tick_columns, trap_columns};
+ghost use Rattle.eg_table.specs.Texts.{acted_column, class_column, fault_columns, first_columns};
+ghost use Rattle.eg_table.specs.Texts.{number_column, reaction_columns, table_header, table_line};
+ghost use Rattle.eg_table.specs.Texts.{tick_columns, trap_columns};
 
 use crate::has_acted;
 use eg_fault::Fault;
@@ -19,7 +21,7 @@ pub fn table_header() -> &'static str
     "run,class,onset,acted,first,first_at,off_at,last_on,confirmed,reaction,settled,trap,trap_at\n"
 }
 
-/// Appends the line of a run with this name, with its LF, to a text (docs/FORMATS.md, "The table of
+/// Appends the line of a run with this name, with its LF, to a text (docs/FORMATS.md, "The rows of
 /// `table`"). The reaction time is `bound`, in ticks. It is refused where memory runs out.
 pub fn push_table_line(
     text: &mut String,
