@@ -1,4 +1,6 @@
 // What a calibration comes to.
+ghost use Rattle.std.specs.Prelude.{◌≡◌};
+ghost use Rattle.eg_answer.specs.Times.{runs_to_confirm};
 ghost use Rattle.eg_tuning.specs.Limits.{AreLimits};
 
 use eg_answer::{lapse_bound, miss_spacing, reaction, verdicts_to_confirm};
@@ -24,18 +26,24 @@ pub struct Limits {
 }
 
 /// What a calibration comes to (docs/CONCEPT.md, "Reaction time" and "Lapses").
-#[tactic(auto, unfolding(eg_answer::specs::Times::verdicts_to_confirm, eg_answer::specs::Times::runs_to_confirm))]
 pub fn limits_of(calibration: &Calibration) -> Limits
     ensures { AreLimits calibration.now result }
 {
-    let torque = &calibration.rules().torque;
     let times = calibration.times();
     Limits {
         reaction: reaction(times),
-        lapse: lapse_bound(torque, times),
+        lapse: lapse_bound(&calibration.rules().torque, times),
         verdicts: verdicts_to_confirm(times.weights()),
-        excess: verdicts_to_confirm(torque),
+        excess: runs_to_confirm(calibration),
         test: test_ticks(times),
         spacing: miss_spacing(times),
     }
+}
+
+/// How many runs of level 2 in a row confirm an excess that each of them finds (docs/CONCEPT.md, "Lapses").
+/// Runs are counted by the weights of the excess as verdicts are by those of the answers.
+fn runs_to_confirm(calibration: &Calibration) -> u32
+    ensures { result ≡ runs_to_confirm calibration.now.rules.torque }
+{
+    verdicts_to_confirm(&calibration.rules().torque)
 }
