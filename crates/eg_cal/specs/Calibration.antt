@@ -51,7 +51,7 @@ tolerances_of ms =
 abbrev pub pair_weights_of : Members → WeightParts
 pair_weights_of ms = weights_of ms PairsUp PairsDown PairsLimit
 
--- what the plant goes by, with this torque of a load of 1000
+-- the data of the plant, with this torque of a load of 1000
 abbrev pub plant_of : Members → ℕ → PlantParts
 plant_of ms kt = record {
   slew = number_of ms PlantSlew;

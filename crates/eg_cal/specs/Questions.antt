@@ -18,7 +18,7 @@ question_names =
 abbrev pub word_at : List ℕ → Members → Option ℕ
 word_at name ms = number_at 0 65535 name ms
 
--- two of them
+-- two such numbers
 abbrev pub pair_at : List ℕ → Members → Option (List ℕ)
 pair_at name ms = get_member name ms >>= numbers_in 2 2 65535
 

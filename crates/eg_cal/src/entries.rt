@@ -206,7 +206,7 @@ fn pairs_in(document: &Document) -> Result<([u16; 4], Weights), CalFault>
     Ok(([pedal, plate, load, speed], weights))
 }
 
-/// What the plant goes by, with this torque of a load of 1000.
+/// The data of the plant, with this torque of a load of 1000.
 #[tactic(auto, unfolding(crate::specs::Checks::first_fault))]
 fn plant_in(document: &Document, kt: u16) -> Result<PlantData, CalFault>
     requires least { 1 ≤ kt }

@@ -35,8 +35,8 @@ use Rattle.eg_campaign.specs.declared.checkpoints.Shared.{Shared}
 use Rattle.eg_campaign.specs.declared.checkpoints.TheConstants.{CHECKPOINT_TICKS}
 use Rattle.eg_campaign.specs.declared.play.RunInput.{RunInput}
 use Rattle.eg_campaign.specs.Plays.{run_with}
-use Rattle.eg_campaign.specs.Groups.{faultless, checkpoint, rows_under, count_with}
-use Rattle.eg_campaign.specs.Checkpoints.{run_under, GoesBy, HasPlayed, rows_between, HasMade, AreCheckpoints, IsSharedBy}
+use Rattle.eg_campaign.specs.Groups.{faultless, checkpoint, own_under, count_with}
+use Rattle.eg_campaign.specs.Checkpoints.{run_under, PlaysInput, HasPlayed, rows_between, HasMade, AreCheckpoints, IsSharedBy}
 
 -- ---- counts ----
 
@@ -65,7 +65,7 @@ one_more : (t : ℕ) → suc t ≡ t + 1
 one_more t = omega arith
 
 -- the drive row of a tick of an input is that of a run that goes by it
-pub drive_is : (input : RunInput) (r : Run) (drive : List DriveRow) (t : ℕ) (row : DriveRow) → GoesBy input r → drive ≡ input.drive →
+pub drive_is : (input : RunInput) (r : Run) (drive : List DriveRow) (t : ℕ) (row : DriveRow) → PlaysInput input r → drive ≡ input.drive →
     t < length input.drive → row ≡ slice_index_or drive t row → drive_at r t ≡ row
 drive_is input r drive t row goes is within at =
     drive-at r drive t row (goes.drive ∙ sym is) (subst (λ d. t < length d) (sym is) within) at
@@ -101,9 +101,9 @@ module _ {S E : Type 0} (b : BenchEngine S) (come_to : ComeTo S E) (r : Run) whe
 
   -- those that a run under a fault makes
   pub under-is : (fault : Fault) → fault.onset < length r.drive →
-      rows_under (Some fault) (length r.drive) (record_rows b r)
+      own_under (Some fault) (length r.drive) (record_rows b r)
       ≡ rows_between b r (fault.onset / CHECKPOINT_TICKS * CHECKPOINT_TICKS) (length r.drive)
-  unfolding rows_under rows_between checkpoint
+  unfolding own_under rows_between checkpoint
   under-is fault within =
       ap (λ t. if t then take (length r.drive - fault.onset / CHECKPOINT_TICKS * CHECKPOINT_TICKS) (record_rows b r) else []) (lt-ltb fault.onset (length r.drive) within)
       ∙ ap (take (length r.drive - fault.onset / CHECKPOINT_TICKS * CHECKPOINT_TICKS)) (record_rows-is b r)
@@ -223,9 +223,9 @@ module _ {S E : Type 0} (b : BenchEngine S) (come_to : ComeTo S E) (cal : Calibr
 
   -- the rows that are made for it
   pub rows-are : (rows : List Row) → rows ≡ record_rows b (run_with cal input).run →
-      rows_under input.plan.fault (length input.drive) rows ≡ rows_between b (run_with cal input).run (fault.onset / CHECKPOINT_TICKS * CHECKPOINT_TICKS) (length input.drive)
-  rows-are rows made = ap (rows_under input.plan.fault (length input.drive)) made
-      ∙ ap (λ f. rows_under f (length input.drive) (record_rows b (run_with cal input).run)) is
+      own_under input.plan.fault (length input.drive) rows ≡ rows_between b (run_with cal input).run (fault.onset / CHECKPOINT_TICKS * CHECKPOINT_TICKS) (length input.drive)
+  rows-are rows made = ap (own_under input.plan.fault (length input.drive)) made
+      ∙ ap (λ f. own_under f (length input.drive) (record_rows b (run_with cal input).run)) is
       ∙ under-is b come_to (run_with cal input).run fault within
 
 -- ---- runs that aren't played ----
@@ -236,8 +236,8 @@ never_begins ticks None none = tt
 never_begins ticks (Some f) none = absurd (none f refl)
 
 -- and no row is made
-pub makes_none : (ticks : ℕ) (fault : Option Fault) (rows : List Row) → BeginsFrom ticks fault → rows_under fault ticks rows ≡ []
-unfolding rows_under
+pub makes_none : (ticks : ℕ) (fault : Option Fault) (rows : List Row) → BeginsFrom ticks fault → own_under fault ticks rows ≡ []
+unfolding own_under
 makes_none ticks None rows from = refl
 makes_none ticks (Some f) rows from = ap (λ t. if t then take (ticks - checkpoint f.onset) rows else []) (not-lt from)
   where

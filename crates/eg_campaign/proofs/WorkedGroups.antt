@@ -7,7 +7,7 @@ use Rattle.eg_record.specs.declared.row.Row.{Row}
 use Rattle.eg_plan.specs.declared.engine.EngineKind.{EngineKind}
 use Rattle.eg_plan.specs.declared.engine.EngineKind.TheVariants as kind
 use Rattle.eg_campaign.specs.declared.play.RunInput.{RunInput}
-use Rattle.eg_campaign.specs.Groups.{is_alike, firsts_after, groups_of, checkpoint, rows_under}
+use Rattle.eg_campaign.specs.Groups.{is_alike, firsts_after, groups_of, checkpoint, own_under}
 
 -- a run of this name by this drive and on this engine, with a fault at this tick or without one
 run : ℕ → List DriveRow → EngineKind → Option Fault → RunInput
@@ -57,7 +57,7 @@ unfolding checkpoint
 kept = refl
 
 -- what is made of three rows under a fault that begins at tick 100, 101 and 103 of a run of 103 ticks
-made : (x y z : Row) (k : Class) → map (λ (onset : ℕ). rows_under (Some (record { onset = onset; class = k })) 103 (x ∷ y ∷ z ∷ [])) (100 ∷ 101 ∷ 103 ∷ [])
+made : (x y z : Row) (k : Class) → map (λ (onset : ℕ). own_under (Some (record { onset = onset; class = k })) 103 (x ∷ y ∷ z ∷ [])) (100 ∷ 101 ∷ 103 ∷ [])
     ≡ (x ∷ y ∷ z ∷ []) ∷ (x ∷ y ∷ z ∷ []) ∷ [] ∷ []
-unfolding rows_under checkpoint
+unfolding own_under checkpoint
 made x y z k = refl

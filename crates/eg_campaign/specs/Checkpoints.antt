@@ -26,13 +26,13 @@ use Rattle.eg_campaign.specs.Groups.{faultless, count_with}
 abbrev pub run_under : Option Fault → Run → Run
 run_under fault r = record r { setting = under fault r.setting }
 
--- a run goes by the slice plan and the drive of an input
-pub record GoesBy (input : RunInput) (r : Run) : Type 0 where
+-- a run has the slice plan and the drive of an input
+pub record PlaysInput (input : RunInput) (r : Run) : Type 0 where
   pub plan : r.plan ≡ input.plan.plan
   pub drive : r.drive ≡ input.drive
 
 -- Of a run of this engine so many ticks were played: the controller has come to the last of them, and the
--- tally, which goes by the calibration of the run, stands for their rows.
+-- tally, which uses the calibration of the run, stands for their rows.
 pub record HasPlayed {S E M : Type 0} (b : BenchEngine S) (come_to : ComeTo S E) (r : Run) (t : ℕ)
     (played : Played E M) : Type 0 where
   pub at : IsAt b come_to r t played.controller

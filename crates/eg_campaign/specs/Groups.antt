@@ -75,14 +75,14 @@ checkpoint t = t / CHECKPOINT_TICKS * CHECKPOINT_TICKS
 
 -- the rows that are made for one run of a group of more, newest first: those from the checkpoint before its
 -- onset on; none where it has no fault, or the fault begins after the run
-unfoldable pub rows_under : Option Fault → (ticks : ℕ) → List Row → List Row
-rows_under None ticks rows = []
-rows_under (Some fault) ticks rows =
+unfoldable pub own_under : Option Fault → (ticks : ℕ) → List Row → List Row
+own_under None ticks rows = []
+own_under (Some fault) ticks rows =
     if nat_lt fault.onset ticks then take (ticks - checkpoint fault.onset) rows else []
 
--- for the run of an input, by an engine of the model, and by that which it names
+-- the same for the run of an input, by an engine of the model, and by the engine that the input names
 abbrev pub own_on : {S : Type 0} → BenchEngine S → CalibrationParts → RunInput → List Row
-own_on b cal x = rows_under x.plan.fault (length x.drive) (record_rows b (run_with cal x).run)
+own_on b cal x = own_under x.plan.fault (length x.drive) (record_rows b (run_with cal x).run)
 
 abbrev pub own_rows : CalibrationParts → RunInput → List Row
 own_rows cal x = own_on (bench_of x.plan.engine) cal x
@@ -100,7 +100,7 @@ abbrev pub rows_shared : {S : Type 0} → BenchEngine S → CalibrationParts →
 rows_shared b cal inputs x =
     record_rows b (run_with cal (faultless x)).run ++ flat_map (own_on b cal) (group_of inputs x)
 
--- for a campaign
+-- the rows that are made for a campaign
 unfoldable pub rows_made : CalibrationParts → List RunInput → List Row
 rows_made cal inputs = flat_map (rows_of_group cal) (groups_of inputs)
 
@@ -117,7 +117,7 @@ count_with was rows = record {
 abbrev pub told_on : {S : Type 0} → BenchEngine S → CalibrationParts → RunInput → RunFacts
 told_on b cal x = told_of b (run_with cal x).run
 
--- by that which it names
+-- the same by the engine that the input names
 abbrev pub told_with : CalibrationParts → RunInput → RunFacts
 told_with cal x = told_on (bench_of x.plan.engine) cal x
 

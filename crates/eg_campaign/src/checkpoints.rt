@@ -9,7 +9,7 @@ ghost use Rattle.eg_tick.specs.Weights.{TickCount};
 ghost use Rattle.eg_tick.specs.Facts.{IsToldOf};
 ghost use Rattle.eg_campaign.specs.Plays.{IsPlayable, run_with};
 ghost use Rattle.eg_campaign.specs.Groups.{faultless, own_on, count_with};
-ghost use Rattle.eg_campaign.specs.Checkpoints.{run_under, GoesBy, HasPlayed, HasMade, AreCheckpoints, IsSharedFor};
+ghost use Rattle.eg_campaign.specs.Checkpoints.{run_under, PlaysInput, HasPlayed, HasMade, AreCheckpoints, IsSharedFor};
 
 use crate::RunInput;
 use eg_base::NoMemory;
@@ -22,10 +22,10 @@ use eg_tick::{BenchedEngine, Controller, Ticks, bench_begin, bench_tick};
 use eg_values::Calibration;
 use std::alloc::Global;
 
-/// How many ticks lie between two ticks at which the run without a fault is kept.
+/// The run without a fault is kept once every so many ticks, first at tick 0.
 pub(crate) const CHECKPOINT_TICKS: usize = 100;
 
-/// What was played of a run, up to a tick: who goes on with it, and the tally of its rows.
+/// What was played of a run, up to a tick: the controller that goes on with it, and the tally of its rows.
 #[derive(Drop)]
 pub(crate) struct Played<E: BenchedEngine + CopyEngine, M: Guarded + Drop> {
     controller: Controller<E, M>,
@@ -161,8 +161,8 @@ fn play_tick<E: BenchedEngine + CopyEngine, M: Guarded + Drop>(
 ) -> Result<(), NoMemory>
     requires playable { IsPlayable input.now }
     requires within { tick < length input.now.drive }
-    requires run { (r : Run) × GoesBy input.now r × HasPlayed E.bench E.come_to r tick played.old }
-    ensures made { (r : Run) (from : ℕ) (was : TickCount) → GoesBy input.now r →
+    requires run { (r : Run) × PlaysInput input.now r × HasPlayed E.bench E.come_to r tick played.old }
+    ensures made { (r : Run) (from : ℕ) (was : TickCount) → PlaysInput input.now r →
         HasMade E.bench E.come_to r from tick played.old was steps.old →
         OnOk result (HasMade E.bench E.come_to r from (tick + 1) played.new was steps.new) }
     ensures count { steps.new.count ≡ (steps.old.count + 1) % 2 ^ 64 }
@@ -231,8 +231,8 @@ fn play_on<E: BenchedEngine + CopyEngine>(
     requires playable { IsPlayable input.now }
     requires within { from ≤ length input.now.drive }
     requires sure { IsTrue played.old.controller.kept.memory.sure }
-    requires run { (r : Run) × GoesBy input.now r × HasPlayed E.bench E.come_to r from played.old }
-    ensures { (r : Run) → GoesBy input.now r → HasPlayed E.bench E.come_to r from played.old →
+    requires run { (r : Run) × PlaysInput input.now r × HasPlayed E.bench E.come_to r from played.old }
+    ensures { (r : Run) → PlaysInput input.now r → HasPlayed E.bench E.come_to r from played.old →
         HasMade E.bench E.come_to r from (length r.drive) played.new steps.old steps.new }
 {
     // Whoever reads them learns that both numbers are a u64.
@@ -253,8 +253,8 @@ fn play_row<E: BenchedEngine + CopyEngine>(
     requires playable { IsPlayable input.now }
     requires within { tick < length input.now.drive }
     requires sure { IsTrue played.old.controller.kept.memory.sure }
-    requires run { (r : Run) × GoesBy input.now r × HasPlayed E.bench E.come_to r tick played.old }
-    ensures made { (r : Run) (from : ℕ) (was : TickCount) → GoesBy input.now r →
+    requires run { (r : Run) × PlaysInput input.now r × HasPlayed E.bench E.come_to r tick played.old }
+    ensures made { (r : Run) (from : ℕ) (was : TickCount) → PlaysInput input.now r →
         HasMade E.bench E.come_to r from tick played.old was steps.old →
         HasMade E.bench E.come_to r from (tick + 1) played.new was steps.new }
     ensures stays_sure { IsTrue played.new.controller.kept.memory.sure }

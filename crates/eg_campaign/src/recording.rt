@@ -28,8 +28,9 @@ pub enum RecordStop {
 }
 
 /// Plays a run, and puts its record to an output: the header, and the line of each row as its tick is made
-/// (docs/FORMATS.md, "The record"; docs/CONCEPT.md, "The record of a run"). Each line is one put, and one
-/// buffer holds each in turn, so that a row takes no memory of its own. The ticks are counted in `steps`.
+/// (docs/FORMATS.md, "The record"; docs/CONCEPT.md, "The record of a run"). One buffer holds each line in
+/// turn, so that a row takes no memory of its own. No clause says that each line is one put: a test shows it.
+/// The ticks are counted in `steps`.
 pub fn record_into<K: Sink>(
     alloc: Global,
     calibration: &Calibration,
@@ -64,7 +65,7 @@ pub fn record_into<K: Sink>(
     }
 }
 
-/// The same of an engine of this type, whichever the run names.
+/// The same with an engine of this type, whichever the run names.
 fn record_on<E: BenchedEngine, K: Sink>(
     alloc: Global,
     calibration: &Calibration,

@@ -1,6 +1,6 @@
 -- The diesel plant. The rack meters what is injected, the boost of air follows the rack, and no more is
 -- injected than burns in this boost without smoke. Torque is what the quantity gives at the efficiency of the
--- ignition. One step is one tick. The plant goes by the parts of the gasoline plant: `charge` is read as the
+-- ignition. One step is one tick. The plant uses the data of the gasoline plant: `charge` is read as the
 -- smoke limit of each boost, `slew` is the most that the rack moves in a tick, and `fill` the most that the
 -- boost does.
 use Rattle.std.specs.Prelude.{◌≡◌, ℕ, Bool, Option, min, if◌then◌else◌}
@@ -39,8 +39,8 @@ unfoldable pub quantity_of : PlantParts → ℕ → ℕ → Bool → ℕ
 quantity_of p rack boost on = if on then min rack (smoke_limit p boost) else 0
 
 -- One step, by what is commanded to the plate and to the ignition, whether the power stages are on, and where
--- the plate is held, if it is. The quantity goes by the new rack and the new boost, and the torque by the new
--- quantity, as that of the gasoline engine goes by its charge.
+-- the plate is held, if it is. The quantity follows from the new rack and the new boost, and the torque from
+-- the new quantity, as that of the gasoline engine follows from its charge.
 unfoldable pub diesel_step : PlantParts → Diesel → ℕ → ℕ → Bool → Option ℕ → Diesel
 diesel_step p d command ignition on held =
     let rack = next_rack p d.rack command on held in
@@ -52,7 +52,7 @@ diesel_step p d command ignition on held =
 abbrev pub shown_of : Diesel → Shown
 shown_of d = record { position = d.rack; load_1 = d.quantity; load_2 = d.quantity; torque = d.torque }
 
--- a diesel engine: what its plant goes by, and what it has come to
+-- a diesel engine: the data of its plant, and the state that it has come to
 pub record DieselPlant : Type 0 where
   pub parts : PlantParts
   pub state : Diesel

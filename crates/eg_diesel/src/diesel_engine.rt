@@ -9,7 +9,7 @@ use eg_num::toward;
 use eg_plant::{CopyEngine, Engine, PlantData, next_plate, torque_of};
 use std::marker::Model;
 
-/// A diesel engine (docs/CONCEPT.md, "Plant"). It goes by the data of the gasoline plant: `slew` is the most
+/// A diesel engine (docs/CONCEPT.md, "Plant"). It uses the data of the gasoline plant: `slew` is the most
 /// that its rack moves in a tick, `fill` the most that its boost does, `charge` the smoke limit of each boost
 /// (all in per mille), and `kt` the torque of a quantity of 1000 (in tenths of Nm). Contracts see its
 /// `DieselPlant`.

@@ -1,4 +1,4 @@
-//! The diesel engine: its plant meters what is injected, and goes by the same data as the gasoline plant.
+//! The diesel engine: its plant meters what is injected, and uses the same data as the gasoline plant.
 #![tactic(auto)]
 
 mod diesel_engine;

@@ -8,7 +8,7 @@ ghost use Rattle.eg_fault.specs.Running.{may_change_levels};
 use crate::{Class, Opens, PATH_1, PATH_2, Script};
 
 impl Class {
-    /// What a track reads, where a sound one reads that.
+    /// What a track reads, where a sound one reads `sound`.
     #[tactic(auto, unfolding(crate::specs::Effects::no_effects, crate::specs::Faults::does))]
     pub(crate) fn track(&self, after: u32, index: u8, sound: u16) -> u16
         ensures { result ≡ (does self.now after).track index sound }
@@ -20,7 +20,7 @@ impl Class {
         }
     }
 
-    /// What is read as the raise, where that is sent.
+    /// What is read as the raise, where `sent` is sent.
     #[tactic(auto, unfolding(crate::specs::Effects::no_effects, crate::specs::Faults::does))]
     pub(crate) fn raise(&self, after: u32, sent: u16) -> u16
         ensures { result ≡ (does self.now after).raise sent }

@@ -123,8 +123,8 @@ pub fn fault_of_levels(fault: Option<&Fault>, tick: u32) -> Option<&Fault>
     Some(fault)
 }
 
-/// Whether a tick is one at which level 2 sends its answer (docs/CONCEPT.md, "Faults"). The fault goes by the
-/// number `tick` that it has in the run, the periods by the number `local` that it has in its span.
+/// Whether a tick is one at which level 2 sends its answer (docs/CONCEPT.md, "Faults"). `tick` is its number
+/// in the run, by which the fault acts, and `local` its number in the span, by which periods are counted.
 #[tactic(auto, unfolding(crate::specs::Effects::sends_at))]
 pub fn sends(fault: Option<&Fault>, tick: u32, local: u32, times: &Times) -> bool
     ensures { result ≡ sends_at (effects (option_copied fault.entry) tick) times.now local }
@@ -157,7 +157,7 @@ pub fn conducts(fault: Option<&Fault>, tick: u32, path: u8, opened: bool) -> boo
     class.conducts(after, path, opened)
 }
 
-/// What a track (0 to 9) reads at a tick, where a sound one reads that.
+/// What a track (0 to 9) reads at a tick, where a sound one reads `sound`.
 #[tactic(auto, unfolding(crate::specs::Effects::no_effects))]
 fn track(fault: Option<&Fault>, tick: u32, index: u8, sound: u16) -> u16
     ensures { result ≡ (effects (option_copied fault.entry) tick).track index sound }
@@ -168,7 +168,7 @@ fn track(fault: Option<&Fault>, tick: u32, index: u8, sound: u16) -> u16
     class.track(after, index, sound)
 }
 
-/// What is read as the raise at a tick, in tenths of Nm, where that is sent.
+/// What is read as the raise at a tick, in tenths of Nm, where `sent` is sent.
 #[tactic(auto, unfolding(crate::specs::Effects::no_effects))]
 fn raise(fault: Option<&Fault>, tick: u32, sent: u16) -> u16
     ensures { result ≡ (effects (option_copied fault.entry) tick).raise sent }

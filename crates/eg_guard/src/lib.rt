@@ -2,7 +2,7 @@
 //!
 //! Level 1 is code that nobody trusts. What it can reach is decided here, by who asks and by the address
 //! alone: each load and each store of the unit goes through `Guarded`. `FlatMemory` is one array of words;
-//! `StingyMemory` is for tests of what comes where memory runs out.
+//! `StingyMemory` is for tests of what happens when memory runs out.
 #![tactic(auto)]
 
 mod copy_memory;

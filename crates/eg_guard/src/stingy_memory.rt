@@ -8,8 +8,8 @@ ghost use Rattle.eg_guard.specs.Stingy.{StingyState, refuses_next, left_after};
 use crate::{FlatMemory, Guarded, Refused, StoreRefusal, WORDS, Who, access};
 use std::marker::Model;
 
-/// A memory as `FlatMemory`, but one of its stores answers Memory. It isn't sure. For tests of what comes
-/// where memory runs out.
+/// A memory as `FlatMemory`, but one of its stores answers Memory. It isn't sure. It is for tests of what
+/// happens when memory runs out.
 ///
 /// Contracts see a `StingyState`: the words, and how many stores are still done before the one that is
 /// refused.

@@ -52,7 +52,7 @@ impl Host {
         self.run(memory, Some(program), budget)
     }
 
-    /// A slice with or without a program. Compiled for each apart.
+    /// A slice with or without a program. It is compiled once for each of the two.
     #[inline(always)]
     fn run<M: Guarded>(
         &mut self,

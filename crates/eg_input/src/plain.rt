@@ -51,7 +51,8 @@ fn read_lines<R: FileRow>(
 }
 
 /// The numbers pedal, speed and raise at the front, and what comes behind the byte that ends them. None may
-/// come for any bytes. Each caller has it inline, so that `Drive::new` finds the limits looked at already.
+/// come for any bytes. It is inlined into each caller, where the limits that `Drive::new` looks at are then
+/// known.
 #[inline(always)]
 pub(crate) fn drive_numbers(bytes: &[u8], ending: u8) -> Option<((u16, u16, u16), &[u8])>
     ensures { IfSome result (λ found. BeginsWithDrive ending bytes.now found.0 found.1.now) }
@@ -76,7 +77,7 @@ pub(crate) fn truth(bytes: &[u8], ending: u8) -> Option<(bool, &[u8])>
 
 /// The number that one to five digits at the front write, and what comes behind the byte that ends them. None
 /// may come for any bytes, and comes where another byte ends them and where the number is above `most`. It
-/// reads the digits and finds their end in one pass, where `decimal_in` would want the end first.
+/// reads the digits and finds their end in one pass, where `decimal_in` would need the end first.
 pub(crate) fn number(bytes: &[u8], most: u16, ending: u8) -> Option<(u16, &[u8])>
     ensures { IfSome result (λ found. BeginsWithNumber most ending bytes.now found.0 found.1.now) }
 {

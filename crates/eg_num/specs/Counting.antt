@@ -2,8 +2,8 @@
 use Rattle.std.specs.Prelude.{◌≡◌, ℕ, ◌+◌, ◌-◌, ◌==◌, Bool, List, [], ◌∷◌, min, if◌then◌else◌}
 use Rattle.eg_num.specs.Windows.{WeightParts, AreWeights, is_confirmed, greatest}
 
--- One feed: a bad one adds `up`, a good one takes `down`, not below 0. At the limit it is cut, and stays
--- there.
+-- One feed: a bad one adds `up`, a good one takes `down`, not below 0. What would pass the limit is cut to
+-- it, and a counter at the limit stays there.
 unfoldable pub fed : WeightParts → ℕ → Bool → ℕ
 fed w value bad =
     if value == w.limit then w.limit else if bad then min w.limit (value + w.up) else value - w.down

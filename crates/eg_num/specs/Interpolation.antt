@@ -41,7 +41,7 @@ pub record Curve : Type 0 where
   pub axis : List ℕ
   pub values : List ℕ
 
--- its axis is one, and each point has a value
+-- its points are an axis, and each of them has a value
 abbrev pub IsCurve : Curve → Type 0
 IsCurve c = IsAxis c.axis × (length c.values ≡ length c.axis)
 
@@ -55,7 +55,7 @@ pub record Grid : Type 0 where
   pub columns : List ℕ
   pub values : List ℕ
 
--- its axes are two, and each crossing has a value
+-- its rows and its columns are axes, and each crossing has a value
 abbrev pub IsGrid : Grid → Type 0
 IsGrid g = IsAxis g.rows × IsAxis g.columns × (length g.values ≡ length g.rows * length g.columns)
 
@@ -71,7 +71,7 @@ row_at g column i = value_at g.columns (cell g i) column
 abbrev pub grid_at : Grid → ℕ → ℕ → ℕ
 grid_at g row column = value_at g.rows (row_at g column) row
 
--- the same by any neighbours that enclose
+-- the same, said by any neighbours that enclose the place
 abbrev pub IsGridValueAt : Grid → ℕ → ℕ → ℕ → Type 0
 IsGridValueAt g row column y = (along : ℕ → ℕ) ×
     ((i : ℕ) → i < length g.rows → IsValueAt g.columns (cell g i) column (along i))

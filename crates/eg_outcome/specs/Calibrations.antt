@@ -25,7 +25,7 @@ calibration_or_refusal bytes = refused refusal.Calibration (calibration_said byt
 abbrev pub calibration_file : List ℕ → Result CalibrationParts Refusal
 calibration_file = sized role.Calibration calibration_or_refusal
 
--- What comes of the calibration that a command goes by: its parts, or how the call ends without one. Where no
+-- What comes of the calibration that a command uses: its parts, or how the call ends without one. Where no
 -- file is named it is the reference calibration.
 abbrev pub CalibrationComes : Option (List ℕ) → ShownStore → ShownStore → Result CalibrationParts Outcome
     → Type 0

@@ -1,4 +1,4 @@
-// The calibration that a command goes by.
+// The calibration that a command uses.
 ghost use Rattle.std.specs.Prelude.{◌≡◌, ◌↔◌, Err, IfErr, IsTrue, None};
 ghost use Rattle.std.specs.Option.{option_copied};
 ghost use Rattle.eg_toml.specs.Refusals.{IsRead};

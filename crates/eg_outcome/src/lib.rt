@@ -1,8 +1,7 @@
 //! How a call of the program ends, what comes of reading its files, and the text that it puts.
 //!
 //! What a command does stands in crates of its own above this one; here is what they share: outcomes and
-//! refusals, the one way to read a file, the calibration that a command goes by, and the one way to put a
-//! line.
+//! refusals, the one way to read a file, the calibration that a command uses, and the one way to put a line.
 #![tactic(auto)]
 
 mod calibration;

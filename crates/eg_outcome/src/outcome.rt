@@ -57,7 +57,8 @@ pub enum Outcome {
     Usage,
     /// Reading a file failed, or there is no such file.
     ReadFault { file: Role },
-    /// A file was read and refused, the campaign has no run of that name, or the grid of a sweep is too large.
+    /// A file was read and refused, the campaign has no run of that name, or the grid of a sweep is too
+    /// large.
     Refused(Refusal),
     /// Writing failed. A prefix of the text may have been written.
     WriteFault,

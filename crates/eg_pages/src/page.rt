@@ -64,7 +64,8 @@ pub(crate) fn joined(pages: &SharedPages) -> [u16; WORDS as usize]
     words
 }
 
-/// Puts a word at an address. NoMemory, which is meant for a page that is shared, changes nothing.
+/// Puts a word at an address. NoMemory, which is meant to come only where the page is shared, changes
+/// nothing.
 #[inline]
 pub(crate) fn put_at(
     pages: &mut SharedPages,

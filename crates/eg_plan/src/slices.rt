@@ -15,7 +15,7 @@ use eg_toml::{items_in, member, numbers_in};
 use toml::{Table, Value};
 
 /// The slices under a key of a table of this run: 1 to 64 rows of nine numbers, each row at most 1,000 in
-/// all. Where the key is absent, one row of nine 100.
+/// all. Where the key is absent, one row with 100 in each of its nine places.
 pub(crate) fn slices(table: &Table, run: u32, key: RunKey) -> Result<SlicePlan, CampaignFault>
     ensures { let read = slices_at (text_of key) (table_view table.now) in
         Checks (unless_some (Key run key) read) (unwrap_or read []) result }

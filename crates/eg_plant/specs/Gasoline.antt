@@ -43,7 +43,7 @@ gasoline_step p g throttle ignition on held = record {
 abbrev pub shown_of : Gasoline → Shown
 shown_of g = record { position = g.plate; load_1 = g.charge; load_2 = g.charge; torque = g.torque }
 
--- a gasoline engine: what its plant goes by, and what it has come to
+-- a gasoline engine: the data of its plant, and the state that it has come to
 pub record GasolinePlant : Type 0 where
   pub parts : PlantParts
   pub state : Gasoline

@@ -1,4 +1,4 @@
--- What the gasoline plant goes by.
+-- The data of the gasoline plant.
 use Rattle.std.specs.Prelude.{ℕ, ◌≤◌, All}
 use Rattle.eg_num.specs.Interpolation.{Curve}
 

@@ -1,4 +1,4 @@
-//! The engine: what every engine shows and keeps, the gasoline engine, and what its plant goes by.
+//! The engine: what every engine shows and keeps, the gasoline engine, and the data of its plant.
 #![tactic(auto)]
 
 mod copy_engine;

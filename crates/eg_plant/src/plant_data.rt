@@ -1,4 +1,4 @@
-// What the gasoline plant goes by.
+// The data of the gasoline plant.
 ghost use Rattle.std.specs.Prelude.{◌≡◌, ◌≤◌, ◌↔◌, All, IsTrue, SomeIff};
 ghost use Rattle.eg_num.specs.Interpolation.{IsCurve};
 ghost use Rattle.eg_plant.specs.PlantParts.{PlantParts, ArePlantParts};
@@ -6,9 +6,9 @@ ghost use Rattle.eg_plant.specs.PlantParts.{PlantParts, ArePlantParts};
 use eg_num::Table1;
 use std::marker::Model;
 
-/// What the gasoline plant goes by (docs/CONCEPT.md, "Plant"): how far the plate moves in a tick (`slew`, 1
-/// to 1000 per mille) and the charge (`fill`, 1 to 1000 per mille), the charge of each plate angle (at most
-/// 1000 per mille), and the torque of a load of 1000 (`kt`, 1 to 10,000 tenths of Nm). Contracts see its
+/// The data of the gasoline plant (docs/CONCEPT.md, "Plant"): how far the plate moves in a tick (`slew`, 1 to
+/// 1000 per mille) and the charge (`fill`, 1 to 1000 per mille), the charge of each plate angle (at most 1000
+/// per mille), and the torque of a load of 1000 (`kt`, 1 to 10,000 tenths of Nm). Contracts see its
 /// `PlantParts`.
 #[derive(Drop)]
 pub struct PlantData {

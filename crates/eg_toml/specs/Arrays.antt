@@ -22,25 +22,25 @@ all_read read (item d ds) = append_read (read d) (all_read read ds)
 abbrev pub one : {X : Type 0} → (Data → Option X) → Data → Option (List X)
 one read d = option_map (λ x. x ∷ []) (read d)
 
--- the items of an array of least to most items
+-- the items of an array of `least` to `most` items
 abbrev pub items_in : ℕ → ℕ → Data → Option Items
 items_in least most d = do
   ds ← as_array d
   if nat_le least (count ds) && nat_le (count ds) most then Some ds else None
 
--- what the items of an array of least to most items read as
+-- what the items of an array of `least` to `most` items read as
 abbrev pub array_in : {X : Type 0} → ℕ → ℕ → (Data → Option (List X)) → Data → Option (List X)
 array_in least most read d = items_in least most d >>= all_read read
 
--- items that are numbers up to high
+-- items that are numbers up to `high`
 abbrev pub all_numbers : ℕ → Items → Option (List ℕ)
 all_numbers high ds = all_read (one (number_in 0 high)) ds
 
--- an array of least to most numbers up to high
+-- an array of `least` to `most` numbers, each up to `high`
 abbrev pub numbers_in : ℕ → ℕ → ℕ → Data → Option (List ℕ)
 numbers_in least most high d = array_in least most (one (number_in 0 high)) d
 
--- an array of tall rows of wide numbers up to high, row by row
+-- an array of `tall` rows, each of `wide` numbers up to `high`: its numbers, row by row
 abbrev pub rows_in : ℕ → ℕ → ℕ → Data → Option (List ℕ)
 rows_in tall wide high d = array_in tall tall (numbers_in wide wide high) d
 

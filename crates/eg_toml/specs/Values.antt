@@ -11,12 +11,12 @@ o >>= f = option_and_then f o
 abbrev pub table_at : List ℕ → Members → Option Members
 table_at name ms = get_member name ms >>= as_table
 
--- an integer from low to high
+-- an integer from `low` to `high`
 abbrev pub natural_in : ℕ → ℕ → ℤ → Option ℕ
 natural_in low high (pos n) = if nat_le low n && nat_le n high then Some n else None
 natural_in low high (negsuc n) = None
 
--- a value that is an integer from low to high
+-- a value that is an integer from `low` to `high`
 abbrev pub number_in : ℕ → ℕ → Data → Option ℕ
 number_in low high d = as_integer d >>= natural_in low high
 

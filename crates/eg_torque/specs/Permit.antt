@@ -1,5 +1,5 @@
--- The permit table: how much torque the driver's pedal permits, at each pedal and speed. Its rows go by the
--- pedal, in per mille, its columns by the speed, in rpm, and its values are in tenths of Nm.
+-- The permit table: how much torque the driver's pedal permits, at each pedal and speed. Its rows are those
+-- of the pedal, in per mille, its columns those of the speed, in rpm, and its values are in tenths of Nm.
 -- What is permitted doesn't fall where the pedal rises, so a table is refused where one of its rows falls
 -- below the row before it.
 use Rattle.std.specs.Prelude.{ℕ, ◌+◌, ◌-◌, ◌≤◌, ◌<◌, length, min, max}

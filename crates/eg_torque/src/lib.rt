@@ -1,4 +1,4 @@
-//! What the monitoring of torque goes by: the permitted torque of a permit table, the torque estimate of a
+//! What the monitoring of torque needs: the permitted torque of a permit table, the torque estimate of a
 //! load, and the excess of the estimate over the permitted torque.
 #![tactic(auto)]
 

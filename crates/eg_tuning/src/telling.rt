@@ -1,5 +1,5 @@
 // `bound [--cal NAME]` and `limits [--cal NAME]`: what a calibration comes to.
-ghost use Rattle.std.specs.Prelude.{◌≡◌, ◌↔◌, ◌++◌, None, IfOk, IsTrue, OnOk, codes, string_bytes};
+ghost use Rattle.std.specs.Prelude.{◌≡◌, ◌↔◌, ◌++◌, ℕ, List, None, IfOk, IsTrue, OnOk, codes, string_bytes};
 ghost use Rattle.std.specs.Option.{option_copied};
 ghost use Rattle.eg_outcome.specs.Calibrations.{MissesCalibration};
 ghost use Rattle.eg_outcome.specs.Outcomes.{LineEnds, TellsNoMemory, PutsNothing};
@@ -31,7 +31,7 @@ pub fn bound<S: Store, K: Sink>(
     ensures nothing_put { PutsNothing result → out.new ≡ out.old }
 {
     match calibration_for(alloc, calibration, store) {
-        Ok(calibration) => put_bound(alloc, &limits_of(&calibration), out),
+        Ok(calibration) => put_made(bound_text(alloc, &limits_of(&calibration)), out),
         Err(outcome) => outcome,
     }
 }
@@ -54,31 +54,21 @@ pub fn limits<S: Store, K: Sink>(
     ensures nothing_put { PutsNothing result → out.new ≡ out.old }
 {
     match calibration_for(alloc, calibration, store) {
-        Ok(calibration) => put_limits(alloc, &limits_of(&calibration), out),
+        Ok(calibration) => put_made(limits_text(alloc, &limits_of(&calibration)), out),
         Err(outcome) => outcome,
     }
 }
 
-/// Puts the lines of the reaction time and of the bound for lapses.
-fn put_bound<K: Sink>(alloc: Global, limits: &Limits, out: &mut K) -> Outcome
-    ensures ends { LineEnds (bound_text limits.now) (K.shows out.old) (K.shows out.new) result }
+/// Puts lines that were made, where memory didn't run out meanwhile.
+fn put_made<K: Sink>(made: Result<String, NoMemory>, out: &mut K) -> Outcome
+    ensures ends { (lines : List ℕ) → IfOk made (λ text. string_bytes text ≡ lines) →
+        LineEnds lines (K.shows out.old) (K.shows out.new) result }
     ensures put { PutsNothing result → ⊥ }
 {
-    let Ok(text) = bound_text(alloc, limits) else {
-        return Outcome::Memory;
-    };
-    put_text(text.as_bytes(), out)
-}
-
-/// Puts the lines of all limits.
-fn put_limits<K: Sink>(alloc: Global, limits: &Limits, out: &mut K) -> Outcome
-    ensures ends { LineEnds (limits_text limits.now) (K.shows out.old) (K.shows out.new) result }
-    ensures put { PutsNothing result → ⊥ }
-{
-    let Ok(text) = limits_text(alloc, limits) else {
-        return Outcome::Memory;
-    };
-    put_text(text.as_bytes(), out)
+    match made {
+        Ok(text) => put_text(text.as_bytes(), out),
+        Err(NoMemory) => Outcome::Memory,
+    }
 }
 
 /// The lines of the reaction time and of the bound for lapses.
@@ -102,7 +92,7 @@ fn limits_text(alloc: Global, limits: &Limits) -> Result<String, NoMemory>
     Ok(text)
 }
 
-/// Appends a line that tells this of a number, or of none.
+/// Appends a line: these words, and the number, or `none` where there is no number.
 #[tactic(auto, unfolding(crate::specs::Texts::number_or_none))]
 fn push_line(text: &mut String, says: &str, number: Option<u32>) -> Result<(), AllocError>
     ensures { OnOk result (string_bytes text.new

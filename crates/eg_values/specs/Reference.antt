@@ -27,7 +27,7 @@ reference_rules = record {
   torque = record { up = 1; down = 1; limit = 5 };
 }
 
--- what the plant goes by
+-- the data of the plant
 abbrev pub reference_plant : PlantParts
 reference_plant = record {
   slew = 50;

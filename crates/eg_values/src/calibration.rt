@@ -101,7 +101,7 @@ impl Calibration {
         &self.rules
     }
 
-    /// What the plant goes by.
+    /// The data of the plant.
     pub fn plant(&self) -> &PlantData
         ensures plant { result.now ≡ self.now.plant }
         ensures accepted { IsAccepted self.now }

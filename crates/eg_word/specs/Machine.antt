@@ -85,7 +85,7 @@ effect load m Illegal = trap m NoInstruction
 
 -- ---- one step ----
 
--- the word at pc, where there is one, is done
+-- the instruction at pc is done, where one stands there
 abbrev pub fetch : (ℕ → Option ℕ) → Registers → Option ℕ → Step
 fetch load m None = trap m Fetch
 fetch load m (Some word) = effect load m (instruction_of word)

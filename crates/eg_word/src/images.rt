@@ -1,4 +1,4 @@
-// Images of level 1 that runs are drawn and worked out with.
+// Images of level 1, for runs that are drawn and for runs that are worked out.
 
 /// Waits for ever: the image `idle.hex` of the examples (docs/FORMATS.md, "Images").
 pub const IDLE: [u16; 2] = [0xf000, 0xd1fe];

@@ -33,7 +33,7 @@ pub fn step<M: Guarded>(registers: &mut Registers, memory: &mut M) -> Result<(),
     advance(registers, memory)
 }
 
-/// One step of a machine that runs, as `step` does it, which also tells whether the machine runs on: who
+/// One step of a machine that runs, as `step` does it, which also tells whether the machine runs on: whoever
 /// makes many steps needn't look at the state before each of them. Where the caller has the program of the
 /// memory's code no word is decoded.
 #[inline]

@@ -6,7 +6,7 @@ use Rattle.eg_values.specs.Calibration.{CalibrationParts}
 use Rattle.eg_tick.proofs.BranchedRuns.{told_under}
 use Rattle.eg_campaign.specs.Plays.{run_with}
 use Rattle.eg_campaign.specs.declared.checkpoints.TheConstants.{CHECKPOINT_TICKS}
-use Rattle.eg_campaign.specs.Groups.{faultless, rows_under, count_with}
+use Rattle.eg_campaign.specs.Groups.{faultless, own_under, count_with}
 use Rattle.eg_campaign.specs.Checkpoints.{HasMade, IsSharedFor}
 use Rattle.eg_campaign.proofs.CheckpointLemmas.{counted_none, never_begins, makes_none, played_under, rows-are}
 use Rattle.eg_campaign.proofs.checkpoints.play_from.Given.{Over}
@@ -16,7 +16,7 @@ pub returns-in_default-clause-counted : goal.returns-in_default-clause-counted
 returns-in_default-clause-counted g c = λ cal shared.
     let x = c.args.input.now in
     let rows = record_rows g.E.BenchedEngine.bench (run_with cal x).run in
-    counted_none c.args.steps.now (rows_under x.plan.fault (length x.drive) rows)
+    counted_none c.args.steps.now (own_under x.plan.fault (length x.drive) rows)
     (makes_none (length x.drive) x.plan.fault rows (never_begins (length x.drive) x.plan.fault c.in_default.not-Some))
     (let e = c.count.ensures in let l = c.count.type_inv in subst (λ n. n < 18446744073709551616) e l)
     (let e = c.sum.ensures in let l = c.sum.type_inv in subst (λ n. n < 18446744073709551616) e l)
@@ -35,7 +35,7 @@ returns-then-fault-as_slice-clause-counted g c = λ cal shared.
     let rows = record_rows g.E.BenchedEngine.bench (run_with cal x).run in
     let begins : BeginsFrom (length x.drive) x.plan.fault = subst (BeginsFrom (length x.drive)) (sym c.in-Some.is)
     (subst (λ d. length d ≤ c.in-Some.fault.onset) c.as_slice.ensures c.if-fault-as_slice.true) in
-    counted_none c.args.steps.now (rows_under x.plan.fault (length x.drive) rows) (makes_none (length x.drive) x.plan.fault rows begins)
+    counted_none c.args.steps.now (own_under x.plan.fault (length x.drive) rows) (makes_none (length x.drive) x.plan.fault rows begins)
     (let e = c.count.ensures in let l = c.count.type_inv in subst (λ n. n < 18446744073709551616) e l)
     (let e = c.sum.ensures in let l = c.sum.type_inv in subst (λ n. n < 18446744073709551616) e l)
 
