@@ -20,6 +20,7 @@ use Rattle.eg_laws.proofs.AvailabilityRecords.{records_stay_available}
 use Rattle.eg_model.proofs.FindingRecords.{records_find_before_off, records_find_failures, records_find_from_onset, records_tell_flips}
 use Rattle.eg_model.proofs.FindingReports.{reports_name_what_cuts}
 use Rattle.eg_model.proofs.OutputRecords.{records_act_by_outputs}
+use Rattle.eg_model.proofs.InTimeLaws.{records_react_in_time}
 use Rattle.eg_model.proofs.PowerCycleLaws.{records_begin_in_turn}
 use Rattle.eg_model.proofs.WholeRecord.{are_rows}
 use Rattle.eg_plan.specs.declared.engine.EngineKind.{EngineKind}
@@ -27,6 +28,7 @@ use Rattle.eg_plan.specs.declared.engine.EngineKind.TheVariants as kind
 use Rattle.eg_campaign.specs.Plays.{IsPlayable, EngineRun, state_of, bench_of, rows_of_run, report_of_run, run_with}
 use Rattle.eg_campaign.specs.declared.play.RunInput.{RunInput}
 use Rattle.eg_play.specs.Headline.{KeepsHeadline}
+use Rattle.eg_play.specs.Ends.{TellsInTime}
 
 -- ---- the headline ----
 
@@ -86,3 +88,11 @@ pub keep_headline : (cal : CalibrationParts) → IsAccepted cal → (inputs : Li
     All KeepsHeadline (map (run_with cal) inputs)
 keep_headline cal accepted inputs playable = All-map KeepsHeadline (run_with cal) inputs
     (All-weaker IsPlayable (λ input. KeepsHeadline (run_with cal input)) (keeps_headline cal accepted) inputs playable)
+
+-- ---- what is told of the reactions ----
+
+pub tell_in_time : (cal : CalibrationParts) → IsAccepted cal → (inputs : List RunInput) → All IsPlayable inputs → All (TellsInTime cal) inputs
+tell_in_time cal accepted inputs playable = All-weaker IsPlayable (TellsInTime cal) tells inputs playable
+  where
+    tells : (input : RunInput) → IsPlayable input → TellsInTime cal input
+    tells input is = records_react_in_time (keeps_of input.plan.engine) (run_with cal input).run (record { accepted = accepted; drive = is.drive })

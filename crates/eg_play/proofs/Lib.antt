@@ -3,3 +3,4 @@ pub mod InputsLemmas
 pub mod HeadlineLemmas
 pub mod PlayLemmas
 pub mod SweepLemmas
+pub mod TableLemmas

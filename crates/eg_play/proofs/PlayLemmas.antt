@@ -15,11 +15,12 @@ use Rattle.eg_outcome.specs.declared.outcome.Outcome.{Outcome}
 use Rattle.eg_outcome.specs.declared.outcome.Outcome.TheVariants as outcome
 use Rattle.eg_outcome.proofs.AppendLemmas.{Appends-nil}
 use Rattle.eg_campaign.specs.Plays.{EngineRun, bench_of, rows_of_run, run_with, report_with, ticks_of, weights_of, count_after}
-use Rattle.eg_campaign.specs.Groups.{count_with}
+use Rattle.eg_campaign.specs.Groups.{count_with, told_with}
 use Rattle.eg_campaign.specs.declared.play.RunInput.{RunInput}
 use Rattle.eg_campaign.specs.Texts.{rows_in_time, record_text}
 use Rattle.eg_campaign.specs.Recording.{IsStopped}
-use Rattle.eg_play.specs.Texts.{report_text}
+use Rattle.eg_answer.specs.Times.{reaction_of}
+use Rattle.eg_play.specs.Texts.{report_text, table_by, table_text}
 use Rattle.eg_play.specs.Headline.{KeepsHeadline}
 use Rattle.eg_play.specs.Ends.{AreTicked, rows_of_runs, Plays, Records}
 
@@ -35,6 +36,11 @@ pub report_is : (cal : CalibrationParts) (inputs : List RunInput) (all : List Su
 unfolding report_text
 report_is cal inputs all is = ap (λ l. concat (map summary_line l) ++ report_end l) is
     ∙ ap (λ l. concat l ++ report_end (map (report_with cal) inputs)) (told_each cal inputs)
+
+pub table_is : (cal : CalibrationParts) (inputs : List RunInput) →
+    table_by (reaction_of cal.times) inputs (map (told_with cal) inputs) ≡ table_text cal inputs
+unfolding table_text
+table_is cal inputs = refl
 
 -- ---- what was put and counted ----
 

@@ -1,4 +1,4 @@
--- How `run`, `record` and `sweep` end: by cases on the outcome, nested from the outside in, as `check` and `bound`
+-- How `run`, `table`, `record` and `sweep` end: by cases on the outcome, nested from the outside in, as `check` and `bound`
 -- are. `store`, `out` and `was` are what the store, the output and the count of ticks show before the call,
 -- `later`, `now` and `is` what they show after it.
 use Rattle.std.specs.Prelude.{◌≡◌, ℕ, Bool, true, false, ◌+◌, ◌-◌, length, ◌%◌, ◌^◌, ◌≤◌, List, [], ◌∷◌, map, All, Option, Some, None, option_map, Result, Ok, Err, IsSome, slice_get, bytes_eq, if◌then◌else◌}
@@ -6,6 +6,8 @@ use Rattle.std.specs.List.{flat_map}
 use Rattle.eg_base.specs.Outside.{ShownStore, ShownSink}
 use Rattle.eg_num.specs.Drive.{DriveRow}
 use Rattle.eg_answer.specs.Times.{reaction_of}
+use Rattle.eg_fault.specs.Faults.{IsListed}
+use Rattle.eg_model.specs.InTime.{IsInTime}
 use Rattle.eg_values.specs.Calibration.{CalibrationParts}
 use Rattle.eg_record.specs.declared.row.Row.{Row}
 use Rattle.eg_tick.specs.Weights.{TickCount}
@@ -26,10 +28,11 @@ use Rattle.eg_play.specs.Files.{campaign_file, trace_file}
 use Rattle.eg_play.specs.Inputs.{InputComes, InputsCome, FindsInput, AcceptsInput}
 use Rattle.eg_play.specs.Headline.{KeepsHeadline}
 use Rattle.eg_campaign.specs.Plays.{EngineRun, rows_of_run, run_with, count_after}
-use Rattle.eg_campaign.specs.Groups.{rows_made, rows_of_group, count_with}
+use Rattle.eg_campaign.specs.Groups.{rows_made, rows_of_group, count_with, told_with}
 use Rattle.eg_campaign.specs.Texts.{rows_in_time, record_text}
 use Rattle.eg_campaign.specs.Recording.{IsStopped}
-use Rattle.eg_play.specs.Texts.{report_text}
+use Rattle.eg_play.specs.declared.telling.Telling.{Telling}
+use Rattle.eg_play.specs.Texts.{runs_text}
 use Rattle.eg_play.specs.Sweeping.{runs_over, table_over, swept_text}
 
 -- ---- runs are played ----
@@ -57,20 +60,32 @@ pub record Plays (text : List ℕ) (runs : List EngineRun) (rows : List Row) (ou
 abbrev pub NothingPlayed : ShownSink → ShownSink → TickCount → TickCount → Type 0
 NothingPlayed out now was is = (now ≡ out) × (is ≡ was)
 
--- ---- `run [--cal NAME] CAMPAIGN` ----
+-- ---- `run [--cal NAME] CAMPAIGN` and `table [--cal NAME] CAMPAIGN` ----
 
--- the inputs of all runs are known, and no fault of reading was met: the report is written
-abbrev pub ReportEnds : CalibrationParts → List RunInput → ShownStore → ShownStore → ShownSink → ShownSink
-    → TickCount → TickCount → Outcome → Type 0
-ReportEnds cal inputs store later out now was is o = (later.faults ≡ store.faults)
-    × Plays (report_text cal inputs) (map (run_with cal) inputs) (rows_made cal inputs) out now was is o
+-- what is told of the reactions of a run with at most one listed fault is in time
+abbrev pub TellsInTime : CalibrationParts → RunInput → Type 0
+TellsInTime cal input = IsListed input.plan.fault → IsInTime (reaction_of cal.times) (told_with cal input).reactions
+
+-- The runs of a campaign were played, and told in this way: on Done the whole text was written. What is told of
+-- their reactions is in time.
+pub record Tells (telling : Telling) (cal : CalibrationParts) (inputs : List RunInput) (out now : ShownSink)
+    (was is : TickCount) (o : Outcome) : Type 0 where
+  pub plays : Plays (runs_text telling cal inputs) (map (run_with cal) inputs) (rows_made cal inputs)
+      out now was is o
+  pub in_time : All (TellsInTime cal) inputs
+
+-- the inputs of all runs are known, and no fault of reading was met: they are told
+abbrev pub TellingEnds : Telling → CalibrationParts → List RunInput → ShownStore → ShownStore → ShownSink
+    → ShownSink → TickCount → TickCount → Outcome → Type 0
+TellingEnds telling cal inputs store later out now was is o = (later.faults ≡ store.faults)
+    × Tells telling cal inputs out now was is o
 
 -- the runs of the campaign are known: their files are read in order
-abbrev pub RunsEnd : CalibrationParts → List RunPlan → ShownStore → ShownStore → ShownSink → ShownSink
-    → TickCount → TickCount → Outcome → Type 0
-RunsEnd cal plans store later out now was is o = (come : Result (List RunInput) Outcome)
+abbrev pub RunsEnd : Telling → CalibrationParts → List RunPlan → ShownStore → ShownStore → ShownSink
+    → ShownSink → TickCount → TickCount → Outcome → Type 0
+RunsEnd telling cal plans store later out now was is o = (come : Result (List RunInput) Outcome)
     × InputsCome store later 1 0 plans come
-    × Follows (λ inputs end. ReportEnds cal inputs store later out now was is end)
+    × Follows (λ inputs end. TellingEnds telling cal inputs store later out now was is end)
     (NothingPlayed out now was is) come o
 
 -- ---- `record [--cal NAME] CAMPAIGN RUN` ----
@@ -153,12 +168,12 @@ NamedEnds campaign name store later nothing work o = (come : Result RunInput Out
 
 -- ---- each command ----
 
-abbrev pub RunCommandEnds : Option (List ℕ) → List ℕ → ShownStore → ShownStore → ShownSink → ShownSink
-    → TickCount → TickCount → Outcome → Type 0
-RunCommandEnds calibration campaign store later out now was is o =
+abbrev pub RunCommandEnds : Telling → Option (List ℕ) → List ℕ → ShownStore → ShownStore → ShownSink
+    → ShownSink → TickCount → TickCount → Outcome → Type 0
+RunCommandEnds telling calibration campaign store later out now was is o =
     CalibratedEnds calibration store later (NothingPlayed out now was is)
     (λ cal. CampaignEnds campaign store later (NothingPlayed out now was is)
-    (λ plans. RunsEnd cal plans store later out now was is)) o
+    (λ plans. RunsEnd telling cal plans store later out now was is)) o
 
 abbrev pub RecordCommandEnds : Option (List ℕ) → List ℕ → List ℕ → ShownStore → ShownStore → ShownSink
     → ShownSink → TickCount → TickCount → Outcome → Type 0

@@ -4,7 +4,7 @@ ghost use Rattle.std.specs.Prelude.{◌≡◌, None};
 use eg_base::Text;
 use eg_outcome::Outcome;
 
-/// How `run`, `record` or `sweep` ends (docs/FORMATS.md, "Outcomes").
+/// How `run`, `table`, `record` or `sweep` ends (docs/FORMATS.md, "Outcomes").
 #[derive(Drop)]
 pub struct End {
     /// The outcome.

@@ -1,7 +1,7 @@
-//! The commands that play whole runs: `run`, `record` and `sweep`.
+//! The commands that play whole runs: `run`, `table`, `record` and `sweep`.
 //!
 //! A campaign is read, then the drive trace and the image of each run that is played; then the controller plays
-//! them tick by tick, and the report, the record or the table is written, a record as its ticks are made.
+//! them tick by tick, and the report, the record or a table is written, a record as its ticks are made.
 #![tactic(auto)]
 
 mod campaign;
@@ -11,13 +11,16 @@ mod inputs;
 mod named;
 mod recording;
 mod report;
+mod run_table;
 mod running;
 mod sweeping;
 mod swept;
 mod table;
+mod telling;
 mod texts;
 
 pub use end::End;
 pub use recording::record;
 pub use running::run;
 pub use sweeping::sweep;
+pub use telling::Telling;

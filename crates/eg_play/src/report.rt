@@ -4,8 +4,10 @@ ghost use Rattle.eg_campaign.specs.Groups.{rows_made};
 ghost use Rattle.eg_campaign.specs.Plays.{IsPlayable, run_with};
 ghost use Rattle.eg_outcome.specs.Outcomes.{PutsNothing};
 ghost use Rattle.eg_play.specs.Texts.{report_text};
-ghost use Rattle.eg_play.specs.Ends.{Plays, Records};
+ghost use Rattle.eg_play.specs.Ends.{Plays, Records, Tells};
 
+use crate::Telling;
+use crate::run_table::put_run_table;
 use crate::texts::report_lines;
 use eg_base::Sink;
 use eg_campaign::{RecordStop, RunInput, record_into, run_all};
@@ -14,9 +16,32 @@ use eg_tick::Ticks;
 use eg_values::Calibration;
 use std::alloc::Global;
 
+/// Plays the runs of a campaign, and puts what is told of them in this way (docs/FORMATS.md, "Commands"). The
+/// ticks are counted in `steps`.
+pub(crate) fn put_told<K: Sink>(
+    alloc: Global,
+    telling: Telling,
+    calibration: &Calibration,
+    inputs: &[RunInput],
+    out: &mut K,
+    steps: &mut Ticks,
+) -> Outcome
+    requires { All IsPlayable inputs.now }
+    ensures tells { Tells telling calibration.now inputs.now
+        (K.shows out.old) (K.shows out.new) steps.old steps.new result }
+    ensures put { PutsNothing result → ⊥ }
+{
+    // Whoever reads it learns that the calibration is an accepted one.
+    let _rules = calibration.rules();
+    match telling {
+        Telling::Report => put_report(alloc, calibration, inputs, out, steps),
+        Telling::Table => put_run_table(alloc, calibration, inputs, out, steps),
+    }
+}
+
 /// Plays the runs of a campaign, and puts the report on them (docs/FORMATS.md, "The report"). The ticks are
 /// counted in `steps`.
-pub(crate) fn put_report<K: Sink>(
+fn put_report<K: Sink>(
     alloc: Global,
     calibration: &Calibration,
     inputs: &[RunInput],

@@ -1,4 +1,4 @@
-// `run [--cal NAME] CAMPAIGN`: the report on the runs of a campaign.
+// `run [--cal NAME] CAMPAIGN` and `table [--cal NAME] CAMPAIGN`: the runs of a campaign are told.
 ghost use Rattle.std.specs.Prelude.{◌≡◌, IsTrue, None};
 ghost use Rattle.std.specs.Option.{option_copied};
 ghost use Rattle.eg_base.specs.Outside.{IsMissing};
@@ -9,10 +9,10 @@ ghost use Rattle.eg_outcome.specs.declared.outcome.Outcome.TheVariants.{ReadFaul
 ghost use Rattle.eg_outcome.specs.declared.outcome.Role.TheVariants as role;
 ghost use Rattle.eg_play.specs.Ends.{NothingPlayed, RunsEnd, CampaignEnds, RunCommandEnds, NamesFile, role_in, name_for, IsNamedIfOfRun};
 
-use crate::End;
 use crate::campaign::campaign_for;
 use crate::inputs::inputs_for;
-use crate::report::put_report;
+use crate::report::put_told;
+use crate::{End, Telling};
 use eg_base::{Items, Sink, Store};
 use eg_outcome::calibration_for;
 use eg_plan::RunPlan;
@@ -20,17 +20,19 @@ use eg_tick::Ticks;
 use eg_values::Calibration;
 use std::alloc::Global;
 
-/// Does `run [--cal NAME] CAMPAIGN`, but for its note (docs/FORMATS.md, "Commands"): reads the campaign and
-/// the files of all its runs, plays the runs, and writes the report. Ticks are counted in `steps`.
+/// Does `run [--cal NAME] CAMPAIGN` or `table [--cal NAME] CAMPAIGN`, but for its note (docs/FORMATS.md,
+/// "Commands"): reads the campaign and the files of all its runs, plays the runs, and writes the report or the
+/// table on them. Ticks are counted in `steps`.
 pub fn run<S: Store, K: Sink>(
     alloc: Global,
+    telling: Telling,
     calibration: Option<&str>,
     campaign: &str,
     store: &mut S,
     out: &mut K,
     steps: &mut Ticks,
 ) -> End
-    ensures ends { RunCommandEnds (option_copied calibration.entry) campaign.now (S.shows store.old)
+    ensures ends { RunCommandEnds telling (option_copied calibration.entry) campaign.now (S.shows store.old)
         (S.shows store.new) (K.shows out.old) (K.shows out.new) steps.old steps.new result.outcome }
     ensures named { NamesFile campaign.now (S.shows store.old) (role_in result.outcome) result.file }
     // Over a sure store a missing calibration is told, and so is a missing campaign that is read first.
@@ -43,7 +45,7 @@ pub fn run<S: Store, K: Sink>(
         steps.old steps.new result.outcome }
 {
     match calibration_for(alloc, calibration, store) {
-        Ok(calibration) => run_by(alloc, &calibration, campaign, store, out, steps),
+        Ok(calibration) => run_by(alloc, telling, &calibration, campaign, store, out, steps),
         Err(outcome) => End::of(outcome),
     }
 }
@@ -51,6 +53,7 @@ pub fn run<S: Store, K: Sink>(
 /// Plays a campaign by this calibration.
 fn run_by<S: Store, K: Sink>(
     alloc: Global,
+    telling: Telling,
     calibration: &Calibration,
     campaign: &str,
     store: &mut S,
@@ -59,7 +62,7 @@ fn run_by<S: Store, K: Sink>(
 ) -> End
     ensures ends { CampaignEnds campaign.now (S.shows store.old) (S.shows store.new)
         (NothingPlayed (K.shows out.old) (K.shows out.new) steps.old steps.new)
-        (λ plans. RunsEnd calibration.now plans (S.shows store.old) (S.shows store.new)
+        (λ plans. RunsEnd telling calibration.now plans (S.shows store.old) (S.shows store.new)
         (K.shows out.old) (K.shows out.new) steps.old steps.new) result.outcome }
     ensures missing_campaign { IsTrue (S.shows store.old).sure
         → IsMissing (S.shows store.old).files campaign.now → result.outcome ≡ ReadFault role.Campaign }
@@ -68,7 +71,7 @@ fn run_by<S: Store, K: Sink>(
         steps.old steps.new result.outcome }
 {
     match campaign_for(alloc, campaign, store) {
-        Ok(plans) => run_plans(alloc, calibration, plans, store, out, steps),
+        Ok(plans) => run_plans(alloc, telling, calibration, plans, store, out, steps),
         Err(outcome) => End::of(outcome),
     }
 }
@@ -76,6 +79,7 @@ fn run_by<S: Store, K: Sink>(
 /// Plays these runs.
 fn run_plans<S: Store, K: Sink>(
     alloc: Global,
+    telling: Telling,
     calibration: &Calibration,
     plans: Items<RunPlan>,
     store: &mut S,
@@ -83,7 +87,7 @@ fn run_plans<S: Store, K: Sink>(
     steps: &mut Ticks,
 ) -> End
     requires rules { AreRuns plans }
-    ensures ends { RunsEnd calibration.now plans (S.shows store.old) (S.shows store.new)
+    ensures ends { RunsEnd telling calibration.now plans (S.shows store.old) (S.shows store.new)
         (K.shows out.old) (K.shows out.new) steps.old steps.new result.outcome }
     ensures named { result.file ≡ name_for plans (role_in result.outcome) }
     ensures some { IsNamedIfOfRun (role_in result.outcome) result.file }
@@ -91,7 +95,14 @@ fn run_plans<S: Store, K: Sink>(
         steps.old steps.new result.outcome }
 {
     match inputs_for(alloc, plans, store) {
-        Ok(inputs) => End::of(put_report(alloc, calibration, inputs.as_slice(), out, steps)),
+        Ok(inputs) => End::of(put_told(
+            alloc,
+            telling,
+            calibration,
+            inputs.as_slice(),
+            out,
+            steps,
+        )),
         Err(end) => end,
     }
 }

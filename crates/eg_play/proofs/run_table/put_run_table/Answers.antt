@@ -1,0 +1,32 @@
+use Rattle.std.proofs.Common.{◌≡◌, ◌∙◌, ap, ap₂, subst}
+use Rattle.eg_answer.specs.Times.{reaction_of}
+use Rattle.eg_outcome.specs.Outcomes.{LineEnds}
+use Rattle.eg_play.specs.Texts.{table_by, table_text}
+use Rattle.eg_play.proofs.HeadlineLemmas.{keep_headline}
+use Rattle.eg_play.proofs.PlayLemmas.{no_memory, no_lines, put, table_is}
+use Rattle.eg_play.proofs.run_table.put_run_table.Goals as goal
+
+pub returns-in_default-clause-plays : goal.returns-in_default-clause-plays
+returns-in_default-clause-plays g c =
+    let a = c.args in
+    let (n, most, is) = c.in_default.ensures.count in
+    no_memory _ _ _ (g.K.Sink.shows a.out.now) a.steps.now c.told_all.new.steps n most is
+    (keep_headline a.calibration.now c.rules-rules.ensures.accepted a.inputs.now c.requires)
+
+pub returns-in_default-table_text-clause-plays : goal.returns-in_default-table_text-clause-plays
+returns-in_default-table_text-clause-plays g c =
+    let a = c.args in
+    no_lines _ _ _ (g.K.Sink.shows a.out.now) a.steps.now c.told_all.new.steps c.in-Ok.ensures.counted
+    (keep_headline a.calibration.now c.rules-rules.ensures.accepted a.inputs.now c.requires)
+
+pub returns-clause-plays : goal.returns-clause-plays
+returns-clause-plays g c =
+    let a = c.args in
+    let shows = g.K.Sink.shows in
+    let text : c.deref-2.result.now ≡ table_text a.calibration.now a.inputs.now =
+    c.deref-2.ensures.value ∙ c.in-Ok-table_text.ensures
+    ∙ ap₂ (λ bound told. table_by bound a.inputs.now told) (c.reaction-bound.ensures ∙ ap reaction_of c.times.ensures.times) (c.deref.ensures.value ∙ c.in-Ok.ensures.told)
+    ∙ table_is a.calibration.now a.inputs.now in
+    put _ _ _ (shows a.out.now) (shows c.put_text.new.out) a.steps.now c.told_all.new.steps c.put_text.result c.in-Ok.ensures.counted
+    (subst (λ t. LineEnds t (shows a.out.now) (shows c.put_text.new.out) c.put_text.result) text c.put_text.ensures.ends)
+    (keep_headline a.calibration.now c.rules-rules.ensures.accepted a.inputs.now c.requires)
