@@ -70,10 +70,10 @@ completes (Some (limits calibration)) store later out now was then o (Ok parts, 
 completes (Some (limits calibration)) store later out now was then o (Err end, comes, (is, same)) = λ finds accepts still.
     subst IsDoneOrMemory (sym is) (calibration_done calibration store later end comes finds accepts)
 completes (Some (answers file)) store later out now was then o ends = λ finds accepts still. answers_done file store later out now o ends finds accepts still
-completes (Some (run calibration campaign)) store later out now was then o (Err end, comes, (is, same)) = λ finds accepts found accepted files still.
+completes (Some (run telling calibration campaign)) store later out now was then o (Err end, comes, (is, same)) = λ finds accepts found accepted files still.
     subst IsDoneOrMemory (sym is) (calibration_done calibration store later end comes finds accepts)
-completes (Some (run calibration campaign)) store later out now was then o (Ok parts, comes, works) = λ finds accepts found accepted files still.
-    run_done parts campaign store later out now was then o works found accepted files still
+completes (Some (run telling calibration campaign)) store later out now was then o (Ok parts, comes, works) = λ finds accepts found accepted files still.
+    run_done telling parts campaign store later out now was then o works found accepted files still
 completes (Some (record_run calibration campaign name)) store later out now was then o (Err end, comes, (is, same)) = λ finds accepts found accepted files still.
     subst IsDoneOrMemory (sym is) (calibration_done calibration store later end comes finds accepts)
 completes (Some (record_run calibration campaign name)) store later out now was then o (Ok parts, comes, works) = λ finds accepts found accepted files still.

@@ -20,6 +20,7 @@ use Rattle.eg_sweep.specs.Grid.{is_too_large}
 use Rattle.eg_outcome.specs.Images.{image_file}
 use Rattle.eg_play.specs.Files.{campaign_file, trace_file}
 use Rattle.eg_play.specs.Inputs.{input_of, TicksCome, InputComes, InputsCome, too_many}
+use Rattle.eg_play.specs.declared.telling.Telling.{Telling}
 use Rattle.eg_play.specs.Ends.{RunsEnd, GridEnds, FoundComes, NamedComes, run_named}
 use Rattle.eg_app.specs.Words.{Command, check, bound, limits, run, record_run, sweep, soak, answers, asm, dis}
 use Rattle.eg_app.specs.Ends.{Ends}
@@ -99,20 +100,21 @@ inputs_tell store later n sum (plan ∷ plans) inputs (Ok input, comes, (Ok more
 
 -- ---- the commands ----
 
-runs_tell : (calibration : Option (List ℕ)) (campaign : List ℕ) (cal : CalibrationParts) (plans : List RunPlan) (store later : ShownStore)
+runs_tell : (telling : Telling) (calibration : Option (List ℕ)) (campaign : List ℕ) (cal : CalibrationParts) (plans : List RunPlan) (store later : ShownStore)
     (out now : ShownSink) (was then : TickCount) → GoesBy calibration store cal → ReadComes campaign_file campaign store (Ok plans)
-    → RunsEnd cal plans store later out now was then Done → TellsRuns calibration campaign store out now
-runs_tell calibration campaign cal plans store later out now was then by says (Err end, comes, (is, nothing)) =
+    → RunsEnd telling cal plans store later out now was then Done → TellsRuns telling calibration campaign store out now
+runs_tell telling calibration campaign cal plans store later out now was then by says (Err end, comes, (is, nothing)) =
     absurd (inputs_never store later 1 0 plans end comes (sym is))
-runs_tell calibration campaign cal plans store later out now was then by says (Ok inputs, comes, (same, plays)) = record {
+runs_tell telling calibration campaign cal plans store later out now was then by says (Ok inputs, comes, (same, tells)) = record {
   cal = cal;
   plans = plans;
   inputs = inputs;
   goes_by = by;
   campaign_says = says;
   files_say = inputs_tell store later 1 0 plans inputs comes;
-  written = plays.written.0;
-  headline = plays.headline;
+  written = tells.plays.written.0;
+  headline = tells.plays.headline;
+  in_time = tells.in_time;
 }
 
 -- what comes of the run of a name
@@ -161,12 +163,12 @@ done_tells (Some (asm file)) store later out now was then ends = tt
 done_tells (Some (dis file)) store later out now was then ends = tt
 done_tells (Some (soak seed runs)) store later out now was then plays =
     record { written = plays.written.0; headline = plays.headline }
-done_tells (Some (run calibration campaign)) store later out now was then (Err end, comes, (is, nothing)) =
+done_tells (Some (run telling calibration campaign)) store later out now was then (Err end, comes, (is, nothing)) =
     absurd (calibration_never calibration store later end comes (sym is))
-done_tells (Some (run calibration campaign)) store later out now was then (Ok cal, comes, (Err end, read, (is, nothing))) =
+done_tells (Some (run telling calibration campaign)) store later out now was then (Ok cal, comes, (Err end, read, (is, nothing))) =
     absurd (never_done role.Campaign campaign_file campaign store later end read (sym is))
-done_tells (Some (run calibration campaign)) store later out now was then (Ok cal, comes, (Ok plans, read, ends)) =
-    runs_tell calibration campaign cal plans store later out now was then (goes_by calibration store later cal comes) read ends
+done_tells (Some (run telling calibration campaign)) store later out now was then (Ok cal, comes, (Ok plans, read, ends)) =
+    runs_tell telling calibration campaign cal plans store later out now was then (goes_by calibration store later cal comes) read ends
 done_tells (Some (record_run calibration campaign name)) store later out now was then (Err end, comes, (is, nothing)) =
     absurd (calibration_never calibration store later end comes (sym is))
 done_tells (Some (record_run calibration campaign name)) store later out now was then (Ok cal, comes, (Err end, named, (is, nothing))) =

@@ -20,6 +20,7 @@ use Rattle.eg_sweep.specs.Grid.{is_too_large}
 use Rattle.eg_outcome.specs.Images.{image_file}
 use Rattle.eg_play.specs.Files.{campaign_file, trace_file}
 use Rattle.eg_play.specs.Inputs.{TicksCome, InputComes, InputsCome, too_many}
+use Rattle.eg_play.specs.declared.telling.Telling.{Telling}
 use Rattle.eg_play.specs.Ends.{NothingPlayed, RunsEnd, RecordEnds, GridEnds, SweepEnds, FoundComes, NamedComes, NamedEnds, CampaignEnds, RunCommandEnds, RecordCommandEnds, SweepCommandEnds, run_named}
 use Rattle.eg_app.proofs.PlayLemmas.{same_error, no_value}
 
@@ -82,10 +83,10 @@ inputs_other store later n sum (plan ∷ plans) end (Ok input, comes, (Err e, re
 
 -- ---- the commands ----
 
-runs_other : (cal : CalibrationParts) (plans : List RunPlan) (store later : ShownStore) (out now : ShownSink) (was then : TickCount) (o : Outcome)
-    → RunsEnd cal plans store later out now was then o → o ≡ ReadFault role.Calibration → ⊥
-runs_other cal plans store later out now was then o (Ok inputs, comes, (same, plays)) fault = line_other _ out now o plays.written fault
-runs_other cal plans store later out now was then o (Err end, comes, (is, nothing)) fault = inputs_other store later 1 0 plans end comes (sym is ∙ fault)
+runs_other : (telling : Telling) (cal : CalibrationParts) (plans : List RunPlan) (store later : ShownStore) (out now : ShownSink) (was then : TickCount) (o : Outcome)
+    → RunsEnd telling cal plans store later out now was then o → o ≡ ReadFault role.Calibration → ⊥
+runs_other telling cal plans store later out now was then o (Ok inputs, comes, (same, tells)) fault = line_other _ out now o tells.plays.written fault
+runs_other telling cal plans store later out now was then o (Err end, comes, (is, nothing)) fault = inputs_other store later 1 0 plans end comes (sym is ∙ fault)
 
 found_other : (found : Option (ℕ × RunPlan)) (store later : ShownStore) (end : Outcome)
     → FoundComes found store later (Err end) → end ≡ ReadFault role.Calibration → ⊥
@@ -112,14 +113,14 @@ campaign_other campaign store later nothing work o (Ok plans, comes, works) neve
 campaign_other campaign store later nothing work o (Err end, comes, (is, same)) never fault =
     not_campaign (other_file role.Campaign campaign_file campaign store later end comes (sym is ∙ fault))
 
-pub run_missing : (calibration : Option (List ℕ)) (campaign : List ℕ) (store later : ShownStore) (out now : ShownSink) (was then : TickCount)
-    (o : Outcome) → RunCommandEnds calibration campaign store later out now was then o → IsTrue store.sure
+pub run_missing : (telling : Telling) (calibration : Option (List ℕ)) (campaign : List ℕ) (store later : ShownStore) (out now : ShownSink) (was then : TickCount)
+    (o : Outcome) → RunCommandEnds telling calibration campaign store later out now was then o → IsTrue store.sure
     → o ≡ ReadFault role.Calibration → MissesCalibration calibration store
-run_missing calibration campaign store later out now was then o ends sure =
+run_missing telling calibration campaign store later out now was then o ends sure =
     let nothing = NothingPlayed out now was then in
-    let work = λ (cal : CalibrationParts) (plans : List RunPlan). RunsEnd cal plans store later out now was then in
+    let work = λ (cal : CalibrationParts) (plans : List RunPlan). RunsEnd telling cal plans store later out now was then in
     calibrated_missing calibration store later nothing (λ cal. CampaignEnds campaign store later nothing (work cal)) o ends
-    (λ cal works. campaign_other campaign store later nothing (work cal) o works (λ plans. runs_other cal plans store later out now was then o)) sure
+    (λ cal works. campaign_other campaign store later nothing (work cal) o works (λ plans. runs_other telling cal plans store later out now was then o)) sure
 
 pub record_missing : (calibration : Option (List ℕ)) (campaign name : List ℕ) (store later : ShownStore) (out now : ShownSink) (was then : TickCount)
     (o : Outcome) → RecordCommandEnds calibration campaign name store later out now was then o → IsTrue store.sure

@@ -16,6 +16,7 @@ use Rattle.eg_sweep.specs.Grid.{is_too_large}
 use Rattle.eg_outcome.specs.Images.{image_file}
 use Rattle.eg_play.specs.Files.{campaign_file, trace_file}
 use Rattle.eg_play.specs.Inputs.{input_of, TicksCome, InputComes, InputsCome, FindsInput, AcceptsInput, FindsRuns, AcceptsRuns, too_many}
+use Rattle.eg_play.specs.declared.telling.Telling.{Telling}
 use Rattle.eg_play.specs.Ends.{NothingPlayed, RunsEnd, RecordEnds, GridEnds, SweepEnds, FoundComes, NamedComes, NamedEnds, AcceptsNamed, AcceptsGrid, CampaignEnds, run_named}
 use Rattle.eg_app.proofs.FileLemmas.{file_done, line_done}
 
@@ -78,11 +79,11 @@ inputs_done store later n sum (plan ∷ plans) end (Ok input, comes, (Err e, res
 -- ---- the commands ----
 
 -- the runs of a campaign are played
-runs_done : (cal : CalibrationParts) (plans : List RunPlan) (store later : ShownStore) (out now : ShownSink) (was then : TickCount) (o : Outcome)
-    → RunsEnd cal plans store later out now was then o → FindsRuns store later plans
+runs_done : (telling : Telling) (cal : CalibrationParts) (plans : List RunPlan) (store later : ShownStore) (out now : ShownSink) (was then : TickCount) (o : Outcome)
+    → RunsEnd telling cal plans store later out now was then o → FindsRuns store later plans
     → AcceptsRuns store 1 0 plans → ¬ Rose out.faults now.faults → IsDoneOrMemory o
-runs_done cal plans store later out now was then o (Ok inputs, comes, (same, plays)) finds accepts still = line_done _ out now o plays.written still
-runs_done cal plans store later out now was then o (Err end, comes, (is, nothing)) finds accepts still =
+runs_done telling cal plans store later out now was then o (Ok inputs, comes, (same, tells)) finds accepts still = line_done _ out now o tells.plays.written still
+runs_done telling cal plans store later out now was then o (Err end, comes, (is, nothing)) finds accepts still =
     subst IsDoneOrMemory (sym is) (inputs_done store later 1 0 plans end comes finds accepts)
 
 -- the run is there, and its files are found and accepted
@@ -109,14 +110,14 @@ campaign_done campaign store later nothing work o (Ok plans, comes, works) finds
 campaign_done campaign store later nothing work o (Err end, comes, (is, same)) finds accepts done =
     subst IsDoneOrMemory (sym is) (file_done role.Campaign campaign_file campaign store later end comes finds accepts)
 
-pub run_done : (cal : CalibrationParts) (campaign : List ℕ) (store later : ShownStore) (out now : ShownSink) (was then : TickCount) (o : Outcome)
-    → CampaignEnds campaign store later (NothingPlayed out now was then) (λ plans. RunsEnd cal plans store later out now was then) o
+pub run_done : (telling : Telling) (cal : CalibrationParts) (campaign : List ℕ) (store later : ShownStore) (out now : ShownSink) (was then : TickCount) (o : Outcome)
+    → CampaignEnds campaign store later (NothingPlayed out now was then) (λ plans. RunsEnd telling cal plans store later out now was then) o
     → Finds campaign store later → Accepts campaign_file campaign store
     → ((plans : List RunPlan) → ReadComes campaign_file campaign store (Ok plans) → FindsRuns store later plans × AcceptsRuns store 1 0 plans)
     → ¬ Rose out.faults now.faults → IsDoneOrMemory o
-run_done cal campaign store later out now was then o ends finds accepts files still =
-    campaign_done campaign store later (NothingPlayed out now was then) (λ plans. RunsEnd cal plans store later out now was then) o ends finds accepts
-    (λ plans comes works. runs_done cal plans store later out now was then o works (files plans comes).0 (files plans comes).1 still)
+run_done telling cal campaign store later out now was then o ends finds accepts files still =
+    campaign_done campaign store later (NothingPlayed out now was then) (λ plans. RunsEnd telling cal plans store later out now was then) o ends finds accepts
+    (λ plans comes works. runs_done telling cal plans store later out now was then o works (files plans comes).0 (files plans comes).1 still)
 
 -- a run that is there, and whose files are found and accepted, is worked off
 pub named_done : (campaign name : List ℕ) (store later : ShownStore) (nothing : Type 0) (work : RunInput → Outcome → Type 0) (o : Outcome)

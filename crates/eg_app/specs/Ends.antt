@@ -65,8 +65,8 @@ Ends (Some (check calibration file)) store later out now was is o =
     CheckEnds calibration file store later out now o
 Ends (Some (bound calibration)) store later out now was is o = BoundEnds calibration store later out now o
 Ends (Some (limits calibration)) store later out now was is o = LimitsEnd calibration store later out now o
-Ends (Some (run calibration campaign)) store later out now was is o =
-    RunCommandEnds calibration campaign store later out now was is o
+Ends (Some (run telling calibration campaign)) store later out now was is o =
+    RunCommandEnds telling calibration campaign store later out now was is o
 Ends (Some (record_run calibration campaign name)) store later out now was is o =
     RecordCommandEnds calibration campaign name store later out now was is o
 Ends (Some (sweep calibration campaign name step)) store later out now was is o =
@@ -82,7 +82,7 @@ abbrev pub CountsNothing : Option Command → Type 0
 CountsNothing (Some (check calibration file)) = Unit {0}
 CountsNothing (Some (bound calibration)) = Unit {0}
 CountsNothing (Some (limits calibration)) = Unit {0}
-CountsNothing (Some (run calibration campaign)) = ⊥
+CountsNothing (Some (run telling calibration campaign)) = ⊥
 CountsNothing (Some (record_run calibration campaign name)) = ⊥
 CountsNothing (Some (sweep calibration campaign name step)) = ⊥
 CountsNothing (Some (soak seed runs)) = ⊥
@@ -98,7 +98,7 @@ ReadsNothing (Some (bound (Some name))) = ⊥
 ReadsNothing (Some (bound None)) = Unit {0}
 ReadsNothing (Some (limits (Some name))) = ⊥
 ReadsNothing (Some (limits None)) = Unit {0}
-ReadsNothing (Some (run calibration campaign)) = ⊥
+ReadsNothing (Some (run telling calibration campaign)) = ⊥
 ReadsNothing (Some (record_run calibration campaign name)) = ⊥
 ReadsNothing (Some (sweep calibration campaign name step)) = ⊥
 ReadsNothing (Some (soak seed runs)) = Unit {0}
@@ -138,7 +138,7 @@ TellsMissing (Some (bound calibration)) store o =
     IsTrue store.sure → TellsMissingCalibration calibration store o
 TellsMissing (Some (limits calibration)) store o =
     IsTrue store.sure → TellsMissingCalibration calibration store o
-TellsMissing (Some (run calibration campaign)) store o =
+TellsMissing (Some (run telling calibration campaign)) store o =
     IsTrue store.sure → TellsMissingToPlay calibration campaign store o
 TellsMissing (Some (record_run calibration campaign name)) store o =
     IsTrue store.sure → TellsMissingToPlay calibration campaign store o
@@ -167,7 +167,7 @@ Completes (Some (bound calibration)) store later out now o =
 Completes (Some (limits calibration)) store later out now o =
     FindsCalibration calibration store later → AcceptsCalibration calibration store →
     ¬ Rose out.faults now.faults → IsDoneOrMemory o
-Completes (Some (run calibration campaign)) store later out now o =
+Completes (Some (run telling calibration campaign)) store later out now o =
     FindsCalibration calibration store later → AcceptsCalibration calibration store →
     Finds campaign store later → Accepts campaign_file campaign store →
     ((plans : List RunPlan) → ReadComes campaign_file campaign store (Ok plans)

@@ -13,10 +13,11 @@ use Rattle.eg_outcome.specs.Calibrations.{calibration_file}
 use Rattle.eg_outcome.specs.Images.{image_file}
 use Rattle.eg_play.specs.Files.{campaign_file, trace_file}
 use Rattle.eg_sweep.specs.Laws.{IsBounded}
-use Rattle.eg_play.specs.Texts.{report_text}
+use Rattle.eg_play.specs.declared.telling.Telling.{Telling}
+use Rattle.eg_play.specs.Texts.{runs_text}
 use Rattle.eg_play.specs.Sweeping.{runs_over, table_over, swept_text}
 use Rattle.eg_play.specs.Headline.{KeepsHeadline}
-use Rattle.eg_play.specs.Ends.{run_named}
+use Rattle.eg_play.specs.Ends.{TellsInTime, run_named}
 use Rattle.eg_soak.specs.Soak.{drawn_runs, soak_of}
 use Rattle.eg_soak.specs.Texts.{soak_text}
 use Rattle.eg_app.specs.Words.{Command, run, record_run, sweep, soak}
@@ -39,18 +40,19 @@ AreInputs store n (plan ∷ plans) (input ∷ inputs) =
     IsInput store n plan input × AreInputs store (n + 1) plans inputs
 AreInputs store n _ _ = ⊥
 
--- Of the runs of a campaign: the files say what the runs are, the report of these runs was written, and each
--- of them keeps the headline.
-pub record TellsRuns (calibration : Option (List ℕ)) (campaign : List ℕ) (store : ShownStore)
-    (out now : ShownSink) : Type 0 where
+-- Of the runs of a campaign: the files say what the runs are, the report or the table of these runs was
+-- written, each of them keeps the headline, and what is told of the reactions of each is in time.
+pub record TellsRuns (telling : Telling) (calibration : Option (List ℕ)) (campaign : List ℕ)
+    (store : ShownStore) (out now : ShownSink) : Type 0 where
   pub cal : CalibrationParts
   pub plans : List RunPlan
   pub inputs : List RunInput
   pub goes_by : GoesBy calibration store cal
   pub campaign_says : ReadComes campaign_file campaign store (Ok plans)
   pub files_say : AreInputs store 1 plans inputs
-  pub written : Appends out now (report_text cal inputs)
+  pub written : Appends out now (runs_text telling cal inputs)
   pub headline : All KeepsHeadline (map (run_with cal) inputs)
+  pub in_time : All (TellsInTime cal) inputs
 
 -- The files say that this is the input of one run of a campaign: the first of this name.
 pub record IsNamedInput (campaign name : List ℕ) (store : ShownStore) (input : RunInput) : Type 0 where
@@ -90,7 +92,8 @@ pub record TellsSoak (seed count : ℕ) (out now : ShownSink) : Type 0 where
 
 -- What a command that plays runs has told where its work is done.
 abbrev pub TellsHeadline : Option Command → ShownStore → ShownSink → ShownSink → Type 0
-TellsHeadline (Some (run calibration campaign)) store out now = TellsRuns calibration campaign store out now
+TellsHeadline (Some (run telling calibration campaign)) store out now =
+    TellsRuns telling calibration campaign store out now
 TellsHeadline (Some (record_run calibration campaign name)) store out now =
     TellsRecord calibration campaign name store out now
 TellsHeadline (Some (sweep calibration campaign name step)) store out now =

@@ -29,7 +29,7 @@ abbrev pub calibration_name : Command → List ℕ
 calibration_name (check calibration file) = unwrap_or calibration []
 calibration_name (bound calibration) = unwrap_or calibration []
 calibration_name (limits calibration) = unwrap_or calibration []
-calibration_name (run calibration campaign) = unwrap_or calibration []
+calibration_name (run telling calibration campaign) = unwrap_or calibration []
 calibration_name (record_run calibration campaign name) = unwrap_or calibration []
 calibration_name (sweep calibration campaign name step) = unwrap_or calibration []
 calibration_name (soak seed runs) = []
@@ -44,7 +44,7 @@ check_name _ = []
 
 -- the name of the campaign, empty where there is none
 abbrev pub campaign_name : Command → List ℕ
-campaign_name (run calibration campaign) = campaign
+campaign_name (run telling calibration campaign) = campaign
 campaign_name (record_run calibration campaign name) = campaign
 campaign_name (sweep calibration campaign name step) = campaign
 campaign_name _ = []
@@ -90,9 +90,9 @@ file_role _ = None
 -- The name of the file of this role: the name in the words. The trace and the image of a run have the name
 -- that the campaign gives, which the store has.
 abbrev pub IsNameOf : Command → ShownStore → Option Role → List ℕ → Type 0
-IsNameOf (run calibration campaign) store (Some (role.Trace n)) name =
+IsNameOf (run telling calibration campaign) store (Some (role.Trace n)) name =
     IsNameIn campaign store (role.Trace n) (Some name)
-IsNameOf (run calibration campaign) store (Some (role.Image n)) name =
+IsNameOf (run telling calibration campaign) store (Some (role.Image n)) name =
     IsNameIn campaign store (role.Image n) (Some name)
 IsNameOf (record_run calibration campaign played) store (Some (role.Trace n)) name =
     IsNameIn campaign store (role.Trace n) (Some name)
@@ -111,7 +111,7 @@ IsFileName None store o name = name ≡ []
 
 -- what comes beside the outcome of a command: the name of the trace or the image of a run that it speaks of
 abbrev pub Names : Command → ShownStore → Outcome → Option (List ℕ) → Type 0
-Names (run calibration campaign) store o name = NamesFile campaign store (role_in o) name
+Names (run telling calibration campaign) store o name = NamesFile campaign store (role_in o) name
 Names (record_run calibration campaign played) store o name = NamesFile campaign store (role_in o) name
 Names (sweep calibration campaign played step) store o name = NamesFile campaign store (role_in o) name
 Names command store o name = name ≡ None

@@ -4,11 +4,13 @@ use Rattle.std.specs.Option.{option_copied}
 use Rattle.std.specs.declared.string.String.{String}
 use Rattle.std.specs.declared.alloc.Global.{Global}
 use Rattle.eg_input.specs.Fields.{decimal}
+use Rattle.eg_play.specs.declared.telling.Telling.{Telling}
+use Rattle.eg_play.specs.declared.telling.Telling.TheVariants.{Report, Table}
 use Rattle.eg_app.specs.declared.command.Command.{Command as Parsed}
 use Rattle.eg_app.specs.declared.command.Command.TheVariants as parsed
 
 -- What can be asked for: to check the file of this name; the bounds, or all limits; to run the campaign of
--- this name; the record of its run of that name; or to sweep over all classes of faults with that run, at each
+-- this name, and tell its runs by the report or by a table; the record of its run of that name; or to sweep over all classes of faults with that run, at each
 -- `step`th tick. Each of these goes by the calibration in the file of the name behind `--cal`, or by the
 -- reference calibration where there is none. Or so many runs that are drawn from a number; or the right
 -- answers to the questions of a calibration file; or the image of a source, or the source of an image.
@@ -16,7 +18,7 @@ pub data Command : Type 0 where
   check : (calibration : Option (List ℕ)) (file : List ℕ) → Command
   bound : (calibration : Option (List ℕ)) → Command
   limits : (calibration : Option (List ℕ)) → Command
-  run : (calibration : Option (List ℕ)) (campaign : List ℕ) → Command
+  run : Telling → (calibration : Option (List ℕ)) (campaign : List ℕ) → Command
   record_run : (calibration : Option (List ℕ)) (campaign : List ℕ) (name : List ℕ) → Command
   sweep : (calibration : Option (List ℕ)) (campaign : List ℕ) (name : List ℕ) (step : ℕ) → Command
   soak : (seed runs : ℕ) → Command
@@ -29,7 +31,7 @@ abbrev pub said : Parsed → Command
 said (parsed.Check calibration file) = check (option_copied calibration) file.now
 said (parsed.Bound calibration) = bound (option_copied calibration)
 said (parsed.Limits calibration) = limits (option_copied calibration)
-said (parsed.Run calibration campaign) = run (option_copied calibration) campaign.now
+said (parsed.Run telling calibration campaign) = run telling (option_copied calibration) campaign.now
 said (parsed.Record calibration campaign name) = record_run (option_copied calibration) campaign.now name.now
 said (parsed.Sweep calibration campaign name step) =
     sweep (option_copied calibration) campaign.now name.now step
@@ -64,10 +66,10 @@ is_check words own =
 abbrev pub is_alone : List ℕ → List (List ℕ) → ℕ → Bool
 is_alone command words own = (length words == own) && bytes_eq (word words 0) command
 
--- likewise: the words are `run CAMPAIGN`
-abbrev pub is_run : List (List ℕ) → ℕ → Bool
-is_run words own =
-    (length words == own + 1) && bytes_eq (word words 0) (codes "run") && is_name (word words own)
+-- likewise: the words are this one and the name of a campaign
+abbrev pub is_on_campaign : List ℕ → List (List ℕ) → ℕ → Bool
+is_on_campaign command words own =
+    (length words == own + 1) && bytes_eq (word words 0) command && is_name (word words own)
 
 -- likewise: the words are `record CAMPAIGN RUN`
 abbrev pub is_record : List (List ℕ) → ℕ → Bool
@@ -94,7 +96,8 @@ step_in word = number_in 5 1 20000 word
 -- what the words ask for by this calibration, where the command's own words begin at place `own`
 unfoldable pub form_of : List (List ℕ) → Option (List ℕ) → ℕ → Option Command
 form_of words calibration own = if is_check words own then Some (check calibration (word words own))
-    else if is_run words own then Some (run calibration (word words own))
+    else if is_on_campaign (codes "run") words own then Some (run Report calibration (word words own))
+    else if is_on_campaign (codes "table") words own then Some (run Table calibration (word words own))
     else if is_record words own then Some (record_run calibration (word words own) (word words (own + 1)))
     else if is_sweep words own then option_map (sweep calibration (word words own) (word words (own + 1)))
     (step_in (word words (own + 2)))

@@ -127,9 +127,10 @@ fn work<S: Store, K: Sink>(
         Command::Bound { calibration } => end_of(bound(alloc, calibration, store, out)),
         Command::Limits { calibration } => end_of(limits(alloc, calibration, store, out)),
         Command::Run {
+            telling,
             calibration,
             campaign,
-        } => play_campaign(alloc, calibration, campaign, store, out, steps),
+        } => play_campaign(alloc, telling, calibration, campaign, store, out, steps),
         Command::Record {
             calibration,
             campaign,

@@ -2,10 +2,11 @@
 ghost use Rattle.std.specs.Prelude.{◌≡◌, ◌≤◌, ◌+◌, [], Some, length, option_map, unwrap_or, slice_index_or, IfSome};
 ghost use Rattle.std.specs.Option.{option_copied};
 ghost use Rattle.eg_app.specs.Notes.{calibration_name, check_name, campaign_name, translated_name, name_of, role_of, file_role, name_in_words};
-ghost use Rattle.eg_app.specs.Words.{words_of, is_name, names_calibration, is_check, is_alone, is_run, is_record, is_sweep, step_in, word, sweep, is_on_file, of_file, form_of, alone_of, is_soak, soak_form, calibrated_of, command_of, said, KeepsLimits};
+ghost use Rattle.eg_app.specs.Words.{words_of, is_name, names_calibration, is_check, is_alone, is_on_campaign, is_record, is_sweep, step_in, word, sweep, is_on_file, of_file, form_of, alone_of, is_soak, soak_form, calibrated_of, command_of, said, KeepsLimits};
 
 use crate::number::number_in;
 use eg_outcome::{Outcome, Refusal, Role};
+use eg_play::Telling;
 
 /// What the words of the command line ask for (docs/FORMATS.md, "Commands"). A command with a `calibration`
 /// goes by the one in the file behind `--cal`, or by the reference calibration where there is none.
@@ -24,8 +25,9 @@ pub(crate) enum Command<'a> {
     Limits {
         calibration: Option<&'a str>,
     },
-    /// `run [--cal NAME] CAMPAIGN`.
+    /// `run [--cal NAME] CAMPAIGN`, or `table [--cal NAME] CAMPAIGN`.
     Run {
+        telling: Telling,
         calibration: Option<&'a str>,
         campaign: &'a str,
     },
@@ -157,8 +159,16 @@ impl<'a> Command<'a> {
                 file: words[own].as_str(),
             });
         }
-        if is_run(words, own) {
+        if is_on_campaign("run", words, own) {
             return Some(Command::Run {
+                telling: Telling::Report,
+                calibration,
+                campaign: words[own].as_str(),
+            });
+        }
+        if is_on_campaign("table", words, own) {
+            return Some(Command::Run {
+                telling: Telling::Table,
                 calibration,
                 campaign: words[own].as_str(),
             });
@@ -338,13 +348,14 @@ fn is_alone(command: &str, words: &[String], own: usize) -> bool
     words.len() == own && words[0].as_str() == command
 }
 
-/// Whether the words are `run CAMPAIGN`, where the command's own words begin at place `own`.
-fn is_run(words: &[String], own: usize) -> bool
+/// Whether the words are this one and the name of a campaign, where the command's own words begin at place
+/// `own`.
+fn is_on_campaign(command: &str, words: &[String], own: usize) -> bool
     requires least { 1 ≤ own }
     requires most { own ≤ 3 }
-    ensures { result ≡ is_run (words_of words.now) own }
+    ensures { result ≡ is_on_campaign command.now (words_of words.now) own }
 {
-    words.len() == own + 1 && words[0].as_str() == "run" && is_name(words[own].as_str())
+    words.len() == own + 1 && words[0].as_str() == command && is_name(words[own].as_str())
 }
 
 /// Whether the words are `record CAMPAIGN RUN`, where the command's own words begin at place `own`.

@@ -1,4 +1,4 @@
-// `run`, `record` and `sweep`: beside eg_play's own clauses, when the calibration is missing.
+// `run`, `table`, `record` and `sweep`: beside eg_play's own clauses, when the calibration is missing.
 ghost use Rattle.std.specs.Prelude.{◌≡◌, ◌≤◌, Some};
 ghost use Rattle.std.specs.Option.{option_copied};
 ghost use Rattle.eg_outcome.specs.Outcomes.{EndsOrderly};
@@ -7,29 +7,31 @@ ghost use Rattle.eg_app.specs.Words.{run, record_run, sweep};
 ghost use Rattle.eg_app.specs.Ends.{TellsMissing};
 
 use eg_base::{Sink, Store};
-use eg_play::{End, record, run, sweep};
+use eg_play::{End, Telling, record, run, sweep};
 use eg_tick::Ticks;
 use std::alloc::Global;
 
-/// Does `run [--cal NAME] CAMPAIGN`, but for its note (docs/FORMATS.md, "Commands").
+/// Does `run [--cal NAME] CAMPAIGN` or `table [--cal NAME] CAMPAIGN`, but for its note (docs/FORMATS.md,
+/// "Commands").
 pub(crate) fn play_campaign<S: Store, K: Sink>(
     alloc: Global,
+    telling: Telling,
     calibration: Option<&str>,
     campaign: &str,
     store: &mut S,
     out: &mut K,
     steps: &mut Ticks,
 ) -> End
-    ensures ends { RunCommandEnds (option_copied calibration.entry) campaign.now
+    ensures ends { RunCommandEnds telling (option_copied calibration.entry) campaign.now
         (S.shows store.old) (S.shows store.new) (K.shows out.old) (K.shows out.new) steps.old steps.new
         result.outcome }
     ensures named { NamesFile campaign.now (S.shows store.old) (role_in result.outcome) result.file }
-    ensures missing { TellsMissing (Some (run (option_copied calibration.entry) campaign.now))
+    ensures missing { TellsMissing (Some (run telling (option_copied calibration.entry) campaign.now))
         (S.shows store.old) result.outcome }
     ensures orderly { EndsOrderly (S.shows store.old) (S.shows store.new) out.old out.new
         steps.old steps.new result.outcome }
 {
-    run(alloc, calibration, campaign, store, out, steps)
+    run(alloc, telling, calibration, campaign, store, out, steps)
 }
 
 /// Does `record [--cal NAME] CAMPAIGN RUN`, but for its note (docs/FORMATS.md, "Commands").

@@ -10,7 +10,7 @@ returns-clause-missing g c =
     let now = g.K.Sink.shows c.run.new.out in
     λ sure. record {
       of_calibration = (
-        run_missing (option_copied c.args.calibration) c.args.campaign.now store later out now c.args.steps.now c.run.new.steps c.run.result.outcome c.run.ensures.ends sure,
+        run_missing c.args.telling (option_copied c.args.calibration) c.args.campaign.now store later out now c.args.steps.now c.run.new.steps c.run.result.outcome c.run.ensures.ends sure,
         c.run.ensures.missing sure,
       );
       of_campaign = c.run.ensures.missing_campaign sure;
