@@ -5,7 +5,7 @@ ghost use Rattle.eg_draw.specs.Draws.{next, draw};
 use std::marker::Model;
 
 /// Draws numbers, one after another, and runs from them (docs/CONCEPT.md, "The generator of `soak`"). What it
-/// draws goes by the number that it begins with. Contracts see its state.
+/// draws follows from the number that it begins with. Contracts see its state.
 #[derive(Debug, Drop)]
 pub struct Generator {
     state: u32,

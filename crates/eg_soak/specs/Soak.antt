@@ -35,7 +35,7 @@ drawn_runs (suc count) x = run_drawn (drawn_run x) ∷ drawn_runs count (state_a
 abbrev pub drive_watches : List Watch
 drive_watches = Mirror ∷ Pedal ∷ Plate ∷ Load ∷ Speed ∷ Torque ∷ Answers ∷ []
 
--- the summary of runs of which this counts
+-- the summary of runs, by what counts of each of them
 unfoldable pub summary_of : List RunFacts → SoakSummary
 summary_of all = record {
   runs = length all;

@@ -27,7 +27,7 @@ pub(crate) struct RunFacts {
 }
 
 impl RunFacts {
-    /// What counts of a run of which these facts are told, and in which level 1 trapped or didn't.
+    /// What `soak` counts of a run with these facts, in which level 1 trapped or didn't.
     #[tactic(auto, unfolding(crate::specs::Facts::facts_in))]
     fn of(facts: &Facts, is_trapped: bool) -> RunFacts
         ensures { result ≡ facts_in facts.now is_trapped }
@@ -41,7 +41,6 @@ impl RunFacts {
     }
 
     /// Whether this watch is the first that was found.
-    #[tactic(auto, unfolding(crate::specs::Facts::is_first, eg_record::specs::Detection::is_watch, eg_record::specs::Detection::rank))]
     pub(crate) fn is_first(&self, watch: Watch) -> bool
         ensures { result ≡ is_first watch self.now }
     {

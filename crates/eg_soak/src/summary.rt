@@ -26,7 +26,7 @@ pub struct SoakSummary {
 }
 
 impl SoakSummary {
-    /// The summary of runs of which this counts.
+    /// The summary of runs, by what counts of each of them.
     #[tactic(auto, unfolding(crate::specs::Soak::summary_of))]
     pub(crate) fn of(all: &[RunFacts]) -> SoakSummary
         requires { length all.now ≤ 500 }

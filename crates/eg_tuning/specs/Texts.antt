@@ -8,7 +8,7 @@ unfoldable pub number_or_none : Option ℕ → List ℕ
 number_or_none None = codes "none"
 number_or_none (Some n) = decimal n
 
--- the line of the reaction time, and that of the bound for lapses
+-- the line of the worst-case reaction, and that of the bound for lapses
 abbrev pub bound_text : Limits → List ℕ
 bound_text limits =
     (codes "reaction " ++ decimal limits.reaction ++ codes "\n")

@@ -8,7 +8,7 @@ use eg_values::Calibration;
 /// What a calibration comes to (docs/FORMATS.md, "The text of `limits`").
 #[derive(Clone, Copy, Debug, PartialEq, Eq)]
 pub struct Limits {
-    /// The reaction time, in ticks.
+    /// The worst-case reaction, in ticks.
     pub reaction: u32,
     /// The bound for lapses, in ticks, if there is one.
     pub lapse: Option<u32>,

@@ -13,8 +13,8 @@ use eg_base::{NoMemory, Sink, Store};
 use eg_outcome::{Outcome, calibration_for, put_text};
 use std::alloc::{AllocError, Global};
 
-/// Does `bound [--cal NAME]`, but for its note (docs/FORMATS.md, "Commands"): writes the reaction time and
-/// the bound for lapses.
+/// Does `bound [--cal NAME]`, but for its note (docs/FORMATS.md, "Commands"): writes the worst-case reaction
+/// and the bound for lapses.
 pub fn bound<S: Store, K: Sink>(
     alloc: Global,
     calibration: Option<&str>,
@@ -71,7 +71,7 @@ fn put_made<K: Sink>(made: Result<String, NoMemory>, out: &mut K) -> Outcome
     }
 }
 
-/// The lines of the reaction time and of the bound for lapses.
+/// The lines of the worst-case reaction and of the bound for lapses.
 fn bound_text(alloc: Global, limits: &Limits) -> Result<String, NoMemory>
     ensures { IfOk result (λ text. string_bytes text ≡ bound_text limits.now) }
 {
