@@ -81,8 +81,8 @@ pub record ExceedLast (threshold n : ℕ) (rows : List Row) : Type 0 where
   pub within : n ≤ length rows
   pub each : list_all (λ excess. excess) (take n (map (true_excess threshold) rows)) ≡ true
 
--- Excess that stands is cut: wherever a period ends at which there was true excess through so many whole periods, the
--- stages are off from the next tick on.
+-- Excess that stands is cut: wherever a period ends at which there was true excess through so many whole
+-- periods, the stages are off from the next tick on.
 abbrev pub CutStandingExcess : CalibrationParts → (start : ℕ) → List Row → Type 0
 CutStandingExcess cal start rows =
     (later before : List Row) (periods : ℕ) → rows ≡ later ++ before →
