@@ -1,0 +1,1 @@
+./egasim table examples/levels.toml
