@@ -1,9 +1,10 @@
 -- How a call ends: one relation for each command, by cases on the outcome, inside what comes of its
--- calibration. It speaks of what the store and the output show before the call (`store`, `out`) and after it
--- (`later`, `now`). A fault that is met is counted, and each case says whose count rose and whose stayed. So
--- each outcome comes exactly where its case says (but where a count stands at the last value of a u64); running
--- out of memory alone may come at any place. Where a call reads several files, the count doesn't tell which of
--- the reads met a fault: over a sure store `FileComes` and `TellsMissing` do, else a test.
+-- calibration. It speaks of what the store and the output show before the call (`store`, `out`) and after
+-- it (`later`, `now`). A fault that is met is counted, and each case says whose count rose and whose
+-- stayed. So each outcome comes exactly where its case says (but where a count stands at the last value of
+-- a u64); running out of memory alone may come at any place. Where a call reads several files, the count
+-- doesn't tell which of the reads met a fault: over a sure store `FileComes` and `TellsMissing` do, else a
+-- test.
 use Rattle.std.specs.Prelude.{◌≡◌, ◌⊎◌, ◌↔◌, ℕ, List, Option, Some, None, Result, Ok, IsTrue}
 use Rattle.eg_num.specs.Places.{IsFirst}
 use Rattle.eg_base.specs.Outside.{ShownStore, ShownSink, Rose, IsMissing}
@@ -191,5 +192,6 @@ Completes (Some (answers file)) store later out now o =
 Completes (Some (asm file)) store later out now o =
     Finds file store later → Accepts source_file file store → ¬ Rose out.faults now.faults → IsDoneOrMemory o
 Completes (Some (dis file)) store later out now o =
-    Finds file store later → Accepts (image_file 0) file store → ¬ Rose out.faults now.faults → IsDoneOrMemory o
+    Finds file store later → Accepts (image_file 0) file store → ¬ Rose out.faults now.faults →
+    IsDoneOrMemory o
 Completes None store later out now o = Unit {0}

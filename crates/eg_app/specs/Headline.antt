@@ -73,8 +73,9 @@ pub record TellsRecord (calibration : Option (List ℕ)) (campaign name : List �
   pub written : Appends out now (record_text cal input)
   pub headline : KeepsHeadline (run_with cal input)
 
--- Of that run under a fault of each class at each `step`th tick: the table of these runs was written, each of
--- them keeps the headline, and under each class but lapses the greatest reaction is at most the reaction time.
+-- Of that run under a fault of each class at each `step`th tick: the table of these runs was written, each
+-- of them keeps the headline, and under each class but lapses the greatest reaction is at most the reaction
+-- time.
 pub record TellsSweep (calibration : Option (List ℕ)) (campaign name : List ℕ) (step : ℕ)
     (store : ShownStore) (out now : ShownSink) : Type 0 where
   pub cal : CalibrationParts

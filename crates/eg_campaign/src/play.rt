@@ -68,9 +68,9 @@ pub fn facts_all(
     facts_of_all(alloc, &told)
 }
 
-/// Plays the runs of a campaign as `run_all` does, and tells of each its facts, the reactions in its spans and
-/// its trap (docs/CONCEPT.md, "The report of a run" and "`table`"). The ticks that are made are counted in
-/// `steps`. NoMemory is its one refusal.
+/// Plays the runs of a campaign as `run_all` does, and tells of each its facts, the reactions in its spans
+/// and its trap (docs/CONCEPT.md, "The report of a run" and "`table`"). The ticks that are made are counted
+/// in `steps`. NoMemory is its one refusal.
 pub fn told_all(
     alloc: Global,
     calibration: &Calibration,

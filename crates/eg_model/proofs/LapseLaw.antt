@@ -18,7 +18,7 @@ use Rattle.eg_model.specs.Paths.{latch2, path2_at, on_at}
 use Rattle.eg_model.specs.Moments.{moment, moments_of}
 use Rattle.eg_model.specs.Rows.{row_of, rows_of}
 use Rattle.eg_model.specs.Premises.{AreProper, IsProper, Follows, is_on_after, true_excesses}
-use Rattle.eg_model.specs.Lapses.{IsLapse, Exceeds, CutsLapses, StretchesAreShort}
+use Rattle.eg_model.specs.Lapses.{IsLapse, Exceeds, CutsStandingExcess, StretchesAreShort}
 use Rattle.eg_model.proofs.TickLemmas.{moment-on, moment-exceeds}
 use Rattle.eg_model.proofs.TripLemmas.{exceeds, latch1_on, off_by_latch1}
 use Rattle.eg_model.proofs.Silence.{wrongs, run_confirms, longer_run, latch2-cons, opens_when_confirmed, period_least, send_within}
@@ -203,7 +203,7 @@ pub lapsing_history : (s : Setting) → IsLapse s.fault → (start : ℕ) (h : L
 lapsing_history s lapse start h follows =
     of_history AllOrNone s.fault start h follows (λ t low high. lapse_all_or_none s.fault lapse t)
 
-pub cuts_lapses : CutsLapses
+pub cuts_lapses : CutsStandingExcess
 unfolding Follows
 cuts_lapses s accepted bounded lapse start periods h at exceed more x follows proper after =
     off_after_periods s h more (record {

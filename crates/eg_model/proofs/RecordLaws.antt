@@ -30,7 +30,7 @@ use Rattle.eg_model.specs.Rows.{row_of, rows_of, record_rows}
 use Rattle.eg_model.specs.Premises.{IsProper, AreProper, IsProperRun, Follows}
 use Rattle.eg_model.specs.SharpCut.{ArePlain}
 use Rattle.eg_model.specs.StartUp.{IsUndisturbed}
-use Rattle.eg_model.specs.Records.{IsRun, is_before_onset, ReactWithin, ReactAtOnce, CutOneTickAfter, CutLapses, LapsesAreShort, CutFromOnset, RecordsReact, RecordsReactAtOnce, RecordsCutSharply, RecordsCutSharplyBefore, RecordsCutLapses, RecordsHaveShortLapses, RecordsCutFromOnset, RecordsTestUnpowered, RecordsPassTests}
+use Rattle.eg_model.specs.Records.{IsRun, is_before_onset, ReactWithin, RowsReactAtOnce, CutOneTickAfter, CutStandingExcess, ExcessIsShort, CutFromOnset, RecordsReact, RecordsReactAtOnce, RecordsCutSharply, RecordsCutSharplyBefore, RecordsCutStandingExcess, RecordsHaveShortExcess, RecordsCutFromOnset, RecordsTestUnpowered, RecordsPassTests}
 use Rattle.eg_model.proofs.StartUpLaws.{tests_pass}
 use Rattle.eg_model.proofs.SpanLemmas.{tick_after, ticks_before, Continues, continues, begin_of, ends_in, proper_drive}
 use Rattle.eg_model.proofs.SpanRows.{rows_after, SpanRows, RowAfter, row_tick, rows_off, bits_after, full_unnumbered}
@@ -251,17 +251,17 @@ module _ {E : Type 0} {b : BenchEngine E} {Keeps : PlantParts → E → Type 0} 
       (proper_span r run (listed_valid r.setting.fault listed) start count span is))
 
   pub records_react_at_once : RecordsReactAtOnce b
-  records_react_at_once r run listed = each_drive b (ReactAtOnce r.setting.fault r.setting.cal.rules.torque r.setting.cal.rules.threshold) r (λ start count span is.
+  records_react_at_once r run listed = each_drive b (RowsReactAtOnce r.setting.fault r.setting.cal.rules.torque r.setting.cal.rules.threshold) r (λ start count span is.
       react_at_once r.setting start (SpanTo b r count) run.accepted listed is.follows
       (proper_span r run (listed_valid r.setting.fault listed) start count span is))
 
-  pub records_cut_lapses : RecordsCutLapses b
-  records_cut_lapses r run valid bound lapse = each_drive b (CutLapses r.setting.cal) r (λ start count span is.
+  pub records_cut_lapses : RecordsCutStandingExcess b
+  records_cut_lapses r run valid bound lapse = each_drive b (CutStandingExcess r.setting.cal) r (λ start count span is.
       cut_lapses r.setting start (SpanTo b r count) run.accepted bound lapse is.follows
       (proper_span r run valid start count span is))
 
-  pub records_have_short_lapses : RecordsHaveShortLapses b
-  records_have_short_lapses r run valid bound lapse = each_drive b (LapsesAreShort r.setting.cal) r (λ start count span is.
+  pub records_have_short_lapses : RecordsHaveShortExcess b
+  records_have_short_lapses r run valid bound lapse = each_drive b (ExcessIsShort r.setting.cal) r (λ start count span is.
       short_lapses r.setting start (SpanTo b r count) run.accepted bound lapse is.follows
       (proper_span r run valid start count span is))
 

@@ -15,7 +15,7 @@ use Rattle.eg_model.specs.Premises.{AreProper, Follows, is_on_after, true_excess
 use Rattle.eg_model.specs.Reaction.{OffFrom, is_at_once, spoils_answers}
 use Rattle.eg_model.specs.SharpCut.{ArePlain}
 use Rattle.eg_model.specs.Lapses.{IsLapse}
-use Rattle.eg_model.specs.Records.{ExceedLast, ReactWithin, ReactAtOnce, CutOneTickAfter, CutLapses, LapsesAreShort, CutFromOnset}
+use Rattle.eg_model.specs.Records.{ExceedLast, ReactWithin, RowsReactAtOnce, CutOneTickAfter, CutStandingExcess, ExcessIsShort, CutFromOnset}
 use Rattle.eg_model.proofs.Silence.{enough_weight}
 use Rattle.eg_model.proofs.ReactionLaw.{reacts_in_time, reacts_at_once_law, cuts_from_onset}
 use Rattle.eg_model.proofs.SharpCutLaw.{cuts_sharply}
@@ -129,7 +129,7 @@ module _ (s : Setting) (start : ℕ) (h : List Tick) where
   length-part before rest are = ap length are ∙ length-rows_after start (moments_of s rest) ∙ length-moments s rest
 
   pub react_at_once : IsAccepted s.cal → IsListed s.fault → Follows s.fault start h → AreProper s h →
-      ReactAtOnce s.fault s.cal.rules.torque s.cal.rules.threshold start (SpanRows s start h)
+      RowsReactAtOnce s.fault s.cal.rules.torque s.cal.rules.threshold start (SpanRows s start h)
   react_at_once accepted listed follows proper later before e confirmed soon = cut_part follows proper later before e law
     where
       law : (more rest : List Tick) → h ≡ more ++ rest → before ≡ SpanRows s start rest → OffFrom s start rest 1
@@ -141,7 +141,7 @@ module _ (s : Setting) (start : ℕ) (h : List Tick) where
   -- ---- lapses ----
 
   pub cut_lapses : IsAccepted s.cal → HasLapseBound s.cal.rules.torque s.cal.times → IsLapse s.fault → Follows s.fault start h →
-      AreProper s h → CutLapses s.cal start (SpanRows s start h)
+      AreProper s h → CutStandingExcess s.cal start (SpanRows s start h)
   cut_lapses accepted bound lapse follows proper later before periods e size last = cut_part follows proper later before e law
     where
       law : (more rest : List Tick) → h ≡ more ++ rest → before ≡ SpanRows s start rest → OffFrom s start rest 1
@@ -150,7 +150,7 @@ module _ (s : Setting) (start : ℕ) (h : List Tick) where
           (subst (ExceedLast s.cal.rules.threshold (lapse_periods s.cal.rules.torque s.cal.times * s.cal.times.period)) are last))
 
   pub short_lapses : IsAccepted s.cal → HasLapseBound s.cal.rules.torque s.cal.times → IsLapse s.fault → Follows s.fault start h →
-      AreProper s h → LapsesAreShort s.cal start (SpanRows s start h)
+      AreProper s h → ExcessIsShort s.cal start (SpanRows s start h)
   short_lapses accepted bound lapse follows proper later before n e last =
       lapses_are_short s accepted bound lapse start parts.rest
       (follows-end s.fault start parts.more parts.rest (subst (Follows s.fault start) parts.whole follows))

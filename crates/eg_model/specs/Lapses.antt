@@ -26,8 +26,8 @@ pub record Exceeds (s : Setting) (n : ℕ) (h : List Tick) : Type 0 where
 -- The law of whole periods. Let the calibration be an accepted one with a bound for lapses, and the fault a
 -- lapse; let h be a history that ends with the last tick of a period, and let there be true excess at each
 -- tick of its last `lapse_periods` periods. Then the stages are off at each tick after h.
-abbrev pub CutsLapses : Type 0
-CutsLapses =
+abbrev pub CutsStandingExcess : Type 0
+CutsStandingExcess =
     (s : Setting) → IsAccepted s.cal → HasLapseBound s.cal.rules.torque s.cal.times → IsLapse s.fault →
     (start periods : ℕ) (h : List Tick) → length h ≡ periods * s.cal.times.period →
     Exceeds s (lapse_periods s.cal.rules.torque s.cal.times * s.cal.times.period) h → OffFrom s start h 1

@@ -50,8 +50,8 @@ ReactWithin bound weights threshold start rows =
 
 -- Wherever the true excess is confirmed by the rows before a tick, and the fault, if any, is one under which
 -- the reaction is then at once, the stages are off from that tick on.
-abbrev pub ReactAtOnce : Option Fault → WeightParts → (threshold start : ℕ) → List Row → Type 0
-ReactAtOnce fault weights threshold start rows =
+abbrev pub RowsReactAtOnce : Option Fault → WeightParts → (threshold start : ℕ) → List Row → Type 0
+RowsReactAtOnce fault weights threshold start rows =
     (later before : List Row) → rows ≡ later ++ before →
     is_confirmed weights (map (true_excess threshold) before) ≡ true →
     is_at_once fault (start + length before) ≡ true → All (λ row. row.on ≡ false) later
@@ -81,18 +81,18 @@ pub record ExceedLast (threshold n : ℕ) (rows : List Row) : Type 0 where
   pub within : n ≤ length rows
   pub each : list_all (λ excess. excess) (take n (map (true_excess threshold) rows)) ≡ true
 
--- A lapse is cut: wherever a period ends at which there was true excess through so many whole periods, the
--- stages are off from the next tick on.
-abbrev pub CutLapses : CalibrationParts → (start : ℕ) → List Row → Type 0
-CutLapses cal start rows =
+-- Excess that stands is cut: wherever a period ends at which there was true excess through so many whole
+-- periods, the stages are off from the next tick on.
+abbrev pub CutStandingExcess : CalibrationParts → (start : ℕ) → List Row → Type 0
+CutStandingExcess cal start rows =
     (later before : List Row) (periods : ℕ) → rows ≡ later ++ before →
     length before ≡ periods * cal.times.period →
     ExceedLast cal.rules.threshold (lapse_periods cal.rules.torque cal.times * cal.times.period) before →
     All (λ row. row.on ≡ false) later
 
 -- each stretch of rows in a row with true excess is shorter than the bound for lapses
-abbrev pub LapsesAreShort : CalibrationParts → (start : ℕ) → List Row → Type 0
-LapsesAreShort cal start rows =
+abbrev pub ExcessIsShort : CalibrationParts → (start : ℕ) → List Row → Type 0
+ExcessIsShort cal start rows =
     (later before : List Row) (n : ℕ) → rows ≡ later ++ before →
     ExceedLast cal.rules.threshold n before → n < lapse_bound_of cal.rules.torque cal.times
 
@@ -119,7 +119,7 @@ RecordsReact b =
 abbrev pub RecordsReactAtOnce : {E : Type 0} → BenchEngine E → Type 0
 RecordsReactAtOnce b =
     (r : Run) → IsRun r → IsListed r.setting.fault →
-    EachDriveSpan (ReactAtOnce r.setting.fault r.setting.cal.rules.torque r.setting.cal.rules.threshold)
+    EachDriveSpan (RowsReactAtOnce r.setting.fault r.setting.cal.rules.torque r.setting.cal.rules.threshold)
     (record_rows b r)
 
 abbrev pub RecordsCutSharply : {E : Type 0} → BenchEngine E → Type 0
@@ -134,17 +134,17 @@ RecordsCutSharplyBefore b =
     EachDriveSpan (CutSharplyBefore r.setting.fault r.setting.cal.rules.torque r.setting.cal.rules.kt
     r.setting.cal.rules.threshold) (record_rows b r)
 
-abbrev pub RecordsCutLapses : {E : Type 0} → BenchEngine E → Type 0
-RecordsCutLapses b =
+abbrev pub RecordsCutStandingExcess : {E : Type 0} → BenchEngine E → Type 0
+RecordsCutStandingExcess b =
     (r : Run) → IsRun r → IsNoneOrValid r.setting.fault →
     HasLapseBound r.setting.cal.rules.torque r.setting.cal.times → IsLapse r.setting.fault →
-    EachDriveSpan (CutLapses r.setting.cal) (record_rows b r)
+    EachDriveSpan (CutStandingExcess r.setting.cal) (record_rows b r)
 
-abbrev pub RecordsHaveShortLapses : {E : Type 0} → BenchEngine E → Type 0
-RecordsHaveShortLapses b =
+abbrev pub RecordsHaveShortExcess : {E : Type 0} → BenchEngine E → Type 0
+RecordsHaveShortExcess b =
     (r : Run) → IsRun r → IsNoneOrValid r.setting.fault →
     HasLapseBound r.setting.cal.rules.torque r.setting.cal.times → IsLapse r.setting.fault →
-    EachDriveSpan (LapsesAreShort r.setting.cal) (record_rows b r)
+    EachDriveSpan (ExcessIsShort r.setting.cal) (record_rows b r)
 
 abbrev pub RecordsCutFromOnset : {E : Type 0} → BenchEngine E → Type 0
 RecordsCutFromOnset b =

@@ -1,5 +1,5 @@
 // The laws of lapses.
-ghost use Rattle.eg_model.specs.Lapses.{CutsLapses, StretchesAreShort};
+ghost use Rattle.eg_model.specs.Lapses.{CutsStandingExcess, StretchesAreShort};
 
 /// The laws of lapses (docs/CONCEPT.md, "Lapses"): level 2 as a whole doesn't run at some ticks, whichever
 /// they are. For a calibration that has a bound: where `lapse_periods` whole periods lie in a stretch of
@@ -7,6 +7,6 @@ ghost use Rattle.eg_model.specs.Lapses.{CutsLapses, StretchesAreShort};
 /// each such stretch is shorter than the bound in ticks that `eg_answer::lapse_bound` gives. Nothing is
 /// said of an excess with gaps. It does nothing when it runs.
 pub fn lapses_are_cut()
-    ensures cut { CutsLapses }
+    ensures cut { CutsStandingExcess }
     ensures short { StretchesAreShort }
 {}

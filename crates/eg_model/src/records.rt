@@ -3,7 +3,7 @@
 ghost use Rattle.eg_model.specs.Engines.{gasoline, diesel};
 ghost use Rattle.eg_model.specs.InTime.{RecordsReactInTime};
 ghost use Rattle.eg_model.specs.PowerCycles.{RecordsBeginInTurn};
-ghost use Rattle.eg_model.specs.Records.{RecordsAreHistories, RecordsAreRows, RecordsReact, RecordsReactAtOnce, RecordsCutFromOnset, RecordsCutSharply, RecordsCutSharplyBefore, RecordsCutLapses, RecordsHaveShortLapses, RecordsTestUnpowered, RecordsPassTests};
+ghost use Rattle.eg_model.specs.Records.{RecordsAreHistories, RecordsAreRows, RecordsReact, RecordsReactAtOnce, RecordsCutFromOnset, RecordsCutSharply, RecordsCutSharplyBefore, RecordsCutStandingExcess, RecordsHaveShortExcess, RecordsTestUnpowered, RecordsPassTests};
 
 /// The record of a run on the bench is a history from tick 0, and its rows are numbered from 0 on. It
 /// does nothing when it runs.
@@ -46,8 +46,8 @@ pub fn spans_react_in_time()
 /// that has a bound (docs/CONCEPT.md, "Lapses"): a lapse is cut, and each stretch of true excess is shorter
 /// than the bound. It does nothing when it runs.
 pub fn records_cut_lapses()
-    ensures cut { RecordsCutLapses gasoline × RecordsCutLapses diesel }
-    ensures short { RecordsHaveShortLapses gasoline × RecordsHaveShortLapses diesel }
+    ensures cut { RecordsCutStandingExcess gasoline × RecordsCutStandingExcess diesel }
+    ensures short { RecordsHaveShortExcess gasoline × RecordsHaveShortExcess diesel }
 {}
 
 /// By the rows of the record of a run on the bench: a test span begins at each reset, and a drive span at the

@@ -36,9 +36,9 @@ detects : (r : EngineRun) (name : List ℕ) → IsFirstDetection (rows_of_run r)
 unfolding report_of summary_of
 detects r name = (detection_law (rows_of_run r) (are_rows (bench_of r.engine) r.run) (first_detection (rows_of_run r))).1 refl
 
-tells_off : (r : EngineRun) (name : List ℕ) → IsFirstOff (rows_of_run r) (report_of_run name r).off
+tells_when_off : (r : EngineRun) (name : List ℕ) → IsFirstOff (rows_of_run r) (report_of_run name r).off
 unfolding report_of summary_of
-tells_off r name = (off_law (rows_of_run r) (are_rows (bench_of r.engine) r.run) (first_off (rows_of_run r))).1 refl
+tells_when_off r name = (off_law (rows_of_run r) (are_rows (bench_of r.engine) r.run) (first_off (rows_of_run r))).1 refl
 
 -- what the states of an engine of either kind keep, and that they do
 abbrev kept_of : (engine : EngineKind) → PlantParts → state_of engine → Type 0
@@ -74,7 +74,7 @@ headline r run valid =
       short = records_have_short_lapses keeps r.run run valid;
       stays_available = records_stay_available keeps (shows_one_load_of r.engine) r.run run valid;
       detects = detects r;
-      tells_off = tells_off r;
+      tells_when_off = tells_when_off r;
       names = λ name. reports_name_what_cuts (bench_of r.engine) r.run name;
       by_outputs = records_act_by_outputs (bench_of r.engine) r.run;
     }

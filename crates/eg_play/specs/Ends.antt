@@ -1,6 +1,6 @@
--- How `run`, `table`, `record` and `sweep` end: by cases on the outcome, nested from the outside in, as `check` and `bound`
--- are. `store`, `out` and `was` are what the store, the output and the count of ticks show before the call,
--- `later`, `now` and `is` what they show after it.
+-- How `run`, `table`, `record` and `sweep` end: by cases on the outcome, nested from the outside in, as
+-- `check` and `bound` are. `store`, `out` and `was` are what the store, the output and the count of ticks
+-- show before the call, `later`, `now` and `is` what they show after it.
 use Rattle.std.specs.Prelude.{◌≡◌, ℕ, Bool, true, false, ◌+◌, ◌-◌, length, ◌%◌, ◌^◌, ◌≤◌, List, [], ◌∷◌, map, All, Option, Some, None, option_map, Result, Ok, Err, IsSome, slice_get, bytes_eq, if◌then◌else◌}
 use Rattle.std.specs.List.{flat_map}
 use Rattle.eg_base.specs.Outside.{ShownStore, ShownSink}
@@ -64,10 +64,11 @@ NothingPlayed out now was is = (now ≡ out) × (is ≡ was)
 
 -- what is told of the reactions of a run with at most one listed fault is in time
 abbrev pub TellsInTime : CalibrationParts → RunInput → Type 0
-TellsInTime cal input = IsListed input.plan.fault → IsInTime (reaction_of cal.times) (told_with cal input).reactions
+TellsInTime cal input =
+    IsListed input.plan.fault → IsInTime (reaction_of cal.times) (told_with cal input).reactions
 
--- The runs of a campaign were played, and told in this way: on Done the whole text was written. What is told of
--- their reactions is in time.
+-- The runs of a campaign were played, and told in this way: on Done the whole text was written. What is
+-- told of their reactions is in time.
 pub record Tells (telling : Telling) (cal : CalibrationParts) (inputs : List RunInput) (out now : ShownSink)
     (was is : TickCount) (o : Outcome) : Type 0 where
   pub plays : Plays (runs_text telling cal inputs) (map (run_with cal) inputs) (rows_made cal inputs)
@@ -113,9 +114,9 @@ RecordEnds cal input store later out now was is o = (later.faults ≡ store.faul
 
 -- ---- `sweep [--cal NAME] CAMPAIGN RUN STEP` ----
 
--- The runs of a sweep were played, as one group, and their table was written: on Done all of it. The record of
--- each keeps the headline; and under each class but lapses, and so in the last line, the greatest reaction is
--- at most the reaction time.
+-- The runs of a sweep were played, as one group, and their table was written: on Done all of it. The record
+-- of each keeps the headline; and under each class but lapses, and so in the last line, the greatest
+-- reaction is at most the reaction time.
 pub record Sweeps (cal : CalibrationParts) (step : ℕ) (input : RunInput) (out now : ShownSink)
     (was is : TickCount) (o : Outcome) : Type 0 where
   pub plays : Plays (swept_text cal step input) (map (run_with cal) (runs_over step input))

@@ -1,5 +1,5 @@
--- What the files of a campaign say: the campaign its runs, and of each run its drive trace. What its image says
--- stands in `eg_outcome`.
+-- What the files of a campaign say: the campaign its runs, and of each run its drive trace. What its image
+-- says stands in `eg_outcome`.
 use Rattle.std.specs.Prelude.{ℕ, List, Result}
 use Rattle.eg_num.specs.Drive.{DriveRow}
 use Rattle.eg_toml.specs.Documents.{document_of}

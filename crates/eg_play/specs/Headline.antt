@@ -11,8 +11,8 @@ use Rattle.eg_record.specs.Stages.{IsFirstOff}
 use Rattle.eg_record.specs.Spans.{EachDriveSpan, EachTestSpan}
 use Rattle.eg_model.specs.History.{Setting}
 use Rattle.eg_model.specs.PowerCycles.{SpansBeginInTurn}
-use Rattle.eg_model.specs.Records.{ReactWithin, ReactAtOnce, CutFromOnset, CutOneTickAfter}
-use Rattle.eg_model.specs.Records.{CutLapses, LapsesAreShort, AreOff}
+use Rattle.eg_model.specs.Records.{ReactWithin, RowsReactAtOnce, CutFromOnset, CutOneTickAfter}
+use Rattle.eg_model.specs.Records.{CutStandingExcess, ExcessIsShort, AreOff}
 use Rattle.eg_model.specs.Findings.{FindsBeforeOff, FindsFailure, FindsFromOnset, TellsFlips, NamesWhatCuts}
 use Rattle.eg_model.specs.Lapses.{IsLapse}
 use Rattle.eg_model.specs.Outputs.{with_level1, ActByOutputs}
@@ -30,7 +30,7 @@ pub record Headline (s : Setting) (rows : List Row) (report : List ℕ → Summa
   -- after any torque excess that is confirmed in it to its end; under most faults from the next tick.
   pub reacts : IsListed s.fault → EachDriveSpan (ReactWithin (reaction_of s.cal.times)
       s.cal.rules.torque s.cal.rules.threshold) rows
-  pub at_once : IsListed s.fault → EachDriveSpan (ReactAtOnce s.fault
+  pub at_once : IsListed s.fault → EachDriveSpan (RowsReactAtOnce s.fault
       s.cal.rules.torque s.cal.rules.threshold) rows
   -- In each test span, so from a reset until a test is passed, they are off.
   pub unpowered : EachTestSpan AreOff rows
@@ -55,9 +55,9 @@ pub record Headline (s : Setting) (rows : List Row) (report : List ℕ → Summa
   pub tells_flips : TellsFlips s.fault rows
   -- Lapses are cut, and each stretch of torque excess under them is short, where the calibration has a bound.
   pub lapses : HasLapseBound s.cal.rules.torque s.cal.times → IsLapse s.fault →
-      EachDriveSpan (CutLapses s.cal) rows
+      EachDriveSpan (CutStandingExcess s.cal) rows
   pub short : HasLapseBound s.cal.rules.torque s.cal.times → IsLapse s.fault →
-      EachDriveSpan (LapsesAreShort s.cal) rows
+      EachDriveSpan (ExcessIsShort s.cal) rows
   -- Availability: under lapses whose misses lie far enough apart wrong answers never cut before a trip. In
   -- each drive span, as long as no watch has tripped, wrong answers aren't found; so the stages are off only
   -- after a trip, and where no full-efficiency excess comes they are on at each tick.
@@ -66,7 +66,7 @@ pub record Headline (s : Setting) (rows : List Row) (report : List ℕ → Summa
   -- The report, whatever name it gives the run, names the first detecting monitor and its tick, and the first
   -- tick at which the stages are off while no test is running.
   pub detects : (name : List ℕ) → IsFirstDetection rows (report name).first
-  pub tells_off : (name : List ℕ) → IsFirstOff rows (report name).off
+  pub tells_when_off : (name : List ℕ) → IsFirstOff rows (report name).off
   -- Where it tells the stages off from a tick on it names a monitor that detected before that tick, unless a
   -- fault that opens a shut-off path by itself has begun; so where it names none, such a fault has.
   pub names : (name : List ℕ) → NamesWhatCuts s.fault (report name)

@@ -21,8 +21,8 @@ use eg_values::Calibration;
 use std::alloc::Global;
 
 /// Does `run [--cal NAME] CAMPAIGN` or `table [--cal NAME] CAMPAIGN`, but for its note (docs/FORMATS.md,
-/// "Commands"): reads the campaign and the files of all its runs, plays the runs, and writes the report or the
-/// table on them. Ticks are counted in `steps`.
+/// "Commands"): reads the campaign and the files of all its runs, plays the runs, and writes the report or
+/// the table on them. Ticks are counted in `steps`.
 pub fn run<S: Store, K: Sink>(
     alloc: Global,
     telling: Telling,

@@ -9,7 +9,8 @@ use eg_num::Drive;
 use eg_plan::RunPlan;
 use std::alloc::Global;
 
-/// The runs of a sweep over this one: under each of these faults, in their order (docs/CONCEPT.md, "`sweep`").
+/// The runs of a sweep over this one: under each of these faults, in their order (docs/CONCEPT.md,
+/// "`sweep`").
 pub(crate) fn swept_inputs(
     alloc: Global,
     input: &RunInput,

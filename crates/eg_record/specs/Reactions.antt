@@ -33,7 +33,8 @@ reaction_in_span weights threshold span =
 
 -- how many ticks of it follow the one by which the excess is confirmed, or none where it isn't
 unfoldable pub followed_in : WeightParts → (threshold : ℕ) → List Row → Option ℕ
-followed_in weights threshold span = option_map (λ c. end_of span - (c + 1)) (confirmed_in weights threshold span)
+followed_in weights threshold span =
+    option_map (λ c. end_of span - (c + 1)) (confirmed_in weights threshold span)
 
 -- ---- in several spans ----
 

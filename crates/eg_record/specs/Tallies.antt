@@ -12,8 +12,8 @@ use Rattle.eg_record.specs.Excess.{true_excess}
 use Rattle.eg_record.specs.Facts.{facts_of}
 use Rattle.eg_record.specs.Reactions.{confirmed_in, reactions_of_spans}
 
--- the threshold and the weights by which the true excess goes, the facts of the rows, the value of the counter
--- of the true excess, and what is kept of the spans
+-- the threshold and the weights by which the true excess goes, the facts of the rows, the value of the
+-- counter of the true excess, and what is kept of the spans
 pub record TallyParts : Type 0 where
   pub threshold : ℕ
   pub weights : WeightParts

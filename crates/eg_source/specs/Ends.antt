@@ -40,7 +40,8 @@ abbrev pub WordsEnd : Role → (says : List ℕ → Result (List ℕ) Refusal) �
     → ShownStore → ShownStore → ShownSink → ShownSink → Outcome → Type 0
 WordsEnd file says text name store later out now o = (come : Result (List ℕ) Outcome)
     × FileComes file says name store later come
-    × Follows (λ words end. (later.faults ≡ store.faults) × LineEnds (text words) out now end) (now ≡ out) come o
+    × Follows (λ words end. (later.faults ≡ store.faults) × LineEnds (text words) out now end)
+    (now ≡ out) come o
 
 -- `asm FILE`: the image of a source
 abbrev pub AsmEnds : List ℕ → ShownStore → ShownStore → ShownSink → ShownSink → Outcome → Type 0

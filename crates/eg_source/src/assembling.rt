@@ -13,11 +13,11 @@ use eg_base::{Items, Sink, Store};
 use eg_outcome::{Outcome, Refusal, Role, file_bytes, put_text};
 use std::alloc::Global;
 
-/// Does `asm FILE`, but for its note (docs/FORMATS.md, "Commands"): reads a source, and writes its image, a line
-/// for each word.
+/// Does `asm FILE`, but for its note (docs/FORMATS.md, "Commands"): reads a source, and writes its image, a
+/// line for each word.
 pub fn asm<S: Store, K: Sink>(alloc: Global, file: &str, store: &mut S, out: &mut K) -> Outcome
-    ensures ends { AsmEnds file.now (S.shows store.old) (S.shows store.new) (K.shows out.old) (K.shows out.new)
-        result }
+    ensures ends { AsmEnds file.now (S.shows store.old) (S.shows store.new)
+        (K.shows out.old) (K.shows out.new) result }
     // Over a sure store a fault of reading is told exactly where there is no such file.
     ensures missing { IsTrue (S.shows store.old).sure →
         ((result ≡ ReadFault role.Source) ↔ IsMissing (S.shows store.old).files file.now) }
@@ -33,7 +33,8 @@ pub fn asm<S: Store, K: Sink>(alloc: Global, file: &str, store: &mut S, out: &mu
 
 /// The words of the source of that name, or how the call ends without them.
 fn words_of<S: Store>(alloc: Global, file: &str, store: &mut S) -> Result<Items<u16>, Outcome>
-    ensures reads { ReadsFile role.Source source_file file.now (S.shows store.old) (S.shows store.new) result }
+    ensures reads { ReadsFile role.Source source_file file.now
+        (S.shows store.old) (S.shows store.new) result }
     ensures keeps { KeepsFiles (S.shows store.old) (S.shows store.new) result }
 {
     match file_bytes(alloc, Role::Source, file, store) {

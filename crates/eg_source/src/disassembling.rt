@@ -14,11 +14,11 @@ use eg_base::{Items, Sink, Store};
 use eg_outcome::{Outcome, Role, file_bytes, image_in, put_text};
 use std::alloc::Global;
 
-/// Does `dis FILE`, but for its note (docs/FORMATS.md, "Commands"): reads an image, and writes its source, a line
-/// for each word.
+/// Does `dis FILE`, but for its note (docs/FORMATS.md, "Commands"): reads an image, and writes its source, a
+/// line for each word.
 pub fn dis<S: Store, K: Sink>(alloc: Global, file: &str, store: &mut S, out: &mut K) -> Outcome
-    ensures ends { DisEnds file.now (S.shows store.old) (S.shows store.new) (K.shows out.old) (K.shows out.new)
-        result }
+    ensures ends { DisEnds file.now (S.shows store.old) (S.shows store.new)
+        (K.shows out.old) (K.shows out.new) result }
     // Over a sure store a fault of reading is told exactly where there is no such file.
     ensures missing { IsTrue (S.shows store.old).sure →
         ((result ≡ ReadFault read_alone) ↔ IsMissing (S.shows store.old).files file.now) }
@@ -34,7 +34,8 @@ pub fn dis<S: Store, K: Sink>(alloc: Global, file: &str, store: &mut S, out: &mu
 
 /// The words of the image of that name, or how the call ends without them.
 fn image_of<S: Store>(alloc: Global, file: &str, store: &mut S) -> Result<Items<u16>, Outcome>
-    ensures reads { ReadsFile read_alone (image_file 0) file.now (S.shows store.old) (S.shows store.new) result }
+    ensures reads { ReadsFile read_alone (image_file 0) file.now
+        (S.shows store.old) (S.shows store.new) result }
     ensures most { IfOk result (λ image. length image ≤ MOST_WORDS) }
     ensures keeps { KeepsFiles (S.shows store.old) (S.shows store.new) result }
 {

@@ -28,7 +28,7 @@ use Rattle.eg_model.specs.Reaction.{is_at_once}
 use Rattle.eg_model.specs.Engines.{BenchEngine, KeepsBenchLaws, ShowsOneLoad}
 use Rattle.eg_model.specs.Bench.{Run}
 use Rattle.eg_model.specs.Rows.{first_trap, record_rows, record_trap}
-use Rattle.eg_model.specs.Records.{IsRun, row_at, rows_to, ReactWithin, ReactAtOnce, CutOneTickAfter}
+use Rattle.eg_model.specs.Records.{IsRun, row_at, rows_to, ReactWithin, RowsReactAtOnce, CutOneTickAfter}
 use Rattle.eg_model.proofs.RecordLaws.{records_react, records_react_at_once, records_cut_sharply}
 use Rattle.eg_model.proofs.RecordTicks.{records_are_histories, rows_to-suc, record_rows-is, records_are_rows}
 use Rattle.eg_model.proofs.SpanRuns.{is_one_drive_span, tests_never}
@@ -89,7 +89,7 @@ module _ {E : Type 0} {b : BenchEngine E} {Keeps : PlantParts → E → Type 0} 
       let of_span : this_span at.before ≡ at.before = one_span-part at.later at.before (subst (λ (rs : List Row). this_span rs ≡ rs) at.split one) in
       let confirmed : is_confirmed w (map (true_excess t) at.before) ≡ true =
       ap (λ (rs : List Row). is_confirmed w (map (true_excess t) rs)) (sym of_span) ∙ confirmed-is w t at.before ∙ at.confirmed in
-      let off : All (λ row. row.on ≡ false) at.later = whole (ReactAtOnce r.setting.fault w t) (records_react_at_once keeps r is listed)
+      let off : All (λ row. row.on ≡ false) at.later = whole (RowsReactAtOnce r.setting.fault w t) (records_react_at_once keeps r is listed)
       at.later at.before at.split confirmed (ap (λ n. is_at_once r.setting.fault n) (let long = at.long in omega arith) ∙ now) in
       let same : last_on rows ≡ last_on at.before = ap last_on at.split ∙ last_on-append at.later at.before off in
       subst (λ o. IfSome o (λ last. last < c + 1)) (sym same)

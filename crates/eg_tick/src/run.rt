@@ -11,7 +11,7 @@ ghost use Rattle.eg_model.specs.Engines.{gasoline};
 ghost use Rattle.eg_model.specs.Bench.{Run, drive_at};
 ghost use Rattle.eg_model.specs.Rows.{record_rows, record_trap};
 ghost use Rattle.eg_model.specs.PowerCycles.{SpansBeginInTurn};
-ghost use Rattle.eg_model.specs.Records.{row_at, rows_to, ReactWithin, CutOneTickAfter, ReactAtOnce, CutLapses, LapsesAreShort, AreOff};
+ghost use Rattle.eg_model.specs.Records.{row_at, rows_to, ReactWithin, CutOneTickAfter, RowsReactAtOnce, CutStandingExcess, ExcessIsShort, AreOff};
 ghost use Rattle.eg_model.specs.Lapses.{IsLapse};
 ghost use Rattle.eg_fault.specs.Faults.{IsNoneOrValid};
 ghost use Rattle.eg_tick.specs.Weights.{weight_of};
@@ -65,7 +65,7 @@ pub fn run_one(
         EachDriveSpan (ReactWithin (reaction_of calibration.now.times) calibration.now.rules.torque
         calibration.now.rules.threshold) (reverse made.rows)) }
     ensures at_once { IsListed (option_copied fault.entry) → IfOk result (λ made.
-        EachDriveSpan (ReactAtOnce (option_copied fault.entry) calibration.now.rules.torque
+        EachDriveSpan (RowsReactAtOnce (option_copied fault.entry) calibration.now.rules.torque
         calibration.now.rules.threshold) (reverse made.rows)) }
     // Without a fault they are cut off exactly one tick after the full-efficiency excess is confirmed.
     ensures cuts { option_copied fault.entry ≡ None → IfOk result (λ made.
@@ -74,10 +74,10 @@ pub fn run_one(
     // Lapses are cut, and never let an excess stand for long.
     ensures lapses { HasLapseBound calibration.now.rules.torque calibration.now.times →
         IsLapse (option_copied fault.entry) → IfOk result (λ made.
-        EachDriveSpan (CutLapses calibration.now) (reverse made.rows)) }
+        EachDriveSpan (CutStandingExcess calibration.now) (reverse made.rows)) }
     ensures short { HasLapseBound calibration.now.rules.torque calibration.now.times →
         IsLapse (option_copied fault.entry) → IfOk result (λ made.
-        EachDriveSpan (LapsesAreShort calibration.now) (reverse made.rows)) }
+        EachDriveSpan (ExcessIsShort calibration.now) (reverse made.rows)) }
     // A test span begins at each reset, and else a drive span at the first tick and after a test that has
     // found both paths open. In each test span the stages are off. Without a fault no start-up test fails.
     ensures cycles { IfOk result (λ made. SpansBeginInTurn (reverse made.rows)) }

@@ -5,7 +5,7 @@ use Rattle.eg_record.specs.Spans.{EachDriveSpan, EachTestSpan}
 use Rattle.eg_model.specs.Engines.{gasoline}
 use Rattle.eg_model.specs.Bench.{Run}
 use Rattle.eg_model.specs.PowerCycles.{SpansBeginInTurn}
-use Rattle.eg_model.specs.Records.{ReactWithin, CutOneTickAfter, ReactAtOnce, CutLapses, LapsesAreShort, AreOff}
+use Rattle.eg_model.specs.Records.{ReactWithin, CutOneTickAfter, RowsReactAtOnce, CutStandingExcess, ExcessIsShort, AreOff}
 use Rattle.eg_model.proofs.GasolineLaws.{gasoline_keeps, gasoline_shows_one_load}
 use Rattle.eg_model.proofs.RecordLaws.{records_react, records_react_at_once, records_cut_sharply, records_cut_lapses, records_have_short_lapses, records_test_unpowered, records_pass_tests}
 use Rattle.eg_model.proofs.PowerCycleLaws.{records_begin_in_turn}
@@ -24,7 +24,7 @@ returns-clause-reacts c = λ listed. if_ok _ _ c.record_run.result (λ made m.
 pub returns-clause-at_once : goal.returns-clause-at_once
 returns-clause-at_once c = λ listed. if_ok _ _ c.record_run.result (λ made m.
     let r : Run = run_by c.args.calibration.now c.args.image.now (option_copied c.args.fault) c.args.plan.now c.args.drive.now in
-    subst (EachDriveSpan (ReactAtOnce r.setting.fault r.setting.cal.rules.torque r.setting.cal.rules.threshold)) (newest_first gasoline r made.rows m.rows_are)
+    subst (EachDriveSpan (RowsReactAtOnce r.setting.fault r.setting.cal.rules.torque r.setting.cal.rules.threshold)) (newest_first gasoline r made.rows m.rows_are)
     (records_react_at_once gasoline_keeps r (is_run r made.rows made.trap c.rules-rules.ensures.accepted m) listed)) c.record_run.ensures.made
 
 pub returns-clause-cuts : goal.returns-clause-cuts
@@ -36,13 +36,13 @@ returns-clause-cuts c = λ none. if_ok _ _ c.record_run.result (λ made m.
 pub returns-clause-lapses : goal.returns-clause-lapses
 returns-clause-lapses c = λ bound lapse. if_ok _ _ c.record_run.result (λ made m.
     let r : Run = run_by c.args.calibration.now c.args.image.now (option_copied c.args.fault) c.args.plan.now c.args.drive.now in
-    subst (EachDriveSpan (CutLapses r.setting.cal)) (newest_first gasoline r made.rows m.rows_are)
+    subst (EachDriveSpan (CutStandingExcess r.setting.cal)) (newest_first gasoline r made.rows m.rows_are)
     (records_cut_lapses gasoline_keeps r (is_run r made.rows made.trap c.rules-rules.ensures.accepted m) c.requires.fault bound lapse)) c.record_run.ensures.made
 
 pub returns-clause-short : goal.returns-clause-short
 returns-clause-short c = λ bound lapse. if_ok _ _ c.record_run.result (λ made m.
     let r : Run = run_by c.args.calibration.now c.args.image.now (option_copied c.args.fault) c.args.plan.now c.args.drive.now in
-    subst (EachDriveSpan (LapsesAreShort r.setting.cal)) (newest_first gasoline r made.rows m.rows_are)
+    subst (EachDriveSpan (ExcessIsShort r.setting.cal)) (newest_first gasoline r made.rows m.rows_are)
     (records_have_short_lapses gasoline_keeps r (is_run r made.rows made.trap c.rules-rules.ensures.accepted m) c.requires.fault bound lapse)) c.record_run.ensures.made
 
 pub returns-clause-cycles : goal.returns-clause-cycles
