@@ -41,7 +41,7 @@ AreInputs store n (plan ∷ plans) (input ∷ inputs) =
 AreInputs store n _ _ = ⊥
 
 -- Of the runs of a campaign: the files say what the runs are, the report or the table of these runs was
--- written, each of them keeps the headline, and what is told of the reactions of each is in time.
+-- written, each of them keeps the headline, and what `table` tells of the reactions of each is in time.
 pub record TellsRuns (telling : Telling) (calibration : Option (List ℕ)) (campaign : List ℕ)
     (store : ShownStore) (out now : ShownSink) : Type 0 where
   pub cal : CalibrationParts

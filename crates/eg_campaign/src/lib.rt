@@ -1,6 +1,6 @@
-//! Campaigns that are played: the runs of a campaign group by group, with what the report says of each, or
-//! the facts of each; and the record of a run, written as its ticks are made. Runs of one group share the
-//! part before their faults.
+//! Campaigns that are played: the runs of a campaign group by group, with what the report says of each, the
+//! facts of each, or what `table` tells of each; and the record of a run, written as its ticks are made. Runs
+//! of one group share the part before their faults.
 #![tactic(auto)]
 
 mod alike;

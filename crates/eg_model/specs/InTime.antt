@@ -1,5 +1,5 @@
--- The longest reaction that is told of a run: it is within the reaction time, and it is told of each run that
--- goes on long enough.
+-- The longest reaction that is told of a run: it is within the reaction time; and each run in which an excess
+-- is confirmed, and whose spans go on long enough after it, has one.
 use Rattle.std.specs.Prelude.{◌≡◌, ℕ, ◌≤◌, true, is_some, Option, Some, IfSome}
 use Rattle.eg_answer.specs.Times.{reaction_of}
 use Rattle.eg_fault.specs.Faults.{IsListed}

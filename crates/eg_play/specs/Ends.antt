@@ -62,13 +62,13 @@ NothingPlayed out now was is = (now ≡ out) × (is ≡ was)
 
 -- ---- `run [--cal NAME] CAMPAIGN` and `table [--cal NAME] CAMPAIGN` ----
 
--- what is told of the reactions of a run with at most one listed fault is in time
+-- of a run with at most one listed fault, what `table` tells of its reactions is in time
 abbrev pub TellsInTime : CalibrationParts → RunInput → Type 0
 TellsInTime cal input =
     IsListed input.plan.fault → IsInTime (reaction_of cal.times) (told_with cal input).reactions
 
--- The runs of a campaign were played, and told in this way: on Done the whole text was written. What is
--- told of their reactions is in time.
+-- The runs of a campaign were played, and told in this way: on Done the whole text was written. What `table`
+-- tells of their reactions is in time, whichever way they are told.
 pub record Tells (telling : Telling) (cal : CalibrationParts) (inputs : List RunInput) (out now : ShownSink)
     (was is : TickCount) (o : Outcome) : Type 0 where
   pub plays : Plays (runs_text telling cal inputs) (map (run_with cal) inputs) (rows_made cal inputs)

@@ -14,9 +14,9 @@ mod recording;
 mod report;
 mod run_table;
 mod running;
+mod sweep_table;
 mod sweeping;
 mod swept;
-mod table;
 mod telling;
 mod texts;
 

@@ -10,7 +10,7 @@ ghost use Rattle.eg_play.specs.Ends.{NothingPlayed, NamedEnds, SweepEnds, SweepC
 
 use crate::End;
 use crate::named::input_named;
-use crate::table::put_table;
+use crate::sweep_table::put_table;
 use eg_base::{Sink, Store};
 use eg_outcome::calibration_for;
 use eg_tick::Ticks;

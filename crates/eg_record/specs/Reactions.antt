@@ -1,5 +1,5 @@
--- The reactions of a run, span by span: how long the stages stay on once a true excess is confirmed, and
--- whether a span goes on long enough afterwards to say so. All ticks are those of the run.
+-- The reactions of a run, span by span: how many ticks after a true excess is confirmed the stages are off
+-- for good, and whether a span goes on long enough afterwards to say so. All ticks are those of the run.
 use Rattle.std.specs.Prelude.{ℕ, ◌+◌, ◌-◌, Bool, true, max, min, nat_le, List, [], ◌∷◌, map, Option, Some, None, option_map, if◌then◌else◌}
 use Rattle.std.specs.Option.{option_or}
 use Rattle.eg_num.specs.Windows.{WeightParts, is_confirmed}
@@ -31,7 +31,7 @@ unfoldable pub reaction_in_span : WeightParts → (threshold : ℕ) → List Row
 reaction_in_span weights threshold span =
     reaction_by (last_on span) (confirmed_in weights threshold span) (end_of span)
 
--- how many ticks of it follow the one by which the excess is confirmed, or none where it isn't
+-- how many ticks of it follow the first one by which the excess is confirmed, or none where it isn't
 unfoldable pub followed_in : WeightParts → (threshold : ℕ) → List Row → Option ℕ
 followed_in weights threshold span =
     option_map (λ c. end_of span - (c + 1)) (confirmed_in weights threshold span)
@@ -60,8 +60,8 @@ both these others = record {
   followed = less these.followed others.followed;
 }
 
--- what is told of one span, and of several: the longest reaction, and the least number of ticks that follow a
--- confirmed excess
+-- what is told of one span, and of several: the longest reaction, and the least number of ticks that follow
+-- the first one by which an excess is confirmed in a span
 unfoldable pub reactions_in : WeightParts → (threshold : ℕ) → List Row → Reactions
 reactions_in weights threshold span = record {
   longest = reaction_in_span weights threshold span;
@@ -77,13 +77,13 @@ reactions_of_spans weights threshold (span ∷ earlier) =
 unfoldable pub reactions_of : WeightParts → (threshold : ℕ) → List Row → Reactions
 reactions_of weights threshold rows = reactions_of_spans weights threshold (spans_of rows)
 
--- so many ticks follow, where this is the least number of ticks that follow a confirmed excess
+-- the least number of ticks that follow is the bound or more, or no excess is confirmed
 unfoldable pub settled_by : (bound : ℕ) → Option ℕ → Bool
 settled_by bound None = true
 settled_by bound (Some ticks) = nat_le bound ticks
 
--- Each confirmed excess is followed by so many ticks of its span, so that the run shows whether a reaction
--- takes no more.
+-- Each span in which an excess is confirmed has so many ticks after the first one by which it is, so that the
+-- run shows whether a reaction takes no more.
 unfoldable pub is_settled : (bound : ℕ) → Reactions → Bool
 is_settled bound reactions = settled_by bound reactions.followed
 

@@ -6,16 +6,17 @@ ghost use Rattle.eg_record.specs.Reactions.{both, greater, is_settled, less};
 /// stretches of ticks in which the engine is driven, and the start-up tests.
 #[derive(Clone, Copy, Debug, PartialEq, Eq)]
 pub struct Reactions {
-    /// The longest reaction in a span, in ticks, or None where no span has one.
+    /// The longest of the reactions of its spans, in ticks, or None where no span has one. A span in which an
+    /// excess is confirmed and the power stages are on at the last tick has none.
     pub longest: Option<u32>,
-    /// The least number of ticks that follow a confirmed true excess in its span, or None where none is
-    /// confirmed.
+    /// The least number of ticks that follow, in its span, the first tick by which a true excess is confirmed
+    /// in it, or None where none is confirmed.
     pub followed: Option<u32>,
 }
 
 impl Reactions {
-    /// Whether each confirmed true excess is followed by so many ticks of its span, so that the run shows
-    /// whether a reaction takes no more.
+    /// Whether each span in which a true excess is confirmed has so many ticks after the first one by which it
+    /// is, so that the run shows whether a reaction takes no more.
     #[tactic(auto, unfolding(crate::specs::Reactions::is_settled, crate::specs::Reactions::settled_by))]
     pub fn is_settled(&self, bound: u32) -> bool
         ensures { result ≡ is_settled bound self.now }

@@ -101,7 +101,7 @@ impl Tally {
         self.facts
     }
 
-    /// The reactions in the spans of these rows.
+    /// The reactions in the spans of the rows that it was fed.
     pub fn reactions(&self) -> Reactions
         ensures reactions { (rows : List Row) → IsTallyOf self.now rows →
             result ≡ reactions_of self.now.weights self.now.threshold rows }

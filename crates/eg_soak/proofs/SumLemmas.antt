@@ -7,16 +7,16 @@ use Rattle.eg_record.specs.declared.watch.Watch.{Watch}
 use Rattle.eg_record.specs.declared.watch.Watch.TheVariants.{Mirror, Pedal, Plate, Load, Speed, Torque, Answers, Start}
 use Rattle.eg_record.specs.Detection.{is_watch, rank}
 use Rattle.eg_model.proofs.LapseRuns.{count-cons}
-use Rattle.eg_soak.specs.declared.facts.RunFacts.{RunFacts}
+use Rattle.eg_soak.specs.declared.facts.DrawnFacts.{DrawnFacts}
 use Rattle.eg_soak.specs.Facts.{is_first}
 use Rattle.eg_soak.specs.Soak.{summary_of}
 
 -- in none of these runs is the watch of the start-up test the first
-abbrev pub NeverStart : List RunFacts → Type 0
+abbrev pub NeverStart : List DrawnFacts → Type 0
 NeverStart all = All (λ facts. is_first Start facts ≡ false) all
 
 -- no watch was found
-unfoldable is_none : RunFacts → Bool
+unfoldable is_none : DrawnFacts → Bool
 is_none facts = not (is_some facts.first)
 
 -- the count of a watch with one run more, whose first watch is this, if any
@@ -40,21 +40,21 @@ step (Some Torque) none mirror pedal plate load speed torque answers all never e
 step (Some Answers) none mirror pedal plate load speed torque answers all never e = omega (arith, e)
 step (Some Start) none mirror pedal plate load speed torque answers all never e = absurd cc
 
-not_start : (f : RunFacts) → is_first Start f ≡ false → is_watch Start f.first ≡ false
+not_start : (f : DrawnFacts) → is_first Start f ≡ false → is_watch Start f.first ≡ false
 unfolding is_first
 not_start f never = never
 
-watch-cons : (watch : Watch) (f : RunFacts) (all : List RunFacts) →
+watch-cons : (watch : Watch) (f : DrawnFacts) (all : List DrawnFacts) →
     count_by (is_first watch) (f ∷ all) ≡ counted watch f.first (count_by (is_first watch) all)
 unfolding counted is_first
 watch-cons watch f all = count-cons (is_first watch) f all
 
-none-cons : (f : RunFacts) (all : List RunFacts) →
+none-cons : (f : DrawnFacts) (all : List DrawnFacts) →
     count_by is_none (f ∷ all) ≡ undetected f.first (count_by is_none all)
 unfolding undetected is_none
 none-cons f all = count-cons is_none f all
 
-each : (all : List RunFacts) → NeverStart all →
+each : (all : List DrawnFacts) → NeverStart all →
     count_by is_none all + (((((((0 + count_by (is_first Mirror) all) + count_by (is_first Pedal) all) + count_by (is_first Plate) all) + count_by (is_first Load) all) + count_by (is_first Speed) all) + count_by (is_first Torque) all) + count_by (is_first Answers) all) ≡ length all
 each [] never = refl
 each (f ∷ all) never =
@@ -71,10 +71,10 @@ each (f ∷ all) never =
     let answers = watch-cons Answers f all in
     omega (arith, next, none, mirror, pedal, plate, load, speed, torque, answers)
 
-pub sums_up : (all : List RunFacts) → NeverStart all → (summary_of all).none + sum (summary_of all).by_watch ≡ length all
+pub sums_up : (all : List DrawnFacts) → NeverStart all → (summary_of all).none + sum (summary_of all).by_watch ≡ length all
 unfolding summary_of is_none
 sums_up all never = each all never
 
-pub runs_counted : (all : List RunFacts) → (summary_of all).runs ≡ length all
+pub runs_counted : (all : List DrawnFacts) → (summary_of all).runs ≡ length all
 unfolding summary_of
 runs_counted all = refl

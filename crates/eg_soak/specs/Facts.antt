@@ -7,11 +7,11 @@ use Rattle.eg_record.specs.Facts.{reaction_in}
 use Rattle.eg_model.specs.Rows.{record_trap}
 use Rattle.eg_tick.specs.Facts.{record_facts}
 use Rattle.eg_campaign.specs.Plays.{EngineRun, bench_of}
-use Rattle.eg_soak.specs.declared.facts.RunFacts.{RunFacts}
+use Rattle.eg_soak.specs.declared.facts.DrawnFacts.{DrawnFacts}
 
 -- what counts of a run with these facts, in which level 1 traps or doesn't; a run that has no reaction counts
 -- as one with reaction 0
-unfoldable pub facts_in : Facts → (is_trapped : Bool) → RunFacts
+unfoldable pub facts_in : Facts → (is_trapped : Bool) → DrawnFacts
 facts_in facts is_trapped = record {
   first = option_map (λ detection. detection.0) facts.first;
   is_trapped = is_trapped;
@@ -20,10 +20,10 @@ facts_in facts is_trapped = record {
 }
 
 -- what counts of a run
-unfoldable pub facts_of : EngineRun → RunFacts
+unfoldable pub facts_of : EngineRun → DrawnFacts
 facts_of r =
     let b = bench_of r.engine in facts_in (record_facts b r.run) (is_some (record_trap b r.run))
 
 -- this watch is the first that was detected
-unfoldable pub is_first : Watch → RunFacts → Bool
+unfoldable pub is_first : Watch → DrawnFacts → Bool
 is_first watch facts = is_watch watch facts.first

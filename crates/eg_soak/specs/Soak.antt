@@ -11,7 +11,7 @@ use Rattle.eg_plan.specs.declared.engine.EngineKind.TheVariants as kind
 use Rattle.eg_campaign.specs.Plays.{EngineRun}
 use Rattle.eg_draw.specs.declared.runs.DrawnRun.{DrawnRun}
 use Rattle.eg_draw.specs.Runs.{drawn_run, state_after}
-use Rattle.eg_soak.specs.declared.facts.RunFacts.{RunFacts}
+use Rattle.eg_soak.specs.declared.facts.DrawnFacts.{DrawnFacts}
 use Rattle.eg_soak.specs.declared.summary.SoakSummary.{SoakSummary}
 use Rattle.eg_soak.specs.Facts.{facts_of, is_first}
 
@@ -36,7 +36,7 @@ abbrev pub drive_watches : List Watch
 drive_watches = Mirror ∷ Pedal ∷ Plate ∷ Load ∷ Speed ∷ Torque ∷ Answers ∷ []
 
 -- the summary of runs, by what counts of each of them
-unfoldable pub summary_of : List RunFacts → SoakSummary
+unfoldable pub summary_of : List DrawnFacts → SoakSummary
 summary_of all = record {
   runs = length all;
   none = count_by (λ facts. not (is_some facts.first)) all;

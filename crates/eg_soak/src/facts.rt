@@ -14,7 +14,7 @@ use eg_values::Calibration;
 
 /// What `soak` counts of a run (docs/CONCEPT.md, "`soak`").
 #[derive(Clone, Copy, Debug, PartialEq, Eq)]
-pub(crate) struct RunFacts {
+pub(crate) struct DrawnFacts {
     /// The first watch that is found, if any.
     pub first: Option<Watch>,
     /// Whether level 1 trapped.
@@ -26,13 +26,13 @@ pub(crate) struct RunFacts {
     pub reaction: u32,
 }
 
-impl RunFacts {
+impl DrawnFacts {
     /// What `soak` counts of a run with these facts, in which level 1 trapped or didn't.
     #[tactic(auto, unfolding(crate::specs::Facts::facts_in))]
-    fn of(facts: &Facts, is_trapped: bool) -> RunFacts
+    fn of(facts: &Facts, is_trapped: bool) -> DrawnFacts
         ensures { result ≡ facts_in facts.now is_trapped }
     {
-        RunFacts {
+        DrawnFacts {
             first: facts.first.map(|(watch, _)| watch),
             is_trapped,
             goes_off: facts.off.is_some(),
@@ -50,7 +50,7 @@ impl RunFacts {
 
 /// Plays a run that was drawn, by the reference calibration, and tells what counts of it (docs/CONCEPT.md,
 /// "`soak`"). No row of it is kept. Its ticks are counted in `steps`.
-pub(crate) fn play(calibration: &Calibration, drawn: &DrawnRun, steps: &mut Ticks) -> RunFacts
+pub(crate) fn play(calibration: &Calibration, drawn: &DrawnRun, steps: &mut Ticks) -> DrawnFacts
     requires calibration { calibration.now ≡ reference_parts }
     requires drawn { IsDrawn drawn.now }
     ensures facts { result ≡ facts_of (run_drawn drawn.now) }
@@ -63,5 +63,5 @@ pub(crate) fn play(calibration: &Calibration, drawn: &DrawnRun, steps: &mut Tick
         drawn.fault.as_ref(),
     );
     let (facts, trap) = run_facts(calibration, image, &plan, drive, fault, steps);
-    RunFacts::of(&facts, trap.is_some())
+    DrawnFacts::of(&facts, trap.is_some())
 }

@@ -6,7 +6,7 @@ ghost use Rattle.eg_soak.specs.Facts.{facts_of};
 ghost use Rattle.eg_soak.specs.Soak.{drawn_runs, soak_of};
 
 use crate::SoakSummary;
-use crate::facts::{RunFacts, play};
+use crate::facts::{DrawnFacts, play};
 use eg_base::NoMemory;
 use eg_draw::Generator;
 use eg_tick::Ticks;
@@ -42,7 +42,7 @@ fn play_all(
     seed: u32,
     runs: u32,
     steps: &mut Ticks,
-) -> Result<Vec<RunFacts>, NoMemory>
+) -> Result<Vec<DrawnFacts>, NoMemory>
     requires { runs ≤ 500 }
     ensures facts { IfOk result (λ all. all.items ≡ map facts_of (drawn_runs runs seed)) }
     ensures length { IfOk result (λ all. length all.items ≡ runs) }

@@ -4,7 +4,7 @@ ghost use Rattle.std.specs.List.{fold};
 ghost use Rattle.eg_soak.specs.Facts.{is_first};
 ghost use Rattle.eg_soak.specs.Soak.{summary_of};
 
-use crate::facts::RunFacts;
+use crate::facts::DrawnFacts;
 use eg_record::Watch;
 
 /// What `soak` tells of its runs (docs/CONCEPT.md, "`soak`").
@@ -28,7 +28,7 @@ pub struct SoakSummary {
 impl SoakSummary {
     /// The summary of runs, by what counts of each of them.
     #[tactic(auto, unfolding(crate::specs::Soak::summary_of))]
-    pub(crate) fn of(all: &[RunFacts]) -> SoakSummary
+    pub(crate) fn of(all: &[DrawnFacts]) -> SoakSummary
         requires { length all.now ≤ 500 }
         ensures { result ≡ summary_of all.now }
     {
@@ -52,7 +52,7 @@ impl SoakSummary {
 }
 
 /// In how many of these runs no watch was found.
-fn count_none(all: &[RunFacts]) -> u32
+fn count_none(all: &[DrawnFacts]) -> u32
     requires { length all.now ≤ 500 }
     ensures { result ≡ count_by (λ facts. not (is_some facts.first)) all.now }
 {
@@ -60,7 +60,7 @@ fn count_none(all: &[RunFacts]) -> u32
 }
 
 /// In how many of these runs this watch was the first that was found.
-fn count_first(all: &[RunFacts], watch: Watch) -> u32
+fn count_first(all: &[DrawnFacts], watch: Watch) -> u32
     requires { length all.now ≤ 500 }
     ensures { result ≡ count_by (is_first watch) all.now }
 {
@@ -68,7 +68,7 @@ fn count_first(all: &[RunFacts], watch: Watch) -> u32
 }
 
 /// In how many of these runs level 1 trapped.
-fn count_trapped(all: &[RunFacts]) -> u32
+fn count_trapped(all: &[DrawnFacts]) -> u32
     requires { length all.now ≤ 500 }
     ensures { result ≡ count_by (λ facts. facts.is_trapped) all.now }
 {
@@ -76,7 +76,7 @@ fn count_trapped(all: &[RunFacts]) -> u32
 }
 
 /// In how many of these runs the power stages went off.
-fn count_off(all: &[RunFacts]) -> u32
+fn count_off(all: &[DrawnFacts]) -> u32
     requires { length all.now ≤ 500 }
     ensures { result ≡ count_by (λ facts. facts.goes_off) all.now }
 {
@@ -84,7 +84,7 @@ fn count_off(all: &[RunFacts]) -> u32
 }
 
 /// The longest reaction of these runs, in ticks.
-fn longest(all: &[RunFacts]) -> u32
+fn longest(all: &[DrawnFacts]) -> u32
     ensures { result ≡ fold (λ most facts. max most facts.reaction) 0 all.now }
 {
     let mut longest = 0u32;

@@ -29,7 +29,7 @@ begun tests span = record {
 abbrev pub span_from : (reset : Bool) → Span → Span
 span_from reset span = if reset || span.passed then begun reset span else span
 
--- A tick in which memory ran out has left what is kept of the span, its latches too, as before, or as the
--- tick came into its span.
+-- A tick in which memory ran out has left what is kept of the span, its latches too, as it was; or it is the
+-- span that begins with this tick, with both latches closed.
 abbrev pub StaysOrBegins : (reset : Bool) → (old new : Span) → Type 0
 StaysOrBegins reset old new = (new ≡ old) ⊎ (new ≡ span_from reset old)

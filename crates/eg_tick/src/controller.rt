@@ -192,7 +192,7 @@ impl<E: Engine + Drop, M: Guarded + Drop> Controller<E, M> {
         ensures same_ticks { OnErr result (self.new.kept.ticks ≡ self.old.kept.ticks) }
         ensures same_trap { OnErr result (self.new.kept.trap ≡ self.old.kept.trap) }
         // In a tick in which memory runs out the engine stays, or makes its one step; and what is kept of the
-        // span, the latches of the paths too, stays, or is as the tick came into its span.
+        // span, the latches of the paths too, stays as it was, or is the span that begins with this tick.
         ensures same_or_stepped { (s : Setting) (h : List Entry) → Stands s self.old.kept h → OnErr result
             (StaysOrSteps E.steps s drive.now slices.now self.new.kept.shown h
             self.old.engine self.new.engine) }

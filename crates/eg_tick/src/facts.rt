@@ -70,8 +70,8 @@ pub fn run_facts(
 /// The same of an engine of either kind, for callers that run one by its type: it tells the facts of the run,
 /// the reactions in its spans and its trap (docs/CONCEPT.md, "The report of a run" and "`table`"), keeps no
 /// row, takes no memory and refuses nothing.
-/// What facts tell of the reaction is said of the gasoline engine alone, by `run_facts`; of either engine the
-/// headline says it, of the rows.
+/// What facts tell of the reaction is said of the gasoline engine alone, by `run_facts`; of the reactions of
+/// either engine eg_model's `spans_react_in_time` says it, and the headline of the rows.
 pub fn bench_facts<E: BenchedEngine>(
     calibration: &Calibration,
     image: &[u16],

@@ -6,7 +6,7 @@ use Rattle.eg_fault.specs.Faults.{IsValid}
 use Rattle.eg_campaign.specs.Plays.{IsPlayable}
 use Rattle.eg_play.specs.Sweeping.{swept}
 use Rattle.eg_play.proofs.SweepLemmas.{all-playable, swept-ends, not-swept, small_grid, not_memory, not_faults}
-use Rattle.eg_play.proofs.table.put_table.Goals as goal
+use Rattle.eg_play.proofs.sweep_table.put_table.Goals as goal
 
 pub returns-in-Err-Memory-clause-ends : goal.returns-in-Err-Memory-clause-ends
 returns-in-Err-Memory-clause-ends g c =

@@ -5,7 +5,7 @@ use Rattle.eg_sweep.specs.Texts.{sweep_text_of}
 use Rattle.eg_outcome.specs.Outcomes.{LineEnds}
 use Rattle.eg_play.proofs.HeadlineLemmas.{keep_headline}
 use Rattle.eg_play.proofs.PlayLemmas.{no_memory, no_lines, put}
-use Rattle.eg_play.proofs.table.put_rows.Goals as goal
+use Rattle.eg_play.proofs.sweep_table.put_rows.Goals as goal
 
 pub returns-in_default-clause-plays : goal.returns-in_default-clause-plays
 returns-in_default-clause-plays g c =
