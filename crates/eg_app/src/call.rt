@@ -33,8 +33,8 @@ pub fn egasim<S: Store, K: Sink, N: Sink>(
     notes: &mut N,
     steps: &mut Ticks,
 ) -> Outcome
-    // The headline: whatever the files hold, the report, record or table written is that of the runs that they
-    // say, and each of these runs keeps it; so does each run that is drawn.
+    // The headline: whatever the files hold, the report, record or table written is that of the runs that
+    // they say, and each of these runs keeps it; so does each run that is drawn.
     ensures headline { result ≡ Done → TellsHeadline (command_of (words_of words.now)) (S.shows store.old)
         (K.shows out.old) (K.shows out.new) }
 
