@@ -24,14 +24,14 @@ pub struct Fault {
 }
 
 /// What a faulty track reads.
-#[derive(Clone, Copy)]
+#[derive(Clone, Copy, PartialEq)]
 pub enum Reading {
     Value(u16),
     Offset(i32),
 }
 
 /// What is out of order at a tick.
-#[derive(Clone, Copy)]
+#[derive(Clone, Copy, PartialEq)]
 pub struct Effects {
     pub track: Option<(usize, Reading)>,
     pub raise: u16,
@@ -69,9 +69,34 @@ impl Fault {
     pub fn effects(&self, tick: u32) -> Effects {
         tick.checked_sub(self.onset).map_or(Effects::NONE, |since| self.class.effects(since))
     }
+
+    /// Whether anything is out of order at a tick.
+    pub fn acts_at(&self, tick: u32) -> bool {
+        self.effects(tick) != Effects::NONE
+    }
 }
 
 impl Class {
+    /// What campaigns call it.
+    pub fn name(&self) -> &'static str {
+        match self {
+            Class::Script { .. } => "script",
+            Class::Offset { .. } => "offset",
+            Class::Bus { .. } => "bus",
+            Class::Plate { .. } => "plate",
+            Class::Skip { .. } => "skip",
+            Class::Disturb { .. } => "disturb",
+            Class::Flip { .. } => "flip",
+            Class::Halt => "halt",
+            Class::Timing { .. } => "timing",
+            Class::Wild { .. } => "wild",
+            Class::Path1Closed => "path1-closed",
+            Class::Path2Closed => "path2-closed",
+            Class::PathOpen { .. } => "path-open",
+            Class::Lapse { .. } => "lapse",
+        }
+    }
+
     /// What is out of order so many ticks after the onset.
     fn effects(&self, since: u32) -> Effects {
         let mut effects = Effects::NONE;

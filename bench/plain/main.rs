@@ -1,11 +1,12 @@
 //! The whole program as plain Rust, written to be fast: one array of words for all three levels, plain structs,
-//! and no allocation in a tick. No row of a run is kept: what a report or `soak` says is gathered as the ticks are
-//! made, and each line of a record is put as its tick is made, a line a write, as in the proved program. It takes
-//! the words and files that `egasim` takes, refuses what it refuses, and writes what it writes, notes too. It was
-//! written from docs/, is measured beside the proved program by `bench/unit` and `bench/all`, and compared with it by
-//! `bench/compare` and `bench/fuzz`. Nothing of it is proved.
+//! and no allocation in a tick. No row of a run is kept, but for `table`, which looks at a run span by span: what a
+//! report or `soak` says is gathered as the ticks are made, and each line of a record is put as its tick is made, a
+//! line a write, as in the proved program. It takes the words and files that `egasim` takes, refuses what it refuses,
+//! and writes what it writes, notes too. It was written from docs/, is measured beside the proved program by
+//! `bench/unit` and `bench/all`, and compared with it by `bench/compare` and `bench/fuzz`. Nothing of it is proved.
 //! Usage: check [--cal NAME] FILE, bound [--cal NAME], limits [--cal NAME], answers FILE, run [--cal NAME] CAMPAIGN,
-//! record [--cal NAME] CAMPAIGN RUN, sweep [--cal NAME] CAMPAIGN RUN STEP, soak SEED RUNS, asm FILE, dis FILE
+//! table [--cal NAME] CAMPAIGN, record [--cal NAME] CAMPAIGN RUN, sweep [--cal NAME] CAMPAIGN RUN STEP,
+//! soak SEED RUNS, asm FILE, dis FILE
 
 mod calibration;
 mod calibration_file;
@@ -23,6 +24,7 @@ mod report;
 mod soak;
 mod source;
 mod sweep;
+mod table;
 mod text;
 mod toml;
 mod unit;
@@ -154,11 +156,10 @@ fn run_of<'a>(plan: &'a Plan, drives: &'a [Drive], image: &'a [u16]) -> Run<'a> 
 
 const MOST_TICKS: usize = 1_000_000;
 
-/// The report on the runs of a campaign.
-fn run(cal: &Calibration, file: &str, out: &mut Output) -> Result<(), End> {
+/// Tells each run of a campaign with its name, in their order. Answers how many there are.
+fn each_run(file: &str, mut tell: impl FnMut(&str, &Run)) -> Result<usize, End> {
     let plans = campaign(file)?;
-    let mut text = String::new();
-    let (mut ticks, mut detected, mut off) = (0, 0, 0);
+    let mut ticks = 0;
     for (number, plan) in (1..).zip(&plans) {
         let drives = drives(plan)?;
         ticks += drives.len();
@@ -166,13 +167,30 @@ fn run(cal: &Calibration, file: &str, out: &mut Output) -> Result<(), End> {
             return Err(End::Refused(format!("{file}: run {number} passes {MOST_TICKS} ticks")));
         }
         let image = image(&plan.image)?;
-        let summary = report::summary(cal, &run_of(plan, &drives, &image));
+        tell(&plan.name, &run_of(plan, &drives, &image));
+    }
+    Ok(plans.len())
+}
+
+/// The report on the runs of a campaign.
+fn run(cal: &Calibration, file: &str, out: &mut Output) -> Result<(), End> {
+    let mut text = String::new();
+    let (mut detected, mut off) = (0, 0);
+    let runs = each_run(file, |name, run| {
+        let summary = report::summary(cal, run);
         detected += u32::from(summary.first.is_some());
         off += u32::from(summary.off.is_some());
-        text += &summary.line(&plan.name, cal);
-    }
-    writeln!(out, "{text}runs {}; detected {detected}; off {off}", plans.len())?;
+        text += &summary.line(name, cal);
+    })?;
+    writeln!(out, "{text}runs {runs}; detected {detected}; off {off}")?;
     Ok(())
+}
+
+/// The table of the runs of a campaign.
+fn table(cal: &Calibration, file: &str, out: &mut Output) -> Result<(), End> {
+    let mut lines = vec![table::HEADER.to_string()];
+    each_run(file, |name, run| lines.push(table::line(cal, name, run)))?;
+    Ok(lines.iter().try_for_each(|line| put(line.as_bytes(), out))?)
 }
 
 /// The run of that name of a campaign, with its drive and its image.
@@ -203,7 +221,7 @@ fn put(line: &[u8], out: &mut Output) -> io::Result<()> {
     out.flush()
 }
 
-/// The table of a run of a campaign under every class of fault, each at every onset of a grid.
+/// What comes of a run of a campaign under every class of fault, each at every onset of a grid.
 fn sweep(cal: &Calibration, file: &str, name: &str, step: u32, out: &mut Output) -> Result<(), End> {
     let (plan, drives, image) = loaded(file, name)?;
     let lines = sweep::sweep(cal, &run_of(&plan, &drives, &image), step);
@@ -268,6 +286,7 @@ fn command(words: &[&str]) -> Result<(), End> {
         (["limits"], _) => limits(&calibration(name)?, out),
         (["check", file], _) if is_name(file) => check(&calibration(name)?, file, out),
         (["run", file], _) if is_name(file) => run(&calibration(name)?, file, out),
+        (["table", file], _) if is_name(file) => table(&calibration(name)?, file, out),
         (["record", file, run], _) if is_name(file) && is_name(run) => {
             record(&calibration(name)?, file, run, out)
         }

@@ -95,11 +95,14 @@ fn trap_text(trap: Option<(Trap, u32)>) -> String {
     let Some((kind, tick)) = trap else {
         return "none".to_string();
     };
-    let name = match kind {
+    format!("{} at {tick}", trap_name(kind))
+}
+
+pub fn trap_name(kind: Trap) -> &'static str {
+    match kind {
         Trap::Fetch => "fetch",
         Trap::Load => "load",
         Trap::Store => "store",
         Trap::Illegal => "illegal",
-    };
-    format!("{name} at {tick}")
+    }
 }

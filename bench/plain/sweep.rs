@@ -9,24 +9,23 @@ use crate::unit::Run;
 const MOST_RUNS: usize = 1000;
 const MOST_TICKS: usize = 1_000_000;
 
-/// The faults of the grid, in the order of the table's lines, with the names of their classes. The last is no
-/// listed fault.
-fn classes() -> [(&'static str, Class); 14] {
+/// The faults of the grid, in the order of the table's lines. The last is no listed fault.
+fn classes() -> [Class; 14] {
     [
-        ("script", Class::Script { track: 4, values: vec![0] }),
-        ("offset", Class::Offset { track: 0, add: 200 }),
-        ("bus", Class::Bus { mask: 1 }),
-        ("plate", Class::Plate { at: 1000 }),
-        ("skip", Class::Skip { module: 3 }),
-        ("disturb", Class::Disturb { module: 3, mask: 4096 }),
-        ("flip", Class::Flip { word: 3, mask: 1 }),
-        ("halt", Class::Halt),
-        ("timing", Class::Timing { offset: 99 }),
-        ("wild", Class::Wild { questions: vec![65535], opens: vec![false] }),
-        ("path1-closed", Class::Path1Closed),
-        ("path2-closed", Class::Path2Closed),
-        ("path-open", Class::PathOpen { path: 1 }),
-        ("lapse", Class::Lapse { after: vec![0], every: 0 }),
+        Class::Script { track: 4, values: vec![0] },
+        Class::Offset { track: 0, add: 200 },
+        Class::Bus { mask: 1 },
+        Class::Plate { at: 1000 },
+        Class::Skip { module: 3 },
+        Class::Disturb { module: 3, mask: 4096 },
+        Class::Flip { word: 3, mask: 1 },
+        Class::Halt,
+        Class::Timing { offset: 99 },
+        Class::Wild { questions: vec![65535], opens: vec![false] },
+        Class::Path1Closed,
+        Class::Path2Closed,
+        Class::PathOpen { path: 1 },
+        Class::Lapse { after: vec![0], every: 0 },
     ]
 }
 
@@ -69,7 +68,8 @@ pub fn sweep(cal: &Calibration, run: &Run, step: u32) -> Option<Vec<String>> {
     let drives: Vec<Drive> = run.drives.iter().map(|drive| Drive { reset: false, ..*drive }).collect();
     let mut lines = Vec::with_capacity(classes.len() + 1);
     let mut greatest = None;
-    for (name, class) in classes {
+    for class in classes {
+        let name = class.name();
         let is_listed = !matches!(class, Class::Lapse { .. });
         let mut fault = Fault { onset: 0, class };
         let mut row = Row::default();

@@ -5,7 +5,7 @@ use eg_input::TraceFault;
 use std::test::Fail;
 
 /// Words, and the files that a call with them reads, in their order.
-const READS: [(&str, &[Role]); 10] = [
+const READS: [(&str, &[Role]); 11] = [
     (
         "check --cal cal.toml in.csv",
         &[Role::Calibration, Role::Check],
@@ -15,6 +15,17 @@ const READS: [(&str, &[Role]); 10] = [
     ("answers cal.toml", &[Role::Calibration]),
     (
         "run --cal cal.toml c.toml",
+        &[
+            Role::Calibration,
+            Role::Campaign,
+            Role::Trace { run: 1 },
+            Role::Image { run: 1 },
+            Role::Trace { run: 2 },
+            Role::Image { run: 2 },
+        ],
+    ),
+    (
+        "table --cal cal.toml c.toml",
         &[
             Role::Calibration,
             Role::Campaign,
@@ -92,12 +103,13 @@ fn a_record_is_written_as_its_ticks_are_made(rt: HostRuntime) -> Result<(), Fail
 }
 
 /// Words, and how many bytes stand where the put of a number fails: the lines before, and half of the next.
-const PUTS: [(&str, &[(u32, usize)]); 10] = [
+const PUTS: [(&str, &[(u32, usize)]); 11] = [
     ("check in.csv", &[(0, 2), (1, 5)]),
     ("bound", &[(0, 6), (1, 16), (2, 21)]),
     ("limits", &[(0, 6), (2, 26), (5, 54), (6, 60)]),
     ("answers cal.toml", &[(0, 7), (1, 22), (2, 30)]),
     ("run c.toml", &[(0, 29), (1, 88), (2, 131), (3, 144)]),
+    ("table c.toml", &[(0, 46), (1, 102), (2, 122), (3, 132)]),
     (RECORD, &[(0, 69), (1, 164), (3, 269), (4, 324), (5, 352)]),
     (
         "sweep c.toml a 4",
