@@ -34,7 +34,7 @@ pub linked-answer : (bytes : List ℕ) (source : Source) (items : List Item) (re
 unfolding assembled words_read
 linked-answer bytes source items result read holds links =
     let kept : linked_kept (labels_of items) (map placed_shown source.instructions.items) source.repeated
-        ≡ linked_kept (labels_of items) (instructions_from 1 items) (repeat_behind [] items) =
+    ≡ linked_kept (labels_of items) (instructions_from 1 items) (repeat_behind [] items) =
     ap (λ (is : List (ℕ × Encoded)). linked_kept (labels_of items) is source.repeated) holds.all ∙ ap (linked_kept (labels_of items) (instructions_from 1 items)) holds.repeat in
     let answer : linked_kept (labels_of items) (map placed_shown source.instructions.items) source.repeated ≡ assembled bytes =
     kept ∙ same_answer items (read-may bytes items read).0 ∙ sym (ap words_read read) in

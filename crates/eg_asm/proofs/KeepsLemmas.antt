@@ -47,7 +47,7 @@ instructions_from-append place [] more = let same : place + 0 ≡ place = omega 
 instructions_from-append place (item ∷ items) more =
     let same : place + 1 + length items ≡ place + length (item ∷ items) = omega arith in
     ap (cons_option (numbered place (told item))) (instructions_from-append (place + 1) items more ∙ rw same refl)
-        ∙ moved (numbered place (told item)) (instructions_from (place + 1) items)
+    ∙ moved (numbered place (told item)) (instructions_from (place + 1) items)
   where
     moved : (o : Option (ℕ × Encoded)) (front : List (ℕ × Encoded))
         → cons_option o (front ++ instructions_from (place + length (item ∷ items)) more) ≡ cons_option o front ++ instructions_from (place + length (item ∷ items)) more
@@ -98,7 +98,7 @@ pub labels-one : (items : List Item) (item : Item) (name : List ℕ)
 labels-one items item name =
     let same : 0 + word_count items ≡ word_count items = omega arith in
     ap (λ (ls : Labels). place_of ls name) (labels_from-append 0 items (item ∷ []) ∙ rw same refl)
-        ∙ lookup-append name (labels_of items) (labels_from (word_count items) (item ∷ []))
+    ∙ lookup-append name (labels_of items) (labels_from (word_count items) (item ∷ []))
 
 -- ---- what is kept ----
 
@@ -221,9 +221,9 @@ keeps-new_label {K = K} name_of items instructions place now repeated key none p
         ≡ option_or (place other) (place_of (labels_from (word_count items) (Label (name_of key) ∷ [])) (name_of other))
     at other absent =
         let P : Option ℕ → Type 0 = λ o. cond (bytes_eq (name_of key) (name_of other)) (Some (word_count items)) o
-            ≡ option_or o (place_of (labels_from (word_count items) (Label (name_of key) ∷ [])) (name_of other)) in
+        ≡ option_or o (place_of (labels_from (word_count items) (Label (name_of key) ∷ [])) (name_of other)) in
         subst P (sym (k.labels other)) (here (name_of key) (name_of other) (place_of (labels_of items) (name_of other)) refl absent
-            (bytes_eq (name_of key) (name_of other)) (bytes_eq (name_of other) (name_of key)) refl refl)
+        (bytes_eq (name_of key) (name_of other)) (bytes_eq (name_of other) (name_of key)) refl refl)
 
 -- items that tell these labels
 pub keeps-again : {K : Type 0} (name_of : K → List ℕ) (items : List Item) (item : Item) (instructions : List (ℕ × Encoded)) (place : K → Option ℕ) (repeated : Option ℕ) (key : K)

@@ -119,7 +119,7 @@ texts-lack [] (value ∷ values) fit = absurd fit
 texts-lack (operand ∷ operands) [] fit = absurd fit
 texts-lack (operand ∷ operands) (value ∷ values) fit =
     All-cons (Lacks 44) (text_of_value value) (map text_of_value values)
-        (lacks-plain 44 refl (text_of_value value) (value-plain operand value fit.0)) (texts-lack operands values fit.1)
+    (lacks-plain 44 refl (text_of_value value) (value-plain operand value fit.0)) (texts-lack operands values fit.1)
 
 -- the texts of values lack each byte that no operand has, but a comma
 joined-lack : (c : ℕ) → is_plain c ≡ false → Lacks c (44 ∷ []) → (operands : List Operand) (values : List Value) → AllZip Fits operands values

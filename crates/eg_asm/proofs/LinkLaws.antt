@@ -253,7 +253,7 @@ repeated-label : (labels : Labels) (before : List Item) (name : List ℕ) (items
 unfolding fault_behind instructions_from repeat_behind is_sound is_repeat told numbered
 repeated-label labels before name items place some =
     rw some (sym (earlier-right (length before + 1) (unresolved labels (word_count before) (instructions_from (length before + 1 + 1) items))
-        (unresolved-from labels (word_count before) (length before + 1 + 1) items)))
+    (unresolved-from labels (word_count before) (length before + 1 + 1) items)))
 
 -- an instruction without a word
 wordless : (labels : Labels) (before : List Item) (mnemonic : List ℕ) (values : List Value) (items : List Item) (k : IsKept labels mnemonic values)
@@ -262,7 +262,7 @@ unfolding fault_behind instructions_from repeat_behind is_sound is_repeat number
 wordless labels before mnemonic values items k none =
     let e_none : completed labels (word_count before) k.e ≡ None = k.word (word_count before) ∙ none in
     rw (none, k.tells_it, e_none) (sym (earlier-left (length before + 1) (repeat_behind (before ++ Instruction mnemonic values ∷ []) items)
-        (later (before ++ Instruction mnemonic values ∷ []) (length-append before (Instruction mnemonic values ∷ [])))))
+    (later (before ++ Instruction mnemonic values ∷ []) (length-append before (Instruction mnemonic values ∷ [])))))
   where
     later : (front : List Item) → length front ≡ length before + 1 → From (length before + 1 + 1) (repeat_behind front items)
     later front long found is = let least = repeat_behind-from front items found is in omega arith
@@ -346,5 +346,5 @@ unfolding linked_kept word_count
 same_answer items may =
     let fault = same_fault (labels_of items) [] items may in
     ap (λ (words : List ℕ). words_unless words (earlier (unresolved (labels_of items) 0 (instructions_from 1 items)) (repeat_behind [] items)))
-        (sym (same_words (labels_of items) 0 1 items may))
+    (sym (same_words (labels_of items) 0 1 items may))
     ∙ ap (words_unless (words_of items)) (sym fault) ∙ linked_is items (first_fault items)

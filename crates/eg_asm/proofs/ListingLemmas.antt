@@ -99,7 +99,7 @@ text_of_values-more [] value = refl
 text_of_values-more (first ∷ values) value =
     let some : (length (first ∷ values) == 0) ≡ false = grind (arith, nat_tests) in
     rw some (ap (λ (ts : List (List ℕ)). 32 ∷ join_with_byte 44 ts) (map-append text_of_value (first ∷ values) (value ∷ []))
-        ∙ ap (λ (l : List ℕ). 32 ∷ l) (joined-more (text_of_value first) (map text_of_value values) (text_of_value value)))
+    ∙ ap (λ (l : List ℕ). 32 ∷ l) (joined-more (text_of_value first) (map text_of_value values) (text_of_value value)))
 
 -- the values of the operands up to a place, and one more
 pub listed-one : (word i : ℕ) (operands : List Operand) (d : Operand) → i < length operands

@@ -66,8 +66,13 @@ three_fit values fit =
     let b = register_first 64 (rC ∷ []) a.rest a.fit in
     let c = register_first 8 [] b.rest b.fit in
     let end = nothing_left c.rest c.fit in
-    record { a = a.n; b = b.n; c = c.n; is = a.is
-        ∙ ap (λ (l : List Value). Register a.n ∷ l) (b.is ∙ ap (λ (l : List Value). Register b.n ∷ l) (c.is ∙ ap (λ (l : List Value). Register c.n ∷ l) end)) }
+    record {
+      a = a.n;
+      b = b.n;
+      c = c.n;
+      is = a.is
+          ∙ ap (λ (l : List Value). Register a.n ∷ l) (b.is ∙ ap (λ (l : List Value). Register b.n ∷ l) (c.is ∙ ap (λ (l : List Value). Register c.n ∷ l) end));
+    }
 
 record AreTwo (operands : List Operand) (values : List Value) : Type 0 where
   a : ℕ

@@ -59,7 +59,7 @@ items_from-good words place (item ∷ good) lines may few =
     let place_is : place + 1 + length good ≡ place + length (item ∷ good) = omega arith in
     let more = items_from-good (words + size item) (place + 1) good lines may.1 (omega arith) in
     rw here (ap (item_before (refusal words place) (Some item)) more
-        ∙ onto-more (refusal words place) item good (items_from (words + size item + word_count good) (place + 1 + length good) lines)
+    ∙ onto-more (refusal words place) item good (items_from (words + size item + word_count good) (place + 1 + length good) lines)
     ∙ ap (onto (item ∷ good)) (rw (words_are, place_is) refl))
 
 -- the lines of a text that begins with those of items
@@ -243,7 +243,7 @@ finds words place (line ∷ lines) cut few = at (item_behind words line) refl (�
     at (Some item) some more =
         let back = behind-back words line item some in
         finds-more words place line lines item (items_from (words + size item) (place + 1) lines) (item_in-back line lines item cut back.0)
-            (more (words + size item) (place + 1) back.1)
+        (more (words + size item) (place + 1) back.1)
 
 -- where the reading stops, what is left goes wrong
 goes_wrong : (source : List ℕ) (e : AsmFault) (may_come : Item → Type 0) (h : Stops 0 1 (lines_of source) e)
@@ -256,7 +256,7 @@ goes_wrong source e may_come h allows = record {
       let same : h.line ≡ line_of item = cc in
       let words_are : 0 + word_count h.good ≡ word_count h.good = omega arith in
       let none : item_behind (word_count h.good) (line_of item) ≡ None = ap (item_behind (word_count h.good)) (sym same)
-          ∙ ap (λ n. item_behind n h.line) (sym words_are) ∙ h.stops in
+      ∙ ap (λ n. item_behind n h.line) (sym words_are) ∙ h.stops in
       let some = behind-written (word_count h.good) item is.may (allows item may) in
       absurd cc;
 }

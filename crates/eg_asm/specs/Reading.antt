@@ -49,7 +49,7 @@ integer_in text =
 unfoldable pub register_in : List ℕ → Option ℕ
 register_in text =
     if length text == 2 && slice_index text 0 == byte "r"
-        && is_in_range (byte "0") (byte "7") (slice_index text 1)
+    && is_in_range (byte "0") (byte "7") (slice_index text 1)
     then Some (slice_index text 1 - byte "0")
     else None
 
@@ -104,7 +104,7 @@ unfoldable pub instruction_in : List ℕ → Option Item
 instruction_in text =
     option_and_then
     (λ form. option_map (Instruction form.mnemonic)
-        (values_of form.operands (texts_in (behind_first (byte " ") text))))
+    (values_of form.operands (texts_in (behind_first (byte " ") text))))
     (form_named (before_first (is_byte (byte " ")) text))
 
 -- what a text says that is neither empty nor a comment, where this stands before a colon at its end

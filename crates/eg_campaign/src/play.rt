@@ -159,11 +159,7 @@ fn told_at(told: &[Option<RunFacts>], place: usize) -> RunFacts
 }
 
 /// Plays one run of the engine that it names, and tells of it.
-pub(crate) fn tell_one(
-    calibration: &Calibration,
-    input: &RunInput,
-    steps: &mut Ticks,
-) -> RunFacts
+pub(crate) fn tell_one(calibration: &Calibration, input: &RunInput, steps: &mut Ticks) -> RunFacts
     requires { IsPlayable input.now }
     ensures told { IsToldOf (bench_of input.now.plan.engine) (run_with calibration.now input.now).run
         result }

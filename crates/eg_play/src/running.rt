@@ -95,14 +95,7 @@ fn run_plans<S: Store, K: Sink>(
         steps.old steps.new result.outcome }
 {
     match inputs_for(alloc, plans, store) {
-        Ok(inputs) => End::of(put_told(
-            alloc,
-            telling,
-            calibration,
-            inputs.as_slice(),
-            out,
-            steps,
-        )),
+        Ok(inputs) => End::of(put_told(alloc, telling, calibration, inputs.as_slice(), out, steps)),
         Err(end) => end,
     }
 }

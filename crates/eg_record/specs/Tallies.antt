@@ -23,10 +23,10 @@ pub record TallyParts : Type 0 where
 
 -- it is what is to be kept of the spans of these rows
 pub record AreSpansOf (weights : WeightParts) (threshold : ℕ) (spans : SpanTally) (rows : List Row) : Type 0
-    where
-  pub last_on : spans.last_on ≡ last_on (this_span rows)
-  pub confirmed : spans.confirmed ≡ confirmed_in weights threshold (this_span rows)
-  pub ended : spans.ended ≡ reactions_of_spans weights threshold (drop 1 (spans_of rows))
+  where
+    pub last_on : spans.last_on ≡ last_on (this_span rows)
+    pub confirmed : spans.confirmed ≡ confirmed_in weights threshold (this_span rows)
+    pub ended : spans.ended ≡ reactions_of_spans weights threshold (drop 1 (spans_of rows))
 
 -- It stands for these rows: they are those of a run from tick 0 on, its facts are theirs, its counter stands
 -- for the true excess in the span that they end with, and what it keeps of the spans is of theirs.

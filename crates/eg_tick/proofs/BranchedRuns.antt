@@ -43,10 +43,10 @@ module _ {S E : Type 0} (b : BenchEngine S) (come_to : ComeTo S E) (r : Run) (no
   unfolding record_facts record_rows record_trap
   told_under is_told from told = record {
     is = told.is ∙ ap (λ past. record {
-          facts = facts_of r.setting.cal.rules.torque r.setting.cal.rules.threshold (rows_of past);
-          reactions = reactions_of r.setting.cal.rules.torque r.setting.cal.rules.threshold (rows_of past);
-          trap = first_trap past;
-        }) (sym alike.moments_are);
+      facts = facts_of r.setting.cal.rules.torque r.setting.cal.rules.threshold (rows_of past);
+      reactions = reactions_of r.setting.cal.rules.torque r.setting.cal.rules.threshold (rows_of past);
+      trap = first_trap past;
+    }) (sym alike.moments_are);
     proper = subst (IsProperRun (under fault r.setting)) (sym alike.entries_are)
         (proper_run-under r.setting none fault (entries_to b r (length r.drive))
         (subst (λ n. BeginsFrom n fault) (sym (length-entries b r (length r.drive))) from) told.proper);

@@ -220,10 +220,10 @@ pub told : {S E : Type 0} (b : BenchEngine S) (come_to : ComeTo S E) (r : Run) (
 unfolding record_facts record_trap
 told b come_to r c is_told at are = record {
   is = are ∙ ap₂ (λ (rows : List Row) (trap : Option (Trap × ℕ)). record {
-        facts = facts_of r.setting.cal.rules.torque r.setting.cal.rules.threshold rows;
-        reactions = reactions_of r.setting.cal.rules.torque r.setting.cal.rules.threshold rows;
-        trap = trap;
-      }) (sym (record_rows-is b r)) (at.stands.trap ∙ ap first_trap (sym (records_are_histories b r (length r.drive))));
+    facts = facts_of r.setting.cal.rules.torque r.setting.cal.rules.threshold rows;
+    reactions = reactions_of r.setting.cal.rules.torque r.setting.cal.rules.threshold rows;
+    trap = trap;
+  }) (sym (record_rows-is b r)) (at.stands.trap ∙ ap first_trap (sym (records_are_histories b r (length r.drive))));
   proper = at.stands.engine.proper;
 }
 
