@@ -38,7 +38,7 @@ abbrev OfRows : {X : Type 0} → List Record → (ℕ → RowRule X) → List Re
 OfRows headers row_of file rows = Any (λ header. IsFileOf header (row_of (length header)) file rows) headers
 
 abbrev OfRow : {X : Type 0} → List Record → (ℕ → RowRule X) → List Record → ℕ → Type 0
-OfRow headers row_of file place = Any (λ header. HasNoRowAt header (row_of (length header)) file place) headers
+OfRow headers row_of file number = Any (λ header. HasNoRowAt header (row_of (length header)) file number) headers
 
 abbrev OfLong : {X : Type 0} → List Record → (ℕ → RowRule X) → List Record → Type 0
 OfLong headers row_of file = Any (λ header. IsTooLong header (row_of (length header)) file) headers
@@ -75,9 +75,9 @@ rows-then headers row_of file rows a =
     rw h.parts (rows_of-known headers row_of a.1 h.below (any-known headers a.1 (a.0, a.2, a.3)) ∙ below-rows 20000 (row_of (length a.1)) h.below h.some h.most written.1
     ∙ ap (λ (rs : List _). Ok rs) written.0)
 
-row-then : {X : Type 0} (headers : List Record) (row_of : ℕ → RowRule X) (file : List Record) (place : ℕ) → OfRow headers row_of file place
-    → rows_of headers row_of file ≡ Err (fault.Row place)
-row-then headers row_of file place a =
+row-then : {X : Type 0} (headers : List Record) (row_of : ℕ → RowRule X) (file : List Record) (number : ℕ) → OfRow headers row_of file number
+    → rows_of headers row_of file ≡ Err (fault.Row number)
+row-then headers row_of file number a =
     let h = a.4 in
     let room : length h.good < 20000 = (let at = h.at in let w = h.within in omega arith) in
     rw (h.parts, h.at) (rows_of-known headers row_of a.1 (h.good ++ h.bad ∷ h.rest) (any-known headers a.1 (a.0, a.2, a.3))
@@ -94,7 +94,7 @@ long-then headers row_of file a =
 data Kind {X : Type 0} (headers : List Record) (row_of : ℕ → RowRule X) (file : List Record) : Type 0 where
   of_rows : (rows : List X) → OfRows headers row_of file rows → Kind headers row_of file
   of_header : OfHeader headers file → Kind headers row_of file
-  of_row : (place : ℕ) → OfRow headers row_of file place → Kind headers row_of file
+  of_row : (number : ℕ) → OfRow headers row_of file number → Kind headers row_of file
   of_empty : OfEmpty headers file → Kind headers row_of file
   of_long : OfLong headers row_of file → Kind headers row_of file
 
@@ -164,7 +164,7 @@ rows-if headers row_of file rows (of_rows others h) e =
     let P : List _ → Type 0 = λ rs. OfRows headers row_of file rs in
     subst P same h
 rows-if headers row_of file rows (of_header h) e = let v = header-then headers row_of file h in absurd cc
-rows-if headers row_of file rows (of_row place h) e = let v = row-then headers row_of file place h in absurd cc
+rows-if headers row_of file rows (of_row number h) e = let v = row-then headers row_of file number h in absurd cc
 rows-if headers row_of file rows (of_empty h) e = let v = empty-then headers row_of file h in absurd cc
 rows-if headers row_of file rows (of_long h) e = let v = long-then headers row_of file h in absurd cc
 
@@ -177,7 +177,7 @@ header-if : {X : Type 0} (headers : List Record) (row_of : ℕ → RowRule X) (f
     → rows_of headers row_of file ≡ Err fault.Header → OfHeader headers file
 header-if headers row_of file (of_rows rows h) e = let v = rows-then headers row_of file rows h in absurd cc
 header-if headers row_of file (of_header h) e = h
-header-if headers row_of file (of_row place h) e = let v = row-then headers row_of file place h in absurd cc
+header-if headers row_of file (of_row number h) e = let v = row-then headers row_of file number h in absurd cc
 header-if headers row_of file (of_empty h) e = let v = empty-then headers row_of file h in absurd cc
 header-if headers row_of file (of_long h) e = let v = long-then headers row_of file h in absurd cc
 
@@ -186,29 +186,29 @@ pub header-law : {X : Type 0} (headers : List Record) (row_of : ℕ → RowRule 
 header-law headers row_of file = (header-if headers row_of file (kind headers row_of file), header-then headers row_of file)
 
 -- the fault Row comes exactly where this is the place of the first record that writes no row
-row-if : {X : Type 0} (headers : List Record) (row_of : ℕ → RowRule X) (file : List Record) (place : ℕ) → Kind headers row_of file
-    → rows_of headers row_of file ≡ Err (fault.Row place)
-    → OfRow headers row_of file place
-row-if headers row_of file place (of_rows rows h) e = let v = rows-then headers row_of file rows h in absurd cc
-row-if headers row_of file place (of_header h) e = let v = header-then headers row_of file h in absurd cc
-row-if headers row_of file place (of_row other h) e =
+row-if : {X : Type 0} (headers : List Record) (row_of : ℕ → RowRule X) (file : List Record) (number : ℕ) → Kind headers row_of file
+    → rows_of headers row_of file ≡ Err (fault.Row number)
+    → OfRow headers row_of file number
+row-if headers row_of file number (of_rows rows h) e = let v = rows-then headers row_of file rows h in absurd cc
+row-if headers row_of file number (of_header h) e = let v = header-then headers row_of file h in absurd cc
+row-if headers row_of file number (of_row other h) e =
     let v = row-then headers row_of file other h in
-    let same : other ≡ place = cc in
+    let same : other ≡ number = cc in
     let P : ℕ → Type 0 = λ n. OfRow headers row_of file n in
     subst P same h
-row-if headers row_of file place (of_empty h) e = let v = empty-then headers row_of file h in absurd cc
-row-if headers row_of file place (of_long h) e = let v = long-then headers row_of file h in absurd cc
+row-if headers row_of file number (of_empty h) e = let v = empty-then headers row_of file h in absurd cc
+row-if headers row_of file number (of_long h) e = let v = long-then headers row_of file h in absurd cc
 
-pub row-law : {X : Type 0} (headers : List Record) (row_of : ℕ → RowRule X) (file : List Record) (place : ℕ)
-    → (rows_of headers row_of file ≡ Err (fault.Row place)) ↔ OfRow headers row_of file place
-row-law headers row_of file place = (row-if headers row_of file place (kind headers row_of file), row-then headers row_of file place)
+pub row-law : {X : Type 0} (headers : List Record) (row_of : ℕ → RowRule X) (file : List Record) (number : ℕ)
+    → (rows_of headers row_of file ≡ Err (fault.Row number)) ↔ OfRow headers row_of file number
+row-law headers row_of file number = (row-if headers row_of file number (kind headers row_of file), row-then headers row_of file number)
 
 -- the fault Empty comes exactly of a header alone
 empty-if : {X : Type 0} (headers : List Record) (row_of : ℕ → RowRule X) (file : List Record) → Kind headers row_of file
     → rows_of headers row_of file ≡ Err fault.Empty → OfEmpty headers file
 empty-if headers row_of file (of_rows rows h) e = let v = rows-then headers row_of file rows h in absurd cc
 empty-if headers row_of file (of_header h) e = let v = header-then headers row_of file h in absurd cc
-empty-if headers row_of file (of_row place h) e = let v = row-then headers row_of file place h in absurd cc
+empty-if headers row_of file (of_row number h) e = let v = row-then headers row_of file number h in absurd cc
 empty-if headers row_of file (of_empty h) e = h
 empty-if headers row_of file (of_long h) e = let v = long-then headers row_of file h in absurd cc
 
@@ -221,7 +221,7 @@ long-if : {X : Type 0} (headers : List Record) (row_of : ℕ → RowRule X) (fil
     → rows_of headers row_of file ≡ Err fault.Long → OfLong headers row_of file
 long-if headers row_of file (of_rows rows h) e = let v = rows-then headers row_of file rows h in absurd cc
 long-if headers row_of file (of_header h) e = let v = header-then headers row_of file h in absurd cc
-long-if headers row_of file (of_row place h) e = let v = row-then headers row_of file place h in absurd cc
+long-if headers row_of file (of_row number h) e = let v = row-then headers row_of file number h in absurd cc
 long-if headers row_of file (of_empty h) e = let v = empty-then headers row_of file h in absurd cc
 long-if headers row_of file (of_long h) e = h
 
@@ -234,7 +234,7 @@ no_memory-if : {X : Type 0} (headers : List Record) (row_of : ℕ → RowRule X)
     → rows_of headers row_of file ≢ Err fault.Memory
 no_memory-if headers row_of file (of_rows rows h) e = let v = rows-then headers row_of file rows h in absurd cc
 no_memory-if headers row_of file (of_header h) e = let v = header-then headers row_of file h in absurd cc
-no_memory-if headers row_of file (of_row place h) e = let v = row-then headers row_of file place h in absurd cc
+no_memory-if headers row_of file (of_row number h) e = let v = row-then headers row_of file number h in absurd cc
 no_memory-if headers row_of file (of_empty h) e = let v = empty-then headers row_of file h in absurd cc
 no_memory-if headers row_of file (of_long h) e = let v = long-then headers row_of file h in absurd cc
 

@@ -79,8 +79,8 @@ words-then file words h =
     let cut : lines_of file ≡ h.lines = ap lines_of h.parts ∙ lines_of-good h.lines (all-write h.lines written.1) in
     rw cut (words-all 1024 h.lines h.most written.1 ∙ ap (λ (ws : List ℕ). Ok ws) written.0)
 
-line-then : (file : List ℕ) (place : ℕ) → HasBadLineAt file place → image_words file ≡ Err (fault.Line place)
-line-then file place h =
+line-then : (file : List ℕ) (number : ℕ) → HasBadLineAt file number → image_words file ≡ Err (fault.Line number)
+line-then file number h =
     let first = first_of_some h.rest h.more in
     let cut : lines_of file ≡ h.good ++ first.line ∷ first.others =
     ap lines_of h.parts ∙ lines_of-words h.good h.rest h.before ∙ ap (λ (lines : List Line). h.good ++ lines) first.are in
@@ -102,7 +102,7 @@ long-then file h =
 -- the three kinds of file
 data ImageKind (file : List ℕ) : Type 0 where
   of_words : (words : List ℕ) → IsImageOf file words → ImageKind file
-  of_line : (place : ℕ) → HasBadLineAt file place → ImageKind file
+  of_line : (number : ℕ) → HasBadLineAt file number → ImageKind file
   of_long : HasTooManyLines file → ImageKind file
 
 -- where more lines stand behind good ones, something comes after those
@@ -192,29 +192,29 @@ words-if file words (of_words others h) e =
     let same : others ≡ words = cc in
     let P : List ℕ → Type 0 = IsImageOf file in
     subst P same h
-words-if file words (of_line place h) e = let v = line-then file place h in absurd cc
+words-if file words (of_line number h) e = let v = line-then file number h in absurd cc
 words-if file words (of_long h) e = let v = long-then file h in absurd cc
 
 pub words-law : (file words : List ℕ) → (image_words file ≡ Ok words) ↔ IsImageOf file words
 words-law file words = (words-if file words (kind file), words-then file words)
 
 -- the fault Line comes exactly where this is the place of the first line that writes no word
-line-if : (file : List ℕ) (place : ℕ) → ImageKind file → image_words file ≡ Err (fault.Line place) → HasBadLineAt file place
-line-if file place (of_words words h) e = let v = words-then file words h in absurd cc
-line-if file place (of_line other h) e =
+line-if : (file : List ℕ) (number : ℕ) → ImageKind file → image_words file ≡ Err (fault.Line number) → HasBadLineAt file number
+line-if file number (of_words words h) e = let v = words-then file words h in absurd cc
+line-if file number (of_line other h) e =
     let v = line-then file other h in
-    let same : other ≡ place = cc in
+    let same : other ≡ number = cc in
     let P : ℕ → Type 0 = HasBadLineAt file in
     subst P same h
-line-if file place (of_long h) e = let v = long-then file h in absurd cc
+line-if file number (of_long h) e = let v = long-then file h in absurd cc
 
-pub line-law : (file : List ℕ) (place : ℕ) → (image_words file ≡ Err (fault.Line place)) ↔ HasBadLineAt file place
-line-law file place = (line-if file place (kind file), line-then file place)
+pub line-law : (file : List ℕ) (number : ℕ) → (image_words file ≡ Err (fault.Line number)) ↔ HasBadLineAt file number
+line-law file number = (line-if file number (kind file), line-then file number)
 
 -- the fault Long comes exactly of a file that goes on after 1,024 good lines
 long-if : (file : List ℕ) → ImageKind file → image_words file ≡ Err fault.Long → HasTooManyLines file
 long-if file (of_words words h) e = let v = words-then file words h in absurd cc
-long-if file (of_line place h) e = let v = line-then file place h in absurd cc
+long-if file (of_line number h) e = let v = line-then file number h in absurd cc
 long-if file (of_long h) e = h
 
 pub long-law : (file : List ℕ) → (image_words file ≡ Err fault.Long) ↔ HasTooManyLines file
@@ -223,7 +223,7 @@ long-law file = (long-if file (kind file), long-then file)
 -- no file gives the fault Memory
 no_memory-if : (file : List ℕ) → ImageKind file → image_words file ≢ Err fault.Memory
 no_memory-if file (of_words words h) e = let v = words-then file words h in absurd cc
-no_memory-if file (of_line place h) e = let v = line-then file place h in absurd cc
+no_memory-if file (of_line number h) e = let v = line-then file number h in absurd cc
 no_memory-if file (of_long h) e = let v = long-then file h in absurd cc
 
 pub memory-law : (file : List ℕ) → image_words file ≢ Err fault.Memory

@@ -22,8 +22,8 @@ position_from-first : {X : Type 0} (passes : X → Bool) (i : ℕ) (good : List 
 position_from-first passes i [] bad rest h here = rw here (ap Some (omega arith))
 position_from-first passes i (x ∷ xs) bad rest h here =
     let more = position_from-first passes (i + 1) xs bad rest (All-tail (λ x. passes x ≡ false) x xs h) here in
-    let place : length xs + (i + 1) ≡ suc (length xs) + i = omega arith in
-    rw (All-head (λ x. passes x ≡ false) x xs h) (more ∙ ap Some place)
+    let number : length xs + (i + 1) ≡ suc (length xs) + i = omega arith in
+    rw (All-head (λ x. passes x ≡ false) x xs h) (more ∙ ap Some number)
 
 -- the first item that passes, and what stands round it
 pub record FirstIn {X : Type 0} (passes : X → Bool) (xs : List X) : Type 0 where

@@ -28,7 +28,7 @@ unfoldable pub number_of : ℕ → List ℕ → Option ℕ
 number_of most field =
     if is_numeral field && nat_le (decimal_value field) most then Some (decimal_value field) else None
 
--- the number in the field at a place, the first being 0
+-- the number in the field of an index, the first being 0
 unfoldable pub number_at : Record → ℕ → ℕ → Option ℕ
 number_at fields i most = option_and_then (number_of most) (field_at fields i)
 
@@ -39,6 +39,6 @@ truth_of field =
     else if bytes_eq field (codes "1") then Some true
     else None
 
--- the truth value in the field at a place, the first being 0; false where the record has no such field
+-- the truth value in the field of an index, the first being 0; false where the record has no such field
 unfoldable pub truth_at : Record → ℕ → Option Bool
 truth_at fields i = option_map_or truth_of (field_at fields i) (Some false)

@@ -37,13 +37,13 @@ word_of_digits digits = option_map (from_be_bytes w16) (result_ok (decode_sized 
 unfoldable pub word_of : Line → Option ℕ
 word_of line = option_and_then word_of_digits (before_line_feed line)
 
--- what the lines give, where this is the place of the first of them that writes no word
+-- what the lines give, where this is the number of the first of them that writes no word
 unfoldable pub words_unless : ℕ → List Line → Option ℕ → Result (List ℕ) ImageFault
-words_unless most lines (Some place) = Err (fault.Line place)
+words_unless most lines (Some number) = Err (fault.Line number)
 words_unless most lines None =
     if nat_lt most (length lines) then Err fault.Long else Ok (filter_map word_of lines)
 
--- what the lines give, of which there may be so many: the first of them has the place 1
+-- what the lines give, of which there may be so many: the first of them has the number 1
 unfoldable pub words_of : ℕ → List Line → Result (List ℕ) ImageFault
 words_of most lines =
     words_unless most lines (position_from (λ line. is_none (word_of line)) 1 (take most lines))
@@ -71,7 +71,7 @@ pub record WritesWord (line : Line) (word : ℕ) : Type 0 where
 abbrev pub WritesSome : Line → Type 0
 WritesSome line = (word : ℕ) × WritesWord line word
 
--- the file is 0 to 1,024 lines, each of which writes the word of its place, and nothing else
+-- the file is 0 to 1,024 lines, each of which writes its word, and nothing else
 pub record IsImageOf (file words : List ℕ) : Type 0 where
   pub lines : List Line
   pub parts : file ≡ concat lines
@@ -79,16 +79,16 @@ pub record IsImageOf (file words : List ℕ) : Type 0 where
   pub written : AllZip WritesWord lines words
 
 -- The file begins with lines that each write a word, and goes on with something that begins with no such
--- line. This place, the first line's being 1, is the one of what comes there, and at most 1,024.
-pub record HasBadLineAt (file : List ℕ) (place : ℕ) : Type 0 where
+-- line. This number, the first line's being 1, is the one of what comes there, and at most 1,024.
+pub record HasBadLineAt (file : List ℕ) (number : ℕ) : Type 0 where
   pub good : List Line
   pub rest : List ℕ
   pub parts : file ≡ concat good ++ rest
   pub before : All WritesSome good
   pub more : rest ≢ []
   pub bad : (line : Line) (after : List ℕ) → rest ≡ line ++ after → WritesSome line → ⊥
-  pub at : place ≡ length good + 1
-  pub within : place ≤ MOST_WORDS
+  pub at : number ≡ length good + 1
+  pub within : number ≤ MOST_WORDS
 
 -- the file begins with 1,024 lines that each write a word, and goes on, with whatever it may be
 pub record HasTooManyLines (file : List ℕ) : Type 0 where

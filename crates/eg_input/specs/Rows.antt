@@ -10,16 +10,16 @@ use Rattle.eg_input.specs.Records.{Record, RowRule, is_same_record}
 use Rattle.eg_input.specs.declared.fault.TraceFault.{TraceFault}
 use Rattle.eg_input.specs.declared.fault.TraceFault.TheVariants as fault
 
--- what the records below the header give, where this is the place of the first of them that writes no row
+-- what the records below the header give, where this is the number of the first of them that writes no row
 unfoldable pub rows_unless :
     {X : Type 0} → ℕ → RowRule X → List Record → Option ℕ → Result (List X) TraceFault
-rows_unless most row_of below (Some place) = Err (fault.Row place)
+rows_unless most row_of below (Some number) = Err (fault.Row number)
 rows_unless most row_of below None =
     if nat_lt most (length below) then Err fault.Long
     else if nat_lt 0 (length below) then Ok (filter_map row_of below)
     else Err fault.Empty
 
--- what the records below the header give, of which there may be so many: the first of them has the place 2
+-- what the records below the header give, of which there may be so many: the first of them has the number 2
 unfoldable pub rows_below : {X : Type 0} → ℕ → RowRule X → List Record → Result (List X) TraceFault
 rows_below most row_of below =
     rows_unless most row_of below (position_from (λ r. is_none (row_of r)) 2 (take most below))
@@ -41,7 +41,7 @@ abbrev pub IsRead : {X : Type 0} → Result (List X) TraceFault → Result (Vec 
 IsRead expected (Ok rows) = expected ≡ Ok rows.items
 IsRead expected (Err e) = (e ≡ fault.Memory) ⊎ (expected ≡ Err e)
 
--- the file is the header and 1 to 20,000 more records, each of which writes the row of its place
+-- the file is the header and 1 to 20,000 more records, each of which writes its row
 pub record IsFileOf {X : Type 0} (header : Record) (row_of : RowRule X) (file : List Record)
     (rows : List X) : Type 0 where
   pub below : List Record
@@ -50,17 +50,17 @@ pub record IsFileOf {X : Type 0} (header : Record) (row_of : RowRule X) (file : 
   pub most : length below ≤ 20000
   pub written : AllZip (λ r row. row_of r ≡ Some row) below rows
 
--- the record at this place, the header's being 1, is the first below the header that writes no row
+-- the record of this number, the header's being 1, is the first below the header that writes no row
 pub record HasNoRowAt {X : Type 0} (header : Record) (row_of : RowRule X) (file : List Record)
-    (place : ℕ) : Type 0 where
+    (number : ℕ) : Type 0 where
   pub good : List Record
   pub bad : Record
   pub rest : List Record
   pub parts : file ≡ header ∷ good ++ bad ∷ rest
   pub before : All (λ r. IsSome (row_of r)) good
   pub here : row_of bad ≡ None
-  pub at : place ≡ length good + 2
-  pub within : place ≤ 20001
+  pub at : number ≡ length good + 2
+  pub within : number ≤ 20001
 
 -- more than 20,000 records stand below the header, and each of the first 20,000 writes a row
 pub record IsTooLong {X : Type 0} (header : Record) (row_of : RowRule X) (file : List Record) : Type 0 where

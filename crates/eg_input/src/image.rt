@@ -48,8 +48,8 @@ fn word_of(line: &[u8]) -> Option<u16>
 /// words.
 pub fn images_are_their_lines()
     ensures words { (file : List ℕ) (words : List ℕ) → (image_words file ≡ Ok words) ↔ IsImageOf file words }
-    ensures line { (file : List ℕ) (place : ℕ) →
-        (image_words file ≡ Err (fault.Line place)) ↔ HasBadLineAt file place }
+    ensures line { (file : List ℕ) (number : ℕ) →
+        (image_words file ≡ Err (fault.Line number)) ↔ HasBadLineAt file number }
     ensures long { (file : List ℕ) → (image_words file ≡ Err fault.Long) ↔ HasTooManyLines file }
     ensures memory { (file : List ℕ) → image_words file ≢ Err fault.Memory }
     ensures most { MOST_WORDS ≡ 1024 }

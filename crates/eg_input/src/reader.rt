@@ -30,20 +30,25 @@ pub(crate) fn read_rows<R: FileRow>(alloc: Global, bytes: &[u8]) -> Result<Vec<R
 fn read_records<R: FileRow>(alloc: Global, bytes: &[u8]) -> Result<Vec<R>, TraceFault>
     ensures { IsRead (rows_of R.headers R.row_of (records_of bytes.now)) result }
 {
-    let mut reader = reader_of(alloc, bytes);
+    let mut reader = reader_of(alloc, bytes)?;
     let mut entry = ByteRecord::new(alloc);
     read_file(alloc, &mut reader, &mut entry)
 }
 
-/// A reader that has read nothing of a text yet.
+/// A reader that has read nothing of a text yet. It is given an empty header row: one that has none keeps two
+/// copies of the first record in its place.
 #[tactic(auto, unfolding(crate::specs::Records::records_of))]
-fn reader_of(alloc: Global, bytes: &[u8]) -> Reader<&[u8]>
-    ensures { HasUnread result (records_of bytes.now) }
+fn reader_of(alloc: Global, bytes: &[u8]) -> Result<Reader<&[u8]>, TraceFault>
+    ensures reader { IfOk result (λ reader. HasUnread reader (records_of bytes.now)) }
+    ensures memory { IfErr result (λ e. e ≡ fault.Memory) }
 {
-    ReaderBuilder::new()
-        .has_headers(false)
+    let mut reader = ReaderBuilder::new()
         .flexible(true)
-        .from_reader(alloc, bytes)
+        .from_reader(alloc, bytes);
+    match reader.set_byte_headers(ByteRecord::new(alloc)) {
+        Ok(()) => Ok(reader),
+        Err(_) => Err(TraceFault::Memory),
+    }
 }
 
 /// Reads the next record into `entry`, or answers false where there is none.

@@ -41,8 +41,8 @@ pub fn check_files_are_their_rows()
         (check_rows file ≡ Ok rows) ↔ IsFileOf check_header check_row_of file rows }
     ensures header { (file : List Record) →
         (check_rows file ≡ Err fault.Header) ↔ (slice_get file 0 ≢ Some check_header) }
-    ensures row { (file : List Record) (place : ℕ) →
-        (check_rows file ≡ Err (fault.Row place)) ↔ HasNoRowAt check_header check_row_of file place }
+    ensures row { (file : List Record) (number : ℕ) →
+        (check_rows file ≡ Err (fault.Row number)) ↔ HasNoRowAt check_header check_row_of file number }
     ensures empty { (file : List Record) → (check_rows file ≡ Err fault.Empty) ↔ (file ≡ check_header ∷ []) }
     ensures long { (file : List Record) →
         (check_rows file ≡ Err fault.Long) ↔ IsTooLong check_header check_row_of file }
@@ -57,8 +57,8 @@ pub fn traces_are_their_rows()
         Any (λ header. IsFileOf header (drive_of (length header)) file rows) trace_headers }
     ensures header { (file : List Record) → (drive_rows file ≡ Err fault.Header) ↔
         All (λ header. slice_get file 0 ≢ Some header) trace_headers }
-    ensures row { (file : List Record) (place : ℕ) → (drive_rows file ≡ Err (fault.Row place)) ↔
-        Any (λ header. HasNoRowAt header (drive_of (length header)) file place) trace_headers }
+    ensures row { (file : List Record) (number : ℕ) → (drive_rows file ≡ Err (fault.Row number)) ↔
+        Any (λ header. HasNoRowAt header (drive_of (length header)) file number) trace_headers }
     ensures empty { (file : List Record) → (drive_rows file ≡ Err fault.Empty) ↔
         Any (λ header. file ≡ header ∷ []) trace_headers }
     ensures long { (file : List Record) → (drive_rows file ≡ Err fault.Long) ↔

@@ -14,8 +14,8 @@ returns-clause-header c = λ file.
     only-all (λ header. slice_get file 0 ≢ Some header) check_header (header-law (check_header ∷ []) (λ _. check_row_of) file)
 
 pub returns-clause-row : goal.returns-clause-row
-returns-clause-row c = λ file place.
-    only-any (λ header. HasNoRowAt header check_row_of file place) check_header (row-law (check_header ∷ []) (λ _. check_row_of) file place)
+returns-clause-row c = λ file number.
+    only-any (λ header. HasNoRowAt header check_row_of file number) check_header (row-law (check_header ∷ []) (λ _. check_row_of) file number)
 
 pub returns-clause-empty : goal.returns-clause-empty
 returns-clause-empty c = λ file. only-any (λ header. file ≡ header ∷ []) check_header (empty-law (check_header ∷ []) (λ _. check_row_of) file)
