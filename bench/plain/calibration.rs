@@ -168,7 +168,7 @@ impl Times {
         self.weights.to_confirm()
     }
 
-    /// The reaction time.
+    /// The worst-case reaction.
     pub fn reaction(&self) -> u32 {
         (self.wrong_verdicts() + 1) * self.period - self.send - 1
     }

@@ -109,7 +109,7 @@ fn check(cal: &Calibration, file: &str, out: &mut Output) -> Result<(), End> {
     Ok(())
 }
 
-/// The reaction time, and the bound for lapses.
+/// The worst-case reaction, and the bound for lapses.
 fn bound(cal: &Calibration, out: &mut Output) -> Result<(), End> {
     put(format!("reaction {}\n", cal.times.reaction()).as_bytes(), out)?;
     put(format!("lapse {}\n", or_none(cal.times.lapse_bound(&cal.torque))).as_bytes(), out)?;

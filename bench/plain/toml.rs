@@ -192,8 +192,150 @@ impl Reader<'_> {
     }
 }
 
+/// Where a byte stands: outside of comments and texts, in a comment, or in a text, which has a delimiter and one line
+/// or several. A text of several lines knows how many of its delimiters came last.
+#[derive(Clone, Copy, PartialEq)]
+enum Place {
+    Outside,
+    Comment,
+    Text(u8),
+    Lines(u8, u8),
+}
+
+/// What may come next outside: what is no value; the second bracket of a heading; the value of a name; a value of a list.
+#[derive(Clone, Copy, PartialEq)]
+enum Due {
+    Nothing,
+    Heading,
+    Value,
+    Item,
+}
+
+/// The greatest weight with which a document is read.
+const MOST_WEIGHT: u64 = 54_400_000;
+
+/// How many values a list has, and how many names a table.
+#[derive(Clone, Copy, Default)]
+struct Counts {
+    values: u64,
+    names: u64,
+}
+
+/// What a document weighs, as far as it is known.
+struct Scale {
+    due: Due,
+    /// What the lists and inline tables have that are open, from the outside in; the first stands for none.
+    open: Vec<Counts>,
+    weight: u64,
+}
+
+impl Scale {
+    /// One byte more that stands outside. False where so many lists and inline tables are open that no more may be.
+    fn put(&mut self, byte: u8) -> bool {
+        if matches!(byte, b' ' | b'\t' | b'\r' | b'\n' | b'#') {
+            return true;
+        }
+        let due = std::mem::replace(&mut self.due, Due::Nothing);
+        if due == Due::Item && byte != b']' && byte != b'}' {
+            self.item();
+        }
+        match byte {
+            b'[' if due == Due::Nothing => {
+                self.weight += 1440;
+                self.counts().names = 0;
+                self.due = Due::Heading;
+            }
+            b'[' if due == Due::Heading => {}
+            b'[' | b'{' => {
+                self.open.push(Counts::default());
+                if byte == b'[' {
+                    self.due = Due::Item;
+                } else {
+                    self.weight += 1296;
+                }
+            }
+            b']' | b'}' => {
+                self.open.pop();
+                if self.open.is_empty() {
+                    self.open.push(Counts::default());
+                }
+            }
+            b',' => self.due = Due::Item,
+            b'=' => {
+                self.weight += if self.counts().names < 15 { 32 } else { 27_000 };
+                self.counts().names += 1;
+                self.due = Due::Value;
+            }
+            b'.' => self.weight += 1296,
+            b'"' | b'\'' if matches!(due, Due::Value | Due::Item) => self.weight += 32,
+            _ => {}
+        }
+        self.open.len() <= MOST_DEPTH + 1
+    }
+
+    /// What the innermost of these has.
+    fn counts(&mut self) -> &mut Counts {
+        self.open.last_mut().expect("one stands for none")
+    }
+
+    /// A value of the innermost list. Its room is for four at first, and for twice as many whenever it is full.
+    fn item(&mut self) {
+        self.weight += match self.counts().values {
+            0 => 176,
+            full if full >= 4 && full.is_power_of_two() => 40 * full,
+            _ => 0,
+        };
+        self.counts().values += 1;
+    }
+}
+
+/// Whether a document weighs too much to be read.
+fn is_too_heavy(text: &str) -> bool {
+    let bytes = text.as_bytes();
+    let mut scale = Scale { due: Due::Nothing, open: vec![Counts::default()], weight: 0 };
+    let mut place = Place::Outside;
+    let mut at = 0;
+    while at < bytes.len() {
+        let byte = bytes[at];
+        place = match place {
+            Place::Outside => {
+                if !scale.put(byte) || scale.weight > MOST_WEIGHT {
+                    return true;
+                }
+                match byte {
+                    b'#' => Place::Comment,
+                    b'"' | b'\'' if bytes[at..].starts_with(&[byte; 3]) => {
+                        at += 2;
+                        Place::Lines(byte, 0)
+                    }
+                    b'"' | b'\'' => Place::Text(byte),
+                    _ => Place::Outside,
+                }
+            }
+            Place::Comment if byte == b'\n' => Place::Outside,
+            Place::Comment => Place::Comment,
+            Place::Text(mark) if byte == mark => Place::Outside,
+            Place::Lines(mark, run) if byte == mark => {
+                let ends = run == 2 && bytes.get(at + 1) != Some(&mark);
+                if ends { Place::Outside } else { Place::Lines(mark, (run + 1).min(2)) }
+            }
+            Place::Text(b'"') | Place::Lines(b'"', _) if byte == b'\\' => {
+                at += 1;
+                if place == Place::Text(b'"') { place } else { Place::Lines(b'"', 0) }
+            }
+            Place::Text(mark) => Place::Text(mark),
+            Place::Lines(mark, _) => Place::Lines(mark, 0),
+        };
+        at += 1;
+    }
+    false
+}
+
 /// The table of a document, or None where it is refused.
 pub fn document(text: &str) -> Option<Table> {
+    if is_too_heavy(text) {
+        return None;
+    }
     let mut reader = Reader { rest: text.strip_prefix('\u{feff}').unwrap_or(text) };
     let mut table = Growing::new(Origin::Heading);
     let mut heading = Vec::new();

@@ -3,3 +3,6 @@ pub mod DocumentLemmas
 pub mod RangeLemmas
 pub mod RisingLemmas
 pub mod RefusalLemmas
+pub mod WeightLemmas
+mod Worked
+pub mod WeightLawLemmas

@@ -1,3 +1,6 @@
+pub mod Places
+pub mod Weight
+pub mod WeightLaws
 pub mod Documents
 pub mod Values
 pub mod Arrays

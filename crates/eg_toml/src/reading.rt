@@ -4,15 +4,16 @@ ghost use Rattle.toml.specs.View.{table_view};
 ghost use Rattle.eg_toml.specs.Documents.{document_of};
 ghost use Rattle.eg_toml.specs.declared.reading.DocumentFault.TheVariants as fault;
 
+use crate::weight::is_too_heavy;
 use std::alloc::Global;
 use toml::Table;
 
 /// Why bytes give no document.
-#[derive(Clone, Copy, Debug, PartialEq, Eq)]
+#[derive(Clone, Copy)]
 pub enum DocumentFault {
     /// There was no memory for the document.
     Memory,
-    /// They are no TOML document: they aren't UTF-8, or break a rule of TOML.
+    /// They are no TOML document: they weigh too much to be read, aren't UTF-8, or break a rule of TOML.
     Text,
 }
 
@@ -22,6 +23,9 @@ pub fn read_document(alloc: Global, bytes: &[u8]) -> Result<Table, DocumentFault
     ensures read { IfOk result (λ t. document_of bytes.now ≡ Some (table_view t)) }
     ensures refused { result ≡ Err fault.Text → document_of bytes.now ≡ None }
 {
+    if is_too_heavy(bytes) {
+        return Err(DocumentFault::Text);
+    }
     match toml::table_from_slice(alloc, bytes) {
         Ok(table) => Ok(table),
         Err(error) if error.is_memory() => Err(DocumentFault::Memory),

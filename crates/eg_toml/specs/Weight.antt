@@ -1,0 +1,182 @@
+-- What a document weighs: about how many bytes the tree takes that `toml` makes of it, told before it is
+-- read. What stands in comments and in texts weighs nothing.
+use Rattle.std.specs.Prelude.{ℕ, ◌+◌, ◌-◌, ◌*◌, Bool, true, false, not, ◌&&◌, ◌||◌, ◌==◌, nat_le, nat_lt, if◌then◌else◌, List, [], ◌∷◌, ◌++◌, length, take, slice_index_or, fold, bit_and}
+use Rattle.std.specs.Str.{byte}
+use Rattle.eg_toml.specs.declared.places.Place.{Place}
+use Rattle.eg_toml.specs.declared.places.Place.TheVariants.{Outside}
+use Rattle.eg_toml.specs.declared.weight.Counts.{Counts}
+use Rattle.eg_toml.specs.declared.weight.Due.{Due}
+use Rattle.eg_toml.specs.declared.weight.Due.TheVariants.{Nothing, Heading, Value, Item}
+use Rattle.eg_toml.specs.Places.{is_delimiter, settled, is_outside, behind}
+
+-- what is known behind some bytes of a document
+pub record Weighed : Type 0 where
+  -- where the next byte stands
+  pub place : Place
+  -- what may come there
+  pub due : Due
+  -- what stands in the list or the inline table that was opened last and is open still, or behind a heading
+  pub counts : Counts
+  -- what stands in each that is open around it, from the outside in
+  pub around : List Counts
+  -- what these bytes weigh
+  pub weight : ℕ
+
+-- ---- What weighs ----
+
+-- a heading
+abbrev pub heading_weight : ℕ
+heading_weight = 1440
+
+-- a table: a `{`, or a name with a `.` behind it
+abbrev pub table_weight : ℕ
+table_weight = 1296
+
+-- a text that is a value
+abbrev pub text_weight : ℕ
+text_weight = 32
+
+-- A name behind so many others of its table. The room of a table is for fifteen at first; each one more may
+-- double it, and is looked up behind the whole heading once more. No good file has one, and it weighs much.
+abbrev pub name_weight : ℕ → ℕ
+name_weight names = if nat_lt names 15 then 32 else 27_000
+
+-- A list of so many values is full. Its room is for 4 at first, and for twice as many whenever one more
+-- comes; a power of two shares no bit with the number before it.
+abbrev pub is_full : ℕ → Bool
+is_full values = nat_le 4 values && bit_and values (values - 1) == 0
+
+-- a value behind so many others of its list: 40 for each place of the room that it takes, and 16 for the list
+abbrev pub value_weight : ℕ → ℕ
+value_weight values = if values == 0 then 176 else if is_full values then 40 * values else 0
+
+-- the greatest weight with which a document is read
+abbrev pub heaviest : ℕ
+heaviest = 54_400_000
+
+-- how many lists and inline tables `toml` reads in one another
+abbrev pub deepest : ℕ
+deepest = 80
+
+-- ---- A byte outside of comments and texts ----
+
+-- white space, a line end, or the begin of a comment
+abbrev pub is_between : ℕ → Bool
+is_between c = c == byte " " || c == byte "\t" || c == byte "\n" || c == byte "\r" || c == byte "#"
+
+abbrev pub is_closing : ℕ → Bool
+is_closing c = c == byte "]" || c == byte "}"
+
+-- it begins a value of a list, or a name behind a comma of an inline table
+abbrev pub begins_item : Due → ℕ → Bool
+begins_item Item c = not (is_between c || is_closing c)
+begins_item _ c = false
+
+-- it begins a heading
+abbrev pub begins_heading : Due → ℕ → Bool
+begins_heading Nothing c = c == byte "["
+begins_heading _ c = false
+
+-- a value may stand here
+abbrev pub takes_value : Due → Bool
+takes_value Nothing = false
+takes_value Heading = false
+takes_value _ = true
+
+-- it opens a list or an inline table
+abbrev pub is_opening : Due → ℕ → Bool
+is_opening due c = c == byte "{" || (c == byte "[" && takes_value due)
+
+-- what is due behind a `[`: where nothing was due, it begins a heading, which may have a second one
+abbrev pub due_behind_bracket : Due → Due
+due_behind_bracket Nothing = Heading
+due_behind_bracket Heading = Nothing
+due_behind_bracket _ = Item
+
+-- what is due behind a byte
+abbrev pub due_behind : Due → ℕ → Due
+due_behind due c =
+    if is_between c then due
+    else if c == byte "," then Item
+    else if c == byte "=" then Value
+    else if c == byte "[" then due_behind_bracket due
+    else Nothing
+
+-- what it weighs as a sign, behind so many names
+abbrev pub sign_weight : Due → ℕ → ℕ → ℕ
+sign_weight due names c =
+    if begins_heading due c then heading_weight
+    else if c == byte "." || c == byte "{" then table_weight
+    else if c == byte "=" then name_weight names
+    else if is_delimiter c && takes_value due then text_weight
+    else 0
+
+-- how many names stand behind it
+abbrev pub names_behind : Due → ℕ → ℕ → ℕ
+names_behind due names c =
+    if begins_heading due c then 0 else if c == byte "=" then names + 1 else names
+
+-- what begins behind a `[` or a comma is weighed and counted
+abbrev pub with_item : Weighed → ℕ → Weighed
+with_item w c =
+    if begins_item w.due c
+    then record w {
+      counts = record w.counts { values = w.counts.values + 1 };
+      weight = w.weight + value_weight w.counts.values;
+    }
+    else w
+
+-- it is weighed as a sign, and names are counted
+abbrev pub with_sign : Weighed → ℕ → Weighed
+with_sign w c =
+    record w {
+      counts = record w.counts { names = names_behind w.due w.counts.names c };
+      weight = w.weight + sign_weight w.due w.counts.names c;
+    }
+
+-- nothing stands there yet
+abbrev pub no_counts : Counts
+no_counts = record { values = 0; names = 0 }
+
+-- A list or an inline table is opened. As many may be open as `toml` reads; one more weighs too much.
+abbrev pub opened : Weighed → Weighed
+opened w =
+    if nat_lt (length w.around) deepest
+    then record w { counts = no_counts; around = w.around ++ w.counts ∷ [] }
+    else record w { counts = no_counts; weight = w.weight + (heaviest + 1) }
+
+-- it is closed, and the last one around it goes on
+abbrev pub closed : Weighed → Weighed
+closed w =
+    let outer = length w.around - 1 in
+    record w { counts = slice_index_or w.around outer no_counts; around = take outer w.around }
+
+abbrev pub with_lists : Weighed → ℕ → Weighed
+with_lists w c = if is_opening w.due c then opened w else if is_closing c then closed w else w
+
+abbrev pub with_due : Weighed → ℕ → Weighed
+with_due w c = record w { due = due_behind w.due c }
+
+-- ---- A document ----
+
+abbrev pub weighed_outside : Weighed → ℕ → Weighed
+weighed_outside w c = with_due (with_lists (with_sign (with_item w c) c) c) c
+
+abbrev pub with_place : Weighed → Place → Weighed
+with_place w place = record w { place = place }
+
+-- what is known behind one byte more
+abbrev pub weighed_on : Weighed → ℕ → Weighed
+weighed_on w c =
+    let place = settled w.place c in
+    with_place (if is_outside place then weighed_outside w c else w) (behind place c)
+
+-- what is known before the first byte
+abbrev pub unweighed : Weighed
+unweighed = record { place = Outside; due = Nothing; counts = no_counts; around = []; weight = 0 }
+
+abbrev pub weight_of : List ℕ → ℕ
+weight_of bytes = (fold weighed_on unweighed bytes).weight
+
+abbrev pub is_too_heavy : List ℕ → Bool
+is_too_heavy bytes = nat_lt heaviest (weight_of bytes)

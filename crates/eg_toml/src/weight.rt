@@ -1,0 +1,296 @@
+// What a document weighs.
+ghost use Rattle.std.specs.Prelude.{◌≡◌, ◌+◌, ◌<◌, ◌≤◌, ◌^◌};
+ghost use Rattle.eg_toml.specs.Weight as spec;
+
+use crate::places::Place;
+use arrayvec::ArrayVec;
+use std::marker::Model;
+
+/// What is due where the next byte of a document stands (docs/FORMATS.md, "What a document weighs").
+#[derive(Clone, Copy, PartialEq, Eq)]
+pub enum Due {
+    /// A name, a heading, or the rest of what has begun.
+    Nothing,
+    /// Behind the first bracket of a heading: a second one, or a name.
+    Heading,
+    /// The value of a name.
+    Value,
+    /// A value of a list, or a name behind a comma.
+    Item,
+}
+
+/// What stands in a list or an inline table, or behind a heading (docs/FORMATS.md, "What a document weighs").
+#[derive(Clone, Copy, Default)]
+pub struct Counts {
+    /// How many values of the list.
+    pub values: u64,
+    /// How many names of the table.
+    pub names: u64,
+}
+
+/// Nothing stands there yet.
+const NO_COUNTS: Counts = Counts {
+    values: 0,
+    names: 0,
+};
+
+/// The greatest weight with which a document is read.
+const HEAVIEST: u128 = 54_400_000;
+
+/// How many lists and inline tables may stand in one another.
+const MOST_OPEN: usize = 80;
+
+/// What a heading weighs, a table, and a text that is a value.
+const HEADING: u128 = 1440;
+
+const TABLE: u128 = 1296;
+
+const TEXT: u128 = 32;
+
+/// For how many names a table has room at first, what one of these weighs, and what one behind them.
+const FIRST_NAMES: u64 = 15;
+
+const NAME: u128 = 32;
+
+const NAME_MORE: u128 = 27_000;
+
+/// What is known behind some bytes of a document. Contracts see a `Weighed`.
+#[derive(Drop)]
+struct Scale {
+    place: Place,
+    due: Due,
+    counts: Counts,
+    around: ArrayVec<Counts, MOST_OPEN>,
+    weight: u128,
+}
+
+impl Model for Scale {
+    ghost use Rattle.eg_toml.specs.Weight.{Weighed};
+
+    ghost Value = { Weighed };
+
+    ghost view = { λ s. record {
+      place = s.place;
+      due = s.due;
+      counts = s.counts;
+      around = s.around.items;
+      weight = s.weight;
+    } };
+}
+
+/// Whether a document weighs too much to be read (docs/FORMATS.md, "What a document weighs").
+pub fn is_too_heavy(bytes: &[u8]) -> bool
+    ensures { result ≡ spec.is_too_heavy bytes.now }
+{
+    let mut scale = Scale::new();
+    for byte in bytes {
+        scale.put(*byte);
+        if scale.weight > HEAVIEST {
+            return true;
+        }
+    }
+    false
+}
+
+impl Scale {
+    /// What is known before the first byte.
+    fn new() -> Scale
+        ensures { result ≡ spec.unweighed }
+    {
+        Scale {
+            place: Place::Outside,
+            due: Due::Nothing,
+            counts: NO_COUNTS,
+            around: ArrayVec::new(),
+            weight: 0,
+        }
+    }
+
+    /// One byte more.
+    #[inline]
+    fn put(&mut self, byte: u8)
+        requires small { self.old.weight ≤ spec.heaviest }
+        requires values { self.old.counts.values + 1 < 2 ^ 64 }
+        requires names { self.old.counts.names + 1 < 2 ^ 64 }
+        ensures { self.new ≡ spec.weighed_on self.old byte }
+    {
+        let place = self.place.settled(byte);
+        if place == Place::Outside {
+            self.put_outside(byte);
+        }
+        self.place = place.behind(byte);
+    }
+
+    /// One byte more, outside of comments and texts.
+    fn put_outside(&mut self, byte: u8)
+        requires small { self.old.weight ≤ spec.heaviest }
+        requires values { self.old.counts.values + 1 < 2 ^ 64 }
+        requires names { self.old.counts.names + 1 < 2 ^ 64 }
+        ensures { self.new ≡ spec.weighed_outside self.old byte }
+    {
+        self.put_item(byte);
+        self.put_sign(byte);
+        self.put_bracket(byte);
+        self.due = self.due.behind(byte);
+    }
+
+    /// It may begin a value of a list.
+    fn put_item(&mut self, byte: u8)
+        requires small { self.old.weight ≤ spec.heaviest }
+        requires values { self.old.counts.values + 1 < 2 ^ 64 }
+        ensures { self.new ≡ spec.with_item self.old byte }
+    {
+        if self.due.begins_item(byte) {
+            self.weight += value_weight(self.counts.values);
+            self.counts.values += 1;
+        }
+    }
+
+    /// It may be a sign, and count names.
+    fn put_sign(&mut self, byte: u8)
+        requires small { self.old.weight < 2 ^ 80 }
+        requires names { self.old.counts.names + 1 < 2 ^ 64 }
+        ensures { self.new ≡ spec.with_sign self.old byte }
+    {
+        self.weight += sign_weight(self.due, self.counts.names, byte);
+        self.counts.names = names_behind(self.due, self.counts.names, byte);
+    }
+
+    /// It may open or close a list or an inline table.
+    fn put_bracket(&mut self, byte: u8)
+        requires { self.old.weight < 2 ^ 81 }
+        ensures { self.new ≡ spec.with_lists self.old byte }
+    {
+        if self.due.is_opening(byte) {
+            self.open();
+        } else if is_closing(byte) {
+            self.counts = self.around.pop().unwrap_or(NO_COUNTS);
+        }
+    }
+
+    fn open(&mut self)
+        requires { self.old.weight < 2 ^ 81 }
+        ensures { self.new ≡ spec.opened self.old }
+    {
+        if self.around.try_push(self.counts).is_err() {
+            self.weight += HEAVIEST + 1;
+        }
+        self.counts = NO_COUNTS;
+    }
+}
+
+impl Due {
+    /// Whether a byte begins a value of a list.
+    #[inline]
+    fn begins_item(self, byte: u8) -> bool
+        ensures { result ≡ spec.begins_item self byte }
+    {
+        self == Due::Item && !(is_between(byte) || is_closing(byte))
+    }
+
+    /// Whether a byte begins a heading.
+    #[inline]
+    fn begins_heading(self, byte: u8) -> bool
+        ensures { result ≡ spec.begins_heading self byte }
+    {
+        self == Due::Nothing && byte == b'['
+    }
+
+    /// Whether a value may stand here.
+    #[inline]
+    fn takes_value(self) -> bool
+        ensures { result ≡ spec.takes_value self }
+    {
+        matches!(self, Due::Value | Due::Item)
+    }
+
+    /// Whether a byte opens a list or an inline table.
+    #[inline]
+    fn is_opening(self, byte: u8) -> bool
+        ensures { result ≡ spec.is_opening self byte }
+    {
+        byte == b'{' || (byte == b'[' && self.takes_value())
+    }
+
+    /// What is due behind a byte.
+    #[inline]
+    fn behind(self, byte: u8) -> Due
+        ensures { result ≡ spec.due_behind self byte }
+    {
+        match byte {
+            b' ' | b'\t' | b'\n' | b'\r' | b'#' => self,
+            b',' => Due::Item,
+            b'=' => Due::Value,
+            b'[' => self.behind_bracket(),
+            _ => Due::Nothing,
+        }
+    }
+
+    #[inline]
+    fn behind_bracket(self) -> Due
+        ensures { result ≡ spec.due_behind_bracket self }
+    {
+        match self {
+            Due::Nothing => Due::Heading,
+            Due::Heading => Due::Nothing,
+            Due::Value | Due::Item => Due::Item,
+        }
+    }
+}
+
+#[inline]
+fn is_between(byte: u8) -> bool
+    ensures { result ≡ spec.is_between byte }
+{
+    matches!(byte, b' ' | b'\t' | b'\n' | b'\r' | b'#')
+}
+
+#[inline]
+fn is_closing(byte: u8) -> bool
+    ensures { result ≡ spec.is_closing byte }
+{
+    byte == b']' || byte == b'}'
+}
+
+/// What a byte weighs as a sign, behind so many names.
+#[inline]
+fn sign_weight(due: Due, names: u64, byte: u8) -> u128
+    ensures { result ≡ spec.sign_weight due names byte }
+{
+    match byte {
+        b'.' | b'{' => TABLE,
+        b'[' if due.begins_heading(byte) => HEADING,
+        b'=' => if names < FIRST_NAMES { NAME } else { NAME_MORE },
+        b'"' | b'\'' if due.takes_value() => TEXT,
+        _ => 0,
+    }
+}
+
+/// How many names stand behind a byte.
+#[inline]
+fn names_behind(due: Due, names: u64, byte: u8) -> u64
+    requires { names + 1 < 2 ^ 64 }
+    ensures { result ≡ spec.names_behind due names byte }
+{
+    if due.begins_heading(byte) {
+        0
+    } else if byte == b'=' {
+        names + 1
+    } else {
+        names
+    }
+}
+
+/// What a value of a list weighs behind so many others.
+#[inline]
+fn value_weight(values: u64) -> u128
+    ensures { result ≡ spec.value_weight values }
+{
+    if values == 0 {
+        176
+    } else if values >= 4 && values & (values - 1) == 0 {
+        40 * u128::from(values)
+    } else {
+        0
+    }
+}
