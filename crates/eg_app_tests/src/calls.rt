@@ -3,11 +3,10 @@ use eg_app::{Outcome, egasim};
 use eg_base::{MemorySink, MemoryStore, Sink, Store};
 use eg_tick::Ticks;
 use std::alloc::Global;
-use std::process::Abort;
 use std::test::Fail;
 
 /// A check file without an excess.
-pub(crate) const CHECK: &str = "pedal,speed,raise,torque\n0,800,0,1\n";
+const CHECK: &str = "pedal,speed,raise,torque\n0,800,0,1\n";
 
 /// A campaign of two runs of the same trace and image.
 const CAMPAIGN: &str = r#"[[run]]
@@ -48,7 +47,7 @@ check = 65535, used = 500, estimate = 1400, allowed = 1000, answer = 8842 },
 ";
 
 /// How a call with the words of a line ends, which stand apart by blanks.
-pub(crate) fn end<S: Store, K: Sink, N: Sink>(
+fn end<S: Store, K: Sink, N: Sink>(
     alloc: Global,
     line: &str,
     store: &mut S,
@@ -64,7 +63,7 @@ pub(crate) fn end<S: Store, K: Sink, N: Sink>(
 }
 
 /// A store that has all of these files.
-pub(crate) fn store(alloc: Global) -> Result<MemoryStore, Fail> {
+fn store(alloc: Global) -> Result<MemoryStore, Fail> {
     let mut store = MemoryStore::new(alloc);
     store.add("in.csv", CHECK.as_bytes())?;
     store.add("c.toml", CAMPAIGN.as_bytes())?;
@@ -122,9 +121,4 @@ pub(crate) fn call(alloc: Global, line: &str, failing: Failing) -> Result<Shown,
         out,
         steps,
     })
-}
-
-/// Asserts that a call ended so.
-pub(crate) fn ends(rt: &impl Abort, outcome: Outcome, wanted: Outcome) {
-    assert!(rt; outcome == wanted);
 }

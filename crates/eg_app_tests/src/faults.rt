@@ -78,29 +78,8 @@ fn the_read_that_failed_is_told(rt: HostRuntime) -> Result<(), Fail> {
     Ok(())
 }
 
-/// The words of a call that writes a record of four ticks.
+/// The words of a call that writes a record of four ticks, a line as each of them is made.
 const RECORD: &str = "record c.toml a";
-
-/// What stands of that record where its fourth put fails: the header, the lines of ticks 0 and 1, and the
-/// first 26 bytes of the line of tick 2.
-const CUT: &str = "tick,pedal,speed,raise,plate,charge,torque,limit,path1,path2,on,\
-used,permitted,actual,excess,pairs,throttle,ignition,found,answer,verdict
-0,0,800,0,0,40,0,200,1,1,1,0,200,100,0,0,100,0,-,-,-
-1,0,800,0,50,40,0,200,1,1,1,0,200,100,0,0,0,0,-,-,-
-2,0,800,0,0,80,0,200,1,1,1";
-
-#[test]
-fn a_record_is_written_as_its_ticks_are_made(rt: HostRuntime) -> Result<(), Fail> {
-    let failing = Failing {
-        put: Some(3),
-        ..NOTHING
-    };
-    let shown = call(rt.alloc(), RECORD, failing)?;
-    assert!(rt; shown.outcome == Outcome::WriteFault);
-    assert!(rt; shown.out.bytes() == CUT.as_bytes());
-    assert!(rt; shown.steps.count() == 3);
-    Ok(())
-}
 
 /// Words, and how many bytes stand where the put of a number fails: the lines before, and half of the next.
 const PUTS: [(&str, &[(u32, usize)]); 11] = [

@@ -1,6 +1,6 @@
-//! Tests of the top call and of the controller over fakes, of what the built program can't show: which of
-//! several reads failed, what was written before a put failed, notes that fail, out of memory, and what is
-//! counted of runs of one group.
+//! Tests of the top call and of the controller over fakes, of what neither a clause nor the built program
+//! shows: which of several reads failed, what was written before a put failed, notes that fail, and a
+//! controller whose memory refuses a store.
 #![tactic(auto)]
 
 #[cfg(test)]
@@ -9,7 +9,3 @@ mod calls;
 mod controller;
 #[cfg(test)]
 mod faults;
-#[cfg(test)]
-mod groups;
-#[cfg(test)]
-mod outside;

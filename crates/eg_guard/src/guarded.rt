@@ -7,11 +7,11 @@ ghost use Rattle.eg_guard.specs.Regions;
 use crate::Who;
 
 /// The memory map doesn't allow the load.
-#[derive(Clone, Copy, Debug, PartialEq, Eq)]
+#[derive(Clone, Copy, PartialEq, Eq)]
 pub struct Refused;
 
 /// Why a store was refused.
-#[derive(Clone, Copy, Debug, PartialEq, Eq)]
+#[derive(Clone, Copy, PartialEq, Eq)]
 pub enum StoreRefusal {
     /// The memory map doesn't allow it.
     Refused,

@@ -42,7 +42,7 @@ pub const LAST_PROTECTED: u16 = 2122;
 pub const LINK: u16 = 2128;
 
 /// Who asks for a word (docs/CONCEPT.md, "Guarded memory").
-#[derive(Clone, Copy, Debug, PartialEq, Eq)]
+#[derive(Clone, Copy, PartialEq, Eq)]
 pub enum Who {
     /// The function level: code that nobody trusts.
     Level1,
@@ -53,7 +53,7 @@ pub enum Who {
 }
 
 /// A part of the memory (docs/FORMATS.md, "Memory map").
-#[derive(Clone, Copy, Debug, PartialEq, Eq)]
+#[derive(Clone, Copy, PartialEq, Eq)]
 pub enum Region {
     /// The image that level 1 runs.
     Code,
@@ -74,7 +74,7 @@ pub enum Region {
 }
 
 /// What is allowed at an address.
-#[derive(Clone, Copy, Debug, PartialEq, Eq)]
+#[derive(Clone, Copy, PartialEq, Eq)]
 pub struct Allowed {
     /// The word may be read.
     pub load: bool,

@@ -1,5 +1,6 @@
 pub mod PlaceLemmas
 pub mod StoreLemmas
+pub mod KeepsLemmas
 pub mod OrderLemmas
 pub mod PortLemmas
 pub mod ModuleLemmas

@@ -16,7 +16,7 @@ use Rattle.eg_answer.specs.declared.questions.Question.{Question}
 use Rattle.eg_level2.specs.declared.phase.Phase.{Phase}
 use Rattle.eg_level2.specs.declared.phase.Phase.TheVariants.{Quiet, Send, Test, TestOrder}
 use Rattle.eg_level2.specs.Phases.{feeds, sends, orders}
-use Rattle.eg_level2.specs.Words.{Words, is_set, start, place, named, in_order}
+use Rattle.eg_level2.specs.Words.{Words, is_set, start, address_of, named, in_order}
 use Rattle.eg_level2.specs.Inputs.{Inputs, row_of}
 use Rattle.eg_level2.specs.Modules.{feeds_now, opens_now, marked, check_step, written, signed, pedal_step, permitted_step, actual_step, excess_step, pairs_step, pedal_bit, plate_bit, load_bit, speed_bit, torque_bit, counted, is_found, debounced, limits, trips, debounce_step, closed_flow, answers_now, number_of, answer_of, react_step, module_step, answer_after, given_up, found_by, order_after, no_watches, mirror_alone}
 use Rattle.eg_level2.specs.Stores.{Store, store, put, both, both_where, both_from, after_stores}
@@ -279,8 +279,8 @@ all_reset = refl
 -- ---- where the words stand, in numbers ----
 
 -- the first and the last signal, the first and the last of the other words, and the first and the last complement
-places : map place (0 ∷ 4 ∷ 5 ∷ 15 ∷ 16 ∷ 31 ∷ []) ≡ 2080 ∷ 2084 ∷ 2096 ∷ 2106 ∷ 2107 ∷ 2122 ∷ []
-unfolding place
+places : map address_of (0 ∷ 4 ∷ 5 ∷ 15 ∷ 16 ∷ 31 ∷ []) ≡ 2080 ∷ 2084 ∷ 2096 ∷ 2106 ∷ 2107 ∷ 2122 ∷ []
+unfolding address_of
 places = refl
 
 -- the words by their names

@@ -34,12 +34,12 @@ pub record Words : Type 0 where
 -- The table of places. The words have the numbers 0 to 15, in the order of their names, and the complement of
 -- a word has its number and 16 more. The first five, the signals, stand among the results, all else in the
 -- protected region.
-unfoldable pub place : ℕ → ℕ
-place number = if nat_lt number SIGNALS then RESULTS + number else PROTECTED + (number - SIGNALS)
+unfoldable pub address_of : ℕ → ℕ
+address_of number = if nat_lt number SIGNALS then RESULTS + number else PROTECTED + (number - SIGNALS)
 
 -- the word of that number in a memory, and from 16 on the complement
 unfoldable pub word_at : List ℕ → ℕ → ℕ
-word_at memory number = slice_index memory (place number)
+word_at memory number = slice_index memory (address_of number)
 
 -- words that are given by their numbers, under their names
 unfoldable pub named : (ℕ → ℕ) → Words
@@ -83,7 +83,8 @@ pub record AreMirrored (memory : List ℕ) : Type 0 where
 -- longer.
 abbrev pub ChangeLaw : Type 0
 ChangeLaw = (memory : List ℕ) (number word : ℕ) → AreWords memory → number < STORED_WORDS →
-    AreMirrored memory → word ≢ word_at memory number → ¬ AreMirrored (slice_set memory (place number) word)
+    AreMirrored memory → word ≢ word_at memory number →
+    ¬ AreMirrored (slice_set memory (address_of number) word)
 
 -- the regions that level 2 may change
 unfoldable pub is_level2_own : Region → Bool

@@ -209,15 +209,15 @@ impl Level2 {
         ensures { result.now ≡ results_by self.now.rules
             (row_of self.now.questions (asked_of (M.shows memory.now).words)) }
     {
-        &self.tests[place(asked(memory), self.tests.len())]
+        &self.tests[row_index(asked(memory), self.tests.len())]
     }
 }
 
-/// The place of a question among so many: its number modulo their count.
+/// The index of a question among so many: its number modulo their count.
 #[inline(always)]
-fn place(asked: u16, count: usize) -> usize
+fn row_index(asked: u16, count: usize) -> usize
     requires { 1 ≤ count }
-    ensures place { result ≡ asked % count }
+    ensures index { result ≡ asked % count }
     ensures within { result < count }
 {
     let asked = usize::from(asked);

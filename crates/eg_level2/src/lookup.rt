@@ -6,7 +6,7 @@ use eg_answer::Rules;
 
 /// The permit table's value at a pedal and a speed, looked up already (docs/CONCEPT.md, "Torque"). Mostly
 /// level 2 reads the pedal and the speed of the drive row, for which the unit knows it.
-#[derive(Clone, Copy, Debug, PartialEq, Eq)]
+#[derive(Clone, Copy)]
 pub struct Lookup {
     /// The pedal, in per mille.
     pub pedal: u16,

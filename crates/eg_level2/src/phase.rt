@@ -3,7 +3,7 @@ ghost use Rattle.std.specs.Prelude.{◌≡◌};
 ghost use Rattle.eg_level2.specs.Phases.{feeds, sends, orders};
 
 /// What level 2 is to do at a tick (docs/CONCEPT.md, "Level 2").
-#[derive(Clone, Copy, Debug, PartialEq, Eq)]
+#[derive(Clone, Copy)]
 pub enum Phase {
     /// The engine is driven, and no answer is sent.
     Quiet,

@@ -5,7 +5,7 @@ ghost use Rattle.eg_level2.specs.Modules.{no_watches, mirror_alone, finding, qui
 use eg_num::Watches;
 
 /// What a run of a module orders, answers and finds (docs/CONCEPT.md, "Level 2").
-#[derive(Clone, Copy, Debug, PartialEq, Eq)]
+#[derive(Clone, Copy)]
 pub struct Step {
     /// Shut-off path 1 is to be open.
     pub open_path: bool,

@@ -1,7 +1,7 @@
 // Level 2's words in the guarded memory: each is stored with its complement.
 ghost use Rattle.std.specs.Prelude.{◌≡◌, ◌↔◌, ◌<◌, [], IsTrue, OnOk, OnErr};
 ghost use Rattle.eg_answer.specs.declared.words.TheConstants.{MIRRORED_WORDS, STORED_WORDS};
-ghost use Rattle.eg_level2.specs.Words.{place, word_at, AreMirrored, is_set};
+ghost use Rattle.eg_level2.specs.Words.{address_of, word_at, AreMirrored, is_set};
 ghost use Rattle.eg_level2.specs.Stores.{Keeps, Leaves, AreFirst, put, keep, keep_where, kept_from, both, both_where, both_from};
 
 use eg_answer::MIRRORED_WORDS;
@@ -56,10 +56,10 @@ pub(crate) const BROKEN_FLOW: u16 = 0x8000;
 /// The address at which the word of level 2 of that number stands, 0 to 15, and from 16 on its complement
 /// (docs/FORMATS.md, "Words of level 2").
 #[inline]
-#[tactic(auto, unfolding(crate::specs::Words::place))]
+#[tactic(auto, unfolding(crate::specs::Words::address_of))]
 pub fn word_address(number: u16) -> u16
     requires { number < STORED_WORDS }
-    ensures { result ≡ place number }
+    ensures { result ≡ address_of number }
 {
     if number < SIGNALS {
         RESULTS + number

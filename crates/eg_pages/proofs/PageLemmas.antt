@@ -15,32 +15,32 @@ sizes : (pages : List (List ℕ)) → ArePages pages → AllByRecursion (HasLeng
 sizes pages are = recursion_from_All (HasLength 64) pages are.each
 
 -- the address lies in this page, at this place of it
-pub record LiesAt (address page place : ℕ) : Type 0 where
+pub record LiesAt (address page index : ℕ) : Type 0 where
   pub within : address < 4096
-  pub split : page * 64 + place ≡ address
-  pub inside : place < 64
+  pub split : page * 64 + index ≡ address
+  pub inside : index < 64
 
 -- Pages as lists of words.
-module _ {address page place : ℕ} (pages : List (List ℕ)) (are : ArePages pages) (at : LiesAt address page place) where
+module _ {address page index : ℕ} (pages : List (List ℕ)) (are : ArePages pages) (at : LiesAt address page index) where
   there : page < length pages
   there = omega (arith, are.count)
 
   -- the word at the address stands at that place
-  index-pages : slice_index (get_or pages page []) place ≡ slice_index (concat pages) address
-  index-pages = sym (index-joined 64 pages page place (sizes pages are) there at.inside) ∙ ap (slice_index (concat pages)) at.split
+  index-pages : slice_index (get_or pages page []) index ≡ slice_index (concat pages) address
+  index-pages = sym (index-joined 64 pages page index (sizes pages are) there at.inside) ∙ ap (slice_index (concat pages)) at.split
 
   -- a store at that place is a store to the address
-  set-pages : (word : ℕ) → concat (slice_set pages page (slice_set (get_or pages page []) place word)) ≡ slice_set (concat pages) address word
-  set-pages word = sym (set-joined 64 pages page place word (sizes pages are) there at.inside) ∙ ap (λ k. slice_set (concat pages) k word) at.split
+  set-pages : (word : ℕ) → concat (slice_set pages page (slice_set (get_or pages page []) index word)) ≡ slice_set (concat pages) address word
+  set-pages word = sym (set-joined 64 pages page index word (sizes pages are) there at.inside) ∙ ap (λ k. slice_set (concat pages) k word) at.split
 
   -- after it they are pages still
-  ArePages-set : (word : ℕ) → word < 2 ^ 16 → ArePages (slice_set pages page (slice_set (get_or pages page []) place word))
+  ArePages-set : (word : ℕ) → word < 2 ^ 16 → ArePages (slice_set pages page (slice_set (get_or pages page []) index word))
   ArePages-set word fits =
       let old = get_or pages page [] in
-      let new = slice_set old place word in
+      let new = slice_set old index word in
       record {
         count = length-set pages page new ∙ are.count;
-        each = All-set IsPage pages page new (length-set old place word ∙ are.each page [] there) are.each;
+        each = All-set IsPage pages page new (length-set old index word ∙ are.each page [] there) are.each;
         words = rw (set-pages word) (AreWords-set (concat pages) address word are.words at.within fits);
       }
 
@@ -59,26 +59,26 @@ zero_pages = record {
 -- ---- pages that are held ----
 
 -- The same of pages that something holds.
-module _ {X : Type 0} {address page place : ℕ} (held : X → List ℕ) (pages : List X) (other : X) (are : ArePages (map held pages)) (at : LiesAt address page place) where
+module _ {X : Type 0} {address page index : ℕ} (held : X → List ℕ) (pages : List X) (other : X) (are : ArePages (map held pages)) (at : LiesAt address page index) where
   held-old : held (get_or pages page other) ≡ get_or (map held pages) page []
   held-old =
       let there : page < length pages = omega (arith, are.count, length-map pages held) in
       sym (get_or-map held pages page other [] there)
 
-  pub index-held : slice_index (held (get_or pages page other)) place ≡ slice_index (concat (map held pages)) address
-  index-held = ap (λ words. slice_index words place) held-old ∙ index-pages (map held pages) are at
+  pub index-held : slice_index (held (get_or pages page other)) index ≡ slice_index (concat (map held pages)) address
+  index-held = ap (λ words. slice_index words index) held-old ∙ index-pages (map held pages) are at
 
   -- the pages, after the one at the address gave way to one that has a word more
-  held-set : (next : X) (word : ℕ) → held next ≡ slice_set (held (get_or pages page other)) place word
-      → map held (slice_set pages page next) ≡ slice_set (map held pages) page (slice_set (get_or (map held pages) page []) place word)
+  held-set : (next : X) (word : ℕ) → held next ≡ slice_set (held (get_or pages page other)) index word
+      → map held (slice_set pages page next) ≡ slice_set (map held pages) page (slice_set (get_or (map held pages) page []) index word)
   held-set next word put = map-set held pages page next
-      ∙ ap (slice_set (map held pages) page) (put ∙ ap (λ words. slice_set words place word) held-old)
+      ∙ ap (slice_set (map held pages) page) (put ∙ ap (λ words. slice_set words index word) held-old)
 
-  pub concat-held : (next : X) (word : ℕ) → held next ≡ slice_set (held (get_or pages page other)) place word
+  pub concat-held : (next : X) (word : ℕ) → held next ≡ slice_set (held (get_or pages page other)) index word
       → concat (map held (slice_set pages page next)) ≡ slice_set (concat (map held pages)) address word
   concat-held next word put = ap concat (held-set next word put) ∙ set-pages (map held pages) are at word
 
-  ArePages-held : (next : X) (word : ℕ) → held next ≡ slice_set (held (get_or pages page other)) place word → word < 2 ^ 16
+  ArePages-held : (next : X) (word : ℕ) → held next ≡ slice_set (held (get_or pages page other)) index word → word < 2 ^ 16
       → ArePages (map held (slice_set pages page next))
   ArePages-held next word put fits =
       rw (held-set next word put) (ArePages-set (map held pages) are at word fits)
@@ -89,7 +89,7 @@ module _ {X : Type 0} {address page place : ℕ} (held : X → List ℕ) (pages 
       ∙ set-get_or (map held pages) page []
 
   -- they are pages still, whether the word was put or not
-  pub ArePages-either : {T E : Type 0} (next : X) (word : ℕ) (result : Result T E) → OnOk result (held next ≡ slice_set (held (get_or pages page other)) place word)
+  pub ArePages-either : {T E : Type 0} (next : X) (word : ℕ) (result : Result T E) → OnOk result (held next ≡ slice_set (held (get_or pages page other)) index word)
       → OnErr result (held next ≡ held (get_or pages page other)) → word < 2 ^ 16 → ArePages (map held (slice_set pages page next))
   ArePages-either next word (Ok done) put same fits = ArePages-held next word put fits
   ArePages-either next word (Err refused) put same fits = rw (held-same next same) are

@@ -7,6 +7,3 @@ mod paged_memory;
 
 pub use page::{PAGE_WORDS, PAGES};
 pub use paged_memory::PagedMemory;
-
-#[cfg(test)]
-mod tests;

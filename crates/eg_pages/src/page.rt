@@ -83,19 +83,19 @@ pub(crate) fn put_at(
     put(page, alloc, usize::from(address % PAGE_WORDS), word)
 }
 
-/// Puts a word at a place of a page. Whoever shares the page keeps it as it was. NoMemory comes only where it
-/// is shared, and changes nothing.
+/// Puts a word at an index of a page. Whoever shares the page keeps it as it was. NoMemory comes only where
+/// it is shared, and changes nothing.
 #[inline]
-fn put(page: &mut SharedPage, alloc: Global, place: usize, word: u16) -> Result<(), NoMemory>
-    requires { place < PAGE_WORDS }
-    ensures put { OnOk result (page.new.value ≡ slice_set page.old.value place word) }
+fn put(page: &mut SharedPage, alloc: Global, index: usize, word: u16) -> Result<(), NoMemory>
+    requires { index < PAGE_WORDS }
+    ensures put { OnOk result (page.new.value ≡ slice_set page.old.value index word) }
     ensures unchanged { OnErr result (page.new.value ≡ page.old.value) }
 {
     if let Some(words) = Rc::get_mut(page) {
-        words[place] = word;
+        words[index] = word;
         return Ok(());
     }
-    put_in_copy(page, alloc, place, word)
+    put_in_copy(page, alloc, index, word)
 }
 
 /// The same where the page is shared: a copy of it, with the word, takes its place.
@@ -104,15 +104,15 @@ fn put(page: &mut SharedPage, alloc: Global, place: usize, word: u16) -> Result<
 fn put_in_copy(
     page: &mut SharedPage,
     alloc: Global,
-    place: usize,
+    index: usize,
     word: u16,
 ) -> Result<(), NoMemory>
-    requires { place < PAGE_WORDS }
-    ensures put { OnOk result (page.new.value ≡ slice_set page.old.value place word) }
+    requires { index < PAGE_WORDS }
+    ensures put { OnOk result (page.new.value ≡ slice_set page.old.value index word) }
     ensures unchanged { OnErr result (page.new.value ≡ page.old.value) }
 {
     let mut words = **page;
-    words[place] = word;
+    words[index] = word;
     *page = Rc::new(alloc, words)?;
     Ok(())
 }

@@ -1,9 +1,28 @@
 use Rattle.std.proofs.Common.{refl}
 use Rattle.eg_level2.proofs.ModuleLemmas.{actual_by, third-stores}
 use Rattle.eg_level2.proofs.OrderLemmas.{at_err}
+use Rattle.eg_level2.proofs.KeepsLemmas.{keeps_done, keeps_refused, off_ok, off_value}
 use Rattle.eg_level2.proofs.signals.actual.Goals as goal
 
 pub returns-in_err-write-clause-stopped : goal.returns-in_err-write-clause-stopped
 returns-in_err-write-clause-stopped g c = λ row e. at_err c.from_residual.result (third-stores _ _ _ _ _ _
     (actual_by _ _ _ _ _ row _ _ _ refl c.readings.ensures c.estimated_torque-signal.ensures e)
     c.in_err-write.ensures.stopped)
+
+pub returns-in_err-write-clause-words : goal.returns-in_err-write-clause-words
+returns-in_err-write-clause-words g c = λ row e. off_ok c.from_residual.result _ c.from_residual.ensures.0
+
+pub returns-in_err-write-clause-step : goal.returns-in_err-write-clause-step
+returns-in_err-write-clause-step g c = off_value c.from_residual.result _ c.from_residual.ensures.0
+
+pub returns-in_err-write-clause-keeps : goal.returns-in_err-write-clause-keeps
+returns-in_err-write-clause-keeps g c = keeps_refused _ _ _ c.from_residual.result c.from_residual.ensures.0 c.in_err-write.ensures.keeps
+
+pub returns-clause-words : goal.returns-clause-words
+returns-clause-words g c = λ row e. actual_by _ _ _ _ _ row _ _ _ c.in_ok-write.ensures.stored c.readings.ensures c.estimated_torque-signal.ensures e
+
+pub returns-clause-stopped : goal.returns-clause-stopped
+returns-clause-stopped g c = λ row e. tt
+
+pub returns-clause-keeps : goal.returns-clause-keeps
+returns-clause-keeps g c = keeps_done _ _ _ _ c.in_ok-write.ensures.keeps

@@ -8,7 +8,7 @@ pub returns : goal.returns
 returns g c =
     let none : RowResults = record { seed = 0; results = [] } in
     let asked = asked_of (g.M.Guarded.shows c.args.memory.now).words in
-    subst (λ (p : Level2Parts). get_or c.deref.result.now c.place.result none ≡ results_by p.rules (row_of p.questions asked)) c.self.view_is
-    (ap (λ k. get_or c.deref.result.now k none) (c.place.ensures.place ∙ ap (λ k. k % c.len.result) c.asked.ensures)
+    subst (λ (p : Level2Parts). get_or c.deref.result.now c.row_index.result none ≡ results_by p.rules (row_of p.questions asked)) c.self.view_is
+    (ap (λ k. get_or c.deref.result.now k none) (c.row_index.ensures.index ∙ ap (λ k. k % c.len.result) c.asked.ensures)
     ∙ asked-kept c.self.inside.rules c.self.inside.questions c.deref.result.now asked c.len.result none (c.deref.ensures.0 ∙ c.self.invariant.1)
     c.self.invariant.0 (c.len.ensures.value ∙ ap length (sym c.deref.ensures.0)))
