@@ -68,8 +68,8 @@ fold_seed a b (r ∷ rs) h k words e =
 -- and in each single result
 pub fold_law : FoldLaw
 unfolding fold_of
-fold_law seed [] place a b s words h k within e = absurd (omega arith)
+fold_law seed [] index a b s words h k within e = absurd (omega arith)
 fold_law seed (r ∷ rs) zero a b s words h k within e =
     mixed_result seed a b (fold_seed (mixed seed a) (mixed seed b) rs (mixed_below seed a s h) (mixed_below seed b s k) (All-tail Word r rs words) e)
-fold_law seed (r ∷ rs) (suc place) a b s words h k within e =
-    fold_law (mixed seed r) rs place a b (mixed_below seed r s (All-head Word r rs words)) (All-tail Word r rs words) h k (omega arith) e
+fold_law seed (r ∷ rs) (suc index) a b s words h k within e =
+    fold_law (mixed seed r) rs index a b (mixed_below seed r s (All-head Word r rs words)) (All-tail Word r rs words) h k (omega arith) e

@@ -1,5 +1,5 @@
 -- Four questions with their results, the folds on the way and the numbers that are expected, the counts of level 2's
--- words and what they feed, the token of a tick, a reaction time, bounds for lapses and distances of misses, computed from the definitions.
+-- words and what they feed, the token of a tick, a worst-case reaction, bounds for lapses and distances of misses, computed from the definitions.
 use Rattle.std.proofs.Common.{◌≡◌, ℕ, ◌≤◌, ◌<◌, true, false, ◌∷◌, List, [], map, take, reverse, refl, arith}
 use Rattle.eg_num.specs.Windows.{WeightParts}
 use Rattle.eg_num.specs.Interpolation.{value_at}

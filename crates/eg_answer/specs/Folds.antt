@@ -13,7 +13,7 @@ fold_of seed results = fold mixed seed results
 -- The law, for a seed and results of 16 bits, however many: where the result at one place is a or b, equal
 -- folds tell that a is b. So results that differ in exactly one place have different folds.
 abbrev pub FoldLaw : Type 0
-FoldLaw = (seed : ℕ) (results : List ℕ) (place a b : ℕ) →
+FoldLaw = (seed : ℕ) (results : List ℕ) (index a b : ℕ) →
     seed < 2 ^ 16 → All (λ result. result < 2 ^ 16) results → a < 2 ^ 16 → b < 2 ^ 16 →
-    place < length results →
-    fold_of seed (slice_set results place a) ≡ fold_of seed (slice_set results place b) → a ≡ b
+    index < length results →
+    fold_of seed (slice_set results index a) ≡ fold_of seed (slice_set results index b) → a ≡ b

@@ -26,10 +26,10 @@ pub record AreTimes (t : TimeParts) : Type 0 where
 unfoldable pub feeds_to_confirm : WeightParts → ℕ
 feeds_to_confirm w = quotient_up w.limit w.up
 
--- The reaction time: suppose that from the tick after a period's send tick no answer is right any more. The
--- verdict of that period may still be right, those of the next periods are wrong, and the path is open at the
--- tick after the verdict that confirms. So many ticks lie between the first tick without a right answer and
--- the first tick with an open path.
+-- The worst-case reaction: suppose that from the tick after a period's send tick no answer is right any
+-- more. The verdict of that period may still be right, those of the next periods are wrong, and the path is
+-- open at the tick after the verdict that confirms. So many ticks lie between the first tick without a right
+-- answer and the first tick with an open path.
 unfoldable pub reaction_of : TimeParts → ℕ
 reaction_of t = (feeds_to_confirm t.weights + 1) * t.period - t.send - 1
 

@@ -1,7 +1,7 @@
 // How an answer and a period of answers are judged.
 
 /// The verdict over the answers of a period (docs/CONCEPT.md, "Questions and answers").
-#[derive(Clone, Copy, Debug, PartialEq, Eq)]
+#[derive(Clone, Copy)]
 pub enum Verdict {
     /// One answer came, inside the window, and it was the expected number.
     Right,
@@ -11,7 +11,7 @@ pub enum Verdict {
 
 /// The mark of a tick (docs/CONCEPT.md, "Questions and answers"): whether level 2 sent an answer, and whether
 /// it was good.
-#[derive(Clone, Copy, Debug, PartialEq, Eq)]
+#[derive(Clone, Copy)]
 pub enum AnswerMark {
     /// No answer was sent.
     Absent,

@@ -10,7 +10,7 @@ use std::marker::Model;
 
 /// A question of the monitoring module (docs/CONCEPT.md, "Questions and answers"): a test row, and its
 /// answer.
-#[derive(Clone, Copy, Debug, PartialEq, Eq)]
+#[derive(Clone, Copy)]
 pub struct Question {
     /// The test row.
     pub row: TestRow,

@@ -41,7 +41,7 @@ impl Rules {
 
 /// A test row: numbers of which level 2 works out, when it is made, what it computes of the sensors' readings
 /// at each tick, and for which the results are known (docs/CONCEPT.md, "Questions and answers").
-#[derive(Clone, Copy, Debug, PartialEq, Eq)]
+#[derive(Clone, Copy)]
 pub struct TestRow {
     /// What the fold begins with.
     pub seed: u16,

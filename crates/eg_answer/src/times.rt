@@ -1,5 +1,5 @@
-// The times of the answers, and what follows from them: the reaction time, the bound for lapses, and the
-// distance of missed runs from which on wrong answers never cut before a trip.
+// The times of the answers, and what follows from them: the worst-case reaction, the bound for lapses, and
+// the distance of missed runs from which on wrong answers never cut before a trip.
 ghost use Rattle.std.specs.Prelude.{◌≡◌, ℕ, ◌+◌, ◌*◌, ◌≤◌, ◌<◌, SomeIff, IfSome};
 ghost use Rattle.eg_num.specs.Windows.{AreWeights};
 ghost use Rattle.eg_answer.specs.Times.{TimeParts, AreTimes, feeds_to_confirm, reaction_of, periods_to_confirm, HasLapseBound, lapse_bound_of, HasMissSpacing, TakesBack, TakesBackWithin, miss_spacing_of};
@@ -120,8 +120,8 @@ impl Times {
     }
 }
 
-/// The reaction time in ticks (docs/CONCEPT.md, "Reaction time"): where no answer is right any more from the
-/// tick after a send tick, the monitoring module's path is open so many ticks later.
+/// The worst-case reaction in ticks (docs/CONCEPT.md, "Worst-case reaction"): where no answer is right any
+/// more from the tick after a send tick, the monitoring module's path is open so many ticks later.
 pub fn reaction(times: &Times) -> u32
     ensures { result ≡ reaction_of times.now }
 {
@@ -129,8 +129,8 @@ pub fn reaction(times: &Times) -> u32
     (verdicts + 1) * u32::from(times.period()) - u32::from(times.send()) - 1
 }
 
-/// How many bad feeds of a debouncer in a row are enough to confirm (docs/CONCEPT.md, "Reaction time" and
-/// "Debouncing"): wrong verdicts, by the weights of the answers; runs of level 2 that find an excess, by
+/// How many bad feeds of a debouncer in a row are enough to confirm (docs/CONCEPT.md, "Worst-case reaction"
+/// and "Debouncing"): wrong verdicts, by the weights of the answers; runs of level 2 that find an excess, by
 /// those of the torque.
 pub fn feeds_to_confirm(weights: &Weights) -> u32
     ensures number { result ≡ feeds_to_confirm weights.now }

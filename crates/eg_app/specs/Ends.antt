@@ -18,9 +18,10 @@ use Rattle.eg_outcome.specs.declared.outcome.Role.TheVariants as role
 use Rattle.eg_outcome.specs.Outcomes.{LineEnds, Follows, IsDoneOrMemory}
 use Rattle.eg_outcome.specs.Reads.{FileComes, ReadComes, Finds, Accepts}
 use Rattle.eg_outcome.specs.Calibrations.{CalibratedEnds, MissesCalibration, FindsCalibration, AcceptsCalibration}
+use Rattle.eg_campaign.specs.Plays.{rows_of_runs}
 use Rattle.eg_play.specs.Files.{campaign_file}
 use Rattle.eg_play.specs.Inputs.{FindsRuns, AcceptsRuns}
-use Rattle.eg_play.specs.Ends.{rows_of_runs, Plays, RunCommandEnds, RecordCommandEnds, SweepCommandEnds, AcceptsNamed, AcceptsGrid, run_named}
+use Rattle.eg_play.specs.Ends.{Plays, RunCommandEnds, RecordCommandEnds, SweepCommandEnds, AcceptsNamed, AcceptsGrid, run_named}
 use Rattle.eg_soak.specs.Soak.{drawn_runs, soak_of}
 use Rattle.eg_soak.specs.Texts.{soak_text}
 use Rattle.eg_outcome.specs.Images.{image_file}

@@ -1,5 +1,5 @@
 -- The groups of a campaign: a run that is alone, a group of more, and the groups one after another.
-use Rattle.std.proofs.Common.{◌≡◌, ◌∙◌, refl, sym, ap, ap₂, subst, ℕ, zero, suc, ◌+◌, ◌%◌, ◌^◌, ◌<◌, ◌≤◌, Bool, true, false, ◌||◌, List, [], ◌∷◌, ◌++◌, map, take, drop, get_or, length, length-append, arith, Option, Some, None}
+use Rattle.std.proofs.Common.{◌≡◌, ◌∙◌, refl, sym, ap, ap₂, subst, ℕ, zero, suc, ◌+◌, ◌<◌, ◌≤◌, Bool, true, false, ◌||◌, List, [], ◌∷◌, ◌++◌, map, take, drop, get_or, length, length-append, arith, Option, Some, None}
 use Rattle.std.specs.Prelude.{All, IsSome, is_some, replicate, filter, if◌then◌else◌, slice_set}
 use Rattle.std.specs.List.{flat_map, list_any}
 use Rattle.std.proofs.lemmas.List.{map-append, take-append-drop, get_or-map, get_or_default, drop_all, take_all, append-nil, length-map}
@@ -13,11 +13,11 @@ use Rattle.eg_record.specs.declared.run_facts.RunFacts.{RunFacts}
 use Rattle.eg_tick.specs.Weights.{TickCount}
 use Rattle.eg_plan.specs.declared.engine.EngineKind.{EngineKind}
 use Rattle.eg_campaign.specs.declared.play.RunInput.{RunInput}
-use Rattle.eg_campaign.specs.Plays.{EngineRun, bench_of, rows_of_run, run_with, count_after}
-use Rattle.eg_campaign.specs.Groups.{is_alike, group_of, firsts_after, groups_of, faultless, own_on, own_rows, rows_of_group, rows_shared, rows_made, count_with, told_on, told_with, written_over}
+use Rattle.eg_tick.specs.Counting.{count_with, RanOutAmong}
+use Rattle.eg_campaign.specs.Plays.{EngineRun, bench_of, rows_in_time, run_with}
+use Rattle.eg_campaign.specs.Groups.{is_alike, group_of, firsts_after, groups_of, faultless, own_on, own_rows, rows_of_group, rows_shared, rows_made, told_on, told_with, written_over}
 use Rattle.eg_campaign.proofs.AlikeLemmas.{alike, is_alike-equality, faultless-same}
-use Rattle.eg_campaign.proofs.PlayLemmas.{ticks-one, weights-one}
-use Rattle.eg_campaign.proofs.OneGroup.{Counted, Stopped, said, more, stopped, ended, length-record, next, wrote}
+use Rattle.eg_campaign.proofs.OneGroup.{Counted, said, more, stopped, ended, next, wrote}
 
 -- ---- lists ----
 
@@ -96,30 +96,22 @@ module _ {X : Type 0} (p : X → Bool) where
 
 -- ---- a group ----
 
-tally : ℕ → ℕ → TickCount
-tally n w = record { count = n; weights = w }
-
--- a run that is alone
-pub counted_one : (was is : TickCount) (r : EngineRun) → is ≡ count_after was (r ∷ []) → is ≡ count_with was (rows_of_run r)
-unfolding tally
-counted_one was is r e = e ∙ ap₂ (λ n w. tally ((was.count + n) % 2 ^ 64) ((was.weights + w) % 2 ^ 64))
-    (ticks-one r ∙ sym (length-record (bench_of r.engine) r.run)) (weights-one r)
-
 -- a group of more
 more_rows : (cal : CalibrationParts) (x : RunInput) (g : List RunInput) → 2 ≤ length g → ((y : RunInput) (l : List RunInput) → g ≡ y ∷ l → is_alike x y ≡ true) →
-    rows_of_group cal g ≡ rows_of_run (run_with cal (faultless x)) ++ flat_map (own_rows cal) g
+    rows_of_group cal g ≡ rows_in_time (run_with cal (faultless x)) ++ flat_map (own_rows cal) g
 unfolding rows_of_group
 more_rows cal x [] long h = absurd (omega (arith, long))
 more_rows cal x (y ∷ []) long h = absurd (omega (arith, long))
-more_rows cal x (y ∷ z ∷ g) long h = ap (λ (r : EngineRun). rows_of_run r ++ flat_map (own_rows cal) (y ∷ z ∷ g)) (sym (faultless-same cal x y (alike x y (h y (z ∷ g) refl))))
+more_rows cal x (y ∷ z ∷ g) long h = ap (λ (r : EngineRun). rows_in_time r ++ flat_map (own_rows cal) (y ∷ z ∷ g)) (sym (faultless-same cal x y (alike x y (h y (z ∷ g) refl))))
 
 own_same : (cal : CalibrationParts) (x y : RunInput) → is_alike x y ≡ true → own_rows cal y ≡ own_on (bench_of x.plan.engine) cal y
 own_same cal x y so = ap (λ (k : EngineKind). own_on (bench_of k) cal y) (sym (alike x y so).engine)
 
 pub shared_rows : (cal : CalibrationParts) (inputs : List RunInput) (x : RunInput) (k : EngineKind) → 2 ≤ length (group_of inputs x) → x.plan.engine ≡ k →
     rows_shared (bench_of k) cal inputs x ≡ rows_of_group cal (group_of inputs x)
+unfolding rows_in_time
 shared_rows cal inputs x k long is = ap (λ (k : EngineKind). rows_shared (bench_of k) cal inputs x) (sym is)
-    ∙ ap (λ (l : List Row). rows_of_run (run_with cal (faultless x)) ++ l)
+    ∙ ap (λ (l : List Row). rows_in_time (run_with cal (faultless x)) ++ l)
     (sym (flat_map_same (is_alike x) (own_rows cal) (own_on (bench_of x.plan.engine) cal) (own_same cal x) inputs))
     ∙ sym (more_rows cal x (group_of inputs x) long (head_passes (is_alike x) inputs))
 
@@ -266,7 +258,7 @@ module _ (cal : CalibrationParts) (inputs : List RunInput) (i : ℕ) (x : RunInp
 
   -- it is stopped there
   pub goes-stopped : (told : List (Option RunFacts)) (was mid new : TickCount) (so_far : Goes cal inputs i told was mid) →
-      list_any (is_alike x) so_far.earlier ≡ false → Stopped mid new (rows_of_group cal (group_of inputs x)) → Stopped was new (rows_made cal inputs)
+      list_any (is_alike x) so_far.earlier ≡ false → RanOutAmong (rows_of_group cal (group_of inputs x)) mid new → RanOutAmong (rows_made cal inputs) was new
   goes-stopped told was mid new so_far so within =
       stopped was mid new (rows_of_group cal (group_of inputs x)) (rows_left cal inputs (x ∷ so_far.earlier) (drop (i + 1) inputs)) (rows_made cal inputs)
       (said was mid (rows_left cal inputs so_far.earlier (drop i inputs))

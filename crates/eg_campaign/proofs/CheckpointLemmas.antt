@@ -1,18 +1,15 @@
 -- What was played of a run, tick by tick: its rows and what they count, and what is kept of it.
-use Rattle.std.proofs.Common.{◌≡◌, ◌∙◌, refl, sym, ap, ap₂, subst, ℕ, zero, suc, ◌+◌, ◌-◌, ◌*◌, ◌/◌, ◌%◌, ◌^◌, ◌<◌, ◌≤◌, false, List, [], ◌∷◌, ◌++◌, take, length, add-one, arith, Option, Some, None}
-use Rattle.std.specs.Prelude.{slice_index_or, if◌then◌else◌, nat_lt}
+use Rattle.std.proofs.Common.{◌≡◌, ◌∙◌, refl, sym, ap, ap₂, subst, ℕ, zero, suc, ◌+◌, ◌-◌, ◌*◌, ◌/◌, ◌%◌, ◌^◌, ◌<◌, ◌≤◌, false, List, [], ◌∷◌, ◌++◌, take, drop, length, add-one, arith, Option, Some, None}
+use Rattle.std.specs.Prelude.{slice_index_or, if◌then◌else◌, nat_lt, reverse}
 use Rattle.std.proofs.Math.Seq.{take-length}
 use Rattle.std.proofs.lemmas.Bool.{lt-ltb}
 use Rattle.std.proofs.lemmas.Bool.Decides.{nat_tests}
-use Rattle.std.proofs.lemmas.List.{length-append, length-take-le}
+use Rattle.std.proofs.lemmas.List.{length-append, length-reverse, length-drop, reverse-append, take-append-drop, drop_at}
 use Rattle.eg_num.specs.Drive.{DriveRow}
 use Rattle.eg_fault.specs.declared.class.Fault.{Fault}
 use Rattle.eg_values.specs.Calibration.{CalibrationParts}
 use Rattle.eg_guard.specs.Memory.{ShownMemory}
-use Rattle.eg_word.specs.declared.registers.Trap.{Trap}
 use Rattle.eg_record.specs.declared.row.Row.{Row}
-use Rattle.eg_record.specs.declared.facts.Facts.{Facts}
-use Rattle.eg_record.specs.Facts.{facts_of}
 use Rattle.eg_record.specs.Tallies.{TallyParts, IsTallyOf}
 use Rattle.eg_model.specs.Engines.{BenchEngine}
 use Rattle.eg_model.specs.Bench.{Run, drive_at}
@@ -25,18 +22,19 @@ use Rattle.eg_tick.specs.Benched.{ComeTo}
 use Rattle.eg_tick.specs.Kept.{Kept}
 use Rattle.eg_tick.specs.Weights.{TickCount, weight_of}
 use Rattle.eg_tick.specs.Run.{run_by, IsAt}
-use Rattle.eg_tick.specs.Facts.{IsToldOf}
-use Rattle.eg_tick.proofs.RunLemmas.{counted, counted-none, drive-at, more-mod}
-use Rattle.eg_tick.proofs.FactLaws.{counted-next, told}
+use Rattle.eg_tick.proofs.RunLemmas.{counted, counted-none, drive-at}
+use Rattle.eg_tick.proofs.FactLaws.{counted-next}
 use Rattle.eg_tick.proofs.BranchLemmas.{branch_of}
 use Rattle.eg_tick.proofs.BranchedRuns.{branch_at}
 use Rattle.eg_campaign.specs.declared.checkpoints.Played.{Played}
 use Rattle.eg_campaign.specs.declared.checkpoints.Shared.{Shared}
 use Rattle.eg_campaign.specs.declared.checkpoints.TheConstants.{CHECKPOINT_TICKS}
 use Rattle.eg_campaign.specs.declared.play.RunInput.{RunInput}
+use Rattle.eg_tick.specs.Counting.{count_with}
 use Rattle.eg_campaign.specs.Plays.{run_with}
-use Rattle.eg_campaign.specs.Groups.{faultless, checkpoint, own_under, count_with}
+use Rattle.eg_campaign.specs.Groups.{faultless, checkpoint, own_under}
 use Rattle.eg_campaign.specs.Checkpoints.{run_under, PlaysInput, HasPlayed, rows_between, HasMade, AreCheckpoints, IsSharedBy}
+use Rattle.eg_tick.proofs.CountLemmas.{front-take, counts_reverse}
 
 -- ---- counts ----
 
@@ -95,18 +93,32 @@ module _ {S E : Type 0} (b : BenchEngine S) (come_to : ComeTo S E) (r : Run) whe
       all : (t : ℕ) → t - 0 ≡ t
       all t = omega arith
 
-  pub length-between : (from t : ℕ) → length (rows_between b r from t) ≡ t - from
+  -- in the order of time they are what is left behind those before
+  between-in_time : (from t : ℕ) → from ≤ t → drop from (reverse (rows_to b r t)) ≡ reverse (rows_between b r from t)
   unfolding rows_between
-  length-between from t = length-take-le (t - from) (rows_to b r t) (let long = (records_are_rows b r t).1 in omega (arith, long))
+  between-in_time from t least =
+      let some = take (t - from) (rows_to b r t) in
+      let rest = drop (t - from) (rows_to b r t) in
+      ap (λ l. drop from (reverse l)) (sym (take-append-drop (t - from) (rows_to b r t)))
+      ∙ ap (drop from) (reverse-append some rest)
+      ∙ drop_at (reverse rest) (reverse some) from
+      (length-reverse rest ∙ length-drop (t - from) (rows_to b r t) ∙ ap (λ n. n - (t - from)) (records_are_rows b r t).1 ∙ before from t least)
+    where
+      before : (from t : ℕ) → from ≤ t → t - (t - from) ≡ from
+      before from t least = omega arith
 
   -- those that a run under a fault makes
   pub under-is : (fault : Fault) → fault.onset < length r.drive →
-      own_under (Some fault) (length r.drive) (record_rows b r)
-      ≡ rows_between b r (fault.onset / CHECKPOINT_TICKS * CHECKPOINT_TICKS) (length r.drive)
-  unfolding own_under rows_between checkpoint
+      own_under (Some fault) (length r.drive) (reverse (record_rows b r))
+      ≡ reverse (rows_between b r (fault.onset / CHECKPOINT_TICKS * CHECKPOINT_TICKS) (length r.drive))
+  unfolding own_under checkpoint
   under-is fault within =
-      ap (λ t. if t then take (length r.drive - fault.onset / CHECKPOINT_TICKS * CHECKPOINT_TICKS) (record_rows b r) else []) (lt-ltb fault.onset (length r.drive) within)
-      ∙ ap (take (length r.drive - fault.onset / CHECKPOINT_TICKS * CHECKPOINT_TICKS)) (record_rows-is b r)
+      ap (λ t. if t then drop (fault.onset / CHECKPOINT_TICKS * CHECKPOINT_TICKS) (reverse (record_rows b r)) else []) (lt-ltb fault.onset (length r.drive) within)
+      ∙ ap (λ l. drop (fault.onset / CHECKPOINT_TICKS * CHECKPOINT_TICKS) (reverse l)) (record_rows-is b r)
+      ∙ between-in_time (fault.onset / CHECKPOINT_TICKS * CHECKPOINT_TICKS) (length r.drive) (before fault.onset (length r.drive) within)
+    where
+      before : (onset ticks : ℕ) → onset < ticks → onset / CHECKPOINT_TICKS * CHECKPOINT_TICKS ≤ ticks
+      before onset ticks within = omega arith
 
   -- ---- what was played ----
 
@@ -142,18 +154,21 @@ module _ {S E : Type 0} (b : BenchEngine S) (come_to : ComeTo S E) (r : Run) whe
         ∙ ap (count_with was) (ap (λ x. x ∷ rows_between b r from t) here ∙ rows_between-next from t made.least);
   }
 
-  -- how many ticks were counted, also where the next one was stopped
-  pub made_count : {M : Type 0} (from t : ℕ) (played : Played E M) (was is : TickCount) → HasMade b come_to r from t played was is →
-      is.count ≡ (was.count + (t - from)) % 2 ^ 64
-  made_count from t played was is made = ap (λ (k : TickCount). k.count) made.counted ∙ ap (λ n. (was.count + n) % 2 ^ 64) (length-between from t)
+  -- in the order of time
+  pub made_in_time : {M : Type 0} (from t : ℕ) (played : Played E M) (was is : TickCount) → HasMade b come_to r from t played was is →
+      is ≡ count_with was (reverse (rows_between b r from t))
+  made_in_time from t played was is made = counts_reverse was is (length (rows_between b r from t)) (rows_between b r from t) refl made.counted
 
-  pub made_stop : {M : Type 0} (from t : ℕ) (played : Played E M) (was is now : TickCount) → HasMade b come_to r from t played was is →
-      now.count ≡ (is.count + 1) % 2 ^ 64 → now.count ≡ (was.count + (t - from + 1)) % 2 ^ 64
-  made_stop from t played was is now made count = count ∙ more-mod (2 ^ 64) was.count (t - from) is.count 1 (made_count from t played was is made)
+  -- the run was played from its first tick on, up to one, and to its end
+  pub made_front : {M : Type 0} (t : ℕ) (played : Played E M) (was is : TickCount) → HasMade b come_to r 0 t played was is → t ≤ length r.drive →
+      is ≡ count_with was (take t (reverse (record_rows b r)))
+  made_front t played was is made within = made_in_time 0 t played was is made
+      ∙ ap (count_with was) (ap reverse (rows_between-all t) ∙ sym (front-take b r t within))
 
-  -- all of the run was played from its first tick on
-  pub made_all : {M : Type 0} (played : Played E M) (was is : TickCount) → HasMade b come_to r 0 (length r.drive) played was is → is ≡ count_with was (record_rows b r)
-  made_all played was is made = made.counted ∙ ap (count_with was) (rows_between-all (length r.drive) ∙ sym (record_rows-is b r))
+  pub made_all : {M : Type 0} (played : Played E M) (was is : TickCount) → HasMade b come_to r 0 (length r.drive) played was is →
+      is ≡ count_with was (reverse (record_rows b r))
+  made_all played was is made = made_in_time 0 (length r.drive) played was is made
+      ∙ ap (λ l. count_with was (reverse l)) (rows_between-all (length r.drive) ∙ sym (record_rows-is b r))
 
   -- ---- what is kept ----
 
@@ -222,10 +237,10 @@ module _ {S E : Type 0} (b : BenchEngine S) (come_to : ComeTo S E) (cal : Calibr
       below onset ticks n within enough = omega arith
 
   -- the rows that are made for it
-  pub rows-are : (rows : List Row) → rows ≡ record_rows b (run_with cal input).run →
-      own_under input.plan.fault (length input.drive) rows ≡ rows_between b (run_with cal input).run (fault.onset / CHECKPOINT_TICKS * CHECKPOINT_TICKS) (length input.drive)
+  pub rows-are : (rows : List Row) → rows ≡ reverse (record_rows b (run_with cal input).run) →
+      own_under input.plan.fault (length input.drive) rows ≡ reverse (rows_between b (run_with cal input).run (fault.onset / CHECKPOINT_TICKS * CHECKPOINT_TICKS) (length input.drive))
   rows-are rows made = ap (own_under input.plan.fault (length input.drive)) made
-      ∙ ap (λ f. own_under f (length input.drive) (record_rows b (run_with cal input).run)) is
+      ∙ ap (λ f. own_under f (length input.drive) (reverse (record_rows b (run_with cal input).run))) is
       ∙ under-is b come_to (run_with cal input).run fault within
 
 -- ---- runs that aren't played ----
@@ -239,7 +254,7 @@ never_begins ticks (Some f) none = absurd (none f refl)
 pub makes_none : (ticks : ℕ) (fault : Option Fault) (rows : List Row) → BeginsFrom ticks fault → own_under fault ticks rows ≡ []
 unfolding own_under
 makes_none ticks None rows from = refl
-makes_none ticks (Some f) rows from = ap (λ t. if t then take (ticks - checkpoint f.onset) rows else []) (not-lt from)
+makes_none ticks (Some f) rows from = ap (λ t. if t then drop (checkpoint f.onset) rows else []) (not-lt from)
   where
     not-lt : ticks ≤ f.onset → nat_lt f.onset ticks ≡ false
     not-lt l = grind (arith, nat_tests)

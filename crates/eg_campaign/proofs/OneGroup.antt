@@ -1,29 +1,23 @@
 -- Runs that are played group by group: what is counted, and what is written at their places.
-use Rattle.std.proofs.Common.{◌≡◌, ◌∙◌, refl, sym, ap, ap₂, subst, ℕ, ◌+◌, ◌%◌, ◌^◌, ◌<◌, ◌≤◌, Bool, true, false, List, [], ◌∷◌, ◌++◌, map, take, drop, get_or, length, add-one, append_assoc, length-append, arith, Option}
+use Rattle.std.proofs.Common.{◌≡◌, ◌∙◌, refl, sym, ap, ap₂, subst, ℕ, ◌+◌, ◌^◌, ◌<◌, ◌≤◌, Bool, true, false, List, [], ◌∷◌, ◌++◌, map, take, drop, get_or, length, add-one, append_assoc, arith, Option}
 use Rattle.std.specs.Prelude.{filter, if◌then◌else◌, Some, slice_set}
-use Rattle.std.specs.List.{sum, flat_map}
-use Rattle.std.proofs.Math.Nat.{mod-eq_of_lt}
+use Rattle.std.specs.List.{flat_map}
 use Rattle.std.proofs.Math.Seq.{drop-cons}
-use Rattle.std.proofs.lemmas.List.{append-nil, map-append, set_at, take_all, drop_all, length-take-le, length-map}
+use Rattle.std.proofs.lemmas.List.{append-nil, set_at, take_all, drop_all, length-take-le, length-map}
 use Rattle.eg_values.specs.Calibration.{CalibrationParts}
-use Rattle.eg_word.specs.declared.registers.Trap.{Trap}
 use Rattle.eg_record.specs.declared.row.Row.{Row}
-use Rattle.eg_record.specs.declared.facts.Facts.{Facts}
 use Rattle.eg_model.specs.Engines.{BenchEngine}
-use Rattle.eg_model.specs.Bench.{Run}
-use Rattle.eg_model.specs.Rows.{record_rows}
-use Rattle.eg_model.proofs.RecordTicks.{record_rows-is, records_are_rows}
 use Rattle.eg_tick.specs.Benched.{ComeTo}
-use Rattle.eg_tick.specs.Facts.{IsToldOf}
-use Rattle.eg_tick.specs.Weights.{TickCount, weight_of}
-use Rattle.eg_tick.proofs.RunLemmas.{more-mod}
+use Rattle.eg_tick.specs.Weights.{TickCount}
 use Rattle.eg_campaign.specs.declared.checkpoints.Shared.{Shared}
 use Rattle.eg_campaign.specs.declared.play.RunInput.{RunInput}
+use Rattle.eg_tick.specs.Counting.{count_with, RanOutAmong}
 use Rattle.eg_campaign.specs.Plays.{EngineRun, run_with}
-use Rattle.eg_campaign.specs.Groups.{is_alike, faultless, count_with, told_on, written_over}
+use Rattle.eg_campaign.specs.Groups.{is_alike, faultless, written_over}
 use Rattle.eg_campaign.specs.Checkpoints.{IsSharedBy}
 use Rattle.eg_campaign.proofs.AlikeLemmas.{alike, faultless-same}
-use Rattle.eg_campaign.proofs.PlayLemmas.{sum-append, map-more}
+use Rattle.eg_tick.proofs.CountLemmas.{counts_none, counts_more, out_among}
+use Rattle.eg_campaign.proofs.PlayLemmas.{map-more}
 
 -- ---- counting ----
 
@@ -33,33 +27,8 @@ pub record Counted (was is : TickCount) (rest whole : List Row) : Type 0 where
   pub parts : done ++ rest ≡ whole
   pub counts : is ≡ count_with was done
 
--- no more than these were
-abbrev pub Stopped : TickCount → TickCount → List Row → Type 0
-Stopped was is whole = (n : ℕ) × (n ≤ length whole) × (is.count ≡ (was.count + n) % 2 ^ 64)
-
-tally : ℕ → ℕ → TickCount
-tally n w = record { count = n; weights = w }
-
 pub begun : (was : TickCount) (whole : List Row) → was.count < 2 ^ 64 → was.weights < 2 ^ 64 → Counted was was whole whole
-unfolding tally
-begun was whole count weights = record { done = []; parts = refl; counts = ap₂ tally (low was.count count) (low was.weights weights) }
-  where
-    same : (n : ℕ) → n + 0 ≡ n
-    same n = omega arith
-
-    low : (n : ℕ) → n < 2 ^ 64 → n ≡ (n + 0) % 2 ^ 64
-    low n l = sym (ap (λ k. k % 2 ^ 64) (same n) ∙ mod-eq_of_lt l)
-
-weigh-append : (xs ys : List Row) → sum (map weight_of (xs ++ ys)) ≡ sum (map weight_of xs) + sum (map weight_of ys)
-weigh-append xs ys = ap sum (map-append weight_of xs ys) ∙ sum-append (map weight_of xs) (map weight_of ys)
-
-with_more : (was mid is : TickCount) (xs ys : List Row) → mid ≡ count_with was xs → is ≡ count_with mid ys → is ≡ count_with was (xs ++ ys)
-unfolding tally
-with_more was mid is xs ys before now = now ∙ ap₂ tally
-    (more-mod (2 ^ 64) was.count (length xs) mid.count (length ys) (ap (λ (k : TickCount). k.count) before)
-    ∙ ap (λ n. (was.count + n) % 2 ^ 64) (sym (length-append xs ys)))
-    (more-mod (2 ^ 64) was.weights (sum (map weight_of xs)) mid.weights (sum (map weight_of ys)) (ap (λ (k : TickCount). k.weights) before)
-    ∙ ap (λ n. (was.weights + n) % 2 ^ 64) (sym (weigh-append xs ys)))
+begun was whole count weights = record { done = []; parts = refl; counts = counts_none was count weights }
 
 -- some rows more
 pub more : (was mid is : TickCount) (own rest whole : List Row) → Counted was mid (own ++ rest) whole → is ≡ count_with mid own →
@@ -67,33 +36,20 @@ pub more : (was mid is : TickCount) (own rest whole : List Row) → Counted was 
 more was mid is own rest whole so_far now = record {
   done = so_far.done ++ own;
   parts = append_assoc so_far.done own rest ∙ so_far.parts;
-  counts = with_more was mid is so_far.done own so_far.counts now;
+  counts = counts_more was mid is so_far.done own so_far.counts now;
 }
 
 -- the rest is said in another way
 pub said : (was is : TickCount) (rest rest' whole : List Row) → rest ≡ rest' → Counted was is rest whole → Counted was is rest' whole
 said was is rest rest' whole e so_far = record { done = so_far.done; parts = ap (λ (l : List Row). so_far.done ++ l) (sym e) ∙ so_far.parts; counts = so_far.counts }
 
--- it was stopped within some rows
-pub stopped : (was mid is : TickCount) (own rest whole : List Row) → Counted was mid (own ++ rest) whole → Stopped mid is own → Stopped was is whole
-stopped was mid is own rest whole so_far (n, within, counts) = (
-  length so_far.done + n,
-  omega (arith, within, sym (length-append so_far.done (own ++ rest)) ∙ ap length so_far.parts, length-append own rest),
-  counts ∙ more-mod (2 ^ 64) was.count (length so_far.done) mid.count n (ap (λ (k : TickCount). k.count) so_far.counts),
-)
+-- memory ran out among some rows
+pub stopped : (was mid is : TickCount) (own rest whole : List Row) → Counted was mid (own ++ rest) whole → RanOutAmong own mid is → RanOutAmong whole was is
+stopped was mid is own rest whole so_far out = out_among was mid is so_far.done own rest whole so_far.parts so_far.counts out
 
 -- all were counted
 pub ended : (was is : TickCount) (whole : List Row) → Counted was is [] whole → is ≡ count_with was whole
 ended was is whole so_far = so_far.counts ∙ ap (count_with was) (sym (append-nil so_far.done) ∙ so_far.parts)
-
--- a record has a row for each tick
-pub length-record : {S : Type 0} (b : BenchEngine S) (r : Run) → length (record_rows b r) ≡ length r.drive
-length-record b r = ap length (record_rows-is b r) ∙ (records_are_rows b r (length r.drive)).1
-
--- within the ticks of a run is within its rows
-pub within : {S : Type 0} (b : BenchEngine S) (r : Run) (was is : TickCount) →
-    ((n : ℕ) × (n ≤ length r.drive) × (is.count ≡ (was.count + n) % 2 ^ 64)) → Stopped was is (record_rows b r)
-within b r was is (n, least, counts) = (n, subst (λ (k : ℕ). n ≤ k) (sym (length-record b r)) least, counts)
 
 -- ---- the rest of a list ----
 

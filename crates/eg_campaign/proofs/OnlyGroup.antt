@@ -1,10 +1,9 @@
 -- Runs that are all alike are one group.
-use Rattle.std.proofs.Common.{◌≡◌, ◌∙◌, refl, sym, ap, Bool, true, false, ◌||◌, List, [], ◌∷◌, ◌++◌, All, map, append-nil}
+use Rattle.std.proofs.Common.{◌≡◌, ◌∙◌, refl, ap, Bool, true, false, ◌||◌, List, [], ◌∷◌, All, map, append-nil}
 use Rattle.std.specs.Prelude.{if◌then◌else◌, filter}
 use Rattle.std.specs.List.{list_any, flat_map}
 use Rattle.std.proofs.lemmas.List.Elements.{All-head, All-tail}
 use Rattle.eg_values.specs.Calibration.{CalibrationParts}
-use Rattle.eg_record.specs.declared.row.Row.{Row}
 use Rattle.eg_campaign.specs.declared.play.RunInput.{RunInput}
 use Rattle.eg_campaign.specs.Groups.{is_alike, AreAlike, group_of, firsts_after, groups_of, rows_of_group, rows_made}
 use Rattle.eg_campaign.proofs.AlikeLemmas.{is_alike-Decides, is_alike-equality}

@@ -1,9 +1,8 @@
 -- A record that is written as its ticks are made.
-use Rattle.std.proofs.Common.{◌≡◌, ◌∙◌, refl, sym, ap, subst, ℕ, zero, suc, ◌+◌, ◌-◌, ◌%◌, ◌^◌, ◌<◌, ◌≤◌, List, [], ◌∷◌, ◌++◌, Option, Some, None, map, take, length, append_assoc, append-nil, arith}
+use Rattle.std.proofs.Common.{◌≡◌, ◌∙◌, refl, sym, ap, subst, ℕ, suc, ◌+◌, ◌%◌, ◌^◌, ◌<◌, ◌≤◌, List, [], ◌∷◌, ◌++◌, Option, Some, None, map, take, length, append_assoc, append-nil, arith}
 use Rattle.std.specs.Prelude.{option_map, reverse}
-use Rattle.std.specs.List.{concat, sum}
-use Rattle.std.proofs.Math.Seq.{take-append_seam}
-use Rattle.std.proofs.lemmas.List.{map-append, reverse-append, length-reverse}
+use Rattle.std.specs.List.{concat}
+use Rattle.std.proofs.lemmas.List.{map-append}
 use Rattle.std.proofs.lemmas.List.Folds.{concat-append}
 use Rattle.eg_base.specs.Outside.{ShownSink, Appends, AppendsPrefix}
 use Rattle.eg_record.specs.declared.row.Row.{Row}
@@ -12,15 +11,15 @@ use Rattle.eg_model.specs.Engines.{BenchEngine}
 use Rattle.eg_model.specs.Bench.{Run}
 use Rattle.eg_model.specs.Rows.{record_rows}
 use Rattle.eg_model.specs.Records.{row_at, rows_to}
-use Rattle.eg_model.proofs.RecordTicks.{no_rows, rows_to-suc, records_are_rows, record_rows-is}
+use Rattle.eg_model.proofs.RecordTicks.{no_rows, record_rows-is}
 use Rattle.eg_model.proofs.WholeRecord.{rows-suc}
 use Rattle.eg_tick.specs.Weights.{TickCount, weight_of}
 use Rattle.eg_tick.proofs.RunLemmas.{counted, counted-none}
 use Rattle.eg_tick.proofs.FactLaws.{counted-next, rows-next}
-use Rattle.eg_campaign.specs.Plays.{IsCounted}
+use Rattle.eg_tick.specs.Counting.{count_with}
 use Rattle.eg_campaign.specs.Texts.{text_of}
-use Rattle.eg_campaign.specs.Recording.{HasLines, count_to, IsStopped}
-use Rattle.eg_campaign.proofs.PlayLemmas.{sum-reverse}
+use Rattle.eg_campaign.specs.Recording.{HasLines, IsStopped}
+use Rattle.eg_tick.proofs.CountLemmas.{long, front, front-take, counts_front, counts_record}
 
 -- ---- pieces that are appended ----
 
@@ -32,36 +31,8 @@ appended (Some old) x y = ap (λ new. Some new) (append_assoc old x y)
 appends-more : (before mid now : ShownSink) (x y : List ℕ) → Appends before mid x → Appends mid now y → Appends before now (x ++ y)
 appends-more before mid now x y first second = second ∙ ap (option_map (λ old. old ++ y)) first ∙ appended before.written x y
 
--- ---- rows ----
-
 one_more : (n : ℕ) → suc n ≡ n + 1
 one_more n = omega arith
-
--- the rows of some ticks stand behind those of later ones
-later : {S : Type 0} (b : BenchEngine S) (r : Run) (t k : ℕ) → (more : List Row) × (rows_to b r (k + t) ≡ more ++ rows_to b r t)
-later b r t zero = ([], ap (rows_to b r) (none t))
-  where
-    none : (t : ℕ) → 0 + t ≡ t
-    none t = omega arith
-later b r t (suc k) =
-    let (more, e) = later b r t k in
-    (row_at b r (k + t) ∷ more, ap (rows_to b r) (next k t) ∙ rows_to-suc b r (k + t) ∙ ap (λ (l : List Row). row_at b r (k + t) ∷ l) e)
-  where
-    next : (k t : ℕ) → suc k + t ≡ suc (k + t)
-    next k t = omega arith
-
--- in the order of time they are a front of the record
-front : {S : Type 0} (b : BenchEngine S) (r : Run) (t : ℕ) → t ≤ length r.drive → (more : List Row) × (reverse (record_rows b r) ≡ reverse (rows_to b r t) ++ more)
-front b r t within =
-    let (more, e) = later b r t (length r.drive - t) in
-    let all : length r.drive ≡ (length r.drive - t) + t = omega (arith, within) in
-    (reverse more, ap reverse (record_rows-is b r ∙ ap (rows_to b r) all ∙ e) ∙ reverse-append more (rows_to b r t))
-
-front-take : {S : Type 0} (b : BenchEngine S) (r : Run) (t : ℕ) → t ≤ length r.drive → take t (reverse (record_rows b r)) ≡ reverse (rows_to b r t)
-front-take b r t within =
-    let (more, e) = front b r t within in
-    let long : t ≡ length (reverse (rows_to b r t)) = sym (length-reverse (rows_to b r t) ∙ (records_are_rows b r t).1) in
-    ap (take t) e ∙ ap (λ n. take n (reverse (rows_to b r t) ++ more)) long ∙ take-append_seam (reverse (rows_to b r t)) more
 
 -- ---- texts ----
 
@@ -130,24 +101,11 @@ module _ {S : Type 0} (b : BenchEngine S) (r : Run) where
       so_far.put
 
   pub all_counted : (t : ℕ) (out now : ShownSink) (was is : TickCount) → t ≡ length r.drive → HasWritten b r t out now was is →
-      IsCounted b r was is
-  all_counted t out now was is end so_far =
-      so_far.counts ∙ ap (λ n. counted was n (rows_to b r n)) end ∙ ap (counted was (length r.drive)) (sym (record_rows-is b r))
+      is ≡ count_with was (reverse (record_rows b r))
+  all_counted t out now was is end so_far = counts_record b r was is
+      (so_far.counts ∙ ap (λ n. counted was n (rows_to b r n)) end ∙ ap (counted was (length r.drive)) (sym (record_rows-is b r)))
 
   -- ---- it was stopped ----
-
-  -- the record has a row for each tick
-  long : length r.drive ≡ length (reverse (record_rows b r))
-  long = sym (length-reverse (record_rows b r) ∙ ap length (record_rows-is b r) ∙ (records_are_rows b r (length r.drive)).1)
-
-  -- the count by a front of the record
-  count-front : (t : ℕ) (was is : TickCount) → t ≤ length r.drive → is ≡ counted was t (rows_to b r t) →
-      is ≡ count_to was (reverse (record_rows b r)) t
-  count-front t was is within e = e ∙ ap (λ n. both ((was.count + t) % 2 ^ 64) ((was.weights + n) % 2 ^ 64))
-      (sym (sum-reverse weight_of (rows_to b r t)) ∙ ap (λ (l : List Row). sum (map weight_of l)) (sym (front-take b r t within)))
-    where
-      both : ℕ → ℕ → TickCount
-      both a b = record { count = a; weights = b }
 
   -- at the header: no tick was made
   pub stopped_at_header : (out now : ShownSink) (was : TickCount) (header : List ℕ) → header ≡ record_header → AppendsPrefix out now header →
@@ -161,7 +119,7 @@ module _ {S : Type 0} (b : BenchEngine S) (r : Run) where
     appended = put;
     most = least (length (reverse (record_rows b r)));
     lines = tt;
-    counted = count-front 0 was was (least (length r.drive))
+    counted = counts_front b r 0 was was (least (length r.drive))
         (counted-none was (rows_to b r 0) (no_rows b r) count weights);
   }
     where
@@ -198,10 +156,10 @@ module _ {S : Type 0} (b : BenchEngine S) (r : Run) where
         ticks = t + 1;
         parts = whole;
         appended = appends-more out mid now before some so_far.put put;
-        most = subst (λ n. t + 1 ≤ n) long most;
+        most = subst (λ n. t + 1 ≤ n) (long b r) most;
         lines = has_lines t (reverse (record_rows b r)) (before ++ some)
             (some, ap (λ (l : List Row). text_of l ++ some) (sym (front-take b r t (under t (length r.drive) within))));
-        counted = count-front (t + 1) was new most (counts-next b r t was old new row is so_far.counts count weight);
+        counted = counts_front b r (t + 1) was new most (counts-next b r t was old new row is so_far.counts count weight);
       }
     where
       under : (t n : ℕ) → t < n → t ≤ n

@@ -1,5 +1,6 @@
 -- The groups of a campaign, worked out.
-use Rattle.std.proofs.Common.{◌≡◌, refl, ℕ, false, List, [], ◌∷◌, map, Option, Some, None}
+use Rattle.std.proofs.Common.{◌≡◌, refl, ℕ, false, List, [], ◌∷◌, ◌++◌, map, Option, Some, None}
+use Rattle.std.specs.Prelude.{replicate}
 use Rattle.eg_num.specs.Drive.{DriveRow, driven}
 use Rattle.eg_fault.specs.declared.class.Fault.{Fault}
 use Rattle.eg_fault.specs.declared.class.Class.{Class}
@@ -56,8 +57,8 @@ kept : map checkpoint (0 ∷ 99 ∷ 100 ∷ 199 ∷ 19999 ∷ []) ≡ 0 ∷ 0 �
 unfolding checkpoint
 kept = refl
 
--- what is made of three rows under a fault that begins at tick 100, 101 and 103 of a run of 103 ticks
-made : (x y z : Row) (k : Class) → map (λ (onset : ℕ). own_under (Some (record { onset = onset; class = k })) 103 (x ∷ y ∷ z ∷ [])) (100 ∷ 101 ∷ 103 ∷ [])
+-- what is made of a run of 103 ticks under a fault that begins at tick 100, 101 and 103
+made : (w x y z : Row) (k : Class) → map (λ (onset : ℕ). own_under (Some (record { onset = onset; class = k })) 103 (replicate 100 w ++ x ∷ y ∷ z ∷ [])) (100 ∷ 101 ∷ 103 ∷ [])
     ≡ (x ∷ y ∷ z ∷ []) ∷ (x ∷ y ∷ z ∷ []) ∷ [] ∷ []
 unfolding own_under checkpoint
-made x y z k = refl
+made w x y z k = refl

@@ -18,7 +18,8 @@ use Rattle.eg_campaign.specs.declared.checkpoints.Shared.{Shared}
 use Rattle.eg_campaign.specs.declared.checkpoints.TheConstants.{CHECKPOINT_TICKS}
 use Rattle.eg_campaign.specs.declared.play.RunInput.{RunInput}
 use Rattle.eg_campaign.specs.Plays.{run_with}
-use Rattle.eg_campaign.specs.Groups.{faultless, count_with}
+use Rattle.eg_tick.specs.Counting.{count_with}
+use Rattle.eg_campaign.specs.Groups.{faultless}
 
 -- ---- what was played of a run ----
 

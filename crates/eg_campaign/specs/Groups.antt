@@ -2,9 +2,9 @@
 -- are of one group: up to the onset of its fault each of them is the run without a fault. So where a group
 -- has more than one run, the run without a fault is made once and kept at each hundredth tick, and a run with
 -- a fault is made from the last of these ticks on that isn't after the onset.
-use Rattle.std.specs.Prelude.{◌≡◌, ℕ, ◌+◌, ◌-◌, ◌*◌, ◌/◌, ◌%◌, ◌^◌, Bool, true, false, ◌==◌, ◌&&◌, nat_lt, nat_eq, List, [], ◌∷◌, ◌++◌, map, filter, take, length, Option, Some, None, if◌then◌else◌}
+use Rattle.std.specs.Prelude.{◌≡◌, ℕ, ◌*◌, ◌/◌, Bool, true, false, ◌==◌, ◌&&◌, nat_lt, nat_eq, List, [], ◌∷◌, ◌++◌, map, filter, drop, length, reverse, Option, Some, None, if◌then◌else◌}
 use Rattle.std.specs.Bool.{beq}
-use Rattle.std.specs.List.{sum, flat_map, list_any}
+use Rattle.std.specs.List.{flat_map, list_any}
 use Rattle.std.specs.Cmp.Lexicographic.{pointwise}
 use Rattle.eg_num.specs.Drive.{DriveRow}
 use Rattle.eg_fault.specs.declared.class.Fault.{Fault}
@@ -14,13 +14,12 @@ use Rattle.eg_record.specs.declared.facts.Facts.{Facts}
 use Rattle.eg_record.specs.declared.run_facts.RunFacts.{RunFacts}
 use Rattle.eg_model.specs.Engines.{BenchEngine}
 use Rattle.eg_model.specs.Rows.{record_rows}
-use Rattle.eg_tick.specs.Weights.{TickCount, weight_of}
 use Rattle.eg_tick.specs.Facts.{record_facts, told_of}
 use Rattle.eg_plan.specs.declared.engine.EngineKind.{EngineKind}
 use Rattle.eg_plan.specs.declared.engine.EngineKind.TheVariants as kind
 use Rattle.eg_campaign.specs.declared.play.RunInput.{RunInput}
 use Rattle.eg_campaign.specs.declared.checkpoints.TheConstants.{CHECKPOINT_TICKS}
-use Rattle.eg_campaign.specs.Plays.{bench_of, run_with, rows_of_run}
+use Rattle.eg_campaign.specs.Plays.{bench_of, run_with, rows_in_time}
 
 -- ---- groups ----
 
@@ -63,7 +62,7 @@ firsts_after earlier (x ∷ xs) =
 unfoldable pub groups_of : List RunInput → List (List RunInput)
 groups_of inputs = map (group_of inputs) (firsts_after [] inputs)
 
--- ---- what is counted ----
+-- ---- what is made ----
 
 -- the same input without its fault
 abbrev pub faultless : RunInput → RunInput
@@ -73,43 +72,36 @@ faultless x = record x { plan = record x.plan { fault = None } }
 unfoldable pub checkpoint : ℕ → ℕ
 checkpoint t = t / CHECKPOINT_TICKS * CHECKPOINT_TICKS
 
--- the rows that are made for one run of a group of more, newest first: those from the checkpoint before its
--- onset on; none where it has no fault, or the fault begins after the run
+-- Of these rows of a run of a group of more, in the order of time, those that are made for it: from the
+-- checkpoint before its onset on; none where it has no fault, or the fault begins after the run.
 unfoldable pub own_under : Option Fault → (ticks : ℕ) → List Row → List Row
 own_under None ticks rows = []
 own_under (Some fault) ticks rows =
-    if nat_lt fault.onset ticks then take (ticks - checkpoint fault.onset) rows else []
+    if nat_lt fault.onset ticks then drop (checkpoint fault.onset) rows else []
 
 -- the same for the run of an input, by an engine of the model, and by the engine that the input names
 abbrev pub own_on : {S : Type 0} → BenchEngine S → CalibrationParts → RunInput → List Row
-own_on b cal x = own_under x.plan.fault (length x.drive) (record_rows b (run_with cal x).run)
+own_on b cal x = own_under x.plan.fault (length x.drive) (reverse (record_rows b (run_with cal x).run))
 
 abbrev pub own_rows : CalibrationParts → RunInput → List Row
 own_rows cal x = own_on (bench_of x.plan.engine) cal x
 
--- the rows that are made for a group: all of a run that is alone; else all of the run without a fault, and of
--- each run its own
+-- the rows that are made for a group, in the order in which they are made: all of a run that is alone; else
+-- all of the run without a fault, and then of each run its own
 unfoldable pub rows_of_group : CalibrationParts → List RunInput → List Row
 rows_of_group cal [] = []
-rows_of_group cal (x ∷ []) = rows_of_run (run_with cal x)
+rows_of_group cal (x ∷ []) = rows_in_time (run_with cal x)
 rows_of_group cal (x ∷ y ∷ more) =
-    rows_of_run (run_with cal (faultless x)) ++ flat_map (own_rows cal) (x ∷ y ∷ more)
+    rows_in_time (run_with cal (faultless x)) ++ flat_map (own_rows cal) (x ∷ y ∷ more)
 
 -- the same of a group of more, that of input x, by an engine of the model
 abbrev pub rows_shared : {S : Type 0} → BenchEngine S → CalibrationParts → List RunInput → RunInput → List Row
 rows_shared b cal inputs x =
-    record_rows b (run_with cal (faultless x)).run ++ flat_map (own_on b cal) (group_of inputs x)
+    reverse (record_rows b (run_with cal (faultless x)).run) ++ flat_map (own_on b cal) (group_of inputs x)
 
--- the rows that are made for a campaign
+-- the rows that are made for a campaign, group by group
 unfoldable pub rows_made : CalibrationParts → List RunInput → List Row
 rows_made cal inputs = flat_map (rows_of_group cal) (groups_of inputs)
-
--- the count after these rows were made
-abbrev pub count_with : TickCount → List Row → TickCount
-count_with was rows = record {
-  count = (was.count + length rows) % 2 ^ 64;
-  weights = (was.weights + sum (map weight_of rows)) % 2 ^ 64;
-}
 
 -- ---- what is told ----
 

@@ -1,7 +1,7 @@
--- The runs of a campaign, played: which inputs may be, what run an input is and of which engine, what the
--- report says of it, and what the ticks of runs come to.
-use Rattle.std.specs.Prelude.{◌≡◌, ℕ, ◌+◌, ◌%◌, ◌^◌, ◌≤◌, List, map, length, All}
-use Rattle.std.specs.List.{sum}
+-- The runs of a campaign, played: which inputs may be, what run an input is and of which engine, and what the
+-- report says of it.
+use Rattle.std.specs.Prelude.{ℕ, ◌≤◌, List, length, reverse, All}
+use Rattle.std.specs.List.{flat_map}
 use Rattle.eg_guard.specs.declared.regions.TheConstants.{DATA as CODE_END}
 use Rattle.eg_num.specs.Drive.{IsDrive}
 use Rattle.eg_plant.specs.Gasoline.{Gasoline}
@@ -13,7 +13,6 @@ use Rattle.eg_model.specs.Engines.{BenchEngine, gasoline, diesel}
 use Rattle.eg_model.specs.Bench.{Run}
 use Rattle.eg_model.specs.Rows.{record_rows, report_of}
 use Rattle.eg_fault.specs.Faults.{IsNoneOrValid}
-use Rattle.eg_tick.specs.Weights.{TickCount, weight_of}
 use Rattle.eg_tick.specs.Run.{run_by}
 use Rattle.eg_plan.specs.declared.engine.EngineKind.{EngineKind}
 use Rattle.eg_plan.specs.declared.engine.EngineKind.TheVariants as kind
@@ -44,10 +43,18 @@ pub record EngineRun : Type 0 where
   pub engine : EngineKind
   pub run : Run
 
--- the rows of its record, newest first, and what the report says of it under this name
+-- the rows of its record, newest first
 abbrev pub rows_of_run : EngineRun → List Row
 rows_of_run r = record_rows (bench_of r.engine) r.run
 
+-- the same in the order of time, and those of runs that are made one after another
+unfoldable pub rows_in_time : EngineRun → List Row
+rows_in_time r = reverse (rows_of_run r)
+
+unfoldable pub rows_of_runs : List EngineRun → List Row
+rows_of_runs runs = flat_map rows_in_time runs
+
+-- what the report says of it under this name
 abbrev pub report_of_run : List ℕ → EngineRun → Summary
 report_of_run name r = report_of (bench_of r.engine) name r.run
 
@@ -63,26 +70,3 @@ run_with cal input = record {
 -- what the report says of it
 abbrev pub report_with : CalibrationParts → RunInput → Summary
 report_with cal input = report_of_run input.plan.name (run_with cal input)
-
--- ---- what counts the ticks ----
-
--- each tick of a run of this engine is counted, and each row of its record is weighed
-abbrev pub IsCounted : {S : Type 0} → BenchEngine S → Run → TickCount → TickCount → Type 0
-IsCounted b r was is = is ≡ record {
-  count = (was.count + length r.drive) % 2 ^ 64;
-  weights = (was.weights + sum (map weight_of (record_rows b r))) % 2 ^ 64;
-}
-
--- how many ticks runs have in all, and what the rows of their records weigh in all
-unfoldable pub ticks_of : List EngineRun → ℕ
-ticks_of runs = sum (map (λ r. length r.run.drive) runs)
-
-unfoldable pub weights_of : List EngineRun → ℕ
-weights_of runs = sum (map (λ r. sum (map weight_of (rows_of_run r))) runs)
-
--- the count after the ticks of these runs, with the weights of the rows of their records
-abbrev pub count_after : TickCount → List EngineRun → TickCount
-count_after was runs = record {
-  count = (was.count + ticks_of runs) % 2 ^ 64;
-  weights = (was.weights + weights_of runs) % 2 ^ 64;
-}

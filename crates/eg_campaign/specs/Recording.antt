@@ -1,9 +1,9 @@
 -- How a record is written while its ticks are made: all of it, or up to where that was stopped.
-use Rattle.std.specs.Prelude.{◌≡◌, ℕ, zero, suc, ◌+◌, ◌%◌, ◌^◌, ◌≤◌, List, ◌++◌, map, take, length}
-use Rattle.std.specs.List.{sum}
+use Rattle.std.specs.Prelude.{◌≡◌, ℕ, zero, suc, ◌≤◌, List, ◌++◌, take, length}
 use Rattle.eg_base.specs.Outside.{ShownSink, Appends, BeginsWith}
 use Rattle.eg_record.specs.declared.row.Row.{Row}
-use Rattle.eg_tick.specs.Weights.{TickCount, weight_of}
+use Rattle.eg_tick.specs.Weights.{TickCount}
+use Rattle.eg_tick.specs.Counting.{count_with}
 use Rattle.eg_campaign.specs.Texts.{text_of}
 
 -- Of the first n ticks, whose rows are the first of these, the line of each but the last stands whole behind
@@ -11,13 +11,6 @@ use Rattle.eg_campaign.specs.Texts.{text_of}
 abbrev pub HasLines : ℕ → List Row → List ℕ → Type 0
 HasLines zero rows front = Unit {0}
 HasLines (suc n) rows front = BeginsWith (text_of (take n rows)) front
-
--- the count after the first n ticks, with what their rows weigh
-abbrev pub count_to : TickCount → List Row → ℕ → TickCount
-count_to was rows n = record {
-  count = (was.count + n) % 2 ^ 64;
-  weights = (was.weights + sum (map weight_of (take n rows))) % 2 ^ 64;
-}
 
 -- The writing of a record of these rows was stopped: only a front of its text was appended. So many ticks of
 -- the run were made and counted; the line of each but the last stands whole in that front.
@@ -29,4 +22,4 @@ pub record IsStopped (rows : List Row) (out now : ShownSink) (was is : TickCount
   pub appended : Appends out now front
   pub most : ticks ≤ length rows
   pub lines : HasLines ticks rows front
-  pub counted : is ≡ count_to was rows ticks
+  pub counted : is ≡ count_with was (take ticks rows)

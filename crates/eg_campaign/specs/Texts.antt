@@ -1,15 +1,11 @@
 -- The record of a run as a text.
-use Rattle.std.specs.Prelude.{ℕ, List, ◌++◌, map, reverse}
+use Rattle.std.specs.Prelude.{ℕ, List, ◌++◌, map}
 use Rattle.std.specs.List.{concat}
 use Rattle.eg_values.specs.Calibration.{CalibrationParts}
 use Rattle.eg_record.specs.declared.row.Row.{Row}
 use Rattle.eg_record.specs.Texts.{record_header, row_line}
-use Rattle.eg_campaign.specs.Plays.{run_with, rows_of_run}
+use Rattle.eg_campaign.specs.Plays.{run_with, rows_in_time}
 use Rattle.eg_campaign.specs.declared.play.RunInput.{RunInput}
-
--- the rows of the record of an input, in the order of time
-unfoldable pub rows_in_time : CalibrationParts → RunInput → List Row
-rows_in_time cal input = reverse (rows_of_run (run_with cal input))
 
 -- the header, and the line of each of these rows
 unfoldable pub text_of : List Row → List ℕ
@@ -17,4 +13,4 @@ text_of rows = record_header ++ concat (map row_line rows)
 
 -- the header, and a line for each row in the order of time
 unfoldable pub record_text : CalibrationParts → RunInput → List ℕ
-record_text cal input = text_of (rows_in_time cal input)
+record_text cal input = text_of (rows_in_time (run_with cal input))

@@ -1,5 +1,5 @@
 // The run without a fault of a group, and runs under faults that go on from it.
-ghost use Rattle.std.specs.Prelude.{◌≡◌, ℕ, ◌+◌, ◌%◌, ◌^◌, ◌≤◌, ◌<◌, false, None, length, IfOk, OnOk, OnErr, IsOk, IsTrue};
+ghost use Rattle.std.specs.Prelude.{◌≡◌, ℕ, ◌+◌, ◌%◌, ◌^◌, ◌≤◌, ◌<◌, false, None, length, reverse, IfOk, OnOk, OnErr, IsOk, IsTrue};
 ghost use Rattle.eg_fault.specs.Faults.{IsNoneOrValid};
 ghost use Rattle.eg_values.specs.Calibration.{CalibrationParts};
 ghost use Rattle.eg_model.specs.Bench.{Run};
@@ -7,8 +7,9 @@ ghost use Rattle.eg_model.specs.Branching.{BeginsFrom};
 ghost use Rattle.eg_model.specs.Rows.{record_rows};
 ghost use Rattle.eg_tick.specs.Weights.{TickCount};
 ghost use Rattle.eg_tick.specs.Facts.{IsToldOf};
+ghost use Rattle.eg_tick.specs.Counting.{count_with, AreCounted};
 ghost use Rattle.eg_campaign.specs.Plays.{IsPlayable, run_with};
-ghost use Rattle.eg_campaign.specs.Groups.{faultless, own_on, count_with};
+ghost use Rattle.eg_campaign.specs.Groups.{faultless, own_on};
 ghost use Rattle.eg_campaign.specs.Checkpoints.{run_under, PlaysInput, HasPlayed, HasMade, AreCheckpoints, IsSharedFor};
 
 use crate::RunInput;
@@ -53,10 +54,9 @@ pub(crate) fn share<E: BenchedEngine + CopyEngine>(
 ) -> Result<Shared<E>, NoMemory>
     requires { IsPlayable input.now }
     ensures shared { IfOk result (IsSharedFor E.bench E.come_to calibration.now input.now) }
-    ensures counted { OnOk result (steps.new ≡ count_with steps.old
-        (record_rows E.bench (run_with calibration.now (faultless input.now)).run)) }
-    ensures count { OnErr result ((n : ℕ) × (n ≤ length input.now.drive)
-        × (steps.new.count ≡ (steps.old.count + n) % 2 ^ 64)) }
+    ensures counted { AreCounted
+        (reverse (record_rows E.bench (run_with calibration.now (faultless input.now)).run))
+        steps.old steps.new result }
 {
     // Whoever reads them learns that both numbers are a u64.
     let _numbers = (steps.count(), steps.sum());
@@ -68,7 +68,7 @@ pub(crate) fn share<E: BenchedEngine + CopyEngine>(
     }
     Ok(Shared {
         checkpoints,
-        told: told_of(&played),
+        told: told_so_far(&played),
     })
 }
 
@@ -165,7 +165,9 @@ fn play_tick<E: BenchedEngine + CopyEngine, M: Guarded + Drop>(
     ensures made { (r : Run) (from : ℕ) (was : TickCount) → PlaysInput input.now r →
         HasMade E.bench E.come_to r from tick played.old was steps.old →
         OnOk result (HasMade E.bench E.come_to r from (tick + 1) played.new was steps.new) }
+    // Where memory runs out the tick is counted, and weighs nothing.
     ensures count { steps.new.count ≡ (steps.old.count + 1) % 2 ^ 64 }
+    ensures no_weight { OnErr result (steps.new.weights ≡ steps.old.weights) }
     ensures sure { IsTrue played.old.controller.kept.memory.sure → IsOk result }
     ensures stays_sure { played.new.controller.kept.memory.sure
         ≡ played.old.controller.kept.memory.sure }
@@ -203,14 +205,14 @@ pub(crate) fn play_from<E: BenchedEngine + CopyEngine>(
     if fault.onset as usize >= input.drive.as_slice().len() {
         return shared.told;
     }
-    let place = fault.onset as usize / CHECKPOINT_TICKS;
-    let mut played = go_on(&shared.checkpoints[place], Some(fault.copy()));
-    play_on(&mut played, input, place * CHECKPOINT_TICKS, steps);
-    told_of(&played)
+    let index = fault.onset as usize / CHECKPOINT_TICKS;
+    let mut played = go_on(&shared.checkpoints[index], Some(fault.copy()));
+    play_on(&mut played, input, index * CHECKPOINT_TICKS, steps);
+    told_so_far(&played)
 }
 
 /// What is told of a run that was played to its end.
-fn told_of<E: BenchedEngine + CopyEngine, M: Guarded + Drop>(played: &Played<E, M>) -> RunFacts
+fn told_so_far<E: BenchedEngine + CopyEngine, M: Guarded + Drop>(played: &Played<E, M>) -> RunFacts
     ensures { (r : Run) → HasPlayed E.bench E.come_to r (length r.drive) played.now →
         IsToldOf E.bench r result }
 {

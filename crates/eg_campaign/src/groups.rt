@@ -1,8 +1,9 @@
 // The runs of a campaign, played group by group.
-ghost use Rattle.std.specs.Prelude.{◌≡◌, ℕ, ◌+◌, ◌%◌, ◌^◌, ◌≤◌, ◌<◌, All, Option, map, length, replicate, slice_index_or, IfOk, OnOk, OnErr, Some, None};
+ghost use Rattle.std.specs.Prelude.{◌≡◌, ◌<◌, All, Option, map, length, replicate, slice_index_or, IfOk, OnOk, Some, None};
 ghost use Rattle.eg_record.specs.declared.run_facts.RunFacts.{RunFacts};
+ghost use Rattle.eg_tick.specs.Counting.{AreCounted};
 ghost use Rattle.eg_campaign.specs.Plays.{IsPlayable};
-ghost use Rattle.eg_campaign.specs.Groups.{is_alike, group_of, rows_shared, rows_of_group, rows_made, count_with, told_on, told_with, written_over};
+ghost use Rattle.eg_campaign.specs.Groups.{is_alike, group_of, rows_shared, rows_of_group, rows_made, told_on, told_with, written_over};
 
 use crate::RunInput;
 use crate::alike::is_alike;
@@ -28,10 +29,7 @@ pub(crate) fn tell_all(
     requires { All IsPlayable inputs.now }
     ensures told { IfOk result (λ all.
         all.items ≡ map (λ x. Some (told_with calibration.now x)) inputs.now) }
-    ensures counted { OnOk result
-        (steps.new ≡ count_with steps.old (rows_made calibration.now inputs.now)) }
-    ensures count { OnErr result ((n : ℕ) × (n ≤ length (rows_made calibration.now inputs.now))
-        × (steps.new.count ≡ (steps.old.count + n) % 2 ^ 64)) }
+    ensures counted { AreCounted (rows_made calibration.now inputs.now) steps.old steps.new result }
 {
     // Whoever reads them learns that both numbers are a u64.
     let _numbers = (steps.count(), steps.sum());
@@ -53,33 +51,30 @@ fn nothing_told(alloc: Global, count: usize) -> Result<Vec<Option<RunFacts>>, No
     Ok(vec![in alloc; None; count]?)
 }
 
-/// Plays the group of an input, which stands at this place: the one run, where it is alone. What each run of
-/// the group tells is written at its place.
+/// Plays the group of an input, which has this index: the one run, where it is alone. What each run of
+/// the group tells is written at its index.
 fn play_first(
     alloc: Global,
     calibration: &Calibration,
     inputs: &[RunInput],
     input: &RunInput,
-    place: usize,
+    index: usize,
     told: &mut [Option<RunFacts>],
     steps: &mut Ticks,
 ) -> Result<(), NoMemory>
     requires playable { All IsPlayable inputs.now }
     requires one { IsPlayable input.now }
-    requires place { place < length inputs.now }
-    requires there { input.now ≡ slice_index_or inputs.now place input.now }
+    requires index { index < length inputs.now }
+    requires there { input.now ≡ slice_index_or inputs.now index input.now }
     requires places { length told.old ≡ length inputs.now }
     ensures told { (before : RunInput → Option RunFacts) →
         told.old ≡ map before inputs.now → OnOk result
         (told.new ≡ map (written_over (told_with calibration.now) input.now before) inputs.now) }
-    ensures counted { OnOk result (steps.new ≡
-        count_with steps.old (rows_of_group calibration.now (group_of inputs.now input.now))) }
-    ensures count { OnErr result ((n : ℕ)
-        × (n ≤ length (rows_of_group calibration.now (group_of inputs.now input.now)))
-        × (steps.new.count ≡ (steps.old.count + n) % 2 ^ 64)) }
+    ensures counted { AreCounted (rows_of_group calibration.now (group_of inputs.now input.now))
+        steps.old steps.new result }
 {
     if count_alike(inputs, input) < 2 {
-        told[place] = Some(tell_one(calibration, input, steps));
+        told[index] = Some(tell_one(calibration, input, steps));
         return Ok(());
     }
     match input.plan.engine {
@@ -100,7 +95,7 @@ fn count_alike(inputs: &[RunInput], input: &RunInput) -> usize
 }
 
 /// Plays the group of an input on an engine of this type: the run without a fault once, and each run of the
-/// group from there. What each tells is written at its place.
+/// group from there. What each tells is written at its index.
 fn play_group<E: BenchedEngine + CopyEngine>(
     alloc: Global,
     calibration: &Calibration,
@@ -115,11 +110,8 @@ fn play_group<E: BenchedEngine + CopyEngine>(
     ensures told { (before : RunInput → Option RunFacts) →
         told.old ≡ map before inputs.now → OnOk result
         (told.new ≡ map (written_over (told_on E.bench calibration.now) input.now before) inputs.now) }
-    ensures counted { OnOk result (steps.new ≡
-        count_with steps.old (rows_shared E.bench calibration.now inputs.now input.now)) }
-    ensures count { OnErr result ((n : ℕ)
-        × (n ≤ length (rows_shared E.bench calibration.now inputs.now input.now))
-        × (steps.new.count ≡ (steps.old.count + n) % 2 ^ 64)) }
+    ensures counted { AreCounted (rows_shared E.bench calibration.now inputs.now input.now)
+        steps.old steps.new result }
 {
     // Whoever reads them learns that both numbers are a u64.
     let _numbers = (steps.count(), steps.sum());

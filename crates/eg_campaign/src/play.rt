@@ -1,9 +1,11 @@
 // The runs of a campaign, played.
-ghost use Rattle.std.specs.Prelude.{◌≡◌, ℕ, ◌+◌, ◌%◌, ◌^◌, ◌≤◌, ◌<◌, All, List, [], ◌∷◌, map, length, slice_index_or, Option, Some, None, IsSome, IfOk, OnOk, OnErr};
+ghost use Rattle.std.specs.Prelude.{◌≡◌, ◌<◌, All, List, map, length, reverse, slice_index_or, Option, Some, None, IsSome, IfOk};
 ghost use Rattle.eg_record.specs.declared.run_facts.RunFacts.{RunFacts};
+ghost use Rattle.eg_model.specs.Rows.{record_rows};
 ghost use Rattle.eg_tick.specs.Facts.{IsToldOf};
-ghost use Rattle.eg_campaign.specs.Plays.{IsPlayable, bench_of, run_with, report_with, IsCounted, count_after};
-ghost use Rattle.eg_campaign.specs.Groups.{rows_made, count_with, told_with, facts_by};
+ghost use Rattle.eg_tick.specs.Counting.{count_with, AreCounted};
+ghost use Rattle.eg_campaign.specs.Plays.{IsPlayable, bench_of, run_with, report_with, rows_in_time};
+ghost use Rattle.eg_campaign.specs.Groups.{rows_made, told_with, facts_by};
 
 use crate::groups::tell_all;
 use eg_answer::reaction;
@@ -39,11 +41,8 @@ pub fn run_all(
 ) -> Result<Vec<Summary>, NoMemory>
     requires { All IsPlayable inputs.now }
     ensures summaries { IfOk result (λ all. all.items ≡ map (report_with calibration.now) inputs.now) }
-    // The rows that are made are counted. Where memory ran out, no more than these are.
-    ensures counted { OnOk result
-        (steps.new ≡ count_with steps.old (rows_made calibration.now inputs.now)) }
-    ensures count { OnErr result ((n : ℕ) × (n ≤ length (rows_made calibration.now inputs.now))
-        × (steps.new.count ≡ (steps.old.count + n) % 2 ^ 64)) }
+    // The rows that are made are counted, with their weights; where memory ran out, the first of them.
+    ensures counted { AreCounted (rows_made calibration.now inputs.now) steps.old steps.new result }
 {
     let told = told_all(alloc, calibration, inputs, steps)?;
     summaries_of(alloc, calibration, inputs, &told)
@@ -59,10 +58,7 @@ pub fn facts_all(
 ) -> Result<Vec<Facts>, NoMemory>
     requires { All IsPlayable inputs.now }
     ensures facts { IfOk result (λ all. all.items ≡ map (facts_by calibration.now) inputs.now) }
-    ensures counted { OnOk result
-        (steps.new ≡ count_with steps.old (rows_made calibration.now inputs.now)) }
-    ensures count { OnErr result ((n : ℕ) × (n ≤ length (rows_made calibration.now inputs.now))
-        × (steps.new.count ≡ (steps.old.count + n) % 2 ^ 64)) }
+    ensures counted { AreCounted (rows_made calibration.now inputs.now) steps.old steps.new result }
 {
     let told = told_all(alloc, calibration, inputs, steps)?;
     facts_of_all(alloc, &told)
@@ -79,10 +75,7 @@ pub fn told_all(
 ) -> Result<Vec<RunFacts>, NoMemory>
     requires { All IsPlayable inputs.now }
     ensures told { IfOk result (λ all. all.items ≡ map (told_with calibration.now) inputs.now) }
-    ensures counted { OnOk result
-        (steps.new ≡ count_with steps.old (rows_made calibration.now inputs.now)) }
-    ensures count { OnErr result ((n : ℕ) × (n ≤ length (rows_made calibration.now inputs.now))
-        × (steps.new.count ≡ (steps.old.count + n) % 2 ^ 64)) }
+    ensures counted { AreCounted (rows_made calibration.now inputs.now) steps.old steps.new result }
 {
     let told = tell_all(alloc, calibration, inputs, steps)?;
     each_told(alloc, &told)
@@ -146,13 +139,13 @@ fn each_told(alloc: Global, told: &[Option<RunFacts>]) -> Result<Vec<RunFacts>, 
     Ok(each)
 }
 
-/// What is told at a place at which something is.
-fn told_at(told: &[Option<RunFacts>], place: usize) -> RunFacts
-    requires place { place < length told.now }
-    requires some { IsSome (slice_index_or told.now place None) }
-    ensures { slice_index_or told.now place None ≡ Some result }
+/// What is told at an index at which something is.
+fn told_at(told: &[Option<RunFacts>], index: usize) -> RunFacts
+    requires index { index < length told.now }
+    requires some { IsSome (slice_index_or told.now index None) }
+    ensures { slice_index_or told.now index None ≡ Some result }
 {
-    match told[place] {
+    match told[index] {
         Some(one) => one,
         None => unreachable!("something is told there"),
     }
@@ -163,7 +156,8 @@ pub(crate) fn tell_one(calibration: &Calibration, input: &RunInput, steps: &mut 
     requires { IsPlayable input.now }
     ensures told { IsToldOf (bench_of input.now.plan.engine) (run_with calibration.now input.now).run
         result }
-    ensures counted { steps.new ≡ count_after steps.old (run_with calibration.now input.now ∷ []) }
+    ensures counted { steps.new ≡ count_with steps.old
+        (rows_in_time (run_with calibration.now input.now)) }
 {
     match input.plan.engine {
         EngineKind::Gasoline => tell_on::<GasolineEngine>(calibration, input, steps),
@@ -179,7 +173,8 @@ fn tell_on<E: BenchedEngine>(
 ) -> RunFacts
     requires { IsPlayable input.now }
     ensures told { IsToldOf E.bench (run_with calibration.now input.now).run result }
-    ensures counted { IsCounted E.bench (run_with calibration.now input.now).run steps.old steps.new }
+    ensures counted { steps.new ≡ count_with steps.old
+        (reverse (record_rows E.bench (run_with calibration.now input.now).run)) }
 {
     let (image, drive) = (input.image.as_slice(), input.drive.as_slice());
     let (plan, fault) = (&input.plan.plan, input.plan.fault.as_ref());

@@ -1,10 +1,11 @@
 // The record of a run, written as its ticks are made.
-ghost use Rattle.std.specs.Prelude.{◌≡◌, [], ◌∷◌, reverse, OnOk, OnErr, IsErrOf};
+ghost use Rattle.std.specs.Prelude.{◌≡◌, reverse, OnOk, OnErr, IsErrOf};
 ghost use Rattle.eg_base.specs.Outside.{Rose, Appends, AppendsPrefix};
 ghost use Rattle.eg_record.specs.Texts.{row_line};
 ghost use Rattle.eg_model.specs.Rows.{record_rows};
-ghost use Rattle.eg_campaign.specs.Plays.{IsPlayable, IsCounted, run_with, count_after};
-ghost use Rattle.eg_campaign.specs.Texts.{text_of, rows_in_time, record_text};
+ghost use Rattle.eg_tick.specs.Counting.{count_with};
+ghost use Rattle.eg_campaign.specs.Plays.{IsPlayable, run_with, rows_in_time};
+ghost use Rattle.eg_campaign.specs.Texts.{text_of, record_text};
 ghost use Rattle.eg_campaign.specs.Recording.{IsStopped};
 ghost use Rattle.eg_campaign.specs.declared.recording.RecordStop.TheVariants.{Memory, Put};
 
@@ -19,7 +20,7 @@ use eg_values::Calibration;
 use std::alloc::Global;
 
 /// Why the writing of a record was stopped.
-#[derive(Clone, Copy, Debug, PartialEq, Eq)]
+#[derive(Clone, Copy)]
 pub enum RecordStop {
     /// Memory ran out.
     Memory,
@@ -43,10 +44,10 @@ pub fn record_into<K: Sink>(
     ensures whole { OnOk result
         (Appends (K.shows out.old) (K.shows out.new) (record_text calibration.now input.now)) }
     ensures counted { OnOk result
-        (steps.new ≡ count_after steps.old (run_with calibration.now input.now ∷ [])) }
+        (steps.new ≡ count_with steps.old (rows_in_time (run_with calibration.now input.now))) }
     ensures no_fault { OnOk result ((K.shows out.new).faults ≡ (K.shows out.old).faults) }
     // Where it is stopped a front is appended, and no tick is made before the line of the one before stands.
-    ensures stopped { OnErr result (IsStopped (rows_in_time calibration.now input.now)
+    ensures stopped { OnErr result (IsStopped (rows_in_time (run_with calibration.now input.now))
         (K.shows out.old) (K.shows out.new) steps.old steps.new) }
     // Put comes only where a fault of writing is counted, and Memory only where none is.
     ensures cause { IsErrOf result Put → Rose (K.shows out.old).faults (K.shows out.new).faults }
@@ -76,8 +77,8 @@ fn record_on<E: BenchedEngine, K: Sink>(
     requires { IsPlayable input.now }
     ensures whole { OnOk result (Appends (K.shows out.old) (K.shows out.new)
         (text_of (reverse (record_rows E.bench (run_with calibration.now input.now).run)))) }
-    ensures counted { OnOk result
-        (IsCounted E.bench (run_with calibration.now input.now).run steps.old steps.new) }
+    ensures counted { OnOk result (steps.new ≡ count_with steps.old
+        (reverse (record_rows E.bench (run_with calibration.now input.now).run))) }
     ensures no_fault { OnOk result ((K.shows out.new).faults ≡ (K.shows out.old).faults) }
     ensures stopped { OnErr result
         (IsStopped (reverse (record_rows E.bench (run_with calibration.now input.now).run))

@@ -6,7 +6,7 @@ use Rattle.eg_sensor.specs.Brake.{sound_contacts, is_pressed}
 use Rattle.eg_sensor.specs.declared.tracks.TheConstants.{BRAKE_1, BRAKE_2}
 use Rattle.eg_answer.specs.Modules.{OthersRun, AtMostOneIsDisturbed}
 use Rattle.eg_fault.specs.Effects.{Effects, no_effects, contacts_under}
-use Rattle.eg_fault.specs.Faults.{does, effects, IsValidClass}
+use Rattle.eg_fault.specs.Faults.{effects_of, effects, IsValidClass}
 use Rattle.eg_fault.specs.Classes.{IsSound, OneTrackIsFaulty, PressedBrakesAreSeen, IsHeldWithin, PlatesAreHeldWithin, IsFlip, FlipsAreInWords, ChecksFlips, FaultsCheckFlips, OneOfEightIsLeftOut, FaultsDisturbOne, IsRegular, may_change_answers, OthersSpareLevels, OthersSpareAnswers, WildStaysWild, closes, OthersObeyLatches}
 use Rattle.eg_fault.specs.declared.class.Class.{Class}
 use Rattle.eg_fault.specs.declared.class.Class.TheVariants.{Script, Offset, Plate, Skip, Disturb, Flip, Halt, Timing, Wild, Path1Closed, Path2Closed, PathOpen, Lapse}
@@ -16,8 +16,8 @@ use Rattle.eg_fault.proofs.RunningLemmas.{same-spared}
 -- ---- tracks ----
 
 -- a class has one track that it may change
-faulty_track : (class : Class) → (one : ℕ) × ((k i : ℕ) → i ≢ one → IsSound (does class k) i)
-unfolding does no_effects
+faulty_track : (class : Class) → (one : ℕ) × ((k i : ℕ) → i ≢ one → IsSound (effects_of class k) i)
+unfolding effects_of no_effects
 faulty_track (Script track values) = (track, λ k i other v. rw (ne_eqb i track other) refl)
 faulty_track (Offset track add) = (track, λ k i other v. rw (ne_eqb i track other) refl)
 faulty_track _ = (0, λ k i other v. refl)
@@ -29,10 +29,10 @@ one_track_is_faulty (Some fault) =
     (found.0, λ tick i other. of_class (λ x. IsSound x i) fault (unfold no_effects in (λ v. refl)) (λ k. found.1 k i other) tick)
 
 -- so one of two tracks is sound
-pub one_of_two : (class : Class) (k a b : ℕ) → a ≢ b → IsSound (does class k) a ⊎ IsSound (does class k) b
+pub one_of_two : (class : Class) (k a b : ℕ) → a ≢ b → IsSound (effects_of class k) a ⊎ IsSound (effects_of class k) b
 one_of_two class k a b apart = go (faulty_track class)
   where
-    go : ((one : ℕ) × ((k i : ℕ) → i ≢ one → IsSound (does class k) i)) → IsSound (does class k) a ⊎ IsSound (does class k) b
+    go : ((one : ℕ) × ((k i : ℕ) → i ≢ one → IsSound (effects_of class k) i)) → IsSound (effects_of class k) a ⊎ IsSound (effects_of class k) b
     go found = elim (cases_Bool (a == found.0)) [
       | inl same ↦ inr (found.1 k b (λ also. apart (eqb-true _ _ same ∙ sym also)))
       | inr other ↦ inl (found.1 k a (eqb-false _ _ other))
@@ -64,13 +64,13 @@ pressed_brakes_are_seen fault tick = pressed_is_seen (effects fault tick) (elim 
 
 -- ---- the plate ----
 
-held-class : (class : Class) (k : ℕ) → IsValidClass class → IsHeldWithin (does class k).held
-unfolding does no_effects IsValidClass
+held-class : (class : Class) (k : ℕ) → IsValidClass class → IsHeldWithin (effects_of class k).held_plate
+unfolding effects_of no_effects IsValidClass
 held-class (Plate at) k valid = valid
 held-class _ k valid = tt
 
 pub plates_are_held_within : PlatesAreHeldWithin
-plates_are_held_within = of_valid (λ x. IsHeldWithin x.held) (unfold no_effects in tt) held-class
+plates_are_held_within = of_valid (λ x. IsHeldWithin x.held_plate) (unfold no_effects in tt) held-class
 
 -- ---- the word that is flipped ----
 
@@ -78,8 +78,8 @@ flipped_now : (now : Bool) (word mask : ℕ) → IsFlip (word, mask) → IfSome 
 flipped_now true word mask valid = valid
 flipped_now false word mask valid = tt
 
-flips-class : (class : Class) (k : ℕ) → IsValidClass class → IfSome (does class k).flip IsFlip
-unfolding does no_effects IsValidClass
+flips-class : (class : Class) (k : ℕ) → IsValidClass class → IfSome (effects_of class k).flip IsFlip
+unfolding effects_of no_effects IsValidClass
 flips-class (Flip word mask) k valid = flipped_now (k == 0) word mask (valid.0, valid.1.0)
 flips-class _ k valid = tt
 
@@ -87,8 +87,8 @@ pub flips_are_in_words : FlipsAreInWords
 flips_are_in_words = of_valid (λ x. IfSome x.flip IsFlip) (unfold no_effects in tt) flips-class
 
 -- the classes that leave module 0 out flip no word
-checks-class : (class : Class) (k : ℕ) → ChecksFlips (does class k)
-unfolding does no_effects
+checks-class : (class : Class) (k : ℕ) → ChecksFlips (effects_of class k)
+unfolding effects_of no_effects
 checks-class (Skip one) k flipped = absurd (false≢true flipped)
 checks-class Halt k flipped = absurd (false≢true flipped)
 checks-class (Lapse after every) k flipped = absurd (false≢true flipped)
@@ -102,9 +102,9 @@ faults_check_flips = of_all ChecksFlips (λ flipped. unfold no_effects in refl) 
 itself : (n : ℕ) → (n == n) ≡ true
 itself n = eq-eqb n n refl
 
-one_below : (class : Class) (k : ℕ) → IsValidClass class → (one : ℕ) → OthersRun one (does class k).ran →
+one_below : (class : Class) (k : ℕ) → IsValidClass class → (one : ℕ) → OthersRun one (effects_of class k).ran →
     one < 8
-unfolding does no_effects IsValidClass
+unfolding effects_of no_effects IsValidClass
 one_below (Skip index) k valid one others =
     let same : one ≡ index = go (one == index) refl in
     omega arith
@@ -127,8 +127,8 @@ one_of_eight_is_left_out fault valid one out =
 
 -- ---- the module that is disturbed ----
 
-disturbs-class : (class : Class) (k : ℕ) → IsValidClass class → AtMostOneIsDisturbed (does class k).disturbance
-unfolding does no_effects IsValidClass
+disturbs-class : (class : Class) (k : ℕ) → IsValidClass class → AtMostOneIsDisturbed (effects_of class k).disturbance
+unfolding effects_of no_effects IsValidClass
 disturbs-class (Disturb index mask) k valid = inr (record {
   one = index;
   mask = mask;
@@ -149,8 +149,8 @@ pub regular : IsRegular no_effects
 unfolding no_effects
 regular = record { sends = refl; judged = refl }
 
-pub regular-class : (class : Class) (k : ℕ) → may_change_answers class ≡ false → IsRegular (does class k)
-unfolding does no_effects may_change_answers
+pub regular-class : (class : Class) (k : ℕ) → may_change_answers class ≡ false → IsRegular (effects_of class k)
+unfolding effects_of no_effects may_change_answers
 regular-class (Timing offset) k is = absurd (let clash : true ≡ false = is in cc)
 regular-class (Wild questions opens) k is = absurd (let clash : true ≡ false = is in cc)
 regular-class _ k is = record { sends = refl; judged = refl }
@@ -159,8 +159,8 @@ pub others_spare_answers : OthersSpareAnswers
 others_spare_answers fault tick is = of_class IsRegular fault regular (λ k. regular-class fault.class k is) tick
 
 -- a class is wild at each tick or at none
-wild-class : (class : Class) (k j : ℕ) → (does class k).wild ≡ None → (does class j).wild ≡ None
-unfolding does no_effects
+wild-class : (class : Class) (k j : ℕ) → (effects_of class k).wild ≡ None → (effects_of class j).wild ≡ None
+unfolding effects_of no_effects
 wild-class (Wild questions opens) k j tame = cc
 wild-class _ k j tame = refl
 
@@ -190,8 +190,8 @@ or_never : (b : Bool) → b ≡ false → (b || false) ≡ false
 or_never true is = is
 or_never false is = refl
 
-pub obeys-class : (class : Class) (k path : ℕ) → closes class path ≡ false → Obeys path (does class k)
-unfolding does no_effects closes
+pub obeys-class : (class : Class) (k path : ℕ) → closes class path ≡ false → Obeys path (effects_of class k)
+unfolding effects_of no_effects closes
 obeys-class Path1Closed k path is = or_never _ is
 obeys-class Path2Closed k path is = or_never _ is
 obeys-class (PathOpen broken) k path is = never (not (path == broken))

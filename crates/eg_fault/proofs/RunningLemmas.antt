@@ -3,7 +3,7 @@ use Rattle.std.proofs.Common.{◌≡◌, ℕ, ◌-◌, ◌<◌, ◌⊎◌, inl, 
 use Rattle.std.specs.Prelude.{not, Some, None}
 use Rattle.eg_answer.specs.Modules.{AllRun, NoneRuns, OthersRun}
 use Rattle.eg_fault.specs.Effects.{Effects, no_effects}
-use Rattle.eg_fault.specs.Faults.{does, effects, is_left_out}
+use Rattle.eg_fault.specs.Faults.{effects_of, effects, is_left_out}
 use Rattle.eg_fault.specs.Running.{LeavesOut, RunsWhole, RunningLaw, RunAlike, may_change_levels}
 use Rattle.eg_fault.specs.declared.class.Class.{Class}
 use Rattle.eg_fault.specs.declared.class.Class.TheVariants.{Skip, Disturb, Flip, Halt, Lapse}
@@ -16,14 +16,14 @@ all-no_effects i = refl
 
 -- what a class does to level 2, at each tick after the onset
 Kind : Class → Type 0
-Kind class = ((k : ℕ) → AllRun (does class k).ran ⊎ NoneRuns (does class k).ran) ⊎ ((one : ℕ) × ((k : ℕ) → OthersRun one (does class k).ran))
+Kind class = ((k : ℕ) → AllRun (effects_of class k).ran ⊎ NoneRuns (effects_of class k).ran) ⊎ ((one : ℕ) × ((k : ℕ) → OthersRun one (effects_of class k).ran))
 
 lapse : (left_out : Bool) → ((i : ℕ) → not left_out ≡ true) ⊎ ((i : ℕ) → not left_out ≡ false)
 lapse true = inr (λ i. refl)
 lapse false = inl (λ i. refl)
 
 kind-of : (class : Class) → Kind class
-unfolding Kind does no_effects
+unfolding Kind effects_of no_effects
 kind-of (Skip one) = inr (one, λ k i. refl)
 kind-of Halt = inl (λ k. inr (λ i. refl))
 kind-of (Lapse after every) = inl (λ k. lapse (is_left_out after every k))
@@ -35,11 +35,11 @@ unfolding effects
 without tick = all-no_effects
 
 -- whole or not at all, at each tick
-whole : (fault : Fault) → ((k : ℕ) → AllRun (does fault.class k).ran ⊎ NoneRuns (does fault.class k).ran) → RunsWhole (Some fault)
+whole : (fault : Fault) → ((k : ℕ) → AllRun (effects_of fault.class k).ran ⊎ NoneRuns (effects_of fault.class k).ran) → RunsWhole (Some fault)
 whole fault each tick = of_class (λ x. AllRun x.ran ⊎ NoneRuns x.ran) fault (inl all-no_effects) each tick
 
 -- one is left out from the onset on
-left_out : (fault : Fault) (one : ℕ) → ((k : ℕ) → OthersRun one (does fault.class k).ran) → LeavesOut fault one
+left_out : (fault : Fault) (one : ℕ) → ((k : ℕ) → OthersRun one (effects_of fault.class k).ran) → LeavesOut fault one
 left_out fault one each = record {
   before = λ tick before. subst (λ (x : Effects). AllRun x.ran) (sym (before_onset fault tick before)) all-no_effects;
   after = λ tick after. subst (λ (x : Effects). OthersRun one x.ran) (sym (from_onset fault tick after)) (each (tick - fault.onset));
@@ -65,8 +65,8 @@ unfolding effects
 same-before fault tick before = subst (RunAlike no_effects) (sym (before_onset fault tick before)) (same no_effects)
 
 -- the other classes leave them alone
-pub spared : (class : Class) (k : ℕ) → may_change_levels class ≡ false → RunAlike no_effects (does class k)
-unfolding does no_effects may_change_levels
+pub spared : (class : Class) (k : ℕ) → may_change_levels class ≡ false → RunAlike no_effects (effects_of class k)
+unfolding effects_of no_effects may_change_levels
 spared (Skip one) k is = absurd (let clash : true ≡ false = is in cc)
 spared (Disturb one mask) k is = absurd (let clash : true ≡ false = is in cc)
 spared (Flip word mask) k is = absurd (let clash : true ≡ false = is in cc)

@@ -5,14 +5,14 @@ use Rattle.eg_answer.specs.Periods.{asked, is_send_tick, period_of, place_of}
 use Rattle.eg_answer.specs.Times.{TimeParts}
 use Rattle.eg_sensor.specs.Brake.{sound_contacts}
 use Rattle.eg_fault.specs.Effects.{Effects, no_effects, readings_under, contacts_under, sends_in, sends_at, asked_in, asked_at}
-use Rattle.eg_fault.specs.Faults.{offset_by, in_turn, truth_in_turn, is_left_out, does, effects}
+use Rattle.eg_fault.specs.Faults.{offset_by, in_turn, truth_in_turn, is_left_out, effects_of, effects}
 use Rattle.eg_fault.specs.declared.class.Class.{Class}
 use Rattle.eg_fault.specs.declared.class.Class.TheVariants.{Script, Flip, Timing, Wild, Path1Closed, PathOpen, Lapse}
 
 -- every definition of faults
 unfoldable faults : ℕ
 unfolding no_effects readings_under contacts_under sends_in sends_at asked_in asked_at asked is_send_tick period_of place_of
-    offset_by in_turn truth_in_turn is_left_out does effects
+    offset_by in_turn truth_in_turn is_left_out effects_of effects
 faults = 0
 
 -- a class that acts from tick 10 on, at a tick

@@ -41,7 +41,7 @@ IsHeldWithin held = IfSome held (λ at. at ≤ 1000)
 -- so it is at each tick, without a fault and under each valid one
 abbrev pub PlatesAreHeldWithin : Type 0
 PlatesAreHeldWithin =
-    (fault : Option Fault) → IsNoneOrValid fault → (tick : ℕ) → IsHeldWithin (effects fault tick).held
+    (fault : Option Fault) → IsNoneOrValid fault → (tick : ℕ) → IsHeldWithin (effects fault tick).held_plate
 
 -- ---- the word that is flipped ----
 

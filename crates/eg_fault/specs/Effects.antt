@@ -13,7 +13,7 @@ pub record Effects : Type 0 where
   -- what is read as the raise where x is sent
   pub raise : ℕ → ℕ
   -- where the throttle plate is held
-  pub held : Option ℕ
+  pub held_plate : Option ℕ
   -- whether level 1 runs
   pub level1 : Bool
   -- whether module i of level 2 runs
@@ -36,7 +36,7 @@ unfoldable pub no_effects : Effects
 no_effects = record {
   track = λ i x. x;
   raise = λ x. x;
-  held = None;
+  held_plate = None;
   level1 = true;
   ran = λ i. true;
   disturbance = λ i. 0;

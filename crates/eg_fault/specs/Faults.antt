@@ -33,31 +33,31 @@ unfoldable pub is_left_out : List ℕ → ℕ → ℕ → Bool
 is_left_out after every k = list_any (λ a. a == (if every == 0 then k else k % every)) after
 
 -- what a class does, k ticks after the onset
-unfoldable pub does : Class → ℕ → Effects
-does (Script track values) k =
+unfoldable pub effects_of : Class → ℕ → Effects
+effects_of (Script track values) k =
     record no_effects { track = λ i x. if i == track then in_turn values k else x }
-does (Offset track add) k =
+effects_of (Offset track add) k =
     record no_effects { track = λ i x. if i == track then offset_by add x else x }
-does (Bus mask) k = record no_effects { raise = λ x. bit_xor x mask }
-does (Plate at) k = record no_effects { held = Some at }
-does (Skip index) k = record no_effects { ran = λ i. not (i == index) }
-does (Disturb index mask) k = record no_effects { disturbance = λ i. if i == index then mask else 0 }
-does (Flip word mask) k = record no_effects { flip = if k == 0 then Some (word, mask) else None }
-does Halt k = record no_effects { level1 = false; ran = λ i. false }
-does (Timing offset) k = record no_effects { send = Some offset }
-does (Wild questions opens) k =
+effects_of (Bus mask) k = record no_effects { raise = λ x. bit_xor x mask }
+effects_of (Plate at) k = record no_effects { held_plate = Some at }
+effects_of (Skip index) k = record no_effects { ran = λ i. not (i == index) }
+effects_of (Disturb index mask) k = record no_effects { disturbance = λ i. if i == index then mask else 0 }
+effects_of (Flip word mask) k = record no_effects { flip = if k == 0 then Some (word, mask) else None }
+effects_of Halt k = record no_effects { level1 = false; ran = λ i. false }
+effects_of (Timing offset) k = record no_effects { send = Some offset }
+effects_of (Wild questions opens) k =
     record no_effects { wild = Some (in_turn questions k); opens = truth_in_turn opens k }
-does Path1Closed k = record no_effects { conducts = λ path is_open. path == PATH_1 || not is_open }
-does Path2Closed k = record no_effects { conducts = λ path is_open. path == PATH_2 || not is_open }
-does (PathOpen path) k =
+effects_of Path1Closed k = record no_effects { conducts = λ path is_open. path == PATH_1 || not is_open }
+effects_of Path2Closed k = record no_effects { conducts = λ path is_open. path == PATH_2 || not is_open }
+effects_of (PathOpen path) k =
     record no_effects { conducts = λ other is_open. not (other == path) && not is_open }
-does (Lapse after every) k = record no_effects { ran = λ i. not (is_left_out after every k) }
+effects_of (Lapse after every) k = record no_effects { ran = λ i. not (is_left_out after every k) }
 
 -- what is out of order at a tick: nothing before the onset, and without a fault
 unfoldable pub effects : Option Fault → ℕ → Effects
 effects None tick = no_effects
 effects (Some fault) tick =
-    if nat_le fault.onset tick then does fault.class (tick - fault.onset) else no_effects
+    if nat_le fault.onset tick then effects_of fault.class (tick - fault.onset) else no_effects
 
 -- ---- which faults there are ----
 

@@ -2,16 +2,16 @@
 ghost use Rattle.std.specs.Prelude.{◌≡◌, ◌<◌, false, option_map, length};
 ghost use Rattle.std.specs.Option.{option_map_or};
 ghost use Rattle.eg_fault.specs.Faults;
-ghost use Rattle.eg_fault.specs.Faults.{does};
+ghost use Rattle.eg_fault.specs.Faults.{effects_of};
 ghost use Rattle.eg_fault.specs.Running.{may_change_levels};
 
 use crate::{Class, Opens, PATH_1, PATH_2, Script};
 
 impl Class {
     /// What a track reads, where a sound one reads `sound`.
-    #[tactic(auto, unfolding(crate::specs::Effects::no_effects, crate::specs::Faults::does))]
+    #[tactic(auto, unfolding(crate::specs::Effects::no_effects, crate::specs::Faults::effects_of))]
     pub(crate) fn track(&self, after: u32, index: u8, sound: u16) -> u16
-        ensures { result ≡ (does self.now after).track index sound }
+        ensures { result ≡ (effects_of self.now after).track index sound }
     {
         match self {
             Class::Script { track, values } if index == *track => in_turn(values, after),
@@ -21,9 +21,9 @@ impl Class {
     }
 
     /// What is read as the raise, where `sent` is sent.
-    #[tactic(auto, unfolding(crate::specs::Effects::no_effects, crate::specs::Faults::does))]
+    #[tactic(auto, unfolding(crate::specs::Effects::no_effects, crate::specs::Faults::effects_of))]
     pub(crate) fn raise(&self, after: u32, sent: u16) -> u16
-        ensures { result ≡ (does self.now after).raise sent }
+        ensures { result ≡ (effects_of self.now after).raise sent }
     {
         match self {
             Class::Bus { mask } => sent ^ mask,
@@ -32,9 +32,9 @@ impl Class {
     }
 
     /// Where the plate is held.
-    #[tactic(auto, unfolding(crate::specs::Effects::no_effects, crate::specs::Faults::does))]
-    pub(crate) fn held(&self, after: u32) -> Option<u16>
-        ensures { result ≡ (does self.now after).held }
+    #[tactic(auto, unfolding(crate::specs::Effects::no_effects, crate::specs::Faults::effects_of))]
+    pub(crate) fn held_plate(&self, after: u32) -> Option<u16>
+        ensures { result ≡ (effects_of self.now after).held_plate }
     {
         match self {
             Class::Plate { at } => Some(*at),
@@ -43,9 +43,9 @@ impl Class {
     }
 
     /// Whether level 1 runs.
-    #[tactic(auto, unfolding(crate::specs::Effects::no_effects, crate::specs::Faults::does))]
+    #[tactic(auto, unfolding(crate::specs::Effects::no_effects, crate::specs::Faults::effects_of))]
     pub(crate) fn level1_runs(&self, after: u32) -> bool
-        ensures { result ≡ (does self.now after).level1 }
+        ensures { result ≡ (effects_of self.now after).level1 }
     {
         !matches!(self, Class::Halt)
     }
@@ -66,9 +66,9 @@ impl Class {
     }
 
     /// Whether a module of level 2 runs.
-    #[tactic(auto, unfolding(crate::specs::Effects::no_effects, crate::specs::Faults::does))]
+    #[tactic(auto, unfolding(crate::specs::Effects::no_effects, crate::specs::Faults::effects_of))]
     pub(crate) fn module_runs(&self, after: u32, index: u8) -> bool
-        ensures { result ≡ (does self.now after).ran index }
+        ensures { result ≡ (effects_of self.now after).ran index }
     {
         match self {
             Class::Skip { module } => index != *module,
@@ -82,9 +82,9 @@ impl Class {
     }
 
     /// What is mixed into the result of a module of level 2.
-    #[tactic(auto, unfolding(crate::specs::Effects::no_effects, crate::specs::Faults::does))]
+    #[tactic(auto, unfolding(crate::specs::Effects::no_effects, crate::specs::Faults::effects_of))]
     pub(crate) fn disturbance(&self, after: u32, index: u8) -> u16
-        ensures { result ≡ (does self.now after).disturbance index }
+        ensures { result ≡ (effects_of self.now after).disturbance index }
     {
         match self {
             Class::Disturb { module, mask } if index == *module => *mask,
@@ -93,9 +93,9 @@ impl Class {
     }
 
     /// The word of level 2 that is flipped, and its bits.
-    #[tactic(auto, unfolding(crate::specs::Effects::no_effects, crate::specs::Faults::does))]
+    #[tactic(auto, unfolding(crate::specs::Effects::no_effects, crate::specs::Faults::effects_of))]
     pub(crate) fn flip(&self, after: u32) -> Option<(u8, u16)>
-        ensures { result ≡ (does self.now after).flip }
+        ensures { result ≡ (effects_of self.now after).flip }
     {
         match self {
             Class::Flip { word, mask } if after == 0 => Some((*word, *mask)),
@@ -104,9 +104,9 @@ impl Class {
     }
 
     /// The tick of a period at which answers are sent, where it isn't the usual one.
-    #[tactic(auto, unfolding(crate::specs::Effects::no_effects, crate::specs::Faults::does))]
+    #[tactic(auto, unfolding(crate::specs::Effects::no_effects, crate::specs::Faults::effects_of))]
     pub(crate) fn moved_send(&self, after: u32) -> Option<u16>
-        ensures { result ≡ (does self.now after).send }
+        ensures { result ≡ (effects_of self.now after).send }
     {
         match self {
             Class::Timing { offset } => Some(*offset),
@@ -115,10 +115,10 @@ impl Class {
     }
 
     /// The number of the question that a wild monitoring module asks, and whether it orders path 2 open.
-    #[tactic(auto, unfolding(crate::specs::Effects::no_effects, crate::specs::Faults::does))]
+    #[tactic(auto, unfolding(crate::specs::Effects::no_effects, crate::specs::Faults::effects_of))]
     pub(crate) fn wild(&self, after: u32) -> Option<(u16, bool)>
-        ensures question { option_map (λ asked. asked.0) result ≡ (does self.now after).wild }
-        ensures opens { option_map_or (λ asked. asked.1) result false ≡ (does self.now after).opens }
+        ensures question { option_map (λ asked. asked.0) result ≡ (effects_of self.now after).wild }
+        ensures opens { option_map_or (λ asked. asked.1) result false ≡ (effects_of self.now after).opens }
     {
         match self {
             Class::Wild { questions, opens } => {
@@ -129,9 +129,9 @@ impl Class {
     }
 
     /// Whether path 1 or 2 conducts, where its latch is open or isn't.
-    #[tactic(auto, unfolding(crate::specs::Effects::no_effects, crate::specs::Faults::does))]
+    #[tactic(auto, unfolding(crate::specs::Effects::no_effects, crate::specs::Faults::effects_of))]
     pub(crate) fn conducts(&self, after: u32, path: u8, opened: bool) -> bool
-        ensures { result ≡ (does self.now after).conducts path opened }
+        ensures { result ≡ (effects_of self.now after).conducts path opened }
     {
         match self {
             Class::Path1Closed => path == PATH_1 || !opened,

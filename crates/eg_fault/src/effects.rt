@@ -4,7 +4,7 @@ ghost use Rattle.std.specs.Option.{option_copied, option_map_or};
 ghost use Rattle.eg_answer.specs.Periods;
 ghost use Rattle.eg_fault.specs.Effects;
 ghost use Rattle.eg_fault.specs.Effects.{no_effects, readings_under, contacts_under, sends_at};
-ghost use Rattle.eg_fault.specs.Faults.{effects, does};
+ghost use Rattle.eg_fault.specs.Faults.{effects, effects_of};
 ghost use Rattle.eg_fault.specs.Running.{RunAlike};
 
 use crate::{Class, Fault};
@@ -56,11 +56,11 @@ pub fn faulty_contacts(fault: Option<&Fault>, tick: u32, truth: [u16; 2]) -> [u1
 
 /// Where the throttle plate is held at a tick, in per mille, if it is (docs/CONCEPT.md, "Faults").
 #[tactic(auto, unfolding(crate::specs::Effects::no_effects))]
-pub fn held(fault: Option<&Fault>, tick: u32) -> Option<u16>
-    ensures { result ≡ (effects (option_copied fault.entry) tick).held }
+pub fn held_plate(fault: Option<&Fault>, tick: u32) -> Option<u16>
+    ensures { result ≡ (effects (option_copied fault.entry) tick).held_plate }
 {
     let (class, after) = acting(fault, tick)?;
-    class.held(after)
+    class.held_plate(after)
 }
 
 /// Whether level 1 runs at a tick (docs/CONCEPT.md, "Faults").
@@ -212,7 +212,7 @@ fn place_of(times: &Times, tick: u32) -> u32
 #[tactic(auto, unfolding(crate::specs::Faults::effects))]
 fn acting(fault: Option<&Fault>, tick: u32) -> Option<(&Class, u32)>
     ensures { effects (option_copied fault.entry) tick
-        ≡ option_map_or (λ a. does a.0.now a.1) result no_effects }
+        ≡ option_map_or (λ a. effects_of a.0.now a.1) result no_effects }
 {
     let fault = fault?;
     let after = tick.checked_sub(fault.onset)?;

@@ -9,7 +9,7 @@ use Rattle.eg_num.specs.Windows.{WeightParts, is_confirmed}
 use Rattle.eg_torque.specs.Excess.{is_excess}
 use Rattle.eg_answer.specs.Times.{feeds_to_confirm, reaction_of}
 use Rattle.eg_values.specs.Calibration.{IsAccepted}
-use Rattle.eg_fault.specs.Faults.{does}
+use Rattle.eg_fault.specs.Faults.{effects_of}
 use Rattle.eg_fault.specs.declared.class.Fault.{Fault}
 use Rattle.eg_fault.proofs.ActingLemmas.{before_onset, from_onset}
 use Rattle.eg_fault.specs.Effects.{Effects, no_effects}
@@ -71,7 +71,7 @@ follows_plain f (x ∷ h) each short = (
 )
 
 -- and then any number of ticks alike, where the class always does the same
-pub follows_alike : (f : Fault) (y : Tick) → ((k : ℕ) → does f.class k ≡ y.effects) → (n : ℕ) (h : List Tick) →
+pub follows_alike : (f : Fault) (y : Tick) → ((k : ℕ) → effects_of f.class k ≡ y.effects) → (n : ℕ) (h : List Tick) →
     f.onset ≤ length h → Follows (Some f) 0 h → Follows (Some f) 0 (replicate n y ++ h)
 unfolding Follows
 follows_alike f y same zero h late follows = follows

@@ -11,7 +11,7 @@ use Rattle.eg_answer.specs.Times.{TimeParts, feeds_to_confirm, reaction_of}
 use Rattle.eg_answer.specs.declared.marks.AnswerMark.TheVariants.{Absent, Good, Bad}
 use Rattle.eg_values.specs.Calibration.{CalibrationParts, IsAccepted}
 use Rattle.eg_fault.specs.Effects.{no_effects, sends_at}
-use Rattle.eg_fault.specs.Faults.{does, is_left_out, IsValidClass, IsNoneOrValid}
+use Rattle.eg_fault.specs.Faults.{effects_of, is_left_out, IsValidClass, IsNoneOrValid}
 use Rattle.eg_model.specs.History.{Setting, Tick, Moment}
 use Rattle.eg_model.specs.Signals.{tripped}
 use Rattle.eg_model.specs.Answers.{is_sent, is_good, mark_at}
@@ -30,8 +30,8 @@ use Rattle.eg_laws.proofs.ExcessTicks.{follows_plain, follows_alike, ticks_shut,
 
 -- ---- a tick that level 2 misses ----
 
-missed_out : AllOrNone (does missing_all 0)
-unfolding does no_effects is_left_out
+missed_out : AllOrNone (effects_of missing_all 0)
+unfolding effects_of no_effects is_left_out
 missed_out = record {
   runs = false;
   ran = λ i. refl;
@@ -49,15 +49,15 @@ always_out k = ap (λ n. (0 == n) || false) (one k)
     one : (k : ℕ) → k % 1 ≡ 0
     one k = omega arith
 
-same_always : (k : ℕ) → does missing_all k ≡ does missing_all 0
-unfolding does
+same_always : (k : ℕ) → effects_of missing_all k ≡ effects_of missing_all 0
+unfolding effects_of
 same_always k = ap (λ out. record no_effects { ran = λ i. not out }) (always_out k ∙ sym (always_out 0))
 
-never_sent : (times : TimeParts) (trip : Bool) (past : List Moment) → mark_at times (does missing_all 0) trip past ≡ Absent
-unfolding mark_at is_sent does no_effects is_left_out
+never_sent : (times : TimeParts) (trip : Bool) (past : List Moment) → mark_at times (effects_of missing_all 0) trip past ≡ Absent
+unfolding mark_at is_sent effects_of no_effects is_left_out
 never_sent times trip past =
-    ap (λ sent. if sent then (if is_good (does missing_all 0) past then Good else Bad) else Absent)
-    (and_left _ _ (and_right (sends_at (does missing_all 0) times (length past)) false refl))
+    ap (λ sent. if sent then (if is_good (effects_of missing_all 0) past then Good else Bad) else Absent)
+    (and_left _ _ (and_right (sends_at (effects_of missing_all 0) times (length past)) false refl))
 
 -- ---- one tick more of excess ----
 
@@ -123,7 +123,7 @@ module _ (cal : CalibrationParts) (accepted : IsAccepted cal) (fit : RunsFit cal
   unfolding Unanswered
   unanswered zero = tt
   unanswered (suc n) = (
-    moment-mark s (does missing_all 0) miss.entry (moments_of s (whole n)) ∙ never_sent cal.times _ (moments_of s (whole n)),
+    moment-mark s (effects_of missing_all 0) miss.entry (moments_of s (whole n)) ∙ never_sent cal.times _ (moments_of s (whole n)),
     unanswered n,
   )
 
@@ -135,7 +135,7 @@ module _ (cal : CalibrationParts) (accepted : IsAccepted cal) (fit : RunsFit cal
   none_opens : (n : ℕ) → NoneOpens (whole n)
   unfolding Each
   none_opens zero = ticks_shut s accepted can first_quiet (many - 1)
-  none_opens (suc n) = (unfold does no_effects in refl, none_opens n)
+  none_opens (suc n) = (unfold effects_of no_effects in refl, none_opens n)
 
   few : (n : ℕ) → HasFew s (1 + 1) (whole n)
   few n = few_on s accepted.times 1 (replicate n miss) base (regular n) (unanswered n)
@@ -151,15 +151,15 @@ module _ (cal : CalibrationParts) (accepted : IsAccepted cal) (fit : RunsFit cal
           n < r → l < (1 + 1 + c) * period
       law l n r c period send is long early = grind arith
 
-  on : (n : ℕ) → n < reaction_of cal.times → on_at (does missing_all 0) (moments_of s (whole n)) ≡ true
-  unfolding on_at path1_at path2_at does no_effects
+  on : (n : ℕ) → n < reaction_of cal.times → on_at (effects_of missing_all 0) (moments_of s (whole n)) ≡ true
+  unfolding on_at path1_at path2_at effects_of no_effects
   on n early = ap₂ (λ a b. not a && not b) (latch1_shut s (whole n) (untripped n)) (shut n early)
 
   proper : (n : ℕ) → n ≤ reaction_of cal.times → AreProper s (whole n)
   unfolding AreProper
   proper zero within = all_proper s accepted can first_quiet (many - 1) (let a = less in omega arith)
   proper (suc n) within =
-      (loaded_proper s accepted can first_quiet (does missing_all 0) _ (on n (omega arith)), proper n (omega arith))
+      (loaded_proper s accepted can first_quiet (effects_of missing_all 0) _ (on n (omega arith)), proper n (omega arith))
 
   base_exceeds : (j : ℕ) → AllExceed s j (replicate j (exceeding cal can.drive can.load) ++ replicate first_quiet (quiet no_effects can.drive))
   base_exceeds zero = refl

@@ -8,13 +8,13 @@ use Rattle.std.proofs.Math.Nat.{div-mul-le_self}
 use Rattle.eg_num.specs.Arithmetic.{estimate}
 use Rattle.eg_num.specs.Drive.{DriveRow}
 use Rattle.eg_num.specs.Windows.{WeightParts, is_confirmed, is_first}
-use Rattle.eg_num.proofs.FirstPlaceLemmas.{is_first_from}
+use Rattle.eg_num.proofs.FirstIndexLemmas.{is_first_from}
 use Rattle.eg_torque.specs.Permit.{drive_permits}
 use Rattle.eg_torque.specs.Excess.{is_excess}
 use Rattle.eg_answer.specs.Times.{feeds_to_confirm, reaction_of, periods_to_confirm}
 use Rattle.eg_values.specs.Calibration.{CalibrationParts, IsAccepted}
 use Rattle.eg_fault.specs.Effects.{no_effects}
-use Rattle.eg_fault.specs.Faults.{does, IsListed, IsValidClass, is_lapse}
+use Rattle.eg_fault.specs.Faults.{effects_of, IsListed, IsValidClass, is_lapse}
 use Rattle.eg_fault.specs.Classes.{IsRegular}
 use Rattle.eg_fault.specs.declared.class.Class.TheVariants.{Path1Closed}
 use Rattle.eg_fault.specs.declared.class.Fault.{Fault}
@@ -25,7 +25,7 @@ use Rattle.eg_model.specs.Moments.{effective_drive, limit_at, moments_of}
 use Rattle.eg_model.specs.Rows.{rows_of}
 use Rattle.eg_model.specs.Premises.{AreProper, Follows, is_on_after, true_excesses, IsExcessConfirmed}
 use Rattle.eg_model.specs.Reaction.{ReactsBy}
-use Rattle.eg_laws.specs.LeastReaction.{CanExceed, GoesOn, ShowsWord, NeedsCanExceed, quiet, exceeding, last_excess, until_confirmed, closed_setting, quiet_after, IsStillOn, StaysOnSoLong, ReactionTimeIsLeast}
+use Rattle.eg_laws.specs.LeastReaction.{CanExceed, GoesOn, ShowsWord, NeedsCanExceed, quiet, exceeding, last_excess, until_confirmed, closed_setting, quiet_after, IsStillOn, StaysOnSoLong, ReactionIsLeast}
 use Rattle.eg_model.proofs.TickLemmas.{Each, moment-on}
 use Rattle.eg_model.proofs.Silence.{AreRegular, send_within}
 use Rattle.eg_model.proofs.LapseWeights.{rounded_up}
@@ -169,7 +169,7 @@ module _ (cal : CalibrationParts) (accepted : IsAccepted cal) (can : CanExceed c
   after_proper : (n : ℕ) → AreProper s (whole n)
   unfolding AreProper
   after_proper zero = all_proper s accepted can first_quiet many (omega arith)
-  after_proper (suc n) = (quiet_proper s accepted can first_quiet (does Path1Closed 0) _, after_proper n)
+  after_proper (suc n) = (quiet_proper s accepted can first_quiet (effects_of Path1Closed 0) _, after_proper n)
 
   goes_on_after : (n : ℕ) → All GoesOn (whole n)
   goes_on_after n = All-append GoesOn (after n) (until_confirmed cal can.drive can.load)
@@ -182,8 +182,8 @@ module _ (cal : CalibrationParts) (accepted : IsAccepted cal) (can : CanExceed c
   abbrev the_fault : Fault
   the_fault = record { onset = last_excess cal + 1; class = Path1Closed }
 
-  same_always : (k : ℕ) → does Path1Closed k ≡ does Path1Closed 0
-  unfolding does
+  same_always : (k : ℕ) → effects_of Path1Closed k ≡ effects_of Path1Closed 0
+  unfolding effects_of
   same_always k = refl
 
   follows_on : (n : ℕ) → Follows s.fault 0 (whole n)
@@ -197,12 +197,12 @@ module _ (cal : CalibrationParts) (accepted : IsAccepted cal) (can : CanExceed c
   regular_after : (n : ℕ) (y : Tick) → IsRegular y.effects → AreRegular (after n ++ y ∷ [])
   unfolding Each
   regular_after zero y usual = (usual, tt)
-  regular_after (suc n) y usual = (unfold does no_effects in record { sends = refl; judged = refl }, regular_after n y usual)
+  regular_after (suc n) y usual = (unfold effects_of no_effects in record { sends = refl; judged = refl }, regular_after n y usual)
 
   none_opens : (n : ℕ) → NoneOpens (whole n)
   unfolding Each
   none_opens zero = ticks_shut s accepted can first_quiet many
-  none_opens (suc n) = (unfold does no_effects in refl, none_opens n)
+  none_opens (suc n) = (unfold effects_of no_effects in refl, none_opens n)
 
   -- up to the tick before the last excess each verdict was right
   few_before : (j : ℕ) → suc j ≡ many → HasFew s (p + 1) (ticks j)
@@ -245,9 +245,9 @@ module _ (cal : CalibrationParts) (accepted : IsAccepted cal) (can : CanExceed c
           (subst (λ k. HasFew s (p + 1) (after n ++ ticks k)) is (few_after j n is)) (none_opens n) early_enough
 
   on_after : (n : ℕ) → n + 2 ≤ reaction_of cal.times → is_on_after s (whole n) (quiet_after can.drive) ≡ true
-  unfolding is_on_after on_at path1_at path2_at does no_effects
+  unfolding is_on_after on_at path1_at path2_at effects_of no_effects
   on_after n early =
-      moment-on s (does Path1Closed 0) (quiet_after can.drive).entry (moments_of s (whole n))
+      moment-on s (effects_of Path1Closed 0) (quiet_after can.drive).entry (moments_of s (whole n))
       ∙ ap not (shut_after n early)
 
   first_now : is_first torque (true_excesses s (until_confirmed cal can.drive can.load)) ≡ true
@@ -295,5 +295,5 @@ module _ (cal : CalibrationParts) (accepted : IsAccepted cal) (can : CanExceed c
 pub stays_on_so_long : StaysOnSoLong
 stays_on_so_long cal accepted can = (listed cal accepted can, stays cal accepted can)
 
-pub reaction_time_is_least : ReactionTimeIsLeast
-reaction_time_is_least cal accepted can n reacts = omega (arith, least cal accepted can n reacts)
+pub reaction_is_least : ReactionIsLeast
+reaction_is_least cal accepted can n reacts = omega (arith, least cal accepted can n reacts)

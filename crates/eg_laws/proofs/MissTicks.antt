@@ -7,7 +7,7 @@ use Rattle.eg_answer.specs.Times.{TimeParts}
 use Rattle.eg_answer.specs.Modules.{modules_before_react, modules}
 use Rattle.eg_answer.specs.declared.marks.AnswerMark.TheVariants.{Absent, Good, Bad}
 use Rattle.eg_fault.specs.Effects.{Effects, no_effects}
-use Rattle.eg_fault.specs.Faults.{is_left_out, does, effects}
+use Rattle.eg_fault.specs.Faults.{is_left_out, effects_of, effects}
 use Rattle.eg_fault.specs.declared.class.Class.TheVariants.{Lapse}
 use Rattle.eg_fault.specs.declared.class.Fault.{Fault}
 use Rattle.eg_fault.proofs.ActingLemmas.{of_class}
@@ -32,12 +32,12 @@ as_tick P x g is p = subst (λ f. P (record { effects = f; entry = x.entry })) (
 pub to_tick : (P : Tick → Type 0) (x : Tick) (g : Effects) → x.effects ≡ g → P x → P (record { effects = g; entry = x.entry })
 to_tick P x g is p = subst (λ f. P (record { effects = f; entry = x.entry })) is p
 
-class_tick : (after : List ℕ) (every k : ℕ) → (does (Lapse after every) k ≡ no_effects) ⊎ (does (Lapse after every) k ≡ missed)
-unfolding does missed no_effects
+class_tick : (after : List ℕ) (every k : ℕ) → (effects_of (Lapse after every) k ≡ no_effects) ⊎ (effects_of (Lapse after every) k ≡ missed)
+unfolding effects_of missed no_effects
 class_tick after every k = go (is_left_out after every k) refl
   where
     go : (out : Bool) → is_left_out after every k ≡ out →
-        (does (Lapse after every) k ≡ no_effects) ⊎ (does (Lapse after every) k ≡ missed)
+        (effects_of (Lapse after every) k ≡ no_effects) ⊎ (effects_of (Lapse after every) k ≡ missed)
     go false e = inl (ap (λ out. record no_effects { ran = λ i. not out }) e)
     go true e = inr (ap (λ out. record no_effects { ran = λ i. not out }) e)
 

@@ -4,7 +4,7 @@ use Rattle.std.specs.Prelude.{if◌then◌else◌, ◌==◌}
 use Rattle.std.proofs.lemmas.Bool.{or_cases, ne_eqb, eqb-true, true≢false}
 use Rattle.eg_answer.specs.Modules.{modules_before_react, modules}
 use Rattle.eg_fault.specs.Effects.{no_effects}
-use Rattle.eg_fault.specs.Faults.{is_left_out, does}
+use Rattle.eg_fault.specs.Faults.{is_left_out, effects_of}
 use Rattle.eg_fault.specs.declared.class.Class.TheVariants.{Lapse}
 use Rattle.eg_fault.specs.declared.class.Fault.{Fault}
 use Rattle.eg_fault.proofs.ActingLemmas.{at_tick}
@@ -26,8 +26,8 @@ record Comes (onset after every tick : ℕ) : Type 0 where
   pub from : onset ≤ tick
   pub place : after ≡ turn every (tick - onset)
 
-left_out : (after every k : ℕ) → not (is_whole (does (Lapse (after ∷ []) every) k)) ≡ true → after ≡ turn every k
-unfolding does is_left_out turn
+left_out : (after every k : ℕ) → not (is_whole (effects_of (Lapse (after ∷ []) every) k)) ≡ true → after ≡ turn every k
+unfolding effects_of is_left_out turn
 left_out after every k missed = elim (or_cases (after == (if every == 0 then k else k % every)) false (out (is_left_out (after ∷ []) every k) refl)) [
   | inl same ↦ eqb-true _ _ same
   | inr none ↦ absurd (true≢false (sym none))

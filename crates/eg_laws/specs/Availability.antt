@@ -4,7 +4,7 @@
 -- So one miss spoils at most two verdicts. Where misses are far enough apart, right verdicts take back what
 -- the spoiled ones add, and wrong answers are never confirmed before a trip. (After one no answer is sent, so
 -- that they are.) Rows stand newest first.
-use Rattle.std.specs.Prelude.{◌≡◌, ◌⊎◌, ℕ, ◌+◌, ◌≤◌, ◌<◌, Bool, true, false, not, ◌||◌, List, [], ◌∷◌, ◌++◌, All, Option, Some}
+use Rattle.std.specs.Prelude.{◌≡◌, ◌⊎◌, ℕ, ◌+◌, ◌≤◌, ◌<◌, Bool, true, false, not, List, [], ◌∷◌, ◌++◌, All, Option, Some}
 use Rattle.std.specs.List.{list_any}
 use Rattle.eg_num.specs.declared.watches.Watches.{Watches}
 use Rattle.eg_answer.specs.Times.{HasMissSpacing, miss_spacing_of}
@@ -19,7 +19,7 @@ use Rattle.eg_model.specs.History.{Setting, Tick}
 use Rattle.eg_model.specs.Signals.{tripped}
 use Rattle.eg_model.specs.Answers.{is_whole}
 use Rattle.eg_model.specs.Paths.{latch2}
-use Rattle.eg_model.specs.Moments.{moments_of}
+use Rattle.eg_model.specs.Moments.{moments_of, some_trips}
 use Rattle.eg_model.specs.Premises.{AreProper, Follows, is_on_after, full_excesses}
 use Rattle.eg_model.specs.Lapses.{IsLapse}
 use Rattle.eg_model.specs.Engines.{BenchEngine}
@@ -81,7 +81,7 @@ NoTripComes =
 
 -- a watch is found that trips
 unfoldable pub trips : Watches → Bool
-trips found = found.mirror || found.plate || found.load || found.speed || found.torque
+trips found = some_trips found.mirror found.plate found.load found.speed found.torque
 
 -- one was found at one of these rows
 unfoldable pub has_tripped : List Row → Bool

@@ -1,7 +1,7 @@
 -- The histories of this crate with the reference calibration.
 use Rattle.std.specs.Prelude.{◌∷◌, ◌++◌, replicate, List}
 use Rattle.eg_values.specs.Reference.{reference_parts}
-use Rattle.eg_fault.specs.Faults.{does}
+use Rattle.eg_fault.specs.Faults.{effects_of}
 use Rattle.eg_model.specs.History.{Moment}
 use Rattle.eg_model.specs.Moments.{moments_of}
 use Rattle.eg_model.specs.Examples.{at_rest}
@@ -19,5 +19,5 @@ latest_cut =
 abbrev pub longest_excess : List Moment
 longest_excess =
     moments_of (lapse_setting reference_parts)
-    (quiet (does missing_all 0) at_rest ∷ replicate 34 (missed_excess reference_parts at_rest 1000)
+    (quiet (effects_of missing_all 0) at_rest ∷ replicate 34 (missed_excess reference_parts at_rest 1000)
     ++ before_lapse reference_parts at_rest 1000)

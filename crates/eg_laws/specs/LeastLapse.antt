@@ -7,7 +7,7 @@ use Rattle.eg_num.specs.Drive.{DriveRow}
 use Rattle.eg_answer.specs.Times.{feeds_to_confirm, reaction_of}
 use Rattle.eg_values.specs.Calibration.{CalibrationParts, IsAccepted}
 use Rattle.eg_fault.specs.Effects.{no_effects}
-use Rattle.eg_fault.specs.Faults.{does, IsNoneOrValid}
+use Rattle.eg_fault.specs.Faults.{effects_of, IsNoneOrValid}
 use Rattle.eg_fault.specs.declared.class.Class.{Class}
 use Rattle.eg_fault.specs.declared.class.Class.TheVariants.{Lapse}
 use Rattle.eg_model.specs.History.{Setting, Tick}
@@ -55,7 +55,7 @@ before_lapse cal drive load =
 -- and after that ticks that level 2 misses, each with as much excess
 abbrev pub missed_excess : CalibrationParts → DriveRow → (load : ℕ) → Tick
 missed_excess cal drive load =
-    record { effects = does missing_all 0; entry = giving drive load (estimate cal.rules.kt load) }
+    record { effects = effects_of missing_all 0; entry = giving drive load (estimate cal.rules.kt load) }
 
 -- All ticks of h are ticks of one drive span of a run under the setting's fault, in which the engine keeps
 -- its laws and tells loads that are words; and there is true excess at each of the last n.

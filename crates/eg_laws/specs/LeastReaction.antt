@@ -9,7 +9,7 @@ use Rattle.eg_torque.specs.Excess.{is_excess}
 use Rattle.eg_answer.specs.Times.{feeds_to_confirm, periods_to_confirm, reaction_of}
 use Rattle.eg_values.specs.Calibration.{CalibrationParts, IsAccepted}
 use Rattle.eg_fault.specs.Effects.{Effects, no_effects}
-use Rattle.eg_fault.specs.Faults.{does, IsListed}
+use Rattle.eg_fault.specs.Faults.{effects_of, IsListed}
 use Rattle.eg_fault.specs.declared.class.Class.TheVariants.{Path1Closed}
 use Rattle.eg_model.specs.History.{Setting, Entry, Tick}
 use Rattle.eg_model.specs.Moments.{limit_at}
@@ -78,7 +78,7 @@ closed_setting cal = record {
 
 -- and each tick is quiet
 abbrev pub quiet_after : DriveRow → Tick
-quiet_after drive = quiet (does Path1Closed 0) drive
+quiet_after drive = quiet (effects_of Path1Closed 0) drive
 
 -- ---- the laws ----
 
@@ -108,7 +108,7 @@ StaysOnSoLong =
     (reaction_of cal.times - 1)
 
 -- so any number that serves in the reaction theorem is R or more
-abbrev pub ReactionTimeIsLeast : Type 0
-ReactionTimeIsLeast =
+abbrev pub ReactionIsLeast : Type 0
+ReactionIsLeast =
     (cal : CalibrationParts) → IsAccepted cal → CanExceed cal → (n : ℕ) →
     ReactsBy cal n → reaction_of cal.times ≤ n

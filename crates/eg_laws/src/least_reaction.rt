@@ -1,17 +1,17 @@
-// The reaction time is the least.
+// The worst-case reaction is the least.
 ghost use Rattle.std.specs.Prelude.{◌≡◌, true, false, [], ◌∷◌, ◌++◌, map, replicate, reverse, Some};
 ghost use Rattle.eg_record.specs.Excess.{first_confirmed};
 ghost use Rattle.eg_values.specs.Reference.{reference_rules};
 ghost use Rattle.eg_model.specs.Rows.{rows_of};
-ghost use Rattle.eg_laws.specs.LeastReaction.{StaysOnSoLong, ReactionTimeIsLeast, NeedsCanExceed};
+ghost use Rattle.eg_laws.specs.LeastReaction.{StaysOnSoLong, ReactionIsLeast, NeedsCanExceed};
 ghost use Rattle.eg_laws.specs.Examples.{latest_cut};
 
 /// No smaller number than R can stand in the reaction theorem (docs/CONCEPT.md, "Why the unit reacts"):
 /// where an excess can be confirmed at all, there is a history with path 1 closed in which the stages are
 /// still on R - 1 ticks after it was confirmed. It does nothing when it runs.
-pub fn reaction_time_is_least()
+pub fn reaction_is_least()
     ensures stays_on { StaysOnSoLong }
-    ensures least { ReactionTimeIsLeast }
+    ensures least { ReactionIsLeast }
     ensures needed { NeedsCanExceed }
 {}
 

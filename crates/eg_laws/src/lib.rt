@@ -9,4 +9,4 @@ mod least_reaction;
 
 pub use availability::{far_misses_never_cut, records_stay_available};
 pub use least_lapse::{lapse_bound_is_least, longest_excess_run};
-pub use least_reaction::{latest_cut_run, reaction_time_is_least};
+pub use least_reaction::{latest_cut_run, reaction_is_least};

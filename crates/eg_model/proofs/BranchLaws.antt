@@ -111,7 +111,7 @@ module _ {E : Type 0} (b : BenchEngine E) (r : Run) (none : r.setting.fault ≡ 
   unfolding engine_after
   engine-alike [] from = refl
   engine-alike (m ∷ past) from =
-      ap₂ (λ engine (x : Effects). stepped b s.cal.plant engine (if m.fresh then [] else past) m.on x.held)
+      ap₂ (λ engine (x : Effects). stepped b s.cal.plant engine (if m.fresh then [] else past) m.on x.held_plate)
       (engine-alike past (fewer fault (length past) from)) (effects-alike s none fault (length past) from)
 
   entry-alike : (t : ℕ) (past : List Moment) → BeginsFrom (suc t) fault → BeginsFrom (length past) fault →
@@ -122,7 +122,7 @@ module _ {E : Type 0} (b : BenchEngine E) (r : Run) (none : r.setting.fault ≡ 
         drive = drive_at r t;
         slices = slices_at r t;
         shown = b.shows (stepped b s.cal.plant engine (before_at (drive_at r t) past)
-            (drives (kind_at (drive_at r t) past) && on_at x (before_at (drive_at r t) past)) x.held);
+            (drives (kind_at (drive_at r t) past) && on_at x (before_at (drive_at r t) past)) x.held_plate);
       }) (engine-alike past before) (effects-alike s none fault t from)
 
   -- the moments before a tick are as many as it has ticks before it

@@ -10,7 +10,7 @@ use Rattle.eg_answer.specs.Times.{TimeParts}
 use Rattle.eg_answer.specs.declared.marks.AnswerMark.TheVariants.{Absent, Good, Bad}
 use Rattle.eg_answer.specs.declared.modules.TheConstants.{MODULES}
 use Rattle.eg_fault.specs.Effects.{Effects, no_effects}
-use Rattle.eg_fault.specs.Faults.{does, effects}
+use Rattle.eg_fault.specs.Faults.{effects_of, effects}
 use Rattle.eg_fault.specs.Running.{RunAlike, may_change_levels}
 use Rattle.eg_fault.specs.declared.class.Class.{Class}
 use Rattle.eg_fault.specs.declared.class.Class.TheVariants.{Skip, Disturb, Flip, Halt}
@@ -48,8 +48,8 @@ sees_plain = record {
 }
 
 -- where level 2 runs whole and undisturbed, one track of each pair is enough
-sees_whole : (class : Class) (k : ℕ) → Runs (does class k) → IsUndisturbed (does class k) →
-    SeesExcess (does class k)
+sees_whole : (class : Class) (k : ℕ) → Runs (effects_of class k) → IsUndisturbed (effects_of class k) →
+    SeesExcess (effects_of class k)
 sees_whole class k runs undisturbed = record {
   runs = runs;
   undisturbed = undisturbed;
@@ -60,17 +60,17 @@ sees_whole class k runs undisturbed = record {
 }
 
 -- so it is under the classes that leave level 2 alone
-pub sees_spared : (class : Class) (k : ℕ) → may_change_levels class ≡ false → SeesExcess (does class k)
+pub sees_spared : (class : Class) (k : ℕ) → may_change_levels class ≡ false → SeesExcess (effects_of class k)
 sees_spared class k is = whole (spared class k is)
   where
-    whole : RunAlike no_effects (does class k) → SeesExcess (does class k)
+    whole : RunAlike no_effects (effects_of class k) → SeesExcess (effects_of class k)
     whole alike = unfold no_effects in sees_whole class k
         (record { ran = λ i. sym (ap (λ (ran : ℕ → Bool). ran i) alike.ran); unflipped = sym alike.flip })
         (λ i. sym (ap (λ (mixed : ℕ → ℕ). mixed i) alike.disturbance))
 
 -- a word is flipped once
-pub sees_flip : (word mask k : ℕ) → 0 < k → SeesExcess (does (Flip word mask) k)
-unfolding does no_effects
+pub sees_flip : (word mask k : ℕ) → 0 < k → SeesExcess (effects_of (Flip word mask) k)
+unfolding effects_of no_effects
 sees_flip word mask k l = sees_whole (Flip word mask) k
     (record { ran = λ i. refl; unflipped = rw (ne_eqb k 0 (λ e. omega arith)) refl }) (λ i. refl)
 
@@ -112,16 +112,16 @@ fails_for_one p (suc (suc (suc (suc (suc (suc (suc (suc i)))))))) l h = absurd (
 abbrev pub IsSpoiled : Effects → Type 0
 IsSpoiled x = (is_whole x ≡ false) ⊎ (is_undisturbed x ≡ false)
 
-pub spoiled_skip : (i k : ℕ) → i < MODULES → IsSpoiled (does (Skip i) k)
-unfolding is_whole does no_effects
+pub spoiled_skip : (i k : ℕ) → i < MODULES → IsSpoiled (effects_of (Skip i) k)
+unfolding is_whole effects_of no_effects
 spoiled_skip i k l = inl (fails_for_one (λ j. not (j == i)) i l (rw (eq-eqb i i refl) refl))
 
-pub spoiled_halt : (k : ℕ) → IsSpoiled (does Halt k)
-unfolding is_whole does no_effects modules modules_before_react
+pub spoiled_halt : (k : ℕ) → IsSpoiled (effects_of Halt k)
+unfolding is_whole effects_of no_effects modules modules_before_react
 spoiled_halt k = inl refl
 
-pub spoiled_disturb : (i mask k : ℕ) → i < MODULES → 0 < mask → IsSpoiled (does (Disturb i mask) k)
-unfolding is_undisturbed does no_effects
+pub spoiled_disturb : (i mask k : ℕ) → i < MODULES → 0 < mask → IsSpoiled (effects_of (Disturb i mask) k)
+unfolding is_undisturbed effects_of no_effects
 spoiled_disturb i mask k l m =
     inr (fails_for_one (λ j. (if j == i then mask else 0) == 0) i l
     (rw (eq-eqb i i refl) (ne_eqb mask 0 (λ e. omega arith))))

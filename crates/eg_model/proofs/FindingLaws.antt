@@ -8,7 +8,7 @@ use Rattle.eg_answer.specs.Times.{reaction_of}
 use Rattle.eg_answer.specs.declared.modules.TheConstants.{REACT}
 use Rattle.eg_values.specs.Calibration.{IsAccepted}
 use Rattle.eg_fault.specs.Effects.{Effects, no_effects}
-use Rattle.eg_fault.specs.Faults.{does, effects, truth_in_turn, IsNoneOrValid}
+use Rattle.eg_fault.specs.Faults.{effects_of, effects, truth_in_turn, IsNoneOrValid}
 use Rattle.eg_fault.specs.declared.class.Class.{Class}
 use Rattle.eg_fault.specs.declared.class.Class.TheVariants.{Wild, PathOpen}
 use Rattle.eg_fault.specs.declared.class.Fault.{Fault}
@@ -50,8 +50,8 @@ never_in_turn [] i none = refl
 never_in_turn (o ∷ opens) zero none = (or_parts o (list_any (λ order. order) opens) none).0
 never_in_turn (o ∷ opens) (suc i) none = never_in_turn opens i (or_parts o (list_any (λ order. order) opens) none).1
 
-opens_nothing_class : (class : Class) (k : ℕ) → opens_path class ≡ false → OpensNothing (does class k)
-unfolding opens_path does no_effects truth_in_turn
+opens_nothing_class : (class : Class) (k : ℕ) → opens_path class ≡ false → OpensNothing (effects_of class k)
+unfolding opens_path effects_of no_effects truth_in_turn
 opens_nothing_class (Wild questions opens) k none =
     record { path_1 = refl; path_2 = refl; orders = never_in_turn opens (k % length opens) none }
 opens_nothing_class (PathOpen path) k none = absurd (true≢false none)

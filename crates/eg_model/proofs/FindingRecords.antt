@@ -8,7 +8,7 @@ use Rattle.std.proofs.lemmas.Bool.Decides.{nat_tests}
 use Rattle.eg_num.specs.declared.watches.Watches.{Watches}
 use Rattle.eg_answer.specs.Times.{test_ticks_of, reaction_of}
 use Rattle.eg_fault.specs.Effects.{Effects, no_effects}
-use Rattle.eg_fault.specs.Faults.{does, effects}
+use Rattle.eg_fault.specs.Faults.{effects_of, effects}
 use Rattle.eg_fault.specs.declared.class.Class.{Class}
 use Rattle.eg_fault.specs.declared.class.Class.TheVariants.{Flip}
 use Rattle.eg_fault.specs.declared.class.Fault.{Fault}
@@ -125,8 +125,8 @@ starts f found = record { watch = Start; is_one = (0, (omega arith), refl); foun
 
 -- ---- a word that is flipped ----
 
-flip_class : (class : Class) (k : ℕ) → is_some (does class k).flip ≡ (is_flip class && k == 0)
-unfolding does no_effects is_flip
+flip_class : (class : Class) (k : ℕ) → is_some (effects_of class k).flip ≡ (is_flip class && k == 0)
+unfolding effects_of no_effects is_flip
 flip_class (Flip word mask) k = at_first (k == 0)
   where
     at_first : (b : Bool) → is_some {T = ℕ × ℕ} (if b then Some (word, mask) else None) ≡ b

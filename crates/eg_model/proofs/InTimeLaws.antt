@@ -6,8 +6,8 @@ use Rattle.std.specs.List.{All}
 use Rattle.std.proofs.lemmas.Bool.{cases_Bool, lt-ltb, leb-true, le-leb}
 use Rattle.std.proofs.lemmas.List.{length-map}
 use Rattle.std.proofs.lemmas.List.Elements.{All-head, All-tail, All-weaker}
-use Rattle.eg_num.specs.Windows.{WeightParts, is_confirmed, first_place}
-use Rattle.eg_num.proofs.FirstPlaceLemmas.{first_place_within}
+use Rattle.eg_num.specs.Windows.{WeightParts, is_confirmed, first_index}
+use Rattle.eg_num.proofs.FirstIndexLemmas.{first_index_within}
 use Rattle.eg_answer.specs.Times.{reaction_of}
 use Rattle.eg_plant.specs.PlantParts.{PlantParts}
 use Rattle.eg_record.specs.declared.row.Row.{Row}
@@ -17,9 +17,9 @@ use Rattle.eg_record.specs.Excess.{true_excess}
 use Rattle.eg_record.specs.Stages.{last_on}
 use Rattle.eg_record.specs.Spans.{IsSpan, EachDriveSpan, EachTestSpan, in_last, spans_of}
 use Rattle.eg_record.specs.Facts.{off_from, reaction_by}
-use Rattle.eg_record.specs.Reactions.{confirmed_in, end_of, reaction_in_span, followed_in, greater, less, no_reactions, both, reactions_in, reactions_of_spans, reactions_of, settled_by, is_settled}
+use Rattle.eg_record.specs.Reactions.{confirmed_in, end_of, reaction_in_span, followed_in, greater, less, no_reactions, combined, reactions_in, reactions_of_spans, reactions_of, settled_by, is_settled}
 use Rattle.eg_record.proofs.SpanLemmas.{span-not_nil, span-begins, span-goes_on}
-use Rattle.eg_record.proofs.ExcessLemmas.{first_place-now}
+use Rattle.eg_record.proofs.ExcessLemmas.{first_index-now}
 use Rattle.eg_record.proofs.LastOnLemmas.{last_on-on, last_on-off}
 use Rattle.eg_model.specs.Engines.{BenchEngine, KeepsBenchLaws}
 use Rattle.eg_model.specs.Rows.{record_rows}
@@ -129,17 +129,17 @@ off_from-below n (row ∷ before) off = elim (cases_Bool row.on) [
 -- the tick by which the excess is confirmed is the first place, counted from the begin of the span
 module _ (w : WeightParts) (threshold : ℕ) where
   confirmed_in-place : (span older : List Row) → AreRows (span ++ older) →
-      confirmed_in w threshold span ≡ option_map (λ c. length older + c) (first_place w (map (true_excess threshold) span))
+      confirmed_in w threshold span ≡ option_map (λ c. length older + c) (first_index w (map (true_excess threshold) span))
   unfolding confirmed_in
-  confirmed_in-place [] older are = unfold first_place in refl
+  confirmed_in-place [] older are = unfold first_index in refl
   confirmed_in-place (row ∷ before) older are =
       ap₂ (λ earlier (t : ℕ). option_or earlier (if is_confirmed w (map (true_excess threshold) (row ∷ before)) then Some t else None))
       (confirmed_in-place before older are.1)
       (are.0 ∙ length-append before older ∙ turned (length before) (length older)
       ∙ ap (λ n. length older + n) (sym (length-map before (true_excess threshold))))
-      ∙ pushed (length older) (first_place w (map (true_excess threshold) before)) (length (map (true_excess threshold) before))
+      ∙ pushed (length older) (first_index w (map (true_excess threshold) before)) (length (map (true_excess threshold) before))
       (is_confirmed w (map (true_excess threshold) (row ∷ before)))
-      ∙ ap (option_map (λ c. length older + c)) (first_place-now w (true_excess threshold row) (map (true_excess threshold) before))
+      ∙ ap (option_map (λ c. length older + c)) (first_index-now w (true_excess threshold row) (map (true_excess threshold) before))
     where
       turned : (a b : ℕ) → a + b ≡ b + a
       turned a b = omega arith
@@ -162,7 +162,7 @@ module _ (w : WeightParts) (threshold : ℕ) where
   unfolding reactions_in reaction_in_span followed_in
   span_in_time bound span older are is react = in_time bound (reactions_in w threshold span)
       (one_in_time bound (end_of span) (last_on span) (confirmed_in w threshold span)
-      (λ c confirmed. placed c (first_place w bits) refl (sym (confirmed_in-place span older are) ∙ confirmed)))
+      (λ c confirmed. placed c (first_index w bits) refl (sym (confirmed_in-place span older are) ∙ confirmed)))
     where
       bits : List Bool
       bits = map (true_excess threshold) span
@@ -170,13 +170,13 @@ module _ (w : WeightParts) (threshold : ℕ) where
       some_same : (a b : ℕ) → Some a ≡ Some b → a ≡ b
       some_same a b e = cc
 
-      placed : (c : ℕ) (place : Option ℕ) → first_place w bits ≡ place → option_map (λ k. length older + k) place ≡ Some c →
+      placed : (c : ℕ) (place : Option ℕ) → first_index w bits ≡ place → option_map (λ k. length older + k) place ≡ Some c →
           (off_from (last_on span) ≤ c + bound) × (c < end_of span)
       placed c None is_none e = absurd cc
       placed c (Some k) first e =
           let at = some_same (length older + k) c e in
           let off = off_from-below (length older + k + bound) span (react k first) in
-          let within = first_place_within w bits k first in
+          let within = first_index_within w bits k first in
           let long = length-map span (true_excess threshold) in
           let end = end_is span older are is in
           (omega (arith, at, off), omega (arith, at, within, long, end))
@@ -206,9 +206,9 @@ module _ (w : WeightParts) (threshold : ℕ) where
 
     told_of : (newer rows : List Row) → whole ≡ newer ++ rows → Parted rows →
         IsInTime bound (reactions_of_spans w threshold (spans_of rows))
-    unfolding reactions_of_spans both
+    unfolding reactions_of_spans combined
     told_of newer rows e p = subst (λ spans. IsInTime bound (reactions_of_spans w threshold spans)) (sym p.spans_are)
-        (in_time bound (both (reactions_in w threshold p.span) (reactions_of_spans w threshold (spans_of p.older)))
+        (in_time bound (combined (reactions_in w threshold p.span) (reactions_of_spans w threshold (spans_of p.older)))
         (both_in_time bound _ _ _ _ (plain (reactions_in w threshold p.span) now)
         (plain (reactions_of_spans w threshold (spans_of p.older)) p.earlier)))
       where

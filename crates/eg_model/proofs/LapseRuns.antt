@@ -6,11 +6,11 @@ use Rattle.std.specs.List.{list_all, count_by}
 use Rattle.std.proofs.lemmas.List.Sums.{sum_by-cons}
 use Rattle.std.proofs.lemmas.Bool.{or_left, or_right, or_from, and_left, and_parts}
 use Rattle.eg_num.specs.Windows.{WeightParts, is_confirmed}
-use Rattle.eg_num.proofs.FirstPlaceLemmas.{is_first_from}
+use Rattle.eg_num.proofs.FirstIndexLemmas.{is_first_from}
 use Rattle.eg_answer.specs.declared.modules.TheConstants.{DEBOUNCE, REACT}
 use Rattle.eg_values.specs.Calibration.{IsAccepted}
 use Rattle.eg_fault.specs.Effects.{Effects, no_effects}
-use Rattle.eg_fault.specs.Faults.{is_left_out, does, effects}
+use Rattle.eg_fault.specs.Faults.{is_left_out, effects_of, effects}
 use Rattle.eg_fault.specs.Classes.{IsSound, IsRegular}
 use Rattle.eg_fault.specs.declared.class.Class.TheVariants.{Lapse}
 use Rattle.eg_fault.specs.declared.class.Fault.{Fault}
@@ -55,8 +55,8 @@ none_out = record {
   obeys = λ path. refl;
 }
 
-all_or_none : (after : List ℕ) (every k : ℕ) → AllOrNone (does (Lapse after every) k)
-unfolding does no_effects
+all_or_none : (after : List ℕ) (every k : ℕ) → AllOrNone (effects_of (Lapse after every) k)
+unfolding effects_of no_effects
 all_or_none after every k = record {
   runs = not (is_left_out after every k);
   ran = λ i. refl;

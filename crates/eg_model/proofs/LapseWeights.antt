@@ -8,7 +8,7 @@ use Rattle.std.proofs.lemmas.Bool.{and_from, and_parts, le-leb}
 use Rattle.eg_num.specs.Arithmetic.{quotient_up}
 use Rattle.eg_num.specs.Windows.{WeightParts, is_confirmed, weight, greatest}
 use Rattle.eg_num.proofs.CounterLemmas.{greatest-nil, greatest-bad, greatest-good, is_reached-greatest}
-use Rattle.eg_num.proofs.FirstPlaceLemmas.{is_reached_confirmed}
+use Rattle.eg_num.proofs.FirstIndexLemmas.{is_reached_confirmed}
 use Rattle.eg_model.proofs.LapseRuns.{count-cons}
 
 -- ---- fewer of the newest ----

@@ -98,7 +98,7 @@ module _ {E : Type 0} (b : BenchEngine E) (r : Run) (image : List ℕ) (plan : L
         (drives (kind-alike past others alike.moments (drive_at r t) i)
         && on-alike (before_at (drive_at r t) past) (before_at (drive_at r t) others)
         (before-alike past others alike.moments (drive_at r t)) (effects s.fault t) i)
-        (effects s.fault t).held);
+        (effects s.fault t).held_plate);
   }
 
   commanded : (m other : Moment) (past others : List Moment) → without_level1 m ≡ without_level1 other →
@@ -116,7 +116,7 @@ module _ {E : Type 0} (b : BenchEngine E) (r : Run) (image : List ℕ) (plan : L
   engine-alike m other past others one alike same = λ i.
       b.step s.cal.plant (alike.engine i) (commanded m other past others one same i).0
       (commanded m other past others one same i).1 (one i).on
-      (effects s.fault (length-alike past others alike.moments i)).held
+      (effects s.fault (length-alike past others alike.moments i)).held_plate
 
   step : (t : ℕ) (past others : List Moment) → Alike b s q.setting past others → outputs past ≡ outputs others →
       Alike b s q.setting (next_after s (entry_at b r t past) past ∷ past)

@@ -8,7 +8,7 @@ use Rattle.eg_answer.specs.declared.marks.AnswerMark.TheVariants.{Absent, Good, 
 use Rattle.eg_answer.specs.declared.modules.TheConstants.{REACT}
 use Rattle.eg_values.specs.Calibration.{IsAccepted}
 use Rattle.eg_fault.specs.Effects.{Effects, no_effects}
-use Rattle.eg_fault.specs.Faults.{does, effects, IsValidClass, is_lapse, IsListed}
+use Rattle.eg_fault.specs.Faults.{effects_of, effects, IsValidClass, is_lapse, IsListed}
 use Rattle.eg_fault.specs.Running.{may_change_levels}
 use Rattle.eg_fault.specs.Classes.{IsRegular, may_change_answers, closes}
 use Rattle.eg_fault.specs.declared.class.Class.{Class}
@@ -239,7 +239,7 @@ off_after_onset s f is start h more x g regular obeys spoiled late long =
 
 flip_begins : (f : Fault) (word mask : ℕ) → f.class ≡ Flip word mask → (t : ℕ) → t ≡ f.onset →
     is_some (effects (Some f) t).flip ≡ true
-unfolding effects does no_effects
+unfolding effects effects_of no_effects
 flip_begins f word mask class t now = rw (now, class, leb_self f.onset, none_left f.onset) refl
   where
     leb_self : (n : ℕ) → nat_le n n ≡ true
@@ -281,7 +281,7 @@ record IsOf (s : Setting) (f : Fault) (c : Class) : Type 0 where
 
 -- what holds where nothing is out of order, and of the class, holds at each tick
 always : (P : Effects → Type 0) (s : Setting) (f : Fault) (c : Class) → IsOf s f c → P no_effects →
-    ((k : ℕ) → P (does c k)) → Always P s.fault
+    ((k : ℕ) → P (effects_of c k)) → Always P s.fault
 always P s f c of none each = rw of.is (of_class P f none (λ k. rw of.class (each k)))
 
 -- a path whose latch is open stays open, but under the classes that close it
@@ -310,8 +310,8 @@ cut_before s f c of opens start h more x early g =
     (λ t low high. rw of.is (of_early SeesExcess f (start + length h) early sees_plain t
     (omega arith) high))
 
-flip_reacts : (word mask k : ℕ) → (does (Flip word mask) k).ran REACT ≡ true
-unfolding does no_effects
+flip_reacts : (word mask k : ℕ) → (effects_of (Flip word mask) k).ran REACT ≡ true
+unfolding effects_of no_effects
 flip_reacts word mask k = refl
 
 before_or_at : (a b : ℕ) → (b ≤ a) ⊎ (a < b)
@@ -359,7 +359,7 @@ record IsSpoiling (c : Class) : Type 0 where
   pub answers : may_change_answers c ≡ false
   pub path_1 : closes c PATH_1 ≡ false
   pub path_2 : closes c PATH_2 ≡ false
-  pub spoiled : (k : ℕ) → IsSpoiled (does c k)
+  pub spoiled : (k : ℕ) → IsSpoiled (effects_of c k)
 
 spoiled_on : (s : Setting) (f : Fault) (c : Class) → IsOf s f c → IsSpoiling c → (t : ℕ) → f.onset ≤ t →
     IsSpoiled (effects s.fault t)

@@ -66,13 +66,13 @@ quiet_up_to (Some f) t u quiet l = unfold is_before_onset in
     earlier m = omega (arith, m, l)
 
 -- what comes in before the onset is proper, whatever the fault
-quiet_held : (f : Option Fault) (t : ℕ) → is_before_onset f t ≡ true → IsHeldWithin (effects f t).held
-quiet_held f t quiet = subst (λ x. IsHeldWithin x.held) (sym (quiet_tick f t quiet))
+quiet_held : (f : Option Fault) (t : ℕ) → is_before_onset f t ≡ true → IsHeldWithin (effects f t).held_plate
+quiet_held f t quiet = subst (λ x. IsHeldWithin x.held_plate) (sym (quiet_tick f t quiet))
     (unfold no_effects in tt)
 
 -- a plate that is held at one of the first n ticks has an angle within its range
 abbrev pub HoldsTo : Run → ℕ → Type 0
-HoldsTo r n = (t : ℕ) → t < n → IsHeldWithin (effects r.setting.fault t).held
+HoldsTo r n = (t : ℕ) → t < n → IsHeldWithin (effects r.setting.fault t).held_plate
 
 All-take : {X : Type 0} (P : X → Type 0) (n : ℕ) (xs : List X) → All P xs → All P (take n xs)
 All-take P zero xs all = All-nil P
@@ -155,11 +155,11 @@ module _ {E : Type 0} {b : BenchEngine E} {Keeps : PlantParts → E → Type 0} 
   -- ---- what comes in on the bench is proper ----
 
   -- one step more keeps what the engine kept
-  kept_next : (s : Setting) (x : Effects) (engine : E) (past : List Moment) (on : Bool) → IsHeldWithin x.held →
-      Keeps s.cal.plant engine → Keeps s.cal.plant (stepped b s.cal.plant engine past on x.held)
+  kept_next : (s : Setting) (x : Effects) (engine : E) (past : List Moment) (on : Bool) → IsHeldWithin x.held_plate →
+      Keeps s.cal.plant engine → Keeps s.cal.plant (stepped b s.cal.plant engine past on x.held_plate)
   unfolding stepped
   kept_next s x engine past on held kept = keeps.goes_on s.cal.plant engine kept
-      (last_world past).throttle (last_world past).ignition on x.held held
+      (last_world past).throttle (last_world past).ignition on x.held_plate held
 
   -- so it keeps it after each of the first n ticks
   kept_to : (r : Run) → IsRun r → (n : ℕ) → HoldsTo r n →
@@ -168,7 +168,7 @@ module _ {E : Type 0} {b : BenchEngine E} {Keeps : PlantParts → E → Type 0} 
   kept_to r run zero holds = keeps.at_first r.setting.cal.plant run.accepted.plant
   kept_to r run (suc t) holds = kept_next r.setting (effects r.setting.fault (length (moments_to b r t)))
       (engine_after b r.setting (moments_to b r t)) _ _
-      (subst (λ u. IsHeldWithin (effects r.setting.fault u).held) (sym (length-moments_to b r t)) (holds t (omega arith)))
+      (subst (λ u. IsHeldWithin (effects r.setting.fault u).held_plate) (sym (length-moments_to b r t)) (holds t (omega arith)))
       (kept_to r run t (λ u l. holds u (omega arith)))
 
   -- whether the stages are on at the tick with this drive row
@@ -180,9 +180,9 @@ module _ {E : Type 0} {b : BenchEngine E} {Keeps : PlantParts → E → Type 0} 
       Keeps s.cal.plant (engine_after b s past) → OnNext x drive past ≡ false → (shown_at b s x drive past).torque ≡ 0
   unfolding shown_at stepped
   shown_off s x drive past kept off = ap (λ on. (b.shows (b.step s.cal.plant (engine_after b s past)
-      (last_world (before_at drive past)).throttle (last_world (before_at drive past)).ignition on x.held)).torque) off
+      (last_world (before_at drive past)).throttle (last_world (before_at drive past)).ignition on x.held_plate)).torque) off
       ∙ keeps.off s.cal.plant (engine_after b s past) kept (last_world (before_at drive past)).throttle
-      (last_world (before_at drive past)).ignition x.held
+      (last_world (before_at drive past)).ignition x.held_plate
 
   proper_entry : (r : Run) → IsRun r → (t : ℕ) → HoldsTo r (suc t) →
       IsProper r.setting (OnNext (effects r.setting.fault t) (drive_at r t) (moments_to b r t)) (entry_at b r t (moments_to b r t))

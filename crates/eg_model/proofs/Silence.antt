@@ -5,7 +5,7 @@ use Rattle.std.proofs.lemmas.Bool.{or_left, or_right, eqb-true, ne_eqb, le-leb, 
 use Rattle.std.proofs.Math.Nat.{lt-div-mul-add}
 use Rattle.eg_num.specs.Windows.{WeightParts, is_confirmed, greatest}
 use Rattle.eg_num.proofs.CounterLemmas.{greatest-nil, greatest-bad, is_reached-greatest}
-use Rattle.eg_num.proofs.FirstPlaceLemmas.{is_first_from}
+use Rattle.eg_num.proofs.FirstIndexLemmas.{is_first_from}
 use Rattle.eg_answer.specs.Times.{TimeParts, AreTimes, feeds_to_confirm, reaction_of}
 use Rattle.eg_answer.specs.Periods.{place_of, is_last_tick, is_send_tick, is_in_window, MarkedAnswer, verdict_of, with_verdict, is_wrong}
 use Rattle.eg_answer.specs.declared.marks.AnswerMark.{AnswerMark}

@@ -1,7 +1,7 @@
 -- The laws by the rows of a history in which the engine is driven, and that begins at any tick of a run.
 use Rattle.std.proofs.Common.{◌≡◌, ◌∙◌, refl, sym, ap, subst, ℕ, zero, suc, ◌+◌, ◌-◌, ◌*◌, ◌≤◌, ◌<◌, Bool, true, false, not, List, [], ◌∷◌, ◌++◌, All, map, length, length-append, append_assoc, arith, inl, inr, ◌⊎◌, Option, Some, None, nat_le, max}
 use Rattle.std.proofs.lemmas.Bool.{lt-leb, le-leb}
-use Rattle.eg_num.specs.Windows.{WeightParts, AreWeights, is_confirmed, first_place}
+use Rattle.eg_num.specs.Windows.{WeightParts, AreWeights, is_confirmed, first_index}
 use Rattle.eg_answer.specs.Times.{TimeParts, AreTimes, feeds_to_confirm, reaction_of, HasLapseBound, lapse_periods}
 use Rattle.eg_values.specs.Calibration.{IsAccepted}
 use Rattle.eg_fault.specs.Effects.{no_effects}
@@ -23,7 +23,7 @@ use Rattle.eg_model.proofs.LapseLaw.{cuts_lapses, lapses_are_short}
 use Rattle.eg_model.proofs.TickLemmas.{length-moments}
 use Rattle.eg_model.proofs.SpanRows.{Between, between, EndOf, end_of, follows-end, proper-end, SpanRows, RowAfter, length-rows_after, row_on, row_tick, all_rows, Split, split, BitsOf, bits_after, true_unnumbered, full_unnumbered, confirmed_later, quiet_earlier, IsFirstAt, first_confirms, never_confirms, exceed}
 
--- the reaction time is at least one tick
+-- the worst-case reaction is at least one tick
 pub reaction_least : (times : TimeParts) → AreTimes times → AreWeights times.weights → 1 ≤ reaction_of times
 unfolding reaction_of
 reaction_least times are weights =
@@ -98,7 +98,7 @@ module _ (s : Setting) (start : ℕ) (h : List Tick) where
 
       at : IsFirstAt s.cal.rules.torque TrueBit s h c
       at = first_confirms s.cal.rules.torque TrueBit s h c
-          (subst (λ bits. first_place s.cal.rules.torque bits ≡ Some c)
+          (subst (λ bits. first_index s.cal.rules.torque bits ≡ Some c)
           (bits_after TrueBit (true_unnumbered s.cal.rules.threshold) s start h) first)
 
       law : OffFrom s start (at.at ∷ at.before) bound
@@ -196,7 +196,7 @@ module _ (s : Setting) (start : ℕ) (h : List Tick) where
 
   pub cut_one_tick_after : IsAccepted s.cal → ArePlain h → AreProper s h →
       CutOneTickAfter s.cal.rules.torque s.cal.rules.kt s.cal.rules.threshold start (SpanRows s start h)
-  cut_one_tick_after accepted plain proper = go (first_place w (map FullBit (SpanRows s start h))) refl
+  cut_one_tick_after accepted plain proper = go (first_index w (map FullBit (SpanRows s start h))) refl
     where
       w : WeightParts
       w = s.cal.rules.torque
@@ -212,15 +212,15 @@ module _ (s : Setting) (start : ℕ) (h : List Tick) where
           plain_now p = sharp_after s start accepted x before (unfold ArePlain in p.0.effects) (unfold ArePlain in p.1)
               (proper_before proper newer x before whole)
 
-      never : first_place w (map FullBit (SpanRows s start h)) ≡ None →
+      never : first_index w (map FullBit (SpanRows s start h)) ≡ None →
           (newer : List Tick) (x : Tick) (before : List Tick) → h ≡ newer ++ x ∷ before → (RowAfter s start x before).on ≡ true
       never none newer x before whole = on_is newer x before whole
           ∙ ap not (never_confirms w FullBit s (newer ++ x ∷ []) before
-          (subst (λ g. first_place w (BitsOf FullBit s g) ≡ None) (whole ∙ sym (append_assoc newer (x ∷ []) before))
-          (subst (λ bits. first_place w bits ≡ None) bits_are none)))
+          (subst (λ g. first_index w (BitsOf FullBit s g) ≡ None) (whole ∙ sym (append_assoc newer (x ∷ []) before))
+          (subst (λ bits. first_index w bits ≡ None) bits_are none)))
 
-      at_of : (c : ℕ) → first_place w (map FullBit (SpanRows s start h)) ≡ Some c → IsFirstAt w FullBit s h c
-      at_of c first = first_confirms w FullBit s h c (subst (λ bits. first_place w bits ≡ Some c) bits_are first)
+      at_of : (c : ℕ) → first_index w (map FullBit (SpanRows s start h)) ≡ Some c → IsFirstAt w FullBit s h c
+      at_of c first = first_confirms w FullBit s h c (subst (λ bits. first_index w bits ≡ Some c) bits_are first)
 
       sharp : (c : ℕ) → IsFirstAt w FullBit s h c → (newer : List Tick) (x : Tick) (before : List Tick) → h ≡ newer ++ x ∷ before →
           (RowAfter s start x before).on ≡ nat_le (RowAfter s start x before).tick (start + c)
@@ -250,7 +250,7 @@ module _ (s : Setting) (start : ℕ) (h : List Tick) where
               cut = ends_before newer x before at.more (at.at ∷ at.before) h whole at.whole
                   (let size = at.size in omega (arith, size, past))
 
-      go : (first : Option ℕ) → first_place w (map FullBit (SpanRows s start h)) ≡ first →
+      go : (first : Option ℕ) → first_index w (map FullBit (SpanRows s start h)) ≡ first →
           CutOneTickAfter w s.cal.rules.kt s.cal.rules.threshold start (SpanRows s start h)
       go None e = rw e (all_rows (λ row. row.on ≡ true) s start h (never e))
       go (Some c) e = rw e (all_rows (λ row. row.on ≡ nat_le row.tick (start + c)) s start h (sharp c (at_of c e)))

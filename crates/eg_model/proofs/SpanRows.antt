@@ -3,8 +3,8 @@
 use Rattle.std.proofs.Common.{◌≡◌, ◌∙◌, refl, sym, ap, ap₂, subst, ℕ, suc, ◌+◌, ◌≤◌, Bool, true, false, List, [], ◌∷◌, ◌++◌, All, map, take, length, length-append, arith, inl, inr, ◌⊎◌, Option, Some, None, is_some}
 use Rattle.std.specs.List.{list_all}
 use Rattle.std.proofs.lemmas.List.Elements.{All-cons, All-nil}
-use Rattle.eg_num.specs.Windows.{WeightParts, is_confirmed, is_first, first_place}
-use Rattle.eg_num.proofs.FirstPlaceLemmas.{is_first-parts, first_place-first, first_place-other, is_some-first_place, is_reached_confirmed, is_confirmed-cons}
+use Rattle.eg_num.specs.Windows.{WeightParts, is_confirmed, is_first, first_index}
+use Rattle.eg_num.proofs.FirstIndexLemmas.{is_first-parts, first_index-first, first_index-other, is_some-first_index, is_reached_confirmed, is_confirmed-cons}
 use Rattle.eg_fault.specs.declared.class.Fault.{Fault}
 use Rattle.eg_record.specs.declared.row.Row.{Row}
 use Rattle.eg_record.specs.Excess.{true_excess, full_excess}
@@ -252,8 +252,8 @@ pub record IsFirstAt (w : WeightParts) (bit : Row → Bool) (s : Setting) (h : L
   pub quiet : is_confirmed w (BitsOf bit s before) ≡ false
 
 pub first_confirms : (w : WeightParts) (bit : Row → Bool) (s : Setting) (h : List Tick) (c : ℕ) →
-    first_place w (BitsOf bit s h) ≡ Some c → IsFirstAt w bit s h c
-first_confirms w bit s [] c first = absurd (none (unfold first_place rows_of moments_of moments_in in first))
+    first_index w (BitsOf bit s h) ≡ Some c → IsFirstAt w bit s h c
+first_confirms w bit s [] c first = absurd (none (unfold first_index rows_of moments_of moments_in in first))
   where
     none : None ≡ Some c → ⊥
     none e = cc
@@ -262,14 +262,14 @@ first_confirms w bit s (x ∷ h) c first = go (is_first w (b ∷ BitsOf bit s h)
     b : Bool
     b = BitAfter bit s x h
 
-    first' : first_place w (b ∷ BitsOf bit s h) ≡ Some c
-    first' = subst (λ l. first_place w l ≡ Some c) (bits-cons bit s x h) first
+    first' : first_index w (b ∷ BitsOf bit s h) ≡ Some c
+    first' = subst (λ l. first_index w l ≡ Some c) (bits-cons bit s x h) first
 
     some_same : (a c : ℕ) → Some a ≡ Some c → a ≡ c
     some_same a c e = cc
 
     go : (is : Bool) → is_first w (b ∷ BitsOf bit s h) ≡ is →
-        (first_place w (BitsOf bit s h) ≡ Some c → IsFirstAt w bit s h c) → IsFirstAt w bit s (x ∷ h) c
+        (first_index w (BitsOf bit s h) ≡ Some c → IsFirstAt w bit s h c) → IsFirstAt w bit s (x ∷ h) c
     go true now before =
         let parts = is_first-parts w b (BitsOf bit s h) now in
         record {
@@ -277,13 +277,13 @@ first_confirms w bit s (x ∷ h) c first = go (is_first w (b ∷ BitsOf bit s h)
           at = x;
           before = h;
           whole = refl;
-          size = some_same (length h) c (ap Some (sym (length-bits bit s h)) ∙ sym (first_place-first w b (BitsOf bit s h) now) ∙ first');
+          size = some_same (length h) c (ap Some (sym (length-bits bit s h)) ∙ sym (first_index-first w b (BitsOf bit s h) now) ∙ first');
           confirmed = subst (λ l. is_confirmed w l ≡ true) (sym (bits-cons bit s x h))
               (is_reached_confirmed w b (BitsOf bit s h) parts.0);
           quiet = parts.1;
         }
     go false later before =
-        let rest = before (sym (first_place-other w b (BitsOf bit s h) later) ∙ first') in
+        let rest = before (sym (first_index-other w b (BitsOf bit s h) later) ∙ first') in
         record {
           more = x ∷ rest.more;
           at = rest.at;
@@ -296,9 +296,9 @@ first_confirms w bit s (x ∷ h) c first = go (is_first w (b ∷ BitsOf bit s h)
 
 -- where no first place is, it is confirmed at no tick
 pub never_confirms : (w : WeightParts) (bit : Row → Bool) (s : Setting) (more h : List Tick) →
-    first_place w (BitsOf bit s (more ++ h)) ≡ None → is_confirmed w (BitsOf bit s h) ≡ false
+    first_index w (BitsOf bit s (more ++ h)) ≡ None → is_confirmed w (BitsOf bit s h) ≡ false
 never_confirms w bit s more h none = quiet_earlier w bit s more h
-    (sym (is_some-first_place w (BitsOf bit s (more ++ h))) ∙ ap is_some none)
+    (sym (is_some-first_index w (BitsOf bit s (more ++ h))) ∙ ap is_some none)
 
 -- a stretch of the rows is one of the history
 pub exceed : (s : Setting) (start n : ℕ) (h : List Tick) → ExceedLast s.cal.rules.threshold n (SpanRows s start h) → Exceeds s n h

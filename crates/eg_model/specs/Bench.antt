@@ -25,14 +25,14 @@ unfoldable pub engine_after : {E : Type 0} → BenchEngine E → Setting → Lis
 engine_after b s [] = b.rest s.cal.plant
 engine_after b s (m ∷ past) =
     stepped b s.cal.plant (engine_after b s past) (if m.fresh then [] else past) m.on
-    (effects s.fault (length past)).held
+    (effects s.fault (length past)).held_plate
 
 -- what it shows after its step at the tick after these, whose drive row this is
 unfoldable pub shown_at : {E : Type 0} → BenchEngine E → Setting → Effects → DriveRow → List Moment → Shown
 shown_at b s x drive past =
     let before = before_at drive past in
     let on = drives (kind_at drive past) && on_at x before in
-    b.shows (stepped b s.cal.plant (engine_after b s past) before on x.held)
+    b.shows (stepped b s.cal.plant (engine_after b s past) before on x.held_plate)
 
 -- a run: its setting, the slice plan and the drive, both in the order of time
 pub record Run : Type 0 where

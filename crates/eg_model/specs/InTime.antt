@@ -1,5 +1,5 @@
--- The longest reaction that is told of a run: it is within the reaction time; and each run in which an excess
--- is confirmed, and whose spans go on long enough after it, has one.
+-- The longest reaction that is told of a run: it is within the worst-case reaction; and each run in which an
+-- excess is confirmed, and whose spans go on long enough after it, has one.
 use Rattle.std.specs.Prelude.{◌≡◌, ℕ, ◌≤◌, true, is_some, Option, Some, IfSome}
 use Rattle.eg_answer.specs.Times.{reaction_of}
 use Rattle.eg_fault.specs.Faults.{IsListed}
@@ -23,7 +23,7 @@ pub record IsInTime (bound : ℕ) (reactions : Reactions) : Type 0 where
   pub told : is_settled bound reactions ≡ true → (ticks : ℕ) → reactions.followed ≡ Some ticks →
       is_some reactions.longest ≡ true
 
--- it is so of each run with at most one listed fault, by its reaction time
+-- it is so of each run with at most one listed fault, by its worst-case reaction
 abbrev pub RecordsReactInTime : {E : Type 0} → BenchEngine E → Type 0
 RecordsReactInTime b =
     (r : Run) → IsRun r → IsListed r.setting.fault →

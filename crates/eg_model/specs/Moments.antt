@@ -40,6 +40,10 @@ sensed_at x e =
 unfoldable pub readings_at : CalibrationParts → Effects → Entry → Readings
 readings_at cal x e = if is_braking cal x e.drive then gated (sensed_at x e) else sensed_at x e
 
+-- whether one of the five watches that trip finds something
+abbrev pub some_trips : (mirror plate load speed torque : Bool) → Bool
+some_trips mirror plate load speed torque = mirror || plate || load || speed || torque
+
 -- The moment of one tick, in a span of this kind, of which these ticks came before. Where the engine isn't
 -- driven the stages are off, the debouncers aren't fed, no answer is sent, and wrong answers that are
 -- confirmed aren't found. A start-up test is passed where neither path conducts as they are read back; else
@@ -56,7 +60,7 @@ moment_in kind s x e past =
     let load = finds rules.pair load_bit feeds signals past in
     let speed = finds rules.pair speed_bit feeds signals past in
     let torque = finds rules.torque torque_bit feeds signals past in
-    let trip = mirror || plate || load || speed || torque in
+    let trip = some_trips mirror plate load speed torque in
     let mark = if drives kind then mark_at times x trip past else Absent in
     let verdict = verdict_at times x mark past in
     let confirms = confirms_at times verdict past in

@@ -3,7 +3,7 @@
 use Rattle.std.specs.Prelude.{◌≡◌, ℕ, ◌+◌, ◌*◌, ◌≤◌, ◌<◌, Bool, true, false, not, nat_lt, nat_le, max, List, ◌∷◌, ◌++◌, All, map, take, length, Option, Some, None, IfSome, MatchOption}
 use Rattle.std.specs.List.{list_all}
 use Rattle.eg_num.specs.Drive.{IsDrive}
-use Rattle.eg_num.specs.Windows.{WeightParts, is_confirmed, first_place}
+use Rattle.eg_num.specs.Windows.{WeightParts, is_confirmed, first_index}
 use Rattle.eg_answer.specs.Times.{reaction_of, HasLapseBound, lapse_periods, lapse_bound_of}
 use Rattle.eg_values.specs.Calibration.{CalibrationParts, IsAccepted}
 use Rattle.eg_fault.specs.Faults.{IsNoneOrValid, IsListed}
@@ -45,7 +45,7 @@ RecordsAreRows b = (r : Run) (n : ℕ) → AreRows (rows_to b r n) × (length (r
 -- from `bound` ticks after the first tick by which the true excess is confirmed in it, the stages are off
 abbrev pub ReactWithin : (bound : ℕ) → WeightParts → (threshold start : ℕ) → List Row → Type 0
 ReactWithin bound weights threshold start rows =
-    (c : ℕ) → first_place weights (map (true_excess threshold) rows) ≡ Some c →
+    (c : ℕ) → first_index weights (map (true_excess threshold) rows) ≡ Some c →
     All (λ row. start + c + bound ≤ row.tick → row.on ≡ false) rows
 
 -- Wherever the true excess is confirmed by the rows before a tick, and the fault, if any, is one under which
@@ -60,7 +60,7 @@ RowsReactAtOnce fault weights threshold start rows =
 -- off at each later one; and where it is never confirmed, they are on at every tick
 abbrev pub CutOneTickAfter : WeightParts → (kt threshold start : ℕ) → List Row → Type 0
 CutOneTickAfter weights kt threshold start rows =
-    MatchOption (first_place weights (map (full_excess kt threshold) rows))
+    MatchOption (first_index weights (map (full_excess kt threshold) rows))
     (All (λ row. row.on ≡ true) rows) (λ c. All (λ row. row.on ≡ nat_le row.tick (start + c)) rows)
 
 -- no fault has begun by a tick

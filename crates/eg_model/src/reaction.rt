@@ -11,8 +11,8 @@ pub fn reacts_in_time()
 {}
 
 /// Where a module of level 2 is skipped or disturbed, or the controller halts, the stages are off from R
-/// ticks after the onset, whatever the torque (docs/CONCEPT.md, "Reaction time"). It does nothing when it
-/// runs.
+/// ticks after the onset, whatever the torque (docs/CONCEPT.md, "Worst-case reaction"). It does nothing
+/// when it runs.
 pub fn cuts_from_onset()
     ensures { CutsFromOnset }
 {}

@@ -6,7 +6,7 @@ use Rattle.std.proofs.lemmas.List.Sums.{sum_by-cons}
 use Rattle.std.proofs.lemmas.Bool.{cases_Bool, eq-eqb, ne_eqb, leb-false, lt-leb, true≢false}
 use Rattle.std.proofs.lemmas.Bool.Decides.{nat_tests}
 use Rattle.eg_num.specs.Windows.{WeightParts, weight, windows, is_reached, is_confirmed, is_first, greatest_of, greatest}
-use Rattle.eg_num.proofs.FirstPlaceLemmas.{is_confirmed-cons, is_first-cons}
+use Rattle.eg_num.proofs.FirstIndexLemmas.{is_confirmed-cons, is_first-cons}
 use Rattle.eg_num.specs.Counting.{fed, fed_all, counted, StandsFor, CounterLaw}
 
 -- a window that goes on by a bad feed weighs `up` more, but where it was below 0

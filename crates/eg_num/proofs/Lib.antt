@@ -1,7 +1,7 @@
 pub mod InterpolationLemmas
 pub mod RisingLemmas
 pub mod WindowLemmas
-pub mod FirstPlaceLemmas
+pub mod FirstIndexLemmas
 pub mod CounterLemmas
 pub mod PlaceLemmas
 pub mod Worked

@@ -6,11 +6,11 @@ use Rattle.std.proofs.lemmas.List.{reverse-append, length-reverse, take-append-d
 use Rattle.std.proofs.lemmas.List.Sorted.{sum_by-IsPermutation, IsPermutation-reverse}
 use Rattle.std.proofs.lemmas.Option.{same_Some, none-some}
 use Rattle.std.proofs.lemmas.Bool.{cases_Bool, cases_order, or_cases, or_left, or_right, leb-true, le-leb, false≢true, true≢false, false_from_ne_true}
-use Rattle.eg_num.specs.Windows.{WeightParts, weight, windows, is_reached, is_confirmed, is_first, first_place, greatest}
+use Rattle.eg_num.specs.Windows.{WeightParts, weight, windows, is_reached, is_confirmed, is_first, first_index, greatest}
 use Rattle.eg_num.specs.Counting.{fed_all}
 use Rattle.eg_num.specs.Places.{WeighsAtLeast, IsReachedAt, IsConfirmedBy, IsFirstAt, IsFirst, IsGreatestAt, up_to, PlaceLaw}
 use Rattle.eg_num.proofs.WindowLemmas.{list_any-map}
-use Rattle.eg_num.proofs.FirstPlaceLemmas.{is_reached_confirmed, is_confirmed-cons, is_first-parts, is_first_from, is_some-first_place, first_place-first, first_place-other}
+use Rattle.eg_num.proofs.FirstIndexLemmas.{is_reached_confirmed, is_confirmed-cons, is_first-parts, is_first_from, is_some-first_index, first_index-first, first_index-other}
 use Rattle.eg_num.proofs.CounterLemmas.{list_any-windows, is_reached-greatest, counted-confirmed, counted-unconfirmed, fed_all-counted}
 
 -- a window that passes a test, by its size less one
@@ -195,31 +195,31 @@ first_from w bits t positive within first =
     (false_from_ne_true _ (λ before. (let r = place_from_confirmed w bits t positive (omega arith) before in first.least r.0 r.1 r.2)))
 
 -- the first place of the first n feeds is the least place
-least_front : (w : WeightParts) (bits : List Bool) (n t : ℕ) → 1 ≤ w.limit → n ≤ length bits → first_place w (reverse (take n bits)) ≡ Some t → IsFirstAt w bits t
-unfolding first_place
+least_front : (w : WeightParts) (bits : List Bool) (n t : ℕ) → 1 ≤ w.limit → n ≤ length bits → first_index w (reverse (take n bits)) ≡ Some t → IsFirstAt w bits t
+unfolding first_index
 least_front w bits zero t positive fits place = absurd (none-some t place)
 least_front w bits (suc n) t positive fits place =
     let within : n < length bits = omega arith in
     let front = reverse (take n bits) in
-    let here : first_place w (get_or bits n false ∷ front) ≡ Some t = sym (ap (first_place w) (front-suc bits n within)) ∙ place in
+    let here : first_index w (get_or bits n false ∷ front) ≡ Some t = sym (ap (first_index w) (front-suc bits n within)) ∙ place in
     let size : length front ≡ n = length-reverse (take n bits) ∙ length-take-le n bits (omega arith) in
     elim (cases_Bool (is_first w (get_or bits n false ∷ front))) [
       | inl first ↦
-          (let same : n ≡ t = sym size ∙ same_Some (length front) t (sym (first_place-first w (get_or bits n false) front first) ∙ here) in
+          (let same : n ≡ t = sym size ∙ same_Some (length front) t (sym (first_index-first w (get_or bits n false) front first) ∙ here) in
           subst (IsFirstAt w bits) same (first_front w bits n positive within first))
-      | inr other ↦ least_front w bits n t positive (omega arith) (sym (first_place-other w (get_or bits n false) front other) ∙ here)
+      | inr other ↦ least_front w bits n t positive (omega arith) (sym (first_index-other w (get_or bits n false) front other) ∙ here)
     ]
 
 -- `first_place` is the least place of the list, or there is none
-least_of : (w : WeightParts) (bits : List Bool) (place : Option ℕ) → 1 ≤ w.limit → first_place w (reverse bits) ≡ place → IsFirst w bits place
+least_of : (w : WeightParts) (bits : List Bool) (place : Option ℕ) → 1 ≤ w.limit → first_index w (reverse bits) ≡ place → IsFirst w bits place
 least_of w bits None positive is = λ t at.
     let whole : take (length bits) bits ≡ bits = take_all (length bits) bits (omega arith) in
     let confirmed : is_confirmed w (reverse bits) ≡ true
     = sym (ap (λ front. is_confirmed w (reverse front)) whole) ∙ confirmed_from_place w bits (length bits) t positive (omega arith) at.0 at in
-    false≢true (sym (ap is_some is) ∙ is_some-first_place w (reverse bits) ∙ confirmed)
+    false≢true (sym (ap is_some is) ∙ is_some-first_index w (reverse bits) ∙ confirmed)
 least_of w bits (Some t) positive is =
     let whole : take (length bits) bits ≡ bits = take_all (length bits) bits (omega arith) in
-    least_front w bits (length bits) t positive (omega arith) (ap (λ front. first_place w (reverse front)) whole ∙ is)
+    least_front w bits (length bits) t positive (omega arith) (ap (λ front. first_index w (reverse front)) whole ∙ is)
 
 -- there is one least place at most
 pub IsFirst-same : (w : WeightParts) (bits : List Bool) (first other : Option ℕ) → IsFirst w bits first → IsFirst w bits other → first ≡ other
@@ -251,6 +251,6 @@ place_law w weights bits = record {
     counter_before = λ never. counter_unconfirmed w bits t weights.3 within never;
     counter_after = λ by. counter_confirmed w bits t weights.3 within by;
   };
-  least = least_of w bits (first_place w (reverse bits)) weights.3 refl;
-  one = λ first is. IsFirst-same w bits first (first_place w (reverse bits)) is (least_of w bits (first_place w (reverse bits)) weights.3 refl);
+  least = least_of w bits (first_index w (reverse bits)) weights.3 refl;
+  one = λ first is. IsFirst-same w bits first (first_index w (reverse bits)) is (least_of w bits (first_index w (reverse bits)) weights.3 refl);
 }

@@ -1,13 +1,13 @@
 -- Debouncing on small lists, computed from the definitions. The lists here stand in the order of time.
 use Rattle.std.proofs.Common.{◌≡◌, ℕ, Bool, true, false, List, [], ◌∷◌, ◌++◌, map, reverse, refl}
 use Rattle.std.specs.Prelude.{Option, Some, None}
-use Rattle.eg_num.specs.Windows.{WeightParts, weight, windows, is_reached, is_confirmed, is_first, first_place, greatest, greatest_of}
+use Rattle.eg_num.specs.Windows.{WeightParts, weight, windows, is_reached, is_confirmed, is_first, first_index, greatest, greatest_of}
 use Rattle.eg_num.specs.Counting.{fed, fed_all, counted}
 use Rattle.eg_num.specs.Places.{up_to}
 
 -- every definition of debouncing
 unfoldable debouncing : ℕ
-unfolding weight windows is_reached is_confirmed is_first first_place greatest_of greatest fed fed_all counted
+unfolding weight windows is_reached is_confirmed is_first first_index greatest_of greatest fed fed_all counted
 debouncing = 0
 
 abbrev weights : ℕ → ℕ → ℕ → WeightParts
@@ -16,7 +16,7 @@ weights up down limit = record { up = up; down = down; limit = limit }
 -- the first place of a list in the order of time
 abbrev first_in : WeightParts → List Bool → Option ℕ
 unfolding debouncing
-first_in w bits = first_place w (reverse bits)
+first_in w bits = first_index w (reverse bits)
 
 -- what a counter shows at the first seven places
 abbrev shown : WeightParts → List Bool → List ℕ

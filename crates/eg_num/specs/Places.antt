@@ -1,7 +1,7 @@
 -- Debouncing as a reader of the rule says it: by places of a list that stands in the order of time, the first
 -- feed at place 0. It is the same rule as that of `Windows`, whose lists stand newest first.
 use Rattle.std.specs.Prelude.{◌≡◌, ◌⊎◌, ◌↔◌, ℕ, ◌+◌, ◌*◌, ◌≤◌, ◌<◌, Bool, not, IsTrue, List, length, take, reverse, slice_range, count_by, Option, MatchOption}
-use Rattle.eg_num.specs.Windows.{WeightParts, AreWeights, is_reached, is_confirmed, is_first, first_place}
+use Rattle.eg_num.specs.Windows.{WeightParts, AreWeights, is_reached, is_confirmed, is_first, first_index}
 use Rattle.eg_num.specs.Counting.{fed_all}
 
 -- the places a to b weigh at least n: up for each bad feed among them, less down for each good one
@@ -44,11 +44,11 @@ pub record AgreeAt (w : WeightParts) (bits : List Bool) (t : ℕ) : Type 0 where
   pub counter_before : ¬ IsConfirmedBy w bits t → IsGreatestAt w bits t (fed_all w (up_to t bits))
   pub counter_after : IsConfirmedBy w bits t → fed_all w (up_to t bits) ≡ w.limit
 
--- they agree at every place, and `first_place` is the least place
+-- they agree at every place, and `first_index` is the least place
 pub record Agree (w : WeightParts) (bits : List Bool) : Type 0 where
   pub each : (t : ℕ) → t < length bits → AgreeAt w bits t
-  pub least : IsFirst w bits (first_place w (reverse bits))
-  pub one : (first : Option ℕ) → IsFirst w bits first → first ≡ first_place w (reverse bits)
+  pub least : IsFirst w bits (first_index w (reverse bits))
+  pub one : (first : Option ℕ) → IsFirst w bits first → first ≡ first_index w (reverse bits)
 
 -- so for all weights and all lists
 abbrev pub PlaceLaw : Type 0

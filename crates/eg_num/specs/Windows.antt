@@ -39,10 +39,10 @@ is_first w [] = false
 is_first w (bad ∷ before) = is_reached w (bad ∷ before) && not (is_confirmed w before)
 
 -- the number of the first feed at which it was reached, the oldest feed being 0, or none
-unfoldable pub first_place : WeightParts → List Bool → Option ℕ
-first_place w [] = None
-first_place w (bad ∷ before) =
-    if is_first w (bad ∷ before) then Some (length before) else first_place w before
+unfoldable pub first_index : WeightParts → List Bool → Option ℕ
+first_index w [] = None
+first_index w (bad ∷ before) =
+    if is_first w (bad ∷ before) then Some (length before) else first_index w before
 
 -- the greatest weight of a window that ends at the last feed, the empty window weighing 0
 unfoldable pub greatest_of : List ℕ → ℕ

@@ -44,18 +44,18 @@ impl Axis {
         self.points.as_slice()
     }
 
-    /// The greatest place up to the last but one whose point is at most `x`, and 0 where there is none.
+    /// The greatest index up to the last but one whose point is at most `x`, and 0 where there is none.
     pub fn locate(&self, x: u16) -> usize
         ensures { IsLocated self.now x result }
     {
         let points = self.points.as_slice();
-        let mut place = 0;
+        let mut index = 0;
         for i in 1..points.len() - 1 {
             if points[i] <= x {
-                place = i;
+                index = i;
             }
         }
-        place
+        index
     }
 
     /// An equal axis. It takes no memory.

@@ -8,7 +8,7 @@ use crate::Weights;
 
 /// A debounce counter (docs/CONCEPT.md, "Debouncing"). Until it is confirmed its value is the greatest weight
 /// of a window that ends at the last feed; from then on it is the limit.
-#[derive(Clone, Copy, Debug, PartialEq, Eq)]
+#[derive(Clone, Copy)]
 pub struct Counter {
     pub value: u16,
 }

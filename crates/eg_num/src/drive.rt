@@ -7,7 +7,7 @@ use std::marker::Model;
 /// What a drive trace gives to one tick (docs/CONCEPT.md, "Units"): the pedal (0 to 1000 per mille), the
 /// speed (0 to 8000 rpm), what raises the permitted torque (0 to 10,000 tenths of Nm), whether the unit is
 /// reset at the tick, and whether the driver brakes. Contracts see its `DriveRow`.
-#[derive(Clone, Copy, Debug, PartialEq, Eq)]
+#[derive(Clone, Copy, PartialEq, Eq)]
 pub struct Drive {
     pedal: u16,
     speed: u16,

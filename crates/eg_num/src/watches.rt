@@ -4,7 +4,7 @@
 /// those of the four pairs of sensors, that of the torque, that of the answers, and that of the start-up
 /// test. All but the first and the last have a debouncer, and are found where its counter first reaches its
 /// limit.
-#[derive(Clone, Copy, Debug, PartialEq, Eq)]
+#[derive(Clone, Copy)]
 pub struct Watches {
     /// A word of level 2 was found to differ from its complement.
     pub mirror: bool,

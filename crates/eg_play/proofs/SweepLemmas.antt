@@ -1,9 +1,8 @@
 -- The runs of a sweep: they may be played, they are one group, and under listed faults they react in time.
-use Rattle.std.proofs.Common.{◌≡◌, ◌∙◌, refl, sym, ap, subst, arith, ℕ, ◌+◌, ◌%◌, ◌^◌, ◌≤◌, Bool, true, false, List, [], ◌∷◌, All, map, length, Option, Some}
+use Rattle.std.proofs.Common.{◌≡◌, refl, sym, ap, subst, ℕ, ◌^◌, ◌≤◌, Bool, true, false, List, [], ◌∷◌, All, map, length, Some}
 use Rattle.std.specs.Prelude.{IfSome, ◌↔◌, ◌<◌, Result, Ok, Err, IsTrue}
 use Rattle.std.proofs.lemmas.List.{length-map}
 use Rattle.std.proofs.lemmas.List.Elements.{All-map, All-weaker}
-use Rattle.std.proofs.Math.Nat.{mod-eq_of_lt}
 use Rattle.eg_num.specs.Drive.{DriveRow, IsDrive}
 use Rattle.eg_answer.specs.Times.{reaction_of}
 use Rattle.eg_fault.specs.declared.class.Fault.{Fault}
@@ -20,6 +19,7 @@ use Rattle.eg_plan.specs.declared.engine.EngineKind.TheVariants as kind
 use Rattle.eg_campaign.specs.declared.play.RunInput.{RunInput}
 use Rattle.eg_campaign.specs.Plays.{IsPlayable, EngineRun, bench_of, run_with}
 use Rattle.eg_campaign.specs.Groups.{AreAlike, groups_of, firsts_after, rows_of_group, rows_made, facts_by}
+use Rattle.eg_tick.proofs.CountLemmas.{out_before}
 use Rattle.eg_campaign.proofs.OnlyGroup.{rows_of_one_group}
 use Rattle.eg_sweep.specs.declared.grid.SweepFault.{SweepFault}
 use Rattle.eg_sweep.specs.declared.grid.SweepFault.TheVariants as fault
@@ -33,7 +33,6 @@ use Rattle.eg_outcome.specs.declared.outcome.Outcome.{Outcome}
 use Rattle.eg_outcome.specs.declared.outcome.Outcome.TheVariants as outcome
 use Rattle.eg_sweep.specs.Grid.{is_too_large}
 use Rattle.eg_sweep.specs.Texts.{sweep_text_of}
-use Rattle.eg_play.specs.Headline.{KeepsHeadline}
 use Rattle.eg_play.specs.Ends.{GridEnds, Plays, Sweeps}
 use Rattle.eg_play.specs.Sweeping.{without_reset, swept, faults_over, runs_over, table_over, swept_text}
 use Rattle.eg_play.proofs.HeadlineLemmas.{keep_headline}
@@ -138,16 +137,13 @@ swept-ends cal accepted step some input playable out now was is nothing o small 
 -- memory ran out before the first tick
 pub not-swept : (cal : CalibrationParts) → IsAccepted cal → (step : ℕ) → 1 ≤ step → (input : RunInput) → IsPlayable input →
     (faults : List Fault) → All IsValid faults → faults ≡ swept_faults (length input.drive) step →
-    (out : ShownSink) (was : TickCount) (nothing : Type 0) → was.count < 2 ^ 64 → is_too_large (length input.drive) step ≡ false →
+    (out : ShownSink) (was : TickCount) (nothing : Type 0) → was.count < 2 ^ 64 → was.weights < 2 ^ 64 → is_too_large (length input.drive) step ≡ false →
     GridEnds (is_too_large (length input.drive) step) nothing (Sweeps cal step input out out was was outcome.Memory) outcome.Memory
-not-swept cal accepted step some input playable faults valid are out was nothing fits small =
+not-swept cal accepted step some input playable faults valid are out was nothing count weights small =
     let inputs = map (swept input) faults in
     swept-ends cal accepted step some input playable out out was was nothing outcome.Memory small faults inputs are refl
-    (no_memory (sweep_text_of (table_of faults (map (facts_by cal) inputs))) (map (run_with cal) inputs) (rows_made cal inputs) out was was 0 (omega arith)
-    (sym (ap (λ k. k % 2 ^ 64) (more was.count) ∙ mod-eq_of_lt fits)) (keep_headline cal accepted inputs (all-playable input faults playable valid)))
-  where
-    more : (n : ℕ) → n + 0 ≡ n
-    more n = omega arith
+    (no_memory (sweep_text_of (table_of faults (map (facts_by cal) inputs))) (map (run_with cal) inputs) (rows_made cal inputs) out was was
+    (out_before was (rows_made cal inputs) count weights) (keep_headline cal accepted inputs (all-playable input faults playable valid)))
 
 -- a grid that isn't told as too large isn't
 pub small_grid : {T : Type 0} (result : Result T SweepFault) (large : Bool) → ((result ≡ Err fault.Grid) ↔ IsTrue large) → ¬ (result ≡ Err fault.Grid) →

@@ -1,8 +1,7 @@
 -- How `run`, `table`, `record` and `sweep` end: by cases on the outcome, nested from the outside in, as
 -- `check` and `bound` are. `store`, `out` and `was` are what the store, the output and the count of ticks
 -- show before the call, `later`, `now` and `is` what they show after it.
-use Rattle.std.specs.Prelude.{◌≡◌, ℕ, Bool, true, false, ◌+◌, ◌-◌, length, ◌%◌, ◌^◌, ◌≤◌, List, [], ◌∷◌, map, All, Option, Some, None, option_map, Result, Ok, Err, IsSome, slice_get, bytes_eq, if◌then◌else◌}
-use Rattle.std.specs.List.{flat_map}
+use Rattle.std.specs.Prelude.{◌≡◌, ℕ, Bool, true, false, ◌+◌, ◌-◌, length, List, [], ◌∷◌, map, All, Option, Some, None, option_map, Result, Ok, Err, IsSome, slice_get, bytes_eq, if◌then◌else◌}
 use Rattle.eg_base.specs.Outside.{ShownStore, ShownSink}
 use Rattle.eg_num.specs.Drive.{DriveRow}
 use Rattle.eg_answer.specs.Times.{reaction_of}
@@ -27,9 +26,10 @@ use Rattle.eg_sweep.specs.Laws.{IsBounded}
 use Rattle.eg_play.specs.Files.{campaign_file, trace_file}
 use Rattle.eg_play.specs.Inputs.{InputComes, InputsCome, FindsInput, AcceptsInput}
 use Rattle.eg_play.specs.Headline.{KeepsHeadline}
-use Rattle.eg_campaign.specs.Plays.{EngineRun, rows_of_run, run_with, count_after}
-use Rattle.eg_campaign.specs.Groups.{rows_made, rows_of_group, count_with, told_with}
-use Rattle.eg_campaign.specs.Texts.{rows_in_time, record_text}
+use Rattle.eg_tick.specs.Counting.{count_with, RanOutAmong}
+use Rattle.eg_campaign.specs.Plays.{EngineRun, rows_in_time, run_with}
+use Rattle.eg_campaign.specs.Groups.{rows_made, rows_of_group, told_with}
+use Rattle.eg_campaign.specs.Texts.{record_text}
 use Rattle.eg_campaign.specs.Recording.{IsStopped}
 use Rattle.eg_play.specs.declared.telling.Telling.{Telling}
 use Rattle.eg_play.specs.Texts.{runs_text}
@@ -37,16 +37,11 @@ use Rattle.eg_play.specs.Sweeping.{runs_over, table_over, swept_text}
 
 -- ---- runs are played ----
 
--- The ticks of these rows were made and counted, with the weights of the rows; where memory ran out, no more
--- than those ticks were counted.
+-- The ticks of these rows were made and counted, with the weights of the rows. Where memory ran out, those of
+-- the first of them were; the last of these may be counted and weigh nothing.
 abbrev pub AreTicked : List Row → TickCount → TickCount → Outcome → Type 0
-AreTicked rows was is outcome.Memory =
-    (n : ℕ) × (n ≤ length rows) × (is.count ≡ (was.count + n) % 2 ^ 64)
+AreTicked rows was is outcome.Memory = RanOutAmong rows was is
 AreTicked rows was is o = is ≡ count_with was rows
-
--- the rows of the records of runs
-unfoldable pub rows_of_runs : List EngineRun → List Row
-rows_of_runs runs = flat_map rows_of_run runs
 
 -- These runs were played, for which these rows were made, and this text on them was written: on Done all of
 -- it. The record of each run keeps the headline.
@@ -95,8 +90,9 @@ RunsEnd telling cal plans store later out now was is o = (come : Result (List Ru
 -- the line at which it was stopped.
 abbrev pub AreTickedInTurn : CalibrationParts → RunInput → ShownSink → ShownSink → TickCount → TickCount
     → Outcome → Type 0
-AreTickedInTurn cal input out now was is outcome.Done = is ≡ count_after was (run_with cal input ∷ [])
-AreTickedInTurn cal input out now was is o = IsStopped (rows_in_time cal input) out now was is
+AreTickedInTurn cal input out now was is outcome.Done =
+    is ≡ count_with was (rows_in_time (run_with cal input))
+AreTickedInTurn cal input out now was is o = IsStopped (rows_in_time (run_with cal input)) out now was is
 
 -- A run was played, and its record was written as its ticks were made: on Done all of it. The record keeps
 -- the headline.
@@ -116,7 +112,7 @@ RecordEnds cal input store later out now was is o = (later.faults ≡ store.faul
 
 -- The runs of a sweep were played, as one group, and their table was written: on Done all of it. The record
 -- of each keeps the headline; and under each class but lapses, and so in the last line, the greatest
--- reaction is at most the reaction time.
+-- reaction is at most the worst-case reaction.
 pub record Sweeps (cal : CalibrationParts) (step : ℕ) (input : RunInput) (out now : ShownSink)
     (was is : TickCount) (o : Outcome) : Type 0 where
   pub plays : Plays (swept_text cal step input) (map (run_with cal) (runs_over step input))

@@ -20,7 +20,7 @@ report_text cal inputs =
     ++ report_end (map (report_with cal) inputs)
 
 -- the table of some runs, of which this is told: a header, and a row for each in their order, by this
--- reaction time
+-- worst-case reaction
 unfoldable pub table_by : (bound : ℕ) → List RunInput → List RunFacts → List ℕ
 table_by bound inputs told =
     table_header

@@ -44,7 +44,7 @@ pub(crate) fn put_run_table<K: Sink>(
     put_text(&text, out)
 }
 
-/// The text of the table of these runs, of which this is told, by this reaction time (ticks).
+/// The text of the table of these runs, of which this is told, by this worst-case reaction (ticks).
 fn table_text(
     alloc: Global,
     bound: u32,

@@ -1,7 +1,7 @@
 // How the runs of a campaign are told.
 
 /// How the runs of a campaign are told (docs/FORMATS.md, "Commands").
-#[derive(Clone, Copy, Debug, PartialEq, Eq)]
+#[derive(Clone, Copy)]
 pub enum Telling {
     /// By the report of `run` (docs/FORMATS.md, "The report").
     Report,

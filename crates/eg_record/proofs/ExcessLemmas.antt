@@ -5,8 +5,8 @@ use Rattle.std.specs.Option.{option_or}
 use Rattle.std.specs.Prelude.{Option, is_some}
 use Rattle.std.proofs.lemmas.Bool.{cases_Bool}
 use Rattle.std.proofs.lemmas.List.{length-map}
-use Rattle.eg_num.specs.Windows.{WeightParts, is_confirmed, first_place}
-use Rattle.eg_num.proofs.FirstPlaceLemmas.{is_first_from, is_first-cons, is_some-first_place, first_place-cons, first_place-first, first_place-other}
+use Rattle.eg_num.specs.Windows.{WeightParts, is_confirmed, first_index}
+use Rattle.eg_num.proofs.FirstIndexLemmas.{is_first_from, is_first-cons, is_some-first_index, first_index-cons, first_index-first, first_index-other}
 use Rattle.eg_num.specs.Counting.{StandsFor}
 use Rattle.eg_num.proofs.CounterLemmas.{counted-nil}
 use Rattle.eg_record.specs.declared.row.Row.{Row}
@@ -38,16 +38,16 @@ first_confirmed-append w t (row ∷ more) rows c first =
 -- ---- in one span ----
 
 -- one bit more: the first place is that of the bits before, or else the last one if the bits are confirmed now
-pub first_place-now : (w : WeightParts) (b : Bool) (bits : List Bool) →
-    option_or (first_place w bits) (if is_confirmed w (b ∷ bits) then Some (length bits) else None) ≡ first_place w (b ∷ bits)
-first_place-now w b bits = elim (cases_Bool (is_confirmed w bits)) [
-  | inl confirmed ↦ stays (first_place w bits) (is_some-first_place w bits ∙ confirmed) (if is_confirmed w (b ∷ bits) then Some (length bits) else None)
-      ∙ sym (first_place-cons w b bits confirmed)
-  | inr unconfirmed ↦ (let none = no_place (first_place w bits) (is_some-first_place w bits ∙ unconfirmed) in
+pub first_index-now : (w : WeightParts) (b : Bool) (bits : List Bool) →
+    option_or (first_index w bits) (if is_confirmed w (b ∷ bits) then Some (length bits) else None) ≡ first_index w (b ∷ bits)
+first_index-now w b bits = elim (cases_Bool (is_confirmed w bits)) [
+  | inl confirmed ↦ stays (first_index w bits) (is_some-first_index w bits ∙ confirmed) (if is_confirmed w (b ∷ bits) then Some (length bits) else None)
+      ∙ sym (first_index-cons w b bits confirmed)
+  | inr unconfirmed ↦ (let none = no_place (first_index w bits) (is_some-first_index w bits ∙ unconfirmed) in
       ap (λ place. option_or place (if is_confirmed w (b ∷ bits) then Some (length bits) else None)) none ∙ elim (cases_Bool (is_confirmed w (b ∷ bits))) [
-        | inl now ↦ ap (λ (c : Bool). if c then Some (length bits) else None) now ∙ sym (first_place-first w b bits (is_first_from w b bits now unconfirmed))
+        | inl now ↦ ap (λ (c : Bool). if c then Some (length bits) else None) now ∙ sym (first_index-first w b bits (is_first_from w b bits now unconfirmed))
         | inr never ↦ ap (λ (c : Bool). if c then Some (length bits) else None) never
-            ∙ sym (first_place-other w b bits (is_first-cons w b bits ∙ ap (λ (c : Bool). c && not (is_confirmed w bits)) never) ∙ none)
+            ∙ sym (first_index-other w b bits (is_first-cons w b bits ∙ ap (λ (c : Bool). c && not (is_confirmed w bits)) never) ∙ none)
       ])
 ]
   where
@@ -60,15 +60,15 @@ first_place-now w b bits = elim (cases_Bool (is_confirmed w bits)) [
     no_place (Some n) e = absurd cc
 
 -- where all rows are of one span, it is the first place of the bits of all rows
-pub first_confirmed-one_span : (w : WeightParts) (t : ℕ) (rows : List Row) → this_span rows ≡ rows → first_confirmed w t rows ≡ first_place w (map (true_excess t) rows)
-unfolding first_confirmed is_excess_confirmed first_place
+pub first_confirmed-one_span : (w : WeightParts) (t : ℕ) (rows : List Row) → this_span rows ≡ rows → first_confirmed w t rows ≡ first_index w (map (true_excess t) rows)
+unfolding first_confirmed is_excess_confirmed first_index
 first_confirmed-one_span w t [] one = refl
 first_confirmed-one_span w t (row ∷ before) one =
     ap₂ (λ o rs. option_or o (if is_confirmed w (map (true_excess t) rs) then Some (length before) else None))
     (first_confirmed-one_span w t before (one_span-part (row ∷ []) before one)) one
-    ∙ ap (λ (n : ℕ). option_or (first_place w (map (true_excess t) before)) (if is_confirmed w (true_excess t row ∷ map (true_excess t) before) then Some n else None))
+    ∙ ap (λ (n : ℕ). option_or (first_index w (map (true_excess t) before)) (if is_confirmed w (true_excess t row ∷ map (true_excess t) before) then Some n else None))
     (sym (length-map before (true_excess t)))
-    ∙ first_place-now w (true_excess t row) (map (true_excess t) before)
+    ∙ first_index-now w (true_excess t row) (map (true_excess t) before)
 
 -- ---- one row more, by the counter ----
 

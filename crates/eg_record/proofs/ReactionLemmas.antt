@@ -11,7 +11,7 @@ use Rattle.eg_record.specs.Spans.{this_span, spans_of, in_last}
 use Rattle.eg_record.specs.Stages.{last_on}
 use Rattle.eg_record.specs.Excess.{true_excess, is_excess_confirmed}
 use Rattle.eg_record.specs.Facts.{reaction_by, off_from}
-use Rattle.eg_record.specs.Reactions.{confirmed_in, end_of, reaction_in_span, followed_in, no_reactions, greater, less, both, reactions_in, reactions_of_spans, reactions_of, told_at, ended_at, gone_on, spans_with}
+use Rattle.eg_record.specs.Reactions.{confirmed_in, end_of, reaction_in_span, followed_in, no_reactions, greater, less, combined, reactions_in, reactions_of_spans, reactions_of, span_reactions, ended_at, gone_on, spans_with}
 use Rattle.eg_record.specs.Tallies.{AreSpansOf}
 use Rattle.eg_record.proofs.SpanLemmas.{this_span-fresh, this_span-goes_on}
 
@@ -67,12 +67,12 @@ spans_of-last row (last ∷ before) = last-one row (last ∷ before)
 
 -- ---- what is told of them ----
 
-none_told : (w : WeightParts) (t : ℕ) → reactions_of w t [] ≡ both (reactions_in w t (this_span [])) (reactions_of_spans w t (drop 1 (spans_of [])))
-unfolding reactions_of spans_of this_span reactions_of_spans reactions_in both no_reactions reaction_in_span followed_in confirmed_in end_of last_on greater less off_from
+none_told : (w : WeightParts) (t : ℕ) → reactions_of w t [] ≡ combined (reactions_in w t (this_span [])) (reactions_of_spans w t (drop 1 (spans_of [])))
+unfolding reactions_of spans_of this_span reactions_of_spans reactions_in combined no_reactions reaction_in_span followed_in confirmed_in end_of last_on greater less off_from
 none_told w t = refl
 
 told-first : (w : WeightParts) (t : ℕ) (span : List Row) (earlier : List (List Row)) →
-    reactions_of_spans w t (span ∷ earlier) ≡ both (reactions_in w t span) (reactions_of_spans w t earlier)
+    reactions_of_spans w t (span ∷ earlier) ≡ combined (reactions_in w t span) (reactions_of_spans w t earlier)
 unfolding reactions_of_spans
 told-first w t span earlier = refl
 
@@ -82,7 +82,7 @@ reactions_of-spans w t rows = refl
 
 -- of all of them: what is told of the last one, and of those before
 pub reactions_of-last : (w : WeightParts) (t : ℕ) (rows : List Row) →
-    reactions_of w t rows ≡ both (reactions_in w t (this_span rows)) (reactions_of_spans w t (drop 1 (spans_of rows)))
+    reactions_of w t rows ≡ combined (reactions_in w t (this_span rows)) (reactions_of_spans w t (drop 1 (spans_of rows)))
 reactions_of-last w t [] = none_told w t
 reactions_of-last w t (row ∷ before) =
     reactions_of-spans w t (row ∷ before)
@@ -98,10 +98,10 @@ end_of-this_span [] whole = refl
 end_of-this_span (row ∷ before) whole = let here = whole.0 in omega arith
 
 -- what is told of it
-told_at-is : (w : WeightParts) (t : ℕ) (spans : SpanTally) (rows : List Row) → AreRows rows → AreSpansOf w t spans rows →
-    told_at (length rows) spans ≡ reactions_in w t (this_span rows)
-unfolding told_at reactions_in reaction_in_span followed_in
-told_at-is w t spans rows whole are =
+span_reactions-is : (w : WeightParts) (t : ℕ) (spans : SpanTally) (rows : List Row) → AreRows rows → AreSpansOf w t spans rows →
+    span_reactions (length rows) spans ≡ reactions_in w t (this_span rows)
+unfolding span_reactions reactions_in reaction_in_span followed_in
+span_reactions-is w t spans rows whole are =
     let end = sym (end_of-this_span rows whole) in
     λ i. record {
       longest = reaction_by (are.last_on i) (are.confirmed i) (end i);
@@ -110,8 +110,8 @@ told_at-is w t spans rows whole are =
 
 -- and of all spans of the rows
 pub told-all : (w : WeightParts) (t : ℕ) (spans : SpanTally) (rows : List Row) → AreRows rows → AreSpansOf w t spans rows →
-    both (told_at (length rows) spans) spans.ended ≡ reactions_of w t rows
-told-all w t spans rows whole are = ap₂ both (told_at-is w t spans rows whole are) are.ended ∙ sym (reactions_of-last w t rows)
+    combined (span_reactions (length rows) spans) spans.ended ≡ reactions_of w t rows
+told-all w t spans rows whole are = ap₂ combined (span_reactions-is w t spans rows whole are) are.ended ∙ sym (reactions_of-last w t rows)
 
 -- ---- one row more ----
 
@@ -156,7 +156,7 @@ unfolding ended_at last_on confirmed_in reactions_of
 begins_anew w t spans row before tick whole fresh are = record {
   last_on = refl;
   confirmed = refl;
-  ended = ap (λ n. both (told_at n spans) spans.ended) tick ∙ told-all w t spans before whole are
+  ended = ap (λ n. combined (span_reactions n spans) spans.ended) tick ∙ told-all w t spans before whole are
       ∙ ap (reactions_of_spans w t) (sym (earlier-fresh row before fresh));
 }
 

@@ -17,7 +17,7 @@ use Rattle.eg_record.specs.Facts.{facts_of, facts_with, summary_with}
 use Rattle.eg_record.specs.Summaries.{summary_of}
 use Rattle.eg_record.specs.declared.reactions.Reactions.{Reactions}
 use Rattle.eg_record.specs.declared.span_tally.SpanTally.{SpanTally}
-use Rattle.eg_record.specs.Reactions.{both, reactions_of, spans_with, told_at}
+use Rattle.eg_record.specs.Reactions.{combined, reactions_of, spans_with, span_reactions}
 use Rattle.eg_record.specs.Tallies.{TallyParts, AreSpansOf, IsTallyOf}
 use Rattle.eg_record.proofs.ExcessLemmas.{begins, fed_stands, fed_answers}
 use Rattle.eg_record.proofs.ReactionLemmas.{told-all, spans_with-is}
@@ -70,10 +70,10 @@ fed_tally tally row new confirmed facts spans rows tick fed added kept before =
     }
 
 -- what a tally that stands for these rows tells of their reactions
-pub tally_tells : (tally : TallyParts) (rows : List Row) (told : Reactions) → told ≡ both (told_at tally.facts.ticks tally.spans) tally.spans.ended →
+pub tally_tells : (tally : TallyParts) (rows : List Row) (told : Reactions) → told ≡ combined (span_reactions tally.facts.ticks tally.spans) tally.spans.ended →
     IsTallyOf tally rows → told ≡ reactions_of tally.weights tally.threshold rows
 tally_tells tally rows told is stands =
-    is ∙ ap (λ n. both (told_at n tally.spans) tally.spans.ended) (ap (λ (f : Facts). f.ticks) stands.facts ∙ ticks_of tally.weights tally.threshold rows)
+    is ∙ ap (λ n. combined (span_reactions n tally.spans) tally.spans.ended) (ap (λ (f : Facts). f.ticks) stands.facts ∙ ticks_of tally.weights tally.threshold rows)
     ∙ told-all tally.weights tally.threshold tally.spans rows stands.run stands.spans
 
 -- the summary with the facts of some rows is theirs

@@ -36,7 +36,7 @@ reaction_by last_on confirmed end =
 unfoldable pub reaction_in : Facts → Option ℕ
 reaction_in facts = reaction_by facts.last_on facts.confirmed facts.ticks
 
--- the summary that tells these facts, with this name, trap and reaction time
+-- the summary that tells these facts, with this name, trap and worst-case reaction
 unfoldable pub summary_with : (name : List ℕ) → Facts → (trap : Option (Trap × ℕ)) → (bound : ℕ) → Summary
 summary_with name facts trap bound = record {
   name = name;

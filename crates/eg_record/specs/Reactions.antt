@@ -54,8 +54,8 @@ unfoldable pub no_reactions : Reactions
 no_reactions = record { longest = None; followed = None }
 
 -- what is told of some spans and of others
-unfoldable pub both : Reactions → Reactions → Reactions
-both these others = record {
+unfoldable pub combined : Reactions → Reactions → Reactions
+combined these others = record {
   longest = greater these.longest others.longest;
   followed = less these.followed others.followed;
 }
@@ -71,7 +71,7 @@ reactions_in weights threshold span = record {
 unfoldable pub reactions_of_spans : WeightParts → (threshold : ℕ) → List (List Row) → Reactions
 reactions_of_spans weights threshold [] = no_reactions
 reactions_of_spans weights threshold (span ∷ earlier) =
-    both (reactions_in weights threshold span) (reactions_of_spans weights threshold earlier)
+    combined (reactions_in weights threshold span) (reactions_of_spans weights threshold earlier)
 
 -- what is told of the spans of a run
 unfoldable pub reactions_of : WeightParts → (threshold : ℕ) → List Row → Reactions
@@ -90,8 +90,8 @@ is_settled bound reactions = settled_by bound reactions.followed
 -- ---- one row more ----
 
 -- what is told of the span that is going on, where it ends before this tick
-unfoldable pub told_at : (end : ℕ) → SpanTally → Reactions
-told_at end spans = record {
+unfoldable pub span_reactions : (end : ℕ) → SpanTally → Reactions
+span_reactions end spans = record {
   longest = reaction_by spans.last_on spans.confirmed end;
   followed = option_map (λ c. end - (c + 1)) spans.confirmed;
 }
@@ -101,7 +101,7 @@ unfoldable pub ended_at : (end : ℕ) → SpanTally → SpanTally
 ended_at end spans = record {
   last_on = None;
   confirmed = None;
-  ended = both (told_at end spans) spans.ended;
+  ended = combined (span_reactions end spans) spans.ended;
 }
 
 -- one row more of the span that is going on, at which the true excess is confirmed or isn't

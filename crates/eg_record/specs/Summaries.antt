@@ -10,7 +10,7 @@ use Rattle.eg_record.specs.Stages.{first_off}
 
 -- Of the rows it tells the first detection, the first tick at which the stages are off and no start-up test
 -- is running, and the first tick at which the true excess is confirmed within its span. Name, trap and
--- reaction time are handed in.
+-- worst-case reaction are handed in.
 unfoldable pub summary_of : (name : List ℕ) → List Row → (trap : Option (Trap × ℕ)) → (threshold : ℕ) →
     WeightParts → (bound : ℕ) → Summary
 summary_of name rows trap threshold weights bound = record {

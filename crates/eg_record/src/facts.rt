@@ -15,7 +15,7 @@ use std::alloc::Global;
 
 /// What is told of the rows of a run once they are gone (docs/CONCEPT.md, "The report of a run"). All ticks
 /// are those of the run, the first being 0.
-#[derive(Clone, Copy, Debug, PartialEq, Eq)]
+#[derive(Clone, Copy)]
 pub struct Facts {
     /// The first watch that is found, and the tick at which it is, or None.
     pub first: Option<(Watch, u32)>,
@@ -31,7 +31,7 @@ pub struct Facts {
 
 impl Facts {
     /// What a report says of the run (docs/CONCEPT.md, "The report of a run"): its facts, with the name, the
-    /// trap and the reaction time (ticks) that are handed in.
+    /// trap and the worst-case reaction (ticks) that are handed in.
     #[tactic(auto, unfolding(crate::specs::Facts::summary_with))]
     pub fn summary(
         &self,

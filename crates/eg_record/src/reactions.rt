@@ -1,10 +1,10 @@
 // The reactions of a run, span by span.
 ghost use Rattle.std.specs.Prelude.{◌≡◌};
-ghost use Rattle.eg_record.specs.Reactions.{both, greater, is_settled, less};
+ghost use Rattle.eg_record.specs.Reactions.{combined, greater, is_settled, less};
 
 /// What is told of the reactions of a run once its rows are gone (docs/CONCEPT.md, "`table`"). Spans are the
 /// stretches of ticks in which the engine is driven, and the start-up tests.
-#[derive(Clone, Copy, Debug, PartialEq, Eq)]
+#[derive(Clone, Copy)]
 pub struct Reactions {
     /// The longest of the reactions of its spans, in ticks, or None where no span has one. A span in which an
     /// excess is confirmed and the power stages are on at the last tick has none.
@@ -28,9 +28,9 @@ impl Reactions {
     }
 
     /// What is told of these spans and of others.
-    #[tactic(auto, unfolding(crate::specs::Reactions::both))]
+    #[tactic(auto, unfolding(crate::specs::Reactions::combined))]
     pub(crate) fn and(&self, others: &Reactions) -> Reactions
-        ensures { result ≡ both self.now others.now }
+        ensures { result ≡ combined self.now others.now }
     {
         Reactions {
             longest: greater(self.longest, others.longest),

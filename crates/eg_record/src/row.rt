@@ -3,7 +3,7 @@ use eg_answer::{AnswerMark, Verdict};
 use eg_num::{Drive, Watches};
 
 /// What holds at one tick of a run (docs/CONCEPT.md, "The record of a run").
-#[derive(Clone, Copy, Debug, PartialEq, Eq)]
+#[derive(Clone, Copy)]
 pub struct Row {
     /// The tick, the first being 0.
     pub tick: u32,

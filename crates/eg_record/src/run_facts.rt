@@ -3,7 +3,7 @@ use crate::{Facts, Reactions};
 use eg_word::Trap;
 
 /// What is told of a run once its rows are gone (docs/CONCEPT.md, "The report of a run" and "`table`").
-#[derive(Clone, Copy, Debug, PartialEq, Eq)]
+#[derive(Clone, Copy)]
 pub struct RunFacts {
     /// The facts of its rows.
     pub facts: Facts,

@@ -1,6 +1,6 @@
 // What is kept of the spans of rows that are gone.
 ghost use Rattle.std.specs.Prelude.{◌≡◌, ◌+◌, ◌-◌, None, option_map};
-ghost use Rattle.eg_record.specs.Reactions.{both, ended_at, gone_on, no_reactions, spans_with, told_at};
+ghost use Rattle.eg_record.specs.Reactions.{combined, ended_at, gone_on, no_reactions, spans_with, span_reactions};
 
 use crate::facts::{note_on, note_tick, reaction_by};
 use crate::{Reactions, Row};
@@ -47,9 +47,9 @@ impl SpanTally {
 
     /// The reactions in all spans, where this is the tick after the last one.
     pub(crate) fn reactions_to(&self, end: u32) -> Reactions
-        ensures { result ≡ both (told_at end self.now) self.now.ended }
+        ensures { result ≡ combined (span_reactions end self.now) self.now.ended }
     {
-        self.told_at(end).and(&self.ended)
+        self.span_reactions(end).and(&self.ended)
     }
 
     /// The span ends before this tick.
@@ -72,9 +72,9 @@ impl SpanTally {
     }
 
     /// What is told of the span, where it ends before this tick.
-    #[tactic(auto, unfolding(crate::specs::Reactions::told_at))]
-    fn told_at(&self, end: u32) -> Reactions
-        ensures { result ≡ told_at end self.now }
+    #[tactic(auto, unfolding(crate::specs::Reactions::span_reactions))]
+    fn span_reactions(&self, end: u32) -> Reactions
+        ensures { result ≡ span_reactions end self.now }
     {
         Reactions {
             longest: reaction_by(self.last_on, self.confirmed, end),

@@ -11,7 +11,7 @@ use eg_word::Trap;
 use std::alloc::Global;
 
 /// What a report says of a run (docs/CONCEPT.md, "The report of a run").
-#[derive(Debug, Drop)]
+#[derive(Drop)]
 pub struct Summary {
     /// The name of the run.
     pub name: Text,
@@ -23,13 +23,13 @@ pub struct Summary {
     pub trap: Option<(Trap, u32)>,
     /// The first tick at which the true excess is confirmed within its span, or None.
     pub confirmed: Option<u32>,
-    /// The reaction time, in ticks.
+    /// The worst-case reaction, in ticks.
     pub bound: u32,
 }
 
 /// The summary of a run of these rows, which stand in the order of time, from tick 0 on (docs/CONCEPT.md,
 /// "The report of a run"). The true excess goes by the threshold (tenths of Nm) and by these weights; name,
-/// trap and reaction time (ticks) are told as they are handed in.
+/// trap and worst-case reaction (ticks) are told as they are handed in.
 #[tactic(auto, unfolding(crate::specs::Summaries::summary_of))]
 pub fn summarize(
     alloc: Global,

@@ -7,7 +7,7 @@ use eg_num::Watches;
 
 /// A watch of the unit (docs/CONCEPT.md, "The record of a run"). Of several that are found at one tick, the
 /// first in this order is told.
-#[derive(Clone, Copy, Debug, PartialEq, Eq)]
+#[derive(Clone, Copy, PartialEq, Eq)]
 pub enum Watch {
     /// A word of level 2 differs from its complement.
     Mirror,

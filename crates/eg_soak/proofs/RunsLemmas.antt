@@ -1,9 +1,12 @@
 -- One run more of those that are drawn.
-use Rattle.std.proofs.Common.{◌≡◌, ◌∙◌, refl, sym, ap, ℕ, zero, suc, ◌+◌, ◌*◌, ◌≤◌, [], ◌∷◌, ◌++◌, map, length, add-one, arith}
-use Rattle.std.proofs.lemmas.List.{map-append}
+use Rattle.std.proofs.Common.{◌≡◌, ◌∙◌, refl, sym, ap, ℕ, zero, suc, ◌+◌, ◌*◌, ◌≤◌, List, [], ◌∷◌, ◌++◌, map, length, add-one, append_assoc, length-append, arith}
+use Rattle.std.proofs.lemmas.List.{map-append, flat_map_more}
+use Rattle.eg_record.specs.declared.row.Row.{Row}
+use Rattle.eg_model.specs.Engines.{gasoline}
 use Rattle.eg_tick.specs.Weights.{TickCount}
-use Rattle.eg_campaign.specs.Plays.{ticks_of, count_after}
-use Rattle.eg_campaign.proofs.PlayLemmas.{ticks-append, ticks-one, counted-more}
+use Rattle.eg_tick.specs.Counting.{count_with}
+use Rattle.eg_campaign.specs.Plays.{rows_in_time, rows_of_runs}
+use Rattle.eg_tick.proofs.CountLemmas.{counts_more, long}
 use Rattle.eg_draw.specs.declared.runs.DrawnRun.{DrawnRun}
 use Rattle.eg_draw.specs.Runs.{drawn_run, state_after}
 use Rattle.eg_draw.proofs.ProperLemmas.{drawn_proper}
@@ -41,9 +44,13 @@ facts-next n x state drawn at is = ap (map facts_of) (runs-next n x state drawn 
     ∙ map-append facts_of (drawn_runs n x) (run_drawn drawn ∷ [])
 
 pub counts-next : (from old new : TickCount) (n x state : ℕ) (drawn : DrawnRun) → state ≡ state_of n x → drawn ≡ drawn_run state →
-    old ≡ count_after from (drawn_runs n x) → new ≡ count_after old (run_drawn drawn ∷ []) → new ≡ count_after from (drawn_runs (n + 1) x)
-counts-next from old new n x state drawn at is before now = counted-more from old new (drawn_runs n x) (run_drawn drawn) before now
-    ∙ ap (count_after from) (sym (runs-next n x state drawn at is))
+    old ≡ count_with from (rows_of_runs (drawn_runs n x)) → new ≡ count_with old (rows_in_time (run_drawn drawn)) →
+    new ≡ count_with from (rows_of_runs (drawn_runs (n + 1) x))
+unfolding rows_of_runs
+counts-next from old new n x state drawn at is before now =
+    counts_more from old new (rows_of_runs (drawn_runs n x)) (rows_in_time (run_drawn drawn)) before now
+    ∙ ap (count_with from) (flat_map_more rows_in_time [] (drawn_runs n x) (run_drawn drawn)
+    ∙ ap rows_of_runs (sym (runs-next n x state drawn at is)))
 
 pub runs-length : (n x : ℕ) → length (drawn_runs n x) ≡ n
 unfolding drawn_runs
@@ -51,24 +58,23 @@ runs-length zero x = refl
 runs-length (suc n) x = ap (λ k. suc k) (runs-length n (state_after x))
 
 -- their ticks
-no_ticks : ticks_of [] ≡ 0
-unfolding ticks_of
-no_ticks = refl
-
-pub runs-ticks : (n x : ℕ) → ticks_of (drawn_runs n x) ≡ n * 2000
-unfolding drawn_runs
-runs-ticks zero x = no_ticks
+pub runs-ticks : (n x : ℕ) → length (rows_of_runs (drawn_runs n x)) ≡ n * 2000
+unfolding drawn_runs rows_of_runs rows_in_time
+runs-ticks zero x = refl
 runs-ticks (suc n) x =
     let run = run_drawn (drawn_run x) in
-    let more = drawn_runs n (state_after x) in
-    let both : ticks_of (run ∷ more) ≡ ticks_of (run ∷ []) + ticks_of more = ticks-append (run ∷ []) more in
-    let one : ticks_of (run ∷ []) ≡ 2000 = ticks-one run ∙ (drawn_proper x).rows in
-    let others : ticks_of more ≡ n * 2000 = runs-ticks n (state_after x) in
+    let more = rows_of_runs (drawn_runs n (state_after x)) in
+    let both : length (rows_in_time run ++ more) ≡ length (rows_in_time run) + length more = length-append (rows_in_time run) more in
+    let one : length (rows_in_time run) ≡ 2000 = sym (long gasoline run.run) ∙ (drawn_proper x).rows in
+    let others : length more ≡ n * 2000 = runs-ticks n (state_after x) in
     omega (arith, both, one, others)
 
--- the first of them have no more ticks than all
-pub ticks-front : (k all x : ℕ) → k ≤ all → ticks_of (drawn_runs k x) ≤ ticks_of (drawn_runs all x)
-ticks-front k all x few =
-    let these = runs-ticks k x in
-    let whole = runs-ticks all x in
-    omega (arith, these, whole, few)
+-- the rows of the first of them are the first of the rows of all
+pub runs-front : (k all x : ℕ) → k ≤ all → (rest : List Row) × (rows_of_runs (drawn_runs k x) ++ rest ≡ rows_of_runs (drawn_runs all x))
+unfolding drawn_runs rows_of_runs
+runs-front zero all x few = (rows_of_runs (drawn_runs all x), refl)
+runs-front (suc k) zero x few = absurd (omega (arith, few))
+runs-front (suc k) (suc all) x few =
+    let (rest, e) = runs-front k all (state_after x) (omega (arith, few)) in
+    let own = rows_in_time (run_drawn (drawn_run x)) in
+    (rest, append_assoc own (rows_of_runs (drawn_runs k (state_after x))) rest ∙ ap (λ l. own ++ l) e)

@@ -1,8 +1,9 @@
 // What `soak` counts of a run.
-ghost use Rattle.std.specs.Prelude.{◌≡◌, ◌∷◌, []};
+ghost use Rattle.std.specs.Prelude.{◌≡◌};
 ghost use Rattle.eg_values.specs.Reference.{reference_parts};
 ghost use Rattle.eg_draw.specs.Runs.{IsDrawn};
-ghost use Rattle.eg_campaign.specs.Plays.{count_after};
+ghost use Rattle.eg_tick.specs.Counting.{count_with};
+ghost use Rattle.eg_campaign.specs.Plays.{rows_in_time};
 ghost use Rattle.eg_soak.specs.Facts.{facts_in, facts_of, is_first};
 ghost use Rattle.eg_soak.specs.Soak.{run_drawn};
 
@@ -13,7 +14,7 @@ use eg_tick::{Ticks, run_facts};
 use eg_values::Calibration;
 
 /// What `soak` counts of a run (docs/CONCEPT.md, "`soak`").
-#[derive(Clone, Copy, Debug, PartialEq, Eq)]
+#[derive(Clone, Copy)]
 pub(crate) struct DrawnFacts {
     /// The first watch that is found, if any.
     pub first: Option<Watch>,
@@ -54,7 +55,7 @@ pub(crate) fn play(calibration: &Calibration, drawn: &DrawnRun, steps: &mut Tick
     requires calibration { calibration.now ≡ reference_parts }
     requires drawn { IsDrawn drawn.now }
     ensures facts { result ≡ facts_of (run_drawn drawn.now) }
-    ensures counted { steps.new ≡ count_after steps.old (run_drawn drawn.now ∷ []) }
+    ensures counted { steps.new ≡ count_with steps.old (rows_in_time (run_drawn drawn.now)) }
 {
     let plan = usual_slices();
     let (image, drive, fault) = (

@@ -1,7 +1,8 @@
 // Runs that are drawn from a number, played one after another.
-ghost use Rattle.std.specs.Prelude.{◌≡◌, ℕ, ◌+◌, ◌%◌, ◌^◌, ◌≤◌, ◌*◌, length, map, IfOk, OnOk, OnErr};
+ghost use Rattle.std.specs.Prelude.{◌≡◌, ℕ, ◌+◌, ◌≤◌, ◌*◌, length, map, IfOk, OnOk, OnErr};
 ghost use Rattle.std.specs.List.{sum};
-ghost use Rattle.eg_campaign.specs.Plays.{count_after, ticks_of};
+ghost use Rattle.eg_tick.specs.Counting.{count_with, AreCounted};
+ghost use Rattle.eg_campaign.specs.Plays.{rows_of_runs};
 ghost use Rattle.eg_soak.specs.Facts.{facts_of};
 ghost use Rattle.eg_soak.specs.Soak.{drawn_runs, soak_of};
 
@@ -23,14 +24,12 @@ pub fn soak(alloc: Global, seed: u32, runs: u32, steps: &mut Ticks) -> Result<So
     // Each run is counted once: by its first watch, or among those in which none was found.
     ensures runs { IfOk result (λ summary. summary.runs ≡ runs) }
     ensures sums { IfOk result (λ summary. summary.none + sum summary.by_watch ≡ runs) }
-    // The ticks of all runs are counted. Where memory ran out, no more than these are.
-    ensures counted { OnOk result (steps.new ≡ count_after steps.old (drawn_runs runs seed)) }
-    ensures ticks { ticks_of (drawn_runs runs seed) ≡ runs * 2000 }
-    ensures count { OnErr result ((n : ℕ) × (n ≤ ticks_of (drawn_runs runs seed))
-        × (steps.new.count ≡ (steps.old.count + n) % 2 ^ 64)) }
+    // The ticks of all runs are counted, with their weights; where memory ran out, the first of them.
+    ensures counted { AreCounted (rows_of_runs (drawn_runs runs seed)) steps.old steps.new result }
+    ensures ticks { length (rows_of_runs (drawn_runs runs seed)) ≡ runs * 2000 }
     // They are then those of the first runs, each of them whole.
     ensures stopped { OnErr result ((k : ℕ) × (k ≤ runs)
-        × (steps.new ≡ count_after steps.old (drawn_runs k seed))) }
+        × (steps.new ≡ count_with steps.old (rows_of_runs (drawn_runs k seed)))) }
 {
     let all = play_all(alloc, seed, runs, steps)?;
     Ok(SoakSummary::of(&all))
@@ -46,9 +45,10 @@ fn play_all(
     requires { runs ≤ 500 }
     ensures facts { IfOk result (λ all. all.items ≡ map facts_of (drawn_runs runs seed)) }
     ensures length { IfOk result (λ all. length all.items ≡ runs) }
-    ensures counted { OnOk result (steps.new ≡ count_after steps.old (drawn_runs runs seed)) }
+    ensures counted { OnOk result
+        (steps.new ≡ count_with steps.old (rows_of_runs (drawn_runs runs seed))) }
     ensures stopped { OnErr result ((k : ℕ) × (k ≤ runs)
-        × (steps.new ≡ count_after steps.old (drawn_runs k seed))) }
+        × (steps.new ≡ count_with steps.old (rows_of_runs (drawn_runs k seed)))) }
 {
     // Whoever reads them learns that both numbers are a u64.
     let _numbers = (steps.count(), steps.sum());

@@ -8,7 +8,7 @@ use crate::facts::DrawnFacts;
 use eg_record::Watch;
 
 /// What `soak` tells of its runs (docs/CONCEPT.md, "`soak`").
-#[derive(Clone, Copy, Debug, PartialEq, Eq)]
+#[derive(Clone, Copy)]
 pub struct SoakSummary {
     /// How many runs were played.
     pub runs: u32,

@@ -12,14 +12,14 @@ use Rattle.eg_record.specs.declared.facts.Facts.{Facts}
 use Rattle.eg_record.specs.Facts.{reaction_in}
 use Rattle.eg_sweep.specs.declared.row.SweepRow.{SweepRow}
 use Rattle.eg_sweep.specs.Grid.{swept_classes, swept_faults}
-use Rattle.eg_sweep.specs.Table.{class_place, facts_under, row_of, rows_of, table_of, greatest_listed}
+use Rattle.eg_sweep.specs.Table.{class_index, facts_under, row_of, rows_of, table_of, greatest_listed}
 use Rattle.eg_sweep.specs.Laws.{ReactsIn, IsBounded}
 use Rattle.eg_sweep.proofs.GreatestLemmas.{greatest-within}
 use Rattle.eg_sweep.proofs.ListedLemmas.{swept_listed}
 
 -- a class that stands before the last isn't a lapse
-no_lapse : (class : Class) → class_place class < 13 → is_lapse class ≡ false
-unfolding class_place is_lapse
+no_lapse : (class : Class) → class_index class < 13 → is_lapse class ≡ false
+unfolding class_index is_lapse
 no_lapse (Lapse after every) early = absurd (omega arith)
 no_lapse _ early = refl
 
@@ -27,15 +27,15 @@ no_lapse _ early = refl
 
 -- what holds of the facts of each run under a fault of a class holds of the facts that its row is of
 under_all : (P : Facts → Type 0) (class : Class) (runs : List (Fault × Facts)) →
-    All (λ run. class_place run.0.class ≡ class_place class → P run.1) runs → All P (facts_under class runs)
+    All (λ run. class_index run.0.class ≡ class_index class → P run.1) runs → All P (facts_under class runs)
 unfolding facts_under
 under_all P class runs each = All-map P (λ run. run.1) (filter of_class runs) (go runs each)
   where
     of_class : Fault × Facts → Bool
-    of_class run = class_place run.0.class == class_place class
+    of_class run = class_index run.0.class == class_index class
 
     Each : Fault × Facts → Type 0
-    Each run = class_place run.0.class ≡ class_place class → P run.1
+    Each run = class_index run.0.class ≡ class_index class → P run.1
 
     kept : (run : Fault × Facts) (b : Bool) (others : List (Fault × Facts)) → of_class run ≡ b → Each run →
         All (λ run. P run.1) others → All (λ run. P run.1) (if b then run ∷ others else others)
@@ -68,8 +68,8 @@ earlier_rows : (runs : List (Fault × Facts)) → take 13 (rows_of runs) ≡ map
 unfolding rows_of swept_classes
 earlier_rows runs = refl
 
-earlier_classes : All (λ class. class_place class < 13) (take 13 swept_classes)
-unfolding swept_classes class_place
+earlier_classes : All (λ class. class_index class < 13) (take 13 swept_classes)
+unfolding swept_classes class_index
 earlier_classes = search (arith, All-cons, All-nil) depth 40
 
 rows-within : (bound : ℕ) (runs : List (Fault × Facts)) →

@@ -129,8 +129,8 @@ each_fault P Begins Does gives onsets begin (class ∷ classes) acts =
     (each_fault P Begins Does gives onsets begin classes (All-tail Does class classes acts))
   where
     here : Does class → All P (faults_of onsets class)
-    here does = unfold faults_of in All-map P (λ (onset : ℕ). record { onset = onset; class = class }) onsets
-        (λ k d below. gives _ class (begin k d below) does)
+    here effects_of = unfold faults_of in All-map P (λ (onset : ℕ). record { onset = onset; class = class }) onsets
+        (λ k d below. gives _ class (begin k d below) effects_of)
 
 pub each_swept : (P : Fault → Type 0) (Does : Class → Type 0) (ticks step : ℕ) → 1 ≤ step →
     ((onset : ℕ) (class : Class) → onset < ticks → Does class → P (record { onset = onset; class = class })) →

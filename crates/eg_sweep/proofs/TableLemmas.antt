@@ -14,13 +14,13 @@ use Rattle.eg_record.specs.declared.watch.Watch.TheVariants.{Mirror, Pedal, Plat
 use Rattle.eg_record.specs.Detection.{watches, rank, is_watch}
 use Rattle.eg_sweep.specs.declared.row.SweepRow.{SweepRow}
 use Rattle.eg_sweep.specs.Grid.{swept_classes}
-use Rattle.eg_sweep.specs.Table.{class_place, facts_under, is_found_first, row_of, rows_of}
+use Rattle.eg_sweep.specs.Table.{class_index, facts_under, is_found_first, row_of, rows_of}
 
 -- ---- one run more ----
 
 -- the facts of the runs of a class, with one run more
 unfoldable grown : Class → Fault × Facts → List Facts → List Facts
-grown class run facts = if class_place run.0.class == class_place class then facts ++ run.1 ∷ [] else facts
+grown class run facts = if class_index run.0.class == class_index class then facts ++ run.1 ∷ [] else facts
 
 facts_under-more : (class : Class) (runs : List (Fault × Facts)) (run : Fault × Facts) →
     facts_under class (runs ++ run ∷ []) ≡ grown class run (facts_under class runs)
@@ -29,7 +29,7 @@ facts_under-more class runs run = ap (map told) (filter-append of_class runs (ru
     ∙ map-append told (filter of_class runs) (filter of_class (run ∷ [])) ∙ last (of_class run)
   where
     of_class : Fault × Facts → Bool
-    of_class run = class_place run.0.class == class_place class
+    of_class run = class_index run.0.class == class_index class
 
     told : Fault × Facts → Facts
     told run = run.1
@@ -51,31 +51,31 @@ rows-grown runs run = λ i. map (λ class. row_of (facts_under-more class runs r
 
 grown-set : (class : Class) (onset : ℕ) (facts : Facts) (runs : List (Fault × Facts)) →
     grown_rows (record { onset = onset; class = class }, facts) runs
-    ≡ set (rows_of runs) (class_place class) (row_of (facts_under class runs ++ facts ∷ []))
-unfolding grown_rows grown rows_of swept_classes class_place facts_under
+    ≡ set (rows_of runs) (class_index class) (row_of (facts_under class runs ++ facts ∷ []))
+unfolding grown_rows grown rows_of swept_classes class_index facts_under
 grown-set (Script track values) onset facts runs = refl
 grown-set _ onset facts runs = refl
 
 rows-more : (runs : List (Fault × Facts)) (fault : Fault) (facts : Facts) →
-    rows_of (runs ++ (fault, facts) ∷ []) ≡ set (rows_of runs) (class_place fault.class) (row_of (facts_under fault.class runs ++ facts ∷ []))
+    rows_of (runs ++ (fault, facts) ∷ []) ≡ set (rows_of runs) (class_index fault.class) (row_of (facts_under fault.class runs ++ facts ∷ []))
 rows-more runs fault facts = rows-grown runs (fault, facts) ∙ grown-set fault.class fault.onset facts runs
 
 -- the row of a class
 row-at : (class : Class) (runs : List (Fault × Facts)) (d : SweepRow) →
-    get_or (rows_of runs) (class_place class) d ≡ row_of (facts_under class runs)
-unfolding rows_of swept_classes class_place facts_under
+    get_or (rows_of runs) (class_index class) d ≡ row_of (facts_under class runs)
+unfolding rows_of swept_classes class_index facts_under
 row-at (Script track values) runs d = refl
 row-at _ runs d = refl
 
 pub row_at : (rows : List SweepRow) (place : ℕ) (fault : Fault) (runs : List (Fault × Facts)) (d : SweepRow) →
-    rows ≡ rows_of runs → place ≡ class_place fault.class → get_or rows place d ≡ row_of (facts_under fault.class runs)
+    rows ≡ rows_of runs → place ≡ class_index fault.class → get_or rows place d ≡ row_of (facts_under fault.class runs)
 row_at rows place fault runs d are is = ap₂ (λ rows place. get_or rows place d) are is ∙ row-at fault.class runs d
 
 -- the row of a fault's class, with one run more in it
 pub rows-set : (rows : List SweepRow) (place : ℕ) (fault : Fault) (runs : List (Fault × Facts)) (facts : Facts) (row : SweepRow) →
-    rows ≡ rows_of runs → place ≡ class_place fault.class → row ≡ row_of (facts_under fault.class runs ++ facts ∷ []) → set rows place row ≡ rows_of (runs ++ (fault, facts) ∷ [])
+    rows ≡ rows_of runs → place ≡ class_index fault.class → row ≡ row_of (facts_under fault.class runs ++ facts ∷ []) → set rows place row ≡ rows_of (runs ++ (fault, facts) ∷ [])
 rows-set rows place fault runs facts row are is row_is = ap₂ (λ rows place. set rows place row) are is
-    ∙ ap (set (rows_of runs) (class_place fault.class)) row_is ∙ sym (rows-more runs fault facts)
+    ∙ ap (set (rows_of runs) (class_index fault.class)) row_is ∙ sym (rows-more runs fault facts)
 
 -- the rows of no runs
 pub rows-none : (row : SweepRow) → row ≡ row_of [] → replicate 14 row ≡ rows_of []
@@ -105,31 +105,31 @@ counts-cons passes (a ∷ tests) x xs =
 -- ---- each run is in one row ----
 
 length-facts_under : (class : Class) (runs : List (Fault × Facts)) →
-    length (facts_under class runs) ≡ count_by (λ run. class_place run.0.class == class_place class) runs
+    length (facts_under class runs) ≡ count_by (λ run. class_index run.0.class == class_index class) runs
 unfolding facts_under
-length-facts_under class runs = length-map (filter (λ run. class_place run.0.class == class_place class) runs) (λ run. run.1)
-    ∙ length-filter (λ run. class_place run.0.class == class_place class) runs
+length-facts_under class runs = length-map (filter (λ run. class_index run.0.class == class_index class) runs) (λ run. run.1)
+    ∙ length-filter (λ run. class_index run.0.class == class_index class) runs
 
 -- the runs of a class, before all of them are gone through, are fewer than all
 pub fewer_under : (class : Class) (runs rest all : List (Fault × Facts)) (run : Fault × Facts) →
     runs ++ run ∷ rest ≡ all → length (facts_under class runs) < length all
 fewer_under class runs rest all run are =
     let under = length-facts_under class runs in
-    let most = count_by-le-length (λ (run : Fault × Facts). class_place run.0.class == class_place class) runs in
+    let most = count_by-le-length (λ (run : Fault × Facts). class_index run.0.class == class_index class) runs in
     let both = length-append runs (run ∷ rest) in
     let whole = ap length are in
     omega (arith, under, most, both, whole)
 
-one_class : (class : Class) → count_by (λ other. class_place class == class_place other) swept_classes ≡ 1
-unfolding swept_classes class_place
+one_class : (class : Class) → count_by (λ other. class_index class == class_index other) swept_classes ≡ 1
+unfolding swept_classes class_index
 one_class (Script track values) = refl
 one_class _ = refl
 
 each_in_one : (runs : List (Fault × Facts)) →
-    sum_by (λ class. count_by (λ run. class_place run.0.class == class_place class) runs) swept_classes ≡ length runs
+    sum_by (λ class. count_by (λ run. class_index run.0.class == class_index class) runs) swept_classes ≡ length runs
 each_in_one [] = unfold swept_classes in refl
 each_in_one (run ∷ runs) =
-    let more = counts-cons (λ class run. class_place run.0.class == class_place class) swept_classes run runs in
+    let more = counts-cons (λ class run. class_index run.0.class == class_index class) swept_classes run runs in
     let one = one_class run.0.class in
     let before = each_in_one runs in
     omega (arith, more, one, before)

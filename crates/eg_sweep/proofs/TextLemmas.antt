@@ -9,7 +9,7 @@ use Rattle.eg_fault.specs.declared.class.Class.{Class}
 use Rattle.eg_record.specs.declared.watch.Watch.{Watch}
 use Rattle.eg_record.specs.Texts.{watch_name}
 use Rattle.eg_sweep.specs.declared.row.SweepRow.{SweepRow}
-use Rattle.eg_sweep.specs.Table.{class_place}
+use Rattle.eg_sweep.specs.Table.{class_index}
 use Rattle.eg_sweep.specs.Texts.{class_name, class_names, reaction_text, watch_text, watches_text, sweep_line, sweep_end, sweep_lines, sweep_text_of}
 use Rattle.eg_sweep.proofs.PairLemmas.{texts_of}
 use denote.Ref.{Bor}
@@ -32,7 +32,7 @@ all_written line text left all none whole =
 
 -- the name at the place of a class, of references to the names
 pub name_at : (names : List (Bor (List ℕ))) (place : ℕ) (absent : Bor (List ℕ)) (class : Class) → absent.now ≡ [] →
-    texts_of names ≡ class_names → place ≡ class_place class → (get_or names place absent).now ≡ class_name class
+    texts_of names ≡ class_names → place ≡ class_index class → (get_or names place absent).now ≡ class_name class
 unfolding texts_of class_name
 name_at names place absent class empty are is =
     sym (get_or-map (λ (text : Bor (List ℕ)). text.now) names place absent)

@@ -12,12 +12,12 @@ use Rattle.eg_record.specs.Detection.{is_watch, rank}
 use Rattle.eg_record.specs.Facts.{off_from, reaction_in}
 use Rattle.eg_record.specs.Texts.{watch_name}
 use Rattle.eg_sweep.specs.Grid.{swept_classes, onset_count, onsets, faults_of, swept_faults, is_too_large}
-use Rattle.eg_sweep.specs.Table.{class_place, facts_under, is_found_first, greatest, row_of, rows_of, table_of, greatest_listed}
+use Rattle.eg_sweep.specs.Table.{class_index, facts_under, is_found_first, greatest, row_of, rows_of, table_of, greatest_listed}
 use Rattle.eg_sweep.specs.Texts.{class_name, class_names, reaction_text, watch_text, watches_text, sweep_line, sweep_end, sweep_lines, sweep_text_of}
 
 -- every definition that these need
 unfoldable sweeping : ℕ
-unfolding swept_classes onset_count onsets faults_of swept_faults is_too_large class_place facts_under is_found_first greatest row_of rows_of table_of greatest_listed
+unfolding swept_classes onset_count onsets faults_of swept_faults is_too_large class_index facts_under is_found_first greatest row_of rows_of table_of greatest_listed
     class_name class_names reaction_text watch_text watches_text sweep_line sweep_end sweep_lines sweep_text_of is_watch rank off_from reaction_in watch_name digits
 sweeping = 0
 
@@ -50,7 +50,7 @@ first_faults : take 4 (swept_faults 60 30) ≡ fault 0 (classes.Script 4 (0 ∷ 
 unfolding sweeping
 first_faults = refl
 
-one_of_each : map (λ (f : Fault). class_place f.class) (swept_faults 60 60) ≡ 0 ∷ 1 ∷ 2 ∷ 3 ∷ 4 ∷ 5 ∷ 6 ∷ 7 ∷ 8 ∷ 9 ∷ 10 ∷ 11 ∷ 12 ∷ 13 ∷ []
+one_of_each : map (λ (f : Fault). class_index f.class) (swept_faults 60 60) ≡ 0 ∷ 1 ∷ 2 ∷ 3 ∷ 4 ∷ 5 ∷ 6 ∷ 7 ∷ 8 ∷ 9 ∷ 10 ∷ 11 ∷ 12 ∷ 13 ∷ []
 unfolding sweeping
 one_of_each = refl
 

@@ -13,28 +13,28 @@ use Rattle.eg_sweep.specs.Grid.{swept_classes}
 
 -- ---- the runs of a class ----
 
--- the place of a class in their order, whatever its numbers
-unfoldable pub class_place : Class → ℕ
-class_place (Script track values) = 0
-class_place (Offset track add) = 1
-class_place (Bus mask) = 2
-class_place (Plate at) = 3
-class_place (Skip index) = 4
-class_place (Disturb index mask) = 5
-class_place (Flip word mask) = 6
-class_place Halt = 7
-class_place (Timing offset) = 8
-class_place (Wild questions opens) = 9
-class_place Path1Closed = 10
-class_place Path2Closed = 11
-class_place (PathOpen path) = 12
-class_place (Lapse after every) = 13
+-- the index of a class in their order, whatever its numbers
+unfoldable pub class_index : Class → ℕ
+class_index (Script track values) = 0
+class_index (Offset track add) = 1
+class_index (Bus mask) = 2
+class_index (Plate at) = 3
+class_index (Skip index) = 4
+class_index (Disturb index mask) = 5
+class_index (Flip word mask) = 6
+class_index Halt = 7
+class_index (Timing offset) = 8
+class_index (Wild questions opens) = 9
+class_index Path1Closed = 10
+class_index Path2Closed = 11
+class_index (PathOpen path) = 12
+class_index (Lapse after every) = 13
 
 -- Of runs, each with its fault and its facts, the facts of those whose fault is of this class, whatever its
 -- numbers.
 unfoldable pub facts_under : Class → List (Fault × Facts) → List Facts
 facts_under class runs =
-    map (λ run. run.1) (filter (λ run. class_place run.0.class == class_place class) runs)
+    map (λ run. run.1) (filter (λ run. class_index run.0.class == class_index class) runs)
 
 -- ---- a row ----
 

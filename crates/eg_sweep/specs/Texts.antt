@@ -6,7 +6,7 @@ use Rattle.eg_record.specs.declared.watch.Watch.{Watch}
 use Rattle.eg_record.specs.Detection.{watches}
 use Rattle.eg_record.specs.Texts.{watch_name}
 use Rattle.eg_sweep.specs.declared.row.SweepRow.{SweepRow}
-use Rattle.eg_sweep.specs.Table.{class_place, greatest_listed}
+use Rattle.eg_sweep.specs.Table.{class_index, greatest_listed}
 
 -- the names of the classes in their order, as campaigns spell them
 unfoldable pub class_names : List (List ℕ)
@@ -15,9 +15,9 @@ class_names =
     ∷ codes "flip" ∷ codes "halt" ∷ codes "timing" ∷ codes "wild" ∷ codes "path1-closed"
     ∷ codes "path2-closed" ∷ codes "path-open" ∷ codes "lapse" ∷ []
 
--- the name of a class, whatever its numbers: the one at its place
+-- the name of a class, whatever its numbers: the one at its index
 unfoldable pub class_name : Class → List ℕ
-class_name class = get_or class_names (class_place class) []
+class_name class = get_or class_names (class_index class) []
 
 -- a reaction, or `none`
 unfoldable pub reaction_text : Option ℕ → List ℕ

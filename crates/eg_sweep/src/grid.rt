@@ -11,7 +11,7 @@ use eg_sensor::{LOAD_1, PEDAL_1};
 use std::alloc::Global;
 
 /// Why there are no faults of a grid.
-#[derive(Clone, Copy, Debug, PartialEq, Eq)]
+#[derive(Clone, Copy)]
 pub enum SweepFault {
     /// There was no memory for the faults.
     Memory,

@@ -5,7 +5,7 @@ ghost use Rattle.eg_record.specs.Detection.{rank};
 use eg_record::{Facts, Watch};
 
 /// What comes of the runs under the faults of one class (docs/CONCEPT.md, "`sweep`").
-#[derive(Clone, Copy, Debug, PartialEq, Eq)]
+#[derive(Clone, Copy)]
 pub struct SweepRow {
     /// How many runs there are.
     pub runs: u32,
@@ -47,10 +47,10 @@ impl SweepRow {
     }
 }
 
-/// The place of a watch in the order.
+/// The index of a watch in the order.
 #[tactic(auto, unfolding(eg_record::specs::Detection::rank))]
 fn rank(watch: Watch) -> usize
-    ensures place { result ≡ rank watch }
+    ensures index { result ≡ rank watch }
     ensures within { result < 8 }
 {
     watch as usize

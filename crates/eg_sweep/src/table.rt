@@ -1,7 +1,7 @@
 // The table of a sweep.
 ghost use Rattle.std.specs.Prelude.{◌≡◌, ◌≤◌, ◌<◌, ◌+◌, All, length};
 ghost use Rattle.std.specs.List.{sum, sum_by};
-ghost use Rattle.eg_sweep.specs.Table.{class_place, table_of};
+ghost use Rattle.eg_sweep.specs.Table.{class_index, table_of};
 
 use crate::SweepRow;
 use eg_fault::{Class, Fault};
@@ -19,15 +19,15 @@ pub fn tabulate(faults: &[Fault], facts: &[Facts]) -> [SweepRow; 14]
 {
     let mut rows = [SweepRow::new(); 14];
     for (fault, of_run) in faults.iter().zip(facts) {
-        rows[class_place(&fault.class)].add(of_run);
+        rows[class_index(&fault.class)].add(of_run);
     }
     rows
 }
 
-/// The place of a class in their order.
-#[tactic(auto, unfolding(crate::specs::Table::class_place))]
-pub(crate) fn class_place(class: &Class) -> usize
-    ensures place { result ≡ class_place class.now }
+/// The index of a class in their order.
+#[tactic(auto, unfolding(crate::specs::Table::class_index))]
+pub(crate) fn class_index(class: &Class) -> usize
+    ensures index { result ≡ class_index class.now }
     ensures within { result < 14 }
 {
     match class {

@@ -5,7 +5,7 @@ ghost use Rattle.eg_sweep.specs.Table.{greatest, greatest_listed};
 ghost use Rattle.eg_sweep.specs.Texts.{class_name, reaction_text, sweep_end, sweep_line, sweep_text_of, watches_text};
 
 use crate::SweepRow;
-use crate::table::class_place;
+use crate::table::class_index;
 use eg_base::NoMemory;
 use eg_fault::Class;
 use eg_record::Watch;
@@ -34,7 +34,7 @@ pub fn class_name(class: &Class) -> &'static str
     ensures { result.now ≡ class_name class.now }
 {
     let names = CLASS_NAMES.as_slice();
-    names[class_place(class)]
+    names[class_index(class)]
 }
 
 /// How many classes stand before the last, the lapses.

@@ -4,7 +4,7 @@ use Rattle.std.specs.Prelude.{ℤ, pos, negsuc, Option, is_some, min, if◌then�
 use Rattle.std.specs.Int.Bits.{xor_zero_l}
 use Rattle.std.proofs.lemmas.Bool.{cases_lt, cases_Bool, and_parts, le-leb, leb-true, eq-eqb, true≢false, false≢true}
 use Rattle.eg_fault.specs.Effects.{Effects, no_effects}
-use Rattle.eg_fault.specs.Faults.{does, effects, in_turn, offset_by, IsOffset, IsValid, IsValidClass}
+use Rattle.eg_fault.specs.Faults.{effects_of, effects, in_turn, offset_by, IsOffset, IsValid, IsValidClass}
 use Rattle.eg_fault.specs.declared.class.Class.TheVariants.{Script, Offset, Bus, Plate, Skip, Disturb, Flip, Halt, Timing, Wild, Path1Closed, Path2Closed, PathOpen, Lapse}
 use Rattle.eg_fault.specs.declared.class.Fault.{Fault}
 use Rattle.eg_fault.proofs.ActingLemmas.{before_onset, from_onset}
@@ -15,7 +15,7 @@ use Rattle.eg_table.proofs.CountLemmas.{some_below, which_below}
 -- ---- without an effect ----
 
 pub others_do_nothing : OthersDoNothing
-unfolding has_effect does no_effects
+unfolding has_effect effects_of no_effects
 others_do_nothing (Flip word mask) k none = ap (λ b. record no_effects { flip = if b then Some (word, mask) else None }) none
 others_do_nothing (Lapse after every) k none = ap (λ b. record no_effects { ran = λ i. not b }) none
 others_do_nothing _ k none = absurd (true≢false none)
@@ -32,7 +32,7 @@ moves (pos more) offset same = let at : min 65535 (0 + more) ≡ 0 = same 0 in l
 moves (negsuc less) offset same = let at : 1 - (less + 1) ≡ 1 = same 1 in absurd (omega (arith, at))
 
 pub effects_do_something : EffectsDoSomething
-unfolding has_effect does no_effects IsValidClass
+unfolding has_effect effects_of no_effects IsValidClass
 effects_do_something (Script track values) k valid acts same =
     let at : (if track == track then in_turn values k else suc (in_turn values k)) ≡ suc (in_turn values k) =
     ap (λ (x : Effects). x.track track (suc (in_turn values k))) same in
@@ -45,7 +45,7 @@ effects_do_something (Bus mask) k valid acts same =
     let is : mask ≡ 0 = sym (xor_zero_l mask) ∙ ap (λ (x : Effects). x.raise 0) same in
     let some = valid.0 in
     absurd (omega (arith, is, some))
-effects_do_something (Plate at) k valid acts same = true≢false (ap (λ (x : Effects). is_some x.held) same)
+effects_do_something (Plate at) k valid acts same = true≢false (ap (λ (x : Effects). is_some x.held_plate) same)
 effects_do_something (Skip index) k valid acts same = true≢false (sym (ap (λ (x : Effects). x.ran index) same) ∙ ap not (itself index))
 effects_do_something (Disturb index mask) k valid acts same =
     let is : mask ≡ 0 = sym (ap (λ b. if b then mask else 0) (itself index)) ∙ ap (λ (x : Effects). x.disturbance index) same in
@@ -106,9 +106,9 @@ pub acted_law : ActedLaw
 unfolding has_acted
 acted_law fault valid n = (
   λ acted. within fault valid n (given _ _ acted),
-  λ does. elim (cases_Bool (acts_within fault n)) [
+  λ acting. elim (cases_Bool (acts_within fault n)) [
     | inl acts ↦ ap Some acts
-    | inr rests ↦ absurd (does.2 (without fault n rests does.0 does.1))
+    | inr rests ↦ absurd (acting.2 (without fault n rests acting.0 acting.1))
   ],
 )
 
@@ -117,7 +117,7 @@ unfolding has_acted
 unacted_law fault valid n = (
   λ rested. without fault n (given _ _ rested),
   λ nothing. elim (cases_Bool (acts_within fault n)) [
-    | inl acts ↦ absurd (let does = within fault valid n acts in does.2 (nothing does.0 does.1))
+    | inl acts ↦ absurd (let acting = within fault valid n acts in acting.2 (nothing acting.0 acting.1))
     | inr rests ↦ ap Some rests
   ],
 )

@@ -9,7 +9,7 @@ use Rattle.eg_record.specs.declared.run_facts.RunFacts.{RunFacts}
 use Rattle.eg_record.specs.declared.watch.Watch.TheVariants.{Torque}
 use Rattle.eg_record.specs.Reactions.{is_settled, settled_by}
 use Rattle.eg_record.specs.Texts.{bit, trap_name, watch_name}
-use Rattle.eg_sweep.specs.Table.{class_place}
+use Rattle.eg_sweep.specs.Table.{class_index}
 use Rattle.eg_sweep.specs.Texts.{class_name, class_names}
 use Rattle.eg_word.specs.declared.registers.Trap.TheVariants as traps
 use Rattle.eg_table.specs.Acting.{has_effect, acts_at, acts_within, has_acted}
@@ -18,7 +18,7 @@ use Rattle.eg_table.specs.Texts.{acted_column, class_column, fault_columns, firs
 -- every definition that these need
 unfoldable rows : ℕ
 unfolding has_effect acts_at acts_within has_acted is_left_out acted_column class_column fault_columns first_columns number_column
-    reaction_columns table_line tick_columns trap_columns class_place class_name class_names is_settled settled_by bit trap_name watch_name digits
+    reaction_columns table_line tick_columns trap_columns class_index class_name class_names is_settled settled_by bit trap_name watch_name digits
 rows = 0
 
 -- ---- what has acted ----
@@ -69,7 +69,7 @@ nothing = record {
   trap = None;
 }
 
--- a reaction time of 22 ticks is shown by the 22 that follow, and one of 23 isn't
+-- a worst-case reaction of 22 ticks is shown by the 22 that follow, and one of 23 isn't
 full : table_line (codes "held-open-1") (Some (record { onset = 5; class = classes.Path1Closed })) 22 everything
     ≡ codes "held-open-1,path1-closed,5,1,torque,9,12,40,37,4,1,illegal,7\n"
 unfolding rows

@@ -3,17 +3,17 @@ use Rattle.std.specs.Prelude.{◌≡◌, ◌≢◌, ◌↔◌, ℕ, ◌<◌, tru
 use Rattle.eg_fault.specs.Effects.{no_effects}
 use Rattle.eg_fault.specs.declared.class.Class.{Class}
 use Rattle.eg_fault.specs.declared.class.Fault.{Fault}
-use Rattle.eg_fault.specs.Faults.{does, effects, IsValid, IsValidClass}
+use Rattle.eg_fault.specs.Faults.{effects_of, effects, IsValid, IsValidClass}
 use Rattle.eg_table.specs.Acting.{has_effect, has_acted}
 
 -- where a class has no effect, nothing is out of order
 abbrev pub OthersDoNothing : Type 0
-OthersDoNothing = (class : Class) (k : ℕ) → has_effect class k ≡ false → does class k ≡ no_effects
+OthersDoNothing = (class : Class) (k : ℕ) → has_effect class k ≡ false → effects_of class k ≡ no_effects
 
 -- and where a valid class has one, something is
 abbrev pub EffectsDoSomething : Type 0
 EffectsDoSomething =
-    (class : Class) (k : ℕ) → IsValidClass class → has_effect class k ≡ true → does class k ≢ no_effects
+    (class : Class) (k : ℕ) → IsValidClass class → has_effect class k ≡ true → effects_of class k ≢ no_effects
 
 -- at some tick of so many something is out of order by this fault
 abbrev pub DoesSomething : Fault → (ticks : ℕ) → Type 0

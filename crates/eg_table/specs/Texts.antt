@@ -47,7 +47,7 @@ first_columns (Some first) = codes "," ++ watch_name first.0 ++ codes "," ++ dec
 unfoldable pub tick_columns : Facts → List ℕ
 tick_columns facts = number_column facts.off ++ number_column facts.last_on ++ number_column facts.confirmed
 
--- `reaction` and `settled`, where the reaction time is `bound`
+-- `reaction` and `settled`, where the worst-case reaction is `bound`
 unfoldable pub reaction_columns : (bound : ℕ) → Reactions → List ℕ
 reaction_columns bound reactions =
     number_column reactions.longest ++ codes "," ++ bit (is_settled bound reactions)

@@ -22,7 +22,7 @@ pub fn table_header() -> &'static str
 }
 
 /// Appends the line of a run with this name, with its LF, to a text (docs/FORMATS.md, "The rows of
-/// `table`"). The reaction time is `bound`, in ticks. It is refused where memory runs out.
+/// `table`"). The worst-case reaction is `bound`, in ticks. It is refused where memory runs out.
 pub fn push_table_line(
     text: &mut String,
     name: &str,

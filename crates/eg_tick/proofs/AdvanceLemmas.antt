@@ -58,7 +58,7 @@ of_setting P c h each s stands =
 -- ---- where a plate is held ----
 
 -- under a valid fault it is within its range
-pub held-within : (fault : Option Fault) (tick x : ℕ) → IsNoneOrValid fault → (effects fault tick).held ≡ Some x → x ≤ 1000
+pub held-within : (fault : Option Fault) (tick x : ℕ) → IsNoneOrValid fault → (effects fault tick).held_plate ≡ Some x → x ≤ 1000
 held-within fault tick x valid is = subst IsHeldWithin is (plates_are_held_within fault valid tick)
 
 -- ---- level 2's counters ----
@@ -162,13 +162,13 @@ module _ (s : Setting) (e : Entry) (h : List Entry) (old : Kept) (paths : Paths)
   unfolding world_before
   world-in = enter.span.level1.world ∙ ap last_world (sym (continues s e h).before_are)
 
-  pub step-begun : (P : ℕ → ℕ → Bool → Option ℕ → Type 0) → P (slice_index old.memory.words 2064) (slice_index old.memory.words 2065) paths.on (effects old.fault old.ticks).held
-      → P (world_before s e.drive h).throttle (world_before s e.drive h).ignition (next s e h).on (effects_after s h).held
+  pub step-begun : (P : ℕ → ℕ → Bool → Option ℕ → Type 0) → P (slice_index old.memory.words 2064) (slice_index old.memory.words 2065) paths.on (effects old.fault old.ticks).held_plate
+      → P (world_before s e.drive h).throttle (world_before s e.drive h).ignition (next s e h).on (effects_after s h).held_plate
   unfolding effects_after world_of
   step-begun P told =
       let throttle : slice_index old.memory.words 2064 ≡ (world_before s e.drive h).throttle = ap (λ (world : World). world.throttle) world-in in
       let ignition : slice_index old.memory.words 2065 ≡ (world_before s e.drive h).ignition = ap (λ (world : World). world.ignition) world-in in
-      let held : (effects old.fault old.ticks).held ≡ (effects_after s h).held = ap₂ (λ f t. (effects f t).held) enter.fault enter.count in
+      let held : (effects old.fault old.ticks).held_plate ≡ (effects_after s h).held_plate = ap₂ (λ f t. (effects f t).held_plate) enter.fault enter.count in
       four P throttle ignition (next-on s e h old paths enter leads-in) held told
 
 -- where memory ran out behind it: the engine made its one step
@@ -176,7 +176,7 @@ pub stepped : {T X E : Type 0} (result : Result T X) (steps : E → ℕ → ℕ 
     (h : List Entry) (now before : Kept) (span : Span) (m : Registers) (memory : ShownMemory) (reset : Bool) (paths : Paths) (under : Option Fault) (held : Option ℕ)
     (engine old new : E) → before ≡ now → under ≡ before.fault → engine ≡ old → Stands s now h → reset ≡ drive.reset → ComesIn before reset span m memory →
     paths.path1 ≡ (effects under before.ticks).conducts 1 span.open1 → paths.path2 ≡ (effects under before.ticks).conducts 2 span.open2 →
-    paths.on ≡ (drives (kind_of span.tests) && (paths.path1 && paths.path2)) → held ≡ (effects under before.ticks).held →
+    paths.on ≡ (drives (kind_of span.tests) && (paths.path1 && paths.path2)) → held ≡ (effects under before.ticks).held_plate →
     steps engine (slice_index memory.words 2064) (slice_index memory.words 2065) paths.on held new →
     OnErr result (StaysOrSteps steps s drive slices shown h old new)
 unfolding entry_of
@@ -188,8 +188,8 @@ stepped result steps s drive slices shown h now before span m memory reset paths
     (enters s before e h reset span m memory (subst (λ k. Stands s k h) (sym same) stands) resets comes)
     (path1 ∙ ap (λ f. (effects f before.ticks).conducts 1 span.open1) is_under) (path2 ∙ ap (λ f. (effects f before.ticks).conducts 2 span.open2) is_under) on
     (λ throttle ignition on held. steps old throttle ignition on held new)
-    (subst (λ x. steps x throttle ignition paths.on (effects before.fault before.ticks).held new) is_old
-    (subst (λ k. steps engine throttle ignition paths.on k new) (is_held ∙ ap (λ f. (effects f before.ticks).held) is_under) told))))
+    (subst (λ x. steps x throttle ignition paths.on (effects before.fault before.ticks).held_plate new) is_old
+    (subst (λ k. steps engine throttle ignition paths.on k new) (is_held ∙ ap (λ f. (effects f before.ticks).held_plate) is_under) told))))
 
 -- What the parts of a tick say, where `old` is the controller as it begins: `under` is the fault, and level 2 is `made` of these parts.
 pub record Advance (old new : Kept) (drive : DriveRow) (budgets : List ℕ) (under : Option Fault) (made : Level2Parts)
@@ -350,7 +350,7 @@ module _ (old new : Kept) (drive : DriveRow) (budgets : List ℕ) (made : Level2
   unfolding entry_of
   row-told row allowed permits is = next_row s e h old new paths place done judged enter makes row allowed permits is
 
-  pub step-told : (P : ℕ → ℕ → Bool → Option ℕ → Type 0) → P (slice_index old.memory.words 2064) (slice_index old.memory.words 2065) paths.on (effects old.fault old.ticks).held
-      → P (world_before s drive h).throttle (world_before s drive h).ignition (next s e h).on (effects_after s h).held
+  pub step-told : (P : ℕ → ℕ → Bool → Option ℕ → Type 0) → P (slice_index old.memory.words 2064) (slice_index old.memory.words 2065) paths.on (effects old.fault old.ticks).held_plate
+      → P (world_before s drive h).throttle (world_before s drive h).ignition (next s e h).on (effects_after s h).held_plate
   unfolding entry_of
   step-told = step-begun s e h old paths enter advance.path1 advance.path2 advance.on

@@ -16,9 +16,9 @@ use Rattle.eg_word.specs.Memory.{is_level1_own}
 use Rattle.eg_word.specs.World.{world_of, new_registers, new_world}
 use Rattle.eg_word.proofs.WorldLemmas.{world_of-elsewhere, world_of-new}
 use Rattle.eg_sensor.specs.declared.readings.Readings.{Readings}
-use Rattle.eg_level2.specs.Words.{place, word_at, AreMirrored, is_level2_own}
+use Rattle.eg_level2.specs.Words.{address_of, word_at, AreMirrored, is_level2_own}
 use Rattle.eg_level2.specs.Inputs.{readings_of, asked_of}
-use Rattle.eg_level2.proofs.PlaceLemmas.{place_is, change_law}
+use Rattle.eg_level2.proofs.PlaceLemmas.{address_is, change_law}
 use Rattle.eg_tick.specs.Board.{IsWritten, is_board_own, by_tracks, ten_ports}
 use Rattle.eg_tick.proofs.FrameLemmas.{protected-is}
 
@@ -60,18 +60,18 @@ pub link-store : IsTrue (access Board 2128).store
 unfolding access allows region_of
 link-store = refl
 
-place-allowed : (number : ℕ) → number < 32 → access Board (place number) ≡ both
+address_of-allowed : (number : ℕ) → number < 32 → access Board (address_of number) ≡ both
 unfolding access allows
-place-allowed number within = elim (place_is number) [
-  | inl low ↦ let is = low.1 in let below = low.0 in ap (λ region. allows region Board) (results-is (place number) (omega arith) (omega arith))
-  | inr high ↦ let is = high.1 in let from = high.0 in ap (λ region. allows region Board) (protected-is (place number) (omega arith) (omega arith))
+address_of-allowed number within = elim (address_is number) [
+  | inl low ↦ let is = low.1 in let below = low.0 in ap (λ region. allows region Board) (results-is (address_of number) (omega arith) (omega arith))
+  | inr high ↦ let is = high.1 in let from = high.0 in ap (λ region. allows region Board) (protected-is (address_of number) (omega arith) (omega arith))
 ]
 
-pub place-store : (number address : ℕ) → address ≡ place number → number < 32 → IsTrue (access Board address).store
-place-store number address is within = ap (λ a. (access Board a).store) is ∙ ap (λ allowed. allowed.store) (place-allowed number within)
+pub address_of-store : (number address : ℕ) → address ≡ address_of number → number < 32 → IsTrue (access Board address).store
+address_of-store number address is within = ap (λ a. (access Board a).store) is ∙ ap (λ allowed. allowed.store) (address_of-allowed number within)
 
-pub place-load : (number address : ℕ) → address ≡ place number → number < 32 → IsTrue (access Board address).load
-place-load number address is within = ap (λ a. (access Board a).load) is ∙ ap (λ allowed. allowed.load) (place-allowed number within)
+pub address_of-load : (number address : ℕ) → address ≡ address_of number → number < 32 → IsTrue (access Board address).load
+address_of-load number address is within = ap (λ a. (access Board a).load) is ∙ ap (λ allowed. allowed.load) (address_of-allowed number within)
 
 -- ---- several words ----
 
@@ -147,11 +147,11 @@ module _ (old mid new : List ℕ) (words : IsWritten old mid 1024 (replicate 102
   ]
     where
       datum : (address : ℕ) → 1024 ≤ address → address < 2048 → slice_index mid address ≡ 0
-      datum address from to = ap (slice_index mid) (place address from) ∙ words.told (address - 1024) (omega (arith, from, to))
+      datum address from to = ap (slice_index mid) (address_of address from) ∙ words.told (address - 1024) (omega (arith, from, to))
           ∙ get_or-replicate 1024 (address - 1024) 0 0 (omega (arith, from, to))
         where
-          place : (address : ℕ) → 1024 ≤ address → address ≡ 1024 + (address - 1024)
-          place address from = omega (arith, from)
+          address_of : (address : ℕ) → 1024 ≤ address → address ≡ 1024 + (address - 1024)
+          address_of address from = omega (arith, from)
 
   pub cleared-world : AreWords new → world_of new_registers new ≡ new_world
   cleared-world are = world_of-elsewhere new_registers (replicate 4096 0) new zeros_are_words are
@@ -254,7 +254,7 @@ flipped-apart word mask some same =
     zero_left : (n : ℕ) → bit_xor 0 n ≡ n
     zero_left n = xor_zero_l n
 
-pub flipped_changed : (old new : List ℕ) (number address before mask : ℕ) → new ≡ slice_set old address (bit_xor before mask) → address ≡ place number
+pub flipped_changed : (old new : List ℕ) (number address before mask : ℕ) → new ≡ slice_set old address (bit_xor before mask) → address ≡ address_of number
     → before ≡ slice_index old address → 1 ≤ mask → AreWords old → number < 32 → AreMirrored old → ¬ AreMirrored new
 unfolding word_at
 flipped_changed old new number address before mask e at is some are within mirrored still =
@@ -262,18 +262,18 @@ flipped_changed old new number address before mask e at is some are within mirro
     (λ same. flipped-apart before mask some (same ∙ ap (slice_index old) (sym at) ∙ sym is))
     (subst AreMirrored (e ∙ ap (λ a. slice_set old a (bit_xor before mask)) at) still)
 
-own-place : (number : ℕ) → number < 32 → is_level2_own (region_of (place number)) ≡ true
+own-address_of : (number : ℕ) → number < 32 → is_level2_own (region_of (address_of number)) ≡ true
 unfolding is_level2_own
-own-place number within = elim (place_is number) [
-  | inl low ↦ let is = low.1 in let below = low.0 in ap is_level2_own (results-is (place number) (omega arith) (omega arith))
-  | inr high ↦ let is = high.1 in let from = high.0 in ap is_level2_own (protected-is (place number) (omega arith) (omega arith))
+own-address_of number within = elim (address_is number) [
+  | inl low ↦ let is = low.1 in let below = low.0 in ap is_level2_own (results-is (address_of number) (omega arith) (omega arith))
+  | inr high ↦ let is = high.1 in let from = high.0 in ap is_level2_own (protected-is (address_of number) (omega arith) (omega arith))
 ]
 
-pub flipped_outside : (old new : List ℕ) (number address word : ℕ) → new ≡ slice_set old address word → address ≡ place number → number < 32 → SameOutside is_level2_own old new
+pub flipped_outside : (old new : List ℕ) (number address word : ℕ) → new ≡ slice_set old address word → address ≡ address_of number → number < 32 → SameOutside is_level2_own old new
 flipped_outside old new number address word e at within other outside =
     ap (λ memory. slice_index memory other) e ∙ get_or-set_other old address other word 0 apart
   where
     apart : other ≢ address
-    apart same = let clash : true ≡ false = sym (own-place number within) ∙ ap (λ a. is_level2_own (region_of a)) (sym (same ∙ at)) ∙ outside in absurd (cc)
+    apart same = let clash : true ≡ false = sym (own-address_of number within) ∙ ap (λ a. is_level2_own (region_of a)) (sym (same ∙ at)) ∙ outside in absurd (cc)
 
-pub ruleset board = (code-store, data-store, outs-store, ports-store, link-store, place-store, place-load, throttle-load, ignition-load)
+pub ruleset board = (code-store, data-store, outs-store, ports-store, link-store, address_of-store, address_of-load, throttle-load, ignition-load)

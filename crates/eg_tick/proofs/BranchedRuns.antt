@@ -2,9 +2,7 @@
 -- other has come to in the run under it.
 use Rattle.std.proofs.Common.{◌≡◌, ◌∙◌, sym, ap, subst, ℕ, length, Option, None}
 use Rattle.eg_fault.specs.declared.class.Fault.{Fault}
-use Rattle.eg_word.specs.declared.registers.Trap.{Trap}
 use Rattle.eg_guard.specs.Memory.{ShownMemory}
-use Rattle.eg_record.specs.declared.facts.Facts.{Facts}
 use Rattle.eg_record.specs.Facts.{facts_of}
 use Rattle.eg_model.specs.Premises.{IsProperRun}
 use Rattle.eg_model.specs.Rows.{rows_of, first_trap, record_rows, record_trap}

@@ -6,7 +6,7 @@ use Rattle.std.proofs.lemmas.Bool.{cases_lt, le-leb}
 use Rattle.std.proofs.lemmas.List.{append-nil}
 use Rattle.std.proofs.lemmas.List.Elements.{All-weaker}
 use Rattle.std.proofs.lemmas.List.Sums.{sum_by-cons}
-use Rattle.eg_num.specs.Windows.{WeightParts, is_confirmed, first_place}
+use Rattle.eg_num.specs.Windows.{WeightParts, is_confirmed, first_index}
 use Rattle.eg_answer.specs.Times.{reaction_of}
 use Rattle.eg_plant.specs.PlantParts.{PlantParts}
 use Rattle.eg_values.specs.Calibration.{IsAccepted}
@@ -110,7 +110,7 @@ module _ {E : Type 0} {b : BenchEngine E} {Keeps : PlantParts → E → Type 0} 
 
   once : ShowsOneLoad b → r.setting.fault ≡ None → IsSomeAnd (last_on rows) (λ last. MatchOption (first_off rows) (last + 1 ≡ length rows) (λ off. last + 1 ≡ off))
   unfolding rows w t kt
-  once one_load none = go (first_place w (map (full_excess kt t) rows)) (whole (CutOneTickAfter w kt t) (records_cut_sharply keeps one_load r is none))
+  once one_load none = go (first_index w (map (full_excess kt t) rows)) (whole (CutOneTickAfter w kt t) (records_cut_sharply keeps one_load r is none))
     where
       go : (o : Option ℕ) → MatchOption o (All (λ row. row.on ≡ true) rows) (λ c. All (λ row. row.on ≡ nat_le row.tick (0 + c)) rows) →
           IsSomeAnd (last_on rows) (λ last. MatchOption (first_off rows) (last + 1 ≡ length rows) (λ off. last + 1 ≡ off))
@@ -173,7 +173,7 @@ no_reaction facts P none = if-not (nat_lt (off_from facts.last_on) facts.ticks) 
     never : (n m : ℕ) → m ≡ 0 → nat_lt n m ≡ false
     never n m none = grind arith
 
--- So a run under a listed fault, or without one, whose drive never resets the unit has no reaction longer than the reaction time.
+-- So a run under a listed fault, or without one, whose drive never resets the unit has no reaction longer than the worst-case reaction.
 pub reaction_within : {E : Type 0} {b : BenchEngine E} {Keeps : PlantParts → E → Type 0} (keeps : KeepsBenchLaws b Keeps) (r : Run) → IsRun r →
     IsWithoutReset r.drive → IsListed r.setting.fault → IfSome (reaction_in (record_facts b r)) (λ n. n ≤ reaction_of r.setting.cal.times)
 reaction_within {b = b} keeps r is reset_free listed = elim (cases_lt 0 (length r.drive)) [

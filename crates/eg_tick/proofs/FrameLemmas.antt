@@ -15,9 +15,9 @@ use Rattle.eg_word.specs.declared.registers.Registers.{Registers}
 use Rattle.eg_word.specs.Memory.{is_level1_own}
 use Rattle.eg_word.specs.World.{world_of}
 use Rattle.eg_word.proofs.WorldLemmas.{world_of-elsewhere}
-use Rattle.eg_level2.specs.Words.{place, word_at, named, words_of, AreMirrored, AreWithin, is_level2_own}
+use Rattle.eg_level2.specs.Words.{address_of, word_at, named, words_of, AreMirrored, AreWithin, is_level2_own}
 use Rattle.eg_level2.specs.Inputs.{readings_of, asked_of}
-use Rattle.eg_level2.proofs.PlaceLemmas.{place_is}
+use Rattle.eg_level2.proofs.PlaceLemmas.{address_is}
 use Rattle.eg_tick.specs.Board.{is_board_own}
 use Rattle.eg_tick.specs.Midway.{Work, IsSet, IsReady}
 
@@ -41,10 +41,10 @@ unfolding is_board_own
 board_leaves_words = record { results = refl; protected = refl }
 
 -- no word of level 2 lies in them
-place-apart : (is_own : Region → Bool) → LeavesWords is_own → (number : ℕ) → number < 32 → is_own (region_of (place number)) ≡ false
-place-apart is_own leaves number within = elim (place_is number) [
-  | inl low ↦ let is = low.1 in let below = low.0 in ap is_own (results-is (place number) (omega arith) (omega arith)) ∙ leaves.results
-  | inr high ↦ let is = high.1 in let from = high.0 in ap is_own (protected-is (place number) (omega arith) (omega arith)) ∙ leaves.protected
+address_of-apart : (is_own : Region → Bool) → LeavesWords is_own → (number : ℕ) → number < 32 → is_own (region_of (address_of number)) ≡ false
+address_of-apart is_own leaves number within = elim (address_is number) [
+  | inl low ↦ let is = low.1 in let below = low.0 in ap is_own (results-is (address_of number) (omega arith) (omega arith)) ∙ leaves.results
+  | inr high ↦ let is = high.1 in let from = high.0 in ap is_own (protected-is (address_of number) (omega arith) (omega arith)) ∙ leaves.protected
 ]
 
 -- level 1's own regions aren't level 2's
@@ -126,7 +126,7 @@ module _ (is_own : Region → Bool) (leaves : LeavesBoard is_own) (old new : Lis
 module _ (is_own : Region → Bool) (leaves : LeavesWords is_own) (old new : List ℕ) (same : SameOutside is_own old new) where
   word-stays : (number : ℕ) → number < 32 → word_at new number ≡ word_at old number
   unfolding word_at
-  word-stays number within = same (place number) (place-apart is_own leaves number within)
+  word-stays number within = same (address_of number) (address_of-apart is_own leaves number within)
 
   words-kept : words_of new ≡ words_of old
   unfolding named

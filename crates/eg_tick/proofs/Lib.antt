@@ -1,4 +1,5 @@
 pub mod MomentLemmas
+pub mod KeepsLemmas
 pub mod FrameLemmas
 pub mod MidwayLemmas
 pub mod TickLemmas
@@ -14,6 +15,7 @@ pub mod FlipLemmas
 pub mod StepLemmas
 pub mod ReactionLemmas
 pub mod RunLemmas
+pub mod CountLemmas
 pub mod RunLaws
 pub mod FactLaws
 pub mod TrapLemmas

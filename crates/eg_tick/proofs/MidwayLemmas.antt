@@ -8,7 +8,7 @@ use Rattle.eg_word.specs.declared.registers.Registers.{Registers}
 use Rattle.eg_word.specs.Memory.{is_level1_own}
 use Rattle.eg_word.specs.World.{View, World, world_of, Shows}
 use Rattle.eg_host.specs.Slices.{world_slice}
-use Rattle.eg_level2.specs.Words.{Words, word_at, place, named, words_of, AreMirrored, is_level2_own}
+use Rattle.eg_level2.specs.Words.{Words, word_at, address_of, named, words_of, AreMirrored, is_level2_own}
 use Rattle.eg_level2.specs.Inputs.{readings_of}
 use Rattle.eg_flow.specs.Ticks.{Doing, after_module, after_modules, after_tick}
 use Rattle.eg_model.specs.Level1.{ports_of, slices_from}
@@ -44,7 +44,7 @@ ports-are memory = below_10 (λ k. slice_index memory (2048 + k) ≡ slice_index
     refl refl refl refl refl refl refl refl refl refl
 
 results-are : (memory : List ℕ) (k : ℕ) → k < 5 → slice_index memory (2080 + k) ≡ slice_index (signal_list (signals_of (words_of memory))) k
-unfolding signal_list signals_of named word_at place
+unfolding signal_list signals_of named word_at address_of
 results-are memory = below_5 (λ k. slice_index memory (2080 + k) ≡ slice_index (signal_list (signals_of (words_of memory))) k)
     refl refl refl refl refl
 

@@ -7,7 +7,7 @@ use Rattle.std.proofs.lemmas.Nat.{div-add-mod', mod-mul-add}
 use Rattle.std.proofs.lemmas.Bool.{cases_Bool, eqb-true, eqb-false, or_from, or_left}
 use Rattle.std.proofs.lemmas.List.Elements.{All-nil, All-cons, All-head, All-tail}
 use Rattle.eg_num.specs.Windows.{is_confirmed}
-use Rattle.eg_num.proofs.FirstPlaceLemmas.{is_first-cons}
+use Rattle.eg_num.proofs.FirstIndexLemmas.{is_first-cons}
 use Rattle.eg_answer.specs.Answers.{answer_number}
 use Rattle.eg_answer.specs.Questions.{question_at}
 use Rattle.eg_answer.specs.Times.{TimeParts, AreTimes}

@@ -96,7 +96,7 @@ module _ {S E : Type 0} (b : BenchEngine S) (come_to : ComeTo S E) (r : Run) (t 
   on = drives (kind_at drive past) && on_at (effects s.fault t) (before_at drive past)
 
   held : Option ℕ
-  held = (effects s.fault t).held
+  held = (effects s.fault t).held_plate
 
   -- the step that a controller's tick tells of is that of the bench
   module _ (Shows : E → Shown) (shows_as : ShowsAs b come_to Shows)
@@ -104,7 +104,7 @@ module _ {S E : Type 0} (b : BenchEngine S) (come_to : ComeTo S E) (r : Run) (t 
       (steps : Steps old.engine (world_before r.setting drive (entries_to b r t)).throttle
       (world_before r.setting drive (entries_to b r t)).ignition
       (next r.setting (entry_of drive slices new.kept.shown) (entries_to b r t)).on
-      (effects_after r.setting (entries_to b r t)).held new.engine)
+      (effects_after r.setting (entries_to b r t)).held_plate new.engine)
       (shows : new.kept.shown ≡ Shows new.engine) where
     world-same : world_before s drive h ≡ world
     unfolding world_before world
@@ -127,9 +127,9 @@ module _ {S E : Type 0} (b : BenchEngine S) (come_to : ComeTo S E) (r : Run) (t 
     unfolding s plant h past state held after_step
     engine-is = steps_as plant state _ _ _ _ new.engine
         (subst (λ g. Steps g (world_before s drive h).throttle (world_before s drive h).ignition
-        (next s (entry_of drive slices new.kept.shown) h).on (effects_after s h).held new.engine) at.engine steps)
-        ∙ ap (λ (w : World). after_step w (next s (entry_of drive slices new.kept.shown) h).on (effects_after s h).held) world-same
-        ∙ ap₂ (λ o (x : Effects). after_step world o x.held) on-same effects-same
+        (next s (entry_of drive slices new.kept.shown) h).on (effects_after s h).held_plate new.engine) at.engine steps)
+        ∙ ap (λ (w : World). after_step w (next s (entry_of drive slices new.kept.shown) h).on (effects_after s h).held_plate) world-same
+        ∙ ap₂ (λ o (x : Effects). after_step world o x.held_plate) on-same effects-same
 
     shown-is : new.kept.shown ≡ shown_at b s (effects s.fault t) drive past
     unfolding s plant state after_step world on held shown_at stepped
@@ -146,17 +146,17 @@ module _ {S E : Type 0} (b : BenchEngine S) (come_to : ComeTo S E) (r : Run) (t 
     next_engine : (d : DriveRow) → drive_at r t ≡ d →
         engine_after b s (next_after s e past ∷ past)
         ≡ b.step s.cal.plant (engine_after b s past) (last_world (before_at d past)).throttle (last_world (before_at d past)).ignition
-        (drives (kind_at d past) && on_at (effects s.fault t) (before_at d past)) (effects s.fault t).held
+        (drives (kind_at d past) && on_at (effects s.fault t) (before_at d past)) (effects s.fault t).held_plate
     unfolding engine_after stepped next_after moment_at moment_in e entry_at
     next_engine d is =
         ap (λ (w : World). b.step s.cal.plant (engine_after b s past) w.throttle w.ignition (next_after s e past).on
-        (effects s.fault (length past)).held) (commands (drive_at r t) past)
+        (effects s.fault (length past)).held_plate) (commands (drive_at r t) past)
         ∙ ap (λ n. b.step s.cal.plant (engine_after b s past) (last_world (before_at (drive_at r t) past)).throttle
         (last_world (before_at (drive_at r t) past)).ignition
-        (drives (kind_at (drive_at r t) past) && on_at (effects s.fault n) (before_at (drive_at r t) past)) (effects s.fault n).held)
+        (drives (kind_at (drive_at r t) past) && on_at (effects s.fault n) (before_at (drive_at r t) past)) (effects s.fault n).held_plate)
         length-past
         ∙ ap (λ row. b.step s.cal.plant (engine_after b s past) (last_world (before_at row past)).throttle
-        (last_world (before_at row past)).ignition (drives (kind_at row past) && on_at (effects s.fault t) (before_at row past)) (effects s.fault t).held) is
+        (last_world (before_at row past)).ignition (drives (kind_at row past) && on_at (effects s.fault t) (before_at row past)) (effects s.fault t).held_plate) is
 
     engine-next : after_step world on held ≡ come_to r.setting.cal.plant (engine_after b r.setting (moments_to b r (suc t)))
     unfolding s plant past state after_step world on held e moments_to

@@ -39,7 +39,7 @@ abbrev pub StaysOrSteps : {E : Type 0} → (steps : E → ℕ → ℕ → Bool �
     DriveRow → List ℕ → Shown → List Entry → (old new : E) → Type 0
 StaysOrSteps steps s drive slices shown h old new =
     (new ≡ old) ⊎ steps old (world_before s drive h).throttle (world_before s drive h).ignition
-    (next s (entry_of drive slices shown) h).on (effects_after s h).held new
+    (next s (entry_of drive slices shown) h).on (effects_after s h).held_plate new
 
 -- its machine is trapped
 pub record IsTrapped (world : World) : Type 0 where

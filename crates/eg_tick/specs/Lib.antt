@@ -1,4 +1,5 @@
 pub mod Weights
+pub mod Counting
 pub mod Kept
 pub mod Stands
 pub mod Board

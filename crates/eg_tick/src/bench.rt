@@ -1,5 +1,5 @@
 // A run of an engine on the bench, tick by tick.
-ghost use Rattle.std.specs.Prelude.{◌≡◌, ℕ, ◌+◌, ◌%◌, ◌^◌, ◌≤◌, ◌<◌, List, length, replicate, IfOk, OnOk, IsOk, IsTrue};
+ghost use Rattle.std.specs.Prelude.{◌≡◌, ℕ, ◌+◌, ◌%◌, ◌^◌, ◌≤◌, ◌<◌, List, length, replicate, IfOk, OnOk, OnErr, IsOk, IsTrue};
 ghost use Rattle.std.specs.Option.{option_copied};
 ghost use Rattle.eg_guard.specs.declared.regions.TheConstants.{DATA as CODE_END, WORDS};
 ghost use Rattle.eg_num.specs.Drive.{DriveRow};
@@ -128,6 +128,7 @@ pub fn bench_tick<E: BenchedEngine, M: Guarded + Drop>(
     ensures count { steps.new.count ≡ (steps.old.count + 1) % 2 ^ 64 }
     ensures weight { IfOk result (λ row.
         steps.new.weights ≡ (steps.old.weights + weight_of row) % 2 ^ 64) }
+    ensures no_weight { OnErr result (steps.new.weights ≡ steps.old.weights) }
 {
     let row = controller.tick(drive, plan.row(tick), steps)?;
     // Whoever reads the engine learns that it shows what the controller keeps of it.

@@ -7,7 +7,7 @@ ghost use Rattle.eg_guard.specs.Regions;
 ghost use Rattle.eg_answer.specs.declared.words.TheConstants.{STORED_WORDS};
 ghost use Rattle.eg_word.specs.Memory.{is_level1_own};
 ghost use Rattle.eg_word.specs.World.{world_of, new_registers, new_world};
-ghost use Rattle.eg_level2.specs.Words.{place, word_at, AreMirrored, is_level2_own};
+ghost use Rattle.eg_level2.specs.Words.{address_of, word_at, AreMirrored, is_level2_own};
 ghost use Rattle.eg_level2.specs.Inputs.{readings_of, asked_of};
 ghost use Rattle.eg_level2.specs.Stores.{after_stores};
 ghost use Rattle.eg_tick.specs.Board.{IsWritten, is_board_own, by_tracks, stores_from, clearing, showing, AreMade};
@@ -137,8 +137,8 @@ pub(crate) fn flip<M: Guarded>(memory: &mut M, word: u8, mask: u16) -> Result<()
     requires word { word < STORED_WORDS }
     requires some { 1 ≤ mask }
     ensures flipped { OnOk result ((M.shows memory.new).words
-        ≡ slice_set (M.shows memory.old).words (place word)
-        (bit_xor (slice_index (M.shows memory.old).words (place word)) mask)) }
+        ≡ slice_set (M.shows memory.old).words (address_of word)
+        (bit_xor (slice_index (M.shows memory.old).words (address_of word)) mask)) }
     ensures changed { AreMirrored (M.shows memory.old).words
         → OnOk result (¬ AreMirrored (M.shows memory.new).words) }
     ensures outside { OnOk result

@@ -21,7 +21,7 @@ use crate::row::{Beginning, effective, limit, look_up, row};
 use crate::span::{Span, enter};
 use crate::working::{Level1, Task, work};
 use eg_base::NoMemory;
-use eg_fault::{Fault, held};
+use eg_fault::{Fault, held_plate};
 use eg_guard::Guarded;
 use eg_host::Host;
 use eg_level2::Level2;
@@ -166,7 +166,7 @@ impl<E: Engine + Drop, M: Guarded + Drop> Controller<E, M> {
             (E.steps self.old.engine (world_before s drive.now h).throttle
             (world_before s drive.now h).ignition
             (next s (entry_of drive.now slices.now self.new.kept.shown) h).on
-            (effects_after s h).held self.new.engine) }
+            (effects_after s h).held_plate self.new.engine) }
         ensures shows { self.new.kept.shown ≡ E.shows self.new.engine }
         // Once it is trapped level 1 changes nothing any more in this span: its outputs hold.
         ensures trapped { (s : Setting) (h : List Entry) → Stands s self.old.kept h
@@ -223,7 +223,7 @@ impl<E: Engine + Drop, M: Guarded + Drop> Controller<E, M> {
             (E.steps self.old.engine (world_before s drive.now h).throttle
             (world_before s drive.now h).ignition
             (next s (entry_of drive.now slices.now self.new.kept.shown) h).on
-            (effects_after s h).held self.new.engine) }
+            (effects_after s h).held_plate self.new.engine) }
         ensures shows { self.new.kept.shown ≡ E.shows self.new.engine }
         ensures ticks { OnOk result (self.new.kept.ticks ≡ self.old.kept.ticks + 1) }
         ensures fault { self.new.kept.fault ≡ self.old.kept.fault }
@@ -260,8 +260,8 @@ impl<E: Engine + Drop, M: Guarded + Drop> Controller<E, M> {
             place: self.span.place(self.test_ticks),
             paths: Paths::at(fault, tick, &self.span),
         };
-        let held = held(fault, tick);
-        step_engine(&mut self.engine, &self.memory, begins.paths.on, held);
+        let held_plate = held_plate(fault, tick);
+        step_engine(&mut self.engine, &self.memory, begins.paths.on, held_plate);
         let asked = question(&self.span.monitor, questions, fault, tick, local);
         let task = Task {
             tick,

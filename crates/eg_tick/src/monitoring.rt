@@ -18,7 +18,7 @@ use eg_fault::{Fault, wild};
 use eg_module::Monitor;
 
 /// What the monitoring module makes of a tick.
-#[derive(Clone, Copy, Debug, PartialEq, Eq)]
+#[derive(Clone, Copy)]
 pub(crate) struct Judgement {
     /// Whether level 2 sent an answer, and whether it was good.
     pub mark: AnswerMark,

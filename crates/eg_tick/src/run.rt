@@ -1,7 +1,6 @@
 // A run of a gasoline engine on the bench.
-ghost use Rattle.std.specs.Prelude.{◌≡◌, ℕ, ◌+◌, ◌%◌, ◌^◌, ◌≤◌, ◌<◌, false, None, List, All, map, reverse, length, IfOk, OnOk, OnErr, IsOk, IsTrue};
+ghost use Rattle.std.specs.Prelude.{◌≡◌, ◌≤◌, ◌<◌, false, None, List, All, reverse, length, IfOk, OnOk, IsOk, IsTrue};
 ghost use Rattle.std.specs.Option.{option_copied};
-ghost use Rattle.std.specs.List.{sum};
 ghost use Rattle.eg_guard.specs.declared.regions.TheConstants.{DATA as CODE_END};
 ghost use Rattle.eg_num.specs.Drive.{DriveRow};
 ghost use Rattle.eg_answer.specs.Times.{HasLapseBound, reaction_of};
@@ -14,7 +13,7 @@ ghost use Rattle.eg_model.specs.PowerCycles.{SpansBeginInTurn};
 ghost use Rattle.eg_model.specs.Records.{row_at, rows_to, ReactWithin, CutOneTickAfter, RowsReactAtOnce, CutStandingExcess, ExcessIsShort, AreOff};
 ghost use Rattle.eg_model.specs.Lapses.{IsLapse};
 ghost use Rattle.eg_fault.specs.Faults.{IsNoneOrValid};
-ghost use Rattle.eg_tick.specs.Weights.{weight_of};
+ghost use Rattle.eg_tick.specs.Counting.{AreCounted};
 ghost use Rattle.eg_tick.specs.Benched.{gasoline_of};
 ghost use Rattle.eg_tick.specs.Run.{run_by, IsAt, IsRecordOf};
 
@@ -84,14 +83,10 @@ pub fn run_one(
     ensures unpowered { IfOk result (λ made. EachTestSpan AreOff (reverse made.rows)) }
     ensures passes { option_copied fault.entry ≡ None → IfOk result (λ made.
         All (λ row. row.found.start ≡ false) (reverse made.rows)) }
-    // Each tick is counted, and each row is weighed. Where memory ran out, no more ticks are counted than the
-    // drive has rows.
-    ensures counted { IfOk result (λ made. steps.new ≡ record {
-      count = (steps.old.count + length drive.now) % 2 ^ 64;
-      weights = (steps.old.weights + sum (map weight_of made.rows)) % 2 ^ 64;
-    }) }
-    ensures count { OnErr result
-        ((n : ℕ) × (n ≤ length drive.now) × (steps.new.count ≡ (steps.old.count + n) % 2 ^ 64)) }
+    // Each tick is counted, and each row is weighed; where memory ran out, those of the first of them.
+    ensures counted { AreCounted (reverse (record_rows gasoline
+        (run_by calibration.now image.now (option_copied fault.entry) plan.now drive.now)))
+        steps.old steps.new result }
 {
     // Whoever reads it learns that the calibration is an accepted one.
     let _rules = calibration.rules();
@@ -114,15 +109,12 @@ fn record_run(
     ensures made { IfOk result (λ made. IsRecordOf
         (run_by calibration.now image.now (option_copied fault.entry) plan.now drive.now)
         made.rows made.trap) }
-    ensures counted { IfOk result (λ made. steps.new ≡ record {
-      count = (steps.old.count + length drive.now) % 2 ^ 64;
-      weights = (steps.old.weights + sum (map weight_of made.rows)) % 2 ^ 64;
-    }) }
-    ensures count { OnErr result
-        ((n : ℕ) × (n ≤ length drive.now) × (steps.new.count ≡ (steps.old.count + n) % 2 ^ 64)) }
+    ensures counted { AreCounted (reverse (record_rows gasoline
+        (run_by calibration.now image.now (option_copied fault.entry) plan.now drive.now)))
+        steps.old steps.new result }
 {
-    // Whoever reads it learns that the count is a u64.
-    let _count = steps.count();
+    // Whoever reads them learns that both numbers are a u64.
+    let _numbers = (steps.count(), steps.sum());
     let mut controller = bench_begin(calibration, image, fault, FlatMemory::new())?;
     let rows = make_rows(alloc, &mut controller, plan, drive, steps)?;
     Ok(record_of(rows, &controller))
@@ -155,12 +147,9 @@ fn make_rows(
     ensures rows { (r : Run) → r.plan ≡ plan.now → r.drive ≡ drive.now →
         IsAt gasoline gasoline_of r 0 controller.old →
         IfOk result (λ rows. rows.items ≡ reverse (rows_to gasoline r (length drive.now))) }
-    ensures counted { IfOk result (λ rows. steps.new ≡ record {
-      count = (steps.old.count + length drive.now) % 2 ^ 64;
-      weights = (steps.old.weights + sum (map weight_of rows.items)) % 2 ^ 64;
-    }) }
-    ensures count { OnErr result
-        ((n : ℕ) × (n ≤ length drive.now) × (steps.new.count ≡ (steps.old.count + n) % 2 ^ 64)) }
+    ensures counted { (r : Run) → r.plan ≡ plan.now → r.drive ≡ drive.now →
+        IsAt gasoline gasoline_of r 0 controller.old →
+        AreCounted (reverse (record_rows gasoline r)) steps.old steps.new result }
 {
     // Whoever reads them learns that both numbers are a u64.
     let _numbers = (steps.count(), steps.sum());

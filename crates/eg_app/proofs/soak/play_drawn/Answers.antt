@@ -1,10 +1,10 @@
-use Rattle.std.proofs.Common.{◌≡◌, ◌≤◌, ◌∙◌, ap, subst, map}
+use Rattle.std.proofs.Common.{◌≡◌, ◌∙◌, ap, subst, map}
 use Rattle.std.specs.Prelude.{string_bytes}
 use Rattle.std.specs.List.{concat}
 use Rattle.eg_values.specs.Calibration.{IsAccepted}
 use Rattle.eg_values.specs.Reference.{reference_parts}
 use Rattle.eg_outcome.specs.Outcomes.{LineEnds}
-use Rattle.eg_play.proofs.PlayLemmas.{no_memory, no_lines, put, ticks-are, counts_rows}
+use Rattle.eg_play.proofs.PlayLemmas.{no_memory, no_lines, put}
 use Rattle.eg_soak.specs.Soak.{drawn_runs, soak_of}
 use Rattle.eg_soak.specs.Texts.{soak_text}
 use Rattle.eg_app.proofs.SoakLemmas.{text_of, drawn_keep_headline}
@@ -14,14 +14,13 @@ pub returns-in_default-clause-ends : goal.returns-in_default-clause-ends
 returns-in_default-clause-ends g c =
     let a = c.args in
     let accepted : IsAccepted reference_parts = subst IsAccepted c.reference-calibration.ensures.parts c.reference-calibration.ensures.accepted in
-    let (n, most, is) = c.in_default.ensures.count in
-    no_memory _ _ _ (g.K.Sink.shows a.out.now) a.steps.now c.soak.new.steps n (subst (λ k. n ≤ k) (ticks-are (drawn_runs a.runs a.seed)) most) is (drawn_keep_headline accepted a.runs a.seed)
+    no_memory _ _ _ (g.K.Sink.shows a.out.now) a.steps.now c.soak.new.steps c.in_default.ensures.counted (drawn_keep_headline accepted a.runs a.seed)
 
 pub returns-in_default-soak_lines-clause-ends : goal.returns-in_default-soak_lines-clause-ends
 returns-in_default-soak_lines-clause-ends g c =
     let a = c.args in
     let accepted : IsAccepted reference_parts = subst IsAccepted c.reference-calibration.ensures.parts c.reference-calibration.ensures.accepted in
-    no_lines _ _ _ (g.K.Sink.shows a.out.now) a.steps.now c.soak.new.steps (c.in-Ok.ensures.counted ∙ counts_rows a.steps.now (drawn_runs a.runs a.seed)) (drawn_keep_headline accepted a.runs a.seed)
+    no_lines _ _ _ (g.K.Sink.shows a.out.now) a.steps.now c.soak.new.steps c.in-Ok.ensures.counted (drawn_keep_headline accepted a.runs a.seed)
 
 pub returns-clause-ends : goal.returns-clause-ends
 returns-clause-ends g c =
@@ -32,6 +31,6 @@ returns-clause-ends g c =
     ap (λ lines. concat (map string_bytes lines)) c.deref.ensures.value ∙ ap concat c.in-Ok-soak_lines.ensures
     ∙ text_of c.in-Ok.summary ∙ ap soak_text c.in-Ok.ensures.summary in
     put _ _ _ (shows a.out.now) (shows c.put_lines.new.out) a.steps.now c.soak.new.steps c.put_lines.result
-    (c.in-Ok.ensures.counted ∙ counts_rows a.steps.now (drawn_runs a.runs a.seed))
+    c.in-Ok.ensures.counted
     (subst (λ t. LineEnds t (shows a.out.now) (shows c.put_lines.new.out) c.put_lines.result) text c.put_lines.ensures.ends)
     (drawn_keep_headline accepted a.runs a.seed)

@@ -1,4 +1,4 @@
-use Rattle.std.proofs.Common.{◌≡◌, ◌∙◌, refl, sym, ap, subst, true, IsTrue}
+use Rattle.std.proofs.Common.{◌∙◌, refl, sym, ap, subst, true, IsTrue}
 use Rattle.eg_guard.specs.Memory.{ShownMemory}
 use Rattle.eg_tick.specs.Kept.{Kept}
 use Rattle.eg_campaign.proofs.CheckpointLemmas.{branched_at}

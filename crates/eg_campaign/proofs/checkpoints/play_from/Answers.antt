@@ -1,21 +1,23 @@
-use Rattle.std.proofs.Common.{◌≡◌, ◌∙◌, ◌*◌, ◌/◌, ◌<◌, ◌≤◌, refl, sym, ap, subst, length, Some}
+use Rattle.std.proofs.Common.{◌∙◌, ◌*◌, ◌/◌, ◌<◌, ◌≤◌, refl, sym, ap, subst, length}
+use Rattle.std.specs.Prelude.{reverse}
 use Rattle.eg_model.specs.Branching.{BeginsFrom}
 use Rattle.eg_model.specs.Rows.{record_rows}
 use Rattle.eg_model.specs.Bench.{Run}
 use Rattle.eg_values.specs.Calibration.{CalibrationParts}
 use Rattle.eg_tick.proofs.BranchedRuns.{told_under}
+use Rattle.eg_tick.specs.Counting.{count_with}
 use Rattle.eg_campaign.specs.Plays.{run_with}
 use Rattle.eg_campaign.specs.declared.checkpoints.TheConstants.{CHECKPOINT_TICKS}
-use Rattle.eg_campaign.specs.Groups.{faultless, own_under, count_with}
+use Rattle.eg_campaign.specs.Groups.{faultless, own_under}
 use Rattle.eg_campaign.specs.Checkpoints.{HasMade, IsSharedFor}
-use Rattle.eg_campaign.proofs.CheckpointLemmas.{counted_none, never_begins, makes_none, played_under, rows-are}
+use Rattle.eg_campaign.proofs.CheckpointLemmas.{counted_none, never_begins, makes_none, made_in_time, played_under, rows-are}
 use Rattle.eg_campaign.proofs.checkpoints.play_from.Given.{Over}
 use Rattle.eg_campaign.proofs.checkpoints.play_from.Goals as goal
 
 pub returns-in_default-clause-counted : goal.returns-in_default-clause-counted
 returns-in_default-clause-counted g c = λ cal shared.
     let x = c.args.input.now in
-    let rows = record_rows g.E.BenchedEngine.bench (run_with cal x).run in
+    let rows = reverse (record_rows g.E.BenchedEngine.bench (run_with cal x).run) in
     counted_none c.args.steps.now (own_under x.plan.fault (length x.drive) rows)
     (makes_none (length x.drive) x.plan.fault rows (never_begins (length x.drive) x.plan.fault c.in_default.not-Some))
     (let e = c.count.ensures in let l = c.count.type_inv in subst (λ n. n < 18446744073709551616) e l)
@@ -32,7 +34,7 @@ returns-then-fault-as_slice-clause-told g c = λ cal shared.
 pub returns-then-fault-as_slice-clause-counted : goal.returns-then-fault-as_slice-clause-counted
 returns-then-fault-as_slice-clause-counted g c = λ cal shared.
     let x = c.args.input.now in
-    let rows = record_rows g.E.BenchedEngine.bench (run_with cal x).run in
+    let rows = reverse (record_rows g.E.BenchedEngine.bench (run_with cal x).run) in
     let begins : BeginsFrom (length x.drive) x.plan.fault = subst (BeginsFrom (length x.drive)) (sym c.in-Some.is)
     (subst (λ d. length d ≤ c.in-Some.fault.onset) c.as_slice.ensures c.if-fault-as_slice.true) in
     counted_none c.args.steps.now (own_under x.plan.fault (length x.drive) rows) (makes_none (length x.drive) x.plan.fault rows begins)
@@ -53,11 +55,12 @@ made g c cal shared = c.play_on.ensures (run_with cal c.args.input.now).run (rec
     c.copy.result c.copy.ensures c.index.result.now c.go_on-played.result c.index.ensures c.go_on-played.ensures.played)
 
 pub returns-clause-told : goal.returns-clause-told
-returns-clause-told g c = λ cal shared. c.told_of.ensures (run_with cal c.args.input.now).run (made g c cal shared).to
+returns-clause-told g c = λ cal shared. c.told_so_far.ensures (run_with cal c.args.input.now).run (made g c cal shared).to
 
 pub returns-clause-counted : goal.returns-clause-counted
 returns-clause-counted g c = λ cal shared.
     let x = c.args.input.now in
     let r : Run = (run_with cal x).run in
-    (made g c cal shared).counted ∙ ap (count_with c.args.steps.now)
-    (sym (rows-are g.E.BenchedEngine.bench g.E.BenchedEngine.come_to cal x c.in-Some.fault c.in-Some.is (within g c) (record_rows g.E.BenchedEngine.bench r) refl))
+    made_in_time g.E.BenchedEngine.bench g.E.BenchedEngine.come_to r (c.in-Some.fault.onset / CHECKPOINT_TICKS * CHECKPOINT_TICKS) (length x.drive)
+    c.play_on.new.played c.args.steps.now c.play_on.new.steps (made g c cal shared) ∙ ap (count_with c.args.steps.now)
+    (sym (rows-are g.E.BenchedEngine.bench g.E.BenchedEngine.come_to cal x c.in-Some.fault c.in-Some.is (within g c) (reverse (record_rows g.E.BenchedEngine.bench r)) refl))

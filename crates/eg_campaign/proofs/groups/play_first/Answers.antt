@@ -1,15 +1,14 @@
-use Rattle.std.proofs.Common.{◌∙◌, sym, ap, ap₂, subst, ◌<◌, ◌≤◌, ℕ, List, Option, Some, length}
-use Rattle.std.specs.Prelude.{OnErr, slice_set}
+use Rattle.std.proofs.Common.{◌∙◌, sym, ap, ap₂, subst, ◌<◌, ◌≤◌, List, Option, Some, length}
+use Rattle.std.specs.Prelude.{slice_set}
 use Rattle.eg_record.specs.declared.run_facts.RunFacts.{RunFacts}
 use Rattle.eg_record.specs.declared.row.Row.{Row}
 use Rattle.eg_plan.specs.declared.engine.EngineKind.TheVariants as kind
 use Rattle.eg_campaign.specs.declared.play.RunInput.{RunInput}
-use Rattle.eg_campaign.specs.Plays.{bench_of, run_with}
-use Rattle.eg_campaign.specs.Groups.{is_alike, group_of, rows_of_group, count_with, told_with}
+use Rattle.eg_tick.specs.Counting.{count_with, AreCounted}
+use Rattle.eg_campaign.specs.Groups.{is_alike, group_of, rows_of_group, told_with}
 use Rattle.eg_campaign.proofs.PlayLemmas.{if_on_ok}
 use Rattle.eg_campaign.proofs.AlikeLemmas.{is_alike-equality}
-use Rattle.eg_campaign.proofs.OneGroup.{Stopped}
-use Rattle.eg_campaign.proofs.AllGroups.{alone, written_alone, counted_one, shared_rows, written_by}
+use Rattle.eg_campaign.proofs.AllGroups.{alone, written_alone, shared_rows, written_by}
 use Rattle.eg_campaign.proofs.groups.play_first.Goals as goal
 
 pub returns-then-count_alike-lt2-clause-told : goal.returns-then-count_alike-lt2-clause-told
@@ -19,9 +18,9 @@ returns-then-count_alike-lt2-clause-told c =
     let inputs = c.args.inputs.now in
     let few : length (group_of inputs x) < 2 = subst (λ n. n < 2) c.count_alike.ensures c.if-count_alike-lt2.true in
     λ before h.
-    ap₂ (λ (all : List (Option RunFacts)) (one : RunFacts). slice_set all c.args.place (Some one)) h
+    ap₂ (λ (all : List (Option RunFacts)) (one : RunFacts). slice_set all c.args.index (Some one)) h
     c.tell_one.ensures.told.is
-    ∙ written_alone (is_alike x) (λ (y : RunInput). Some (told_with cal y)) before inputs c.args.place x c.requires.place c.requires.there (is_alike-equality.refl x) few
+    ∙ written_alone (is_alike x) (λ (y : RunInput). Some (told_with cal y)) before inputs c.args.index x c.requires.index c.requires.there (is_alike-equality.refl x) few
 
 pub returns-then-count_alike-lt2-clause-counted : goal.returns-then-count_alike-lt2-clause-counted
 unfolding rows_of_group
@@ -30,9 +29,9 @@ returns-then-count_alike-lt2-clause-counted c =
     let x = c.args.input.now in
     let inputs = c.args.inputs.now in
     let few : length (group_of inputs x) < 2 = subst (λ n. n < 2) c.count_alike.ensures c.if-count_alike-lt2.true in
-    counted_one c.args.steps.now c.tell_one.new.steps (run_with cal x) c.tell_one.ensures.counted
+    c.tell_one.ensures.counted
     ∙ ap (λ (g : List RunInput). count_with c.args.steps.now (rows_of_group cal g))
-    (sym (alone (is_alike x) inputs c.args.place x c.requires.place c.requires.there (is_alike-equality.refl x) few))
+    (sym (alone (is_alike x) inputs c.args.index x c.requires.index c.requires.there (is_alike-equality.refl x) few))
 
 pub returns-in-Gasoline-clause-told : goal.returns-in-Gasoline-clause-told
 returns-in-Gasoline-clause-told c = λ before h. if_on_ok _ _ c.play_group.result
@@ -41,15 +40,8 @@ returns-in-Gasoline-clause-told c = λ before h. if_on_ok _ _ c.play_group.resul
 pub returns-in-Gasoline-clause-counted : goal.returns-in-Gasoline-clause-counted
 returns-in-Gasoline-clause-counted c =
     let long : 2 ≤ length (group_of c.args.inputs.now c.args.input.now) = subst (λ n. 2 ≤ n) c.count_alike.ensures c.if-count_alike-lt2.false in
-    if_on_ok _ _ c.play_group.result
-    (λ e. e ∙ ap (count_with c.args.steps.now) (shared_rows c.args.calibration.now c.args.inputs.now c.args.input.now kind.Gasoline long c.in-Gasoline.is))
-    c.play_group.ensures.counted
-
-pub returns-in-Gasoline-clause-count : goal.returns-in-Gasoline-clause-count
-returns-in-Gasoline-clause-count c =
-    let long : 2 ≤ length (group_of c.args.inputs.now c.args.input.now) = subst (λ n. 2 ≤ n) c.count_alike.ensures c.if-count_alike-lt2.false in
-    subst (λ (rows : List Row). OnErr c.play_group.result (Stopped c.args.steps.now c.play_group.new.steps rows))
-    (shared_rows c.args.calibration.now c.args.inputs.now c.args.input.now kind.Gasoline long c.in-Gasoline.is) c.play_group.ensures.count
+    subst (λ (rows : List Row). AreCounted rows c.args.steps.now c.play_group.new.steps c.play_group.result)
+    (shared_rows c.args.calibration.now c.args.inputs.now c.args.input.now kind.Gasoline long c.in-Gasoline.is) c.play_group.ensures.counted
 
 pub returns-in-Diesel-clause-told : goal.returns-in-Diesel-clause-told
 returns-in-Diesel-clause-told c = λ before h. if_on_ok _ _ c.play_group-in-Diesel.result
@@ -58,12 +50,5 @@ returns-in-Diesel-clause-told c = λ before h. if_on_ok _ _ c.play_group-in-Dies
 pub returns-in-Diesel-clause-counted : goal.returns-in-Diesel-clause-counted
 returns-in-Diesel-clause-counted c =
     let long : 2 ≤ length (group_of c.args.inputs.now c.args.input.now) = subst (λ n. 2 ≤ n) c.count_alike.ensures c.if-count_alike-lt2.false in
-    if_on_ok _ _ c.play_group-in-Diesel.result
-    (λ e. e ∙ ap (count_with c.args.steps.now) (shared_rows c.args.calibration.now c.args.inputs.now c.args.input.now kind.Diesel long c.in-Diesel.is))
-    c.play_group-in-Diesel.ensures.counted
-
-pub returns-in-Diesel-clause-count : goal.returns-in-Diesel-clause-count
-returns-in-Diesel-clause-count c =
-    let long : 2 ≤ length (group_of c.args.inputs.now c.args.input.now) = subst (λ n. 2 ≤ n) c.count_alike.ensures c.if-count_alike-lt2.false in
-    subst (λ (rows : List Row). OnErr c.play_group-in-Diesel.result (Stopped c.args.steps.now c.play_group-in-Diesel.new.steps rows))
-    (shared_rows c.args.calibration.now c.args.inputs.now c.args.input.now kind.Diesel long c.in-Diesel.is) c.play_group-in-Diesel.ensures.count
+    subst (λ (rows : List Row). AreCounted rows c.args.steps.now c.play_group-in-Diesel.new.steps c.play_group-in-Diesel.result)
+    (shared_rows c.args.calibration.now c.args.inputs.now c.args.input.now kind.Diesel long c.in-Diesel.is) c.play_group-in-Diesel.ensures.counted

@@ -1,29 +1,28 @@
 use Rattle.std.proofs.Common.{◌≡◌, ◌∙◌, sym, ap, subst, ◌+◌, ◌<◌, ◌≤◌, true, false, [], ◌++◌, drop, length, Some}
-use Rattle.std.specs.Prelude.{filter}
+use Rattle.std.specs.Prelude.{filter, reverse}
 use Rattle.std.specs.List.{flat_map}
 use Rattle.std.proofs.lemmas.List.{length-set, drop_all}
-use Rattle.eg_model.specs.Bench.{Run}
 use Rattle.eg_model.specs.Rows.{record_rows}
-use Rattle.eg_tick.proofs.RunLemmas.{on_err}
+use Rattle.eg_tick.proofs.CountLemmas.{counted_err}
 use Rattle.eg_campaign.specs.Plays.{IsPlayable, run_with}
 use Rattle.eg_campaign.specs.Groups.{is_alike, faultless, own_on, rows_shared, told_on, written_over}
-use Rattle.eg_campaign.proofs.OneGroup.{begun, more, said, stopped, ended, within, shared_of, rest-in, rest-out, wrote, left, all_written, written-in, written-out}
+use Rattle.eg_campaign.proofs.OneGroup.{begun, more, said, stopped, ended, shared_of, rest-in, rest-out, wrote, left, all_written, written-in, written-out}
 use Rattle.eg_campaign.proofs.groups.play_group.Goals as goal
 
-pub returns-in_err-shared-clause-count : goal.returns-in_err-shared-clause-count
-returns-in_err-shared-clause-count g c =
+pub returns-in_err-shared-clause-counted : goal.returns-in_err-shared-clause-counted
+returns-in_err-shared-clause-counted g c =
     let bench = g.E.BenchedEngine.bench in
     let cal = c.args.calibration.now in
     let x = c.args.input.now in
     let inputs = c.args.inputs.now in
     let was = c.args.steps.now in
-    let r : Run = (run_with cal (faultless x)).run in
-    on_err _ c.from_residual.result (stopped was was c.share.new.steps (record_rows bench r) (flat_map (own_on bench cal) (filter (is_alike x) inputs))
+    counted_err (rows_shared bench cal inputs x) was c.share.new.steps c.from_residual.result c.from_residual.ensures.0
+    (stopped was was c.share.new.steps (reverse (record_rows bench (run_with cal (faultless x)).run)) (flat_map (own_on bench cal) (filter (is_alike x) inputs))
     (rows_shared bench cal inputs x)
     (begun was (rows_shared bench cal inputs x)
     (let e = c.count.ensures in let l = c.count.type_inv in subst (λ n. n < 18446744073709551616) e l)
     (let e = c.sum.ensures in let l = c.sum.type_inv in subst (λ n. n < 18446744073709551616) e l))
-    (within bench r was c.share.new.steps c.in_err-shared.ensures.count))
+    c.in_err-shared.ensures.counted)
 
 pub loop-i-init : goal.loop-i-init
 loop-i-init g c =
@@ -35,7 +34,7 @@ loop-i-init g c =
     record {
       places = c.requires.places;
       told = λ before h. h;
-      counts = more was was c.share.new.steps (record_rows bench (run_with cal (faultless x)).run) (flat_map (own_on bench cal) (filter (is_alike x) inputs))
+      counts = more was was c.share.new.steps (reverse (record_rows bench (run_with cal (faultless x)).run)) (flat_map (own_on bench cal) (filter (is_alike x) inputs))
           (rows_shared bench cal inputs x)
           (begun was (rows_shared bench cal inputs x)
           (let e = c.count.ensures in let l = c.count.type_inv in subst (λ n. n < 18446744073709551616) e l)

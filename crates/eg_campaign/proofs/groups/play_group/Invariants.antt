@@ -1,4 +1,4 @@
-use Rattle.std.proofs.Common.{◌≡◌, ℕ, map, drop, length, Option}
+use Rattle.std.proofs.Common.{◌≡◌, map, drop, length, Option}
 use Rattle.std.specs.Prelude.{filter}
 use Rattle.std.specs.List.{flat_map}
 use Rattle.eg_record.specs.declared.run_facts.RunFacts.{RunFacts}

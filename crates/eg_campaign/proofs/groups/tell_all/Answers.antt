@@ -1,10 +1,10 @@
-use Rattle.std.proofs.Common.{◌≡◌, ◌∙◌, sym, ap, subst, ℕ, ◌+◌, ◌<◌, List, Option, None, map, length}
+use Rattle.std.proofs.Common.{◌≡◌, ◌∙◌, sym, ap, subst, ◌+◌, ◌<◌, List, Option, None, map, length}
 use Rattle.std.specs.Option.{is_some}
 use Rattle.std.proofs.lemmas.List.{length-map}
 use Rattle.eg_record.specs.declared.run_facts.RunFacts.{RunFacts}
-use Rattle.eg_tick.proofs.RunLemmas.{on_err}
 use Rattle.eg_campaign.specs.declared.play.RunInput.{RunInput}
 use Rattle.eg_campaign.specs.Groups.{rows_made, told_with, written_over}
+use Rattle.eg_tick.proofs.CountLemmas.{counted_err, out_before}
 use Rattle.eg_campaign.proofs.OneGroup.{begun}
 use Rattle.eg_campaign.proofs.AllGroups.{Goes, told_after, nowhere, wrote_back, goes-begin, goes-on, goes-new, goes-stopped, place-some, goes-end-told, goes-end-counted}
 use Rattle.eg_campaign.proofs.groups.tell_all.Goals as goal
@@ -35,16 +35,25 @@ loop-i-preserved-then-is_some c =
           c.index.result.now c.is_some.result (c.is_some.ensures ∙ ap is_some c.index.ensures)) ∙ c.if-is_some.true);
     }
 
-pub returns-in_err-play_first-clause-count : goal.returns-in_err-play_first-clause-count
-returns-in_err-play_first-clause-count c =
+pub returns-in_err-told-clause-counted : goal.returns-in_err-told-clause-counted
+returns-in_err-told-clause-counted c =
+    let rows = rows_made c.args.calibration.now c.args.inputs.now in
+    counted_err rows c.args.steps.now c.args.steps.now c.from_residual.result c.from_residual.ensures.0
+    (out_before c.args.steps.now rows
+    (let e = c.count.ensures in let l = c.count.type_inv in subst (λ n. n < 18446744073709551616) e l)
+    (let e = c.sum.ensures in let l = c.sum.type_inv in subst (λ n. n < 18446744073709551616) e l))
+
+pub returns-in_err-play_first-clause-counted : goal.returns-in_err-play_first-clause-counted
+returns-in_err-play_first-clause-counted c =
     let cal = c.args.calibration.now in
     let x = c.index-inputs-i.result in
     let told = c.loop-i.told.items in
-    on_err _ c.from_residual-in_err-play_first.result (goes-stopped cal c.args.inputs.now c.loop-i.i x c.loop-i-test.true c.index-inputs-i.is
+    counted_err (rows_made cal c.args.inputs.now) c.args.steps.now c.play_first.new.steps c.from_residual-in_err-play_first.result c.from_residual-in_err-play_first.ensures.0
+    (goes-stopped cal c.args.inputs.now c.loop-i.i x c.loop-i-test.true c.index-inputs-i.is
     told c.args.steps.now c.loop-i.steps c.play_first.new.steps c.loop-i.invariant.goes
     (sym (place-some cal c.args.inputs.now c.loop-i.i x c.loop-i-test.true c.index-inputs-i.is told c.args.steps.now c.loop-i.steps c.loop-i.invariant.goes
     c.index.result.now c.is_some.result (c.is_some.ensures ∙ ap is_some c.index.ensures)) ∙ c.if-is_some.false)
-    c.in_err-play_first.ensures.count)
+    c.in_err-play_first.ensures.counted)
 
 pub loop-i-preserved : goal.loop-i-preserved
 loop-i-preserved c =

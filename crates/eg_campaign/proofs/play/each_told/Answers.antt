@@ -1,4 +1,4 @@
-use Rattle.std.proofs.Common.{◌≡◌, ◌∙◌, sym, ap, subst, ◌<◌, ◌≤◌, [], ◌∷◌, ◌++◌, length, take, get_or, map, Some, add-one}
+use Rattle.std.proofs.Common.{◌≡◌, ◌∙◌, sym, ap, subst, ◌<◌, ◌≤◌, [], ◌∷◌, ◌++◌, length, take, get_or, Some, add-one}
 use Rattle.std.proofs.Math.Seq.{take-suc}
 use Rattle.std.proofs.lemmas.List.{length-map, take_all}
 use Rattle.eg_record.specs.declared.run_facts.RunFacts.{RunFacts}

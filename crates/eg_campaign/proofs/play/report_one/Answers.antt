@@ -1,4 +1,4 @@
-use Rattle.std.proofs.Common.{◌∙◌, ap, ℕ, Option}
+use Rattle.std.proofs.Common.{◌∙◌, ap}
 use Rattle.eg_answer.specs.Times.{reaction_of}
 use Rattle.eg_record.specs.declared.run_facts.RunFacts.{RunFacts}
 use Rattle.eg_tick.specs.Facts.{record_facts}

@@ -1,10 +1,7 @@
-use Rattle.std.proofs.Common.{◌∙◌, sym, ap, ap₂, subst, ◌<◌, [], ◌∷◌, ◌++◌, length, map, Some, None}
-use Rattle.std.proofs.lemmas.List.{length-map, take_all}
-use Rattle.eg_campaign.specs.declared.play.RunInput.{RunInput}
+use Rattle.std.proofs.Common.{◌∙◌, sym, ap, ap₂, [], ◌∷◌, ◌++◌, map}
+use Rattle.std.proofs.lemmas.List.{take_all}
 use Rattle.eg_campaign.specs.Plays.{report_with}
-use Rattle.eg_campaign.specs.Groups.{told_with}
 use Rattle.eg_campaign.proofs.PlayLemmas.{map-more}
-use Rattle.eg_campaign.proofs.AllGroups.{all_some}
 use Rattle.eg_campaign.proofs.play.summaries_of.Goals as goal
 
 pub loop-i-init : goal.loop-i-init

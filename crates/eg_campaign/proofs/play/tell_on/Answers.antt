@@ -1,7 +1,10 @@
-use Rattle.std.proofs.Common.{refl, subst}
+use Rattle.std.proofs.Common.{◌≡◌, refl, subst, length}
 use Rattle.eg_model.specs.Bench.{Run}
 use Rattle.eg_tick.specs.Facts.{IsToldOf}
-use Rattle.eg_campaign.specs.Plays.{IsCounted}
+use Rattle.eg_model.specs.Rows.{record_rows}
+use Rattle.eg_tick.proofs.RunLemmas.{counted}
+use Rattle.eg_campaign.specs.Plays.{run_with}
+use Rattle.eg_tick.proofs.CountLemmas.{counts_record}
 use Rattle.eg_campaign.proofs.PlayLemmas.{same_run}
 use Rattle.eg_campaign.proofs.play.tell_on.Goals as goal
 
@@ -11,6 +14,10 @@ returns-clause-told g c = subst (λ (r : Run). IsToldOf g.E.BenchedEngine.bench 
     c.bench_facts.ensures.told
 
 pub returns-clause-counted : goal.returns-clause-counted
-returns-clause-counted g c = subst (λ (r : Run). IsCounted g.E.BenchedEngine.bench r c.args.steps.now c.bench_facts.new.steps)
+returns-clause-counted g c =
+    let bench = g.E.BenchedEngine.bench in
+    let was = c.args.steps.now in
+    counts_record bench (run_with c.args.calibration.now c.args.input.now).run was c.bench_facts.new.steps
+    (subst (λ (r : Run). c.bench_facts.new.steps ≡ counted was (length r.drive) (record_rows bench r))
     (same_run _ _ _ _ _ _ _ _ _ _ refl c.as_slice-image.ensures c.as_ref-fault.ensures.value refl c.as_slice-drive.ensures)
-    c.bench_facts.ensures.counted
+    c.bench_facts.ensures.counted)

@@ -1,11 +1,11 @@
-use Rattle.std.proofs.Common.{sym, subst}
+use Rattle.std.proofs.Common.{◌≡◌, sym, subst}
 use Rattle.std.specs.Prelude.{OnOk, OnErr, reverse}
 use Rattle.eg_base.specs.Outside.{Appends}
 use Rattle.eg_model.specs.Rows.{record_rows}
-use Rattle.eg_campaign.specs.Plays.{bench_of, run_with, IsCounted}
-use Rattle.eg_campaign.specs.Texts.{rows_in_time, text_of, record_text}
+use Rattle.eg_tick.specs.Counting.{count_with}
+use Rattle.eg_campaign.specs.Plays.{bench_of, run_with, rows_in_time}
+use Rattle.eg_campaign.specs.Texts.{text_of, record_text}
 use Rattle.eg_campaign.specs.Recording.{IsStopped}
-use Rattle.eg_campaign.proofs.PlayLemmas.{counted_run, if_on_ok}
 use Rattle.eg_campaign.proofs.recording.record_into.Goals as goal
 
 pub returns-in-Gasoline-clause-whole : goal.returns-in-Gasoline-clause-whole
@@ -17,10 +17,11 @@ returns-in-Gasoline-clause-whole g c =
     (sym c.in-Gasoline.is) c.record_on.ensures.whole
 
 pub returns-in-Gasoline-clause-counted : goal.returns-in-Gasoline-clause-counted
+unfolding rows_in_time
 returns-in-Gasoline-clause-counted g c =
     let r = run_with c.args.calibration.now c.args.input.now in
-    if_on_ok _ _ c.record_on.result (counted_run c.args.steps.now c.record_on.new.steps r)
-    (subst (λ engine. OnOk c.record_on.result (IsCounted (bench_of engine) r.run c.args.steps.now c.record_on.new.steps)) (sym c.in-Gasoline.is) c.record_on.ensures.counted)
+    subst (λ engine. OnOk c.record_on.result (c.record_on.new.steps ≡ count_with c.args.steps.now (reverse (record_rows (bench_of engine) r.run)))) (sym c.in-Gasoline.is)
+    c.record_on.ensures.counted
 
 pub returns-in-Gasoline-clause-stopped : goal.returns-in-Gasoline-clause-stopped
 unfolding rows_in_time
@@ -39,10 +40,11 @@ returns-in-Diesel-clause-whole g c =
     (sym c.in-Diesel.is) c.record_on-in-Diesel.ensures.whole
 
 pub returns-in-Diesel-clause-counted : goal.returns-in-Diesel-clause-counted
+unfolding rows_in_time
 returns-in-Diesel-clause-counted g c =
     let r = run_with c.args.calibration.now c.args.input.now in
-    if_on_ok _ _ c.record_on-in-Diesel.result (counted_run c.args.steps.now c.record_on-in-Diesel.new.steps r)
-    (subst (λ engine. OnOk c.record_on-in-Diesel.result (IsCounted (bench_of engine) r.run c.args.steps.now c.record_on-in-Diesel.new.steps)) (sym c.in-Diesel.is) c.record_on-in-Diesel.ensures.counted)
+    subst (λ engine. OnOk c.record_on-in-Diesel.result (c.record_on-in-Diesel.new.steps ≡ count_with c.args.steps.now (reverse (record_rows (bench_of engine) r.run)))) (sym c.in-Diesel.is)
+    c.record_on-in-Diesel.ensures.counted
 
 pub returns-in-Diesel-clause-stopped : goal.returns-in-Diesel-clause-stopped
 unfolding rows_in_time

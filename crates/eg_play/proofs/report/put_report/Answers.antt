@@ -10,8 +10,7 @@ use Rattle.eg_play.proofs.report.put_report.Goals as goal
 pub returns-in_default-clause-plays : goal.returns-in_default-clause-plays
 returns-in_default-clause-plays g c =
     let a = c.args in
-    let (n, most, is) = c.in_default.ensures.count in
-    no_memory _ _ _ (g.K.Sink.shows a.out.now) a.steps.now c.run_all.new.steps n most is
+    no_memory _ _ _ (g.K.Sink.shows a.out.now) a.steps.now c.run_all.new.steps c.in_default.ensures.counted
     (keep_headline a.calibration.now c.rules-rules.ensures.accepted a.inputs.now c.requires)
 
 pub returns-in_default-report_lines-clause-plays : goal.returns-in_default-report_lines-clause-plays

@@ -9,8 +9,7 @@ use Rattle.eg_play.proofs.run_table.put_run_table.Goals as goal
 pub returns-in_default-clause-plays : goal.returns-in_default-clause-plays
 returns-in_default-clause-plays g c =
     let a = c.args in
-    let (n, most, is) = c.in_default.ensures.count in
-    no_memory _ _ _ (g.K.Sink.shows a.out.now) a.steps.now c.told_all.new.steps n most is
+    no_memory _ _ _ (g.K.Sink.shows a.out.now) a.steps.now c.told_all.new.steps c.in_default.ensures.counted
     (keep_headline a.calibration.now c.rules-rules.ensures.accepted a.inputs.now c.requires)
 
 pub returns-in_default-table_text-clause-plays : goal.returns-in_default-table_text-clause-plays

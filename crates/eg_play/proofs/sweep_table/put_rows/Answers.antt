@@ -1,4 +1,4 @@
-use Rattle.std.proofs.Common.{◌≡◌, ◌∙◌, ap, ap₂, subst, map}
+use Rattle.std.proofs.Common.{◌≡◌, ◌∙◌, ap, subst, map}
 use Rattle.eg_campaign.specs.Groups.{facts_by}
 use Rattle.eg_sweep.specs.Table.{table_of}
 use Rattle.eg_sweep.specs.Texts.{sweep_text_of}
@@ -10,8 +10,7 @@ use Rattle.eg_play.proofs.sweep_table.put_rows.Goals as goal
 pub returns-in_default-clause-plays : goal.returns-in_default-clause-plays
 returns-in_default-clause-plays g c =
     let a = c.args in
-    let (n, most, is) = c.in_default.ensures.count in
-    no_memory _ _ _ (g.K.Sink.shows a.out.now) a.steps.now c.facts_all.new.steps n most is
+    no_memory _ _ _ (g.K.Sink.shows a.out.now) a.steps.now c.facts_all.new.steps c.in_default.ensures.counted
     (keep_headline a.calibration.now c.rules-rules.ensures.accepted a.inputs.now c.requires.playable)
 
 pub returns-in_default-sweep_text-clause-plays : goal.returns-in_default-sweep_text-clause-plays

@@ -1,4 +1,4 @@
-use Rattle.std.proofs.Common.{◌≡◌, ◌∙◌, refl, sym, ap, subst, ◌<◌, All, length, map}
+use Rattle.std.proofs.Common.{◌∙◌, refl, sym, ap, subst, ◌<◌, All, length, map}
 use Rattle.std.specs.Prelude.{Err}
 use Rattle.eg_sweep.specs.Grid.{is_too_large, swept_faults}
 use Rattle.eg_sweep.proofs.ListedLemmas.{swept_valid}
@@ -15,6 +15,7 @@ returns-in-Err-Memory-clause-ends g c =
     not-swept a.calibration.now c.rules-rules.ensures.accepted a.step c.requires.step input c.requires.playable
     (swept_faults (length input.drive) a.step) (swept_valid (length input.drive) a.step c.requires.playable.most c.requires.step) refl
     (g.K.Sink.shows a.out.now) a.steps.now _ (subst (λ n. n < 18446744073709551616) c.count.ensures c.count.type_inv)
+    (subst (λ n. n < 18446744073709551616) c.sum.ensures c.sum.type_inv)
     (ap (λ drive. is_too_large (length drive) a.step) (sym c.as_slice.ensures)
     ∙ small_grid _ _ c.in-Err-Memory.ensures.grid (not_memory _ (ap (λ e. Err e) c.in-Err-Memory.field-0-is)))
 
@@ -25,6 +26,7 @@ returns-in_default-clause-ends g c =
     not-swept a.calibration.now c.rules-rules.ensures.accepted a.step c.requires.step input c.requires.playable
     (swept_faults (length input.drive) a.step) (swept_valid (length input.drive) a.step c.requires.playable.most c.requires.step) refl
     (g.K.Sink.shows a.out.now) a.steps.now _ (subst (λ n. n < 18446744073709551616) c.count.ensures c.count.type_inv)
+    (subst (λ n. n < 18446744073709551616) c.sum.ensures c.sum.type_inv)
     (ap (λ drive. is_too_large (length drive) a.step) (sym c.as_slice.ensures) ∙ small_grid _ _ c.in-Ok.ensures.grid (not_faults _ c.in-Ok.faults refl))
 
 pub put_rows-requires-clause-playable : goal.put_rows-requires-clause-playable

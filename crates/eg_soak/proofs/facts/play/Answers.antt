@@ -1,14 +1,16 @@
-use Rattle.std.proofs.Common.{◌≡◌, ◌∙◌, sym, ap, subst, [], ◌∷◌}
+use Rattle.std.proofs.Common.{◌≡◌, ◌∙◌, sym, ap, subst}
 use Rattle.std.specs.Prelude.{is_some}
 use Rattle.std.specs.Option.{option_copied}
 use Rattle.eg_fault.specs.Faults.{IsNoneOrValid}
+use Rattle.eg_model.specs.Engines.{gasoline}
 use Rattle.eg_tick.specs.Facts.{record_facts}
 use Rattle.eg_tick.specs.Run.{run_by}
-use Rattle.eg_campaign.specs.Plays.{EngineRun, count_after}
+use Rattle.eg_tick.specs.Counting.{count_with}
+use Rattle.eg_campaign.specs.Plays.{EngineRun, rows_in_time}
 use Rattle.eg_campaign.proofs.PlayLemmas.{same_run}
 use Rattle.eg_soak.specs.Facts.{facts_of}
 use Rattle.eg_soak.specs.Soak.{on_gasoline, run_drawn}
-use Rattle.eg_campaign.proofs.PlayLemmas.{counted_run}
+use Rattle.eg_tick.proofs.CountLemmas.{counts_record}
 use Rattle.eg_soak.proofs.FactsLemmas.{any_fault, facts_told}
 use Rattle.eg_soak.proofs.facts.play.Goals as goal
 use Rattle.eg_soak.proofs.facts.play.Goals.{After-of}
@@ -31,5 +33,6 @@ returns-clause-facts c = c.of.ensures
     ∙ ap facts_of (is_drawn c)
 
 pub returns-clause-counted : goal.returns-clause-counted
-returns-clause-counted c = counted_run c.args.steps.now c.run_facts-trap.new.steps (played c) c.run_facts-trap.ensures.counted
-    ∙ ap (λ r. count_after c.args.steps.now (r ∷ [])) (is_drawn c)
+unfolding rows_in_time
+returns-clause-counted c = counts_record gasoline (played c).run c.args.steps.now c.run_facts-trap.new.steps c.run_facts-trap.ensures.counted
+    ∙ ap (λ r. count_with c.args.steps.now (rows_in_time r)) (is_drawn c)

@@ -2,18 +2,19 @@ use Rattle.std.proofs.Common.{◌≡◌, ◌∙◌, sym, ap, ap₂, subst, ◌+�
 use Rattle.std.proofs.lemmas.Grind.{common_steps}
 use Rattle.std.proofs.lemmas.List.{length-map}
 use Rattle.eg_tick.proofs.RunLemmas.{on_err}
-use Rattle.eg_campaign.proofs.PlayLemmas.{counted-none}
+use Rattle.eg_campaign.specs.Plays.{rows_of_runs}
+use Rattle.eg_tick.proofs.CountLemmas.{counts_none}
 use Rattle.eg_soak.specs.Facts.{facts_of}
 use Rattle.eg_soak.specs.Soak.{drawn_runs}
 use Rattle.eg_soak.proofs.RunsLemmas.{state_of, state-next, facts-next, counts-next, runs-length}
 use Rattle.eg_soak.proofs.playing.play_all.Goals as goal
 
 pub loop-done-init : goal.loop-done-init
-unfolding state_of drawn_runs
+unfolding state_of drawn_runs rows_of_runs
 loop-done-init c = record {
   state = c.new-generator.ensures;
   told = c.new-all.ensures.items;
-  counts = counted-none c.args.steps.now
+  counts = counts_none c.args.steps.now
       (let e = c.count.ensures in let l = c.count.type_inv in subst (λ n. n < 18446744073709551616) e l)
       (let e = c.sum.ensures in let l = c.sum.type_inv in subst (λ n. n < 18446744073709551616) e l);
 }

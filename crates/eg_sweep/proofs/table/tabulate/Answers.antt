@@ -33,7 +33,7 @@ add-requires c =
     let few = c.requires.few in
     let both = length-zip c.args.faults.now c.args.facts.now in (
       facts_under fault.class runs,
-      row_at c.loop-fault.rows c.class_place.result fault runs absent are c.class_place.ensures.place,
+      row_at c.loop-fault.rows c.class_index.result fault runs absent are c.class_index.ensures.index,
       omega (arith, fewer, few, both),
     )
 
@@ -44,9 +44,9 @@ loop-fault-preserved c =
     let fault = c.in-Some.fault.now in
     let facts = c.in-Some.of_run.now in
     let rest = zip (iter_rest (zip_first c.next.new.self)) (iter_rest (zip_second c.next.new.self)) in
-    let row = c.add.ensures (facts_under fault.class runs) (row_at c.loop-fault.rows c.class_place.result fault runs absent are c.class_place.ensures.place) in (
+    let row = c.add.ensures (facts_under fault.class runs) (row_at c.loop-fault.rows c.class_index.result fault runs absent are c.class_index.ensures.index) in (
       runs ++ (fault, facts) ∷ [],
-      rows-set c.loop-fault.rows c.class_place.result fault runs facts c.add.new.self are c.class_place.ensures.place row,
+      rows-set c.loop-fault.rows c.class_index.result fault runs facts c.add.new.self are c.class_index.ensures.index row,
       append_assoc runs ((fault, facts) ∷ []) rest ∙ ap (λ left. runs ++ left) (sym (zip-next _ _ _ _ _ _ steps.0 steps.1)) ∙ all,
     )
 

@@ -8,4 +8,4 @@ pub returns : goal.returns
 unfolding texts_of class_names
 returns c =
     let named : texts_of c.as_slice-names.result.now ≡ class_names = search rules in
-    name_at _ _ _ c.args.class.now refl named c.class_place.ensures.place
+    name_at _ _ _ c.args.class.now refl named c.class_index.ensures.index

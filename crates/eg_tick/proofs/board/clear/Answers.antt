@@ -1,6 +1,7 @@
 use Rattle.eg_level2.proofs.OrderLemmas.{on_err, at_err}
 use Rattle.eg_tick.proofs.BoardLemmas.{on_ok, cleared-world, cleared-outside}
 use Rattle.eg_tick.proofs.MadeLemmas.{clears-data, clears-outputs}
+use Rattle.eg_tick.proofs.KeepsLemmas.{keeps_then, keeps_refused, off_ok}
 use Rattle.eg_tick.proofs.board.clear.Goals as goal
 
 pub returns-clause-world : goal.returns-clause-world
@@ -16,3 +17,15 @@ returns-in_err-write-clause-stopped g c = at_err c.from_residual.result (clears-
 
 pub returns-clause-stopped : goal.returns-clause-stopped
 returns-clause-stopped g c = on_err c.write-2.result (λ outs. clears-outputs _ _ _ c.in_ok-write.ensures.made outs) c.write-2.ensures.stopped
+
+pub returns-in_err-write-clause-world : goal.returns-in_err-write-clause-world
+returns-in_err-write-clause-world g c = off_ok c.from_residual.result _ c.from_residual.ensures.0
+
+pub returns-in_err-write-clause-outside : goal.returns-in_err-write-clause-outside
+returns-in_err-write-clause-outside g c = off_ok c.from_residual.result _ c.from_residual.ensures.0
+
+pub returns-in_err-write-clause-keeps : goal.returns-in_err-write-clause-keeps
+returns-in_err-write-clause-keeps g c = keeps_refused _ _ _ c.from_residual.result c.from_residual.ensures.0 c.in_err-write.ensures.keeps
+
+pub returns-clause-keeps : goal.returns-clause-keeps
+returns-clause-keeps g c = keeps_then _ _ _ _ _ c.in_ok-write.ensures.keeps c.write-2.ensures.keeps

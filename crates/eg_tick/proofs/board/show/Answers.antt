@@ -2,6 +2,7 @@ use Rattle.eg_level2.proofs.StoreLemmas.{on_ok}
 use Rattle.eg_level2.proofs.OrderLemmas.{on_err, at_err}
 use Rattle.eg_tick.proofs.BoardLemmas.{shown_readings, shown_asked, shown_outside}
 use Rattle.eg_tick.proofs.MadeLemmas.{shows-readings, shows-asked}
+use Rattle.eg_tick.proofs.KeepsLemmas.{keeps_then, keeps_refused, off_ok}
 use Rattle.eg_tick.proofs.board.show.Goals as goal
 
 pub returns-clause-readings : goal.returns-clause-readings
@@ -22,3 +23,18 @@ returns-in_err-write-clause-stopped g c = at_err c.from_residual.result (shows-r
 pub returns-clause-stopped : goal.returns-clause-stopped
 returns-clause-stopped g c =
     on_err c.put.result (λ same. shows-asked c.args.readings.now c.args.asked _ _ _ c.in_ok-write.ensures.made same) c.put.ensures.stopped
+
+pub returns-in_err-write-clause-readings : goal.returns-in_err-write-clause-readings
+returns-in_err-write-clause-readings g c = off_ok c.from_residual.result _ c.from_residual.ensures.0
+
+pub returns-in_err-write-clause-asked : goal.returns-in_err-write-clause-asked
+returns-in_err-write-clause-asked g c = off_ok c.from_residual.result _ c.from_residual.ensures.0
+
+pub returns-in_err-write-clause-outside : goal.returns-in_err-write-clause-outside
+returns-in_err-write-clause-outside g c = off_ok c.from_residual.result _ c.from_residual.ensures.0
+
+pub returns-in_err-write-clause-keeps : goal.returns-in_err-write-clause-keeps
+returns-in_err-write-clause-keeps g c = keeps_refused _ _ _ c.from_residual.result c.from_residual.ensures.0 c.in_err-write.ensures.keeps
+
+pub returns-clause-keeps : goal.returns-clause-keeps
+returns-clause-keeps g c = keeps_then _ _ _ _ _ c.in_ok-write.ensures.keeps c.put.ensures.keeps

@@ -1,13 +1,16 @@
-use Rattle.std.proofs.Common.{◌≡◌, ◌∙◌, sym, ap, subst, ◌+◌, ◌<◌, [], ◌∷◌, ◌++◌, length, arith}
+use Rattle.std.proofs.Common.{◌≡◌, ◌∙◌, sym, ap, subst, ◌+◌, ◌<◌, ◌≤◌, [], ◌∷◌, ◌++◌, length, arith}
 use Rattle.std.specs.Prelude.{reverse}
 use Rattle.std.proofs.lemmas.Grind.{common_steps}
+use Rattle.std.proofs.lemmas.List.{take_all}
 use Rattle.eg_model.specs.Engines.{gasoline}
 use Rattle.eg_model.specs.Records.{rows_to}
+use Rattle.eg_model.specs.Rows.{record_rows}
 use Rattle.eg_model.proofs.WholeRecord.{rows-none, rows-suc}
-use Rattle.eg_tick.specs.Weights.{TickCount}
+use Rattle.eg_tick.specs.Counting.{count_with}
 use Rattle.eg_tick.specs.Benched.{gasoline_of}
 use Rattle.eg_tick.specs.Run.{IsAt}
-use Rattle.eg_tick.proofs.RunLemmas.{counted, counted-none, counted-more, drive-at, more-mod, on_err}
+use Rattle.eg_tick.proofs.RunLemmas.{counted, counted-none, counted-more, drive-at}
+use Rattle.eg_tick.proofs.CountLemmas.{counted_err, out_between, out_within, long, counts_rows}
 use Rattle.eg_tick.proofs.run.make_rows.Goals as goal
 
 pub loop-tick-init : goal.loop-tick-init
@@ -26,19 +29,29 @@ bench_tick-requires-clause-tick c = c.loop-tick.invariant.ticks
 pub bench_tick-requires-clause-fewer : goal.bench_tick-requires-clause-fewer
 bench_tick-requires-clause-fewer c = omega (arith, c.loop-tick.invariant.ticks, c.loop-tick-test.true, c.requires.most)
 
-pub returns-in_err-row-clause-count : goal.returns-in_err-row-clause-count
-returns-in_err-row-clause-count c = on_err _ c.from_residual.result (
-  c.loop-tick.tick + 1,
-  omega (arith, c.loop-tick-test.true),
-  c.in_err-row.ensures.count ∙ more-mod _ c.args.steps.now.count c.loop-tick.tick c.loop-tick.steps.count 1 (ap (λ (k : TickCount). k.count) c.loop-tick.invariant.counts),
-)
+-- memory ran out within a tick, or behind it
+pub returns-in_err-row-clause-counted : goal.returns-in_err-row-clause-counted
+returns-in_err-row-clause-counted c = λ r plan drive at.
+    let below : c.loop-tick.tick < length r.drive = subst (λ d. c.loop-tick.tick < length d) (sym drive) c.loop-tick-test.true in
+    let all = reverse (record_rows gasoline r) in
+    counted_err all c.args.steps.now c.bench_tick.new.steps c.from_residual.result c.from_residual.ensures.0
+    (out_within c.args.steps.now c.loop-tick.steps c.bench_tick.new.steps all c.loop-tick.tick (subst (λ n. c.loop-tick.tick < n) (long gasoline r) below)
+    (counts_rows gasoline r c.loop-tick.tick c.args.steps.now c.loop-tick.steps c.loop-tick.rows.items (omega (arith, below)) (c.loop-tick.invariant.rows r plan drive at) c.loop-tick.invariant.counts)
+    c.in_err-row.ensures.count c.in_err-row.ensures.no_weight)
 
-pub returns-in_err-push-clause-count : goal.returns-in_err-push-clause-count
-returns-in_err-push-clause-count c = on_err _ c.from_residual-in_err-push.result (
-  c.loop-tick.tick + 1,
-  omega (arith, c.loop-tick-test.true),
-  c.in_ok-row.ensures.count ∙ more-mod _ c.args.steps.now.count c.loop-tick.tick c.loop-tick.steps.count 1 (ap (λ (k : TickCount). k.count) c.loop-tick.invariant.counts),
-)
+pub returns-in_err-push-clause-counted : goal.returns-in_err-push-clause-counted
+returns-in_err-push-clause-counted c = λ r plan drive at.
+    let tick = c.loop-tick.tick in
+    let below : tick < length r.drive = subst (λ d. tick < length d) (sym drive) c.loop-tick-test.true in
+    let most : tick + 1 ≤ length r.drive = omega (arith, below) in
+    let all = reverse (record_rows gasoline r) in
+    counted_err all c.args.steps.now c.bench_tick.new.steps c.from_residual-in_err-push.result c.from_residual-in_err-push.ensures.0
+    (out_between c.args.steps.now c.bench_tick.new.steps all (tick + 1) (subst (λ n. tick + 1 ≤ n) (long gasoline r) most)
+    (counts_rows gasoline r (tick + 1) c.args.steps.now c.bench_tick.new.steps (c.loop-tick.rows.items ++ c.in_ok-row.row ∷ []) most
+    (rows-suc gasoline r tick c.loop-tick.rows.items c.in_ok-row.row (c.loop-tick.invariant.rows r plan drive at)
+    (c.in_ok-row.ensures.row r plan (drive-at r c.args.drive.now tick _ drive c.loop-tick-test.true c.index-drive-tick.is) (c.loop-tick.invariant.at r plan drive at)))
+    (counted-more c.args.steps.now c.loop-tick.steps c.bench_tick.new.steps tick c.loop-tick.rows.items c.in_ok-row.row
+    c.loop-tick.invariant.counts c.in_ok-row.ensures.count c.in_ok-row.ensures.weight)))
 
 pub loop-tick-preserved : goal.loop-tick-preserved
 loop-tick-preserved c =
@@ -66,6 +79,8 @@ returns-clause-rows c = λ r plan drive at.
     c.loop-tick.invariant.rows r plan drive at ∙ ap (λ n. reverse (rows_to gasoline r n)) end
 
 pub returns-clause-counted : goal.returns-clause-counted
-returns-clause-counted c =
-    let end : c.loop-tick.tick ≡ length c.args.drive.now = omega (arith, c.loop-tick-test.false, c.loop-tick.auto.tick-end) in
-    c.loop-tick.invariant.counts ∙ ap (λ n. counted c.args.steps.now n c.loop-tick.rows.items) end
+returns-clause-counted c = λ r plan drive at.
+    let end : c.loop-tick.tick ≡ length r.drive = omega (arith, c.loop-tick-test.false, c.loop-tick.auto.tick-end) ∙ ap length (sym drive) in
+    let all = reverse (record_rows gasoline r) in
+    counts_rows gasoline r c.loop-tick.tick c.args.steps.now c.loop-tick.steps c.loop-tick.rows.items (omega (arith, end)) (c.loop-tick.invariant.rows r plan drive at) c.loop-tick.invariant.counts
+    ∙ ap (count_with c.args.steps.now) (take_all c.loop-tick.tick all (omega (arith, end, long gasoline r)))

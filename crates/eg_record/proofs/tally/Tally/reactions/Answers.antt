@@ -1,10 +1,10 @@
 use Rattle.std.proofs.Common.{◌∙◌, sym, ap, subst}
 use Rattle.eg_record.specs.Tallies.{TallyParts, IsTallyOf}
-use Rattle.eg_record.specs.Reactions.{both, told_at}
+use Rattle.eg_record.specs.Reactions.{combined, span_reactions}
 use Rattle.eg_record.proofs.TallyLemmas.{tally_tells}
 use Rattle.eg_record.proofs.tally.Tally.reactions.Goals as goal
 
 pub returns-clause-reactions : goal.returns-clause-reactions
 returns-clause-reactions c rows stands =
     tally_tells c.args.self.now rows c.reactions_to.result
-    (c.reactions_to.ensures ∙ ap (λ (v : TallyParts). both (told_at v.facts.ticks v.spans) v.spans.ended) c.self.view_is) stands
+    (c.reactions_to.ensures ∙ ap (λ (v : TallyParts). combined (span_reactions v.facts.ticks v.spans) v.spans.ended) c.self.view_is) stands

@@ -13,7 +13,7 @@ pub overflow_add-self-in-Some : goal.overflow_add-self-in-Some
 overflow_add-self-in-Some c =
     let (runs, are, few) = c.requires in
     let most : get_or c.args.self.now.by_watch c.rank.result 0 ≤ length runs =
-    subst (λ place. get_or c.args.self.now.by_watch place 0 ≤ length runs) (sym c.rank.ensures.place) (watch-most c.args.self.now runs c.in-Some.watch are) in
+    subst (λ place. get_or c.args.self.now.by_watch place 0 ≤ length runs) (sym c.rank.ensures.index) (watch-most c.args.self.now runs c.in-Some.watch are) in
     omega (arith, few, most)
 
 pub overflow_add-self-in-None : goal.overflow_add-self-in-None
@@ -32,7 +32,7 @@ returns c = λ runs are.
             runs = old.runs + 1;
             by_watch = set old.by_watch place (get_or old.by_watch place 0 + 1);
             reaction = greater old.reaction (reaction_in c.args.facts.now);
-          }) w.rank.ensures.place
+          }) w.rank.ensures.index
           ∙ row-found old runs c.args.facts.now w.in-Some.watch w.in-Some.field-0-1 are w.in-Some.is
       | in-None w ↦ ap kept w.self-is ∙ row-none old runs c.args.facts.now are w.in-None.is
     ]

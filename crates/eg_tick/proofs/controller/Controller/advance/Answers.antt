@@ -20,6 +20,7 @@ use Rattle.eg_tick.specs.Advancing.{effects_after, entry_of, world_before}
 use Rattle.eg_tick.specs.declared.working.Task.{Task}
 use Rattle.eg_tick.proofs.StandsLemmas.{Enters, entered, enters, next_stands}
 use Rattle.eg_tick.proofs.AdvanceLemmas.{of_setting, held-within, within, few-in, period-in, later-in, stepped, Advance, makes, row-told, step-told}
+use Rattle.eg_tick.proofs.KeepsLemmas.{off_ok, off_value}
 use Rattle.eg_tick.proofs.controller.Controller.advance.Given.{Over}
 use Rattle.eg_tick.proofs.controller.Controller.advance.Goals as goal
 
@@ -42,7 +43,7 @@ place-requires g c =
 pub step_engine-requires : goal.step_engine-requires
 step_engine-requires g c x is =
     held-within c.self.inside.fault c.self.inside.ticks x c.self.invariant.keeps.fault
-    (subst (λ f. (effects f c.self.inside.ticks).held ≡ Some x) c.as_ref-fault.ensures.value (sym c.held-held.ensures ∙ is))
+    (subst (λ f. (effects f c.self.inside.ticks).held_plate ≡ Some x) c.as_ref-fault.ensures.value (sym c.held_plate-held_plate.ensures ∙ is))
 
 pub overflow_cast-task : goal.overflow_cast-task
 overflow_cast-task g c =
@@ -195,13 +196,13 @@ still g c =
     }
 
 steps : (g : Over) (c : goal.After-row g) → g.E.Engine.steps c.args.self.now.engine (slice_index (g.M.Guarded.shows c.enter.new.memory).words 2064)
-    (slice_index (g.M.Guarded.shows c.enter.new.memory).words 2065) c.at.result.on (effects c.self.inside.fault c.self.inside.ticks).held c.step_engine.new.engine
+    (slice_index (g.M.Guarded.shows c.enter.new.memory).words 2065) c.at.result.on (effects c.self.inside.fault c.self.inside.ticks).held_plate c.step_engine.new.engine
 steps g c =
     let words = (g.M.Guarded.shows c.enter.new.memory).words in
     let engine : c.self.inside.engine ≡ c.args.self.now.engine = ap (λ v. v.engine) c.self.view_is in
-    let held : c.held-held.result ≡ (effects c.self.inside.fault c.self.inside.ticks).held =
-    c.held-held.ensures ∙ ap (λ f. (effects f c.self.inside.ticks).held) c.as_ref-fault.ensures.value in
-    subst (λ e. g.E.Engine.steps e (slice_index words 2064) (slice_index words 2065) c.at.result.on (effects c.self.inside.fault c.self.inside.ticks).held
+    let held : c.held_plate-held_plate.result ≡ (effects c.self.inside.fault c.self.inside.ticks).held_plate =
+    c.held_plate-held_plate.ensures ∙ ap (λ f. (effects f c.self.inside.ticks).held_plate) c.as_ref-fault.ensures.value in
+    subst (λ e. g.E.Engine.steps e (slice_index words 2064) (slice_index words 2065) c.at.result.on (effects c.self.inside.fault c.self.inside.ticks).held_plate
     c.step_engine.new.engine) engine
     (subst (λ o. g.E.Engine.steps c.self.inside.engine (slice_index words 2064) (slice_index words 2065) c.at.result.on o c.step_engine.new.engine) held
     c.step_engine.ensures.steps)
@@ -235,7 +236,7 @@ returns-clause-row g c s h stands =
 pub returns-clause-engine : goal.returns-clause-engine
 returns-clause-engine g c s h stands =
     of_setting (λ t. g.E.Engine.steps c.args.self.now.engine (world_before t c.args.drive.now h).throttle (world_before t c.args.drive.now h).ignition
-    (next t (entry g c) h).on (effects_after t h).held c.step_engine.new.engine) (before g c) h
+    (next t (entry g c) h).on (effects_after t h).held_plate c.step_engine.new.engine) (before g c) h
     (λ image so. step-told (old g c) (new g c) _ _ _ _ _ (task g c) _ _ (advance g c) image h (enter g c _ h so)
     (λ throttle ignition on held. g.E.Engine.steps c.args.self.now.engine throttle ignition on held c.step_engine.new.engine)
     (steps g c))
@@ -247,6 +248,45 @@ returns-clause-keeps g c = still g c
 pub returns-in_err-step-clause-same_or_stepped : goal.returns-in_err-step-clause-same_or_stepped
 returns-in_err-step-clause-same_or_stepped g c s h stands =
     stepped _ g.E.Engine.steps s c.args.drive.now c.args.slices.now _ h c.args.self.now.kept _ c.enter.new.span c.enter.new.level1.host.registers
-    (g.M.Guarded.shows c.enter.new.memory) _ c.at.result _ c.held-held.result _ _ c.step_engine.new.engine (ap (λ v. v.kept) c.self.view_is)
+    (g.M.Guarded.shows c.enter.new.memory) _ c.at.result _ c.held_plate-held_plate.result _ _ c.step_engine.new.engine (ap (λ v. v.kept) c.self.view_is)
     c.as_ref-fault.ensures.value (ap (λ v. v.engine) c.self.view_is) stands c.reset.ensures.reset c.in_ok-enter.ensures.holds c.at.ensures.path1 c.at.ensures.path2
-    c.at.ensures.on c.held-held.ensures c.step_engine.ensures.steps
+    c.at.ensures.on c.held_plate-held_plate.ensures c.step_engine.ensures.steps
+
+pub returns-in_err-enter-clause-stands : goal.returns-in_err-enter-clause-stands
+returns-in_err-enter-clause-stands g c s h is = off_ok c.from_residual.result _ c.from_residual.ensures.0
+
+pub returns-in_err-enter-clause-row : goal.returns-in_err-enter-clause-row
+returns-in_err-enter-clause-row g c s h is = off_value c.from_residual.result _ c.from_residual.ensures.0
+
+pub returns-in_err-enter-clause-engine : goal.returns-in_err-enter-clause-engine
+returns-in_err-enter-clause-engine g c s h is = off_ok c.from_residual.result _ c.from_residual.ensures.0
+
+pub returns-in_err-enter-clause-ticks : goal.returns-in_err-enter-clause-ticks
+returns-in_err-enter-clause-ticks g c = off_ok c.from_residual.result _ c.from_residual.ensures.0
+
+pub returns-in_err-step-clause-stands : goal.returns-in_err-step-clause-stands
+returns-in_err-step-clause-stands g c s h is = off_ok c.from_residual-in_err-step.result _ c.from_residual-in_err-step.ensures.0
+
+pub returns-in_err-step-clause-row : goal.returns-in_err-step-clause-row
+returns-in_err-step-clause-row g c s h is = off_value c.from_residual-in_err-step.result _ c.from_residual-in_err-step.ensures.0
+
+pub returns-in_err-step-clause-engine : goal.returns-in_err-step-clause-engine
+returns-in_err-step-clause-engine g c s h is = off_ok c.from_residual-in_err-step.result _ c.from_residual-in_err-step.ensures.0
+
+pub returns-in_err-step-clause-ticks : goal.returns-in_err-step-clause-ticks
+returns-in_err-step-clause-ticks g c = off_ok c.from_residual-in_err-step.result _ c.from_residual-in_err-step.ensures.0
+
+pub returns-clause-loses : goal.returns-clause-loses
+returns-clause-loses g c = tt
+
+pub returns-clause-same_ticks : goal.returns-clause-same_ticks
+returns-clause-same_ticks g c = tt
+
+pub returns-clause-same_trap : goal.returns-clause-same_trap
+returns-clause-same_trap g c = tt
+
+pub returns-clause-same_or_stepped : goal.returns-clause-same_or_stepped
+returns-clause-same_or_stepped g c s h is = tt
+
+pub returns-clause-same_or_begun : goal.returns-clause-same_or_begun
+returns-clause-same_or_begun g c = tt

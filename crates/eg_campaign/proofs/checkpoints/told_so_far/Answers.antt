@@ -1,7 +1,7 @@
 use Rattle.std.proofs.Common.{length}
 use Rattle.eg_model.specs.Records.{rows_to}
 use Rattle.eg_tick.proofs.FactLaws.{told, tallied}
-use Rattle.eg_campaign.proofs.checkpoints.told_of.Goals as goal
+use Rattle.eg_campaign.proofs.checkpoints.told_so_far.Goals as goal
 
 pub returns : goal.returns
 returns g c = λ r is.

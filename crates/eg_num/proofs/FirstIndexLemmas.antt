@@ -3,7 +3,7 @@ use Rattle.std.proofs.Common.{◌≡◌, ℕ, suc, ◌<◌, inl, inr, Bool, true
 use Rattle.std.proofs.lemmas.Bool.{cases_Bool, or_left, or_right, false≢true, true≢false}
 use Rattle.std.proofs.lemmas.Option.{none-some, same_Some}
 use Rattle.std.specs.Prelude.{if◌then◌else◌, Option, Some, is_some}
-use Rattle.eg_num.specs.Windows.{WeightParts, is_reached, is_confirmed, is_first, first_place}
+use Rattle.eg_num.specs.Windows.{WeightParts, is_reached, is_confirmed, is_first, first_index}
 
 -- a list that is reached is confirmed
 pub is_reached_confirmed : (w : WeightParts) (b : Bool) (bits : List Bool) → is_reached w (b ∷ bits) ≡ true → is_confirmed w (b ∷ bits) ≡ true
@@ -50,10 +50,10 @@ is_first_from w b bits now before = is_first-cons w b bits ∙ both _ _ now befo
     both false false e f = e
 
 -- there is a first place exactly where the list is confirmed
-pub is_some-first_place : (w : WeightParts) (bits : List Bool) → is_some (first_place w bits) ≡ is_confirmed w bits
-unfolding first_place is_first is_confirmed
-is_some-first_place w [] = refl
-is_some-first_place w (b ∷ bits) = now (is_reached w (b ∷ bits)) (is_confirmed w bits) (length bits) (first_place w bits) (is_some-first_place w bits)
+pub is_some-first_index : (w : WeightParts) (bits : List Bool) → is_some (first_index w bits) ≡ is_confirmed w bits
+unfolding first_index is_first is_confirmed
+is_some-first_index w [] = refl
+is_some-first_index w (b ∷ bits) = now (is_reached w (b ∷ bits)) (is_confirmed w bits) (length bits) (first_index w bits) (is_some-first_index w bits)
   where
     now : (reached before : Bool) (n : ℕ) (place : Option ℕ) → is_some place ≡ before → is_some (if reached && not before then Some n else place) ≡ (reached || before)
     now true true n place e = e
@@ -61,13 +61,13 @@ is_some-first_place w (b ∷ bits) = now (is_reached w (b ∷ bits)) (is_confirm
     now false before n place e = e
 
 -- where there is a first place, the list is confirmed
-pub first_place-confirmed : (w : WeightParts) (bits : List Bool) (t : ℕ) → first_place w bits ≡ Some t → is_confirmed w bits ≡ true
-first_place-confirmed w bits t place = sym (is_some-first_place w bits) ∙ ap is_some place
+pub first_index-confirmed : (w : WeightParts) (bits : List Bool) (t : ℕ) → first_index w bits ≡ Some t → is_confirmed w bits ≡ true
+first_index-confirmed w bits t place = sym (is_some-first_index w bits) ∙ ap is_some place
 
 -- a confirmed list keeps its first place
-pub first_place-cons : (w : WeightParts) (b : Bool) (bits : List Bool) → is_confirmed w bits ≡ true → first_place w (b ∷ bits) ≡ first_place w bits
-unfolding first_place is_first
-first_place-cons w b bits confirmed = keeps (is_reached w (b ∷ bits)) (is_confirmed w bits) (length bits) (first_place w bits) confirmed
+pub first_index-cons : (w : WeightParts) (b : Bool) (bits : List Bool) → is_confirmed w bits ≡ true → first_index w (b ∷ bits) ≡ first_index w bits
+unfolding first_index is_first
+first_index-cons w b bits confirmed = keeps (is_reached w (b ∷ bits)) (is_confirmed w bits) (length bits) (first_index w bits) confirmed
   where
     keeps : (reached before : Bool) (n : ℕ) (place : Option ℕ) → before ≡ true → (if reached && not before then Some n else place) ≡ place
     keeps true true n place e = refl
@@ -75,37 +75,37 @@ first_place-cons w b bits confirmed = keeps (is_reached w (b ∷ bits)) (is_conf
     keeps false before n place e = refl
 
 -- a first place stays as the list goes on by one feed
-pub first_place_stays : (w : WeightParts) (b : Bool) (bits : List Bool) (t : ℕ) → first_place w bits ≡ Some t → first_place w (b ∷ bits) ≡ Some t
-first_place_stays w b bits t place = first_place-cons w b bits (first_place-confirmed w bits t place) ∙ place
+pub first_index_stays : (w : WeightParts) (b : Bool) (bits : List Bool) (t : ℕ) → first_index w bits ≡ Some t → first_index w (b ∷ bits) ≡ Some t
+first_index_stays w b bits t place = first_index-cons w b bits (first_index-confirmed w bits t place) ∙ place
 
 -- a first place stays as the list goes on
-pub first_place-append : (w : WeightParts) (more bits : List Bool) (t : ℕ) → first_place w bits ≡ Some t → first_place w (more ++ bits) ≡ Some t
-first_place-append w [] bits t place = place
-first_place-append w (b ∷ more) bits t place = first_place_stays w b (more ++ bits) t (first_place-append w more bits t place)
+pub first_index-append : (w : WeightParts) (more bits : List Bool) (t : ℕ) → first_index w bits ≡ Some t → first_index w (more ++ bits) ≡ Some t
+first_index-append w [] bits t place = place
+first_index-append w (b ∷ more) bits t place = first_index_stays w b (more ++ bits) t (first_index-append w more bits t place)
 
 -- where the last feed is the first at which it is reached, its place is the first place
-pub first_place-first : (w : WeightParts) (b : Bool) (bits : List Bool) → is_first w (b ∷ bits) ≡ true → first_place w (b ∷ bits) ≡ Some (length bits)
-unfolding first_place
-first_place-first w b bits first = ap (λ here. if here then Some (length bits) else first_place w bits) first
+pub first_index-first : (w : WeightParts) (b : Bool) (bits : List Bool) → is_first w (b ∷ bits) ≡ true → first_index w (b ∷ bits) ≡ Some (length bits)
+unfolding first_index
+first_index-first w b bits first = ap (λ here. if here then Some (length bits) else first_index w bits) first
 
 -- where it isn't, the first place is what it was
-pub first_place-other : (w : WeightParts) (b : Bool) (bits : List Bool) → is_first w (b ∷ bits) ≡ false → first_place w (b ∷ bits) ≡ first_place w bits
-unfolding first_place
-first_place-other w b bits other = ap (λ here. if here then Some (length bits) else first_place w bits) other
+pub first_index-other : (w : WeightParts) (b : Bool) (bits : List Bool) → is_first w (b ∷ bits) ≡ false → first_index w (b ∷ bits) ≡ first_index w bits
+unfolding first_index
+first_index-other w b bits other = ap (λ here. if here then Some (length bits) else first_index w bits) other
 
 -- a first place is a place of the list
-pub first_place_within : (w : WeightParts) (bits : List Bool) (t : ℕ) → first_place w bits ≡ Some t → t < length bits
-unfolding first_place
-first_place_within w [] t place = absurd (none-some t place)
-first_place_within w (b ∷ bits) t place = within (is_first w (b ∷ bits)) (length bits) (first_place w bits) (first_place_within w bits t) place
+pub first_index_within : (w : WeightParts) (bits : List Bool) (t : ℕ) → first_index w bits ≡ Some t → t < length bits
+unfolding first_index
+first_index_within w [] t place = absurd (none-some t place)
+first_index_within w (b ∷ bits) t place = within (is_first w (b ∷ bits)) (length bits) (first_index w bits) (first_index_within w bits t) place
   where
     within : (here : Bool) (n : ℕ) (before : Option ℕ) → (before ≡ Some t → t < n) → (if here then Some n else before) ≡ Some t → t < suc n
     within true n before low e = let same = same_Some n t e in omega arith
     within false n before low e = let earlier = low e in omega arith
 
 -- where the first place is that of the last feed, the last feed is the first at which it is reached
-pub is_first_at : (w : WeightParts) (b : Bool) (bits : List Bool) → first_place w (b ∷ bits) ≡ Some (length bits) → is_first w (b ∷ bits) ≡ true
+pub is_first_at : (w : WeightParts) (b : Bool) (bits : List Bool) → first_index w (b ∷ bits) ≡ Some (length bits) → is_first w (b ∷ bits) ≡ true
 is_first_at w b bits place = elim (cases_Bool (is_first w (b ∷ bits))) [
   | inl first ↦ first
-  | inr other ↦ absurd (let before = first_place_within w bits (length bits) (sym (first_place-other w b bits other) ∙ place) in omega arith)
+  | inr other ↦ absurd (let before = first_index_within w bits (length bits) (sym (first_index-other w b bits other) ∙ place) in omega arith)
 ]

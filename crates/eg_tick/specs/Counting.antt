@@ -1,0 +1,29 @@
+-- How the ticks that are made are counted. Rows stand here in the order in which their ticks are made.
+use Rattle.std.specs.Prelude.{◌≡◌, ℕ, ◌+◌, ◌%◌, ◌^◌, ◌≤◌, List, map, take, length, Result, Ok, Err}
+use Rattle.std.specs.List.{sum}
+use Rattle.eg_record.specs.declared.row.Row.{Row}
+use Rattle.eg_tick.specs.Weights.{TickCount, weight_of}
+
+-- the count after these rows were made: so many ticks more, and what their rows weigh
+abbrev pub count_with : TickCount → List Row → TickCount
+count_with was rows = record {
+  count = (was.count + length rows) % 2 ^ 64;
+  weights = (was.weights + sum (map weight_of rows)) % 2 ^ 64;
+}
+
+-- Memory ran out before these rows were made, among them, or behind them. So many of their ticks were begun,
+-- in order, and are counted. Weighed are the rows of all of those; or of all but the last, where memory ran
+-- out within it.
+pub record RanOutAmong (rows : List Row) (was is : TickCount) : Type 0 where
+  pub begun : ℕ
+  pub made : ℕ
+  pub most : begun ≤ length rows
+  pub in_order : made ≤ begun
+  pub but_one : begun ≤ made + 1
+  pub counted : is.count ≡ (was.count + begun) % 2 ^ 64
+  pub weighed : is.weights ≡ (was.weights + sum (map weight_of (take made rows))) % 2 ^ 64
+
+-- on Ok these rows were made and counted; on Err memory ran out
+abbrev pub AreCounted : {T E : Type 0} → List Row → TickCount → TickCount → Result T E → Type 0
+AreCounted rows was is (Ok value) = is ≡ count_with was rows
+AreCounted rows was is (Err e) = RanOutAmong rows was is
