@@ -22,7 +22,7 @@ use Rattle.eg_level2.specs.Inputs.{row_of}
 use Rattle.eg_level2.specs.Phases.{feeds, sends, orders}
 use Rattle.eg_level2.specs.Modules.{marked, check_step, given_up, written, signed, pedal_step, permitted_step, actual_step, excess_step, pairs_step, pedal_bit, plate_bit, load_bit, speed_bit, torque_bit, feeds_now, counted, is_found, debounced, limits, trips, debounce_step, closed_flow, opens_now, answers_now, number_of, answer_of, react_step, module_step}
 use Rattle.eg_fault.specs.Effects.{no_effects, readings_under, contacts_under, sends_in, sends_at, asked_in, asked_at}
-use Rattle.eg_fault.specs.Faults.{is_left_out, does, effects}
+use Rattle.eg_fault.specs.Faults.{is_left_out, effects_of, effects}
 use Rattle.eg_fault.specs.declared.class.Class.TheVariants.{Lapse, Skip, Disturb, Flip}
 use Rattle.eg_fault.specs.declared.class.Fault.{Fault}
 use Rattle.eg_flow.specs.Ticks.{inputs_for, after_module, after_modules, after_tick, answer_at, orders_at}
@@ -51,7 +51,7 @@ unfolding value_at permitted is_excess mixed pedal_result permitted_result estim
     permitted_step actual_step excess_step pairs_step has_bit pedal_bit plate_bit load_bit speed_bit torque_bit feeds_now counted is_found debounced
     limits trips debounce_step closed_flow answers_now react_step module_step inputs_for after_module after_modules after_tick start
     answer_of number_of answer_at period_of place_of is_send_tick asked no_effects readings_under contacts_under sends_in sends_at asked_in asked_at
-    is_left_out does effects is_braking sensed_at readings_at ticks drives feeds_to_confirm test_ticks_of is_told_to_open feeds sends orders phase_at doing_at
+    is_left_out effects_of effects is_braking sensed_at readings_at ticks drives feeds_to_confirm test_ticks_of is_told_to_open feeds sends orders phase_at doing_at
     doing_after words_over
 sent kind fault tick =
     let s = under fault in

@@ -8,7 +8,7 @@ use Rattle.std.specs.Str.{bytes_eq}
 use Rattle.std.proofs.lemmas.Slice.Eq.{bytes_eq-Decides}
 use Rattle.eg_asm.specs.Forms.{Form, form_named}
 use Rattle.eg_asm.specs.Grammar.{Value, Item, Nothing, Comment, Label, Instruction}
-use Rattle.eg_asm.specs.Words.{Labels, size, word_count, labels_from, labels_of, place_of}
+use Rattle.eg_asm.specs.Words.{Labels, size, word_count, labels_from, labels_of, address_of}
 use Rattle.eg_asm.specs.Encodings.{Encoded, Told, told, encoded}
 use Rattle.eg_asm.specs.Encodings as tells
 use Rattle.eg_asm.specs.Kept.{numbered, instructions_from, is_repeat, repeat_behind, Keeps, HasForm}
@@ -84,20 +84,20 @@ pub repeat-one : (items : List Item) (item : Item)
 repeat-one items item = repeat_behind-append [] items item
 
 -- the place of a label
-lookup-append : (name : List ℕ) (xs ys : Labels) → place_of (xs ++ ys) name ≡ option_or (place_of xs name) (place_of ys name)
+lookup-append : (name : List ℕ) (xs ys : Labels) → address_of (xs ++ ys) name ≡ option_or (address_of xs name) (address_of ys name)
 lookup-append name [] ys = refl
 lookup-append name (x ∷ xs) ys = at (bytes_eq name x.0) (lookup-append name xs ys)
   where
-    at : (b : Bool) → place_of (xs ++ ys) name ≡ option_or (place_of xs name) (place_of ys name)
-        → cond b (Some x.1) (place_of (xs ++ ys) name) ≡ option_or (cond b (Some x.1) (place_of xs name)) (place_of ys name)
+    at : (b : Bool) → address_of (xs ++ ys) name ≡ option_or (address_of xs name) (address_of ys name)
+        → cond b (Some x.1) (address_of (xs ++ ys) name) ≡ option_or (cond b (Some x.1) (address_of xs name)) (address_of ys name)
     at true h = refl
     at false h = h
 
 pub labels-one : (items : List Item) (item : Item) (name : List ℕ)
-    → place_of (labels_of (items ++ item ∷ [])) name ≡ option_or (place_of (labels_of items) name) (place_of (labels_from (word_count items) (item ∷ [])) name)
+    → address_of (labels_of (items ++ item ∷ [])) name ≡ option_or (address_of (labels_of items) name) (address_of (labels_from (word_count items) (item ∷ [])) name)
 labels-one items item name =
     let same : 0 + word_count items ≡ word_count items = omega arith in
-    ap (λ (ls : Labels). place_of ls name) (labels_from-append 0 items (item ∷ []) ∙ rw same refl)
+    ap (λ (ls : Labels). address_of ls name) (labels_from-append 0 items (item ∷ []) ∙ rw same refl)
     ∙ lookup-append name (labels_of items) (labels_from (word_count items) (item ∷ []))
 
 -- ---- what is kept ----
@@ -114,14 +114,14 @@ keeps-start name_of place none = record { all = refl; count = refl; labels = non
 -- what an item adds
 keeps-more : {K : Type 0} (name_of : K → List ℕ) (items : List Item) (item : Item) (instructions : List (ℕ × Encoded)) (place now : K → Option ℕ) (repeated later : Option ℕ)
     → length (cons_option (numbered (length items + 1) (told item)) []) ≡ size item
-    → ((key : K) → now key ≡ option_or (place key) (place_of (labels_from (word_count items) (item ∷ [])) (name_of key)))
+    → ((key : K) → now key ≡ option_or (place key) (address_of (labels_from (word_count items) (item ∷ [])) (name_of key)))
     → later ≡ option_or repeated (cond (is_repeat items item) (Some (length items + 1)) None)
     → Keeps name_of items instructions place repeated
     → Keeps name_of (items ++ item ∷ []) (instructions ++ cons_option (numbered (length items + 1) (told item)) []) now later
 keeps-more name_of items item instructions place now repeated later sized found again k = record {
   all = ap (λ (is : List (ℕ × Encoded)). is ++ cons_option (numbered (length items + 1) (told item)) []) k.all ∙ sym (instructions_from-one items item);
   count = (let counted = k.count in omega (arith, length-append instructions (cons_option (numbered (length items + 1) (told item)) []), sized, word_count-one items item));
-  labels = λ key. found key ∙ ap (λ o. option_or o (place_of (labels_from (word_count items) (item ∷ [])) (name_of key))) (k.labels key)
+  labels = λ key. found key ∙ ap (λ o. option_or o (address_of (labels_from (word_count items) (item ∷ [])) (name_of key))) (k.labels key)
       ∙ sym (labels-one items item (name_of key));
   repeat = again ∙ ap (λ o. option_or o (cond (is_repeat items item) (Some (length items + 1)) None)) k.repeat ∙ sym (repeat-one items item);
 }
@@ -168,23 +168,23 @@ keeps-again_label : {K : Type 0} (name_of : K → List ℕ) (items : List Item) 
     → Keeps name_of (items ++ Label (name_of key) ∷ []) instructions place (option_or repeated (Some (length items + 1)))
 unfolding told numbered size labels_from is_repeat
 keeps-again_label {K = K} name_of items instructions place repeated key some k =
-    let there : is_some (place_of (labels_of items) (name_of key)) ≡ true = ap is_some (sym (k.labels key)) ∙ some in
+    let there : is_some (address_of (labels_of items) (name_of key)) ≡ true = ap is_some (sym (k.labels key)) ∙ some in
     let P : List (ℕ × Encoded) → Type 0 = λ is. Keeps name_of (items ++ Label (name_of key) ∷ []) is place (option_or repeated (Some (length items + 1))) in
     subst P (append-nil instructions)
     (keeps-more name_of items (Label (name_of key)) instructions place place repeated (option_or repeated (Some (length items + 1))) refl
     (λ other. at other (place other) (k.labels other) there) (rw there refl) k)
   where
-    here : (a b : List ℕ) (o : Option ℕ) → place_of (labels_of items) a ≡ o → is_some (place_of (labels_of items) b) ≡ true → (t : Bool)
+    here : (a b : List ℕ) (o : Option ℕ) → address_of (labels_of items) a ≡ o → is_some (address_of (labels_of items) b) ≡ true → (t : Bool)
         → bytes_eq a b ≡ t → o ≡ option_or o (cond t (Some (word_count items)) None)
     here a b (Some n) is there t same = refl
     here a b None is there false same = refl
     here a b None is there true same =
         let one : a ≡ b = (bytes_eq-Decides a b).0 same in
-        let none = ap (λ (n : List ℕ). is_some (place_of (labels_of items) n)) (sym one) ∙ ap is_some is in
+        let none = ap (λ (n : List ℕ). is_some (address_of (labels_of items) n)) (sym one) ∙ ap is_some is in
         absurd cc
 
-    at : (other : K) (o : Option ℕ) → o ≡ place_of (labels_of items) (name_of other) → is_some (place_of (labels_of items) (name_of key)) ≡ true
-        → o ≡ option_or o (place_of (labels_from (word_count items) (Label (name_of key) ∷ [])) (name_of other))
+    at : (other : K) (o : Option ℕ) → o ≡ address_of (labels_of items) (name_of other) → is_some (address_of (labels_of items) (name_of key)) ≡ true
+        → o ≡ option_or o (address_of (labels_from (word_count items) (Label (name_of key) ∷ [])) (name_of other))
     at other o is there = here (name_of other) (name_of key) o (sym is) there (bytes_eq (name_of other) (name_of key)) refl
 
 -- a label that doesn't
@@ -193,19 +193,19 @@ keeps-new_label : {K : Type 0} (name_of : K → List ℕ) (items : List Item) (i
     → Keeps name_of items instructions place repeated → Keeps name_of (items ++ Label (name_of key) ∷ []) instructions now repeated
 unfolding told numbered size labels_from is_repeat
 keeps-new_label {K = K} name_of items instructions place now repeated key none put k =
-    let absent : is_some (place_of (labels_of items) (name_of key)) ≡ false = ap is_some (sym (k.labels key)) ∙ none in
+    let absent : is_some (address_of (labels_of items) (name_of key)) ≡ false = ap is_some (sym (k.labels key)) ∙ none in
     let P : List (ℕ × Encoded) → Type 0 = λ is. Keeps name_of (items ++ Label (name_of key) ∷ []) is now repeated in
     subst P (append-nil instructions)
     (keeps-more name_of items (Label (name_of key)) instructions place now repeated repeated refl (λ other. put other ∙ at other absent) (rw absent (option_or-none repeated)) k)
   where
-    here : (a b : List ℕ) (o : Option ℕ) → place_of (labels_of items) b ≡ o → is_some (place_of (labels_of items) a) ≡ false → (t s : Bool) → bytes_eq a b ≡ t → bytes_eq b a ≡ s
+    here : (a b : List ℕ) (o : Option ℕ) → address_of (labels_of items) b ≡ o → is_some (address_of (labels_of items) a) ≡ false → (t s : Bool) → bytes_eq a b ≡ t → bytes_eq b a ≡ s
         → cond t (Some (word_count items)) o ≡ option_or o (cond s (Some (word_count items)) None)
     here a b None is absent true true same back = refl
     here a b None is absent false false same back = refl
     here a b (Some n) is absent false s same back = refl
     here a b (Some n) is absent true s same back =
         let one : a ≡ b = (bytes_eq-Decides a b).0 same in
-        let some = ap (λ (n : List ℕ). is_some (place_of (labels_of items) n)) one ∙ ap is_some is in
+        let some = ap (λ (n : List ℕ). is_some (address_of (labels_of items) n)) one ∙ ap is_some is in
         absurd cc
     here a b None is absent true false same back =
         let one : a ≡ b = (bytes_eq-Decides a b).0 same in
@@ -216,13 +216,13 @@ keeps-new_label {K = K} name_of items instructions place now repeated key none p
         let again = (bytes_eq-Decides a b).1 (sym one) in
         absurd cc
 
-    at : (other : K) → is_some (place_of (labels_of items) (name_of key)) ≡ false
+    at : (other : K) → is_some (address_of (labels_of items) (name_of key)) ≡ false
         → cond (bytes_eq (name_of key) (name_of other)) (Some (word_count items)) (place other)
-        ≡ option_or (place other) (place_of (labels_from (word_count items) (Label (name_of key) ∷ [])) (name_of other))
+        ≡ option_or (place other) (address_of (labels_from (word_count items) (Label (name_of key) ∷ [])) (name_of other))
     at other absent =
         let P : Option ℕ → Type 0 = λ o. cond (bytes_eq (name_of key) (name_of other)) (Some (word_count items)) o
-        ≡ option_or o (place_of (labels_from (word_count items) (Label (name_of key) ∷ [])) (name_of other)) in
-        subst P (sym (k.labels other)) (here (name_of key) (name_of other) (place_of (labels_of items) (name_of other)) refl absent
+        ≡ option_or o (address_of (labels_from (word_count items) (Label (name_of key) ∷ [])) (name_of other)) in
+        subst P (sym (k.labels other)) (here (name_of key) (name_of other) (address_of (labels_of items) (name_of other)) refl absent
         (bytes_eq (name_of key) (name_of other)) (bytes_eq (name_of other) (name_of key)) refl refl)
 
 -- items that tell these labels

@@ -7,7 +7,7 @@ use Rattle.eg_asm.specs.declared.operand.Operand.{Operand}
 use Rattle.eg_asm.specs.declared.operand.Operand.TheVariants as operand
 use Rattle.eg_asm.specs.Forms.{Form, forms, form_named}
 use Rattle.eg_asm.specs.Grammar.{Value, Register, Number, Name, Distance, Fits, Item, Nothing, Comment, Label, Instruction, IsItem}
-use Rattle.eg_asm.specs.Words.{Labels, size, word_count, labels_of, place_of, complement_of, distance_to, field_of, added, fields_of, word_with, word_of, word_at, words_from, words_of, is_sound, fault_behind, first_fault}
+use Rattle.eg_asm.specs.Words.{Labels, size, word_count, labels_of, address_of, complement_of, distance_to, field_of, added, fields_of, word_with, word_of, word_at, words_from, words_of, is_sound, fault_behind, first_fault}
 use Rattle.eg_asm.specs.Encodings.{Encoded, capped, capped_target, with_operand, with_operands, encoded, Told, told}
 use Rattle.eg_asm.specs.Encodings as tells
 use Rattle.eg_asm.specs.Kept.{numbered, instructions_from, is_repeat, repeat_behind}
@@ -43,13 +43,13 @@ complement-capped reach (negsuc n) small = at (nat_le n 65535) refl
         rw (same, past, far) refl
 
 -- what a target adds
-target-field : (labels : Labels) (place reach : ℕ) (value : Value) → reach ≤ 65535 → Fits (operand.Target reach) value
-    → option_and_then (complement_of reach) (distance_to labels place (capped_target value)) ≡ field_of labels place (operand.Target reach) value
+target-field : (labels : Labels) (address reach : ℕ) (value : Value) → reach ≤ 65535 → Fits (operand.Target reach) value
+    → option_and_then (complement_of reach) (distance_to labels address (capped_target value)) ≡ field_of labels address (operand.Target reach) value
 unfolding distance_to capped_target field_of Fits
-target-field labels place reach (Name name) small fits = refl
-target-field labels place reach (Distance d) small fits = complement-capped reach d small
-target-field labels place reach (Register n) small fits = absurd fits
-target-field labels place reach (Number n) small fits = absurd fits
+target-field labels address reach (Name name) small fits = refl
+target-field labels address reach (Distance d) small fits = complement-capped reach d small
+target-field labels address reach (Register n) small fits = absurd fits
+target-field labels address reach (Number n) small fits = absurd fits
 
 -- ---- forms ----
 
@@ -85,85 +85,85 @@ added-zero None = refl
 added-zero (Some n) = let same : n + 0 ≡ n = omega arith in rw same refl
 
 -- what an operand adds that is no target
-pub record AddsPlain (labels : Labels) (place word : ℕ) (o : Operand) (value : Value) : Type 0 where
+pub record AddsPlain (labels : Labels) (address word : ℕ) (o : Operand) (value : Value) : Type 0 where
   n : ℕ
-  field : field_of labels place o value ≡ Some n
+  field : field_of labels address o value ≡ Some n
   kept : with_operand (record { word = word; jump = None }) o value ≡ record { word = word + n; jump = None }
 
-plain : (labels : Labels) (place word : ℕ) (o : Operand) (value : Value) → is_target o ≡ false → Fits o value → AddsPlain labels place word o value
+plain : (labels : Labels) (address word : ℕ) (o : Operand) (value : Value) → is_target o ≡ false → Fits o value → AddsPlain labels address word o value
 unfolding field_of with_operand Fits
-plain labels place word (operand.Register weight) (Register n) other fits = record { n = n * weight; field = refl; kept = refl }
-plain labels place word (operand.Number most) (Number n) other fits = record { n = n; field = refl; kept = refl }
-plain labels place word (operand.Target reach) value other fits = absurd cc
-plain labels place word (operand.Register weight) (Number n) other fits = absurd fits
-plain labels place word (operand.Register weight) (Name name) other fits = absurd fits
-plain labels place word (operand.Register weight) (Distance d) other fits = absurd fits
-plain labels place word (operand.Number most) (Register n) other fits = absurd fits
-plain labels place word (operand.Number most) (Name name) other fits = absurd fits
-plain labels place word (operand.Number most) (Distance d) other fits = absurd fits
+plain labels address word (operand.Register weight) (Register n) other fits = record { n = n * weight; field = refl; kept = refl }
+plain labels address word (operand.Number most) (Number n) other fits = record { n = n; field = refl; kept = refl }
+plain labels address word (operand.Target reach) value other fits = absurd cc
+plain labels address word (operand.Register weight) (Number n) other fits = absurd fits
+plain labels address word (operand.Register weight) (Name name) other fits = absurd fits
+plain labels address word (operand.Register weight) (Distance d) other fits = absurd fits
+plain labels address word (operand.Number most) (Register n) other fits = absurd fits
+plain labels address word (operand.Number most) (Name name) other fits = absurd fits
+plain labels address word (operand.Number most) (Distance d) other fits = absurd fits
 
 -- what a target adds that stands alone
-alone : (labels : Labels) (place word : ℕ) (o : Operand) (value : Value) → is_target o ≡ true → is_near o ≡ true → Fits o value
-    → completed labels place (with_operand (record { word = word; jump = None }) o value) ≡ option_map (λ field. word + field) (added (field_of labels place o value) (Some 0))
+alone : (labels : Labels) (address word : ℕ) (o : Operand) (value : Value) → is_target o ≡ true → is_near o ≡ true → Fits o value
+    → completed labels address (with_operand (record { word = word; jump = None }) o value) ≡ option_map (λ field. word + field) (added (field_of labels address o value) (Some 0))
 unfolding completed jump_field with_operand
-alone labels place word (operand.Register weight) value target near fits = absurd cc
-alone labels place word (operand.Number most) value target near fits = absurd cc
-alone labels place word (operand.Target reach) value target near fits =
+alone labels address word (operand.Register weight) value target near fits = absurd cc
+alone labels address word (operand.Number most) value target near fits = absurd cc
+alone labels address word (operand.Target reach) value target near fits =
     let small : reach ≤ 65535 = grind (arith, nat_tests) in
-    ap (option_map (λ field. word + field)) (target-field labels place reach value small fits ∙ added-zero (field_of labels place (operand.Target reach) value))
+    ap (option_map (λ field. word + field)) (target-field labels address reach value small fits ∙ added-zero (field_of labels address (operand.Target reach) value))
 
 -- one operand more
-one-operand : (labels : Labels) (place word : ℕ) (o : Operand) (operands : List Operand) (value : Value) (values : List Value) → is_target o ≡ false → Fits o value
-    → ((word : ℕ) → completed labels place (with_operands (record { word = word; jump = None }) operands values)
-    ≡ option_map (λ field. word + field) (fields_of labels place operands values))
-    → completed labels place (with_operands (record { word = word; jump = None }) (o ∷ operands) (value ∷ values))
-    ≡ option_map (λ field. word + field) (fields_of labels place (o ∷ operands) (value ∷ values))
+one-operand : (labels : Labels) (address word : ℕ) (o : Operand) (operands : List Operand) (value : Value) (values : List Value) → is_target o ≡ false → Fits o value
+    → ((word : ℕ) → completed labels address (with_operands (record { word = word; jump = None }) operands values)
+    ≡ option_map (λ field. word + field) (fields_of labels address operands values))
+    → completed labels address (with_operands (record { word = word; jump = None }) (o ∷ operands) (value ∷ values))
+    ≡ option_map (λ field. word + field) (fields_of labels address (o ∷ operands) (value ∷ values))
 unfolding with_operands fields_of
-one-operand labels place word o operands value values other fits more =
-    let p = plain labels place word o value other fits in
-    ap (λ e. completed labels place (with_operands e operands values)) p.kept ∙ more (word + p.n) ∙ add-more word p.n (fields_of labels place operands values)
-    ∙ ap (λ field. option_map (λ field. word + field) (added field (fields_of labels place operands values))) (sym p.field)
+one-operand labels address word o operands value values other fits more =
+    let p = plain labels address word o value other fits in
+    ap (λ e. completed labels address (with_operands e operands values)) p.kept ∙ more (word + p.n) ∙ add-more word p.n (fields_of labels address operands values)
+    ∙ ap (λ field. option_map (λ field. word + field) (added field (fields_of labels address operands values))) (sym p.field)
 
 -- the word of what is kept of operands
 completed-operands : (labels : Labels) (operands : List Operand) (values : List Value) → last_target operands ≡ true
     → list_all is_near operands ≡ true → AllZip Fits operands values
-    → (place word : ℕ) → completed labels place (with_operands (record { word = word; jump = None }) operands values)
-    ≡ option_map (λ field. word + field) (fields_of labels place operands values)
+    → (address word : ℕ) → completed labels address (with_operands (record { word = word; jump = None }) operands values)
+    ≡ option_map (λ field. word + field) (fields_of labels address operands values)
 unfolding completed jump_field with_operands fields_of
-completed-operands labels [] [] last near fit place word = refl
-completed-operands labels [] (value ∷ values) last near fit place word = absurd fit
-completed-operands labels (o ∷ operands) [] last near fit place word = absurd fit
-completed-operands labels (o ∷ []) (value ∷ []) last near fit place word = at (is_target o) (is_near o) refl refl near
+completed-operands labels [] [] last near fit address word = refl
+completed-operands labels [] (value ∷ values) last near fit address word = absurd fit
+completed-operands labels (o ∷ operands) [] last near fit address word = absurd fit
+completed-operands labels (o ∷ []) (value ∷ []) last near fit address word = at (is_target o) (is_near o) refl refl near
   where
     at : (t n : Bool) → is_target o ≡ t → is_near o ≡ n → (n && true) ≡ true
-        → completed labels place (with_operand (record { word = word; jump = None }) o value) ≡ option_map (λ field. word + field) (added (field_of labels place o value) (Some 0))
-    at true true target near h = alone labels place word o value target near fit.0
-    at false true other near h = one-operand labels place word o [] value [] other fit.0 (λ word. refl)
+        → completed labels address (with_operand (record { word = word; jump = None }) o value) ≡ option_map (λ field. word + field) (added (field_of labels address o value) (Some 0))
+    at true true target near h = alone labels address word o value target near fit.0
+    at false true other near h = one-operand labels address word o [] value [] other fit.0 (λ word. refl)
     at t false target near h = absurd cc
-completed-operands labels (o ∷ []) (value ∷ more ∷ values) last near fit place word = absurd fit.1
-completed-operands labels (o ∷ p ∷ operands) (value ∷ values) last near fit place word =
-    at (is_target o) (is_near o) refl last near (λ last near. completed-operands labels (p ∷ operands) values last near fit.1 place)
+completed-operands labels (o ∷ []) (value ∷ more ∷ values) last near fit address word = absurd fit.1
+completed-operands labels (o ∷ p ∷ operands) (value ∷ values) last near fit address word =
+    at (is_target o) (is_near o) refl last near (λ last near. completed-operands labels (p ∷ operands) values last near fit.1 address)
   where
     at : (t n : Bool) → is_target o ≡ t → (not t && last_target (p ∷ operands)) ≡ true → (n && list_all is_near (p ∷ operands)) ≡ true
         → (last_target (p ∷ operands) ≡ true → list_all is_near (p ∷ operands) ≡ true → (word : ℕ)
-        → completed labels place (with_operands (record { word = word; jump = None }) (p ∷ operands) values)
-        ≡ option_map (λ field. word + field) (fields_of labels place (p ∷ operands) values))
-        → completed labels place (with_operands (record { word = word; jump = None }) (o ∷ p ∷ operands) (value ∷ values))
-        ≡ option_map (λ field. word + field) (fields_of labels place (o ∷ p ∷ operands) (value ∷ values))
+        → completed labels address (with_operands (record { word = word; jump = None }) (p ∷ operands) values)
+        ≡ option_map (λ field. word + field) (fields_of labels address (p ∷ operands) values))
+        → completed labels address (with_operands (record { word = word; jump = None }) (o ∷ p ∷ operands) (value ∷ values))
+        ≡ option_map (λ field. word + field) (fields_of labels address (o ∷ p ∷ operands) (value ∷ values))
     at true n target last near more = absurd cc
-    at false true other last near more = one-operand labels place word o (p ∷ operands) value values other fit.0 (more last near)
+    at false true other last near more = one-operand labels address word o (p ∷ operands) value values other fit.0 (more last near)
     at false false other last near more = absurd cc
 
 -- the word of what is kept of an instruction
-pub completed-word : (labels : Labels) (place : ℕ) (mnemonic : List ℕ) (values : List Value) (f : Form) → form_named mnemonic ≡ Some f → AllZip Fits f.operands values
-    → completed labels place (encoded f values) ≡ word_of labels place mnemonic values
+pub completed-word : (labels : Labels) (address : ℕ) (mnemonic : List ℕ) (values : List Value) (f : Form) → form_named mnemonic ≡ Some f → AllZip Fits f.operands values
+    → completed labels address (encoded f values) ≡ word_of labels address mnemonic values
 unfolding word_of word_with
-completed-word labels place mnemonic values f named fit =
+completed-word labels address mnemonic values f named fit =
     rw named (at (last_target f.operands) (list_all is_near f.operands) refl refl (each_form (λ f. last_target f.operands && list_all is_near f.operands) shaped mnemonic f named))
   where
     at : (a b : Bool) → last_target f.operands ≡ a → list_all is_near f.operands ≡ b → (a && b) ≡ true
-        → completed labels place (encoded f values) ≡ option_map (λ fields. f.base + fields) (fields_of labels place f.operands values)
-    at true true last near h = completed-operands labels f.operands values last near fit place f.base
+        → completed labels address (encoded f values) ≡ option_map (λ fields. f.base + fields) (fields_of labels address f.operands values)
+    at true true last near h = completed-operands labels f.operands values last near fit address f.base
     at true false last near h = absurd cc
     at false b last near h = absurd cc
 
@@ -171,7 +171,7 @@ completed-word labels place mnemonic values f named fit =
 
 -- the place, where there is one, is at least so far
 abbrev From : ℕ → Option ℕ → Type 0
-From least o = (place : ℕ) → o ≡ Some place → least ≤ place
+From least o = (address : ℕ) → o ≡ Some address → least ≤ address
 
 numbered-line : (line : ℕ) (t : Told) (l : ℕ) (e : Encoded) → numbered line t ≡ Some (l, e) → l ≡ line
 unfolding numbered
@@ -179,20 +179,20 @@ numbered-line line tells.Nothing l e is = absurd cc
 numbered-line line (tells.Label name) l e is = absurd cc
 numbered-line line (tells.Instruction other) l e is = let same : (line, other) ≡ (l, e) = cc in sym (ap (λ (p : ℕ × Encoded). p.0) same)
 
-unresolved-from : (labels : Labels) (place line : ℕ) (items : List Item) → From line (unresolved labels place (instructions_from line items))
+unresolved-from : (labels : Labels) (address line : ℕ) (items : List Item) → From line (unresolved labels address (instructions_from line items))
 unfolding instructions_from unresolved
-unresolved-from labels place line [] found is = absurd cc
-unresolved-from labels place line (item ∷ items) found is = at (numbered line (told item)) refl (λ place. unresolved-from labels place (line + 1) items) is
+unresolved-from labels address line [] found is = absurd cc
+unresolved-from labels address line (item ∷ items) found is = at (numbered line (told item)) refl (λ address. unresolved-from labels address (line + 1) items) is
   where
-    one : (e : Encoded) (l : ℕ) → l ≡ line → (b : Bool) → ((place : ℕ) → From (line + 1) (unresolved labels place (instructions_from (line + 1) items)))
-        → cond b (unresolved labels (place + 1) (instructions_from (line + 1) items)) (Some l) ≡ Some found → line ≤ found
-    one e l same true more is = let later = more (place + 1) found is in omega arith
+    one : (e : Encoded) (l : ℕ) → l ≡ line → (b : Bool) → ((address : ℕ) → From (line + 1) (unresolved labels address (instructions_from (line + 1) items)))
+        → cond b (unresolved labels (address + 1) (instructions_from (line + 1) items)) (Some l) ≡ Some found → line ≤ found
+    one e l same true more is = let later = more (address + 1) found is in omega arith
     one e l same false more is = let here : l ≡ found = cc in omega arith
 
-    at : (o : Option (ℕ × Encoded)) → numbered line (told item) ≡ o → ((place : ℕ) → From (line + 1) (unresolved labels place (instructions_from (line + 1) items)))
-        → unresolved labels place (cons_option o (instructions_from (line + 1) items)) ≡ Some found → line ≤ found
-    at None none more is = let later = more place found is in omega arith
-    at (Some (l, e)) some more is = one e l (numbered-line line (told item) l e some) (is_some (completed labels place e)) more is
+    at : (o : Option (ℕ × Encoded)) → numbered line (told item) ≡ o → ((address : ℕ) → From (line + 1) (unresolved labels address (instructions_from (line + 1) items)))
+        → unresolved labels address (cons_option o (instructions_from (line + 1) items)) ≡ Some found → line ≤ found
+    at None none more is = let later = more address found is in omega arith
+    at (Some (l, e)) some more is = one e l (numbered-line line (told item) l e some) (is_some (completed labels address e)) more is
 
 repeat_behind-from : (before items : List Item) → From (length before + 1) (repeat_behind before items)
 unfolding repeat_behind
@@ -205,15 +205,15 @@ repeat_behind-from before (item ∷ items) found is = at (is_repeat before item)
     at false more is = omega (arith, more is, length-append before (item ∷ []))
 
 -- the lower of a place and later ones
-earlier-left : (place : ℕ) (o : Option ℕ) → From (place + 1) o → earlier (Some place) o ≡ Some place
+earlier-left : (address : ℕ) (o : Option ℕ) → From (address + 1) o → earlier (Some address) o ≡ Some address
 unfolding earlier
-earlier-left place None h = refl
-earlier-left place (Some other) h = let later = h other refl in let same : min place other ≡ place = omega arith in rw same refl
+earlier-left address None h = refl
+earlier-left address (Some other) h = let later = h other refl in let same : min address other ≡ address = omega arith in rw same refl
 
-earlier-right : (place : ℕ) (o : Option ℕ) → From (place + 1) o → earlier o (Some place) ≡ Some place
+earlier-right : (address : ℕ) (o : Option ℕ) → From (address + 1) o → earlier o (Some address) ≡ Some address
 unfolding earlier
-earlier-right place None h = refl
-earlier-right place (Some other) h = let later = h other refl in let same : min other place ≡ place = omega arith in rw same refl
+earlier-right address None h = refl
+earlier-right address (Some other) h = let later = h other refl in let same : min other address ≡ address = omega arith in rw same refl
 
 -- ---- faults ----
 
@@ -236,7 +236,7 @@ fault-sound labels before item items sound single same h =
 pub record IsKept (labels : Labels) (mnemonic : List ℕ) (values : List Value) : Type 0 where
   e : Encoded
   tells_it : told (Instruction mnemonic values) ≡ tells.Instruction e
-  word : (place : ℕ) → completed labels place e ≡ word_of labels place mnemonic values
+  word : (address : ℕ) → completed labels address e ≡ word_of labels address mnemonic values
 
 kept : (labels : Labels) (mnemonic : List ℕ) (values : List Value) → IsItem (Instruction mnemonic values) → IsKept labels mnemonic values
 kept labels mnemonic values may =
@@ -244,14 +244,14 @@ kept labels mnemonic values may =
     record {
       e = encoded h.0 values;
       tells_it = told-form mnemonic values h.0 h.1;
-      word = λ place. completed-word labels place mnemonic values h.0 h.1 h.2;
+      word = λ address. completed-word labels address mnemonic values h.0 h.1 h.2;
     }
 
 -- a label that is repeated
-repeated-label : (labels : Labels) (before : List Item) (name : List ℕ) (items : List Item) (place : ℕ)
-    → place_of (labels_of before) name ≡ Some place → SameFault labels before (Label name ∷ items)
+repeated-label : (labels : Labels) (before : List Item) (name : List ℕ) (items : List Item) (address : ℕ)
+    → address_of (labels_of before) name ≡ Some address → SameFault labels before (Label name ∷ items)
 unfolding fault_behind instructions_from repeat_behind is_sound is_repeat told numbered
-repeated-label labels before name items place some =
+repeated-label labels before name items address some =
     rw some (sym (earlier-right (length before + 1) (unresolved labels (word_count before) (instructions_from (length before + 1 + 1) items))
     (unresolved-from labels (word_count before) (length before + 1 + 1) items)))
 
@@ -283,14 +283,14 @@ fault-item labels before Nothing items may h =
     fault-sound labels before Nothing items refl refl (let same : word_count before + 0 ≡ word_count before = omega arith in rw same refl) h
 fault-item labels before (Comment bytes) items may h =
     fault-sound labels before (Comment bytes) items refl refl (let same : word_count before + 0 ≡ word_count before = omega arith in rw same refl) h
-fault-item labels before (Label name) items may h = at (place_of (labels_of before) name) refl
+fault-item labels before (Label name) items may h = at (address_of (labels_of before) name) refl
   where
     same : word_count before + 0 ≡ word_count before
     same = omega arith
 
-    at : (o : Option ℕ) → place_of (labels_of before) name ≡ o → SameFault labels before (Label name ∷ items)
+    at : (o : Option ℕ) → address_of (labels_of before) name ≡ o → SameFault labels before (Label name ∷ items)
     at None none = fault-sound labels before (Label name) items (rw none refl) (rw none refl) (rw same refl) h
-    at (Some place) some = repeated-label labels before name items place some
+    at (Some address) some = repeated-label labels before name items address some
 fault-item labels before (Instruction mnemonic values) items may h = at (word_of labels (word_count before) mnemonic values) refl
   where
     k : IsKept labels mnemonic values
@@ -310,35 +310,35 @@ same_fault labels before (item ∷ items) may = fault-item labels before item it
 
 -- ---- words ----
 
-kept_word : (labels : Labels) (place line : ℕ) (mnemonic : List ℕ) (values : List Value) (items : List Item) → IsKept labels mnemonic values
-    → words_from labels (place + 1) items ≡ completed_words labels (place + 1) (instructions_from (line + 1) items)
-    → cons_option (word_of labels place mnemonic values) (words_from labels (place + 1) items)
-    ≡ completed_words labels place (cons_option (numbered line (told (Instruction mnemonic values))) (instructions_from (line + 1) items))
+kept_word : (labels : Labels) (address line : ℕ) (mnemonic : List ℕ) (values : List Value) (items : List Item) → IsKept labels mnemonic values
+    → words_from labels (address + 1) items ≡ completed_words labels (address + 1) (instructions_from (line + 1) items)
+    → cons_option (word_of labels address mnemonic values) (words_from labels (address + 1) items)
+    ≡ completed_words labels address (cons_option (numbered line (told (Instruction mnemonic values))) (instructions_from (line + 1) items))
 unfolding numbered completed_words
-kept_word labels place line mnemonic values items k h = rw (k.tells_it, k.word place, h) refl
+kept_word labels address line mnemonic values items k h = rw (k.tells_it, k.word address, h) refl
 
-same_word : (labels : Labels) (place line : ℕ) (item : Item) (items : List Item) → IsItem item
-    → words_from labels (place + size item) items ≡ completed_words labels (place + size item) (instructions_from (line + 1) items)
-    → cons_option (word_at labels place item) (words_from labels (place + size item) items)
-    ≡ completed_words labels place (cons_option (numbered line (told item)) (instructions_from (line + 1) items))
+same_word : (labels : Labels) (address line : ℕ) (item : Item) (items : List Item) → IsItem item
+    → words_from labels (address + size item) items ≡ completed_words labels (address + size item) (instructions_from (line + 1) items)
+    → cons_option (word_at labels address item) (words_from labels (address + size item) items)
+    ≡ completed_words labels address (cons_option (numbered line (told item)) (instructions_from (line + 1) items))
 unfolding word_at told numbered size completed_words
-same_word labels place line Nothing items may h = let same : place + 0 ≡ place = omega arith in h ∙ rw same refl
-same_word labels place line (Comment bytes) items may h = let same : place + 0 ≡ place = omega arith in h ∙ rw same refl
-same_word labels place line (Label name) items may h = let same : place + 0 ≡ place = omega arith in h ∙ rw same refl
-same_word labels place line (Instruction mnemonic values) items may h = kept_word labels place line mnemonic values items (kept labels mnemonic values may) h
+same_word labels address line Nothing items may h = let same : address + 0 ≡ address = omega arith in h ∙ rw same refl
+same_word labels address line (Comment bytes) items may h = let same : address + 0 ≡ address = omega arith in h ∙ rw same refl
+same_word labels address line (Label name) items may h = let same : address + 0 ≡ address = omega arith in h ∙ rw same refl
+same_word labels address line (Instruction mnemonic values) items may h = kept_word labels address line mnemonic values items (kept labels mnemonic values may) h
 
-pub same_words : (labels : Labels) (place line : ℕ) (items : List Item) → AllByRecursion IsItem items
-    → words_from labels place items ≡ completed_words labels place (instructions_from line items)
+pub same_words : (labels : Labels) (address line : ℕ) (items : List Item) → AllByRecursion IsItem items
+    → words_from labels address items ≡ completed_words labels address (instructions_from line items)
 unfolding words_from instructions_from completed_words
-same_words labels place line [] may = refl
-same_words labels place line (item ∷ items) may = same_word labels place line item items may.0 (same_words labels (place + size item) (line + 1) items may.1)
+same_words labels address line [] may = refl
+same_words labels address line (item ∷ items) may = same_word labels address line item items may.0 (same_words labels (address + size item) (line + 1) items may.1)
 
 -- ---- the answer ----
 
 linked_is : (items : List Item) (o : Option ℕ) → words_unless (words_of items) o ≡ linked items o
 unfolding words_unless linked
 linked_is items None = refl
-linked_is items (Some place) = refl
+linked_is items (Some address) = refl
 
 pub same_answer : (items : List Item) → AllByRecursion IsItem items
     → linked_kept (labels_of items) (instructions_from 1 items) (repeat_behind [] items) ≡ linked items (first_fault items)

@@ -7,19 +7,19 @@ use Rattle.eg_asm.specs.Encodings.{Encoded}
 use Rattle.eg_asm.specs.Linking.{completed, unresolved, completed_words}
 
 -- an instruction that has a word
-pub link-more : (labels : Labels) (place : ℕ) (is : List (ℕ × Encoded)) (i : ℕ × Encoded) (word : ℕ) → place < length is → get_or is place i ≡ i → Some word ≡ completed labels place i.1
-    → (unresolved labels (place + 1) (drop (place + 1) is) ≡ unresolved labels place (drop place is))
-    × (word ∷ completed_words labels (place + 1) (drop (place + 1) is) ≡ completed_words labels place (drop place is))
+pub link-more : (labels : Labels) (address : ℕ) (is : List (ℕ × Encoded)) (i : ℕ × Encoded) (word : ℕ) → address < length is → get_or is address i ≡ i → Some word ≡ completed labels address i.1
+    → (unresolved labels (address + 1) (drop (address + 1) is) ≡ unresolved labels address (drop address is))
+    × (word ∷ completed_words labels (address + 1) (drop (address + 1) is) ≡ completed_words labels address (drop address is))
 unfolding unresolved completed_words
-link-more labels place is i word room here has = rw (drop_more is place i room, here, ← has) (refl, refl)
+link-more labels address is i word room here has = rw (drop_more is address i room, here, ← has) (refl, refl)
 
 -- one that has none
-pub link-bad : (labels : Labels) (place : ℕ) (is : List (ℕ × Encoded)) (i : ℕ × Encoded) → place < length is → get_or is place i ≡ i → None ≡ completed labels place i.1
-    → unresolved labels place (drop place is) ≡ Some i.0
+pub link-bad : (labels : Labels) (address : ℕ) (is : List (ℕ × Encoded)) (i : ℕ × Encoded) → address < length is → get_or is address i ≡ i → None ≡ completed labels address i.1
+    → unresolved labels address (drop address is) ≡ Some i.0
 unfolding unresolved
-link-bad labels place is i room here none = rw (drop_more is place i room, here, ← none) refl
+link-bad labels address is i room here none = rw (drop_more is address i room, here, ← none) refl
 
 -- no instruction is left
-pub link-end : (labels : Labels) (place : ℕ) (is : List (ℕ × Encoded)) → length is ≤ place → (unresolved labels place (drop place is) ≡ None) × (completed_words labels place (drop place is) ≡ [])
+pub link-end : (labels : Labels) (address : ℕ) (is : List (ℕ × Encoded)) → length is ≤ address → (unresolved labels address (drop address is) ≡ None) × (completed_words labels address (drop address is) ≡ [])
 unfolding unresolved completed_words
-link-end labels place is end = rw (drop_all place is end) (refl, refl)
+link-end labels address is end = rw (drop_all address is end) (refl, refl)

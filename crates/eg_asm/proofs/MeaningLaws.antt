@@ -93,35 +93,35 @@ jlt_read word a b d a_few b_few is = at (complement_of 32 d) refl is
         let back = signed-complement 32 d n inside in
         narrow word 14 a b n a_few b_few (let few = back.0 in omega arith) (omega arith) ∙ ap (machine.Jlt a b) back.1
 
-pub meaning-law : (labels : Labels) (place : ℕ) (mnemonic : List ℕ) (values : List Value) (means : Instruction) (word : ℕ) → Means labels place mnemonic values means
-    → IsItem (instruction mnemonic values) → word_of labels place mnemonic values ≡ Some word → instruction_of word ≡ means
+pub meaning-law : (labels : Labels) (address : ℕ) (mnemonic : List ℕ) (values : List Value) (means : Instruction) (word : ℕ) → Means labels address mnemonic values means
+    → IsItem (instruction mnemonic values) → word_of labels address mnemonic values ≡ Some word → instruction_of word ≡ means
 unfolding IsItem forms form_named Fits word_of word_with fields_of field_of instruction_with
-meaning-law labels place mnemonic values means word nop item is = let same : 0 ≡ word = cc in wide word 0 0 0 (omega arith) (omega arith) (omega arith)
-meaning-law labels place mnemonic values means word (ldi a n) item is =
+meaning-law labels address mnemonic values means word nop item is = let same : 0 ≡ word = cc in wide word 0 0 0 (omega arith) (omega arith) (omega arith)
+meaning-law labels address mnemonic values means word (ldi a n) item is =
     let few = item.1.0 in let same : 4096 + (a * 512 + (n + 0)) ≡ word = cc in wide word 1 a n item.0 (omega arith) (omega arith)
-meaning-law labels place mnemonic values means word (ldx a n) item is =
+meaning-law labels address mnemonic values means word (ldx a n) item is =
     let few = item.1.0 in let same : 8192 + (a * 512 + (n + 0)) ≡ word = cc in wide word 2 a n item.0 (omega arith) (omega arith)
-meaning-law labels place mnemonic values means word (mov a b) item is =
+meaning-law labels address mnemonic values means word (mov a b) item is =
     let same : 12288 + (a * 512 + (b * 64 + 0)) ≡ word = cc in narrow word 3 a b 0 item.0 item.1.0 (omega arith) (omega arith)
-meaning-law labels place mnemonic values means word (add a b c) item is =
+meaning-law labels address mnemonic values means word (add a b c) item is =
     let same : 16384 + (a * 512 + (b * 64 + (c * 8 + 0))) ≡ word = cc in three word 4 a b c item.0 item.1.0 item.1.1.0 (omega arith)
-meaning-law labels place mnemonic values means word (sub a b c) item is =
+meaning-law labels address mnemonic values means word (sub a b c) item is =
     let same : 20480 + (a * 512 + (b * 64 + (c * 8 + 0))) ≡ word = cc in three word 5 a b c item.0 item.1.0 item.1.1.0 (omega arith)
-meaning-law labels place mnemonic values means word (and a b c) item is =
+meaning-law labels address mnemonic values means word (and a b c) item is =
     let same : 24576 + (a * 512 + (b * 64 + (c * 8 + 0))) ≡ word = cc in three word 6 a b c item.0 item.1.0 item.1.1.0 (omega arith)
-meaning-law labels place mnemonic values means word (or a b c) item is =
+meaning-law labels address mnemonic values means word (or a b c) item is =
     let same : 28672 + (a * 512 + (b * 64 + (c * 8 + 0))) ≡ word = cc in three word 7 a b c item.0 item.1.0 item.1.1.0 (omega arith)
-meaning-law labels place mnemonic values means word (xor a b c) item is =
+meaning-law labels address mnemonic values means word (xor a b c) item is =
     let same : 32768 + (a * 512 + (b * 64 + (c * 8 + 0))) ≡ word = cc in three word 8 a b c item.0 item.1.0 item.1.1.0 (omega arith)
-meaning-law labels place mnemonic values means word (shr a b n) item is =
+meaning-law labels address mnemonic values means word (shr a b n) item is =
     let few = item.1.1.0 in let same : 36864 + (a * 512 + (b * 64 + (n + 0))) ≡ word = cc in narrow word 9 a b n item.0 item.1.0 (omega arith) (omega arith)
-meaning-law labels place mnemonic values means word (mul a b c) item is =
+meaning-law labels address mnemonic values means word (mul a b c) item is =
     let same : 40960 + (a * 512 + (b * 64 + (c * 8 + 0))) ≡ word = cc in three word 10 a b c item.0 item.1.0 item.1.1.0 (omega arith)
-meaning-law labels place mnemonic values means word (ld a b n) item is =
+meaning-law labels address mnemonic values means word (ld a b n) item is =
     let few = item.1.1.0 in let same : 45056 + (a * 512 + (b * 64 + (n + 0))) ≡ word = cc in narrow word 11 a b n item.0 item.1.0 (omega arith) (omega arith)
-meaning-law labels place mnemonic values means word (st a b n) item is =
+meaning-law labels address mnemonic values means word (st a b n) item is =
     let few = item.1.1.0 in let same : 49152 + (a * 512 + (b * 64 + (n + 0))) ≡ word = cc in narrow word 12 a b n item.0 item.1.0 (omega arith) (omega arith)
-meaning-law labels place mnemonic values means word (jz a target d there) item is = let made = rw there at is in jz_read word a d item.0 made
-meaning-law labels place mnemonic values means word (jlt a b target d there) item is = let made = rw there at is in jlt_read word a b d item.0 item.1.0 made
-meaning-law labels place mnemonic values means word wait item is = let same : 61440 ≡ word = cc in wide word 15 0 0 (omega arith) (omega arith) (omega arith)
-meaning-law labels place mnemonic values means word (jr a) item is = let same : 61441 + (a * 512 + 0) ≡ word = cc in wide word 15 a 1 item.0 (omega arith) (omega arith)
+meaning-law labels address mnemonic values means word (jz a target d there) item is = let made = rw there at is in jz_read word a d item.0 made
+meaning-law labels address mnemonic values means word (jlt a b target d there) item is = let made = rw there at is in jlt_read word a b d item.0 item.1.0 made
+meaning-law labels address mnemonic values means word wait item is = let same : 61440 ≡ word = cc in wide word 15 0 0 (omega arith) (omega arith) (omega arith)
+meaning-law labels address mnemonic values means word (jr a) item is = let same : 61441 + (a * 512 + 0) ≡ word = cc in wide word 15 a 1 item.0 (omega arith) (omega arith)

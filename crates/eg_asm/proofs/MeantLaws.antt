@@ -105,103 +105,103 @@ distance_behind base m n reach (Some d) word is = (d, refl)
 
 -- the values of an instruction of this form mean something, where it has a word
 abbrev Meant : List ℕ → ℕ → List Operand → Type 0
-Meant mnemonic base operands = (labels : Labels) (place : ℕ) (values : List Value) (word : ℕ) → AllZip Fits operands values
-    → option_map (λ fields. base + fields) (fields_of labels place operands values) ≡ Some word → (i : Instruction) × Means labels place mnemonic values i
+Meant mnemonic base operands = (labels : Labels) (address : ℕ) (values : List Value) (word : ℕ) → AllZip Fits operands values
+    → option_map (λ fields. base + fields) (fields_of labels address operands values) ≡ Some word → (i : Instruction) × Means labels address mnemonic values i
 
 -- an instruction without operands
-plain : (mnemonic : List ℕ) (base : ℕ) (i : Instruction) → ((labels : Labels) (place : ℕ) → Means labels place mnemonic [] i) → Meant mnemonic base []
-plain mnemonic base i means labels place values word fit is = let end = nothing_left values fit in rw end (i, means labels place)
+plain : (mnemonic : List ℕ) (base : ℕ) (i : Instruction) → ((labels : Labels) (address : ℕ) → Means labels address mnemonic [] i) → Meant mnemonic base []
+plain mnemonic base i means labels address values word fit is = let end = nothing_left values fit in rw end (i, means labels address)
 
 -- one of a register and a number
-numbered : (mnemonic : List ℕ) (base most : ℕ) (i : ℕ → ℕ → Instruction) → ((labels : Labels) (place a n : ℕ) → Means labels place mnemonic (Register a ∷ Number n ∷ []) (i a n))
+numbered : (mnemonic : List ℕ) (base most : ℕ) (i : ℕ → ℕ → Instruction) → ((labels : Labels) (address a n : ℕ) → Means labels address mnemonic (Register a ∷ Number n ∷ []) (i a n))
     → Meant mnemonic base (rA ∷ operand.Number most ∷ [])
-numbered mnemonic base most i means labels place values word fit is =
+numbered mnemonic base most i means labels address values word fit is =
     let a = register_first 512 (operand.Number most ∷ []) values fit in
     let n = number_last most a.rest a.fit in
-    rw (a.is, n.1) (i a.n n.0, means labels place a.n n.0)
+    rw (a.is, n.1) (i a.n n.0, means labels address a.n n.0)
 
 -- one of three registers
 of_three : (mnemonic : List ℕ) (base : ℕ) (i : ℕ → ℕ → ℕ → Instruction)
-    → ((labels : Labels) (place a b c : ℕ) → Means labels place mnemonic (Register a ∷ Register b ∷ Register c ∷ []) (i a b c))
+    → ((labels : Labels) (address a b c : ℕ) → Means labels address mnemonic (Register a ∷ Register b ∷ Register c ∷ []) (i a b c))
     → Meant mnemonic base (rA ∷ rB ∷ rC ∷ [])
-of_three mnemonic base i means labels place values word fit is =
+of_three mnemonic base i means labels address values word fit is =
     let three = three_fit values fit in
-    rw three.is (i three.a three.b three.c, means labels place three.a three.b three.c)
+    rw three.is (i three.a three.b three.c, means labels address three.a three.b three.c)
 
 -- one of two registers and a number
 of_two : (mnemonic : List ℕ) (base most : ℕ) (i : ℕ → ℕ → ℕ → Instruction)
-    → ((labels : Labels) (place a b n : ℕ) → Means labels place mnemonic (Register a ∷ Register b ∷ Number n ∷ []) (i a b n))
+    → ((labels : Labels) (address a b n : ℕ) → Means labels address mnemonic (Register a ∷ Register b ∷ Number n ∷ []) (i a b n))
     → Meant mnemonic base (rA ∷ rB ∷ operand.Number most ∷ [])
-of_two mnemonic base most i means labels place values word fit is =
+of_two mnemonic base most i means labels address values word fit is =
     let two = two_fit (operand.Number most ∷ []) values fit in
     let n = number_last most two.rest two.fit in
-    rw (two.is, n.1) (i two.a two.b n.0, means labels place two.a two.b n.0)
+    rw (two.is, n.1) (i two.a two.b n.0, means labels address two.a two.b n.0)
 
 meant_mov : Meant (codes "mov") 0x3000 (rA ∷ rB ∷ [])
-meant_mov labels place values word fit is =
+meant_mov labels address values word fit is =
     let two = two_fit [] values fit in
     let end = nothing_left two.rest two.fit in
     rw (two.is, end) (machine.Mov two.a two.b, mov two.a two.b)
 
 meant_jr : Meant (codes "jr") 0xf001 (rA ∷ [])
-meant_jr labels place values word fit is =
+meant_jr labels address values word fit is =
     let a = register_first 512 [] values fit in
     let end = nothing_left a.rest a.fit in
     rw (a.is, end) (machine.Jr a.n, jr a.n)
 
 meant_jz : Meant (codes "jz") 0xd000 (rA ∷ operand.Target 256 ∷ [])
 unfolding fields_of field_of
-meant_jz labels place values word fit is =
+meant_jz labels address values word fit is =
     let a = register_first 512 (operand.Target 256 ∷ []) values fit in
     let t = target_last 256 a.rest a.fit in
     let made = rw (a.is, t.1) at is in
-    let d = distance_there 0xd000 (a.n * 512) 256 (distance_to labels place t.0) word made in
+    let d = distance_there 0xd000 (a.n * 512) 256 (distance_to labels address t.0) word made in
     rw (a.is, t.1) (machine.Jz a.n d.0, jz a.n t.0 d.0 d.1)
 
 meant_jlt : Meant (codes "jlt") 0xe000 (rA ∷ rB ∷ operand.Target 32 ∷ [])
 unfolding fields_of field_of
-meant_jlt labels place values word fit is =
+meant_jlt labels address values word fit is =
     let two = two_fit (operand.Target 32 ∷ []) values fit in
     let t = target_last 32 two.rest two.fit in
     let made = rw (two.is, t.1) at is in
-    let d = distance_behind 0xe000 (two.a * 512) (two.b * 64) 32 (distance_to labels place t.0) word made in
+    let d = distance_behind 0xe000 (two.a * 512) (two.b * 64) 32 (distance_to labels address t.0) word made in
     rw (two.is, t.1) (machine.Jlt two.a two.b d.0, jlt two.a two.b t.0 d.0 d.1)
 
 -- each form but the last one
 all_meant : AllByRecursion (λ f. f.mnemonic ≢ codes "word" → Meant f.mnemonic f.base f.operands) forms
 unfolding forms
 all_meant = (
-  λ other. plain (codes "nop") 0x0000 machine.Nop (λ labels place. nop),
+  λ other. plain (codes "nop") 0x0000 machine.Nop (λ labels address. nop),
   (
-    λ other. numbered (codes "ldi") 0x1000 511 machine.Ldi (λ labels place a n. ldi a n),
+    λ other. numbered (codes "ldi") 0x1000 511 machine.Ldi (λ labels address a n. ldi a n),
     (
-      λ other. numbered (codes "ldx") 0x2000 127 machine.Ldx (λ labels place a n. ldx a n),
+      λ other. numbered (codes "ldx") 0x2000 127 machine.Ldx (λ labels address a n. ldx a n),
       (
         λ other. meant_mov,
         (
-          λ other. of_three (codes "add") 0x4000 machine.Add (λ labels place a b c. add a b c),
+          λ other. of_three (codes "add") 0x4000 machine.Add (λ labels address a b c. add a b c),
           (
-            λ other. of_three (codes "sub") 0x5000 machine.Sub (λ labels place a b c. sub a b c),
+            λ other. of_three (codes "sub") 0x5000 machine.Sub (λ labels address a b c. sub a b c),
             (
-              λ other. of_three (codes "and") 0x6000 machine.And (λ labels place a b c. and a b c),
+              λ other. of_three (codes "and") 0x6000 machine.And (λ labels address a b c. and a b c),
               (
-                λ other. of_three (codes "or") 0x7000 machine.Or (λ labels place a b c. or a b c),
+                λ other. of_three (codes "or") 0x7000 machine.Or (λ labels address a b c. or a b c),
                 (
-                  λ other. of_three (codes "xor") 0x8000 machine.Xor (λ labels place a b c. xor a b c),
+                  λ other. of_three (codes "xor") 0x8000 machine.Xor (λ labels address a b c. xor a b c),
                   (
-                    λ other. of_two (codes "shr") 0x9000 15 machine.Shr (λ labels place a b n. shr a b n),
+                    λ other. of_two (codes "shr") 0x9000 15 machine.Shr (λ labels address a b n. shr a b n),
                     (
-                      λ other. of_three (codes "mul") 0xa000 machine.Mul (λ labels place a b c. mul a b c),
+                      λ other. of_three (codes "mul") 0xa000 machine.Mul (λ labels address a b c. mul a b c),
                       (
-                        λ other. of_two (codes "ld") 0xb000 63 machine.Ld (λ labels place a b n. ld a b n),
+                        λ other. of_two (codes "ld") 0xb000 63 machine.Ld (λ labels address a b n. ld a b n),
                         (
-                          λ other. of_two (codes "st") 0xc000 63 machine.St (λ labels place a b n. st a b n),
+                          λ other. of_two (codes "st") 0xc000 63 machine.St (λ labels address a b n. st a b n),
                           (
                             λ other. meant_jz,
                             (
                               λ other. meant_jlt,
                               (
-                                λ other. plain (codes "wait") 0xf000 machine.Wait (λ labels place. wait),
+                                λ other. plain (codes "wait") 0xf000 machine.Wait (λ labels address. wait),
                                 (
                                   λ other. meant_jr,
                                   (λ other. absurd (other refl), tt),
@@ -224,26 +224,26 @@ all_meant = (
 )
 
 -- an instruction but `word` means something, where it has a word
-pub meant-law : (labels : Labels) (place : ℕ) (mnemonic : List ℕ) (values : List Value) (word : ℕ) → mnemonic ≢ codes "word"
-    → IsItem (instruction mnemonic values) → word_of labels place mnemonic values ≡ Some word
-    → (i : Instruction) × Means labels place mnemonic values i
+pub meant-law : (labels : Labels) (address : ℕ) (mnemonic : List ℕ) (values : List Value) (word : ℕ) → mnemonic ≢ codes "word"
+    → IsItem (instruction mnemonic values) → word_of labels address mnemonic values ≡ Some word
+    → (i : Instruction) × Means labels address mnemonic values i
 unfolding word_of word_with form_named
-meant-law labels place mnemonic values word other item is =
+meant-law labels address mnemonic values word other item is =
     let form = instruction-form mnemonic values item in
     let f = form.0 in
     let same : f.mnemonic ≡ mnemonic = form_named-mnemonic mnemonic f form.1 in
     let found = rw form.1 at is in
     let meant = find-all_of (λ f. f.mnemonic ≢ codes "word" → Meant f.mnemonic f.base f.operands) (λ f. bytes_eq f.mnemonic mnemonic) forms f all_meant form.1 in
-    rw (← same) (meant (λ named. other (sym same ∙ named)) labels place values word form.2 found)
+    rw (← same) (meant (λ named. other (sym same ∙ named)) labels address values word form.2 found)
 
 -- the machine reads its word as what it means
-pub read-law : (labels : Labels) (place word : ℕ) (mnemonic : List ℕ) (values : List Value) → mnemonic ≢ codes "word"
-    → IsItem (instruction mnemonic values) → word_of labels place mnemonic values ≡ Some word
-    → Means labels place mnemonic values (instruction_of word)
-read-law labels place word mnemonic values other item is =
-    let means = meant-law labels place mnemonic values word other item is in
-    rw (meaning-law labels place mnemonic values means.0 word means.1 item is) means.1
+pub read-law : (labels : Labels) (address word : ℕ) (mnemonic : List ℕ) (values : List Value) → mnemonic ≢ codes "word"
+    → IsItem (instruction mnemonic values) → word_of labels address mnemonic values ≡ Some word
+    → Means labels address mnemonic values (instruction_of word)
+read-law labels address word mnemonic values other item is =
+    let means = meant-law labels address mnemonic values word other item is in
+    rw (meaning-law labels address mnemonic values means.0 word means.1 item is) means.1
 
-pub any-law : (labels : Labels) (place word : ℕ) → word_of labels place (codes "word") (Number word ∷ []) ≡ Some word
+pub any-law : (labels : Labels) (address word : ℕ) → word_of labels address (codes "word") (Number word ∷ []) ≡ Some word
 unfolding word_of word_with fields_of field_of form_named forms
-any-law labels place word = let sum : 0 + (word + 0) ≡ word = omega arith in rw sum refl
+any-law labels address word = let sum : 0 + (word + 0) ≡ word = omega arith in rw sum refl

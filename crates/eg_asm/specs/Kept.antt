@@ -10,40 +10,40 @@ use Rattle.eg_asm.specs.declared.source.Placed.{Placed}
 use Rattle.eg_asm.specs.declared.source.Source.{Source}
 use Rattle.eg_asm.specs.Forms.{form_named}
 use Rattle.eg_asm.specs.Grammar.{Item, Nothing, Comment, Label, Instruction}
-use Rattle.eg_asm.specs.Words.{word_count, labels_of, place_of}
+use Rattle.eg_asm.specs.Words.{word_count, labels_of, address_of}
 use Rattle.eg_asm.specs.Encodings.{Encoded, Told, told, instruction_shown}
 use Rattle.eg_asm.specs.Encodings as tells
 use Rattle.eg_asm.specs.Reading.{item_behind, refusal}
 
--- an instruction with the place of its line
+-- an instruction with the number of its line
 unfoldable pub numbered : ℕ → Told → Option (ℕ × Encoded)
-numbered place (tells.Instruction e) = Some (place, e)
-numbered place _ = None
+numbered number (tells.Instruction e) = Some (number, e)
+numbered number _ = None
 
--- the instructions among items, the first of which stands at this place
+-- the instructions among items, the line of the first of which has this number
 unfoldable pub instructions_from : ℕ → List Item → List (ℕ × Encoded)
-instructions_from place [] = []
-instructions_from place (item ∷ items) =
-    cons_option (numbered place (told item)) (instructions_from (place + 1) items)
+instructions_from number [] = []
+instructions_from number (item ∷ items) =
+    cons_option (numbered number (told item)) (instructions_from (number + 1) items)
 
 -- whether an item is a label that stands before it
 unfoldable pub is_repeat : List Item → Item → Bool
-is_repeat before (Label name) = is_some (place_of (labels_of before) name)
+is_repeat before (Label name) = is_some (address_of (labels_of before) name)
 is_repeat before _ = false
 
--- the place of the first of these items that is a repeat, where other items stand before them
+-- the number of the first of these items that is a repeat, where other items stand before them
 unfoldable pub repeat_behind : List Item → List Item → Option ℕ
 repeat_behind before [] = None
 repeat_behind before (item ∷ items) =
     if is_repeat before item then Some (length before + 1) else repeat_behind (before ++ item ∷ []) items
 
--- What is kept of items: the instructions, where the labels are, and the place of the first that is repeated.
--- Labels are looked up by keys that have a name.
+-- What is kept of items: the instructions, where the labels are, and the number of the line of the first
+-- that is repeated. Labels are looked up by keys that have a name.
 pub record Keeps {K : Type 0} (name_of : K → List ℕ) (items : List Item) (instructions : List (ℕ × Encoded))
-    (place : K → Option ℕ) (repeated : Option ℕ) : Type 0 where
+    (address : K → Option ℕ) (repeated : Option ℕ) : Type 0 where
   pub all : instructions ≡ instructions_from 1 items
   pub count : length instructions ≡ word_count items
-  pub labels : (key : K) → place key ≡ place_of (labels_of items) (name_of key)
+  pub labels : (key : K) → address key ≡ address_of (labels_of items) (name_of key)
   pub repeat : repeated ≡ repeat_behind [] items
 
 -- an instruction is one of a form
@@ -62,22 +62,22 @@ Holds source items =
     Keeps (λ (name : Bor (List ℕ)). name.now) items (map placed_shown source.instructions.items)
     (get (λ x y. slice_cmp nat_cmp x.now y.now) source.labels) source.repeated
 
--- Where the old source is kept of some items, the new one is kept of these and one more, whose line is at
--- this place and tells this.
+-- Where the old source is kept of some items, the new one is kept of these and one more, whose line has
+-- this number and tells this.
 abbrev pub Adds : ℕ → Told → Source → Source → Type 0
 Adds line tells old new =
     (items : List Item) (item : Item) → HasForm item → told item ≡ tells → line ≡ length items + 1
     → Holds old items → Holds new (items ++ item ∷ [])
 
--- Where the old source is kept of some items, the new one is kept of these and of the item that the line at
--- this place says.
+-- Where the old source is kept of some items, the new one is kept of these and of the item that the line of
+-- this number says.
 abbrev pub ReadsMore : ℕ → List ℕ → Source → Source → Type 0
-ReadsMore place line old new =
-    (items : List Item) → place ≡ length items + 1 → Holds old items
+ReadsMore number line old new =
+    (items : List Item) → number ≡ length items + 1 → Holds old items
     → (item : Item) × (item_behind (word_count items) line ≡ Some item) × Holds new (items ++ item ∷ [])
 
--- the line at this place says nothing that may come behind what is kept, and this is why
+-- the line of this number says nothing that may come behind what is kept, and this is why
 abbrev pub StopsAt : ℕ → List ℕ → Source → AsmFault → Type 0
-StopsAt place line kept e =
+StopsAt number line kept e =
     (items : List Item) → Holds kept items
-    → (item_behind (word_count items) line ≡ None) × (e ≡ refusal (word_count items) place)
+    → (item_behind (word_count items) line ≡ None) × (e ≡ refusal (word_count items) number)

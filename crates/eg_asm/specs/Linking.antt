@@ -8,41 +8,41 @@ use denote.Ref.{Bor}
 use Rattle.eg_asm.specs.declared.fault.AsmFault.{AsmFault}
 use Rattle.eg_asm.specs.declared.fault.AsmFault.TheVariants as fault
 use Rattle.eg_asm.specs.Grammar.{Value}
-use Rattle.eg_asm.specs.Words.{Labels, place_of, complement_of, distance_to}
+use Rattle.eg_asm.specs.Words.{Labels, address_of, complement_of, distance_to}
 use Rattle.eg_asm.specs.Encodings.{Encoded}
 
--- what a target adds to its word at this place, where it is there and in range
+-- what a target adds to its word at this address, where it is there and in range
 unfoldable pub jump_field : Labels → ℕ → Option (ℕ × Value) → Option ℕ
-jump_field labels place None = Some 0
-jump_field labels place (Some (reach, target)) =
-    option_and_then (complement_of reach) (distance_to labels place target)
+jump_field labels address None = Some 0
+jump_field labels address (Some (reach, target)) =
+    option_and_then (complement_of reach) (distance_to labels address target)
 
--- the word of what is kept of an instruction at this place
+-- the word of what is kept of an instruction at this address
 unfoldable pub completed : Labels → ℕ → Encoded → Option ℕ
-completed labels place e = option_map (λ field. e.word + field) (jump_field labels place e.jump)
+completed labels address e = option_map (λ field. e.word + field) (jump_field labels address e.jump)
 
--- the line of the first instruction without a word, of those from this place on
+-- the line of the first instruction without a word, of those from this address on
 unfoldable pub unresolved : Labels → ℕ → List (ℕ × Encoded) → Option ℕ
-unresolved labels place [] = None
-unresolved labels place (i ∷ is) =
-    if is_some (completed labels place i.1) then unresolved labels (place + 1) is else Some i.0
+unresolved labels address [] = None
+unresolved labels address (i ∷ is) =
+    if is_some (completed labels address i.1) then unresolved labels (address + 1) is else Some i.0
 
--- the words of the instructions from this place on
+-- the words of the instructions from this address on
 unfoldable pub completed_words : Labels → ℕ → List (ℕ × Encoded) → List ℕ
-completed_words labels place [] = []
-completed_words labels place (i ∷ is) =
-    cons_option (completed labels place i.1) (completed_words labels (place + 1) is)
+completed_words labels address [] = []
+completed_words labels address (i ∷ is) =
+    cons_option (completed labels address i.1) (completed_words labels (address + 1) is)
 
--- the lower of two places, or the one that is there
+-- the lower of two numbers of lines, or the one that is there
 unfoldable pub earlier : Option ℕ → Option ℕ → Option ℕ
 earlier None other = other
-earlier (Some place) None = Some place
-earlier (Some place) (Some other) = Some (min place other)
+earlier (Some number) None = Some number
+earlier (Some number) (Some other) = Some (min number other)
 
 -- the words of what is kept, or the first line at fault
 unfoldable pub words_unless : List ℕ → Option ℕ → Result (List ℕ) AsmFault
 words_unless words None = Ok words
-words_unless words (Some place) = Err (fault.Label place)
+words_unless words (Some number) = Err (fault.Label number)
 
 unfoldable pub linked_kept : Labels → List (ℕ × Encoded) → Option ℕ → Result (List ℕ) AsmFault
 linked_kept labels instructions repeated =
@@ -51,4 +51,4 @@ linked_kept labels instructions repeated =
 -- the code's map tells where these labels are
 abbrev pub HasLabels : BTreeMap (Bor (List ℕ)) ℕ → Labels → Type 0
 HasLabels tree labels =
-    (name : Bor (List ℕ)) → get (λ x y. slice_cmp nat_cmp x.now y.now) tree name ≡ place_of labels name.now
+    (name : Bor (List ℕ)) → get (λ x y. slice_cmp nat_cmp x.now y.now) tree name ≡ address_of labels name.now

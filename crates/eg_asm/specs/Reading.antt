@@ -133,9 +133,9 @@ with_room words item = if nat_le (words + size item) MOST_WORDS then Some item e
 unfoldable pub item_behind : ℕ → Line → Option Item
 item_behind words line = option_and_then (with_room words) (item_in line)
 
--- why the line at this place may not come behind so many words
+-- why the line of this number may not come behind so many words
 unfoldable pub refusal : ℕ → ℕ → AsmFault
-refusal words place = if words == MOST_WORDS then fault.Long else fault.Line place
+refusal words number = if words == MOST_WORDS then fault.Long else fault.Line number
 
 -- an item before others, or the fault of its line
 unfoldable pub item_before :
@@ -144,17 +144,17 @@ item_before e None read = Err e
 item_before e (Some item) (Ok items) = Ok (item ∷ items)
 item_before e (Some item) (Err later) = Err later
 
--- what lines say, the first of which stands at this place, behind so many words
+-- what lines say, the first of which has this number, behind so many words
 unfoldable pub items_from : ℕ → ℕ → List Line → Result (List Item) AsmFault
-items_from words place [] = Ok []
-items_from words place (line ∷ lines) =
-    item_before (refusal words place) (item_behind words line)
-    (items_from (words + option_map_or size (item_behind words line) 0) (place + 1) lines)
+items_from words number [] = Ok []
+items_from words number (line ∷ lines) =
+    item_before (refusal words number) (item_behind words line)
+    (items_from (words + option_map_or size (item_behind words line) 0) (number + 1) lines)
 
 -- the words of items without fault
 unfoldable pub linked : List Item → Option ℕ → Result (List ℕ) AsmFault
 linked items None = Ok (words_of items)
-linked items (Some place) = Err (fault.Label place)
+linked items (Some number) = Err (fault.Label number)
 
 -- the words of what was read
 unfoldable pub words_read : Result (List Item) AsmFault → Result (List ℕ) AsmFault

@@ -22,8 +22,8 @@ pub record GoesWrong (may_come : Item → Type 0) (text : List ℕ) : Type 0 whe
       → may_come item → ⊥
 
 -- The source begins with lines of the grammar, of fewer than 1,024 instructions, and the line that comes
--- then, at this place, isn't of the grammar.
-pub record HasBadLineAt (source : List ℕ) (place : ℕ) : Type 0 where
+-- then, of this number, isn't of the grammar.
+pub record HasBadLineAt (source : List ℕ) (number : ℕ) : Type 0 where
   pub good : List Item
   pub front : List ℕ
   pub rest : List ℕ
@@ -31,7 +31,7 @@ pub record HasBadLineAt (source : List ℕ) (place : ℕ) : Type 0 where
   pub text : IsTextOf front good
   pub few : word_count good < MOST_WORDS
   pub bad : GoesWrong (λ item. Unit {0}) rest
-  pub at : place ≡ length good + 1
+  pub at : number ≡ length good + 1
 
 -- the source begins with lines of the grammar, of 1,024 instructions, and then comes no empty line, comment
 -- or label
@@ -44,18 +44,18 @@ pub record IsTooLong (source : List ℕ) : Type 0 where
   pub full : word_count good ≡ MOST_WORDS
   pub bad : GoesWrong (λ item. size item ≡ 0) rest
 
--- the source is lines of the grammar, of at most 1,024 instructions, and the first line at fault is at this
--- place
-pub record HasBadLabelAt (source : List ℕ) (place : ℕ) : Type 0 where
+-- the source is lines of the grammar, of at most 1,024 instructions, and the first line at fault has this
+-- number
+pub record HasBadLabelAt (source : List ℕ) (number : ℕ) : Type 0 where
   pub items : List Item
   pub text : IsTextOf source items
   pub most : word_count items ≤ MOST_WORDS
-  pub at : first_fault items ≡ Some place
+  pub at : first_fault items ≡ Some number
 
 -- what assembling a source gives, where memory doesn't run out
 abbrev pub Assembles : List ℕ → Result (List ℕ) AsmFault → Type 0
 Assembles source (Ok words) = IsSourceOf source words
 Assembles source (Err fault.Memory) = ⊥
-Assembles source (Err (fault.Line place)) = HasBadLineAt source place
-Assembles source (Err (fault.Label place)) = HasBadLabelAt source place
+Assembles source (Err (fault.Line number)) = HasBadLineAt source number
+Assembles source (Err (fault.Label number)) = HasBadLabelAt source number
 Assembles source (Err fault.Long) = IsTooLong source

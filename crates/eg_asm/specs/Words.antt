@@ -20,22 +20,22 @@ unfoldable pub word_count : List Item → ℕ
 word_count [] = 0
 word_count (item ∷ items) = size item + word_count items
 
--- labels with their places, in the order of their lines
+-- labels with their addresses, in the order of their lines
 abbrev pub Labels : Type 0
 Labels = List (List ℕ × ℕ)
 
--- the labels of items, the first of which stands at this place: a label's place is that of the next word
+-- the labels of items, the first of which stands at this address: a label's address is that of the next word
 unfoldable pub labels_from : ℕ → List Item → Labels
-labels_from place [] = []
-labels_from place (Label name ∷ items) = (name, place) ∷ labels_from place items
-labels_from place (item ∷ items) = labels_from (place + size item) items
+labels_from address [] = []
+labels_from address (Label name ∷ items) = (name, address) ∷ labels_from address items
+labels_from address (item ∷ items) = labels_from (address + size item) items
 
 abbrev pub labels_of : List Item → Labels
 labels_of items = labels_from 0 items
 
--- the place of the first label of this name
-abbrev pub place_of : Labels → List ℕ → Option ℕ
-place_of labels name = lookup (bytes_eq name) labels
+-- the address of the first label of this name
+abbrev pub address_of : Labels → List ℕ → Option ℕ
+address_of labels name = lookup (bytes_eq name) labels
 
 -- ---- words ----
 
@@ -45,19 +45,20 @@ complement_of reach (pos n) = if nat_lt n reach then Some n else None
 complement_of reach (negsuc n) = if nat_lt n reach then Some (2 * reach - (n + 1)) else None
 
 -- The distance to a target, where there is one. It counts from the word after the jump, which stands at this
--- place.
+-- address.
 unfoldable pub distance_to : Labels → ℕ → Value → Option ℤ
-distance_to labels place (Name name) = option_map (λ at. pos at -ℤ pos (place + 1)) (place_of labels name)
-distance_to labels place (Distance d) = Some d
-distance_to labels place _ = None
+distance_to labels address (Name name) =
+    option_map (λ at. pos at -ℤ pos (address + 1)) (address_of labels name)
+distance_to labels address (Distance d) = Some d
+distance_to labels address _ = None
 
--- what an operand adds to the word at this place; nothing where its target isn't there or out of range
+-- what an operand adds to the word at this address; nothing where its target isn't there or out of range
 unfoldable pub field_of : Labels → ℕ → Operand → Value → Option ℕ
-field_of labels place (operand.Register weight) (Register n) = Some (n * weight)
-field_of labels place (operand.Number most) (Number n) = Some n
-field_of labels place (operand.Target reach) value =
-    option_and_then (complement_of reach) (distance_to labels place value)
-field_of labels place _ _ = None
+field_of labels address (operand.Register weight) (Register n) = Some (n * weight)
+field_of labels address (operand.Number most) (Number n) = Some n
+field_of labels address (operand.Target reach) value =
+    option_and_then (complement_of reach) (distance_to labels address value)
+field_of labels address _ _ = None
 
 -- a sum, where there are both of its parts
 abbrev pub added : Option ℕ → Option ℕ → Option ℕ
@@ -66,30 +67,30 @@ added _ _ = None
 
 -- what the operands add
 unfoldable pub fields_of : Labels → ℕ → List Operand → List Value → Option ℕ
-fields_of labels place (operand ∷ operands) (value ∷ values) =
-    added (field_of labels place operand value) (fields_of labels place operands values)
-fields_of labels place _ _ = Some 0
+fields_of labels address (operand ∷ operands) (value ∷ values) =
+    added (field_of labels address operand value) (fields_of labels address operands values)
+fields_of labels address _ _ = Some 0
 
--- the word of a form with these values, at this place
+-- the word of a form with these values, at this address
 unfoldable pub word_with : Labels → ℕ → Form → List Value → Option ℕ
-word_with labels place form values =
-    option_map (λ fields. form.base + fields) (fields_of labels place form.operands values)
+word_with labels address form values =
+    option_map (λ fields. form.base + fields) (fields_of labels address form.operands values)
 
--- the word of an instruction at this place
+-- the word of an instruction at this address
 unfoldable pub word_of : Labels → ℕ → List ℕ → List Value → Option ℕ
-word_of labels place mnemonic values =
-    option_and_then (λ form. word_with labels place form values) (form_named mnemonic)
+word_of labels address mnemonic values =
+    option_and_then (λ form. word_with labels address form values) (form_named mnemonic)
 
--- the word of an item at this place, where it is an instruction that has one
+-- the word of an item at this address, where it is an instruction that has one
 unfoldable pub word_at : Labels → ℕ → Item → Option ℕ
-word_at labels place (Instruction mnemonic values) = word_of labels place mnemonic values
-word_at labels place _ = None
+word_at labels address (Instruction mnemonic values) = word_of labels address mnemonic values
+word_at labels address _ = None
 
--- the words of items, the first of which stands at this place
+-- the words of items, the first of which stands at this address
 unfoldable pub words_from : Labels → ℕ → List Item → List ℕ
-words_from labels place [] = []
-words_from labels place (item ∷ items) =
-    cons_option (word_at labels place item) (words_from labels (place + size item) items)
+words_from labels address [] = []
+words_from labels address (item ∷ items) =
+    cons_option (word_at labels address item) (words_from labels (address + size item) items)
 
 abbrev pub words_of : List Item → List ℕ
 words_of items = words_from (labels_of items) 0 items
@@ -99,18 +100,18 @@ words_of items = words_from (labels_of items) 0 items
 -- Whether an item that stands behind others is without fault: a label isn't repeated, and the targets of an
 -- instruction are there and in range.
 unfoldable pub is_sound : Labels → List Item → Item → Bool
-is_sound labels before (Label name) = is_none (place_of (labels_of before) name)
+is_sound labels before (Label name) = is_none (address_of (labels_of before) name)
 is_sound labels before (Instruction mnemonic values) =
     is_some (word_of labels (word_count before) mnemonic values)
 is_sound labels before _ = true
 
--- the place in the source of the first of these items that isn't sound, where other items stand before them
+-- the number of the line of the first of these items that isn't sound, where other items stand before them
 unfoldable pub fault_behind : Labels → List Item → List Item → Option ℕ
 fault_behind labels before [] = None
 fault_behind labels before (item ∷ items) =
     if is_sound labels before item then fault_behind labels (before ++ item ∷ []) items
     else Some (length before + 1)
 
--- the place of the first item at fault, the first item's being 1
+-- the number of the first item at fault, the first item's being 1
 abbrev pub first_fault : List Item → Option ℕ
 first_fault items = fault_behind (labels_of items) [] items

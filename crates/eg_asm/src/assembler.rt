@@ -34,10 +34,10 @@ fn read_source(alloc: Global, bytes: &[u8]) -> Result<Source<'_>, AsmFault>
     ensures fault { IfErr result (λ e. (e ≡ fault.Memory) ⊎ (items_from 0 1 (lines_of bytes.now) ≡ Err e)) }
 {
     let mut source = Source::new(alloc);
-    let mut place = 0u32;
+    let mut number = 0u32;
     for line in bytes.split_inclusive(|byte| *byte == b'\n') {
-        place += 1;
-        source.read(place, line)?;
+        number += 1;
+        source.read(number, line)?;
     }
     Ok(source)
 }
@@ -57,10 +57,10 @@ pub fn sources_have_one_answer()
 /// What the machine makes of a source (docs/FORMATS.md, "Sources"): it reads the word of an instruction as
 /// what the instruction means. `word` gives the word that it has.
 pub fn words_mean_their_instructions()
-    ensures meant { (labels : Labels) (place word : ℕ) (mnemonic : List ℕ) (values : List Value) →
+    ensures meant { (labels : Labels) (address word : ℕ) (mnemonic : List ℕ) (values : List Value) →
         mnemonic ≢ codes "word" → IsItem (Instruction mnemonic values) →
-        word_of labels place mnemonic values ≡ Some word →
-        Means labels place mnemonic values (instruction_of word) }
-    ensures any { (labels : Labels) (place word : ℕ) →
-        word_of labels place (codes "word") (Number word ∷ []) ≡ Some word }
+        word_of labels address mnemonic values ≡ Some word →
+        Means labels address mnemonic values (instruction_of word) }
+    ensures any { (labels : Labels) (address word : ℕ) →
+        word_of labels address (codes "word") (Number word ∷ []) ≡ Some word }
 {}

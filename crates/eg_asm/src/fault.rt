@@ -7,10 +7,10 @@ pub enum AsmFault {
     /// There was no memory for the words.
     #[error("no memory")]
     Memory,
-    /// The line at this place, the first line's being 1, is the first that isn't of the grammar.
+    /// The line of this number, the first line's being 1, is the first that isn't of the grammar.
     #[error("line {line}")]
     Line { line: u32 },
-    /// The line at this place is the first that repeats a label, or whose target names no label or lies out
+    /// The line of this number is the first that repeats a label, or whose target names no label or lies out
     /// of range.
     #[error("label in line {line}")]
     Label { line: u32 },

@@ -1,6 +1,6 @@
 // The words of a source, once all of its labels are known.
 ghost use Rattle.std.specs.Prelude.{◌≡◌, ◌+◌, pos, ◌-ℤ◌, ◌<◌, ◌≤◌, ◌*◌, Some, map, vec_len, IfSome};
-ghost use Rattle.eg_asm.specs.Words.{Labels, place_of, complement_of, distance_to};
+ghost use Rattle.eg_asm.specs.Words.{Labels, address_of, complement_of, distance_to};
 ghost use Rattle.eg_asm.specs.Encodings.{target_shown, instruction_shown};
 ghost use Rattle.eg_asm.specs.Kept.{placed_shown};
 ghost use Rattle.eg_asm.specs.Linking.{completed, earlier, linked_kept, HasLabels};
@@ -24,8 +24,8 @@ impl<'a> Source<'a> {
             (linked_kept labels (map placed_shown self.now.instructions.items) self.now.repeated) result }
     {
         let mut words = Vec::new(alloc);
-        for (place, placed) in self.instructions.iter().enumerate() {
-            let Some(word) = self.word_of(place, &placed.instruction) else {
+        for (address, placed) in self.instructions.iter().enumerate() {
+            let Some(word) = self.word_of(address, &placed.instruction) else {
                 return Err(AsmFault::Label {
                     line: earlier(placed.line, self.repeated),
                 });
@@ -38,52 +38,52 @@ impl<'a> Source<'a> {
         }
     }
 
-    /// The word of an instruction at this place, where its target is there and in range.
+    /// The word of an instruction at this address, where its target is there and in range.
     #[tactic(auto, unfolding(crate::specs::Linking::completed, crate::specs::Linking::jump_field))]
-    fn word_of(&self, place: usize, instruction: &Instruction<'a>) -> Option<u16>
-        requires { place < MOST_WORDS }
+    fn word_of(&self, address: usize, instruction: &Instruction<'a>) -> Option<u16>
+        requires { address < MOST_WORDS }
         ensures { (labels : Labels) → HasLabels self.now.labels labels →
-            result ≡ completed labels place (instruction_shown instruction.now) }
+            result ≡ completed labels address (instruction_shown instruction.now) }
     {
         match instruction.jump {
             None => Some(instruction.word),
             Some(jump) => {
-                let distance = self.distance_to(place, jump.target)?;
+                let distance = self.distance_to(address, jump.target)?;
                 let field = complement_of(distance, jump.reach)?;
                 Some((u32::from(instruction.word) + field) as u16)
             }
         }
     }
 
-    /// The distance to a target from the word after this place, where the target is there.
+    /// The distance to a target from the word after this address, where the target is there.
     #[tactic(auto, unfolding(crate::specs::Words::distance_to))]
-    fn distance_to(&self, place: usize, target: Target<'a>) -> Option<i32>
-        requires { place < MOST_WORDS }
+    fn distance_to(&self, address: usize, target: Target<'a>) -> Option<i32>
+        requires { address < MOST_WORDS }
         ensures { (labels : Labels) → HasLabels self.now.labels labels →
-            result ≡ distance_to labels place (target_shown target.entry) }
+            result ≡ distance_to labels address (target_shown target.entry) }
     {
         match target {
             Target::Distance(distance) => Some(distance),
-            Target::Label(name) => Some(behind(self.place_of(name)?, place)),
+            Target::Label(name) => Some(behind(self.address_of(name)?, address)),
         }
     }
 
     /// Where a label is, if it is anywhere.
-    fn place_of(&self, name: &'a [u8]) -> Option<u16>
+    fn address_of(&self, name: &'a [u8]) -> Option<u16>
         ensures { (labels : Labels) → HasLabels self.now.labels labels →
-            result ≡ place_of labels name.now }
+            result ≡ address_of labels name.now }
     {
         self.labels.get(name).copied()
     }
 }
 
-/// The distance to a place from the word after another.
+/// The distance to an address from the word after another.
 #[tactic(auto, using(std::proofs::lemmas::Int::ints))]
-fn behind(at: u16, place: usize) -> i32
-    requires { place < MOST_WORDS }
-    ensures { result ≡ pos at -ℤ pos (place + 1) }
+fn behind(at: u16, address: usize) -> i32
+    requires { address < MOST_WORDS }
+    ensures { result ≡ pos at -ℤ pos (address + 1) }
 {
-    i32::from(at) - (place as i32 + 1)
+    i32::from(at) - (address as i32 + 1)
 }
 
 /// A distance as two's complement, where it isn't below `-reach`, and below `reach`.
@@ -103,13 +103,13 @@ fn complement_of(distance: i32, reach: u16) -> Option<u32>
     }
 }
 
-/// The lower of two places, of which one may not be there.
+/// The lower of two numbers of lines, of which one may not be there.
 #[tactic(auto, unfolding(crate::specs::Linking::earlier))]
-fn earlier(place: u32, other: Option<u32>) -> u32
-    ensures { Some result ≡ earlier (Some place) other }
+fn earlier(number: u32, other: Option<u32>) -> u32
+    ensures { Some result ≡ earlier (Some number) other }
 {
     match other {
-        Some(other) => place.min(other),
-        None => place,
+        Some(other) => number.min(other),
+        None => number,
     }
 }

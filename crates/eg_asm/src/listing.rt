@@ -83,11 +83,11 @@ fn push_operands(text: &mut Vec<u8>, operands: &[Operand], word: u16) -> Result<
     Ok(())
 }
 
-/// What stands before the operand at this place, the first being 0.
-fn separator(place: usize) -> u8
-    ensures { result ≡ (if place == 0 then 32 else 44) }
+/// What stands before the operand of this index, the first being 0.
+fn separator(index: usize) -> u8
+    ensures { result ≡ (if index == 0 then 32 else 44) }
 {
-    if place == 0 { b' ' } else { b',' }
+    if index == 0 { b' ' } else { b',' }
 }
 
 /// Appends what a word has in an operand's place.

@@ -14,14 +14,14 @@ use eg_input::MOST_WORDS;
 use std::alloc::Global;
 use std::collections::BTreeMap;
 
-/// An instruction, and the place of its line.
+/// An instruction, and the number of its line.
 #[derive(Clone, Copy)]
 pub(crate) struct Placed<'a> {
     pub(crate) line: u32,
     pub(crate) instruction: Instruction<'a>,
 }
 
-/// The instructions of a source, where its labels are, and the place of the first line that repeats a label.
+/// The instructions of a source, where its labels are, and the number of the first line that repeats a label.
 #[derive(Drop)]
 pub(crate) struct Source<'a> {
     pub(crate) instructions: Vec<Placed<'a>>,
@@ -48,15 +48,15 @@ fn with_room(words: usize, line: Line<'_>) -> Option<Line<'_>>
     }
 }
 
-/// Why the line at this place may not come behind so many instructions.
+/// Why the line of this number may not come behind so many instructions.
 #[tactic(auto, unfolding(crate::specs::Reading::refusal))]
-fn refusal(words: usize, place: u32) -> AsmFault
-    ensures { result ≡ refusal words place }
+fn refusal(words: usize, number: u32) -> AsmFault
+    ensures { result ≡ refusal words number }
 {
     if words == MOST_WORDS {
         AsmFault::Long
     } else {
-        AsmFault::Line { line: place }
+        AsmFault::Line { line: number }
     }
 }
 
@@ -73,39 +73,39 @@ impl<'a> Source<'a> {
     }
 
     /// Reads a line, and keeps what it tells.
-    pub(crate) fn read(&mut self, place: u32, line: &'a [u8]) -> Result<(), AsmFault>
+    pub(crate) fn read(&mut self, number: u32, line: &'a [u8]) -> Result<(), AsmFault>
         requires { vec_len self.old.instructions ≤ MOST_WORDS }
-        ensures kept { OnOk result (ReadsMore place line.now self.old self.new) }
-        ensures fault { IfErr result (λ e. (e ≡ fault.Memory) ⊎ StopsAt place line.now self.old e) }
+        ensures kept { OnOk result (ReadsMore number line.now self.old self.new) }
+        ensures fault { IfErr result (λ e. (e ≡ fault.Memory) ⊎ StopsAt number line.now self.old e) }
     {
         let words = self.instructions.len();
         match line_behind(words, line) {
-            Some(tells) => self.add(place, tells),
-            None => Err(refusal(words, place)),
+            Some(tells) => self.add(number, tells),
+            None => Err(refusal(words, number)),
         }
     }
 
-    /// Keeps what the line at this place tells.
-    fn add(&mut self, place: u32, tells: Line<'a>) -> Result<(), AsmFault>
+    /// Keeps what the line of this number tells.
+    fn add(&mut self, number: u32, tells: Line<'a>) -> Result<(), AsmFault>
         requires { vec_len self.old.instructions ≤ MOST_WORDS }
-        ensures kept { OnOk result (Adds place (line_shown tells.entry) self.old self.new) }
+        ensures kept { OnOk result (Adds number (line_shown tells.entry) self.old self.new) }
         ensures memory { IfErr result (λ e. e ≡ fault.Memory) }
     {
         match tells {
             Line::Nothing => Ok(()),
-            Line::Label(name) => self.add_label(place, name),
-            Line::Instruction(instruction) => self.add_instruction(place, instruction),
+            Line::Label(name) => self.add_label(number, name),
+            Line::Instruction(instruction) => self.add_instruction(number, instruction),
         }
     }
 
-    /// Keeps a label that stands in the line at this place.
-    fn add_label(&mut self, place: u32, name: &'a [u8]) -> Result<(), AsmFault>
+    /// Keeps a label that stands in the line of this number.
+    fn add_label(&mut self, number: u32, name: &'a [u8]) -> Result<(), AsmFault>
         requires { vec_len self.old.instructions ≤ MOST_WORDS }
-        ensures kept { OnOk result (Adds place (tells.Label name.now) self.old self.new) }
+        ensures kept { OnOk result (Adds number (tells.Label name.now) self.old self.new) }
         ensures memory { IfErr result (λ e. e ≡ fault.Memory) }
     {
         if self.labels.contains_key(name) {
-            self.repeated = self.repeated.or(Some(place));
+            self.repeated = self.repeated.or(Some(number));
             return Ok(());
         }
         let words = self.instructions.len() as u16;
@@ -115,14 +115,14 @@ impl<'a> Source<'a> {
         }
     }
 
-    /// Keeps an instruction that stands in the line at this place.
-    fn add_instruction(&mut self, place: u32, instruction: Instruction<'a>) -> Result<(), AsmFault>
+    /// Keeps an instruction that stands in the line of this number.
+    fn add_instruction(&mut self, number: u32, instruction: Instruction<'a>) -> Result<(), AsmFault>
         ensures kept { OnOk result
-            (Adds place (tells.Instruction (instruction_shown instruction.entry)) self.old self.new) }
+            (Adds number (tells.Instruction (instruction_shown instruction.entry)) self.old self.new) }
         ensures memory { IfErr result (λ e. e ≡ fault.Memory) }
     {
         let placed = Placed {
-            line: place,
+            line: number,
             instruction,
         };
         match self.instructions.push(placed) {

@@ -11,14 +11,14 @@ pub(crate) fn cut(text: &[u8], byte: u8) -> (&[u8], Option<&[u8]>)
     ensures front { result.0.now ≡ before_first (is_byte byte) text.now }
     ensures behind { option_copied result.1 ≡ behind_first byte text.now }
 {
-    match place_of(text, byte) {
+    match index_of(text, byte) {
         Some(at) => (&text[..at], Some(&text[at + 1..])),
         None => (text, None),
     }
 }
 
-/// The place of the first such byte.
-fn place_of(text: &[u8], byte: u8) -> Option<usize>
+/// The index of the first such byte.
+fn index_of(text: &[u8], byte: u8) -> Option<usize>
     ensures { result ≡ position (is_byte byte) text.now }
 {
     text.iter().position(|b| *b == byte)

@@ -6,7 +6,7 @@ ghost use Rattle.eg_base.specs.Outside.{ShownSink, Rose, Appends, AppendsPrefix}
 use std::alloc::AllocError;
 
 /// Why a put was refused.
-#[derive(Clone, Copy, Debug, PartialEq, Eq)]
+#[derive(Clone, Copy, PartialEq, Eq)]
 pub enum PutRefusal {
     /// Writing failed: the output's count of faults rises, up to the last value of a u64.
     Failed,

@@ -6,7 +6,7 @@ ghost use Rattle.eg_base.specs.Outside.{ShownStore, Rose, Reads, BeginsWith, IsM
 use std::alloc::AllocError;
 
 /// Why a read was refused.
-#[derive(Clone, Copy, Debug, PartialEq, Eq)]
+#[derive(Clone, Copy, PartialEq, Eq)]
 pub enum ReadRefusal {
     /// There is no such file, or reading it failed: the store's count of faults rises, up to
     /// the last value of a u64.

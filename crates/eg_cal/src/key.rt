@@ -6,7 +6,7 @@ use eg_toml::DocumentFault;
 
 /// A key of a calibration file (docs/FORMATS.md, "Calibration files"). The variants stand in the order in
 /// which the keys are checked.
-#[derive(Clone, Copy, Debug, PartialEq, Eq)]
+#[derive(Clone, Copy, PartialEq, Eq)]
 pub enum CalKey {
     /// `version`: the version of the format, 1 or 2.
     Version,
@@ -71,7 +71,7 @@ pub enum CalKey {
 }
 
 /// Why a calibration file is refused (docs/FORMATS.md, "Calibration files").
-#[derive(Clone, Copy, Debug, PartialEq, Eq)]
+#[derive(Clone, Copy, PartialEq, Eq)]
 pub enum CalFault {
     /// There was no memory for the document.
     Memory,

@@ -6,7 +6,7 @@ use std::marker::Model;
 
 /// Draws numbers, one after another, and runs from them (docs/CONCEPT.md, "The generator of `soak`"). What it
 /// draws follows from the number that it begins with. Contracts see its state.
-#[derive(Debug, Drop)]
+#[derive(Drop)]
 pub struct Generator {
     state: u32,
 }

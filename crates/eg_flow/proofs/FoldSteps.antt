@@ -96,11 +96,11 @@ moves result mask some e =
     omega arith
 
 -- so the folds differ where at one place some bits are mixed into the result
-folds_differ : (seed place result mask : ℕ) (results other : List ℕ) → seed < 2 ^ 16 → All (λ result. result < 2 ^ 16) results → place < length results → 1 ≤ mask → mask < 2 ^ 16
-    → result < 2 ^ 16 → other ≡ slice_set results place (bit_xor result mask) → results ≡ slice_set results place result → fold_of seed other ≢ fold_of seed results
-folds_differ seed place result mask results other small words within some word own moved same e =
+folds_differ : (seed index result mask : ℕ) (results other : List ℕ) → seed < 2 ^ 16 → All (λ result. result < 2 ^ 16) results → index < length results → 1 ≤ mask → mask < 2 ^ 16
+    → result < 2 ^ 16 → other ≡ slice_set results index (bit_xor result mask) → results ≡ slice_set results index result → fold_of seed other ≢ fold_of seed results
+folds_differ seed index result mask results other small words within some word own moved same e =
     moves result mask some
-    (fold_law seed results place (bit_xor result mask) result small words (xor_of_16 result mask own word) own within
+    (fold_law seed results index (bit_xor result mask) result small words (xor_of_16 result mask own word) own within
     (ap (fold_of seed) (sym moved) ∙ e ∙ ap (fold_of seed) same))
 
 five_differ : (bits : ℕ) (d : ℕ → ℕ) (one mask r1 r2 r3 r4 r5 : ℕ) → 1 ≤ one → one ≤ 5 → 1 ≤ mask → mask < 2 ^ 16 → ((i : ℕ) → d i ≡ (if i == one then mask else 0)) → bits < 2 ^ 16

@@ -12,7 +12,7 @@ use eg_guard::Guarded;
 use eg_word::{Program, Registers, State, step_on};
 
 /// Level 1, which runs in slices (docs/CONCEPT.md, "Level 1").
-#[derive(Clone, Copy, Debug, PartialEq, Eq)]
+#[derive(Clone, Copy)]
 pub struct Host {
     /// Its machine.
     pub registers: Registers,

@@ -56,6 +56,6 @@ fn split_line(text: &[u8]) -> (&[u8], &[u8])
     ensures some { 1 ≤ length result.0.now }
 {
     let feed = text.iter().position(|byte| *byte == b'\n');
-    let end = feed.map_or(text.len(), |place| place + 1);
+    let end = feed.map_or(text.len(), |index| index + 1);
     text.split_at(end)
 }

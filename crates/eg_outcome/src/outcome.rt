@@ -8,7 +8,7 @@ use eg_input::{ImageFault, TraceFault};
 use eg_plan::CampaignFault;
 
 /// A file of a command, by what it is for.
-#[derive(Clone, Copy, Debug, PartialEq, Eq)]
+#[derive(Clone, Copy, PartialEq, Eq)]
 pub enum Role {
     /// The calibration file behind `--cal`.
     Calibration,
@@ -26,7 +26,7 @@ pub enum Role {
 
 /// Why a file was refused: the first rule that it breaks, in the order of docs/FORMATS.md; or why a run or a
 /// sweep that was asked for can't be.
-#[derive(Clone, Copy, Debug, PartialEq, Eq)]
+#[derive(Clone, Copy, PartialEq, Eq)]
 pub enum Refusal {
     /// The file has more than 4,194,304 bytes.
     Size { file: Role },
@@ -49,7 +49,7 @@ pub enum Refusal {
 }
 
 /// How a call of the program ends (docs/FORMATS.md, "Outcomes").
-#[derive(Clone, Copy, Debug, PartialEq, Eq)]
+#[derive(Clone, Copy, PartialEq, Eq)]
 pub enum Outcome {
     /// The whole text was written.
     Done,

@@ -7,7 +7,7 @@ use eg_toml::member;
 use toml::Table;
 
 /// A class of faults, without its numbers (docs/FORMATS.md, "Campaign files").
-#[derive(Clone, Copy, Debug, PartialEq, Eq)]
+#[derive(Clone, Copy)]
 pub(crate) enum ClassName {
     Script,
     Offset,

@@ -13,7 +13,7 @@ use toml::{Table, Value};
 
 /// Which engine stands on the bench in a run (docs/FORMATS.md, "Campaign files"). What each does is told in
 /// docs/CONCEPT.md, "Plant".
-#[derive(Clone, Copy, Debug, PartialEq, Eq)]
+#[derive(Clone, Copy)]
 pub enum EngineKind {
     /// `gasoline`: the gasoline engine, also of a run that names none.
     Gasoline,

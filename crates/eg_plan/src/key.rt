@@ -7,7 +7,7 @@ use eg_toml::DocumentFault;
 use std::alloc::{AllocError, AllocFailed};
 
 /// A key of a campaign file (docs/FORMATS.md, "Campaign files"): of the file, of a run or of a fault.
-#[derive(Clone, Copy, Debug, PartialEq, Eq)]
+#[derive(Clone, Copy, PartialEq, Eq)]
 pub enum RunKey {
     /// `run`: the runs.
     Run,
@@ -59,7 +59,7 @@ pub enum RunKey {
 
 /// Why a campaign is refused (docs/FORMATS.md, "Campaign files"). Runs are numbered from 1 in the file's
 /// order; 0 is the file as a whole.
-#[derive(Clone, Copy, Debug, PartialEq, Eq)]
+#[derive(Clone, Copy, PartialEq, Eq)]
 pub enum CampaignFault {
     /// There was no memory for the runs.
     Memory,

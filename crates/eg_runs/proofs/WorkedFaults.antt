@@ -31,7 +31,7 @@ pub path_1_closes-stages : stages_of (bench_run full (fault_from 11 Path1Closed)
 unfolding whole_model
 path_1_closes-stages = refl
 
--- ---- the reaction time is met: all torque is permitted at the first 12 ticks ----
+-- ---- the worst-case reaction is met: all torque is permitted at the first 12 ticks ----
 
 pub raised : report_on raised_run ≡ reported (Some (found.Torque, 16)) (Some 50) None (Some 16)
 unfolding whole_model

@@ -49,6 +49,6 @@ gap = replicate 9 at_rest ++ driven 0 800 10000 ∷ at_rest ∷ replicate 19 (dr
 abbrev pub gap_run : Option Fault → Run
 gap_run fault = run_of full fault gap
 
--- the report of a run in which no excess is confirmed, with this reaction time
+-- the report of a run in which no excess is confirmed, with this worst-case reaction
 abbrev pub reported_with : (bound : ℕ) → Option (Watch × ℕ) → Option ℕ → Summary
 reported_with bound first off = record (reported first off None None) { bound = bound }

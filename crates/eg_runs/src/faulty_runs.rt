@@ -25,7 +25,7 @@ pub fn path_1_closes_run()
         ≡ replicate 10 true ++ false ∷ replicate 29 true ++ replicate 20 false }
 {}
 
-/// The reaction time is met: path 1 is closed, a raise of 10,000 permits all torque up to tick 11, the
+/// The worst-case reaction is met: path 1 is closed, a raise of 10,000 permits all torque up to tick 11, the
 /// excess is confirmed at tick 16, the stages are still on at tick 49, and they are off at tick 50, which
 /// is 16 + 34.
 pub fn reaction_is_met()

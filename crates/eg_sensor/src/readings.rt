@@ -5,7 +5,7 @@ ghost use Rattle.eg_sensor.specs.Readings.{sound_readings};
 /// What the sensors read at one tick (docs/CONCEPT.md, "Sensors"): two tracks of pedal, plate, load and speed
 /// each, and the raise of the permitted torque (tenths of Nm) with its check word. The second tracks of pedal
 /// and plate fall.
-#[derive(Clone, Copy, Debug, PartialEq, Eq)]
+#[derive(Clone, Copy)]
 pub struct Readings {
     /// The tracks of the pedal, in per mille.
     pub pedal: [u16; 2],

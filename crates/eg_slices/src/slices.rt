@@ -11,7 +11,7 @@ const MOST: u64 = 1000;
 
 /// How many instructions level 1 may do in each of the nine slices of a tick, at most 1,000 in all
 /// (docs/CONCEPT.md, "Level 1"). Contracts see the list of the nine numbers.
-#[derive(Clone, Copy, Debug, PartialEq, Eq)]
+#[derive(Clone, Copy, PartialEq, Eq)]
 pub struct Slices {
     budget: [u16; 9],
 }

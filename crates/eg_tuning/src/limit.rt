@@ -6,7 +6,7 @@ use eg_module::test_ticks;
 use eg_values::Calibration;
 
 /// What a calibration comes to (docs/FORMATS.md, "The text of `limits`").
-#[derive(Clone, Copy, Debug, PartialEq, Eq)]
+#[derive(Clone, Copy)]
 pub struct Limits {
     /// The worst-case reaction, in ticks.
     pub reaction: u32,
@@ -23,7 +23,7 @@ pub struct Limits {
     pub spacing: Option<u32>,
 }
 
-/// What a calibration comes to (docs/CONCEPT.md, "Reaction time" and "Lapses").
+/// What a calibration comes to (docs/CONCEPT.md, "Worst-case reaction" and "Lapses").
 #[tactic(auto, unfolding(eg_answer::specs::Times::feeds_to_confirm))]
 pub fn limits_of(calibration: &Calibration) -> Limits
     ensures { AreLimits calibration.now result }

@@ -7,7 +7,7 @@ use eg_plant::PlantData;
 use std::marker::Model;
 
 /// Why parts don't go together as a calibration: the first of these rules that they break.
-#[derive(Clone, Copy, Debug, PartialEq, Eq)]
+#[derive(Clone, Copy)]
 pub enum Apart {
     /// Plant and rules have different torques of a load of 1000.
     Torque,

@@ -10,7 +10,7 @@ use crate::Register;
 /// `r[a]` is the word in register `a`, and sums and products wrap. Where nothing else is said the next
 /// instruction follows. Distances `d` count from the next instruction. Numbers are as narrow as they can be,
 /// so that an instruction takes four bytes.
-#[derive(Clone, Copy, Debug, PartialEq, Eq)]
+#[derive(Clone, Copy)]
 pub enum Instruction {
     /// Does nothing.
     Nop,

@@ -7,7 +7,7 @@ ghost use Rattle.eg_word.specs.World.{new_registers};
 use crate::Register;
 
 /// Why level 1 was stopped (docs/FORMATS.md, "Instructions").
-#[derive(Clone, Copy, Debug, PartialEq, Eq)]
+#[derive(Clone, Copy, PartialEq, Eq)]
 pub enum Trap {
     /// The next instruction would stand outside the code.
     Fetch,
@@ -20,7 +20,7 @@ pub enum Trap {
 }
 
 /// Whether level 1's machine runs.
-#[derive(Clone, Copy, Debug, PartialEq, Eq)]
+#[derive(Clone, Copy, PartialEq, Eq)]
 pub enum State {
     /// It does the instruction at `pc` next.
     Running,
@@ -31,7 +31,7 @@ pub enum State {
 }
 
 /// The machine that runs level 1 (docs/CONCEPT.md, "Level 1"). Its memory is outside of it.
-#[derive(Clone, Copy, Debug, PartialEq, Eq)]
+#[derive(Clone, Copy, PartialEq, Eq)]
 pub struct Registers {
     /// The address of the next instruction. It stands before the registers, so that the compiler sees that
     /// writing to one doesn't change it.

@@ -6,5 +6,5 @@ abbrev pub invariant-loop-line : goal.invariant-loop-line
 invariant-loop-line l = record {
   can : (goal.iterator-loop-line).can_next l.line-iterator;
   finite : (goal.iterator-loop-line).is_finite l.line-iterator;
-  read : IsRead l.bytes (split_inclusive_rest l.line-iterator) l.source l.place;
+  read : IsRead l.bytes (split_inclusive_rest l.line-iterator) l.source l.number;
 }
