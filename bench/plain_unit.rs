@@ -125,7 +125,7 @@ fn reference() -> Calibration {
     }
 }
 
-/// The reaction time.
+/// The worst-case reaction.
 fn reaction(times: &Times) -> u32 {
     let confirm = u32::from(times.weights.limit).div_ceil(u32::from(times.weights.up));
     (confirm + 1) * times.period - times.send - 1

@@ -1,5 +1,5 @@
 # A picture of two sweeps of one run, by two calibrations: for each class of fault the greatest reaction, and as a line
-# the reaction time, which bounds all of them but that of lapses. The two numbers are what `bound` prints.
+# the worst-case reaction, which bounds all of them but that of lapses. The two numbers are what `bound` prints.
 #   ./egasim sweep examples/sweep.toml late 1 >reference.txt
 #   ./egasim sweep --cal examples/strict.toml examples/sweep.toml late 1 >strict.txt
 #   gnuplot -c examples/plot_sweep.gp reference.txt 34 strict.txt 19 docs/sweep.png
@@ -18,8 +18,8 @@ set grid ytics lc rgb "#dddddd"
 class(name) = name[1:strlen(name) - 1]
 ticks(reaction) = reaction eq "none" ? 0 : real(reaction)
 plot ARG1 every ::0::13 using (ticks(strcol(23))):xtic(class(strcol(1))) lc rgb "#2c7fb8" title "reference calibration", \
-     real(ARG2) with lines lw 2 dashtype 2 lc rgb "#2c7fb8" title "its reaction time, ".ARG2, \
+     real(ARG2) with lines lw 2 dashtype 2 lc rgb "#2c7fb8" title "its worst-case reaction, ".ARG2, \
      ARG3 every ::0::13 using (ticks(strcol(23))) lc rgb "#c0392b" title "strict calibration", \
-     real(ARG4) with lines lw 2 dashtype 2 lc rgb "#c0392b" title "its reaction time, ".ARG4, \
+     real(ARG4) with lines lw 2 dashtype 2 lc rgb "#c0392b" title "its worst-case reaction, ".ARG4, \
      ARG1 every ::0::13 using ($0 - 0.17):(ticks(strcol(23))):(strcol(23)) with labels offset 0,0.6 font ",8" notitle, \
      ARG3 every ::0::13 using ($0 + 0.17):(ticks(strcol(23))):(strcol(23)) with labels offset 0,0.6 font ",8" notitle
