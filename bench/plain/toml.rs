@@ -212,7 +212,7 @@ enum Due {
 }
 
 /// The greatest weight with which a document is read.
-const MOST_WEIGHT: u64 = 54_400_000;
+const MOST_WEIGHT: u64 = 55_000_000;
 
 /// How many values a list has, and how many names a table.
 #[derive(Clone, Copy, Default)]
@@ -241,7 +241,7 @@ impl Scale {
         }
         match byte {
             b'[' if due == Due::Nothing => {
-                self.weight += 1440;
+                self.weight += 1480;
                 self.counts().names = 0;
                 self.due = Due::Heading;
             }
@@ -281,7 +281,7 @@ impl Scale {
     /// A value of the innermost list. Its room is for four at first, and for twice as many whenever it is full.
     fn item(&mut self) {
         self.weight += match self.counts().values {
-            0 => 176,
+            0 => 184,
             full if full >= 4 && full.is_power_of_two() => 40 * full,
             _ => 0,
         };

@@ -26,7 +26,7 @@ pub record Weighed : Type 0 where
 
 -- a heading
 abbrev pub heading_weight : ℕ
-heading_weight = 1440
+heading_weight = 1480
 
 -- a table: a `{`, or a name with a `.` behind it
 abbrev pub table_weight : ℕ
@@ -46,13 +46,13 @@ name_weight names = if nat_lt names 15 then 32 else 27_000
 abbrev pub is_full : ℕ → Bool
 is_full values = nat_le 4 values && bit_and values (values - 1) == 0
 
--- a value behind so many others of its list: 40 for each place of the room that it takes, and 16 for the list
+-- a value behind so many others of its list: 40 for each place of the room that it takes, and 24 for the list
 abbrev pub value_weight : ℕ → ℕ
-value_weight values = if values == 0 then 176 else if is_full values then 40 * values else 0
+value_weight values = if values == 0 then 184 else if is_full values then 40 * values else 0
 
 -- the greatest weight with which a document is read
 abbrev pub heaviest : ℕ
-heaviest = 54_400_000
+heaviest = 55_000_000
 
 -- how many lists and inline tables `toml` reads in one another
 abbrev pub deepest : ℕ

@@ -35,13 +35,13 @@ const NO_COUNTS: Counts = Counts {
 };
 
 /// The greatest weight with which a document is read.
-const HEAVIEST: u128 = 54_400_000;
+const HEAVIEST: u128 = 55_000_000;
 
 /// How many lists and inline tables may stand in one another.
 const MOST_OPEN: usize = 80;
 
 /// What a heading weighs, a table, and a text that is a value.
-const HEADING: u128 = 1440;
+const HEADING: u128 = 1480;
 
 const TABLE: u128 = 1296;
 
@@ -287,7 +287,7 @@ fn value_weight(values: u64) -> u128
     ensures { result ≡ spec.value_weight values }
 {
     if values == 0 {
-        176
+        184
     } else if values >= 4 && values & (values - 1) == 0 {
         40 * u128::from(values)
     } else {
