@@ -33,7 +33,7 @@ fn note_refusal<N: Sink>(refusal: &Refusal, file: &[u8], notes: &mut N)
     ensures { PutsNote (N.shows notes.old) (N.shows notes.new) (refusal_note refusal.now file.now) }
 {
     match refusal {
-        Refusal::Size { .. } => put_pieces(notes, &[file, b": longer than 4194304 bytes\n"]),
+        Refusal::Size { .. } => note_that(file, b": longer than 4194304 bytes\n", notes),
         Refusal::Calibration(fault) => note_calibration(fault, file, notes),
         Refusal::Check(fault) => note_trace(fault, file, notes),
         Refusal::Campaign(fault) => note_campaign(fault, file, notes),
@@ -49,25 +49,25 @@ fn note_calibration<N: Sink>(fault: &CalFault, file: &[u8], notes: &mut N)
     ensures { PutsNote (N.shows notes.old) (N.shows notes.new) (file.now ++ calibration_note fault.now) }
 {
     match fault {
-        CalFault::Memory => put_pieces(notes, &[file, b": no memory\n"]),
-        CalFault::Text => put_pieces(notes, &[file, b": not TOML\n"]),
-        CalFault::Key { key } => {
-            put_pieces(notes, &[file, b": key ", key.text().as_bytes(), b"\n"]);
-        }
-        CalFault::Axis { key } => {
-            put_pieces(notes, &[file, b": axis ", key.text().as_bytes(), b"\n"]);
-        }
-        CalFault::Rising { row } => {
-            let mut buffer = Buffer::new();
-            let row = buffer.format(*row).as_bytes();
-            put_pieces(notes, &[file, b": row ", row, b" falls\n"]);
-        }
-        CalFault::Window => put_pieces(notes, &[file, b": answer window\n"]),
-        CalFault::Answer { index } => {
-            let mut buffer = Buffer::new();
-            let index = buffer.format(*index).as_bytes();
-            put_pieces(notes, &[file, b": answer ", index, b"\n"]);
-        }
+        CalFault::Memory => note_that(file, b": no memory\n", notes),
+        CalFault::Text => note_that(file, b": not TOML\n", notes),
+        CalFault::Key { key } => note_text(file, b": key ", key.text().as_bytes(), b"\n", notes),
+        CalFault::Axis { key } => note_text(file, b": axis ", key.text().as_bytes(), b"\n", notes),
+        CalFault::Rising { row } => note_number(
+            file,
+            b": row ",
+            u32::from(*row),
+            b" falls\n",
+            notes,
+        ),
+        CalFault::Window => note_that(file, b": answer window\n", notes),
+        CalFault::Answer { index } => note_number(
+            file,
+            b": answer ",
+            u32::from(*index),
+            b"\n",
+            notes,
+        ),
     }
 }
 
@@ -75,15 +75,11 @@ fn note_trace<N: Sink>(fault: &TraceFault, file: &[u8], notes: &mut N)
     ensures { PutsNote (N.shows notes.old) (N.shows notes.new) (file.now ++ trace_note fault.now) }
 {
     match fault {
-        TraceFault::Memory => put_pieces(notes, &[file, b": no memory\n"]),
-        TraceFault::Header => put_pieces(notes, &[file, b": header\n"]),
-        TraceFault::Row { line } => {
-            let mut buffer = Buffer::new();
-            let line = buffer.format(*line).as_bytes();
-            put_pieces(notes, &[file, b": record ", line, b"\n"]);
-        }
-        TraceFault::Empty => put_pieces(notes, &[file, b": no records\n"]),
-        TraceFault::Long => put_pieces(notes, &[file, b": more than 20000 records\n"]),
+        TraceFault::Memory => note_that(file, b": no memory\n", notes),
+        TraceFault::Header => note_that(file, b": header\n", notes),
+        TraceFault::Row { line } => note_number(file, b": record ", *line, b"\n", notes),
+        TraceFault::Empty => note_that(file, b": no records\n", notes),
+        TraceFault::Long => note_that(file, b": more than 20000 records\n", notes),
     }
 }
 
@@ -91,13 +87,9 @@ fn note_image<N: Sink>(fault: &ImageFault, file: &[u8], notes: &mut N)
     ensures { PutsNote (N.shows notes.old) (N.shows notes.new) (file.now ++ image_note fault.now) }
 {
     match fault {
-        ImageFault::Memory => put_pieces(notes, &[file, b": no memory\n"]),
-        ImageFault::Line { line } => {
-            let mut buffer = Buffer::new();
-            let line = buffer.format(*line).as_bytes();
-            put_pieces(notes, &[file, b": line ", line, b"\n"]);
-        }
-        ImageFault::Long => put_pieces(notes, &[file, b": more than 1024 lines\n"]),
+        ImageFault::Memory => note_that(file, b": no memory\n", notes),
+        ImageFault::Line { line } => note_number(file, b": line ", *line, b"\n", notes),
+        ImageFault::Long => note_that(file, b": more than 1024 lines\n", notes),
     }
 }
 
@@ -105,18 +97,10 @@ fn note_source<N: Sink>(fault: &AsmFault, file: &[u8], notes: &mut N)
     ensures { PutsNote (N.shows notes.old) (N.shows notes.new) (file.now ++ source_note fault.now) }
 {
     match fault {
-        AsmFault::Memory => put_pieces(notes, &[file, b": no memory\n"]),
-        AsmFault::Line { line } => {
-            let mut buffer = Buffer::new();
-            let line = buffer.format(*line).as_bytes();
-            put_pieces(notes, &[file, b": line ", line, b"\n"]);
-        }
-        AsmFault::Label { line } => {
-            let mut buffer = Buffer::new();
-            let line = buffer.format(*line).as_bytes();
-            put_pieces(notes, &[file, b": label in line ", line, b"\n"]);
-        }
-        AsmFault::Long => put_pieces(notes, &[file, b": more than 1024 words\n"]),
+        AsmFault::Memory => note_that(file, b": no memory\n", notes),
+        AsmFault::Line { line } => note_number(file, b": line ", *line, b"\n", notes),
+        AsmFault::Label { line } => note_number(file, b": label in line ", *line, b"\n", notes),
+        AsmFault::Long => note_that(file, b": more than 1024 words\n", notes),
     }
 }
 
@@ -124,20 +108,18 @@ fn note_campaign<N: Sink>(fault: &CampaignFault, file: &[u8], notes: &mut N)
     ensures { PutsNote (N.shows notes.old) (N.shows notes.new) (file.now ++ campaign_note fault.now) }
 {
     match fault {
-        CampaignFault::Memory => put_pieces(notes, &[file, b": no memory\n"]),
-        CampaignFault::Text => put_pieces(notes, &[file, b": not TOML\n"]),
-        CampaignFault::Key { run, key } => {
-            note_key(*run, key.text().as_bytes(), file, notes);
-        }
-        CampaignFault::TwoFaults { run } => note_run(*run, b" has two faults\n", file, notes),
-        CampaignFault::Name { run } => note_run(*run, b" repeats a name\n", file, notes),
-        CampaignFault::Many => put_pieces(notes, &[file, b": more than 1000 runs\n"]),
-        CampaignFault::Ticks { run } => note_run(*run, b" passes 1000000 ticks\n", file, notes),
+        CampaignFault::Memory => note_that(file, b": no memory\n", notes),
+        CampaignFault::Text => note_that(file, b": not TOML\n", notes),
+        CampaignFault::Key { run, key } => note_key(file, *run, key.text().as_bytes(), notes),
+        CampaignFault::TwoFaults { run } => note_run(file, *run, b" has two faults\n", notes),
+        CampaignFault::Name { run } => note_run(file, *run, b" repeats a name\n", notes),
+        CampaignFault::Many => note_that(file, b": more than 1000 runs\n", notes),
+        CampaignFault::Ticks { run } => note_run(file, *run, b" passes 1000000 ticks\n", notes),
     }
 }
 
 /// Puts the line that tells a key of a run of the campaign.
-fn note_key<N: Sink>(run: u32, key: &[u8], file: &[u8], notes: &mut N)
+fn note_key<N: Sink>(file: &[u8], run: u32, key: &[u8], notes: &mut N)
     ensures { PutsNote (N.shows notes.old) (N.shows notes.new)
         (file.now ++ (codes ": run " ++ decimal run ++ codes " key " ++ key.now ++ codes "\n")) }
 {
@@ -147,13 +129,41 @@ fn note_key<N: Sink>(run: u32, key: &[u8], file: &[u8], notes: &mut N)
 }
 
 /// Puts the line that says this of a run of the campaign.
-fn note_run<N: Sink>(run: u32, says: &[u8], file: &[u8], notes: &mut N)
+fn note_run<N: Sink>(file: &[u8], run: u32, says: &[u8], notes: &mut N)
     ensures { PutsNote (N.shows notes.old) (N.shows notes.new)
         (file.now ++ (codes ": run " ++ decimal run ++ says.now)) }
 {
+    note_number(file, b": run ", run, says, notes);
+}
+
+/// Puts the line that tells a number of the file, between these texts.
+fn note_number<N: Sink>(file: &[u8], before: &[u8], number: u32, behind: &[u8], notes: &mut N)
+    ensures { PutsNote (N.shows notes.old) (N.shows notes.new)
+        (file.now ++ (before.now ++ decimal number ++ behind.now)) }
+{
     let mut buffer = Buffer::new();
-    let run = buffer.format(run).as_bytes();
-    put_pieces(notes, &[file, b": run ", run, says]);
+    note_text(
+        file,
+        before,
+        buffer.format(number).as_bytes(),
+        behind,
+        notes,
+    );
+}
+
+/// Puts the line that tells a text of the file, between these texts.
+fn note_text<N: Sink>(file: &[u8], before: &[u8], text: &[u8], behind: &[u8], notes: &mut N)
+    ensures { PutsNote (N.shows notes.old) (N.shows notes.new)
+        (file.now ++ (before.now ++ text.now ++ behind.now)) }
+{
+    put_pieces(notes, &[file, before, text, behind]);
+}
+
+/// Puts the line that says this of the file.
+fn note_that<N: Sink>(file: &[u8], says: &[u8], notes: &mut N)
+    ensures { PutsNote (N.shows notes.old) (N.shows notes.new) (file.now ++ says.now) }
+{
+    put_pieces(notes, &[file, says]);
 }
 
 /// Puts these pieces, up to the first that is refused.
