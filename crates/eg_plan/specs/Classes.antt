@@ -1,5 +1,5 @@
 -- The table of the classes of faults: the name of each, its own keys, and what they say.
-use Rattle.std.specs.Prelude.{ℕ, List, [], ◌∷◌, codes, bytes_eq, Option, Some, None, if◌then◌else◌}
+use Rattle.std.specs.Prelude.{◌≡◌, ℕ, List, [], ◌∷◌, codes, bytes_eq, Option, Some, None, if◌then◌else◌}
 use Rattle.toml.specs.Data.{Members, get_member, as_str}
 use Rattle.eg_toml.specs.Values.{◌>>=◌}
 use Rattle.eg_fault.specs.declared.class.Class.{Class}
@@ -62,6 +62,15 @@ class_of Path1Closed ms = class.Path1Closed
 class_of Path2Closed ms = class.Path2Closed
 class_of PathOpen ms = class.PathOpen (number_of path ms)
 class_of Lapse ms = class.Lapse (numbers_of after ms) (number_of every ms)
+
+-- a campaign tells this class by this name, with whatever numbers
+abbrev pub IsTold : ClassName → Class → Type 0
+IsTold name class = (ms : Members) × (class ≡ class_of name ms)
+
+-- these are the names of the classes: that of each is the one by which a campaign tells it
+abbrev pub AreNames : (Class → List ℕ) → Type 0
+AreNames name_of = (name : ClassName) (class : Class) → IsTold name class →
+    named_among class_names (name_of class) ≡ Some name
 
 -- the class that a table of `faults` names
 abbrev pub class_in : Members → Option ClassName

@@ -1,5 +1,5 @@
 // The classes of faults by their names.
-ghost use Rattle.std.specs.Prelude.{◌≡◌, option_copied};
+ghost use Rattle.std.specs.Prelude.{◌≡◌};
 ghost use Rattle.toml.specs.View.{table_view};
 ghost use Rattle.eg_plan.specs.Classes.{class_names, named_among, class_in};
 

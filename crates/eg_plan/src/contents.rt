@@ -1,6 +1,5 @@
 // What stands under the keys of a campaign file, or the refusal of the key.
-ghost use Rattle.std.specs.Prelude.{◌≡◌, ◌≤◌, ◌+◌, ◌++◌, [], pos, true, IfOk, IfSome, IsTrue, ◌↔◌, All, length, option_copied, unwrap_or};
-ghost use Rattle.std.specs.List.{list_all, sum};
+ghost use Rattle.std.specs.Prelude.{◌≡◌, ◌≤◌, ◌+◌, [], pos, true, IfOk, IsTrue, ◌↔◌, length, unwrap_or};
 ghost use Rattle.std.specs.List.Sorted.{IsStrictlyIncreasing};
 ghost use Rattle.arrayvec.specs.ArrayVec.{array_vec_len};
 ghost use Rattle.toml.specs.Data.{as_bool};
@@ -10,7 +9,7 @@ ghost use Rattle.eg_toml.specs.Arrays.{all_read, is_rising, one, HasRead};
 ghost use Rattle.eg_plan.specs.declared.key.CampaignFault.TheVariants.{Key};
 ghost use Rattle.eg_plan.specs.Keys.{text_of};
 ghost use Rattle.eg_toml.specs.Refusals.{Checks, unless_some};
-ghost use Rattle.eg_plan.specs.Contents.{optional_at, is_shift, shift_in, shift_at, words_at, ticks_in, ticks_at, truths_in, truths_at};
+ghost use Rattle.eg_plan.specs.Contents.{optional_at, shift_in, shift_at, words_at, ticks_in, ticks_at, truths_in, truths_at};
 
 use crate::{CampaignFault, RunKey};
 use arrayvec::ArrayVec;

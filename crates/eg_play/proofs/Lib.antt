@@ -2,5 +2,6 @@ pub mod NameLemmas
 pub mod InputsLemmas
 pub mod HeadlineLemmas
 pub mod PlayLemmas
+pub mod SpellingLemmas
 pub mod SweepLemmas
 pub mod TableLemmas

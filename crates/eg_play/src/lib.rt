@@ -9,6 +9,7 @@ mod campaign;
 mod end;
 mod input;
 mod inputs;
+mod laws;
 mod named;
 mod recording;
 mod report;
@@ -21,6 +22,7 @@ mod telling;
 mod texts;
 
 pub use end::End;
+pub use laws::classes_are_spelt_as_in_campaigns;
 pub use recording::record;
 pub use running::run;
 pub use sweeping::sweep;

@@ -1,7 +1,6 @@
 // The rows of `table` are written.
 ghost use Rattle.std.specs.Prelude.{◌≡◌, All, map, IfOk};
-ghost use Rattle.eg_answer.specs.Times.{reaction_of};
-ghost use Rattle.eg_campaign.specs.Groups.{rows_made, told_with};
+ghost use Rattle.eg_campaign.specs.Groups.{rows_made};
 ghost use Rattle.eg_campaign.specs.Plays.{IsPlayable, run_with};
 ghost use Rattle.eg_outcome.specs.Outcomes.{PutsNothing};
 ghost use Rattle.eg_play.specs.Texts.{table_text, table_by};

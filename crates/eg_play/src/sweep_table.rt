@@ -1,9 +1,8 @@
 // The table of a sweep is written.
-ghost use Rattle.std.specs.Prelude.{◌≡◌, ◌≤◌, All, map, length, IfOk, Err};
-ghost use Rattle.eg_fault.specs.Faults.{IsValid};
+ghost use Rattle.std.specs.Prelude.{◌≡◌, ◌≤◌, All, map, length, Err};
 ghost use Rattle.eg_campaign.specs.Groups.{rows_made, facts_by};
 ghost use Rattle.eg_campaign.specs.Plays.{IsPlayable, run_with};
-ghost use Rattle.eg_sweep.specs.Grid.{is_too_large, swept_faults};
+ghost use Rattle.eg_sweep.specs.Grid.{is_too_large};
 ghost use Rattle.eg_sweep.specs.Table.{table_of};
 ghost use Rattle.eg_sweep.specs.Texts.{sweep_text_of};
 ghost use Rattle.eg_outcome.specs.Outcomes.{PutsNothing, TellsNoMemory};
