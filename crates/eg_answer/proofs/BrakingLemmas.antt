@@ -1,12 +1,9 @@
 -- A brake that is taken as pressed permits no more.
 use Rattle.std.proofs.Common.{ℕ, ◌≤◌, Bool, true, false, arith}
-use Rattle.eg_num.specs.Interpolation.{IsGrid}
-use Rattle.eg_torque.specs.Permit.{DoesNotFall}
 use Rattle.eg_torque.proofs.PermitLemmas.{permitted-rises}
 use Rattle.eg_sensor.specs.Readings.{used_pedal, checked_raise}
 use Rattle.eg_sensor.specs.Brake.{gated}
 use Rattle.eg_sensor.specs.declared.readings.Readings.{Readings}
-use Rattle.eg_answer.specs.declared.rules.Rules.{Rules}
 use Rattle.eg_answer.specs.Formulas.{permitted_torque}
 use Rattle.eg_answer.specs.Braking.{GatingPermitsNoMore}
 

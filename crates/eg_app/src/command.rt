@@ -1,5 +1,5 @@
 // The words of the command line.
-ghost use Rattle.std.specs.Prelude.{◌≡◌, ◌≤◌, ◌+◌, [], Some, length, option_map, unwrap_or, slice_index_or, IfSome};
+ghost use Rattle.std.specs.Prelude.{◌≡◌, ◌≤◌, ◌+◌, [], Some, length, option_map, unwrap_or, IfSome};
 ghost use Rattle.std.specs.Option.{option_copied};
 ghost use Rattle.eg_app.specs.Notes.{calibration_name, check_name, campaign_name, translated_name, name_of, role_of, file_role, name_in_words};
 ghost use Rattle.eg_app.specs.Words.{words_of, is_name, names_calibration, is_check, is_alone, is_on_campaign, is_record, is_sweep, step_in, word, sweep, is_on_file, of_file, form_of, alone_of, is_soak, soak_form, calibrated_of, command_of, said, KeepsLimits};

@@ -1,5 +1,5 @@
 // `run`, `table`, `record` and `sweep`: beside eg_play's own clauses, when the calibration is missing.
-ghost use Rattle.std.specs.Prelude.{◌≡◌, ◌≤◌, Some};
+ghost use Rattle.std.specs.Prelude.{◌≤◌, Some};
 ghost use Rattle.std.specs.Option.{option_copied};
 ghost use Rattle.eg_outcome.specs.Outcomes.{EndsOrderly};
 ghost use Rattle.eg_play.specs.Ends.{RunCommandEnds, RecordCommandEnds, SweepCommandEnds, NamesFile, role_in};

@@ -1,5 +1,5 @@
 -- From what is kept of a source to its answer.
-use Rattle.std.proofs.Common.{◌≡◌, ◌∙◌, sym, ap, refl, subst, ℕ, List, [], Bor, Option, map, Result, Ok, Err, ◌⊎◌, inl, inr}
+use Rattle.std.proofs.Common.{◌≡◌, ◌∙◌, sym, ap, subst, ℕ, List, [], map, Result, Ok, Err, ◌⊎◌, inl, inr}
 use Rattle.std.specs.Prelude.{IfOk, IfErr}
 use Rattle.std.specs.declared.vec.Vec.{Vec}
 use Rattle.std.specs.declared.alloc.Global.{Global}
@@ -8,7 +8,7 @@ use Rattle.eg_asm.specs.declared.fault.AsmFault.{AsmFault}
 use Rattle.eg_asm.specs.declared.fault.AsmFault.TheVariants as fault
 use Rattle.eg_asm.specs.declared.source.Source.{Source}
 use Rattle.eg_asm.specs.Grammar.{Item}
-use Rattle.eg_asm.specs.Words.{Labels, labels_of, first_fault}
+use Rattle.eg_asm.specs.Words.{Labels, labels_of}
 use Rattle.eg_asm.specs.Encodings.{Encoded}
 use Rattle.eg_asm.specs.Kept.{Holds, placed_shown, instructions_from, repeat_behind}
 use Rattle.eg_asm.specs.Linking.{linked_kept, HasLabels}

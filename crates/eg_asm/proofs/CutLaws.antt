@@ -1,13 +1,12 @@
 -- The lines of a text, and which of them say something.
-use Rattle.std.proofs.Common.{◌≡◌, ◌≢◌, ◌∙◌, sym, ap, refl, subst, ℕ, ◌<◌, List, [], ◌∷◌, ◌++◌, length, Bool, true, false, cond, Option, Some, None, ◌⊎◌, inl, inr, arith, append-nil}
-use Rattle.std.specs.Prelude.{◌||◌, ◌==◌, option_map, option_and_then}
-use Rattle.std.specs.Char.{is_newline}
+use Rattle.std.proofs.Common.{◌≡◌, ◌≢◌, ◌∙◌, sym, ap, refl, subst, ℕ, ◌<◌, List, [], ◌∷◌, ◌++◌, length, Bool, true, false, cond, Some, None, ◌⊎◌, inl, inr, arith, append-nil}
+use Rattle.std.specs.Prelude.{◌||◌, ◌==◌}
 use Rattle.std.specs.List.{list_any, concat, onto_first}
 use Rattle.std.proofs.lemmas.Bool.Decides.{nat_tests}
 use Rattle.eg_input.specs.Images.{Line, lines_of}
 use Rattle.eg_input.proofs.LineLemmas.{lines_of-nothing, lines_of-line, concat-lines_of}
 use Rattle.eg_asm.specs.Grammar.{Item, IsItem, IsLineOf, text_of, line_of}
-use Rattle.eg_asm.specs.Reading.{is_byte, before_last_byte, item_of_text, item_in}
+use Rattle.eg_asm.specs.Reading.{is_byte, item_in}
 use Rattle.eg_asm.proofs.TextLaws.{Lacks, lacks-all, before_last-there, before_last-nowhere}
 use Rattle.eg_asm.proofs.LineLaws.{text_of-feed, item_of_text-written, item_of_text-back}
 

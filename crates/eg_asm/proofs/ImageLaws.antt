@@ -1,10 +1,9 @@
 -- What words are written as, digit by digit, is an image of these words.
-use Rattle.std.proofs.Common.{◌≡◌, ◌∙◌, sym, ap, refl, ℕ, suc, ◌+◌, ◌*◌, ◌%◌, ◌/◌, ◌<◌, ◌≤◌, List, [], ◌∷◌, ◌++◌, length, get_or, map, codes, Some, arith}
-use Rattle.std.specs.Prelude.{slice_index}
+use Rattle.std.proofs.Common.{◌≡◌, ap, refl, ℕ, suc, ◌+◌, ◌%◌, ◌/◌, ◌<◌, ◌≤◌, List, [], ◌∷◌, ◌++◌, length, map, codes, arith}
 use Rattle.std.specs.Int.{to_be_bytes, w16}
-use Rattle.std.specs.List.{AllZip, concat, flat_map}
+use Rattle.std.specs.List.{AllZip, concat}
 use Rattle.std.proofs.lemmas.List.{length-map}
-use Rattle.hex.specs.Hex.{encode_lower, encode_with, lower_digits, hex_digit_value}
+use Rattle.hex.specs.Hex.{encode_lower, encode_with}
 use Rattle.hex.proofs.HexLemmas.{IsDigits-lower_digits}
 use Rattle.eg_input.specs.Images.{Line, WritesWord, IsImageOf}
 use Rattle.eg_asm.specs.Listings.{image_text}

@@ -1,15 +1,14 @@
 -- What is kept of one item more.
-use Rattle.std.proofs.Common.{◌≡◌, ◌∙◌, sym, ap, refl, subst, ℕ, ◌+◌, ◌≤◌, List, [], ◌∷◌, ◌++◌, length, Bool, true, false, cond, Option, Some, None, arith, append-nil, append_assoc, length-append}
-use Rattle.std.specs.Prelude.{is_some, IsSome, option_map, ◌||◌}
+use Rattle.std.proofs.Common.{◌≡◌, ◌∙◌, sym, ap, refl, subst, ℕ, ◌+◌, List, [], ◌∷◌, ◌++◌, length, Bool, true, false, cond, Option, Some, None, arith, append-nil, append_assoc, length-append}
+use Rattle.std.specs.Prelude.{is_some, IsSome}
 use Rattle.std.specs.List.{cons_option}
 use Rattle.std.specs.Option.{option_map_or, option_or}
-use Rattle.std.specs.Map.{lookup}
 use Rattle.std.specs.Str.{bytes_eq}
 use Rattle.std.proofs.lemmas.Slice.Eq.{bytes_eq-Decides}
 use Rattle.eg_asm.specs.Forms.{Form, form_named}
 use Rattle.eg_asm.specs.Grammar.{Value, Item, Nothing, Comment, Label, Instruction}
 use Rattle.eg_asm.specs.Words.{Labels, size, word_count, labels_from, labels_of, address_of}
-use Rattle.eg_asm.specs.Encodings.{Encoded, Told, told, encoded}
+use Rattle.eg_asm.specs.Encodings.{Encoded, told, encoded}
 use Rattle.eg_asm.specs.Encodings as tells
 use Rattle.eg_asm.specs.Kept.{numbered, instructions_from, is_repeat, repeat_behind, Keeps, HasForm}
 

@@ -1,8 +1,8 @@
 -- A word is written in at most 14 bytes.
-use Rattle.std.proofs.Common.{◌≡◌, ◌∙◌, sym, ap, refl, ℕ, ◌+◌, ◌*◌, ◌-◌, ◌%◌, ◌/◌, ◌^◌, ◌<◌, ◌≤◌, List, [], ◌∷◌, ◌++◌, length, get_or, map, Bool, true, false, cond, Option, Some, None, arith, lit<, lit≤, mod-lt, length-append}
+use Rattle.std.proofs.Common.{◌≡◌, refl, ℕ, ◌+◌, ◌*◌, ◌-◌, ◌%◌, ◌/◌, ◌^◌, ◌<◌, ◌≤◌, List, [], ◌∷◌, ◌++◌, length, get_or, map, Bool, true, false, Option, Some, None, arith, lit<, lit≤, mod-lt, length-append}
 use Rattle.std.specs.Prelude.{◌==◌, ◌&&◌, nat_lt, nat_le, find, unwrap_or}
-use Rattle.std.specs.List.{flat_map, join_with_byte, list_all}
-use Rattle.std.specs.Int.Digits.{digits_of, number_from_digits}
+use Rattle.std.specs.List.{join_with_byte, list_all}
+use Rattle.std.specs.Int.Digits.{digits_of}
 use Rattle.std.proofs.lemmas.Bool.Decides.{nat_tests}
 use Rattle.std.proofs.lemmas.Int.Digits.{all_below_base_digits_of, first_digits_of, length-digits_of-le, number_digits_of, number_lt}
 use Rattle.std.proofs.lemmas.List.{length-map}
@@ -10,8 +10,8 @@ use Rattle.eg_asm.specs.declared.operand.Operand.{Operand}
 use Rattle.eg_asm.specs.declared.operand.Operand.TheVariants as operand
 use Rattle.eg_asm.specs.Forms.{Form, forms, word_form}
 use Rattle.eg_asm.specs.Numerals.{numeral, integer}
-use Rattle.eg_asm.specs.Grammar.{Value, text_of_value, text_of_values, text_of, line_of}
-use Rattle.eg_asm.specs.Usable.{is_usable, are_usable}
+use Rattle.eg_asm.specs.Grammar.{text_of_value, text_of_values, text_of, line_of}
+use Rattle.eg_asm.specs.Usable.{is_usable}
 use Rattle.eg_asm.specs.Listings.{value_in, values_in, is_of, form_of, item_of, source_text}
 use Rattle.eg_word.specs.Instructions.{signed}
 use Rattle.eg_asm.proofs.FormLemmas.{find-all}

@@ -1,8 +1,8 @@
 -- Reading a line undoes writing it.
-use Rattle.std.proofs.Common.{◌≡◌, ◌∙◌, sym, ap, refl, subst, ℕ, ◌+◌, ◌-◌, ◌<◌, ◌≤◌, ℤ, pos, negsuc, List, [], ◌∷◌, ◌++◌, length, map, Bool, true, false, cond, Option, Some, None, arith, lit<, append-nil}
-use Rattle.std.specs.Prelude.{All, IsSomeAnd, ◌&&◌, ◌||◌, ◌==◌, nat_le, codes, option_map, option_and_then}
-use Rattle.std.specs.Char.{is_ascii_digit, is_ascii_lowercase, is_newline}
-use Rattle.std.specs.List.{AllZip, list_all, list_any, before_first, slice_split, join_with_byte}
+use Rattle.std.proofs.Common.{◌≡◌, ◌∙◌, sym, ap, refl, subst, ℕ, ◌+◌, ◌-◌, ◌<◌, pos, negsuc, List, [], ◌∷◌, ◌++◌, length, map, Bool, true, false, cond, Option, Some, None, arith, lit<, append-nil}
+use Rattle.std.specs.Prelude.{All, IsSomeAnd, ◌&&◌, ◌||◌, ◌==◌, nat_le, option_map, option_and_then}
+use Rattle.std.specs.Char.{is_ascii_digit, is_ascii_lowercase}
+use Rattle.std.specs.List.{AllZip, list_all, before_first, join_with_byte}
 use Rattle.std.proofs.lemmas.Bool.Decides.{nat_tests}
 use Rattle.std.proofs.lemmas.List.Elements.{All-nil, All-cons}
 use Rattle.std.proofs.lemmas.List.Folds.{list_all-append}
@@ -11,9 +11,9 @@ use Rattle.eg_asm.specs.declared.operand.Operand.{Operand}
 use Rattle.eg_asm.specs.declared.operand.Operand.TheVariants as operand
 use Rattle.eg_asm.specs.Forms.{Form, forms, form_named}
 use Rattle.eg_asm.specs.Numerals.{numeral, integer, is_name}
-use Rattle.eg_asm.specs.Grammar.{Value, Register, Number, Name, Distance, Item, Nothing, Comment, Label, Instruction, Fits, IsItem, text_of_value, text_of_values, text_of, line_of}
+use Rattle.eg_asm.specs.Grammar.{Value, Register, Number, Name, Distance, Item, Nothing, Comment, Label, Instruction, Fits, IsItem, text_of_value, text_of_values, text_of}
 use Rattle.eg_asm.specs.Reading.{is_byte, behind_first, before_last_byte, texts_in, value_of, value_before, values_of, instruction_in, labelled, item_of_text, item_in}
-use Rattle.eg_asm.proofs.FormLemmas.{each_form, form_named-mnemonic, form_named-same}
+use Rattle.eg_asm.proofs.FormLemmas.{each_form, form_named-mnemonic}
 use Rattle.eg_asm.proofs.NumeralLaws.{numeral-digits}
 use Rattle.eg_asm.proofs.TextLaws.{Lacks, lacks_parts, lacks-append, cut-there, cut-nowhere, cut-back, cut-back_none, split-joined, before_last-there, before_last-back, before_last-nowhere}
 use Rattle.eg_asm.proofs.ValueLaws.{value_of-written, value_of-back}

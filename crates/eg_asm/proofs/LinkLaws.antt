@@ -1,6 +1,6 @@
 -- The words and faults of items are those of what is kept of them.
-use Rattle.std.proofs.Common.{◌≡◌, ◌∙◌, sym, ap, refl, ℕ, ◌+◌, ◌*◌, ◌<◌, ◌≤◌, ℤ, pos, negsuc, min, List, [], ◌∷◌, ◌++◌, length, Bool, true, false, cond, Option, Some, None, arith, length-append}
-use Rattle.std.specs.Prelude.{◌&&◌, nat_lt, nat_le, not, is_some, is_none, IsSomeAnd, option_map, option_and_then}
+use Rattle.std.proofs.Common.{◌≡◌, ◌∙◌, sym, ap, refl, ℕ, ◌+◌, ◌*◌, ◌≤◌, ℤ, pos, negsuc, min, List, [], ◌∷◌, ◌++◌, length, Bool, true, false, cond, Option, Some, None, arith, length-append}
+use Rattle.std.specs.Prelude.{◌&&◌, nat_lt, nat_le, not, is_some, option_map, option_and_then}
 use Rattle.std.specs.List.{AllByRecursion, AllZip, cons_option, list_all}
 use Rattle.std.proofs.lemmas.Bool.Decides.{nat_tests}
 use Rattle.eg_asm.specs.declared.operand.Operand.{Operand}

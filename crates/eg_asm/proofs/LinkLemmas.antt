@@ -1,6 +1,5 @@
 -- How the words of what is kept are found, one after the other.
-use Rattle.std.proofs.Common.{◌≡◌, ◌∙◌, ap, refl, ℕ, ◌+◌, ◌<◌, ◌≤◌, List, [], ◌∷◌, length, drop, get_or, Option, Some, None}
-use Rattle.std.specs.Prelude.{is_some}
+use Rattle.std.proofs.Common.{◌≡◌, refl, ℕ, ◌+◌, ◌<◌, ◌≤◌, List, [], ◌∷◌, length, drop, get_or, Some, None}
 use Rattle.std.proofs.lemmas.List.{drop_all, drop_more}
 use Rattle.eg_asm.specs.Words.{Labels}
 use Rattle.eg_asm.specs.Encodings.{Encoded}

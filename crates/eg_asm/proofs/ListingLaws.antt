@@ -1,15 +1,15 @@
 -- What words are written as is a source of these words, and short.
-use Rattle.std.proofs.Common.{◌≡◌, ◌∙◌, sym, ap, refl, ℕ, zero, suc, ◌+◌, ◌*◌, ◌-◌, ◌/◌, ◌%◌, ◌^◌, ◌<◌, ◌≤◌, List, [], ◌∷◌, ◌++◌, length, map, get_or, Bool, true, false, cond, Option, Some, None, arith, lit<, lit≤, mod-lt, mod-eq_of_lt, length-append}
-use Rattle.std.specs.Prelude.{◌==◌, ◌&&◌, nat_lt, nat_le, find, unwrap_or, option_map, option_and_then, is_some, IsSomeAnd, All, Result, Ok}
-use Rattle.std.specs.List.{AllByRecursion, AllZip, cons_option, flat_map, list_all}
+use Rattle.std.proofs.Common.{◌≡◌, ◌∙◌, sym, ap, refl, ℕ, suc, ◌+◌, ◌-◌, ◌/◌, ◌%◌, ◌<◌, ◌≤◌, List, [], ◌∷◌, ◌++◌, length, map, get_or, Bool, true, false, cond, Option, Some, None, arith, lit<, mod-lt, mod-eq_of_lt}
+use Rattle.std.specs.Prelude.{◌==◌, nat_lt, find, unwrap_or, is_some, All, Result, Ok}
+use Rattle.std.specs.List.{AllByRecursion, AllZip, flat_map}
 use Rattle.std.specs.Option.{option_map_or}
 use Rattle.std.proofs.lemmas.Bool.Decides.{nat_tests}
 use Rattle.std.proofs.lemmas.List.{get_or_past}
 use Rattle.eg_asm.specs.declared.operand.Operand.{Operand}
 use Rattle.eg_asm.specs.declared.operand.Operand.TheVariants as operand
 use Rattle.eg_asm.specs.Forms.{Form, forms, word_form, form_named}
-use Rattle.eg_asm.specs.Grammar.{Value, Register, Number, Name, Distance, Fits, Item, Instruction, IsItem, IsTextOf, line_of}
-use Rattle.eg_asm.specs.Words.{Labels, size, word_count, labels_from, labels_of, distance_to, field_of, added, fields_of, word_with, word_of, word_at, words_from, words_of, is_sound, fault_behind, first_fault}
+use Rattle.eg_asm.specs.Grammar.{Register, Number, Fits, Item, IsItem, line_of}
+use Rattle.eg_asm.specs.Words.{Labels, size, word_count, labels_from, labels_of, field_of, fields_of, word_with, word_of, word_at, words_from, is_sound, fault_behind}
 use Rattle.eg_asm.specs.Listings.{value_in, values_in, is_of, form_of, item_of, source_text}
 use Rattle.eg_asm.specs.declared.fault.AsmFault.{AsmFault}
 use Rattle.eg_asm.specs.Sources.{IsSourceOf, Assembles}

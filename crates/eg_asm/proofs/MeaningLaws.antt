@@ -1,14 +1,14 @@
 -- The machine reads the word of an instruction as what the instruction means.
-use Rattle.std.proofs.Common.{◌≡◌, ◌∙◌, sym, ap, refl, ℕ, ◌+◌, ◌*◌, ◌-◌, ◌%◌, ◌/◌, ◌<◌, ◌≤◌, ℤ, pos, negsuc, ◌-ℤ◌, List, [], ◌∷◌, Bool, true, false, cond, Option, Some, None, arith}
-use Rattle.std.specs.Prelude.{◌==◌, nat_lt, IsSomeAnd, option_and_then, option_map}
+use Rattle.std.proofs.Common.{◌≡◌, ◌∙◌, ap, refl, ℕ, ◌+◌, ◌*◌, ◌-◌, ◌%◌, ◌/◌, ◌<◌, ℤ, pos, negsuc, ◌-ℤ◌, List, Bool, true, false, cond, Option, Some, None, arith}
+use Rattle.std.specs.Prelude.{nat_lt, option_map}
 use Rattle.std.proofs.lemmas.Bool.Decides.{nat_tests}
 use Rattle.std.proofs.lemmas.Int.{ints}
 use Rattle.eg_word.specs.Instructions.{signed, instruction_with, instruction_of}
 use Rattle.eg_word.specs.declared.instruction.Instruction.{Instruction}
 use Rattle.eg_word.specs.declared.instruction.Instruction.TheVariants as machine
 use Rattle.eg_asm.specs.Forms.{forms, form_named}
-use Rattle.eg_asm.specs.Grammar.{Value, Item, Instruction as instruction, Fits, IsItem}
-use Rattle.eg_asm.specs.Words.{Labels, complement_of, distance_to, added, field_of, fields_of, word_with, word_of}
+use Rattle.eg_asm.specs.Grammar.{Value, Instruction as instruction, Fits, IsItem}
+use Rattle.eg_asm.specs.Words.{Labels, complement_of, added, field_of, fields_of, word_with, word_of}
 use Rattle.eg_asm.specs.Meanings.{Means, nop, ldi, ldx, mov, add, sub, and, or, xor, shr, mul, ld, st, jz, jlt, wait, jr}
 
 -- ---- fields of a word ----

@@ -1,14 +1,14 @@
 -- Each instruction but `word` means one of the machine.
 use Rattle.std.proofs.Common.{◌≡◌, ◌≢◌, ◌∙◌, sym, ap, refl, ℕ, ◌+◌, ◌*◌, ℤ, List, [], ◌∷◌, Option, Some, None, codes, arith}
-use Rattle.std.specs.Prelude.{find, option_map, option_and_then}
+use Rattle.std.specs.Prelude.{option_map, option_and_then}
 use Rattle.std.specs.List.{AllByRecursion, AllZip}
 use Rattle.std.specs.Str.{bytes_eq}
 use Rattle.eg_word.specs.declared.instruction.Instruction.{Instruction}
 use Rattle.eg_word.specs.declared.instruction.Instruction.TheVariants as machine
 use Rattle.eg_asm.specs.declared.operand.Operand.{Operand}
 use Rattle.eg_asm.specs.declared.operand.Operand.TheVariants as operand
-use Rattle.eg_asm.specs.Forms.{Form, forms, form_named, rA, rB, rC}
-use Rattle.eg_asm.specs.Grammar.{Value, Register, Number, Name, Distance, Item, Instruction as instruction, Fits, IsItem}
+use Rattle.eg_asm.specs.Forms.{forms, form_named, rA, rB, rC}
+use Rattle.eg_asm.specs.Grammar.{Value, Register, Number, Name, Distance, Instruction as instruction, Fits, IsItem}
 use Rattle.eg_asm.specs.Words.{Labels, complement_of, distance_to, added, field_of, fields_of, word_with, word_of}
 use Rattle.eg_asm.specs.Meanings.{Means, nop, ldi, ldx, mov, add, sub, and, or, xor, shr, mul, ld, st, jz, jlt, wait, jr}
 use Rattle.eg_asm.proofs.FormLemmas.{form_named-mnemonic}

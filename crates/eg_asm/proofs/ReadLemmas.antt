@@ -1,12 +1,11 @@
 -- How lines are read, one after the other.
 use Rattle.std.proofs.Common.{◌≡◌, ◌∙◌, sym, ap, refl, subst, ℕ, ◌+◌, ◌<◌, ◌≤◌, List, [], ◌∷◌, ◌++◌, length, Option, Some, None, Result, Ok, Err, option_map, arith, append-nil, append_assoc, length-append}
-use Rattle.std.specs.Prelude.{OnOk, IsSome, min}
+use Rattle.std.specs.Prelude.{min}
 use Rattle.std.specs.List.{AllByRecursion}
 use Rattle.eg_input.specs.Images.{lines_of}
 use Rattle.eg_input.proofs.LineLemmas.{lines_of-nothing}
 use Rattle.eg_asm.specs.declared.fault.AsmFault.{AsmFault}
 use Rattle.eg_asm.specs.declared.source.Source.{Source}
-use Rattle.eg_asm.specs.Forms.{Form, form_named}
 use Rattle.eg_asm.specs.Grammar.{Item, Nothing, Comment, Label, Instruction, IsItem}
 use Rattle.eg_asm.specs.Words.{size, word_count}
 use Rattle.eg_asm.specs.Encodings.{Told, told}
@@ -16,11 +15,6 @@ use Rattle.eg_asm.proofs.LineLaws.{said-form}
 use Rattle.eg_asm.proofs.CutLaws.{lines_of-cut}
 use Rattle.eg_asm.proofs.KeepsLemmas.{word_count-one}
 use Rattle.eg_asm.proofs.SourceLaws.{behind-back, onto, Finds, finds}
-
--- what holds of an Ok
-pub on_ok : {T E : Type 0} (r : Result T E) {P Q : Type 0} → (P → Q) → OnOk r P → OnOk r Q
-on_ok (Ok x) more h = more h
-on_ok (Err e) more h = h
 
 -- an item that is told of
 pub told-some : (t : Told) (o : Option Item) → Some t ≡ option_map told o → (item : Item) × (o ≡ Some item) × (told item ≡ t)

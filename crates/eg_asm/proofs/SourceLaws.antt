@@ -1,5 +1,5 @@
 -- What reading a source finds, in the bytes of the source: it answers each of its answers exactly where that answer's words hold.
-use Rattle.std.proofs.Common.{◌≡◌, ◌≢◌, ◌∙◌, sym, ap, refl, subst, ℕ, zero, suc, ◌+◌, ◌<◌, ◌≤◌, List, [], ◌∷◌, ◌++◌, length, map, Bool, true, false, cond, Option, Some, None, Result, Ok, Err, arith, append-nil, append_assoc}
+use Rattle.std.proofs.Common.{◌≡◌, ◌∙◌, sym, ap, refl, subst, ℕ, ◌+◌, ◌<◌, ◌≤◌, List, [], ◌∷◌, ◌++◌, length, map, Bool, true, false, cond, Option, Some, None, Result, Ok, Err, arith, append-nil, append_assoc}
 use Rattle.std.specs.Prelude.{◌==◌, nat_le, option_and_then}
 use Rattle.std.specs.List.{AllByRecursion, concat, flat_map}
 use Rattle.std.specs.Option.{option_map_or}
@@ -9,7 +9,7 @@ use Rattle.eg_input.proofs.LineLemmas.{lines_of-nothing, concat-lines_of}
 use Rattle.eg_asm.specs.declared.fault.AsmFault.{AsmFault}
 use Rattle.eg_asm.specs.declared.fault.AsmFault.TheVariants as fault
 use Rattle.eg_asm.specs.Grammar.{Item, Nothing, Comment, Label, Instruction, IsItem, IsLineOf, IsTextOf, line_of}
-use Rattle.eg_asm.specs.Words.{size, word_count, words_of, first_fault}
+use Rattle.eg_asm.specs.Words.{size, word_count, first_fault}
 use Rattle.eg_asm.specs.Sources.{IsSourceOf, GoesWrong, HasBadLineAt, IsTooLong, HasBadLabelAt, Assembles}
 use Rattle.eg_asm.specs.Reading.{item_in, with_room, item_behind, refusal, item_before, items_from, linked, words_read, assembled}
 use Rattle.eg_asm.proofs.CutLaws.{AreCut, lines_of-cut, lines_of-concat, lines_of-item, item_in-written, item_in-back, cut-more, HasFirst, first_of}

@@ -1,5 +1,5 @@
 -- Cutting a text at a byte.
-use Rattle.std.proofs.Common.{◌≡◌, ◌∙◌, sym, ap, refl, ℕ, ◌+◌, ◌-◌, ◌<◌, ◌≤◌, List, [], ◌∷◌, ◌++◌, length, take, drop, get_or, map, Bool, true, false, cond, Option, Some, None, arith, length-append, add-one, take-append-drop}
+use Rattle.std.proofs.Common.{◌≡◌, ◌∙◌, sym, ap, refl, ℕ, ◌+◌, ◌-◌, ◌<◌, List, [], ◌∷◌, ◌++◌, length, take, drop, get_or, Bool, true, false, cond, Option, Some, None, arith, length-append, take-append-drop}
 use Rattle.std.specs.Prelude.{All, ◌||◌, ◌==◌, nat_lt}
 use Rattle.std.specs.List.{list_any, position_or_len, before_first, after_first, slice_split, join_with_byte}
 use Rattle.std.specs.Str.{bytes_eq}

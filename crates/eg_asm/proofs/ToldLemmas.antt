@@ -1,7 +1,6 @@
 -- What a line tells.
-use Rattle.std.proofs.Common.{◌≡◌, ◌∙◌, ap, refl, ℕ, ◌+◌, ◌≤◌, List, Bool, true, false, cond, Option, Some, None, option_map, arith}
+use Rattle.std.proofs.Common.{◌≡◌, ◌∙◌, refl, ℕ, ◌+◌, ◌≤◌, List, Bool, true, false, cond, Option, Some, None, option_map, arith}
 use Rattle.std.specs.Prelude.{◌==◌, nat_le, option_and_then}
-use Rattle.std.specs.Option.{option_map_or}
 use Rattle.std.specs.List.{before_first}
 use Rattle.std.specs.Str.{byte}
 use Rattle.std.proofs.lemmas.Bool.Decides.{nat_tests}
@@ -9,7 +8,7 @@ use Rattle.eg_asm.specs.Forms.{Form, form_named}
 use Rattle.eg_asm.specs.Grammar as item
 use Rattle.eg_asm.specs.Grammar.{Value, Item}
 use Rattle.eg_asm.specs.Words.{size}
-use Rattle.eg_asm.specs.Encodings.{encoded, Told, Nothing, Label, Instruction, told, told_with_room}
+use Rattle.eg_asm.specs.Encodings.{encoded, Nothing, Label, Instruction, told, told_with_room}
 use Rattle.eg_asm.specs.Reading.{is_byte, behind_first, texts_in, values_of, instruction_in, item_in, with_room, item_behind}
 use Rattle.eg_asm.proofs.FormLemmas.{form_named-same}
 use Rattle.eg_asm.proofs.LineLaws.{said-form}

@@ -9,7 +9,7 @@ use Rattle.eg_asm.specs.declared.fault.AsmFault.{AsmFault}
 use Rattle.eg_asm.specs.declared.fault.AsmFault.TheVariants as fault
 use Rattle.eg_asm.specs.Forms.{forms, form_named}
 use Rattle.eg_asm.specs.Numerals.{numeral, integer, is_name}
-use Rattle.eg_asm.specs.Grammar.{Item, text_of_value, text_of_values, text_of, line_of}
+use Rattle.eg_asm.specs.Grammar.{text_of_value, text_of_values, text_of, line_of}
 use Rattle.eg_asm.specs.Words.{size, word_count, labels_from, complement_of, distance_to, field_of, fields_of, word_with, word_of, word_at, words_from, is_sound, fault_behind}
 use Rattle.eg_asm.specs.Listings.{value_in, is_of, form_of, item_of, source_text, image_text}
 use Rattle.eg_asm.specs.Reading.{is_numeral, numeral_in, integer_in, register_in, target_in, value_of, values_of, behind_first, before_last_byte, texts_in, instruction_in, labelled, item_of_text, item_in, item_behind, refusal, item_before, items_from, linked, words_read, assembled}

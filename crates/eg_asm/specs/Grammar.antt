@@ -1,11 +1,11 @@
 -- The grammar of sources: what a line may say, and how it is written. Reading a line undoes this.
-use Rattle.std.specs.Prelude.{◌≡◌, ℕ, ◌<◌, ◌≤◌, ℤ, Bool, true, false, List, [], ◌∷◌, ◌++◌, map, codes, IsSomeAnd}
+use Rattle.std.specs.Prelude.{◌≡◌, ℕ, ◌<◌, ◌≤◌, ℤ, true, false, List, [], ◌∷◌, ◌++◌, map, codes, IsSomeAnd}
 use Rattle.std.specs.Char.{is_newline}
 use Rattle.std.specs.List.{AllZip, AllByRecursion, flat_map, join_with_byte, list_any}
 use Rattle.std.specs.Str.{byte}
 use Rattle.eg_asm.specs.declared.operand.Operand.{Operand}
 use Rattle.eg_asm.specs.declared.operand.Operand.TheVariants as operand
-use Rattle.eg_asm.specs.Forms.{Form, form_named}
+use Rattle.eg_asm.specs.Forms.{form_named}
 use Rattle.eg_asm.specs.Numerals.{integer, is_name, numeral}
 
 -- what stands in a line in an operand's place: a register, a number, or a target as a label's name or as a

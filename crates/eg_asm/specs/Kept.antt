@@ -9,7 +9,7 @@ use Rattle.eg_asm.specs.declared.fault.AsmFault.{AsmFault}
 use Rattle.eg_asm.specs.declared.source.Placed.{Placed}
 use Rattle.eg_asm.specs.declared.source.Source.{Source}
 use Rattle.eg_asm.specs.Forms.{form_named}
-use Rattle.eg_asm.specs.Grammar.{Item, Nothing, Comment, Label, Instruction}
+use Rattle.eg_asm.specs.Grammar.{Item, Label, Instruction}
 use Rattle.eg_asm.specs.Words.{word_count, labels_of, address_of}
 use Rattle.eg_asm.specs.Encodings.{Encoded, Told, told, instruction_shown}
 use Rattle.eg_asm.specs.Encodings as tells

@@ -1,10 +1,9 @@
 -- What a source is: by its bytes alone, which words it gives, and which refusal.
 use Rattle.std.specs.Prelude.{◌≡◌, ◌≢◌, ℕ, ◌+◌, ◌<◌, ◌≤◌, List, [], ◌++◌, length, Some, None, Result, Ok, Err}
-use Rattle.std.specs.List.{AllByRecursion, flat_map}
 use Rattle.eg_input.specs.declared.image.TheConstants.{MOST_WORDS}
 use Rattle.eg_asm.specs.declared.fault.AsmFault.{AsmFault}
 use Rattle.eg_asm.specs.declared.fault.AsmFault.TheVariants as fault
-use Rattle.eg_asm.specs.Grammar.{Item, IsItem, line_of, IsLineOf, IsTextOf}
+use Rattle.eg_asm.specs.Grammar.{Item, IsLineOf, IsTextOf}
 use Rattle.eg_asm.specs.Words.{size, word_count, words_of, first_fault}
 
 -- the source is lines without fault, of at most 1,024 instructions, which have these words

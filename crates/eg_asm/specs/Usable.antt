@@ -1,5 +1,5 @@
 -- Operands that say something of a word: what the code asks of its table.
-use Rattle.std.specs.Prelude.{ℕ, nat_lt, nat_le, Bool, true, ◌&&◌, List, length}
+use Rattle.std.specs.Prelude.{nat_lt, nat_le, Bool, true, ◌&&◌, List, length}
 use Rattle.std.specs.List.{list_all}
 use Rattle.eg_asm.specs.declared.operand.Operand.{Operand}
 use Rattle.eg_asm.specs.declared.operand.Operand.TheVariants.{Register, Number, Target}

@@ -6,7 +6,7 @@ use Rattle.std.specs.Str.{bytes_eq}
 use Rattle.eg_asm.specs.declared.operand.Operand.{Operand}
 use Rattle.eg_asm.specs.declared.operand.Operand.TheVariants as operand
 use Rattle.eg_asm.specs.Forms.{Form, form_named}
-use Rattle.eg_asm.specs.Grammar.{Value, Register, Number, Name, Distance, Item, Nothing, Comment, Label, Instruction}
+use Rattle.eg_asm.specs.Grammar.{Value, Register, Number, Name, Distance, Item, Label, Instruction}
 
 -- ---- labels ----
 

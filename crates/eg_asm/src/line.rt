@@ -2,7 +2,7 @@
 ghost use Rattle.std.specs.Prelude.{◌≡◌, ◌≤◌, length, option_map};
 ghost use Rattle.std.specs.Option.{option_copied};
 ghost use Rattle.eg_asm.specs.Rows.{form_in};
-ghost use Rattle.eg_asm.specs.Encodings.{encoded, encoding_shown, instruction_shown, Told, told, line_shown};
+ghost use Rattle.eg_asm.specs.Encodings.{encoded, encoding_shown, instruction_shown, told, line_shown};
 ghost use Rattle.eg_asm.specs.Encodings as tells;
 ghost use Rattle.eg_asm.specs.Reading.{values_of, texts_in, instruction_in, labelled, item_of_text, item_in};
 

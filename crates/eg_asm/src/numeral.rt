@@ -1,5 +1,5 @@
 // Numerals.
-ghost use Rattle.std.specs.Prelude.{◌≡◌, ◌^◌, min, option_map};
+ghost use Rattle.std.specs.Prelude.{◌≡◌, min, option_map};
 ghost use Rattle.eg_asm.specs.Reading.{numeral_in};
 
 /// A number that no operand takes: each larger number is read as this one.

@@ -1,4 +1,5 @@
 pub mod NamedFilesLemmas
 pub mod PutLemmas
+pub mod ResultLemmas
 pub mod StreamLemmas
 pub mod OpenerLemmas

@@ -1,8 +1,7 @@
 -- What a stream took of bytes, one write after another.
-use Rattle.std.proofs.Common.{◌≡◌, ◌∙◌, sym, ap, subst, ℕ, ◌+◌, List, [], ◌++◌, take, drop, Option, None, Some, Result, Ok, Err, OnErr, append_assoc, append-nil, take-add, take_all, length-drop, length, ◌-◌, arith}
+use Rattle.std.proofs.Common.{◌≡◌, ◌∙◌, sym, ap, subst, ℕ, ◌+◌, List, [], ◌++◌, take, drop, Option, None, Some, append_assoc, append-nil, take-add, take_all, length-drop, length, ◌-◌, arith}
 use Rattle.std.proofs.lemmas.List.{take-append-drop}
 use Rattle.std.specs.Io.KnownBytes.{Appends, Keeps}
-use Rattle.eg_base.specs.declared.sink.PutRefusal.{PutRefusal}
 use Rattle.eg_base.specs.Streams.{TakesPrefix}
 
 appends-more : (a b c : Option (List ℕ)) (front more : List ℕ) → Appends a b front → Appends b c more → Appends a c (front ++ more)
@@ -27,11 +26,6 @@ none-taken a b c bytes i p q =
 -- a front of the bytes
 pub front-taken : (a b : Option (List ℕ)) (bytes : List ℕ) (i : ℕ) → Appends a b (take i bytes) → TakesPrefix a b bytes
 front-taken a b bytes i p = (take i bytes, drop i bytes, sym (take-append-drop i bytes), p)
-
--- whatever it is that was answered
-pub on-err : (result : Result (Unit {0}) PutRefusal) (P : Type 0) → P → OnErr result P
-on-err (Ok x) P p = tt
-on-err (Err e) P p = p
 
 -- all of the bytes, and then nothing but a refusal
 pub all-kept : (a b c : Option (List ℕ)) (bytes : List ℕ) → Appends a b bytes → Keeps b c → TakesPrefix a c bytes

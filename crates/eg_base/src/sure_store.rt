@@ -1,5 +1,5 @@
 // A store in memory that is sure.
-ghost use Rattle.std.specs.Prelude.{◌≡◌, ◌≤◌, ◌↔◌, ◌++◌, Some, true, IsNone, OnOk, OnErr, IsErrOf, if◌then◌else◌, is_none};
+ghost use Rattle.std.specs.Prelude.{◌≡◌, ◌≤◌, ◌↔◌, Some, true, IsNone, OnOk, OnErr, IsErrOf};
 ghost use Rattle.std.specs.FinMap.{empty, insert, get};
 ghost use Rattle.eg_base.specs.declared.store.ReadRefusal.TheVariants.{Failed};
 ghost use Rattle.eg_base.specs.Fakes.{SureStoreState, after_sure_read};

@@ -1,6 +1,5 @@
 // The diesel engine.
-ghost use Rattle.std.specs.Prelude.{◌≡◌, ◌≤◌};
-ghost use Rattle.std.specs.Option.{ForSome};
+ghost use Rattle.std.specs.Prelude.{◌≡◌};
 ghost use Rattle.eg_plant.specs.Engine.{KeepsLaws};
 ghost use Rattle.eg_diesel.specs.Diesel as diesel;
 ghost use Rattle.eg_diesel.specs.Diesel.{StepsAsDiesel, at_rest, shown_of};

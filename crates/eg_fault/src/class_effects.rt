@@ -1,5 +1,5 @@
 // What each class of faults does, so many ticks after the onset.
-ghost use Rattle.std.specs.Prelude.{◌≡◌, ◌<◌, false, option_map, length};
+ghost use Rattle.std.specs.Prelude.{◌≡◌, ◌<◌, false, option_map};
 ghost use Rattle.std.specs.Option.{option_map_or};
 ghost use Rattle.eg_fault.specs.Faults;
 ghost use Rattle.eg_fault.specs.Faults.{effects_of};

@@ -1,6 +1,6 @@
 // A guarded memory that is one array.
 ghost use Rattle.std.specs.Prelude.{◌≡◌, replicate, true};
-ghost use Rattle.eg_guard.specs.Memory.{ShownMemory, AreWords};
+ghost use Rattle.eg_guard.specs.Memory.{AreWords};
 
 use crate::{Guarded, Refused, StoreRefusal, WORDS, Who, access};
 use std::marker::Model;

@@ -1,7 +1,7 @@
 // A guarded memory that refuses one store, as if memory had run out.
 ghost use Rattle.std.specs.Prelude.{◌≡◌, ◌↔◌, replicate, slice_set, Some, false, IsTrue, IsFalse, OnOk, OnErr, IsErrOf, if◌then◌else◌};
 ghost use Rattle.eg_guard.specs.declared.guarded.StoreRefusal.TheVariants.{Refused as StoreRefused, Memory};
-ghost use Rattle.eg_guard.specs.Memory.{ShownMemory, AreWords};
+ghost use Rattle.eg_guard.specs.Memory.{AreWords};
 ghost use Rattle.eg_guard.specs.Regions;
 ghost use Rattle.eg_guard.specs.Stingy.{StingyState, refuses_next, left_after};
 

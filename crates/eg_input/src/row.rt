@@ -1,7 +1,6 @@
 // The rows that the records of a file write.
-ghost use Rattle.std.specs.Prelude.{◌≡◌, ◌∷◌, [], ℕ, List, Some, IfSome, if◌then◌else◌};
+ghost use Rattle.std.specs.Prelude.{◌≡◌, ◌∷◌, [], ℕ, List, Some, IfSome};
 ghost use Rattle.csv.specs.Records.{fields_of};
-ghost use Rattle.eg_num.specs.Drive.{DriveRow};
 ghost use Rattle.eg_input.specs.Records.{Record, RowRule};
 ghost use Rattle.eg_input.specs.Rows.{is_header};
 ghost use Rattle.eg_input.specs.DriveTrace.{drive_at, drive_of, trace_headers};

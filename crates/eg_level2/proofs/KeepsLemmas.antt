@@ -1,8 +1,8 @@
 -- What a chain of stores keeps, where it is done and where it ends early.
 use Rattle.std.proofs.Common.{◌≡◌, ◌∙◌, refl, sym, subst, IsTrue, true, false}
-use Rattle.std.specs.Prelude.{Result, Ok, Err, OnOk, IfOk, IsErr}
+use Rattle.std.specs.Prelude.{Result, Ok, Err, IsErr}
 use Rattle.eg_guard.specs.Memory.{ShownMemory}
-use Rattle.eg_level2.specs.Stores.{Leaves, Keeps}
+use Rattle.eg_level2.specs.Stores.{Keeps}
 
 -- a call behind one that was done
 pub keeps_then : {T E U F : Type 0} (a b d : ShownMemory) (x : T) (result : Result U F) → (let done : Result T E = Ok x in Keeps a b done) → Keeps b d result
@@ -45,12 +45,3 @@ keeps_refused a b e (Err f) is first = record {
   };
   mirrored = λ mirrored. tt;
 }
-
--- what is said where a call is done isn't asked where it ends early
-pub off_ok : {T E : Type 0} (result : Result T E) (P : Type 0) → IsErr result → OnOk result P
-off_ok (Ok x) P is = absurd (clash is)
-off_ok (Err e) P is = tt
-
-pub off_value : {T E : Type 0} (result : Result T E) (P : T → Type 0) → IsErr result → IfOk result P
-off_value (Ok x) P is = absurd (clash is)
-off_value (Err e) P is = tt

@@ -1,6 +1,6 @@
 -- The first of some stores, and what is told after them.
 use Rattle.std.proofs.Common.{◌≡◌, ◌∙◌, refl, sym, ap, subst, ℕ, zero, suc, ◌+◌, ◌-◌, ◌<◌, ◌⊎◌, inl, inr, Bool, true, false, IsTrue, List, [], ◌∷◌, ◌++◌, length, take, drop, slice_index, arith}
-use Rattle.std.specs.Prelude.{Result, Ok, Err, OnErr, if◌then◌else◌, ◌==◌, ◌&&◌, ◌||◌, not}
+use Rattle.std.specs.Prelude.{if◌then◌else◌, ◌==◌, ◌&&◌, ◌||◌, not}
 use Rattle.std.proofs.lemmas.List.{drop_more}
 use Rattle.eg_num.specs.declared.watches.Watches.{Watches}
 use Rattle.eg_answer.specs.declared.rules.Rules.{Rules}
@@ -11,15 +11,6 @@ use Rattle.eg_level2.specs.Inputs.{Level2Parts, Inputs, inputs_of, asked_of, row
 use Rattle.eg_level2.specs.Modules.{given_up, feeds_now, is_found, debounced, limits, trips, check_step, pedal_step, permitted_step, actual_step, excess_step, pairs_step, debounce_step, react_step, module_step}
 use Rattle.eg_level2.specs.Stores.{Store, store, put, keep, keep_where, both, both_where, both_from, after_stores, AreFirst, counting, counters_kept}
 use Rattle.eg_level2.specs.Order.{check_stores, signal_stores, debounce_stores, react_stores, stores_of, given_up_stores, TellsTrip}
-
--- what follows from what stands where memory ran out
-pub on_err : {T E : Type 0} (result : Result T E) {P Q : Type 0} → (P → Q) → OnErr result P → OnErr result Q
-on_err (Ok x) f p = tt
-on_err (Err x) f p = f p
-
-pub at_err : {T E : Type 0} (result : Result T E) {P : Type 0} → P → OnErr result P
-at_err (Ok x) p = tt
-at_err (Err x) p = p
 
 take-nil : {A : Type 0} (n : ℕ) → (let none : List A = [] in take n none ≡ none)
 take-nil zero = refl

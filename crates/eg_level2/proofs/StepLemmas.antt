@@ -12,11 +12,6 @@ use Rattle.eg_level2.specs.Words.{Words, start, AreMirrored, AreWithin}
 use Rattle.eg_level2.specs.Inputs.{Level2Parts, Inputs, readings_of, asked_of, inputs_of, row_of}
 use Rattle.eg_level2.specs.Modules.{feeds_now, opens_now, check_step, given_up, pedal_bit, plate_bit, load_bit, speed_bit, torque_bit, counted, pedal_step, permitted_step, actual_step, excess_step, pairs_step, debounced, debounce_step, answer_of, react_step, module_step, answer_after, order_after, no_watches, found_by, step_of, finding, quiet_step}
 
--- what follows from the value of a call that was done
-pub if_ok : {T E : Type 0} (result : Result T E) {P Q : T → Type 0} → ((x : T) → P x → Q x) → IfOk result P → IfOk result Q
-if_ok (Ok x) f p = f x p
-if_ok (Err x) f p = p
-
 pub if_ok_all : {T E : Type 0} (result : Result T E) {P Q R S : T → Type 0} → ((x : T) → P x → Q x → R x → S x)
     → IfOk result P → IfOk result Q → IfOk result R → IfOk result S
 if_ok_all (Ok x) f p q r = f x p q r

@@ -7,11 +7,6 @@ use Rattle.std.proofs.lemmas.Bool.{eq-eqb, ne_eqb}
 use Rattle.eg_level2.specs.Words.{word_at, AreMirrored, is_level2_own}
 use Rattle.eg_level2.specs.Stores.{put, keep, kept_from, outside}
 
--- what follows from the words of a call that was done
-pub on_ok : {T E : Type 0} (result : Result T E) {P Q : Type 0} → (P → Q) → OnOk result P → OnOk result Q
-on_ok (Ok x) f p = f p
-on_ok (Err x) f p = p
-
 -- a word, and then its complement
 pub kept_at : (f g h : ℕ → ℕ) (number value : ℕ) → h ≡ put (number + 16) (65535 - value) g → g ≡ put number value f → h ≡ keep number value f
 unfolding keep

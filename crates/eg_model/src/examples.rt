@@ -1,6 +1,6 @@
 // Runs on the bench without a fault, worked out from the definitions. None of these functions does anything
 // when it runs.
-ghost use Rattle.std.specs.Prelude.{◌≡◌, true, false, [], ◌∷◌, ◌++◌, map, replicate, Some, None, codes};
+ghost use Rattle.std.specs.Prelude.{◌≡◌, true, false, [], ◌∷◌, ◌++◌, map, replicate, Some, None};
 ghost use Rattle.eg_record.specs.declared.watch.Watch.TheVariants as found;
 ghost use Rattle.eg_model.specs.Examples.{idle, full, at_rest, resetting, bench_run, tested_run, stages_of, probe_row, probe_run, alternating_run, raise_run, report_on, reported, moments_in_time, rows_in_time};
 

@@ -1,6 +1,6 @@
 // Runs on the bench under a fault, worked out from the definitions. None of these functions does anything
 // when it runs.
-ghost use Rattle.std.specs.Prelude.{◌≡◌, true, false, [], ◌∷◌, ◌++◌, map, replicate, Some, None, codes};
+ghost use Rattle.std.specs.Prelude.{◌≡◌, true, false, [], ◌∷◌, ◌++◌, map, replicate, Some, None};
 ghost use Rattle.eg_answer.specs.declared.marks.AnswerMark.TheVariants.{Good, Bad};
 ghost use Rattle.eg_answer.specs.declared.marks.Verdict.TheVariants.{Right, Wrong};
 ghost use Rattle.eg_fault.specs.declared.class.Class.TheVariants.{Plate, Skip, Halt, Wild, Path1Closed, Path2Closed, PathOpen, Lapse};

@@ -1,6 +1,6 @@
 // A guarded memory in pages that are copied when they are written.
 ghost use Rattle.std.specs.Prelude.{◌≡◌, IfOk, replicate, true, false};
-ghost use Rattle.eg_guard.specs.Memory.{ShownMemory, AreWords};
+ghost use Rattle.eg_guard.specs.Memory.{AreWords};
 
 use crate::page::{SharedPages, joined, put_at, share, word_at, zero_pages};
 use eg_base::NoMemory;

@@ -1,6 +1,5 @@
 // The data of the gasoline plant.
 ghost use Rattle.std.specs.Prelude.{◌≡◌, ◌≤◌, ◌↔◌, All, IsTrue, SomeIff};
-ghost use Rattle.eg_num.specs.Interpolation.{IsCurve};
 ghost use Rattle.eg_plant.specs.PlantParts.{PlantParts, ArePlantParts};
 
 use eg_num::Table1;

@@ -1,5 +1,5 @@
 // The line of a summary, and the last line of a report.
-ghost use Rattle.std.specs.Prelude.{◌≡◌, ◌++◌, codes, string_bytes, is_some, count_by, IfOk, OnOk};
+ghost use Rattle.std.specs.Prelude.{◌≡◌, ◌++◌, string_bytes, is_some, count_by, IfOk, OnOk};
 ghost use Rattle.eg_record.specs.Texts.{at_text, first_text, trap_name, trap_text, summary_line, report_end};
 
 use crate::{Summary, Watch};

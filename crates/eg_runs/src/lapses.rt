@@ -1,5 +1,5 @@
 // Runs under lapses, worked out from the definitions.
-ghost use Rattle.std.specs.Prelude.{◌≡◌, [], ◌∷◌, ◌++◌, codes, map, replicate, true, false, Some, None};
+ghost use Rattle.std.specs.Prelude.{◌≡◌, [], ◌∷◌, ◌++◌, map, replicate, true, false, Some, None};
 ghost use Rattle.eg_answer.specs.Times.{lapse_bound_of, HasMissSpacing, miss_spacing_of};
 ghost use Rattle.eg_values.specs.Reference.{reference_parts};
 ghost use Rattle.eg_record.specs.declared.watch.Watch.TheVariants.{Answers, Torque};

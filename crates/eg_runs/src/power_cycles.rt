@@ -1,6 +1,6 @@
 // Runs with several power cycles, worked out from the definitions. None of these functions does anything
 // when it runs. The numbers of ticks are those of the run.
-ghost use Rattle.std.specs.Prelude.{◌≡◌, true, false, not, ◌&&◌, [], ◌∷◌, ◌++◌, map, replicate, Some, None, codes};
+ghost use Rattle.std.specs.Prelude.{◌≡◌, true, false, not, [], ◌∷◌, ◌++◌, map, replicate, Some, None};
 ghost use Rattle.eg_answer.specs.declared.marks.AnswerMark.TheVariants.{Good, Bad};
 ghost use Rattle.eg_answer.specs.declared.marks.Verdict.TheVariants.{Wrong};
 ghost use Rattle.eg_fault.specs.declared.class.Class.TheVariants.{Script, Skip, Flip, Halt, Timing, Wild, Path1Closed, PathOpen, Lapse};

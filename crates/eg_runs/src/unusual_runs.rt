@@ -1,7 +1,7 @@
 // Runs on the bench that show what the usual ones don't, worked out from the definitions: answers that come
 // before the window, two of them in one period, a signal that stays though it isn't 0, and a reading that is
 // cut off. None of these functions does anything when it runs.
-ghost use Rattle.std.specs.Prelude.{◌≡◌, [], ◌∷◌, ◌++◌, map, replicate, Some, None};
+ghost use Rattle.std.specs.Prelude.{◌≡◌, [], ◌∷◌, map, replicate, Some, None};
 ghost use Rattle.eg_answer.specs.declared.marks.AnswerMark.TheVariants.{Good};
 ghost use Rattle.eg_answer.specs.declared.marks.Verdict.TheVariants.{Right, Wrong};
 ghost use Rattle.eg_fault.specs.declared.class.Class.TheVariants.{Skip, Timing};

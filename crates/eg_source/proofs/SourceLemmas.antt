@@ -1,5 +1,5 @@
 -- What comes of a source, from what assembling it gives.
-use Rattle.std.proofs.Common.{◌≡◌, refl, ap, ℕ, List, inl, inr, ◌⊎◌}
+use Rattle.std.proofs.Common.{◌≡◌, ap, ℕ, List, inl, inr, ◌⊎◌}
 use Rattle.std.specs.Prelude.{Ok, Err}
 use Rattle.eg_asm.specs.declared.fault.AsmFault.{AsmFault}
 use Rattle.eg_asm.specs.declared.fault.AsmFault.TheVariants as fault

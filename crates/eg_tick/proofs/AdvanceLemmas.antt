@@ -2,6 +2,7 @@
 use Rattle.std.proofs.Common.{◌≡◌, ◌∙◌, refl, sym, ap, ap₂, subst, inr, ℕ, ◌+◌, ◌≤◌, ◌<◌, not, ◌||◌, ◌&&◌, All, Bool, false, None, Option, Some, List, [], ◌∷◌, length, slice_index, arith}
 use Rattle.std.specs.Prelude.{◌==◌, Result, OnErr}
 use Rattle.std.specs.Option.{option_or}
+use Rattle.eg_base.proofs.ResultLemmas.{at_err}
 use Rattle.eg_num.specs.Drive.{DriveRow, IsDrive}
 use Rattle.eg_plant.specs.Engine.{Shown, KeepsLaws}
 use Rattle.eg_fault.specs.declared.class.Fault.{Fault}
@@ -18,7 +19,6 @@ use Rattle.eg_record.specs.declared.row.Row.{Row}
 use Rattle.eg_level2.specs.Words.{AreWithin, words_of}
 use Rattle.eg_level2.specs.Inputs.{Level2Parts}
 use Rattle.eg_level2.specs.declared.step.Step.{Step}
-use Rattle.eg_level2.proofs.OrderLemmas.{at_err}
 use Rattle.eg_model.specs.History.{Setting, Entry, Tick, SpanKind, drives}
 use Rattle.eg_model.specs.Paths.{is_testing, reads_back}
 use Rattle.eg_model.specs.Level1.{last_world}

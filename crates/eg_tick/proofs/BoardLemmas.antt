@@ -1,6 +1,6 @@
 -- The board may store wherever a word stands; and what its stores make of the memory.
 use Rattle.std.proofs.Common.{◌≡◌, ◌≢◌, ◌∙◌, refl, sym, ap, subst, inl, inr, ℕ, ◌+◌, ◌-◌, ◌≤◌, ◌<◌, ◌⊎◌, true, false, IsTrue, List, [], ◌∷◌, length, replicate, slice_index, slice_set, arith}
-use Rattle.std.specs.Prelude.{bit_xor, Result, Ok, Err, OnOk}
+use Rattle.std.specs.Prelude.{bit_xor}
 use Rattle.std.specs.Int.Bits.{xor_self, xor_zero_l, xor_assoc}
 use Rattle.std.proofs.lemmas.Bool.{cases_lt}
 use Rattle.std.proofs.lemmas.Bool.Decides.{eqb_tells}
@@ -21,11 +21,6 @@ use Rattle.eg_level2.specs.Inputs.{readings_of, asked_of}
 use Rattle.eg_level2.proofs.PlaceLemmas.{address_is, change_law}
 use Rattle.eg_tick.specs.Board.{IsWritten, is_board_own, by_tracks, ten_ports}
 use Rattle.eg_tick.proofs.FrameLemmas.{protected-is}
-
--- what a fact of a call that answers Ok gives
-pub on_ok : {T E : Type 0} (result : Result T E) {P Q : Type 0} → (P → Q) → OnOk result P → OnOk result Q
-on_ok (Ok x) gives p = gives p
-on_ok (Err x) gives p = tt
 
 -- ---- where it may store ----
 

@@ -1,6 +1,6 @@
 -- What a chain of calls keeps of a guarded memory, where it is done and where it ends early.
 use Rattle.std.proofs.Common.{◌≡◌, ◌∙◌, refl, sym, subst, IsTrue, true, false}
-use Rattle.std.specs.Prelude.{Result, Ok, Err, OnOk, IfOk, IsErr}
+use Rattle.std.specs.Prelude.{Result, Ok, Err, IsErr}
 use Rattle.eg_guard.specs.Memory.{ShownMemory, KeepsMemory}
 
 -- a call behind one that was done
@@ -33,12 +33,3 @@ keeps_refused a b e (Err f) is first = record {
   stays_sure = first.stays_sure;
   are_words = first.are_words;
 }
-
--- what is said where a call is done isn't asked where it ends early
-pub off_ok : {T E : Type 0} (result : Result T E) (P : Type 0) → IsErr result → OnOk result P
-off_ok (Ok x) P is = absurd (clash is)
-off_ok (Err e) P is = tt
-
-pub off_value : {T E : Type 0} (result : Result T E) (P : T → Type 0) → IsErr result → IfOk result P
-off_value (Ok x) P is = absurd (clash is)
-off_value (Err e) P is = tt

@@ -1,6 +1,6 @@
 -- One tick of a run on the bench, and what its ticks come to.
 use Rattle.std.proofs.Common.{◌≡◌, ◌∙◌, refl, sym, ap, ap₂, subst, ℕ, zero, suc, ◌+◌, ◌%◌, ◌^◌, ◌<◌, ◌&&◌, ◌||◌, Bool, true, false, List, [], ◌∷◌, ◌++◌, map, length, arith, Option, Result, Ok, Err}
-use Rattle.std.specs.Prelude.{reverse, slice_index_or, IfOk, OnErr, ◌==◌, if◌then◌else◌}
+use Rattle.std.specs.Prelude.{reverse, slice_index_or, IfOk, ◌==◌, if◌then◌else◌}
 use Rattle.std.specs.List.{sum}
 use Rattle.std.proofs.Math.Nat.{mod-add-mod, mod-eq_of_lt}
 use Rattle.std.proofs.lemmas.Bool.{ne_eqb}
@@ -271,13 +271,3 @@ counted-more from old new t rows row is count weight = ap₂ both
   where
     both : ℕ → ℕ → TickCount
     both a b = record { count = a; weights = b }
-
--- ---- results ----
-
-pub on_err : {T E : Type 0} (P : Type 0) (result : Result T E) → P → OnErr result P
-on_err P (Ok value) p = tt
-on_err P (Err e) p = p
-
-pub if_ok : {T E : Type 0} (P Q : T → Type 0) (result : Result T E) → ((value : T) → P value → Q value) → IfOk result P → IfOk result Q
-if_ok P Q (Ok value) gives p = gives value p
-if_ok P Q (Err e) gives p = tt

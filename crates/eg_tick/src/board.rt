@@ -1,5 +1,5 @@
 // What the board itself writes into the memory.
-ghost use Rattle.std.specs.Prelude.{◌≡◌, ℕ, ◌+◌, ◌<◌, ◌≤◌, length, slice_index, slice_set, bit_xor, [], ◌∷◌, IsTrue, OnOk, OnErr};
+ghost use Rattle.std.specs.Prelude.{◌≡◌, ℕ, ◌+◌, ◌<◌, ◌≤◌, length, slice_index, slice_set, bit_xor, IsTrue, OnOk, OnErr};
 ghost use Rattle.eg_guard.specs.declared.regions.Who.TheVariants.{Board};
 ghost use Rattle.eg_guard.specs.Memory.{AreWords, SameOutside, KeepsMemory};
 ghost use Rattle.eg_guard.specs.declared.regions.TheConstants.{DATA as CODE_END, WORDS};
@@ -7,7 +7,7 @@ ghost use Rattle.eg_guard.specs.Regions;
 ghost use Rattle.eg_answer.specs.declared.words.TheConstants.{STORED_WORDS};
 ghost use Rattle.eg_word.specs.Memory.{is_level1_own};
 ghost use Rattle.eg_word.specs.World.{world_of, new_registers, new_world};
-ghost use Rattle.eg_level2.specs.Words.{address_of, word_at, AreMirrored, is_level2_own};
+ghost use Rattle.eg_level2.specs.Words.{address_of, AreMirrored, is_level2_own};
 ghost use Rattle.eg_level2.specs.Inputs.{readings_of, asked_of};
 ghost use Rattle.eg_level2.specs.Stores.{after_stores};
 ghost use Rattle.eg_tick.specs.Board.{IsWritten, is_board_own, by_tracks, stores_from, clearing, showing, AreMade};

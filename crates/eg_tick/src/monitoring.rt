@@ -1,5 +1,5 @@
 // What the monitoring module makes of a tick, also where it is wild.
-ghost use Rattle.std.specs.Prelude.{◌≡◌, ℕ, ◌<◌, ◌&&◌, List, ◌∷◌, All, length, None, OnSome, is_some, not};
+ghost use Rattle.std.specs.Prelude.{◌≡◌, ◌<◌, ◌&&◌, List, ◌∷◌, All, length, None, OnSome, is_some, not};
 ghost use Rattle.std.specs.Option.{option_copied};
 ghost use Rattle.eg_answer.specs.Answers.{answer_number};
 ghost use Rattle.eg_answer.specs.Questions.{question_at};

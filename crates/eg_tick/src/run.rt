@@ -1,16 +1,15 @@
 // A run of a gasoline engine on the bench.
-ghost use Rattle.std.specs.Prelude.{◌≡◌, ◌≤◌, ◌<◌, false, None, List, All, reverse, length, IfOk, OnOk, IsOk, IsTrue};
+ghost use Rattle.std.specs.Prelude.{◌≡◌, ◌≤◌, ◌<◌, false, None, All, reverse, length, IfOk, OnOk};
 ghost use Rattle.std.specs.Option.{option_copied};
 ghost use Rattle.eg_guard.specs.declared.regions.TheConstants.{DATA as CODE_END};
-ghost use Rattle.eg_num.specs.Drive.{DriveRow};
 ghost use Rattle.eg_answer.specs.Times.{HasLapseBound, reaction_of};
 ghost use Rattle.eg_fault.specs.Faults.{IsListed};
 ghost use Rattle.eg_record.specs.Spans.{EachDriveSpan, EachTestSpan};
 ghost use Rattle.eg_model.specs.Engines.{gasoline};
-ghost use Rattle.eg_model.specs.Bench.{Run, drive_at};
+ghost use Rattle.eg_model.specs.Bench.{Run};
 ghost use Rattle.eg_model.specs.Rows.{record_rows, record_trap};
 ghost use Rattle.eg_model.specs.PowerCycles.{SpansBeginInTurn};
-ghost use Rattle.eg_model.specs.Records.{row_at, rows_to, ReactWithin, CutOneTickAfter, RowsReactAtOnce, CutStandingExcess, ExcessIsShort, AreOff};
+ghost use Rattle.eg_model.specs.Records.{rows_to, ReactWithin, CutOneTickAfter, RowsReactAtOnce, CutStandingExcess, ExcessIsShort, AreOff};
 ghost use Rattle.eg_model.specs.Lapses.{IsLapse};
 ghost use Rattle.eg_fault.specs.Faults.{IsNoneOrValid};
 ghost use Rattle.eg_tick.specs.Counting.{AreCounted};

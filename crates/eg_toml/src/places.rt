@@ -1,5 +1,5 @@
 // Where the bytes of a document stand.
-ghost use Rattle.std.specs.Prelude.{◌≡◌, ◌≤◌};
+ghost use Rattle.std.specs.Prelude.{◌≡◌};
 ghost use Rattle.eg_toml.specs.Places as spec;
 
 /// Where a byte of a document stands (docs/FORMATS.md, "What a document weighs"). A text knows the delimiter

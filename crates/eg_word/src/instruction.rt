@@ -1,5 +1,5 @@
 // The instructions of level 1's machine, and how a word is read as one.
-ghost use Rattle.std.specs.Prelude.{◌≡◌, ◌<◌, ◌%◌, ◌*◌, ◌^◌};
+ghost use Rattle.std.specs.Prelude.{◌≡◌, ◌<◌, ◌%◌, ◌*◌};
 ghost use Rattle.eg_word.specs.Instructions.{instruction_of};
 ghost use Rattle.eg_word.specs.Instructions;
 

@@ -1,6 +1,4 @@
-use Rattle.std.proofs.Common.{◌≡◌, ◌∙◌, sym, refl, Some, None, get_or}
-use Rattle.std.specs.Prelude.{find}
-use Rattle.eg_asm.specs.Forms.{forms}
+use Rattle.std.proofs.Common.{◌∙◌, sym, refl}
 use Rattle.eg_asm.specs.Rows.{form_in}
 use Rattle.eg_asm.specs.Listings.{is_of, form_of}
 use Rattle.eg_asm.specs.Usable.{is_usable}

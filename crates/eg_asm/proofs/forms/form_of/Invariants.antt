@@ -1,9 +1,7 @@
-use Rattle.std.proofs.Common.{◌≡◌, drop, map, true}
+use Rattle.std.proofs.Common.{◌≡◌, drop, map}
 use Rattle.std.specs.Prelude.{find}
-use Rattle.std.specs.List.{list_all}
 use Rattle.eg_asm.specs.Forms.{forms}
 use Rattle.eg_asm.specs.Rows.{form_in}
-use Rattle.eg_asm.specs.Usable.{are_usable}
 use Rattle.eg_asm.specs.Listings.{is_of}
 use Rattle.eg_asm.proofs.forms.form_of.Given as goal
 

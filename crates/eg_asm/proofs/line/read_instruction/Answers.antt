@@ -1,4 +1,4 @@
-use Rattle.std.proofs.Common.{◌≡◌, ◌∙◌, ap, sym, Some, None, arith, option_map}
+use Rattle.std.proofs.Common.{◌≡◌, ◌∙◌, ap, Some, None, arith, option_map}
 use Rattle.std.proofs.lemmas.Grind.{common_steps}
 use Rattle.std.specs.List.{before_first}
 use Rattle.eg_asm.specs.Rows.{form_in}

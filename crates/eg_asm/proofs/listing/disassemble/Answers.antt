@@ -1,7 +1,6 @@
-use Rattle.std.proofs.Common.{◌≡◌, ◌≤◌, ◌*◌, sym, refl, length, arith}
+use Rattle.std.proofs.Common.{◌≡◌, arith}
 use Rattle.std.proofs.lemmas.Grind.{common_steps}
 use Rattle.eg_asm.specs.Listings.{source_text}
-use Rattle.eg_asm.specs.Sources.{IsSourceOf}
 use Rattle.eg_asm.proofs.ListingLaws.{source-law}
 use Rattle.eg_asm.proofs.LengthLaws.{short-law}
 use Rattle.eg_asm.proofs.listing.disassemble.Goals as goal

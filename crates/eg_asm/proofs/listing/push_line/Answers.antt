@@ -1,7 +1,7 @@
-use Rattle.std.proofs.Common.{◌≡◌, ◌∙◌, sym, ap, ◌++◌, ◌∷◌, [], map, List, ℕ, arith, append_assoc}
+use Rattle.std.proofs.Common.{◌≡◌, ◌∙◌, ap, ◌++◌, ◌∷◌, [], map, List, ℕ, arith, append_assoc}
 use Rattle.std.proofs.lemmas.Grind.{common_steps}
 use Rattle.eg_asm.specs.Grammar.{text_of_values, text_of, line_of}
-use Rattle.eg_asm.specs.Listings.{value_in, form_of, item_of}
+use Rattle.eg_asm.specs.Listings.{value_in, item_of}
 use Rattle.eg_asm.proofs.listing.push_line.Goals as goal
 
 pub returns : goal.returns

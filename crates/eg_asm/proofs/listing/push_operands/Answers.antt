@@ -1,4 +1,4 @@
-use Rattle.std.proofs.Common.{◌≡◌, ◌∙◌, refl, sym, ap, ◌++◌, ◌∷◌, ◌+◌, ◌==◌, [], List, ℕ, length, take, get_or, map, cond, arith, append-nil, append_assoc}
+use Rattle.std.proofs.Common.{◌≡◌, ◌∙◌, refl, sym, ap, ◌++◌, ◌∷◌, ◌+◌, [], List, ℕ, length, take, get_or, map, arith, append-nil, append_assoc}
 use Rattle.std.proofs.lemmas.Grind.{common_steps}
 use Rattle.std.proofs.lemmas.List.{length-map, length-take-le}
 use Rattle.eg_asm.specs.declared.operand.Operand.TheVariants.{Register}

@@ -1,12 +1,12 @@
 use Rattle.std.proofs.Common.{◌∙◌, sym, ap, ap₂, subst, ◌<◌, ◌≤◌, List, Option, Some, length}
 use Rattle.std.specs.Prelude.{slice_set}
+use Rattle.std.proofs.lemmas.Result.{on_ok_weaker}
 use Rattle.eg_record.specs.declared.run_facts.RunFacts.{RunFacts}
 use Rattle.eg_record.specs.declared.row.Row.{Row}
 use Rattle.eg_plan.specs.declared.engine.EngineKind.TheVariants as kind
 use Rattle.eg_campaign.specs.declared.play.RunInput.{RunInput}
 use Rattle.eg_tick.specs.Counting.{count_with, AreCounted}
 use Rattle.eg_campaign.specs.Groups.{is_alike, group_of, rows_of_group, told_with}
-use Rattle.eg_campaign.proofs.PlayLemmas.{if_on_ok}
 use Rattle.eg_campaign.proofs.AlikeLemmas.{is_alike-equality}
 use Rattle.eg_campaign.proofs.AllGroups.{alone, written_alone, shared_rows, written_by}
 use Rattle.eg_campaign.proofs.groups.play_first.Goals as goal
@@ -34,7 +34,7 @@ returns-then-count_alike-lt2-clause-counted c =
     (sym (alone (is_alike x) inputs c.args.index x c.requires.index c.requires.there (is_alike-equality.refl x) few))
 
 pub returns-in-Gasoline-clause-told : goal.returns-in-Gasoline-clause-told
-returns-in-Gasoline-clause-told c = λ before h. if_on_ok _ _ c.play_group.result
+returns-in-Gasoline-clause-told c = λ before h. on_ok_weaker c.play_group.result
     (λ e. e ∙ written_by c.args.calibration.now c.args.input.now kind.Gasoline before c.args.inputs.now c.in-Gasoline.is) (c.play_group.ensures.told before h)
 
 pub returns-in-Gasoline-clause-counted : goal.returns-in-Gasoline-clause-counted
@@ -44,7 +44,7 @@ returns-in-Gasoline-clause-counted c =
     (shared_rows c.args.calibration.now c.args.inputs.now c.args.input.now kind.Gasoline long c.in-Gasoline.is) c.play_group.ensures.counted
 
 pub returns-in-Diesel-clause-told : goal.returns-in-Diesel-clause-told
-returns-in-Diesel-clause-told c = λ before h. if_on_ok _ _ c.play_group-in-Diesel.result
+returns-in-Diesel-clause-told c = λ before h. on_ok_weaker c.play_group-in-Diesel.result
     (λ e. e ∙ written_by c.args.calibration.now c.args.input.now kind.Diesel before c.args.inputs.now c.in-Diesel.is) (c.play_group-in-Diesel.ensures.told before h)
 
 pub returns-in-Diesel-clause-counted : goal.returns-in-Diesel-clause-counted

@@ -1,7 +1,7 @@
 use Rattle.std.proofs.Common.{◌∙◌, ap, map}
 use Rattle.std.proofs.lemmas.Simd.{map-map}
+use Rattle.std.proofs.lemmas.Result.{IfOk-weaker}
 use Rattle.eg_record.specs.declared.run_facts.RunFacts.{RunFacts}
-use Rattle.eg_tick.proofs.RunLemmas.{if_ok}
 use Rattle.eg_campaign.specs.Groups.{rows_made, told_with}
 use Rattle.eg_tick.proofs.CountLemmas.{counted_all}
 use Rattle.eg_campaign.proofs.play.facts_all.Goals as goal
@@ -9,7 +9,7 @@ use Rattle.eg_campaign.proofs.play.facts_all.Goals as goal
 pub returns-clause-facts : goal.returns-clause-facts
 returns-clause-facts c =
     let cal = c.args.calibration.now in
-    if_ok _ _ c.facts_of_all.result (λ facts is. is ∙ ap (map (λ (t : RunFacts). t.facts)) (c.deref.ensures.value ∙ c.in_ok-told.ensures.told)
+    IfOk-weaker c.facts_of_all.result _ _ (λ facts is. is ∙ ap (map (λ (t : RunFacts). t.facts)) (c.deref.ensures.value ∙ c.in_ok-told.ensures.told)
     ∙ map-map (λ (t : RunFacts). t.facts) (told_with cal) c.args.inputs.now) c.facts_of_all.ensures
 
 pub returns-clause-counted : goal.returns-clause-counted

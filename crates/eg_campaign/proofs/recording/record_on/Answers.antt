@@ -1,7 +1,8 @@
 use Rattle.std.proofs.Common.{◌≡◌, ◌∙◌, refl, sym, subst, ◌<◌, length, arith}
 use Rattle.eg_model.specs.Bench.{Run, drive_at}
 use Rattle.eg_tick.specs.Run.{IsAt}
-use Rattle.eg_tick.proofs.RunLemmas.{drive-at, on_err}
+use Rattle.eg_base.proofs.ResultLemmas.{at_err}
+use Rattle.eg_tick.proofs.RunLemmas.{drive-at}
 use Rattle.eg_campaign.specs.Plays.{run_with}
 use Rattle.eg_campaign.proofs.PlayLemmas.{same_run}
 use Rattle.eg_campaign.proofs.RecordLemmas.{has_header, has_more, all_written, all_counted, stopped_at_header, stopped_at_line}
@@ -11,7 +12,7 @@ pub returns-in_err-put_whole-clause-stopped : goal.returns-in_err-put_whole-clau
 returns-in_err-put_whole-clause-stopped g c =
     let shows = g.K.Sink.shows in
     let bench = g.E.BenchedEngine.bench in
-    on_err _ c.from_residual.result
+    at_err c.from_residual.result
     (stopped_at_header bench (run_with c.args.calibration.now c.args.input.now).run (shows c.args.out.now) (shows c.put_whole.new.out) c.args.steps.now c.as_bytes.result.now
     (c.as_bytes.ensures.value ∙ c.record_header.ensures) c.in_err-put_whole.ensures.prefix
     (let e = c.count.ensures in let l = c.count.type_inv in subst (λ n. n < 18446744073709551616) e l)
@@ -41,7 +42,7 @@ returns-in_err-put_row-clause-stopped g c =
     let drive : drive_at r c.loop-tick.tick ≡ c.index-drive-tick.result =
     drive-at r c.as_slice-drive.result.now c.loop-tick.tick _ (sym c.as_slice-drive.ensures) c.loop-tick-test.true c.index-drive-tick.is in
     let within : c.loop-tick.tick < length c.args.input.now.drive = subst (λ d. c.loop-tick.tick < length d) c.as_slice-drive.ensures c.loop-tick-test.true in
-    on_err _ c.from_residual-in_err-put_row.result
+    at_err c.from_residual-in_err-put_row.result
     (stopped_at_line bench r c.loop-tick.tick (shows c.args.out.now) (shows c.loop-tick.out) (shows c.put_row.new.out)
     c.args.steps.now c.loop-tick.steps c.bench_row-row.new.steps c.bench_row-row.result within (c.bench_row-row.ensures.row r refl drive c.loop-tick.invariant.at)
     c.loop-tick.invariant.written c.in_err-put_row.ensures.prefix c.bench_row-row.ensures.count c.bench_row-row.ensures.weight)

@@ -1,8 +1,10 @@
 use Rattle.std.proofs.Common.{sym, subst, rules}
+use Rattle.std.proofs.lemmas.Result.{IfOk-from_err}
+use Rattle.eg_base.proofs.ResultLemmas.{at_err}
 use Rattle.eg_level2.specs.Words.{AreMirrored, AreWithin}
 use Rattle.eg_level2.proofs.StepLemmas.{given_up-within, check-within}
-use Rattle.eg_level2.proofs.OrderLemmas.{at_err, told-check, told-given_up}
-use Rattle.eg_level2.proofs.KeepsLemmas.{keeps_done, keeps_refused, off_ok, off_value}
+use Rattle.eg_level2.proofs.OrderLemmas.{told-check, told-given_up}
+use Rattle.eg_level2.proofs.KeepsLemmas.{keeps_done, keeps_refused}
 use Rattle.eg_level2.proofs.check.check.Goals as goal
 
 pub returns-in_err-give_up-clause-told : goal.returns-in_err-give_up-clause-told
@@ -28,61 +30,61 @@ returns-clause-within g c = λ by within.
     subst (AreWithin by) (sym c.in_ok-go_on.ensures.words) (check-within by c.args.seed c.args.tick _ (within are))
 
 pub returns-in_err-give_up-clause-words : goal.returns-in_err-give_up-clause-words
-returns-in_err-give_up-clause-words g c = λ are. off_ok c.from_residual.result _ c.from_residual.ensures.0
+returns-in_err-give_up-clause-words g c = λ are. IfOk-from_err c.from_residual.result _ c.from_residual.ensures.0
 
 pub returns-in_err-give_up-clause-given_up : goal.returns-in_err-give_up-clause-given_up
-returns-in_err-give_up-clause-given_up g c = λ differs. off_ok c.from_residual.result _ c.from_residual.ensures.0
+returns-in_err-give_up-clause-given_up g c = λ differs. IfOk-from_err c.from_residual.result _ c.from_residual.ensures.0
 
 pub returns-in_err-give_up-clause-answer : goal.returns-in_err-give_up-clause-answer
-returns-in_err-give_up-clause-answer g c = off_value c.from_residual.result _ c.from_residual.ensures.0
+returns-in_err-give_up-clause-answer g c = IfOk-from_err c.from_residual.result _ c.from_residual.ensures.0
 
 pub returns-in_err-give_up-clause-order : goal.returns-in_err-give_up-clause-order
-returns-in_err-give_up-clause-order g c = off_value c.from_residual.result _ c.from_residual.ensures.0
+returns-in_err-give_up-clause-order g c = IfOk-from_err c.from_residual.result _ c.from_residual.ensures.0
 
 pub returns-in_err-give_up-clause-found : goal.returns-in_err-give_up-clause-found
-returns-in_err-give_up-clause-found g c = λ are. off_value c.from_residual.result _ c.from_residual.ensures.0
+returns-in_err-give_up-clause-found g c = λ are. IfOk-from_err c.from_residual.result _ c.from_residual.ensures.0
 
 pub returns-in_err-give_up-clause-mirror_alone : goal.returns-in_err-give_up-clause-mirror_alone
-returns-in_err-give_up-clause-mirror_alone g c = λ differs. off_value c.from_residual.result _ c.from_residual.ensures.0
+returns-in_err-give_up-clause-mirror_alone g c = λ differs. IfOk-from_err c.from_residual.result _ c.from_residual.ensures.0
 
 pub returns-in_err-give_up-clause-mirror : goal.returns-in_err-give_up-clause-mirror
-returns-in_err-give_up-clause-mirror g c = off_value c.from_residual.result _ c.from_residual.ensures.0
+returns-in_err-give_up-clause-mirror g c = IfOk-from_err c.from_residual.result _ c.from_residual.ensures.0
 
 pub returns-in_err-give_up-clause-mirrored : goal.returns-in_err-give_up-clause-mirrored
-returns-in_err-give_up-clause-mirrored g c = off_ok c.from_residual.result _ c.from_residual.ensures.0
+returns-in_err-give_up-clause-mirrored g c = IfOk-from_err c.from_residual.result _ c.from_residual.ensures.0
 
 pub returns-in_err-give_up-clause-within : goal.returns-in_err-give_up-clause-within
-returns-in_err-give_up-clause-within g c = λ by within. off_ok c.from_residual.result _ c.from_residual.ensures.0
+returns-in_err-give_up-clause-within g c = λ by within. IfOk-from_err c.from_residual.result _ c.from_residual.ensures.0
 
 pub returns-in_err-give_up-clause-keeps : goal.returns-in_err-give_up-clause-keeps
 returns-in_err-give_up-clause-keeps g c = keeps_refused _ _ _ c.from_residual.result c.from_residual.ensures.0 c.in_err-give_up.ensures.keeps
 
 pub returns-in_err-go_on-clause-words : goal.returns-in_err-go_on-clause-words
-returns-in_err-go_on-clause-words g c = λ are. off_ok c.from_residual-in_err-go_on.result _ c.from_residual-in_err-go_on.ensures.0
+returns-in_err-go_on-clause-words g c = λ are. IfOk-from_err c.from_residual-in_err-go_on.result _ c.from_residual-in_err-go_on.ensures.0
 
 pub returns-in_err-go_on-clause-given_up : goal.returns-in_err-go_on-clause-given_up
-returns-in_err-go_on-clause-given_up g c = λ differs. off_ok c.from_residual-in_err-go_on.result _ c.from_residual-in_err-go_on.ensures.0
+returns-in_err-go_on-clause-given_up g c = λ differs. IfOk-from_err c.from_residual-in_err-go_on.result _ c.from_residual-in_err-go_on.ensures.0
 
 pub returns-in_err-go_on-clause-answer : goal.returns-in_err-go_on-clause-answer
-returns-in_err-go_on-clause-answer g c = off_value c.from_residual-in_err-go_on.result _ c.from_residual-in_err-go_on.ensures.0
+returns-in_err-go_on-clause-answer g c = IfOk-from_err c.from_residual-in_err-go_on.result _ c.from_residual-in_err-go_on.ensures.0
 
 pub returns-in_err-go_on-clause-order : goal.returns-in_err-go_on-clause-order
-returns-in_err-go_on-clause-order g c = off_value c.from_residual-in_err-go_on.result _ c.from_residual-in_err-go_on.ensures.0
+returns-in_err-go_on-clause-order g c = IfOk-from_err c.from_residual-in_err-go_on.result _ c.from_residual-in_err-go_on.ensures.0
 
 pub returns-in_err-go_on-clause-found : goal.returns-in_err-go_on-clause-found
-returns-in_err-go_on-clause-found g c = λ are. off_value c.from_residual-in_err-go_on.result _ c.from_residual-in_err-go_on.ensures.0
+returns-in_err-go_on-clause-found g c = λ are. IfOk-from_err c.from_residual-in_err-go_on.result _ c.from_residual-in_err-go_on.ensures.0
 
 pub returns-in_err-go_on-clause-mirror_alone : goal.returns-in_err-go_on-clause-mirror_alone
-returns-in_err-go_on-clause-mirror_alone g c = λ differs. off_value c.from_residual-in_err-go_on.result _ c.from_residual-in_err-go_on.ensures.0
+returns-in_err-go_on-clause-mirror_alone g c = λ differs. IfOk-from_err c.from_residual-in_err-go_on.result _ c.from_residual-in_err-go_on.ensures.0
 
 pub returns-in_err-go_on-clause-mirror : goal.returns-in_err-go_on-clause-mirror
-returns-in_err-go_on-clause-mirror g c = off_value c.from_residual-in_err-go_on.result _ c.from_residual-in_err-go_on.ensures.0
+returns-in_err-go_on-clause-mirror g c = IfOk-from_err c.from_residual-in_err-go_on.result _ c.from_residual-in_err-go_on.ensures.0
 
 pub returns-in_err-go_on-clause-mirrored : goal.returns-in_err-go_on-clause-mirrored
-returns-in_err-go_on-clause-mirrored g c = off_ok c.from_residual-in_err-go_on.result _ c.from_residual-in_err-go_on.ensures.0
+returns-in_err-go_on-clause-mirrored g c = IfOk-from_err c.from_residual-in_err-go_on.result _ c.from_residual-in_err-go_on.ensures.0
 
 pub returns-in_err-go_on-clause-within : goal.returns-in_err-go_on-clause-within
-returns-in_err-go_on-clause-within g c = λ by within. off_ok c.from_residual-in_err-go_on.result _ c.from_residual-in_err-go_on.ensures.0
+returns-in_err-go_on-clause-within g c = λ by within. IfOk-from_err c.from_residual-in_err-go_on.result _ c.from_residual-in_err-go_on.ensures.0
 
 pub returns-in_err-go_on-clause-keeps : goal.returns-in_err-go_on-clause-keeps
 returns-in_err-go_on-clause-keeps g c = keeps_refused _ _ _ c.from_residual-in_err-go_on.result c.from_residual-in_err-go_on.ensures.0 c.in_err-go_on.ensures.keeps

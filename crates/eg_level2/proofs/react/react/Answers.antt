@@ -1,7 +1,9 @@
 use Rattle.std.proofs.Common.{refl}
+use Rattle.std.proofs.lemmas.Result.{IfOk-from_err}
+use Rattle.eg_base.proofs.ResultLemmas.{at_err}
 use Rattle.eg_level2.proofs.ModuleLemmas.{reacted, answered, react-is}
-use Rattle.eg_level2.proofs.OrderLemmas.{at_err, here, later}
-use Rattle.eg_level2.proofs.KeepsLemmas.{keeps_then, keeps_done, keeps_refused, off_ok, off_value}
+use Rattle.eg_level2.proofs.OrderLemmas.{here, later}
+use Rattle.eg_level2.proofs.KeepsLemmas.{keeps_then, keeps_done, keeps_refused}
 use Rattle.eg_level2.proofs.react.react.Goals as goal
 
 pub returns-in_err-begin_token-clause-stopped : goal.returns-in_err-begin_token-clause-stopped
@@ -23,31 +25,31 @@ returns-clause-answer g c =
     answered _ _ _ _ _ _ c.number.ensures c.answers_now-sends.ensures c.closed_flow-flow.ensures c.word-sign.ensures
 
 pub returns-in_err-begin_token-clause-words : goal.returns-in_err-begin_token-clause-words
-returns-in_err-begin_token-clause-words g c = off_ok c.from_residual.result _ c.from_residual.ensures.0
+returns-in_err-begin_token-clause-words g c = IfOk-from_err c.from_residual.result _ c.from_residual.ensures.0
 
 pub returns-in_err-begin_token-clause-answer : goal.returns-in_err-begin_token-clause-answer
-returns-in_err-begin_token-clause-answer g c = off_value c.from_residual.result _ c.from_residual.ensures.0
+returns-in_err-begin_token-clause-answer g c = IfOk-from_err c.from_residual.result _ c.from_residual.ensures.0
 
 pub returns-in_err-begin_token-clause-order : goal.returns-in_err-begin_token-clause-order
-returns-in_err-begin_token-clause-order g c = off_value c.from_residual.result _ c.from_residual.ensures.0
+returns-in_err-begin_token-clause-order g c = IfOk-from_err c.from_residual.result _ c.from_residual.ensures.0
 
 pub returns-in_err-begin_token-clause-found : goal.returns-in_err-begin_token-clause-found
-returns-in_err-begin_token-clause-found g c = off_value c.from_residual.result _ c.from_residual.ensures.0
+returns-in_err-begin_token-clause-found g c = IfOk-from_err c.from_residual.result _ c.from_residual.ensures.0
 
 pub returns-in_err-begin_token-clause-keeps : goal.returns-in_err-begin_token-clause-keeps
 returns-in_err-begin_token-clause-keeps g c = keeps_refused _ _ _ c.from_residual.result c.from_residual.ensures.0 c.in_err-begin_token.ensures.keeps
 
 pub returns-in_err-keep-clause-words : goal.returns-in_err-keep-clause-words
-returns-in_err-keep-clause-words g c = off_ok c.from_residual-in_err-keep.result _ c.from_residual-in_err-keep.ensures.0
+returns-in_err-keep-clause-words g c = IfOk-from_err c.from_residual-in_err-keep.result _ c.from_residual-in_err-keep.ensures.0
 
 pub returns-in_err-keep-clause-answer : goal.returns-in_err-keep-clause-answer
-returns-in_err-keep-clause-answer g c = off_value c.from_residual-in_err-keep.result _ c.from_residual-in_err-keep.ensures.0
+returns-in_err-keep-clause-answer g c = IfOk-from_err c.from_residual-in_err-keep.result _ c.from_residual-in_err-keep.ensures.0
 
 pub returns-in_err-keep-clause-order : goal.returns-in_err-keep-clause-order
-returns-in_err-keep-clause-order g c = off_value c.from_residual-in_err-keep.result _ c.from_residual-in_err-keep.ensures.0
+returns-in_err-keep-clause-order g c = IfOk-from_err c.from_residual-in_err-keep.result _ c.from_residual-in_err-keep.ensures.0
 
 pub returns-in_err-keep-clause-found : goal.returns-in_err-keep-clause-found
-returns-in_err-keep-clause-found g c = off_value c.from_residual-in_err-keep.result _ c.from_residual-in_err-keep.ensures.0
+returns-in_err-keep-clause-found g c = IfOk-from_err c.from_residual-in_err-keep.result _ c.from_residual-in_err-keep.ensures.0
 
 pub returns-in_err-keep-clause-keeps : goal.returns-in_err-keep-clause-keeps
 returns-in_err-keep-clause-keeps g c = keeps_then _ _ _ _ _ c.in_ok-begin_token.ensures.keeps (keeps_refused _ _ _ c.from_residual-in_err-keep.result c.from_residual-in_err-keep.ensures.0 c.in_err-keep.ensures.keeps)

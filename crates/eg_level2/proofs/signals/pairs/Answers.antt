@@ -1,7 +1,8 @@
 use Rattle.std.proofs.Common.{refl}
+use Rattle.std.proofs.lemmas.Result.{IfOk-from_err}
+use Rattle.eg_base.proofs.ResultLemmas.{at_err}
 use Rattle.eg_level2.proofs.ModuleLemmas.{pairs_by, fifth-stores}
-use Rattle.eg_level2.proofs.OrderLemmas.{at_err}
-use Rattle.eg_level2.proofs.KeepsLemmas.{keeps_done, keeps_refused, off_ok, off_value}
+use Rattle.eg_level2.proofs.KeepsLemmas.{keeps_done, keeps_refused}
 use Rattle.eg_level2.proofs.signals.pairs.Goals as goal
 
 pub returns-in_err-write-clause-stopped : goal.returns-in_err-write-clause-stopped
@@ -10,10 +11,10 @@ returns-in_err-write-clause-stopped g c = λ row e. at_err c.from_residual.resul
     c.in_err-write.ensures.stopped)
 
 pub returns-in_err-write-clause-words : goal.returns-in_err-write-clause-words
-returns-in_err-write-clause-words g c = λ row e. off_ok c.from_residual.result _ c.from_residual.ensures.0
+returns-in_err-write-clause-words g c = λ row e. IfOk-from_err c.from_residual.result _ c.from_residual.ensures.0
 
 pub returns-in_err-write-clause-step : goal.returns-in_err-write-clause-step
-returns-in_err-write-clause-step g c = off_value c.from_residual.result _ c.from_residual.ensures.0
+returns-in_err-write-clause-step g c = IfOk-from_err c.from_residual.result _ c.from_residual.ensures.0
 
 pub returns-in_err-write-clause-keeps : goal.returns-in_err-write-clause-keeps
 returns-in_err-write-clause-keeps g c = keeps_refused _ _ _ c.from_residual.result c.from_residual.ensures.0 c.in_err-write.ensures.keeps

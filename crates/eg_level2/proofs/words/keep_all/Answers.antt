@@ -1,7 +1,8 @@
 use Rattle.std.proofs.Common.{◌∙◌, ◌<◌, refl, ap, length, slice_index, arith, rules}
+use Rattle.eg_base.proofs.ResultLemmas.{at_err}
 use Rattle.eg_level2.specs.Stores.{kept_from}
 use Rattle.eg_level2.proofs.StoreLemmas.{kept_from-more, mirror-more}
-use Rattle.eg_level2.proofs.OrderLemmas.{at_err, stops_from, goes_from}
+use Rattle.eg_level2.proofs.OrderLemmas.{stops_from, goes_from}
 use Rattle.eg_level2.proofs.words.keep_all.Goals as goal
 
 pub loop-number-init : goal.loop-number-init

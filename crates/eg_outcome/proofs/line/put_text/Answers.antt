@@ -1,7 +1,5 @@
-use Rattle.std.proofs.Common.{◌≡◌, ◌∙◌, sym, subst, refl, ap, length, [], arith}
+use Rattle.std.proofs.Common.{◌∙◌, sym, subst, refl}
 use Rattle.std.specs.Prelude.{IsTrue}
-use Rattle.std.proofs.lemmas.List.{nil_from_length}
-use Rattle.eg_outcome.specs.Outcomes.{LineEnds}
 use Rattle.eg_outcome.specs.declared.outcome.Outcome.TheVariants as outcome
 use Rattle.eg_outcome.proofs.LineLemmas.{HasPutFront-nothing, HasPutFront-more, HasPutFront-refused, HasPutFront-whole, shorter, nothing_left}
 use Rattle.eg_outcome.proofs.line.put_text.Goals as goal

@@ -1,7 +1,7 @@
 use Rattle.std.proofs.Common.{◌≡◌, ◌∙◌, sym, ap, ap₂, subst, ◌+◌, ◌<◌, ◌≤◌, [], ◌∷◌, ◌++◌, length, arith}
 use Rattle.std.proofs.lemmas.Grind.{common_steps}
 use Rattle.std.proofs.lemmas.List.{length-map}
-use Rattle.eg_tick.proofs.RunLemmas.{on_err}
+use Rattle.eg_base.proofs.ResultLemmas.{at_err}
 use Rattle.eg_campaign.specs.Plays.{rows_of_runs}
 use Rattle.eg_tick.proofs.CountLemmas.{counts_none}
 use Rattle.eg_soak.specs.Facts.{facts_of}
@@ -20,11 +20,11 @@ loop-done-init c = record {
 }
 
 pub returns-in_err-drawn-clause-stopped : goal.returns-in_err-drawn-clause-stopped
-returns-in_err-drawn-clause-stopped c = on_err _ c.from_residual.result
+returns-in_err-drawn-clause-stopped c = at_err c.from_residual.result
     (c.loop-done._done, (let test = c.loop-done-test.true in omega (arith, test)), c.loop-done.invariant.counts)
 
 pub returns-in_err-push-clause-stopped : goal.returns-in_err-push-clause-stopped
-returns-in_err-push-clause-stopped c = on_err _ c.from_residual-in_err-push.result (
+returns-in_err-push-clause-stopped c = at_err c.from_residual-in_err-push.result (
   c.loop-done._done + 1,
   (let test = c.loop-done-test.true in omega (arith, test)),
   counts-next c.args.steps.now c.loop-done.steps c.play-facts.new.steps c.loop-done._done c.args.seed c.loop-done.generator c.in_ok-drawn.drawn

@@ -1,6 +1,6 @@
 use Rattle.std.proofs.Common.{refl, ◌∙◌, ◌≤◌, ◌<◌, length, arith, rules}
+use Rattle.eg_base.proofs.ResultLemmas.{at_err}
 use Rattle.eg_level2.specs.Stores.{after_stores}
-use Rattle.eg_level2.proofs.OrderLemmas.{at_err}
 use Rattle.eg_tick.proofs.BoardLemmas.{none_written, more_written}
 use Rattle.eg_tick.proofs.MadeLemmas.{made-more, all-made, refused}
 use Rattle.eg_tick.proofs.board.write.Goals as goal

@@ -1,8 +1,9 @@
 use Rattle.std.proofs.Common.{◌∙◌, sym, subst}
+use Rattle.std.proofs.lemmas.Result.{IfOk-from_err}
 use Rattle.eg_fault.specs.Faults.{effects}
 use Rattle.eg_tick.specs.Midway.{IsDue}
 use Rattle.eg_tick.proofs.StepLemmas.{steps-begin, steps-more, steps-all}
-use Rattle.eg_tick.proofs.KeepsLemmas.{keeps_then, keeps_done, keeps_refused, off_ok, off_value}
+use Rattle.eg_tick.proofs.KeepsLemmas.{keeps_then, keeps_done, keeps_refused}
 use Rattle.eg_tick.proofs.levels.run_turns.Goals as goal
 
 pub returns-clause-step : goal.returns-clause-step
@@ -30,47 +31,47 @@ pub returns-clause-ready : goal.returns-clause-ready
 returns-clause-ready g c = c.slice.ensures.ready _ c.in_ok-step-8.ensures.ready
 
 pub returns-in_err-step-clause-midway : goal.returns-in_err-step-clause-midway
-returns-in_err-step-clause-midway g c w told is = off_ok c.from_residual.result _ c.from_residual.ensures.0
+returns-in_err-step-clause-midway g c w told is = IfOk-from_err c.from_residual.result _ c.from_residual.ensures.0
 
 pub returns-in_err-step-clause-step : goal.returns-in_err-step-clause-step
-returns-in_err-step-clause-step g c w told is = off_value c.from_residual.result _ c.from_residual.ensures.0
+returns-in_err-step-clause-step g c w told is = IfOk-from_err c.from_residual.result _ c.from_residual.ensures.0
 
 pub returns-in_err-step-clause-nine : goal.returns-in_err-step-clause-nine
-returns-in_err-step-clause-nine g c = off_ok c.from_residual.result _ c.from_residual.ensures.0
+returns-in_err-step-clause-nine g c = IfOk-from_err c.from_residual.result _ c.from_residual.ensures.0
 
 pub returns-in_err-step-clause-ready : goal.returns-in_err-step-clause-ready
-returns-in_err-step-clause-ready g c = off_ok c.from_residual.result _ c.from_residual.ensures.0
+returns-in_err-step-clause-ready g c = IfOk-from_err c.from_residual.result _ c.from_residual.ensures.0
 
 pub returns-in_err-step-clause-keeps : goal.returns-in_err-step-clause-keeps
 returns-in_err-step-clause-keeps g c = keeps_refused _ _ _ c.from_residual.result c.from_residual.ensures.0 c.in_err-step.ensures.keeps
 
 pub returns-in_err-step-2-clause-midway : goal.returns-in_err-step-2-clause-midway
-returns-in_err-step-2-clause-midway g c w told is = off_ok c.from_residual-in_err-step-2.result _ c.from_residual-in_err-step-2.ensures.0
+returns-in_err-step-2-clause-midway g c w told is = IfOk-from_err c.from_residual-in_err-step-2.result _ c.from_residual-in_err-step-2.ensures.0
 
 pub returns-in_err-step-2-clause-step : goal.returns-in_err-step-2-clause-step
-returns-in_err-step-2-clause-step g c w told is = off_value c.from_residual-in_err-step-2.result _ c.from_residual-in_err-step-2.ensures.0
+returns-in_err-step-2-clause-step g c w told is = IfOk-from_err c.from_residual-in_err-step-2.result _ c.from_residual-in_err-step-2.ensures.0
 
 pub returns-in_err-step-2-clause-nine : goal.returns-in_err-step-2-clause-nine
-returns-in_err-step-2-clause-nine g c = off_ok c.from_residual-in_err-step-2.result _ c.from_residual-in_err-step-2.ensures.0
+returns-in_err-step-2-clause-nine g c = IfOk-from_err c.from_residual-in_err-step-2.result _ c.from_residual-in_err-step-2.ensures.0
 
 pub returns-in_err-step-2-clause-ready : goal.returns-in_err-step-2-clause-ready
-returns-in_err-step-2-clause-ready g c = off_ok c.from_residual-in_err-step-2.result _ c.from_residual-in_err-step-2.ensures.0
+returns-in_err-step-2-clause-ready g c = IfOk-from_err c.from_residual-in_err-step-2.result _ c.from_residual-in_err-step-2.ensures.0
 
 pub returns-in_err-step-2-clause-keeps : goal.returns-in_err-step-2-clause-keeps
 returns-in_err-step-2-clause-keeps g c = keeps_then _ _ _ _ _ c.in_ok-step.ensures.keeps
     (keeps_refused _ _ _ c.from_residual-in_err-step-2.result c.from_residual-in_err-step-2.ensures.0 c.in_err-step-2.ensures.keeps)
 
 pub returns-in_err-step-3-clause-midway : goal.returns-in_err-step-3-clause-midway
-returns-in_err-step-3-clause-midway g c w told is = off_ok c.from_residual-in_err-step-3.result _ c.from_residual-in_err-step-3.ensures.0
+returns-in_err-step-3-clause-midway g c w told is = IfOk-from_err c.from_residual-in_err-step-3.result _ c.from_residual-in_err-step-3.ensures.0
 
 pub returns-in_err-step-3-clause-step : goal.returns-in_err-step-3-clause-step
-returns-in_err-step-3-clause-step g c w told is = off_value c.from_residual-in_err-step-3.result _ c.from_residual-in_err-step-3.ensures.0
+returns-in_err-step-3-clause-step g c w told is = IfOk-from_err c.from_residual-in_err-step-3.result _ c.from_residual-in_err-step-3.ensures.0
 
 pub returns-in_err-step-3-clause-nine : goal.returns-in_err-step-3-clause-nine
-returns-in_err-step-3-clause-nine g c = off_ok c.from_residual-in_err-step-3.result _ c.from_residual-in_err-step-3.ensures.0
+returns-in_err-step-3-clause-nine g c = IfOk-from_err c.from_residual-in_err-step-3.result _ c.from_residual-in_err-step-3.ensures.0
 
 pub returns-in_err-step-3-clause-ready : goal.returns-in_err-step-3-clause-ready
-returns-in_err-step-3-clause-ready g c = off_ok c.from_residual-in_err-step-3.result _ c.from_residual-in_err-step-3.ensures.0
+returns-in_err-step-3-clause-ready g c = IfOk-from_err c.from_residual-in_err-step-3.result _ c.from_residual-in_err-step-3.ensures.0
 
 pub returns-in_err-step-3-clause-keeps : goal.returns-in_err-step-3-clause-keeps
 returns-in_err-step-3-clause-keeps g c = keeps_then _ _ _ _ _ c.in_ok-step.ensures.keeps
@@ -78,16 +79,16 @@ returns-in_err-step-3-clause-keeps g c = keeps_then _ _ _ _ _ c.in_ok-step.ensur
     (keeps_refused _ _ _ c.from_residual-in_err-step-3.result c.from_residual-in_err-step-3.ensures.0 c.in_err-step-3.ensures.keeps))
 
 pub returns-in_err-step-4-clause-midway : goal.returns-in_err-step-4-clause-midway
-returns-in_err-step-4-clause-midway g c w told is = off_ok c.from_residual-in_err-step-4.result _ c.from_residual-in_err-step-4.ensures.0
+returns-in_err-step-4-clause-midway g c w told is = IfOk-from_err c.from_residual-in_err-step-4.result _ c.from_residual-in_err-step-4.ensures.0
 
 pub returns-in_err-step-4-clause-step : goal.returns-in_err-step-4-clause-step
-returns-in_err-step-4-clause-step g c w told is = off_value c.from_residual-in_err-step-4.result _ c.from_residual-in_err-step-4.ensures.0
+returns-in_err-step-4-clause-step g c w told is = IfOk-from_err c.from_residual-in_err-step-4.result _ c.from_residual-in_err-step-4.ensures.0
 
 pub returns-in_err-step-4-clause-nine : goal.returns-in_err-step-4-clause-nine
-returns-in_err-step-4-clause-nine g c = off_ok c.from_residual-in_err-step-4.result _ c.from_residual-in_err-step-4.ensures.0
+returns-in_err-step-4-clause-nine g c = IfOk-from_err c.from_residual-in_err-step-4.result _ c.from_residual-in_err-step-4.ensures.0
 
 pub returns-in_err-step-4-clause-ready : goal.returns-in_err-step-4-clause-ready
-returns-in_err-step-4-clause-ready g c = off_ok c.from_residual-in_err-step-4.result _ c.from_residual-in_err-step-4.ensures.0
+returns-in_err-step-4-clause-ready g c = IfOk-from_err c.from_residual-in_err-step-4.result _ c.from_residual-in_err-step-4.ensures.0
 
 pub returns-in_err-step-4-clause-keeps : goal.returns-in_err-step-4-clause-keeps
 returns-in_err-step-4-clause-keeps g c = keeps_then _ _ _ _ _ c.in_ok-step.ensures.keeps
@@ -96,16 +97,16 @@ returns-in_err-step-4-clause-keeps g c = keeps_then _ _ _ _ _ c.in_ok-step.ensur
     (keeps_refused _ _ _ c.from_residual-in_err-step-4.result c.from_residual-in_err-step-4.ensures.0 c.in_err-step-4.ensures.keeps)))
 
 pub returns-in_err-step-5-clause-midway : goal.returns-in_err-step-5-clause-midway
-returns-in_err-step-5-clause-midway g c w told is = off_ok c.from_residual-in_err-step-5.result _ c.from_residual-in_err-step-5.ensures.0
+returns-in_err-step-5-clause-midway g c w told is = IfOk-from_err c.from_residual-in_err-step-5.result _ c.from_residual-in_err-step-5.ensures.0
 
 pub returns-in_err-step-5-clause-step : goal.returns-in_err-step-5-clause-step
-returns-in_err-step-5-clause-step g c w told is = off_value c.from_residual-in_err-step-5.result _ c.from_residual-in_err-step-5.ensures.0
+returns-in_err-step-5-clause-step g c w told is = IfOk-from_err c.from_residual-in_err-step-5.result _ c.from_residual-in_err-step-5.ensures.0
 
 pub returns-in_err-step-5-clause-nine : goal.returns-in_err-step-5-clause-nine
-returns-in_err-step-5-clause-nine g c = off_ok c.from_residual-in_err-step-5.result _ c.from_residual-in_err-step-5.ensures.0
+returns-in_err-step-5-clause-nine g c = IfOk-from_err c.from_residual-in_err-step-5.result _ c.from_residual-in_err-step-5.ensures.0
 
 pub returns-in_err-step-5-clause-ready : goal.returns-in_err-step-5-clause-ready
-returns-in_err-step-5-clause-ready g c = off_ok c.from_residual-in_err-step-5.result _ c.from_residual-in_err-step-5.ensures.0
+returns-in_err-step-5-clause-ready g c = IfOk-from_err c.from_residual-in_err-step-5.result _ c.from_residual-in_err-step-5.ensures.0
 
 pub returns-in_err-step-5-clause-keeps : goal.returns-in_err-step-5-clause-keeps
 returns-in_err-step-5-clause-keeps g c = keeps_then _ _ _ _ _ c.in_ok-step.ensures.keeps
@@ -115,16 +116,16 @@ returns-in_err-step-5-clause-keeps g c = keeps_then _ _ _ _ _ c.in_ok-step.ensur
     (keeps_refused _ _ _ c.from_residual-in_err-step-5.result c.from_residual-in_err-step-5.ensures.0 c.in_err-step-5.ensures.keeps))))
 
 pub returns-in_err-step-6-clause-midway : goal.returns-in_err-step-6-clause-midway
-returns-in_err-step-6-clause-midway g c w told is = off_ok c.from_residual-in_err-step-6.result _ c.from_residual-in_err-step-6.ensures.0
+returns-in_err-step-6-clause-midway g c w told is = IfOk-from_err c.from_residual-in_err-step-6.result _ c.from_residual-in_err-step-6.ensures.0
 
 pub returns-in_err-step-6-clause-step : goal.returns-in_err-step-6-clause-step
-returns-in_err-step-6-clause-step g c w told is = off_value c.from_residual-in_err-step-6.result _ c.from_residual-in_err-step-6.ensures.0
+returns-in_err-step-6-clause-step g c w told is = IfOk-from_err c.from_residual-in_err-step-6.result _ c.from_residual-in_err-step-6.ensures.0
 
 pub returns-in_err-step-6-clause-nine : goal.returns-in_err-step-6-clause-nine
-returns-in_err-step-6-clause-nine g c = off_ok c.from_residual-in_err-step-6.result _ c.from_residual-in_err-step-6.ensures.0
+returns-in_err-step-6-clause-nine g c = IfOk-from_err c.from_residual-in_err-step-6.result _ c.from_residual-in_err-step-6.ensures.0
 
 pub returns-in_err-step-6-clause-ready : goal.returns-in_err-step-6-clause-ready
-returns-in_err-step-6-clause-ready g c = off_ok c.from_residual-in_err-step-6.result _ c.from_residual-in_err-step-6.ensures.0
+returns-in_err-step-6-clause-ready g c = IfOk-from_err c.from_residual-in_err-step-6.result _ c.from_residual-in_err-step-6.ensures.0
 
 pub returns-in_err-step-6-clause-keeps : goal.returns-in_err-step-6-clause-keeps
 returns-in_err-step-6-clause-keeps g c = keeps_then _ _ _ _ _ c.in_ok-step.ensures.keeps
@@ -135,16 +136,16 @@ returns-in_err-step-6-clause-keeps g c = keeps_then _ _ _ _ _ c.in_ok-step.ensur
     (keeps_refused _ _ _ c.from_residual-in_err-step-6.result c.from_residual-in_err-step-6.ensures.0 c.in_err-step-6.ensures.keeps)))))
 
 pub returns-in_err-step-7-clause-midway : goal.returns-in_err-step-7-clause-midway
-returns-in_err-step-7-clause-midway g c w told is = off_ok c.from_residual-in_err-step-7.result _ c.from_residual-in_err-step-7.ensures.0
+returns-in_err-step-7-clause-midway g c w told is = IfOk-from_err c.from_residual-in_err-step-7.result _ c.from_residual-in_err-step-7.ensures.0
 
 pub returns-in_err-step-7-clause-step : goal.returns-in_err-step-7-clause-step
-returns-in_err-step-7-clause-step g c w told is = off_value c.from_residual-in_err-step-7.result _ c.from_residual-in_err-step-7.ensures.0
+returns-in_err-step-7-clause-step g c w told is = IfOk-from_err c.from_residual-in_err-step-7.result _ c.from_residual-in_err-step-7.ensures.0
 
 pub returns-in_err-step-7-clause-nine : goal.returns-in_err-step-7-clause-nine
-returns-in_err-step-7-clause-nine g c = off_ok c.from_residual-in_err-step-7.result _ c.from_residual-in_err-step-7.ensures.0
+returns-in_err-step-7-clause-nine g c = IfOk-from_err c.from_residual-in_err-step-7.result _ c.from_residual-in_err-step-7.ensures.0
 
 pub returns-in_err-step-7-clause-ready : goal.returns-in_err-step-7-clause-ready
-returns-in_err-step-7-clause-ready g c = off_ok c.from_residual-in_err-step-7.result _ c.from_residual-in_err-step-7.ensures.0
+returns-in_err-step-7-clause-ready g c = IfOk-from_err c.from_residual-in_err-step-7.result _ c.from_residual-in_err-step-7.ensures.0
 
 pub returns-in_err-step-7-clause-keeps : goal.returns-in_err-step-7-clause-keeps
 returns-in_err-step-7-clause-keeps g c = keeps_then _ _ _ _ _ c.in_ok-step.ensures.keeps
@@ -156,16 +157,16 @@ returns-in_err-step-7-clause-keeps g c = keeps_then _ _ _ _ _ c.in_ok-step.ensur
     (keeps_refused _ _ _ c.from_residual-in_err-step-7.result c.from_residual-in_err-step-7.ensures.0 c.in_err-step-7.ensures.keeps))))))
 
 pub returns-in_err-step-8-clause-midway : goal.returns-in_err-step-8-clause-midway
-returns-in_err-step-8-clause-midway g c w told is = off_ok c.from_residual-in_err-step-8.result _ c.from_residual-in_err-step-8.ensures.0
+returns-in_err-step-8-clause-midway g c w told is = IfOk-from_err c.from_residual-in_err-step-8.result _ c.from_residual-in_err-step-8.ensures.0
 
 pub returns-in_err-step-8-clause-step : goal.returns-in_err-step-8-clause-step
-returns-in_err-step-8-clause-step g c w told is = off_value c.from_residual-in_err-step-8.result _ c.from_residual-in_err-step-8.ensures.0
+returns-in_err-step-8-clause-step g c w told is = IfOk-from_err c.from_residual-in_err-step-8.result _ c.from_residual-in_err-step-8.ensures.0
 
 pub returns-in_err-step-8-clause-nine : goal.returns-in_err-step-8-clause-nine
-returns-in_err-step-8-clause-nine g c = off_ok c.from_residual-in_err-step-8.result _ c.from_residual-in_err-step-8.ensures.0
+returns-in_err-step-8-clause-nine g c = IfOk-from_err c.from_residual-in_err-step-8.result _ c.from_residual-in_err-step-8.ensures.0
 
 pub returns-in_err-step-8-clause-ready : goal.returns-in_err-step-8-clause-ready
-returns-in_err-step-8-clause-ready g c = off_ok c.from_residual-in_err-step-8.result _ c.from_residual-in_err-step-8.ensures.0
+returns-in_err-step-8-clause-ready g c = IfOk-from_err c.from_residual-in_err-step-8.result _ c.from_residual-in_err-step-8.ensures.0
 
 pub returns-in_err-step-8-clause-keeps : goal.returns-in_err-step-8-clause-keeps
 returns-in_err-step-8-clause-keeps g c = keeps_then _ _ _ _ _ c.in_ok-step.ensures.keeps
@@ -178,16 +179,16 @@ returns-in_err-step-8-clause-keeps g c = keeps_then _ _ _ _ _ c.in_ok-step.ensur
     (keeps_refused _ _ _ c.from_residual-in_err-step-8.result c.from_residual-in_err-step-8.ensures.0 c.in_err-step-8.ensures.keeps)))))))
 
 pub returns-in_err-slice-clause-midway : goal.returns-in_err-slice-clause-midway
-returns-in_err-slice-clause-midway g c w told is = off_ok c.from_residual-in_err-slice.result _ c.from_residual-in_err-slice.ensures.0
+returns-in_err-slice-clause-midway g c w told is = IfOk-from_err c.from_residual-in_err-slice.result _ c.from_residual-in_err-slice.ensures.0
 
 pub returns-in_err-slice-clause-step : goal.returns-in_err-slice-clause-step
-returns-in_err-slice-clause-step g c w told is = off_value c.from_residual-in_err-slice.result _ c.from_residual-in_err-slice.ensures.0
+returns-in_err-slice-clause-step g c w told is = IfOk-from_err c.from_residual-in_err-slice.result _ c.from_residual-in_err-slice.ensures.0
 
 pub returns-in_err-slice-clause-nine : goal.returns-in_err-slice-clause-nine
-returns-in_err-slice-clause-nine g c = off_ok c.from_residual-in_err-slice.result _ c.from_residual-in_err-slice.ensures.0
+returns-in_err-slice-clause-nine g c = IfOk-from_err c.from_residual-in_err-slice.result _ c.from_residual-in_err-slice.ensures.0
 
 pub returns-in_err-slice-clause-ready : goal.returns-in_err-slice-clause-ready
-returns-in_err-slice-clause-ready g c = off_ok c.from_residual-in_err-slice.result _ c.from_residual-in_err-slice.ensures.0
+returns-in_err-slice-clause-ready g c = IfOk-from_err c.from_residual-in_err-slice.result _ c.from_residual-in_err-slice.ensures.0
 
 pub returns-in_err-slice-clause-keeps : goal.returns-in_err-slice-clause-keeps
 returns-in_err-slice-clause-keeps g c = keeps_then _ _ _ _ _ c.in_ok-step.ensures.keeps

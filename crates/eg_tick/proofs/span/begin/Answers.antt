@@ -1,7 +1,7 @@
 use Rattle.std.proofs.Common.{refl, false}
+use Rattle.std.proofs.lemmas.Result.{IfOk-from_err}
 use Rattle.eg_tick.specs.Entering.{begun}
 use Rattle.eg_tick.proofs.StartLemmas.{begun_span, begun_ready}
-use Rattle.eg_tick.proofs.KeepsLemmas.{off_ok}
 use Rattle.eg_tick.proofs.span.begin.Goals as goal
 
 pub returns-clause-holds : goal.returns-clause-holds
@@ -23,19 +23,19 @@ returns-clause-begun g c =
     λ i. record { tests = c.args.tests; passed = false; local = 0; monitor = c.restart.ensures.begins i; open1 = false; open2 = false }
 
 pub returns-in_err-clear-clause-holds : goal.returns-in_err-clear-clause-holds
-returns-in_err-clear-clause-holds g c kind s h holds = off_ok c.from_residual.result _ c.from_residual.ensures.0
+returns-in_err-clear-clause-holds g c kind s h holds = IfOk-from_err c.from_residual.result _ c.from_residual.ensures.0
 
 pub returns-in_err-clear-clause-begun : goal.returns-in_err-clear-clause-begun
-returns-in_err-clear-clause-begun g c = off_ok c.from_residual.result _ c.from_residual.ensures.0
+returns-in_err-clear-clause-begun g c = IfOk-from_err c.from_residual.result _ c.from_residual.ensures.0
 
 pub returns-in_err-clear-clause-ready : goal.returns-in_err-clear-clause-ready
-returns-in_err-clear-clause-ready g c = off_ok c.from_residual.result _ c.from_residual.ensures.0
+returns-in_err-clear-clause-ready g c = IfOk-from_err c.from_residual.result _ c.from_residual.ensures.0
 
 pub returns-in_err-reset-clause-holds : goal.returns-in_err-reset-clause-holds
-returns-in_err-reset-clause-holds g c kind s h holds = off_ok c.from_residual-in_err-reset.result _ c.from_residual-in_err-reset.ensures.0
+returns-in_err-reset-clause-holds g c kind s h holds = IfOk-from_err c.from_residual-in_err-reset.result _ c.from_residual-in_err-reset.ensures.0
 
 pub returns-in_err-reset-clause-begun : goal.returns-in_err-reset-clause-begun
-returns-in_err-reset-clause-begun g c = off_ok c.from_residual-in_err-reset.result _ c.from_residual-in_err-reset.ensures.0
+returns-in_err-reset-clause-begun g c = IfOk-from_err c.from_residual-in_err-reset.result _ c.from_residual-in_err-reset.ensures.0
 
 pub returns-in_err-reset-clause-ready : goal.returns-in_err-reset-clause-ready
-returns-in_err-reset-clause-ready g c = off_ok c.from_residual-in_err-reset.result _ c.from_residual-in_err-reset.ensures.0
+returns-in_err-reset-clause-ready g c = IfOk-from_err c.from_residual-in_err-reset.result _ c.from_residual-in_err-reset.ensures.0

@@ -1,10 +1,9 @@
-use Rattle.std.proofs.Common.{◌≡◌, ◌∙◌, sym, ap, refl, ◌+◌, ◌==◌, ◌≤◌, ◌<◌, length, Some, arith, option_map}
-use Rattle.std.proofs.lemmas.Grind.{common_steps}
+use Rattle.std.proofs.Common.{◌≡◌, ◌∙◌, sym, refl, Some, arith}
 use Rattle.eg_asm.specs.declared.operand.Operand.TheVariants.{Register}
 use Rattle.eg_asm.specs.Rows.{form_in}
 use Rattle.eg_asm.specs.Words.{word_with}
 use Rattle.eg_asm.specs.Listings.{is_of, values_in}
-use Rattle.eg_asm.proofs.ListingLemmas.{usable-few, usable-at, listed-more, listed-end}
+use Rattle.eg_asm.proofs.ListingLemmas.{usable-at, listed-more, listed-end}
 use Rattle.eg_asm.proofs.form.FormRow.is_of.Goals as goal
 
 pub loop-operand-init : goal.loop-operand-init

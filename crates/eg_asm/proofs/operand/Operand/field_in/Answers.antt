@@ -1,4 +1,4 @@
-use Rattle.std.proofs.Common.{◌≡◌, ◌∙◌, mod-lt, sym, refl, ◌<◌, ◌*◌, ◌%◌, [], Some, arith}
+use Rattle.std.proofs.Common.{mod-lt, sym, refl, ◌<◌, ◌*◌, ◌%◌, arith}
 use Rattle.std.proofs.lemmas.Bool.Decides.{nat_tests}
 use Rattle.eg_asm.specs.Usable.{is_usable}
 use Rattle.eg_asm.specs.Words.{field_of, distance_to}

@@ -1,5 +1,4 @@
-use Rattle.std.proofs.Common.{◌≡◌, ◌∙◌, ap, ◌∷◌, ◌++◌, [], ◌+◌, length, map, arith}
-use Rattle.std.proofs.lemmas.Grind.{common_steps}
+use Rattle.std.proofs.Common.{◌≡◌, ◌∙◌, ap, ◌∷◌, ◌++◌, [], ◌+◌, length, map}
 use Rattle.std.proofs.lemmas.List.{map-append}
 use Rattle.eg_asm.specs.Kept.{placed_shown}
 use Rattle.eg_asm.specs.Encodings.{instruction_shown}

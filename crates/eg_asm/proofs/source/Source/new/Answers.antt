@@ -1,4 +1,4 @@
-use Rattle.std.proofs.Common.{refl, map, None}
+use Rattle.std.proofs.Common.{refl}
 use Rattle.eg_asm.proofs.KeepsLemmas.{keeps-start}
 use Rattle.eg_asm.proofs.source.Source.new.Goals as goal
 

@@ -1,5 +1,5 @@
-use Rattle.std.proofs.Common.{◌∙◌, sym, ap, subst}
-use Rattle.eg_record.specs.Tallies.{TallyParts, IsTallyOf}
+use Rattle.std.proofs.Common.{◌∙◌, ap}
+use Rattle.eg_record.specs.Tallies.{TallyParts}
 use Rattle.eg_record.specs.Reactions.{combined, span_reactions}
 use Rattle.eg_record.proofs.TallyLemmas.{tally_tells}
 use Rattle.eg_record.proofs.tally.Tally.reactions.Goals as goal

@@ -1,5 +1,6 @@
 use Rattle.std.proofs.Common.{◌≡◌, ◌∙◌, refl, sym, ap, subst, ◌+◌, ◌<◌, Some, None, List, ◌∷◌, length, slice_index, true, false, arith}
 use Rattle.std.specs.Option.{option_copied}
+use Rattle.std.proofs.lemmas.Result.{IfOk-from_err}
 use Rattle.eg_answer.specs.declared.rules.Rules.{Rules}
 use Rattle.eg_num.specs.Interpolation.{grid_at}
 use Rattle.eg_torque.specs.Permit.{drive_permits}
@@ -20,7 +21,6 @@ use Rattle.eg_tick.specs.Advancing.{effects_after, entry_of, world_before}
 use Rattle.eg_tick.specs.declared.working.Task.{Task}
 use Rattle.eg_tick.proofs.StandsLemmas.{Enters, entered, enters, next_stands}
 use Rattle.eg_tick.proofs.AdvanceLemmas.{of_setting, held-within, within, few-in, period-in, later-in, stepped, Advance, makes, row-told, step-told}
-use Rattle.eg_tick.proofs.KeepsLemmas.{off_ok, off_value}
 use Rattle.eg_tick.proofs.controller.Controller.advance.Given.{Over}
 use Rattle.eg_tick.proofs.controller.Controller.advance.Goals as goal
 
@@ -253,28 +253,28 @@ returns-in_err-step-clause-same_or_stepped g c s h stands =
     c.at.ensures.on c.held_plate-held_plate.ensures c.step_engine.ensures.steps
 
 pub returns-in_err-enter-clause-stands : goal.returns-in_err-enter-clause-stands
-returns-in_err-enter-clause-stands g c s h is = off_ok c.from_residual.result _ c.from_residual.ensures.0
+returns-in_err-enter-clause-stands g c s h is = IfOk-from_err c.from_residual.result _ c.from_residual.ensures.0
 
 pub returns-in_err-enter-clause-row : goal.returns-in_err-enter-clause-row
-returns-in_err-enter-clause-row g c s h is = off_value c.from_residual.result _ c.from_residual.ensures.0
+returns-in_err-enter-clause-row g c s h is = IfOk-from_err c.from_residual.result _ c.from_residual.ensures.0
 
 pub returns-in_err-enter-clause-engine : goal.returns-in_err-enter-clause-engine
-returns-in_err-enter-clause-engine g c s h is = off_ok c.from_residual.result _ c.from_residual.ensures.0
+returns-in_err-enter-clause-engine g c s h is = IfOk-from_err c.from_residual.result _ c.from_residual.ensures.0
 
 pub returns-in_err-enter-clause-ticks : goal.returns-in_err-enter-clause-ticks
-returns-in_err-enter-clause-ticks g c = off_ok c.from_residual.result _ c.from_residual.ensures.0
+returns-in_err-enter-clause-ticks g c = IfOk-from_err c.from_residual.result _ c.from_residual.ensures.0
 
 pub returns-in_err-step-clause-stands : goal.returns-in_err-step-clause-stands
-returns-in_err-step-clause-stands g c s h is = off_ok c.from_residual-in_err-step.result _ c.from_residual-in_err-step.ensures.0
+returns-in_err-step-clause-stands g c s h is = IfOk-from_err c.from_residual-in_err-step.result _ c.from_residual-in_err-step.ensures.0
 
 pub returns-in_err-step-clause-row : goal.returns-in_err-step-clause-row
-returns-in_err-step-clause-row g c s h is = off_value c.from_residual-in_err-step.result _ c.from_residual-in_err-step.ensures.0
+returns-in_err-step-clause-row g c s h is = IfOk-from_err c.from_residual-in_err-step.result _ c.from_residual-in_err-step.ensures.0
 
 pub returns-in_err-step-clause-engine : goal.returns-in_err-step-clause-engine
-returns-in_err-step-clause-engine g c s h is = off_ok c.from_residual-in_err-step.result _ c.from_residual-in_err-step.ensures.0
+returns-in_err-step-clause-engine g c s h is = IfOk-from_err c.from_residual-in_err-step.result _ c.from_residual-in_err-step.ensures.0
 
 pub returns-in_err-step-clause-ticks : goal.returns-in_err-step-clause-ticks
-returns-in_err-step-clause-ticks g c = off_ok c.from_residual-in_err-step.result _ c.from_residual-in_err-step.ensures.0
+returns-in_err-step-clause-ticks g c = IfOk-from_err c.from_residual-in_err-step.result _ c.from_residual-in_err-step.ensures.0
 
 pub returns-clause-loses : goal.returns-clause-loses
 returns-clause-loses g c = tt

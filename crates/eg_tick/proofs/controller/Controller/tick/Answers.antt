@@ -1,10 +1,10 @@
 use Rattle.std.proofs.Common.{subst}
+use Rattle.std.proofs.lemmas.Result.{IfOk-from_err}
+use Rattle.eg_base.proofs.ResultLemmas.{at_err}
 use Rattle.eg_values.specs.Calibration.{IsAccepted}
 use Rattle.eg_tick.specs.Advancing.{entry_of}
 use Rattle.eg_tick.proofs.TrapLemmas.{outputs-hold}
 use Rattle.eg_tick.proofs.ReactionLemmas.{unpowered, reacts, at_once, cuts, short}
-use Rattle.eg_level2.proofs.OrderLemmas.{at_err}
-use Rattle.eg_tick.proofs.KeepsLemmas.{off_ok, off_value}
 use Rattle.eg_tick.proofs.controller.Controller.tick.Given.{Over}
 use Rattle.eg_tick.proofs.controller.Controller.tick.Goals as goal
 
@@ -32,34 +32,34 @@ returns-clause-trapped g c s h stands trapped =
     outputs-hold s (entry_of c.args.drive.now c.args.slices.now c.advance.new.self.kept.shown) h c.in_ok-row.row trapped (c.in_ok-row.ensures.row s h stands)
 
 pub returns-in_err-row-clause-stands : goal.returns-in_err-row-clause-stands
-returns-in_err-row-clause-stands g c s h is = off_ok c.from_residual.result _ c.from_residual.ensures.0
+returns-in_err-row-clause-stands g c s h is = IfOk-from_err c.from_residual.result _ c.from_residual.ensures.0
 
 pub returns-in_err-row-clause-row : goal.returns-in_err-row-clause-row
-returns-in_err-row-clause-row g c s h is = off_value c.from_residual.result _ c.from_residual.ensures.0
+returns-in_err-row-clause-row g c s h is = IfOk-from_err c.from_residual.result _ c.from_residual.ensures.0
 
 pub returns-in_err-row-clause-engine : goal.returns-in_err-row-clause-engine
-returns-in_err-row-clause-engine g c s h is = off_ok c.from_residual.result _ c.from_residual.ensures.0
+returns-in_err-row-clause-engine g c s h is = IfOk-from_err c.from_residual.result _ c.from_residual.ensures.0
 
 pub returns-in_err-row-clause-trapped : goal.returns-in_err-row-clause-trapped
-returns-in_err-row-clause-trapped g c s h is was = off_value c.from_residual.result _ c.from_residual.ensures.0
+returns-in_err-row-clause-trapped g c s h is was = IfOk-from_err c.from_residual.result _ c.from_residual.ensures.0
 
 pub returns-in_err-row-clause-unpowered : goal.returns-in_err-row-clause-unpowered
-returns-in_err-row-clause-unpowered g c s = off_value c.from_residual.result _ c.from_residual.ensures.0
+returns-in_err-row-clause-unpowered g c s = IfOk-from_err c.from_residual.result _ c.from_residual.ensures.0
 
 pub returns-in_err-row-clause-reacts : goal.returns-in_err-row-clause-reacts
-returns-in_err-row-clause-reacts g c s = off_value c.from_residual.result _ c.from_residual.ensures.0
+returns-in_err-row-clause-reacts g c s = IfOk-from_err c.from_residual.result _ c.from_residual.ensures.0
 
 pub returns-in_err-row-clause-at_once : goal.returns-in_err-row-clause-at_once
-returns-in_err-row-clause-at_once g c s = off_value c.from_residual.result _ c.from_residual.ensures.0
+returns-in_err-row-clause-at_once g c s = IfOk-from_err c.from_residual.result _ c.from_residual.ensures.0
 
 pub returns-in_err-row-clause-lapses : goal.returns-in_err-row-clause-lapses
-returns-in_err-row-clause-lapses g c s = off_value c.from_residual.result _ c.from_residual.ensures.0
+returns-in_err-row-clause-lapses g c s = IfOk-from_err c.from_residual.result _ c.from_residual.ensures.0
 
 pub returns-in_err-row-clause-weight : goal.returns-in_err-row-clause-weight
-returns-in_err-row-clause-weight g c = off_value c.from_residual.result _ c.from_residual.ensures.0
+returns-in_err-row-clause-weight g c = IfOk-from_err c.from_residual.result _ c.from_residual.ensures.0
 
 pub returns-in_err-row-clause-ticks : goal.returns-in_err-row-clause-ticks
-returns-in_err-row-clause-ticks g c = off_ok c.from_residual.result _ c.from_residual.ensures.0
+returns-in_err-row-clause-ticks g c = IfOk-from_err c.from_residual.result _ c.from_residual.ensures.0
 
 pub returns-in_err-row-clause-loses : goal.returns-in_err-row-clause-loses
 returns-in_err-row-clause-loses g c = at_err c.from_residual.result c.in_err-row.ensures.loses
