@@ -45,4 +45,4 @@ read_back PathOpen ms = refl
 read_back Lapse ms = refl
 
 pub are_names : (told : Class → List ℕ) → ((class : Class) → told class ≡ name_of class) → AreNames told
-are_names told same name class is = ap read (same class ∙ ap name_of is.1) ∙ read_back name is.0
+are_names told same name ms = ap read (same (class_of name ms)) ∙ read_back name ms

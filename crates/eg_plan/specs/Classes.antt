@@ -63,14 +63,10 @@ class_of Path2Closed ms = class.Path2Closed
 class_of PathOpen ms = class.PathOpen (number_of path ms)
 class_of Lapse ms = class.Lapse (numbers_of after ms) (number_of every ms)
 
--- a campaign tells this class by this name, with whatever numbers
-abbrev pub IsTold : ClassName → Class → Type 0
-IsTold name class = (ms : Members) × (class ≡ class_of name ms)
-
--- these are the names of the classes: that of each is the one by which a campaign tells it
+-- Whatever else a campaign says of a class, what the class is told as is a name by which campaigns tell it.
 abbrev pub AreNames : (Class → List ℕ) → Type 0
-AreNames name_of = (name : ClassName) (class : Class) → IsTold name class →
-    named_among class_names (name_of class) ≡ Some name
+AreNames told = (name : ClassName) (ms : Members) →
+    named_among class_names (told (class_of name ms)) ≡ Some name
 
 -- the class that a table of `faults` names
 abbrev pub class_in : Members → Option ClassName

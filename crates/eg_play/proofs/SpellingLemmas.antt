@@ -1,9 +1,10 @@
--- What a table calls a class is the name by which a campaign tells it.
-use Rattle.std.proofs.Common.{◌≡◌, refl}
+-- What both tables call a class is a name by which campaigns tell it.
+use Rattle.std.proofs.Common.{◌≡◌, refl, map}
 use Rattle.eg_fault.specs.declared.class.Class.{Class}
 use Rattle.eg_fault.specs.declared.class.Class.TheVariants.{Script, Offset, Bus, Plate, Skip, Disturb, Flip, Halt, Timing, Wild, Path1Closed, Path2Closed, PathOpen, Lapse}
 use Rattle.eg_plan.specs.Classes.{AreNames}
 use Rattle.eg_plan.proofs.NameLemmas.{name_of, are_names}
+use Rattle.eg_sweep.specs.Grid.{swept_classes}
 use Rattle.eg_sweep.specs.Table.{class_index}
 use Rattle.eg_sweep.specs.Texts.{class_name, class_names}
 
@@ -26,3 +27,7 @@ same (Lapse after every) = refl
 
 pub told_names : AreNames class_name
 told_names = are_names class_name same
+
+pub names_in_order : class_names ≡ map class_name swept_classes
+unfolding class_name class_names class_index swept_classes
+names_in_order = refl

@@ -1,5 +1,8 @@
-use Rattle.eg_play.proofs.SpellingLemmas.{told_names}
+use Rattle.eg_play.proofs.SpellingLemmas.{told_names, names_in_order}
 use Rattle.eg_play.proofs.laws.classes_are_spelt_as_in_campaigns.Goals as goal
 
-pub returns : goal.returns
-returns c = told_names
+pub returns-clause-table : goal.returns-clause-table
+returns-clause-table c = told_names
+
+pub returns-clause-sweep : goal.returns-clause-sweep
+returns-clause-sweep c = names_in_order
