@@ -37,7 +37,8 @@ abbrev pub text_weight : ℕ
 text_weight = 32
 
 -- A name behind so many others of its table. The room of a table is for fifteen at first; each one more may
--- double it, and is looked up behind the whole heading once more. No good file has one, and it weighs much.
+-- double it, and is looked up behind the whole heading once more, so that it weighs much. Of good files only
+-- a calibration without headings has some, thirteen or fourteen.
 abbrev pub name_weight : ℕ → ℕ
 name_weight names = if nat_lt names 15 then 32 else 27_000
 
