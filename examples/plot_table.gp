@@ -1,6 +1,6 @@
 # A picture of a table: the reaction over the onset, for each class of fault that is named, and as a line the
-# worst-case reaction, which is what `limits` prints. A run without a reaction has no point. examples/own_calibration.sh makes answered.toml
-# and faults.toml.
+# worst-case reaction, which is what `limits` prints. A run without a reaction has no point.
+# examples/own_calibration.sh makes answered.toml and faults.toml.
 #   ./egasim table --cal answered.toml faults.toml >table.csv
 #   gnuplot -c examples/plot_table.gp table.csv "halt path1-closed" 34 table.png
 set terminal pngcairo size 720,420 font "Sans,10"
