@@ -1,5 +1,5 @@
 // Counts how often a program asks the C library for memory, and refuses some of it. It is loaded before the C library
-// (LD_PRELOAD), and goes by the environment:
+// (LD_PRELOAD), and is told by the environment what to do:
 //   REFUSE_FROM=N    the N-th request is refused, and all later ones too
 //   REFUSE_ALONE=1   the N-th alone
 //   REFUSE_TELL=FILE as the program ends, the count of its requests is written there

@@ -1,5 +1,6 @@
 // Makes the system's calls for reading and writing go otherwise than they would. It is loaded before the C library
-// (LD_PRELOAD), counts the reads and the writes of the program, the first being 1, and goes by the environment:
+// (LD_PRELOAD), counts the reads and the writes of the program, the first being 1, and is told by the environment what
+// to do:
 //   READ_AT=N, RUN=COMMAND    just before the N-th read, this command of the shell is done
 //   READ_AT=N, READ_ERROR=E   the N-th read fails with the error of that number, and so do the later ones;
 //                             where ONCE is set too, the N-th alone

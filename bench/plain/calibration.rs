@@ -1,4 +1,4 @@
-//! The rules of levels 2 and 3 and of the engine, and the numbers that they go by.
+//! The rules of levels 2 and 3 and of the engine, and the numbers that they use.
 
 /// Strictly rising points, with a value at each.
 pub struct Table {

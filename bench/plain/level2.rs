@@ -100,7 +100,7 @@ pub struct Known {
     pub torque: u16,
 }
 
-/// What the modules go by in a tick.
+/// What the modules use in a tick.
 pub struct Rules<'a> {
     pub cal: &'a Calibration,
     pub asked: &'a Question,

@@ -57,7 +57,7 @@ impl<'a> Span<'a> {
         &self.ticks[self.ticks.len() - 1]
     }
 
-    /// How many ticks go by from the confirmed excess until the stages are off for good, where they are.
+    /// How many ticks pass from the confirmed excess until the stages are off for good, where they are.
     fn reaction(&self) -> Option<u32> {
         let confirmed = self.confirmed?;
         let last_on = last_on(self.ticks);
