@@ -24,7 +24,7 @@ use Rattle.eg_play.specs.declared.telling.Telling.{Telling}
 use Rattle.eg_play.specs.Ends.{RunsEnd, GridEnds, FoundComes, NamedComes, run_named}
 use Rattle.eg_app.specs.Words.{Command, check, bound, limits, run, record_run, sweep, soak, answers, asm, dis}
 use Rattle.eg_app.specs.Ends.{Ends}
-use Rattle.eg_app.specs.Headline.{GoesBy, IsInput, AreInputs, IsNamedInput, TellsRuns, TellsHeadline}
+use Rattle.eg_app.specs.Headline.{Uses, IsInput, AreInputs, IsNamedInput, TellsRuns, TellsHeadline}
 use Rattle.eg_app.proofs.PlayLemmas.{same_error, same_value, no_value}
 
 -- ---- no call is done without its files ----
@@ -70,10 +70,10 @@ inputs_never store later n sum (plan ∷ plans) end (Ok input, comes, (Err e, re
 
 -- ---- what the files say ----
 
-goes_by : (calibration : Option (List ℕ)) (store later : ShownStore) (cal : CalibrationParts)
-    → CalibrationComes calibration store later (Ok cal) → GoesBy calibration store cal
-goes_by None store later cal comes = same_value (Ok cal) cal reference_parts refl comes
-goes_by (Some name) store later cal comes = comes
+uses : (calibration : Option (List ℕ)) (store later : ShownStore) (cal : CalibrationParts)
+    → CalibrationComes calibration store later (Ok cal) → Uses calibration store cal
+uses None store later cal comes = same_value (Ok cal) cal reference_parts refl comes
+uses (Some name) store later cal comes = comes
 
 ticks_tell : (refused : Option Refusal) (store later : ShownStore) (n : ℕ) (plan : RunPlan) (drive : List DriveRow) (input : RunInput)
     → ReadComes (trace_file n) plan.trace store (Ok drive) → TicksCome refused store later n plan drive (Ok input) → IsInput store n plan input
@@ -101,7 +101,7 @@ inputs_tell store later n sum (plan ∷ plans) inputs (Ok input, comes, (Ok more
 -- ---- the commands ----
 
 runs_tell : (telling : Telling) (calibration : Option (List ℕ)) (campaign : List ℕ) (cal : CalibrationParts) (plans : List RunPlan) (store later : ShownStore)
-    (out now : ShownSink) (was then : TickCount) → GoesBy calibration store cal → ReadComes campaign_file campaign store (Ok plans)
+    (out now : ShownSink) (was then : TickCount) → Uses calibration store cal → ReadComes campaign_file campaign store (Ok plans)
     → RunsEnd telling cal plans store later out now was then Done → TellsRuns telling calibration campaign store out now
 runs_tell telling calibration campaign cal plans store later out now was then by says (Err end, comes, (is, nothing)) =
     absurd (inputs_never store later 1 0 plans end comes (sym is))
@@ -109,7 +109,7 @@ runs_tell telling calibration campaign cal plans store later out now was then by
   cal = cal;
   plans = plans;
   inputs = inputs;
-  goes_by = by;
+  uses = by;
   campaign_says = says;
   files_say = inputs_tell store later 1 0 plans inputs comes;
   written = tells.plays.written.0;
@@ -168,7 +168,7 @@ done_tells (Some (run telling calibration campaign)) store later out now was the
 done_tells (Some (run telling calibration campaign)) store later out now was then (Ok cal, comes, (Err end, read, (is, nothing))) =
     absurd (never_done role.Campaign campaign_file campaign store later end read (sym is))
 done_tells (Some (run telling calibration campaign)) store later out now was then (Ok cal, comes, (Ok plans, read, ends)) =
-    runs_tell telling calibration campaign cal plans store later out now was then (goes_by calibration store later cal comes) read ends
+    runs_tell telling calibration campaign cal plans store later out now was then (uses calibration store later cal comes) read ends
 done_tells (Some (record_run calibration campaign name)) store later out now was then (Err end, comes, (is, nothing)) =
     absurd (calibration_never calibration store later end comes (sym is))
 done_tells (Some (record_run calibration campaign name)) store later out now was then (Ok cal, comes, (Err end, named, (is, nothing))) =
@@ -176,7 +176,7 @@ done_tells (Some (record_run calibration campaign name)) store later out now was
 done_tells (Some (record_run calibration campaign name)) store later out now was then (Ok cal, comes, (Ok input, named, (same, records))) = record {
   cal = cal;
   input = input;
-  goes_by = goes_by calibration store later cal comes;
+  uses = uses calibration store later cal comes;
   files_say = named_tells campaign name store later input named;
   written = records.written.0;
   headline = records.headline;
@@ -190,7 +190,7 @@ done_tells (Some (sweep calibration campaign name step)) store later out now was
     record {
       cal = cal;
       input = input;
-      goes_by = goes_by calibration store later cal comes;
+      uses = uses calibration store later cal comes;
       files_say = named_tells campaign name store later input named;
       written = sweeps.plays.written.0;
       headline = sweeps.plays.headline;

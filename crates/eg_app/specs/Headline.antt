@@ -23,9 +23,9 @@ use Rattle.eg_soak.specs.Texts.{soak_text}
 use Rattle.eg_app.specs.Words.{Command, run, record_run, sweep, soak}
 
 -- this is the calibration that the command goes by: that of the file behind `--cal`, or the reference
-abbrev pub GoesBy : Option (List ℕ) → ShownStore → CalibrationParts → Type 0
-GoesBy (Some name) store cal = ReadComes calibration_file name store (Ok cal)
-GoesBy None store cal = cal ≡ reference_parts
+abbrev pub Uses : Option (List ℕ) → ShownStore → CalibrationParts → Type 0
+Uses (Some name) store cal = ReadComes calibration_file name store (Ok cal)
+Uses None store cal = cal ≡ reference_parts
 
 -- this is the input of run n: its plan, the drive that its trace tells, and the words of its image
 pub record IsInput (store : ShownStore) (n : ℕ) (plan : RunPlan) (input : RunInput) : Type 0 where
@@ -47,7 +47,7 @@ pub record TellsRuns (telling : Telling) (calibration : Option (List ℕ)) (camp
   pub cal : CalibrationParts
   pub plans : List RunPlan
   pub inputs : List RunInput
-  pub goes_by : GoesBy calibration store cal
+  pub uses : Uses calibration store cal
   pub campaign_says : ReadComes campaign_file campaign store (Ok plans)
   pub files_say : AreInputs store 1 plans inputs
   pub written : Appends out now (runs_text telling cal inputs)
@@ -68,7 +68,7 @@ pub record TellsRecord (calibration : Option (List ℕ)) (campaign name : List �
     (out now : ShownSink) : Type 0 where
   pub cal : CalibrationParts
   pub input : RunInput
-  pub goes_by : GoesBy calibration store cal
+  pub uses : Uses calibration store cal
   pub files_say : IsNamedInput campaign name store input
   pub written : Appends out now (record_text cal input)
   pub headline : KeepsHeadline (run_with cal input)
@@ -80,7 +80,7 @@ pub record TellsSweep (calibration : Option (List ℕ)) (campaign name : List �
     (store : ShownStore) (out now : ShownSink) : Type 0 where
   pub cal : CalibrationParts
   pub input : RunInput
-  pub goes_by : GoesBy calibration store cal
+  pub uses : Uses calibration store cal
   pub files_say : IsNamedInput campaign name store input
   pub written : Appends out now (swept_text cal step input)
   pub headline : All KeepsHeadline (map (run_with cal) (runs_over step input))

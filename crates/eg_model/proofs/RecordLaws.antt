@@ -255,8 +255,8 @@ module _ {E : Type 0} {b : BenchEngine E} {Keeps : PlantParts → E → Type 0} 
       react_at_once r.setting start (SpanTo b r count) run.accepted listed is.follows
       (proper_span r run (listed_valid r.setting.fault listed) start count span is))
 
-  pub records_cut_lapses : RecordsCutStandingExcess b
-  records_cut_lapses r run valid bound lapse = each_drive b (CutStandingExcess r.setting.cal) r (λ start count span is.
+  pub records_cut_standing_excess : RecordsCutStandingExcess b
+  records_cut_standing_excess r run valid bound lapse = each_drive b (CutStandingExcess r.setting.cal) r (λ start count span is.
       cut_lapses r.setting start (SpanTo b r count) run.accepted bound lapse is.follows
       (proper_span r run valid start count span is))
 

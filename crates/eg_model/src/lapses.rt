@@ -6,7 +6,7 @@ ghost use Rattle.eg_model.specs.Lapses.{CutsStandingExcess, StretchesAreShort};
 /// true excess, the stages are off from the tick after the last of them to the end of the power cycle; and
 /// each such stretch is shorter than the bound in ticks that `eg_answer::lapse_bound` gives. Nothing is
 /// said of an excess with gaps. It does nothing when it runs.
-pub fn lapses_are_cut()
+pub fn standing_excess_is_cut()
     ensures cut { CutsStandingExcess }
     ensures short { StretchesAreShort }
 {}

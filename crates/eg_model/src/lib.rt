@@ -21,11 +21,11 @@ pub use faulty_runs::{
     latched_run, limited_run, offset_track, path_2_runs, wild_run,
 };
 pub use findings::{records_find_in_time, records_name_what_cuts};
-pub use lapses::lapses_are_cut;
+pub use lapses::standing_excess_is_cut;
 pub use outputs::level_1_acts_by_its_outputs;
 pub use reaction::{cuts_from_onset, reacts_in_time};
 pub use records::{
-    records_are_histories, records_cut_from_onset, records_cut_lapses, records_cut_sharply,
+    records_are_histories, records_cut_from_onset, records_cut_standing_excess, records_cut_sharply,
     records_react, records_test_the_paths, spans_react_in_time,
 };
 pub use sharp_cut::cuts_sharply;

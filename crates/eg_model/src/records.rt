@@ -45,7 +45,7 @@ pub fn spans_react_in_time()
 /// The laws of lapses by the rows of each drive span of the record of a run on the bench, for a calibration
 /// that has a bound (docs/CONCEPT.md, "Lapses"): a lapse is cut, and each stretch of true excess is shorter
 /// than the bound. It does nothing when it runs.
-pub fn records_cut_lapses()
+pub fn records_cut_standing_excess()
     ensures cut { RecordsCutStandingExcess gasoline × RecordsCutStandingExcess diesel }
     ensures short { RecordsHaveShortExcess gasoline × RecordsHaveShortExcess diesel }
 {}
