@@ -1,11 +1,11 @@
-// The rules that level 2 goes by, and the test rows that try them.
+// The rules that level 2 uses, and the test rows that try them.
 ghost use Rattle.std.specs.Prelude.{◌≡◌};
 
 use eg_num::Weights;
 use eg_sensor::Readings;
 use eg_torque::Permit;
 
-/// The rules that level 2 goes by (docs/CONCEPT.md, "Questions and answers").
+/// The rules that level 2 uses (docs/CONCEPT.md, "Questions and answers").
 #[derive(Drop)]
 pub struct Rules {
     /// The permit table.

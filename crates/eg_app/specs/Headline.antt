@@ -22,7 +22,7 @@ use Rattle.eg_soak.specs.Soak.{drawn_runs, soak_of}
 use Rattle.eg_soak.specs.Texts.{soak_text}
 use Rattle.eg_app.specs.Words.{Command, run, record_run, sweep, soak}
 
--- this is the calibration that the command goes by: that of the file behind `--cal`, or the reference
+-- this is the calibration that the command uses: that of the file behind `--cal`, or the reference
 abbrev pub Uses : Option (List ℕ) → ShownStore → CalibrationParts → Type 0
 Uses (Some name) store cal = ReadComes calibration_file name store (Ok cal)
 Uses None store cal = cal ≡ reference_parts

@@ -1,4 +1,5 @@
--- The one line that notes how a call ended. Nothing is noted of one that did its work.
+-- Outside the headline. The one line that notes how a call ended. Nothing is noted of one that did its
+-- work.
 use Rattle.std.specs.Prelude.{◌≡◌, ℕ, List, [], ◌++◌, codes, decimal, Option, Some, None, unwrap_or, IsTrue}
 use Rattle.eg_base.specs.Outside.{ShownStore, ShownSink, Rose, Appends, AppendsPrefix}
 use Rattle.eg_input.specs.declared.fault.TraceFault.{TraceFault}

@@ -11,7 +11,7 @@ use Rattle.eg_app.specs.declared.command.Command.TheVariants as parsed
 
 -- What can be asked for: to check the file of this name; the bounds, or all limits; to run the campaign of
 -- this name, and tell its runs by the report or by a table; the record of its run of that name; or to sweep
--- over all classes of faults with that run, at each `step`th tick. Each of these goes by the calibration in
+-- over all classes of faults with that run, at each `step`th tick. Each of these uses the calibration in
 -- the file of the name behind `--cal`, or by the reference calibration where there is none. Or so many runs
 -- that are drawn from a number; or the right answers to the questions of a calibration file; or the image
 -- of a source, or the source of an image.

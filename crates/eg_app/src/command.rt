@@ -9,7 +9,7 @@ use eg_outcome::{Outcome, Refusal, Role};
 use eg_play::Telling;
 
 /// What the words of the command line ask for (docs/FORMATS.md, "Commands"). A command with a `calibration`
-/// goes by the one in the file behind `--cal`, or by the reference calibration where there is none.
+/// uses the one in the file behind `--cal`, or the reference calibration where there is none.
 #[derive(Clone, Copy)]
 pub(crate) enum Command<'a> {
     /// `check [--cal NAME] FILE`.

@@ -1,4 +1,4 @@
--- What the code keeps of the lines of a source until all are read.
+-- Outside the headline. What the code keeps of the lines of a source until all are read.
 use Rattle.std.specs.Prelude.{◌≡◌, ℕ, ◌+◌, if◌then◌else◌, Bool, false, List, [], ◌∷◌, ◌++◌, length, Option, Some, None, is_some, IsSome, map}
 use Rattle.std.specs.BTreeMap.{get}
 use Rattle.std.specs.Cmp.Lexicographic.{slice_cmp}

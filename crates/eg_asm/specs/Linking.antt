@@ -1,4 +1,4 @@
--- The words of what is kept of a source, once all of its labels are known.
+-- Outside the headline. The words of what is kept of a source, once all of its labels are known.
 use Rattle.std.specs.Prelude.{◌≡◌, ℕ, ◌+◌, min, List, [], ◌∷◌, Option, Some, None, is_some, if◌then◌else◌, option_map, option_and_then, Result, Ok, Err}
 use Rattle.std.specs.BTreeMap.{get, BTreeMap}
 use Rattle.std.specs.Cmp.Lexicographic.{slice_cmp}

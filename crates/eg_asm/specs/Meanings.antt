@@ -1,4 +1,4 @@
--- What the instructions of a source mean to the machine.
+-- Outside the headline. What the instructions of a source mean to the machine.
 use Rattle.std.specs.Prelude.{◌≡◌, ℕ, ℤ, List, [], ◌∷◌, codes, Some}
 use Rattle.eg_word.specs.declared.instruction.Instruction.{Instruction}
 use Rattle.eg_word.specs.declared.instruction.Instruction.TheVariants as machine

@@ -1,4 +1,4 @@
--- What a source is: by its bytes alone, which words it gives, and which refusal.
+-- Outside the headline. What a source is: by its bytes alone, which words it gives, and which refusal.
 use Rattle.std.specs.Prelude.{◌≡◌, ◌≢◌, ℕ, ◌+◌, ◌<◌, ◌≤◌, List, [], ◌++◌, length, Some, None, Result, Ok, Err}
 use Rattle.eg_input.specs.declared.image.TheConstants.{MOST_WORDS}
 use Rattle.eg_asm.specs.declared.fault.AsmFault.{AsmFault}

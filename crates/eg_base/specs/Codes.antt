@@ -1,5 +1,5 @@
--- How the states of the stores in memory are written as numbers and lists. The prover asks for that of each
--- value that a contract sees.
+-- Outside the headline. How the states of the stores in memory are written as numbers and lists. The
+-- prover asks for that of each value that a contract sees.
 use Rattle.std.specs.Prelude.{ℕ, List, refl}
 use Rattle.std.specs.Coded.{Coded, code_by, coded×, coded_ℕ, coded_list}
 use Rattle.std.specs.FinMap.{code}

@@ -1,4 +1,4 @@
--- Counts that stop at the last value of a u64.
+-- Outside the headline. Counts that stop at the last value of a u64.
 use Rattle.std.specs.Prelude.{ℕ, ◌+◌, ◌-◌, ◌^◌, min}
 
 -- one more, but no more than the last value

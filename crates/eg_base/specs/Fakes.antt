@@ -1,4 +1,5 @@
--- What contracts see of the stores and outputs in memory, and what a call makes of it.
+-- Outside the headline. What contracts see of the stores and outputs in memory, and what a call makes of
+-- it.
 use Rattle.std.specs.Prelude.{◌==◌, ◌||◌, ℕ, ◌/◌, Bool, List, ◌++◌, length, take, if◌then◌else◌, is_none}
 use Rattle.std.specs.List.{list_any}
 use Rattle.std.specs.FinMap.{get}

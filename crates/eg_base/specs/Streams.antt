@@ -1,4 +1,4 @@
--- What contracts see of an output over a stream of the system.
+-- Outside the headline. What contracts see of an output over a stream of the system.
 use Rattle.std.specs.Prelude.{◌≡◌, ℕ, List, ◌++◌, Option}
 use Rattle.std.specs.Io.KnownBytes.{Appends}
 

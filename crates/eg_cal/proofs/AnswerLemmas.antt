@@ -261,7 +261,7 @@ points-kept answers ms key = by (key-kept answers ms key)
     by (inl is) = subst (λ (k : CalKey). points_of (with_answers answers ms) k ≡ points_of ms k) (sym is) refl
     by (inr same) = points_as-kept (content_of key) ms (with_answers answers ms) key same
 
--- the values of a table go by how many points its axes have
+-- the values of a table depend on how many points its axes have
 values_as-kept : (content : Content) (ms ts : Members) (key : CalKey) → ((k : CalKey) → points_of ts k ≡ points_of ms k)
     → value_of ts key ≡ value_of ms key → values_as content ts key ≡ values_as content ms key
 values_as-kept (number low high) ms ts key points same = refl

@@ -1,4 +1,5 @@
--- What a key of a calibration file may hold, in the words of TOML, and which version has it.
+-- Outside the headline. What a key of a calibration file may hold, in the words of TOML, and which version
+-- has it.
 use Rattle.std.specs.Prelude.{◌≡◌, ◌≤◌, ℕ, pos, Bool, List, [], ◌∷◌, length, All, Option, Some, IsSome}
 use Rattle.std.specs.Bool.{⊤}
 use Rattle.toml.specs.Data.{Data, integer, boolean, array, Members, Items, no_items, item}

@@ -1,4 +1,4 @@
--- The text of the reference file.
+-- Outside the headline. The text of the reference file.
 use Rattle.std.specs.Prelude.{ℕ, List, ◌++◌, codes}
 
 -- its bytes, those of examples/reference.toml

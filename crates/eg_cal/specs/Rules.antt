@@ -1,4 +1,4 @@
--- What the rules of a calibration file are in all, without their order.
+-- Outside the headline. What the rules of a calibration file are in all, without their order.
 use Rattle.std.specs.Prelude.{◌≡◌, ◌↔◌, ◌≤◌, ◌<◌, true, Some, Ok}
 use Rattle.toml.specs.Data.{Members}
 use Rattle.eg_torque.specs.Permit.{DoesNotFall}

@@ -62,7 +62,7 @@ each-more P (y ∷ xs) x each last (suc k) below d =
 one_more : (t : ℕ) → suc t ≡ t + 1
 one_more t = omega arith
 
--- the drive row of a tick of an input is that of a run that goes by it
+-- the drive row of a tick of an input is that of a run that has it
 pub drive_is : (input : RunInput) (r : Run) (drive : List DriveRow) (t : ℕ) (row : DriveRow) → PlaysInput input r → drive ≡ input.drive →
     t < length input.drive → row ≡ slice_index_or drive t row → drive_at r t ≡ row
 drive_is input r drive t row goes is within at =

@@ -1,5 +1,5 @@
--- Where runs under faults go on from: what was played of a run up to a tick, and what is kept of the run
--- without a fault.
+-- Outside the headline. Where runs under faults go on from: what was played of a run up to a tick, and
+-- what is kept of the run without a fault.
 use Rattle.std.specs.Prelude.{◌≡◌, ℕ, ◌+◌, ◌*◌, ◌-◌, ◌≤◌, ◌<◌, List, take, length, Option, slice_index_or}
 use Rattle.eg_fault.specs.declared.class.Fault.{Fault}
 use Rattle.eg_values.specs.Calibration.{CalibrationParts}

@@ -32,7 +32,7 @@ offset_by-down : offset_by (negsuc 9) 25 ≡ 15
 unfolding faults
 offset_by-down = refl
 
--- a script goes by the ticks since the onset
+-- a script counts the ticks since the onset
 
 script-before : (under (Script 4 (7 ∷ 8 ∷ 9 ∷ [])) 9).track 4 500 ≡ 500
 unfolding faults

@@ -1,4 +1,5 @@
--- What contracts see of the memory that refuses one store, and what a store makes of it.
+-- Outside the headline. What contracts see of the memory that refuses one store, and what a store makes of
+-- it.
 use Rattle.std.specs.Prelude.{ℕ, zero, suc, Bool, true, false, List, Option, Some, None}
 
 -- the words, and how many stores are still done before the one that is refused; none once it was refused

@@ -1,4 +1,5 @@
--- A plain file: the header's line, and below it lines of numbers, each line ended by one line feed.
+-- Outside the headline. A plain file: the header's line, and below it lines of numbers, each line ended by
+-- one line feed.
 use Rattle.std.specs.Prelude.{◌≡◌, ℕ, List, ◌∷◌, ◌++◌, length, Bool, true, Option, Some}
 use Rattle.std.specs.Str.{byte}
 use Rattle.csv.specs.declared.parser.State.TheVariants as state

@@ -42,7 +42,7 @@ unfolding is_excess
 more_exceeds torque most limit threshold le e =
     let less = ltb-true (limit + threshold) torque e in lt-ltb (limit + threshold) most (omega arith)
 
--- what a drive row permits doesn't go by whether the unit is reset
+-- what a drive row permits doesn't depend on whether the unit is reset
 without_reset : (cal : CalibrationParts) (drive : DriveRow) → limit_at cal (record drive { reset = false }) ≡ limit_at cal drive
 unfolding limit_at effective_drive drive_permits
 without_reset cal drive = go (cal.brake && drive.brake)

@@ -1,4 +1,4 @@
--- The histories of this crate with the reference calibration.
+-- Outside the headline. The histories of this crate with the reference calibration.
 use Rattle.std.specs.Prelude.{◌∷◌, ◌++◌, replicate, List}
 use Rattle.eg_values.specs.Reference.{reference_parts}
 use Rattle.eg_fault.specs.Faults.{effects_of}

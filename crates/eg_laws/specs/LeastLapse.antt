@@ -1,6 +1,6 @@
--- The least bound for stretches of excess under lapses, where the runs of level 2 that confirm an excess fit
--- into one period: R and as many ticks as confirm. (The bound of `Lapses` is greater, and holds of more
--- calibrations.)
+-- Outside the headline. The least bound for stretches of excess under lapses, where the runs of level 2
+-- that confirm an excess fit into one period: R and as many ticks as confirm. (The bound of `Lapses` is
+-- greater, and holds of more calibrations.)
 use Rattle.std.specs.Prelude.{ℕ, ◌+◌, ◌-◌, ◌≤◌, List, [], ◌++◌, ◌∷◌, All, replicate, Some}
 use Rattle.eg_num.specs.Arithmetic.{estimate}
 use Rattle.eg_num.specs.Drive.{DriveRow}

@@ -1,6 +1,7 @@
--- R is the least number of ticks that can stand in the reaction theorem. Of each accepted calibration under
--- which an excess can be confirmed at all there is a history, with path 1 closed and nothing else out of
--- order, in which the stages are still on R - 1 ticks after the true excess was confirmed.
+-- Outside the headline. R is the least number of ticks that can stand in the reaction theorem. Of each
+-- accepted calibration under which an excess can be confirmed at all there is a history, with path 1
+-- closed and nothing else out of order, in which the stages are still on R - 1 ticks after the true excess
+-- was confirmed.
 use Rattle.std.specs.Prelude.{◌≡◌, ℕ, ◌+◌, ◌*◌, ◌-◌, ◌^◌, ◌≤◌, ◌<◌, true, false, List, [], ◌++◌, ◌∷◌, All, length, replicate, Some}
 use Rattle.eg_num.specs.Arithmetic.{estimate}
 use Rattle.eg_num.specs.Drive.{DriveRow, IsDrive}

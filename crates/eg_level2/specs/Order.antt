@@ -1,4 +1,5 @@
--- In which order a run of a module stores its words, and what is told where memory ran out in between.
+-- Outside the headline. In which order a run of a module stores its words, and what is told where memory
+-- ran out in between.
 use Rattle.std.specs.Prelude.{◌⊎◌, ℕ, ◌-◌, Bool, ◌==◌, if◌then◌else◌, List, [], slice_index, IsTrue}
 use Rattle.eg_num.specs.declared.watches.Watches.{Watches}
 use Rattle.eg_answer.specs.declared.modules.TheConstants.{CHECK, DEBOUNCE, REACT}

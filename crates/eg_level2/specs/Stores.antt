@@ -1,6 +1,6 @@
--- What stores make of level 2's words, by their numbers, and what they leave alone. What is stored is said by
--- the definitions of the modules (`Modules.antt`), which have the words by their names, as public contracts
--- do.
+-- Outside the headline. What stores make of level 2's words, by their numbers, and what they leave alone.
+-- What is stored is said by the definitions of the modules (`Modules.antt`), which have the words by their
+-- names, as public contracts do.
 use Rattle.std.specs.Prelude.{◌≡◌, ℕ, zero, suc, ◌+◌, ◌-◌, Bool, true, ◌==◌, if◌then◌else◌, List, [], ◌∷◌, take, slice_index, Result, IsTrue, IsOk, OnOk}
 use Rattle.eg_guard.specs.Regions.{region_of}
 use Rattle.eg_guard.specs.Memory.{ShownMemory, AreWords}

@@ -1,4 +1,4 @@
--- No cut without a monitor, by the ticks and the rows of a history in which the engine is driven.
+-- No cut without a watch, by the ticks and the rows of a history in which the engine is driven.
 use Rattle.std.proofs.Common.{◌≡◌, ◌∙◌, refl, sym, ap, subst, ℕ, zero, suc, ◌+◌, ◌-◌, ◌≤◌, Bool, true, false, ◌&&◌, ◌||◌, List, [], ◌∷◌, length, inl, inr, Option, Some, None, max, arith}
 use Rattle.std.specs.Prelude.{IsTrue, Contains, slice_index_or, ◌%◌}
 use Rattle.std.specs.List.{list_any}

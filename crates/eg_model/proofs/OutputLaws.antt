@@ -1,4 +1,4 @@
--- What is true of a tick but for level 1's world goes by what comes in but for the slices, and by the ticks before
+-- What is true of a tick but for level 1's world depends on what comes in but for the slices, and on the ticks before
 -- but for level 1's world: whatever is read of them is the same of the bare ones, which are without level 1.
 use Rattle.std.proofs.Common.{◌≡◌, ◌∙◌, refl, sym, ap, ap₂, ℕ, Bool, true, false, ◌||◌, ◌&&◌, ◌-◌, List, [], ◌∷◌, map, take, length, Option, Some, None}
 use Rattle.std.specs.Prelude.{filter, if◌then◌else◌}
@@ -121,7 +121,7 @@ moment-bare kind s image x e past =
 
 -- ---- histories ----
 
--- what is true of a tick goes by what came in but for the slices, and by what was true before but for level 1
+-- what is true of a tick depends on what came in but for the slices, and on what was true before but for level 1
 pub moment_in-alike : (kind : SpanKind) (s : Setting) (image : List ℕ) (x : Effects) (e other : Entry) (past others : List Moment) →
     without_slices e ≡ without_slices other → map without_level1 past ≡ map without_level1 others →
     without_level1 (moment_in kind s x e past) ≡ without_level1 (moment_in kind (running image s) x other others)
@@ -191,7 +191,7 @@ on_at-bare : (x : Effects) (past : List Moment) → on_at x (map without_level1 
 unfolding on_at
 on_at-bare x past = ap₂ (λ a b. a && b) (path1-bare x past) (path2-bare x past)
 
--- what doesn't go by level 1 is the same of ticks that are the same but for level 1
+-- what doesn't depend on level 1 is the same of ticks that are the same but for level 1
 pub carried : {A : Type 0} (f : List Moment → A) → ((ms : List Moment) → f (map without_level1 ms) ≡ f ms) →
     (past others : List Moment) → map without_level1 past ≡ map without_level1 others → f past ≡ f others
 carried f bare past others same = sym (bare past) ∙ ap f same ∙ bare others

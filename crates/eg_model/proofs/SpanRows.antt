@@ -189,7 +189,7 @@ last_tick s start h follows later before row e = go parts.rest parts.rows_are
 
 -- ---- bits of the rows, one a tick ----
 
--- such a bit doesn't go by the tick's number
+-- such a bit doesn't depend on the tick's number
 abbrev pub IsUnnumbered : (Row → Bool) → Type 0
 IsUnnumbered bit = (a b : ℕ) (m : Moment) → bit (row_of a m) ≡ bit (row_of b m)
 

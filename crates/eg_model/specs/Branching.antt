@@ -1,5 +1,6 @@
--- Runs that branch. A fault does nothing before its onset: so up to there a run under a fault is the run
--- without one, and whoever has made the ticks of the one can go on with the other.
+-- Outside the headline. Runs that branch. A fault does nothing before its onset: so up to there a run
+-- under a fault is the run without one, and whoever has made the ticks of the one can go on with the
+-- other.
 use Rattle.std.specs.Prelude.{◌≡◌, ℕ, ◌≤◌, List, length, Option, None, IfSome}
 use Rattle.eg_fault.specs.declared.class.Fault.{Fault}
 use Rattle.eg_model.specs.History.{Setting, Entry}

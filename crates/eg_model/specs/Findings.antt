@@ -1,4 +1,4 @@
--- What the watches find. No cut without a monitor: where the stages are off, a watch was found before, and
+-- What the watches find. No cut without a watch: where the stages are off, a watch was found before, and
 -- the report names one, unless a fault opens a shut-off path by itself. And what spoils the answers is found
 -- in time. Rows stand newest first.
 use Rattle.std.specs.Prelude.{◌≡◌, ℕ, ◌+◌, ◌<◌, ◌==◌, Bool, true, false, ◌&&◌, max, nat_le, IsTrue, List, [], ◌∷◌, ◌++◌, All, Contains, length, Option, Some, None, IfSome}
@@ -72,7 +72,7 @@ FindsFailure start rows =
     (later before : List Row) (row : Row) → rows ≡ later ++ row ∷ before → row.testing ≡ false →
     Finds (Start ∷ []) before
 
--- Of a drive span: where a module is skipped or disturbed, or the controller halts, a watch that cuts is
+-- Of a drive span: where a module is skipped or disturbed, or both levels halt, a watch that cuts is
 -- found before `bound` ticks have passed from the onset, or from the span's begin if that is later, whatever
 -- the torque. (Here `before` are the rows of the span before the tick that comes `bound` ticks after that
 -- one.)

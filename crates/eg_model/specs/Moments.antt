@@ -21,7 +21,7 @@ use Rattle.eg_model.specs.Level1.{world_at}
 unfoldable pub effective_drive : CalibrationParts → DriveRow → DriveRow
 effective_drive cal drive = if cal.brake && drive.brake then record drive { pedal = 0; raise = 0 } else drive
 
--- the torque that a drive row permits, under this calibration: it goes by the row, not by what is sensed
+-- the torque that a drive row permits, under this calibration: by the row, not by what is sensed
 unfoldable pub limit_at : CalibrationParts → DriveRow → ℕ
 limit_at cal drive = drive_permits cal.rules.permit (effective_drive cal drive)
 

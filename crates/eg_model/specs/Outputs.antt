@@ -1,5 +1,5 @@
 -- Level 1 acts by its two outputs alone. Whatever its image, and however many instructions it may do, level 2
--- and the monitoring module go on as ever where the same came in; and the engine goes by the two outputs.
+-- and the monitoring module go on as ever where the same came in; and the engine uses the two outputs.
 use Rattle.std.specs.Prelude.{◌≡◌, ℕ, List, [], ◌∷◌, ◌++◌, map}
 use Rattle.eg_record.specs.declared.row.Row.{Row}
 use Rattle.eg_word.specs.World.{new_world}

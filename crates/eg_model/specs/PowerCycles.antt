@@ -1,4 +1,4 @@
--- The power cycles of a record: how its spans go by the resets of its drive. Rows stand newest first.
+-- The power cycles of a record: how its spans follow from the resets of its drive. Rows stand newest first.
 use Rattle.std.specs.Prelude.{◌≡◌, true, false, List, [], ◌∷◌, ◌++◌}
 use Rattle.eg_record.specs.declared.row.Row.{Row}
 use Rattle.eg_model.specs.Engines.{BenchEngine}

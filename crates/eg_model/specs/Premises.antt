@@ -1,5 +1,6 @@
--- What the laws of a run speak of, and the little that they ask of a history: of the engine that it shows
--- what every engine keeps, and of the drive that it is one. Nothing is asked of level 1.
+-- Outside the headline. What the laws of a run speak of, and the little that they ask of a history: of the
+-- engine that it shows what every engine keeps, and of the drive that it is one. Nothing is asked of level
+-- 1.
 use Rattle.std.specs.Prelude.{◌≡◌, ℕ, ◌+◌, Bool, true, false, List, [], ◌∷◌, map, length, Option}
 use Rattle.eg_num.specs.Drive.{IsDrive}
 use Rattle.eg_num.specs.Windows.{is_confirmed}

@@ -12,7 +12,9 @@ use Rattle.eg_model.specs.Premises.{AreProper, Follows, is_on_after, IsExcessCon
 
 -- After h, the stages are off at each tick that comes `after` ticks or more after the last of h. (`more`
 -- are the ticks between; x is the tick that is asked of, so it comes length more + 1 ticks after the last
--- of h.)
+-- of h.) `Follows`: at each of these ticks what the fault does at that tick of the run is out of order, and
+-- nothing else. `AreProper`: drive rows keep their limits, the engine hides no torque from its loads, and has
+-- none where the stages are off.
 abbrev pub OffFrom : Setting → (start : ℕ) → List Tick → (after : ℕ) → Type 0
 OffFrom s start h after =
     (more : List Tick) (x : Tick) → Follows s.fault start (x ∷ more ++ h) → AreProper s (more ++ h) →
@@ -31,7 +33,7 @@ abbrev pub ReactsInTime : Type 0
 ReactsInTime = (cal : CalibrationParts) → IsAccepted cal → ReactsBy cal (reaction_of cal.times)
 
 -- Under most faults the stages are off already from the next tick on. Not so where path 1 is closed; and
--- where a module is skipped or disturbed, or the controller halts, only while the fault hasn't begun by the
+-- where a module is skipped or disturbed, or both levels halt, only while the fault hasn't begun by the
 -- tick at which the excess is confirmed. Here `tick` is the tick after that one.
 unfoldable pub reacts_at_once : Class → (onset tick : ℕ) → Bool
 reacts_at_once Path1Closed onset tick = false
@@ -61,7 +63,7 @@ spoils_answers (Disturb index mask) = true
 spoils_answers Halt = true
 spoils_answers _ = false
 
--- Where a module is skipped or disturbed, or the controller halts, the stages are off from R ticks after
+-- Where a module is skipped or disturbed, or both levels halt, the stages are off from R ticks after
 -- the onset, whatever the torque. (Here h is any history that ends with the tick before the onset or
 -- later.)
 abbrev pub CutsFromOnset : Type 0

@@ -96,7 +96,7 @@ ExcessIsShort cal start rows =
     (later before : List Row) (n : ℕ) → rows ≡ later ++ before →
     ExceedLast cal.rules.threshold n before → n < lapse_bound_of cal.rules.torque cal.times
 
--- where a module is skipped or disturbed, or the controller halts, the stages are off from `bound` ticks
+-- where a module is skipped or disturbed, or both levels halt, the stages are off from `bound` ticks
 -- after the onset, or after the span's begin if that is later, whatever the torque
 abbrev pub CutFromOnset : Option Fault → (bound start : ℕ) → List Row → Type 0
 CutFromOnset fault bound start rows = IfSome fault (λ f. spoils_answers f.class ≡ true →

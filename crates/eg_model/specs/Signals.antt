@@ -37,7 +37,7 @@ signal x past i before value =
     else bit_xor value (x.disturbance i)
 
 -- The five signals after a tick. The pedal is the lower of its two values, and 0 where it is limited; the
--- permitted torque goes by the pedal signal, and the excess by the two torques' signals.
+-- permitted torque is that of the pedal signal, and the excess that of the two torques' signals.
 unfoldable pub signals_at : Rules → Effects → Readings → List Moment → Signals
 signals_at rules x reads past =
     let before = last_signals past in

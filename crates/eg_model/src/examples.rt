@@ -6,7 +6,7 @@ ghost use Rattle.eg_model.specs.Examples.{idle, full, at_rest, resetting, bench_
 
 /// Level 1 at full throttle, for 20 ticks: the torque is found at tick 9, where the excess is confirmed,
 /// and the stages go off at tick 10. From that tick on the signals are 0, as the permitted torque is. The
-/// plate rises from tick 1 on, and falls from tick 10 on; the charge goes by the plate of the tick before.
+/// plate rises from tick 1 on, and falls from tick 10 on; the charge follows the plate of the tick before.
 pub fn full_run()
     ensures report { report_on (bench_run full None 20)
         ≡ reported (Some (found.Torque, 9)) (Some 10) None (Some 9) }

@@ -38,7 +38,7 @@ pub fn latched_run()
         ≡ replicate 10 true ++ replicate 5 false }
 {}
 
-/// Neither level runs: level 1's outputs stay 0. And a plate that is held stays there; the charge goes by it
+/// Neither level runs: level 1's outputs stay 0. And a plate that is held stays there; the charge follows it
 /// from the next tick on.
 pub fn halted_and_held_runs()
     ensures halted { map (λ m. m.world.throttle)

@@ -3,7 +3,7 @@
 ghost use Rattle.eg_model.specs.Engines.{gasoline, diesel};
 ghost use Rattle.eg_model.specs.Findings.{RecordsFindBeforeOff, RecordsFindFailures, ReportsNameWhatCuts, RecordsFindFromOnset, RecordsTellFlips};
 
-/// No cut without a monitor (docs/CONCEPT.md, "Why the unit reacts"): in each drive span, wherever the stages
+/// No cut without a watch (docs/CONCEPT.md, "Why the unit reacts"): in each drive span, wherever the stages
 /// are off, a watch that cuts was found at an earlier tick of the span, unless a fault has begun that opens a
 /// shut-off path by itself; in each test span, where no test is running any more, `start` was found; and the
 /// report of the run names a watch that was found before the tick from which it tells the stages off. So
@@ -16,7 +16,7 @@ pub fn records_name_what_cuts()
 {}
 
 /// Found in time (docs/CONCEPT.md, "Why the unit reacts"): in each drive span that lasts so long, where a
-/// module of level 2 is skipped or disturbed, or the controller halts, a watch that cuts is found before R
+/// module of level 2 is skipped or disturbed, or both levels halt, a watch that cuts is found before R
 /// ticks have passed from the onset, or from the span's begin if that is later, whatever the torque; and the
 /// mirrored words tell at each tick, of drive and test spans, exactly whether a word of level 2 is flipped.
 /// It does nothing when it runs.

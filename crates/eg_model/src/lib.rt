@@ -25,8 +25,8 @@ pub use lapses::standing_excess_is_cut;
 pub use outputs::level_1_acts_by_its_outputs;
 pub use reaction::{cuts_from_onset, reacts_in_time};
 pub use records::{
-    records_are_histories, records_cut_from_onset, records_cut_standing_excess, records_cut_sharply,
-    records_react, records_test_the_paths, spans_react_in_time,
+    records_are_histories, records_cut_from_onset, records_cut_sharply,
+    records_cut_standing_excess, records_react, records_test_the_paths, spans_react_in_time,
 };
 pub use sharp_cut::cuts_sharply;
 pub use start_up::{runs_without_reset_are_one_span, tests_pass};

@@ -10,7 +10,7 @@ pub fn reacts_in_time()
     ensures at_once { ReactsAtOnce }
 {}
 
-/// Where a module of level 2 is skipped or disturbed, or the controller halts, the stages are off from R
+/// Where a module of level 2 is skipped or disturbed, or both levels halt, the stages are off from R
 /// ticks after the onset, whatever the torque (docs/CONCEPT.md, "Worst-case reaction"). It does nothing
 /// when it runs.
 pub fn cuts_from_onset()

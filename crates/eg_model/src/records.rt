@@ -20,7 +20,7 @@ pub fn records_react()
 {}
 
 /// By the rows of each drive span of the record of a run on the bench: where a module of level 2 is skipped
-/// or disturbed, or the controller halts, the stages are off from R ticks after the onset, or after the
+/// or disturbed, or both levels halt, the stages are off from R ticks after the onset, or after the
 /// span's begin if that is later, whatever the torque (docs/CONCEPT.md, "Worst-case reaction"). It does
 /// nothing when it runs.
 pub fn records_cut_from_onset()

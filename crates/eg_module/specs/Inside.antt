@@ -1,4 +1,4 @@
--- How a monitoring module is read from what the program holds.
+-- Outside the headline. How a monitoring module is read from what the program holds.
 use Rattle.std.specs.Prelude.{List, map, reverse}
 use Rattle.eg_answer.specs.Periods.{HeardAnswer}
 use Rattle.eg_module.specs.Monitoring.{MonitorParts}

@@ -1,4 +1,4 @@
--- What every accepted campaign keeps, in plain rules.
+-- Outside the headline. What every accepted campaign keeps, in plain rules.
 use Rattle.std.specs.Prelude.{◌≡◌, ◌⊎◌, ◌≤◌, ℕ, List, length, All, slice_index, Option, Ok, Err}
 use Rattle.std.specs.List.{sum, AllPairs}
 use Rattle.toml.specs.Data.{Members}

@@ -1,4 +1,4 @@
--- What a gasoline engine keeps from step to step.
+-- Outside the headline. What a gasoline engine keeps from step to step.
 use Rattle.std.specs.Prelude.{◌≤◌}
 use Rattle.eg_num.specs.Arithmetic.{estimate}
 use Rattle.eg_plant.specs.Gasoline.{Gasoline}

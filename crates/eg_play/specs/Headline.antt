@@ -1,6 +1,6 @@
 -- The headline, for the record of one run of either engine with its power cycles; its rows stand newest
--- first. That no image changes a protected word is said of each slice, by the clause `outside` of
--- `eg_host::Host::slice`; that it acts on level 2 by its two outputs alone is said here.
+-- first. That no image changes a protected word is said of each slice: field `outside` of `IsSlice`,
+-- which `eg_host::Host::slice` keeps. That it acts on level 2 by its two outputs alone is said here.
 use Rattle.std.specs.Prelude.{◌≡◌, ℕ, false, List, All, None}
 use Rattle.eg_answer.specs.Times.{reaction_of, HasLapseBound}
 use Rattle.eg_fault.specs.Faults.{IsListed}
@@ -39,16 +39,16 @@ pub record Headline (s : Setting) (rows : List Row) (report : List ℕ → Summa
   pub passes : s.fault ≡ None → All (λ row. row.found.start ≡ false) rows
   pub cuts : s.fault ≡ None → EachDriveSpan (CutOneTickAfter s.cal.rules.torque
       s.cal.rules.kt s.cal.rules.threshold) rows
-  -- Where a module of level 2 is skipped or disturbed, or the controller halts, they are off from R ticks
+  -- Where a module of level 2 is skipped or disturbed, or both levels halt, they are off from R ticks
   -- after the onset, or after the begin of the drive span, whatever the torque.
   pub from_onset : EachDriveSpan (CutFromOnset s.fault (reaction_of s.cal.times)) rows
-  -- No cut without a monitor. In each drive span, wherever they are off, a watch that cuts was found at an
+  -- No cut without a watch. In each drive span, wherever they are off, a watch that cuts was found at an
   -- earlier tick of the span, unless a fault that opens a shut-off path by itself has begun; and in each test
   -- span, where no test is running any more, `start` was found: the test has failed.
   pub finds_before_off : EachDriveSpan (FindsBeforeOff s.fault) rows
   pub finds_failure : EachTestSpan FindsFailure rows
-  -- What spoils the answers is found in time: where a module of level 2 is skipped or disturbed, or the
-  -- controller halts, a watch that cuts is found before R ticks have passed from the onset, or from the begin
+  -- What spoils the answers is found in time: where a module of level 2 is skipped or disturbed, or
+  -- both levels halt, a watch that cuts is found before R ticks have passed from the onset, or from the begin
   -- of the drive span, whatever the torque. And a word of level 2 that is flipped is told at that tick, and
   -- at no other.
   pub finds_from_onset : EachDriveSpan (FindsFromOnset s.fault (reaction_of s.cal.times)) rows
@@ -63,11 +63,11 @@ pub record Headline (s : Setting) (rows : List Row) (report : List ℕ → Summa
   -- after a trip, and where no full-efficiency excess comes they are on at each tick.
   pub stays_available : IsSpacedLapse s →
       EachDriveSpan (StaysAvailable s.cal.rules.kt s.cal.rules.threshold) rows
-  -- The report, whatever name it gives the run, names the first detecting monitor and its tick, and the first
+  -- The report, whatever name it gives the run, names the first detecting watch and its tick, and the first
   -- tick at which the stages are off while no test is running.
   pub detects : (name : List ℕ) → IsFirstDetection rows (report name).first
   pub tells_when_off : (name : List ℕ) → IsFirstOff rows (report name).off
-  -- Where it tells the stages off from a tick on it names a monitor that detected before that tick, unless a
+  -- Where it tells the stages off from a tick on it names a watch that found something before that tick, unless a
   -- fault that opens a shut-off path by itself has begun; so where it names none, such a fault has.
   pub names : (name : List ℕ) → NamesWhatCuts s.fault (report name)
   -- Level 1 acts by its two outputs alone: under any other image and slice plan, where the two outputs were

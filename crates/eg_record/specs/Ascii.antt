@@ -1,4 +1,4 @@
--- Texts of ASCII alone.
+-- Outside the headline. Texts of ASCII alone.
 use Rattle.std.specs.Prelude.{ℕ, List, [], ◌∷◌}
 use Rattle.std.specs.Str.{IsAscii}
 

@@ -10,7 +10,7 @@ use Rattle.eg_record.specs.Detection.{detected_at, first_detection}
 use Rattle.eg_record.specs.Excess.{first_confirmed}
 use Rattle.eg_record.specs.Stages.{off_at, first_off, last_on}
 
--- the facts of these rows, where the true excess goes by these weights and this threshold
+-- the facts of these rows, where the true excess uses these weights and this threshold
 unfoldable pub facts_of : WeightParts → (threshold : ℕ) → List Row → Facts
 facts_of weights threshold rows = record {
   first = first_detection rows;
@@ -25,7 +25,7 @@ unfoldable pub off_from : (last_on : Option ℕ) → ℕ
 off_from None = 0
 off_from (Some last) = last + 1
 
--- How many ticks go by from the one by which a true excess is confirmed until the stages are off for good, 0
+-- How many ticks pass from the one by which a true excess is confirmed until the stages are off for good, 0
 -- where they are off for good before. There is none where no excess is confirmed, or the stages are on at the
 -- last tick before the end.
 abbrev pub reaction_by : (last_on confirmed : Option ℕ) → (end : ℕ) → Option ℕ

@@ -25,7 +25,7 @@ unfoldable pub end_of : List Row → ℕ
 end_of [] = 0
 end_of (row ∷ before) = row.tick + 1
 
--- The reaction in it: how many ticks go by from the one by which the excess is confirmed until the stages are
+-- The reaction in it: how many ticks pass from the one by which the excess is confirmed until the stages are
 -- off for good. There is none where no excess is confirmed, or the stages are on at the last tick.
 unfoldable pub reaction_in_span : WeightParts → (threshold : ℕ) → List Row → Option ℕ
 reaction_in_span weights threshold span =

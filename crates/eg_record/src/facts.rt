@@ -93,7 +93,7 @@ impl Facts {
     }
 }
 
-/// How many ticks go by from the one by which a true excess is confirmed until the stages are off for good,
+/// How many ticks pass from the one by which a true excess is confirmed until the stages are off for good,
 /// where `last_on` is the last tick at which they are on, and `end` the tick after the last one.
 #[tactic(auto, unfolding(crate::specs::Facts::off_from))]
 pub(crate) fn reaction_by(last_on: Option<u32>, confirmed: Option<u32>, end: u32) -> Option<u32>

@@ -28,7 +28,7 @@ pub struct Summary {
 }
 
 /// The summary of a run of these rows, which stand in the order of time, from tick 0 on (docs/CONCEPT.md,
-/// "The report of a run"). The true excess goes by the threshold (tenths of Nm) and by these weights; name,
+/// "The report of a run"). The true excess uses the threshold (tenths of Nm) and these weights; name,
 /// trap and worst-case reaction (ticks) are told as they are handed in.
 #[tactic(auto, unfolding(crate::specs::Summaries::summary_of))]
 pub fn summarize(

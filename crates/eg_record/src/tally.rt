@@ -53,7 +53,7 @@ impl Model for Tally {
 }
 
 impl Tally {
-    /// A tally that was fed nothing. The true excess goes by this threshold (tenths of Nm) and these weights.
+    /// A tally that was fed nothing. The true excess uses this threshold (tenths of Nm) and these weights.
     pub fn new(threshold: u16, weights: Weights) -> Tally
         ensures threshold { result.threshold ≡ threshold }
         ensures weights { result.weights ≡ weights }

@@ -1,4 +1,4 @@
--- The facts of a run after each of its ticks.
+-- Outside the headline. The facts of a run after each of its ticks.
 use Rattle.std.specs.Prelude.{ℕ, zero, suc, ◌-◌, List, [], ◌∷◌, Option, Some, None, nat_le, if◌then◌else◌}
 use Rattle.eg_values.specs.Reference.{reference_rules}
 use Rattle.eg_record.specs.declared.facts.Facts.{Facts}

@@ -1,5 +1,5 @@
--- A run that shows the laws of lapses at work: level 1 opens the throttle, and level 2 runs at one tick of
--- ten.
+-- Outside the headline. A run that shows the laws of lapses at work: level 1 opens the throttle, and level
+-- 2 runs at one tick of ten.
 use Rattle.std.specs.Prelude.{Bool, List, [], ◌∷◌, map}
 use Rattle.eg_fault.specs.declared.class.Class.TheVariants.{Lapse}
 use Rattle.eg_record.specs.Excess.{true_excess}

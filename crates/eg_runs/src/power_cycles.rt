@@ -102,7 +102,7 @@ pub fn two_traps()
     ensures traps { traps_of trapping_run ≡ false ∷ true ∷ true ∷ false ∷ true ∷ true ∷ [] }
 {}
 
-/// A fault goes by the ticks of the run, also past a reset: a script goes on where it was, answers are sent
+/// A fault counts the ticks of the run, also past a reset: a script goes on where it was, answers are sent
 /// at the moved tick of the new span's periods, level 2 is left out 14 ticks after the onset, and react still
 /// doesn't run.
 pub fn faults_go_on()

@@ -1,4 +1,4 @@
--- What "has acted" means: what a fault does at some tick of the run isn't nothing.
+-- Outside the headline. What "has acted" means: what a fault does at some tick of the run isn't nothing.
 use Rattle.std.specs.Prelude.{◌≡◌, ◌≢◌, ◌↔◌, ℕ, ◌<◌, true, false, Some}
 use Rattle.eg_fault.specs.Effects.{no_effects}
 use Rattle.eg_fault.specs.declared.class.Class.{Class}

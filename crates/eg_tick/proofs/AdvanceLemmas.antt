@@ -252,7 +252,7 @@ module _ (old new : Kept) (drive : DriveRow) (budgets : List ℕ) (made : Level2
   abbrev span-now : List Tick
   span-now = ticks_before s e h
 
-  -- what goes by the tick of the run, and by the tick of the span
+  -- what depends on the tick of the run, and on the tick of the span
   effects-now : effects old.fault old.ticks ≡ x.effects
   unfolding tick_after
   effects-now = ap (effects old.fault) enter.count

@@ -83,7 +83,7 @@ module _ (kind : SpanKind) (s : Setting) (fault : Option Fault) where
     monitor = monitor-under span.monitor h holds.monitor;
   }
 
--- ---- what goes by the run ----
+-- ---- what depends on the run ----
 
 module _ (s : Setting) (none : s.fault ≡ None) (fault : Option Fault) where
   proper-under : (on : Bool) (e : Entry) → IsProper s on e → IsProper (under fault s) on e

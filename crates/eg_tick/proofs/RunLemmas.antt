@@ -37,7 +37,7 @@ use Rattle.eg_tick.specs.Run.{run_by, IsAt, IsRecordOf}
 
 -- ---- one tick ----
 
--- at the first tick of a span nothing is commanded yet, and else it goes by what the tick before left
+-- at the first tick of a span nothing is commanded yet, and else it is what the tick before left
 commands : (drive : DriveRow) (past : List Moment) →
     last_world (if length (before_at drive past) == 0 then [] else past) ≡ last_world (before_at drive past)
 unfolding span_so_far last_world

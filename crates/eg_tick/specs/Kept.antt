@@ -1,4 +1,4 @@
--- What a controller is made of: what contracts see of it.
+-- Outside the headline. What a controller is made of: what contracts see of it.
 use Rattle.std.specs.Prelude.{ℕ, Bool, Option}
 use Rattle.eg_plant.specs.Engine.{Shown}
 use Rattle.eg_word.specs.declared.registers.Trap.{Trap}

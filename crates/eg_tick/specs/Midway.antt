@@ -1,4 +1,5 @@
--- Inside a tick: what the memory holds after some slices of level 1 and some modules of level 2.
+-- Outside the headline. Inside a tick: what the memory holds after some slices of level 1 and some modules
+-- of level 2.
 use Rattle.std.specs.Prelude.{◌≡◌, ℕ, ◌<◌, ◌==◌, ◌&&◌, ◌||◌, Bool, is_some, List, drop, slice_index, if◌then◌else◌}
 use Rattle.std.specs.Option.{option_or}
 use Rattle.eg_num.specs.declared.watches.Watches.{Watches}

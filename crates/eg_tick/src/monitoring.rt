@@ -31,7 +31,7 @@ pub(crate) struct Judgement {
 }
 
 /// The number of the question that is asked at a tick, also by a wild module: it counts modulo the count of
-/// questions (docs/CONCEPT.md, "Questions and answers"). A fault goes by the number `tick` that the tick has
+/// questions (docs/CONCEPT.md, "Questions and answers"). A fault uses the number `tick` that the tick has
 /// in the run, a period by the number `local` that it has in its span.
 #[tactic(auto, unfolding(eg_fault::specs::Effects::asked_at, eg_fault::specs::Effects::asked_in))]
 pub(crate) fn question(
@@ -56,7 +56,7 @@ pub(crate) fn question(
 /// Judges a tick at which this question was asked, and level 2 sends this answer, or none (docs/CONCEPT.md,
 /// "Questions and answers" and "A run, tick by tick"). The monitoring module hears the answer, and gives its
 /// verdict at the last tick of a period. A wild one hears nothing, gives no verdict, and may order path 2
-/// open. A fault goes by the number `tick` that the tick has in the run, the module by the number `local`
+/// open. A fault uses the number `tick` that the tick has in the run, the module by the number `local`
 /// that it has in its span.
 #[inline(always)]
 pub(crate) fn judge(

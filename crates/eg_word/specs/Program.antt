@@ -1,4 +1,5 @@
--- The program of some words: what a controller keeps decoded, and what stands in a memory.
+-- Outside the headline. The program of some words: what a controller keeps decoded, and what stands in a
+-- memory.
 use Rattle.std.specs.Prelude.{◌≡◌, ℕ, ◌<◌, List, length, slice_index, slice_index_or}
 use Rattle.eg_guard.specs.declared.regions.TheConstants.{DATA}
 use Rattle.eg_word.specs.declared.instruction.Instruction.{Instruction}
