@@ -11,7 +11,7 @@ use Rattle.eg_base.specs.Outside.{ShownSink, AppendsPrefix}
 abbrev pub shown : SinkState → ShownSink
 shown sink = record { written = Some sink.bytes; faults = sink.faults; sure = false }
 
--- the half that is appended at Failed is a front of the bytes, and so is the nothing at Memory
+-- what a refused put appends is a front of the bytes: half of them at Failed, none at Memory
 pub front-of_refused : (result : Result (Unit {0}) PutRefusal) (old new : SinkState) (bytes : List ℕ)
     → (IsErrOf result Failed → new ≡ after_failed_put old bytes)
     → (IsErrOf result Memory → new ≡ record old { puts = next_count old.puts })

@@ -29,8 +29,8 @@ Rose before now = min (before + 1) (2 ^ 64 - 1) ≤ now
 
 -- ---- files ----
 
--- where the files are told, the bytes are the first `most` of the file of that name; else they are at most so
--- many
+-- the bytes are at most `most`; and where the files are told, they are the first `most` bytes of the file of
+-- that name, or all of it where it is shorter
 abbrev pub AreFirstBytes : Option Files → List ℕ → ℕ → List ℕ → Type 0
 AreFirstBytes files name most bytes =
     (length bytes ≤ most) × IfSome files (λ m. IsSomeAnd (get m name) (λ file. bytes ≡ take most file))

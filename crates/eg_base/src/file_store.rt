@@ -8,11 +8,11 @@ use crate::{Opens, ReadRefusal, Store};
 use std::io::Read;
 use std::marker::Model;
 
-/// Files that are opened by their names, as those of the system. Contracts are told of them where what opens
-/// them tells them, and the store isn't sure.
+/// A store of files that are opened by their names, such as the files of the system. Its files are told where
+/// its opener tells them, and it isn't sure.
 ///
-/// Each refusal to open or to read a file is a fault, an interrupted read too. Contracts see an
-/// `OpenerState`: what opens the files, and the count of faults.
+/// A file that can't be opened is a fault, and so is each read that fails, an interrupted one too. Contracts
+/// see an `OpenerState`: the opener, and the count of faults.
 #[derive(Drop)]
 pub struct FileStore<O: Opens + Drop> {
     opener: O,
@@ -28,7 +28,7 @@ impl<O: Opens + Drop> Model for FileStore<O> {
 }
 
 impl<O: Opens + Drop> FileStore<O> {
-    /// The files that this opens, as a part of the runtime does.
+    /// A store of the files that this opens. The runtime's access to files is such an opener.
     pub fn new(opener: O) -> FileStore<O>
         ensures state { result ≡ record { opener = opener; faults = 0 } }
         ensures shown { ⟦<FileStore<O> as Store>⟧.shows result
@@ -62,8 +62,8 @@ impl<O: Opens + Drop> Store for FileStore<O> {
         ensures memory { IsErrOf result Memory → self.new ≡ self.old }
         ensures opener { self.new.opener ≡ self.old.opener }
 
-        // As the trait has them: beside clauses of its own an impl has to say again what the trait's follow
-        // from.
+        // The trait's clauses: an impl that adds clauses of its own must repeat those from which the trait's
+        // follow.
         ensures count { self.old.faults ≤ self.new.faults }
         ensures ok { OnOk result
             (Reads (O.files self.old.opener) name.now most into.old.items into.new.items) }

@@ -1,10 +1,11 @@
 //! What lies outside the simulator: files that are read, and bytes that are written.
 //!
-//! A `Store` and a `Sink` are seen through what they show: what they hold, where it is told, how many faults
-//! they have met, and whether they are sure. A program runs over `FileStore` and `StdSink`, whose files and
-//! streams no contract can tell; tests and theorems run over the four that stand in memory.
+//! Contracts see a `Store` and a `Sink` through what they show: what they hold, where that is told; how many
+//! faults they have met; and whether they are sure (docs/CONCEPT.md, "Words"). The program runs over
+//! `FileStore` and `StdSink`, whose files and streams no contract can tell. Tests and theorems run over the
+//! two stores and the two outputs that stand in memory.
 //!
-//! `Text` and `Items` are what fields of other crates' types hold, so that contracts see a list.
+//! Types of other crates keep their texts and vectors as `Text` and `Items`, which contracts see as lists.
 #![tactic(auto)]
 
 mod fault_plan;

@@ -9,8 +9,8 @@ use crate::{NoMemory, PutRefusal, Sink};
 use std::alloc::{AllocError, Global};
 use std::marker::Model;
 
-/// An output in memory, of which chosen puts fail, by their numbers. What was written is told, and it isn't
-/// sure.
+/// An output in memory whose puts of chosen numbers fail, to try what happens then. What was written is told,
+/// and the output isn't sure.
 ///
 /// Contracts see a `SinkState`: the bytes written, the numbers of the puts that are to fail, and the counts
 /// of puts and faults.

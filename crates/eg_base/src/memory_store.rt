@@ -11,7 +11,8 @@ use crate::{NoMemory, ReadRefusal, Store};
 use std::alloc::Global;
 use std::marker::Model;
 
-/// A store in memory, of which chosen reads fail, by their numbers. Its files are told, and it isn't sure.
+/// A store in memory whose reads of chosen numbers fail, to try what happens then. Its files are told, and it
+/// isn't sure.
 ///
 /// Contracts see a `StoreState`: the files, the numbers of the reads that are to fail, and the counts of
 /// reads and faults.

@@ -1,7 +1,7 @@
 // The refusal of a call that ends early only where memory runs out.
 use std::alloc::{AllocError, AllocFailed};
 
-/// Memory ran out. This is the only refusal of a call that answers it.
+/// Memory ran out. A call that answers this is refused for no other reason.
 #[derive(Clone, Copy, Debug, PartialEq, Eq)]
 pub struct NoMemory;
 

@@ -7,7 +7,7 @@ use std::fs::File;
 use std::io::Read;
 use std::rt::Files;
 
-/// What opens files by their names, to be read: the system does, whose files no contract can tell.
+/// Opens files by their names, for reading. The system does so, and no contract can tell its files.
 ///
 /// Contracts see its files, where they are told.
 pub trait Opens {

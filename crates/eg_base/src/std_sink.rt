@@ -9,7 +9,8 @@ use crate::{PutRefusal, Sink};
 use std::io::{ErrorKind, Write};
 use std::marker::Model;
 
-/// A stream of the system, as its standard output. What was written isn't told, and the output is sure.
+/// An output to a stream of the system, such as standard output. What was written isn't told, and the output
+/// is sure.
 ///
 /// Each refusal of the stream to write or to flush is a fault, as is a write that takes nothing of a piece
 /// that isn't empty. A write that is interrupted is made again. Contracts see a `StreamState`: the stream and

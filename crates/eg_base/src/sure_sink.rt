@@ -8,8 +8,8 @@ use crate::{NoMemory, PutRefusal, Sink};
 use std::alloc::Global;
 use std::marker::Model;
 
-/// An output in memory with room for a stated number of bytes, which is taken when it is made. What was
-/// written is told, and it is sure.
+/// An output in memory with room for a stated number of bytes. The room is taken when the output is made.
+/// What was written is told, and the output is sure.
 ///
 /// Contracts see a `SureSinkState`: the bytes written, the room and the count of faults.
 #[derive(Drop)]
@@ -31,7 +31,7 @@ impl Model for SureSink {
 }
 
 impl SureSink {
-    /// An output with no bytes and room for so many.
+    /// An output with no bytes, and with room for `room` bytes. Refused only where memory runs out.
     pub fn new(alloc: Global, room: usize) -> Result<SureSink, NoMemory>
         ensures state { IfOk result (λ sink. sink ≡ record { bytes = []; room = room; faults = 0 }) }
         ensures shown { IfOk result (λ sink. ⟦<SureSink as Sink>⟧.shows sink

@@ -1,4 +1,4 @@
--- What the bench asks of an engine, of the diesel engine: what it keeps, and what follows of that.
+-- The diesel engine has what the bench asks of an engine: what it keeps, and what follows of that.
 use Rattle.std.proofs.Common.{◌≡◌, ℕ, ◌≤◌, Bool, false, Option, refl, arith}
 use Rattle.std.specs.Prelude.{IfSome}
 use Rattle.eg_plant.specs.Engine.{KeepsLaws}

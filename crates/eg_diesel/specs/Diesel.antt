@@ -21,8 +21,8 @@ pub record Diesel : Type 0 where
 unfoldable pub at_rest : Diesel
 at_rest = record { rack = 0; boost = 0; quantity = 0; torque = 0 }
 
--- the new rack: it stands in the place of the gasoline engine's plate, and is commanded, held and moved as
--- that is
+-- the new rack: it takes the place of the gasoline engine's plate, and is commanded, held and moved as the
+-- plate is
 abbrev pub next_rack : PlantParts → ℕ → ℕ → Bool → Option ℕ → ℕ
 next_rack p rack command on held = next_plate p rack command on held
 
@@ -57,7 +57,7 @@ pub record DieselPlant : Type 0 where
   pub parts : PlantParts
   pub state : Diesel
 
--- the engine after a step is the one before it but for its state, and that has made one step of the plant
+-- a step leaves the data of the plant as they are, and takes the state one step of the plant further
 abbrev pub StepsAsDiesel : DieselPlant → ℕ → ℕ → Bool → Option ℕ → DieselPlant → Type 0
 StepsAsDiesel old command ignition on held new =
     new ≡ record { parts = old.parts; state = diesel_step old.parts old.state command ignition on held }

@@ -113,7 +113,7 @@ impl CopyEngine for DieselEngine {
     }
 }
 
-/// The boost after a step, by the rack before it.
+/// The boost after a step, in per mille: it moves toward the rack as it was before the step.
 #[tactic(auto, unfolding(crate::specs::Diesel::next_boost))]
 fn next_boost(plant: &PlantData, rack: u16, boost: u16) -> u16
     ensures { result ≡ diesel.next_boost plant.now rack boost }
@@ -121,7 +121,8 @@ fn next_boost(plant: &PlantData, rack: u16, boost: u16) -> u16
     toward(boost, rack, plant.fill())
 }
 
-/// The quantity at a rack and a boost, in per mille: the rack, at most the smoke limit of the boost.
+/// The quantity at a rack and a boost, in per mille: the rack, at most the smoke limit of the boost; 0 while
+/// the power stages are off.
 #[tactic(auto, unfolding(crate::specs::Diesel::quantity_of))]
 fn quantity_of(plant: &PlantData, rack: u16, boost: u16, on: bool) -> u16
     ensures { result ≡ diesel.quantity_of plant.now rack boost on }

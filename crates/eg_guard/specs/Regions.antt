@@ -11,7 +11,7 @@ use Rattle.eg_guard.specs.declared.regions.TheConstants.{DATA, IN_PORTS, LAST_IN
 abbrev pub is_below : ℕ → ℕ → Bool
 is_below next address = nat_lt address next
 
--- the address is one of these, both ends included
+-- the address lies between these two, which are included
 abbrev pub is_between : ℕ → ℕ → ℕ → Bool
 is_between first last address = nat_le first address && nat_le address last
 
@@ -38,7 +38,7 @@ load_only = record { load = true; store = false }
 abbrev pub both : Allowed
 both = record { load = true; store = true }
 
--- what a row allows to each of the three
+-- what a row of the map allows to level 1, to level 2 and to the board
 abbrev pub row : Allowed → Allowed → Allowed → Who → Allowed
 row level1 level2 board Level1 = level1
 row level1 level2 board Level2 = level2

@@ -2,7 +2,7 @@
 -- it.
 use Rattle.std.specs.Prelude.{ℕ, zero, suc, Bool, true, false, List, Option, Some, None}
 
--- the words, and how many stores are still done before the one that is refused; none once it was refused
+-- the words, and how many stores are still done before the one that is refused, or none once it was refused
 pub record StingyState : Type 0 where
   pub words : List ℕ
   pub left : Option ℕ

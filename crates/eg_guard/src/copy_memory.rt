@@ -5,10 +5,11 @@ use crate::Guarded;
 use eg_base::NoMemory;
 use std::alloc::Global;
 
-/// A guarded memory that can be copied, as the memory of a run is where several runs go on from one tick
-/// (docs/CONCEPT.md, "Guarded memory").
+/// A guarded memory that can be copied (docs/CONCEPT.md, "Guarded memory"): where several runs go on from one
+/// tick, each goes on with a copy of the memory.
 pub trait CopyMemory: Guarded + Sized {
-    /// A memory that shows the same: it has equal words, and is as sure. NoMemory is its one refusal.
+    /// A memory that shows the same: its words are equal, and it is sure exactly where this one is. Refused
+    /// only where memory runs out.
     fn copy(&self, alloc: Global) -> Result<Self, NoMemory>
         ensures { IfOk result (λ copy. Self.shows copy ≡ Self.shows self.now) };
 }

@@ -38,7 +38,7 @@ impl FlatMemory {
         }
     }
 
-    /// A memory of these words. With the words of a memory of another kind it is a copy of that one.
+    /// A memory of these words. Made of the words of a memory of another kind, it is a copy of that memory.
     pub fn of_words(words: [u16; WORDS as usize]) -> FlatMemory
         ensures words { result ≡ words }
         ensures shown { ⟦<FlatMemory as Guarded>⟧.shows result ≡ record { words = words; sure = true } }

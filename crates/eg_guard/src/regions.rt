@@ -2,19 +2,19 @@
 ghost use Rattle.std.specs.Prelude.{◌≡◌, ◌≤◌, [], ◌∷◌, map, replicate};
 ghost use Rattle.eg_guard.specs.Regions;
 
-/// How many words there are: the addresses are those below.
+/// How many words the memory has (docs/FORMATS.md, "Memory map"). Its addresses are the numbers below this.
 pub const WORDS: u16 = 4096;
 
 /// The first word of level 1's own data. The code stands before it, from 0 on.
 pub const DATA: u16 = 1024;
 
-/// The first of the input ports.
+/// The first input port.
 pub const IN_PORTS: u16 = 2048;
 
-/// The last of them.
+/// The last input port.
 pub const LAST_IN_PORT: u16 = 2057;
 
-/// How many they are.
+/// How many input ports there are: two tracks of four pairs, the raise and its check word.
 pub const IN_PORT_COUNT: u16 = LAST_IN_PORT - IN_PORTS + 1;
 
 /// The first output port: the command to the throttle plate.
@@ -23,19 +23,19 @@ pub const THROTTLE: u16 = 2064;
 /// The second output port: the command to the ignition.
 pub const IGNITION: u16 = 2065;
 
-/// The first of the results, which are the signals of level 2.
+/// The first result. The results are the signals of level 2.
 pub const RESULTS: u16 = 2080;
 
-/// The last of them.
+/// The last result.
 pub const LAST_RESULT: u16 = 2084;
 
-/// How many they are.
+/// How many results there are.
 pub const RESULT_COUNT: u16 = LAST_RESULT - RESULTS + 1;
 
 /// The first protected word.
 pub const PROTECTED: u16 = 2096;
 
-/// The last one.
+/// The last protected word.
 pub const LAST_PROTECTED: u16 = 2122;
 
 /// The link: the number of the question.
@@ -100,7 +100,7 @@ impl Allowed {
 }
 
 impl Region {
-    /// What the region allows to somebody.
+    /// What the region allows to the one who asks.
     #[inline]
     #[tactic(auto, unfolding(crate::specs::Regions::allows))]
     fn allows(self, who: Who) -> Allowed
@@ -138,7 +138,8 @@ pub fn region_of(address: u16) -> Region
     }
 }
 
-/// The region of an address past the data. (Code and data are apart, since they are asked for most often.)
+/// The region of an address past the data. (`region_of` itself answers for code and data, since these are
+/// asked for most often.)
 #[inline]
 #[tactic(auto, unfolding(crate::specs::Regions::region_of))]
 fn port_of(address: u16) -> Region
@@ -157,7 +158,7 @@ fn port_of(address: u16) -> Region
     }
 }
 
-/// What somebody may do at an address (docs/FORMATS.md, "Memory map").
+/// What the one who asks may do at an address (docs/FORMATS.md, "Memory map").
 #[inline]
 #[tactic(auto, unfolding(crate::specs::Regions::access))]
 pub fn access(who: Who, address: u16) -> Allowed
@@ -167,8 +168,8 @@ pub fn access(who: Who, address: u16) -> Allowed
 }
 
 /// Does nothing when it runs. Its contract is the memory map in numbers (docs/FORMATS.md, "Memory map"): the
-/// first and the last address of each region, those next to them that have no word, and how many words, input
-/// ports and results there are.
+/// first and the last address of each region, the addresses next to these that have no word, and how many
+/// words, input ports and results there are.
 #[tactic(auto, unfolding(crate::specs::Regions::region_of))]
 pub fn map_in_numbers()
     ensures regions { map Regions.region_of

@@ -8,11 +8,11 @@ ghost use Rattle.eg_guard.specs.Stingy.{StingyState, refuses_next, left_after};
 use crate::{FlatMemory, Guarded, Refused, StoreRefusal, WORDS, Who, access};
 use std::marker::Model;
 
-/// A memory as `FlatMemory`, but one of its stores answers Memory. It isn't sure. It is for tests of what
-/// happens when memory runs out.
+/// A memory like `FlatMemory`, one store of which answers Memory: it is for tests of what happens when memory
+/// runs out, and it isn't sure (docs/CONCEPT.md, "Guarded memory").
 ///
 /// Contracts see a `StingyState`: the words, and how many stores are still done before the one that is
-/// refused.
+/// refused, or None once it was refused.
 #[derive(Drop)]
 pub struct StingyMemory {
     memory: FlatMemory,
@@ -73,7 +73,7 @@ impl Guarded for StingyMemory {
     }
 
     fn store(&mut self, who: Who, address: u16, word: u16) -> Result<(), StoreRefusal>
-        // What the memory map allows is counted, and the one to refuse answers Memory.
+        // Each store that the memory map allows is counted, and the one to refuse answers Memory.
         ensures guarded { IsErrOf result StoreRefused ↔ IsFalse (Regions.access who address).store }
         ensures memory { IsErrOf result Memory
             ↔ (IsTrue (Regions.access who address).store × IsTrue (refuses_next self.old.left)) }

@@ -11,11 +11,11 @@ use Rattle.eg_input.specs.Records.{Record}
 unfoldable pub decimal_value : List ℕ → ℕ
 decimal_value digits = fold (λ value digit. 10 * value + (digit - byte "0")) 0 digits
 
--- one to so many decimal digits
+-- one to `most` decimal digits
 abbrev pub is_decimal : ℕ → List ℕ → Bool
 is_decimal most word = nat_le 1 (length word) && nat_le (length word) most && list_all is_ascii_digit word
 
--- the number that one to so many decimal digits write
+-- the number that one to `most` decimal digits write
 abbrev pub decimal : ℕ → List ℕ → Option ℕ
 decimal most word = if is_decimal most word then Some (decimal_value word) else None
 
@@ -23,7 +23,7 @@ decimal most word = if is_decimal most word then Some (decimal_value word) else 
 abbrev pub is_numeral : List ℕ → Bool
 is_numeral field = is_decimal 5 field
 
--- the number that a field writes, where it is one of at most so much
+-- the number that a field of one to five digits writes, where it is at most `most`
 unfoldable pub number_of : ℕ → List ℕ → Option ℕ
 number_of most field =
     if is_numeral field && nat_le (decimal_value field) most then Some (decimal_value field) else None

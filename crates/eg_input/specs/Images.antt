@@ -37,13 +37,13 @@ word_of_digits digits = option_map (from_be_bytes w16) (result_ok (decode_sized 
 unfoldable pub word_of : Line → Option ℕ
 word_of line = option_and_then word_of_digits (before_line_feed line)
 
--- what the lines give, where this is the number of the first of them that writes no word
+-- what the lines give, by the number of the first of them that writes no word, if one does so
 unfoldable pub words_unless : ℕ → List Line → Option ℕ → Result (List ℕ) ImageFault
 words_unless most lines (Some number) = Err (fault.Line number)
 words_unless most lines None =
     if nat_lt most (length lines) then Err fault.Long else Ok (filter_map word_of lines)
 
--- what the lines give, of which there may be so many: the first of them has the number 1
+-- what the lines of a file that may have `most` of them give; the first line has the number 1
 unfoldable pub words_of : ℕ → List Line → Result (List ℕ) ImageFault
 words_of most lines =
     words_unless most lines (position_from (λ line. is_none (word_of line)) 1 (take most lines))
@@ -79,7 +79,7 @@ pub record IsImageOf (file words : List ℕ) : Type 0 where
   pub written : AllZip WritesWord lines words
 
 -- The file begins with lines that each write a word, and goes on with something that begins with no such
--- line. This number, the first line's being 1, is the one of what comes there, and at most 1,024.
+-- line. What comes there has this number, the first line having 1, and the number is at most 1,024.
 pub record HasBadLineAt (file : List ℕ) (number : ℕ) : Type 0 where
   pub good : List Line
   pub rest : List ℕ
@@ -90,7 +90,7 @@ pub record HasBadLineAt (file : List ℕ) (number : ℕ) : Type 0 where
   pub at : number ≡ length good + 1
   pub within : number ≤ MOST_WORDS
 
--- the file begins with 1,024 lines that each write a word, and goes on, with whatever it may be
+-- the file begins with 1,024 lines that each write a word, and something stands behind them
 pub record HasTooManyLines (file : List ℕ) : Type 0 where
   pub good : List Line
   pub rest : List ℕ

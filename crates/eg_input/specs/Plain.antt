@@ -19,7 +19,7 @@ pub record BeginsWithField {X : Type 0} (value_of : List ℕ → Option X) (endi
   pub parts : text ≡ field ++ ending ∷ rest
   pub written : value_of field ≡ Some value
 
--- the field is a number, at most so much
+-- the field is a number, at most `most`
 abbrev pub BeginsWithNumber : ℕ → ℕ → List ℕ → ℕ → List ℕ → Type 0
 BeginsWithNumber most = BeginsWithField (number_of most)
 
@@ -34,7 +34,7 @@ pub record BeginsWithRow {X : Type 0} (row_of : RowRule X) (text : List ℕ) (ro
   pub parts : records_below text ≡ fields ∷ records_below rest
   pub written : row_of fields ≡ Some row
 
--- the first record of the file is one of these headers, of so many fields; the others are those of the rest
+-- the first record of the file is one of these headers, of `width` fields; the others are those of the rest
 pub record BeginsWithHeader (headers : List Record) (text : List ℕ) (width : ℕ) (rest : List ℕ) : Type 0 where
   pub header : Record
   pub known : is_header headers header ≡ true

@@ -10,7 +10,7 @@ use Rattle.eg_input.specs.Records.{Record, RowRule, is_same_record}
 use Rattle.eg_input.specs.declared.fault.TraceFault.{TraceFault}
 use Rattle.eg_input.specs.declared.fault.TraceFault.TheVariants as fault
 
--- what the records below the header give, where this is the number of the first of them that writes no row
+-- what the records below the header give, by the number of the first of them that writes no row, if one does
 unfoldable pub rows_unless :
     {X : Type 0} → ℕ → RowRule X → List Record → Option ℕ → Result (List X) TraceFault
 rows_unless most row_of below (Some number) = Err (fault.Row number)
@@ -19,7 +19,7 @@ rows_unless most row_of below None =
     else if nat_lt 0 (length below) then Ok (filter_map row_of below)
     else Err fault.Empty
 
--- what the records below the header give, of which there may be so many: the first of them has the number 2
+-- what the records below the header give, of which there may be `most`; the first of them has the number 2
 unfoldable pub rows_below : {X : Type 0} → ℕ → RowRule X → List Record → Result (List X) TraceFault
 rows_below most row_of below =
     rows_unless most row_of below (position_from (λ r. is_none (row_of r)) 2 (take most below))

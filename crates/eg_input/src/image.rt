@@ -13,7 +13,8 @@ use std::alloc::Global;
 pub const MOST_WORDS: usize = 1024;
 
 /// The words of an image (docs/FORMATS.md, "Images"): a file of 0 to 1,024 lines, each of four hexadecimal
-/// digits. The first other line gives Line with its place; what comes after 1,024 good lines gives Long.
+/// digits. It is refused by Line, with the number of the first other line among these, or by Long where
+/// anything stands after 1,024 good lines.
 pub fn read_image(alloc: Global, bytes: &[u8]) -> Result<Vec<u16>, ImageFault>
     ensures words { IsImageRead (image_words bytes.now) result }
     ensures limits { IfOk result (λ words. length words.items ≤ MOST_WORDS) }
@@ -43,9 +44,9 @@ fn word_of(line: &[u8]) -> Option<u16>
     Some(u16::from_be_bytes(bytes))
 }
 
-/// What `image_words` says of an image (docs/FORMATS.md, "Images"): it gives the words exactly where the file
-/// is the lines that write them, and each fault exactly where the file has it. An image has at most 1,024
-/// words.
+/// Does nothing when it runs. Its clauses are laws of what `image_words` says of an image (docs/FORMATS.md,
+/// "Images"): it gives the words exactly where the file is the lines that write them, and each fault exactly
+/// where the file has it. An image has at most 1,024 words.
 pub fn images_are_their_lines()
     ensures words { (file : List ℕ) (words : List ℕ) → (image_words file ≡ Ok words) ↔ IsImageOf file words }
     ensures line { (file : List ℕ) (number : ℕ) →

@@ -9,7 +9,8 @@ use crate::reader::{MOST_ROWS, unless_empty};
 use crate::row::FileRow;
 use std::alloc::Global;
 
-/// The rows of a plain file. None may come for any file, and comes where one is not plain all through.
+/// The rows of a plain file. None says nothing of the file, which is to be read by csv then. It comes at
+/// least where the file isn't plain all through.
 pub(crate) fn read_plain<R: FileRow>(
     alloc: Global,
     bytes: &[u8],
@@ -20,8 +21,8 @@ pub(crate) fn read_plain<R: FileRow>(
     read_lines(alloc, width, below)
 }
 
-/// The rows of the lines below a header of so many fields. None may come for any, and comes where a line
-/// isn't plain and where there are too many.
+/// The rows of the lines below a header of `width` fields. None says nothing of the lines. It comes at least
+/// where one of them isn't plain, and where they are more than 20,000.
 fn read_lines<R: FileRow>(
     alloc: Global,
     width: usize,
@@ -50,9 +51,9 @@ fn read_lines<R: FileRow>(
     Some(unless_empty(rows))
 }
 
-/// The numbers pedal, speed and raise at the front, and what comes behind the byte that ends them. None may
-/// come for any bytes. It is inlined into each caller, where the limits that `Drive::new` looks at are then
-/// known.
+/// The numbers pedal, speed and raise at the front, and what comes behind the byte that ends them. None says
+/// nothing of the bytes. It is inlined, so that the compiler knows in each caller that the numbers keep the
+/// limits which `Drive::new` checks.
 #[inline(always)]
 pub(crate) fn drive_numbers(bytes: &[u8], ending: u8) -> Option<((u16, u16, u16), &[u8])>
     ensures { IfSome result (λ found. BeginsWithDrive ending bytes.now found.0 found.1.now) }
@@ -63,7 +64,7 @@ pub(crate) fn drive_numbers(bytes: &[u8], ending: u8) -> Option<((u16, u16, u16)
     Some(((pedal, speed, raise), rest))
 }
 
-/// The truth value at the front, and what comes behind the byte that ends it. None may come for any bytes.
+/// The truth value at the front, and what comes behind the byte that ends it. None says nothing of the bytes.
 #[tactic(auto, unfolding(crate::specs::Fields::truth_of))]
 pub(crate) fn truth(bytes: &[u8], ending: u8) -> Option<(bool, &[u8])>
     ensures { IfSome result (λ found. BeginsWithTruth ending bytes.now found.0 found.1.now) }
@@ -76,8 +77,8 @@ pub(crate) fn truth(bytes: &[u8], ending: u8) -> Option<(bool, &[u8])>
 }
 
 /// The number that one to five digits at the front write, and what comes behind the byte that ends them. None
-/// may come for any bytes, and comes where another byte ends them and where the number is above `most`. It
-/// reads the digits and finds their end in one pass, where `decimal_in` would need the end first.
+/// says nothing of the bytes. It comes at least where another byte ends the digits, and where the number is
+/// above `most`. One pass reads the digits and finds their end, where `decimal_in` would need the end first.
 pub(crate) fn number(bytes: &[u8], most: u16, ending: u8) -> Option<(u16, &[u8])>
     ensures { IfSome result (λ found. BeginsWithNumber most ending bytes.now found.0 found.1.now) }
 {

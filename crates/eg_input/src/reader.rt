@@ -35,8 +35,8 @@ fn read_records<R: FileRow>(alloc: Global, bytes: &[u8]) -> Result<Vec<R>, Trace
     read_file(alloc, &mut reader, &mut entry)
 }
 
-/// A reader that has read nothing of a text yet. It is given an empty header row: one that has none keeps two
-/// copies of the first record in its place.
+/// A reader that has read nothing of a text yet. It is given an empty header row, since a reader without one
+/// keeps two copies of the first record in its place.
 #[tactic(auto, unfolding(crate::specs::Records::records_of))]
 fn reader_of(alloc: Global, bytes: &[u8]) -> Result<Reader<&[u8]>, TraceFault>
     ensures reader { IfOk result (λ reader. HasUnread reader (records_of bytes.now)) }
@@ -81,7 +81,7 @@ fn read_file<R: FileRow>(
     read_below(alloc, entry.len(), reader, entry)
 }
 
-/// The rows below the header of so many fields, which was read already.
+/// The rows below the header of `width` fields, which was read already.
 fn read_below<R: FileRow>(
     alloc: Global,
     width: usize,

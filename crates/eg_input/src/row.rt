@@ -17,23 +17,24 @@ pub(crate) trait FileRow: Drop {
     /// The headers that such a file may have.
     ghost headers: { List Record };
 
-    /// The row that a record writes below a header of so many fields.
+    /// The row that a record writes below a header of this many fields.
     ghost row_of: { ℕ → RowRule Self };
 
     /// Whether a record is one of the headers.
     fn is_header(entry: &ByteRecord) -> bool
         ensures { result ≡ is_header headers (fields_of entry.now) };
 
-    /// The row that a record writes below a header of so many fields, or None where it writes none.
+    /// The row that a record writes below a header of `width` fields, or None where it writes none.
     fn from_record(entry: &ByteRecord, width: usize) -> Option<Self>
         ensures { result ≡ row_of width (fields_of entry.now) };
 
-    /// How many fields the header has, and what comes behind its line, where the bytes begin with one.
+    /// How many fields the header has with whose line the bytes begin, and what comes behind that line. None
+    /// says nothing of the bytes.
     fn below_header(bytes: &[u8]) -> Option<(usize, &[u8])>
         ensures { IfSome result (λ found. BeginsWithHeader headers bytes.now found.0 found.1.now) };
 
-    /// The row of the line at the front, and what comes behind it, where that is a line of plain numbers
-    /// below a header of so many fields.
+    /// The row of the line at the front, and what comes behind the line. None says nothing of the bytes. It
+    /// comes at least where the line isn't one of plain numbers below a header of `width` fields.
     fn from_line(bytes: &[u8], width: usize) -> Option<(Self, &[u8])>
         ensures { IfSome result (λ found. BeginsWithRow (row_of width) bytes.now found.0 found.1.now) };
 }
@@ -153,7 +154,7 @@ impl FileRow for (Drive, u16) {
     }
 }
 
-/// The drive row of the numbers that the first three fields write, of this reset and of this brake.
+/// The drive row of the numbers that the first three fields write, with this reset and this brake.
 #[tactic(auto, unfolding(crate::specs::DriveTrace::drive_at, crate::specs::DriveTrace::drive_from))]
 fn drive_at(entry: &ByteRecord, reset: Option<bool>, brake: Option<bool>) -> Option<Drive>
     ensures { result ≡ drive_at (fields_of entry.now) reset brake }

@@ -10,7 +10,7 @@ quotient_up a b = (a + (b - 1)) / b
 abbrev pub estimate : ℕ → ℕ → ℕ
 estimate kt load = min 65535 (quotient_up (load * kt) 1000)
 
--- the value moved toward a target by at most so much: the target itself where it lies within reach
+-- the value `now` moved toward a target by at most `most`: the target itself where it lies within reach
 abbrev pub moved_toward : ℕ → ℕ → ℕ → ℕ
 moved_toward now target most =
     if nat_le now target

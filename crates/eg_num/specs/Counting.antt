@@ -13,7 +13,7 @@ unfoldable pub fed_all : WeightParts → List Bool → ℕ
 fed_all w [] = 0
 fed_all w (bad ∷ before) = fed w (fed_all w before) bad
 
--- what the windows say that number is: the limit once it is confirmed, and until then the greatest weight
+-- that number, said by windows: the limit once it is confirmed, and until then the greatest weight
 unfoldable pub counted : WeightParts → List Bool → ℕ
 counted w bits = if is_confirmed w bits then w.limit else greatest w bits
 

@@ -20,7 +20,7 @@ pub record IsValueAt (points : List ℕ) (value : ℕ → ℕ) (x y : ℕ) : Typ
   pub between : (i : ℕ) → i + 1 < length points → slice_index points i ≤ x → x ≤ slice_index points (i + 1) →
       y ≡ lerp (slice_index points i) (value i) (slice_index points (i + 1)) (value (i + 1)) x
 
--- that value, computed
+-- the value by that rule, computed
 unfoldable pub value_at : List ℕ → (ℕ → ℕ) → ℕ → ℕ
 value_at [] value x = 0
 value_at (x0 ∷ []) value x = value 0
@@ -67,11 +67,11 @@ cell g i j = slice_index g.values (i * length g.columns + j)
 abbrev pub row_at : Grid → ℕ → ℕ → ℕ
 row_at g column i = value_at g.columns (cell g i) column
 
--- each row along the columns first, with its rounding, and then along the rows
+-- the value at a place of both axes: each row along the columns first, rounded, and then along the rows
 abbrev pub grid_at : Grid → ℕ → ℕ → ℕ
 grid_at g row column = value_at g.rows (row_at g column) row
 
--- the same, said by any neighbours that enclose the place
+-- y is that value, by the rule, which names any neighbours that enclose the place
 abbrev pub IsGridValueAt : Grid → ℕ → ℕ → ℕ → Type 0
 IsGridValueAt g row column y = (along : ℕ → ℕ) ×
     ((i : ℕ) → i < length g.rows → IsValueAt g.columns (cell g i) column (along i))

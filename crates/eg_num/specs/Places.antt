@@ -14,16 +14,16 @@ WeighsAtLeast w bits a b n =
 abbrev pub IsReachedAt : WeightParts → List Bool → ℕ → Type 0
 IsReachedAt w bits t = (t < length bits) × (a : ℕ) × (a ≤ t) × WeighsAtLeast w bits a t w.limit
 
--- it is so at some place up to t
+-- the limit is reached at some place up to t
 abbrev pub IsConfirmedBy : WeightParts → List Bool → ℕ → Type 0
 IsConfirmedBy w bits t = (s : ℕ) × (s ≤ t) × IsReachedAt w bits s
 
--- t is the least place at which it is so
+-- t is the least place at which the limit is reached
 pub record IsFirstAt (w : WeightParts) (bits : List Bool) (t : ℕ) : Type 0 where
   pub reached : IsReachedAt w bits t
   pub least : (s : ℕ) → s < t → ¬ IsReachedAt w bits s
 
--- the least place at which it is so, or none where there is no such place
+-- the least place at which the limit is reached, or none where there is no such place
 abbrev pub IsFirst : WeightParts → List Bool → Option ℕ → Type 0
 IsFirst w bits first = MatchOption first ((t : ℕ) → ¬ IsReachedAt w bits t) (IsFirstAt w bits)
 
@@ -36,7 +36,7 @@ pub record IsGreatestAt (w : WeightParts) (bits : List Bool) (t n : ℕ) : Type 
 abbrev pub up_to : ℕ → List Bool → List Bool
 up_to t bits = reverse (take (t + 1) bits)
 
--- at place t the words of `Windows`, and a counter fed from 0 up to there, say what the rule says
+-- at place t the definitions of `Windows`, and a counter fed from 0 up to t, say what the rule by places says
 pub record AgreeAt (w : WeightParts) (bits : List Bool) (t : ℕ) : Type 0 where
   pub reached : IsTrue (is_reached w (up_to t bits)) ↔ IsReachedAt w bits t
   pub confirmed : IsTrue (is_confirmed w (up_to t bits)) ↔ IsConfirmedBy w bits t
@@ -50,6 +50,6 @@ pub record Agree (w : WeightParts) (bits : List Bool) : Type 0 where
   pub least : IsFirst w bits (first_index w (reverse bits))
   pub one : (first : Option ℕ) → IsFirst w bits first → first ≡ first_index w (reverse bits)
 
--- so for all weights and all lists
+-- the law: they agree for all weights and all lists
 abbrev pub PlaceLaw : Type 0
 PlaceLaw = (w : WeightParts) → AreWeights w → (bits : List Bool) → Agree w bits

@@ -33,12 +33,12 @@ unfoldable pub is_confirmed : WeightParts → List Bool → Bool
 is_confirmed w [] = false
 is_confirmed w (bad ∷ before) = is_reached w (bad ∷ before) || is_confirmed w before
 
--- the last feed is the first at which it was reached
+-- the last feed is the first at which the limit was reached
 unfoldable pub is_first : WeightParts → List Bool → Bool
 is_first w [] = false
 is_first w (bad ∷ before) = is_reached w (bad ∷ before) && not (is_confirmed w before)
 
--- the number of the first feed at which it was reached, the oldest feed being 0, or none
+-- the number of the first feed at which the limit was reached, the oldest feed being 0, or none
 unfoldable pub first_index : WeightParts → List Bool → Option ℕ
 first_index w [] = None
 first_index w (bad ∷ before) =

@@ -10,6 +10,7 @@ use crate::Weights;
 /// of a window that ends at the last feed; from then on it is the limit.
 #[derive(Clone, Copy)]
 pub struct Counter {
+    /// 0 to the limit of its weights.
     pub value: u16,
 }
 
@@ -50,8 +51,8 @@ pub fn counters_count_windows()
     ensures { CounterLaw }
 {}
 
-/// The law of windows: lists that stand newest first say what the rule says by places in the order of time,
-/// and so does a counter. It does nothing when it runs.
+/// The law of windows: the rule over lists that stand newest first is the rule by places in the order of
+/// time, and a counter keeps it too. It does nothing when it runs.
 pub fn windows_are_places()
     ensures { PlaceLaw }
 {}

@@ -1,24 +1,22 @@
 // The watches of the unit.
 
-/// Which watches are found at a tick (docs/CONCEPT.md, "The record of a run"): that of the mirrored words,
-/// those of the four pairs of sensors, that of the torque, that of the answers, and that of the start-up
-/// test. All but the first and the last have a debouncer, and are found where its counter first reaches its
-/// limit.
+/// Which watches are found at a tick (docs/CONCEPT.md, "The record of a run"). All but `mirror` and `start`
+/// have a debouncer, and are found at the tick at which its limit is first reached in the span.
 #[derive(Clone, Copy)]
 pub struct Watches {
-    /// A word of level 2 was found to differ from its complement.
+    /// A word of level 2 differs from its complement.
     pub mirror: bool,
-    /// That the pair of the pedal disagrees was confirmed for the first time.
+    /// The two values of the pedal disagree.
     pub pedal: bool,
-    /// That the pair of the throttle plate disagrees was confirmed for the first time.
+    /// The two values of the throttle plate disagree.
     pub plate: bool,
-    /// That the pair of the load disagrees was confirmed for the first time.
+    /// The two values of the load disagree.
     pub load: bool,
-    /// That the pair of the speed disagrees was confirmed for the first time.
+    /// The two values of the speed disagree.
     pub speed: bool,
-    /// That the torque exceeds what is permitted was confirmed for the first time.
+    /// The actual torque is an excess over the permitted torque.
     pub torque: bool,
-    /// That answers are wrong was confirmed for the first time.
+    /// The answers of level 2 are wrong.
     pub answers: bool,
     /// A start-up test of the shut-off paths failed.
     pub start: bool,

@@ -48,7 +48,7 @@ pub record GasolinePlant : Type 0 where
   pub parts : PlantParts
   pub state : Gasoline
 
--- the engine after a step is the one before it but for its state, and that has made one step of the plant
+-- a step leaves the data of the plant as they are, and takes the state one step of the plant further
 abbrev pub StepsAsGasoline : GasolinePlant → ℕ → ℕ → Bool → Option ℕ → GasolinePlant → Type 0
 StepsAsGasoline old throttle ignition on held new =
     new ≡ record { parts = old.parts; state = gasoline_step old.parts old.state throttle ignition on held }

@@ -5,10 +5,10 @@ ghost use Rattle.eg_plant.specs.Engine.{Shown, KeepsLaws};
 
 /// An engine that the unit drives (docs/CONCEPT.md, "Plant"). It is stepped once a tick.
 ///
-/// Contracts see what an engine shows (`Shown`), and its `kt`, the torque of a load of 1000. Each call says
-/// again the laws that every engine keeps (`KeepsLaws`).
+/// Contracts see what an engine shows (`Shown`), and its `kt`, the torque of a load of 1000. Each call
+/// repeats, as its clause `laws`, the laws that every engine keeps (`KeepsLaws`).
 pub trait Engine {
-    /// Where the plate stands, both loads, and the torque.
+    /// The angle of the plate, both loads, and the torque.
     ghost shows: { Self → Shown };
 
     /// The torque of a load of 1000, in tenths of Nm.
@@ -37,7 +37,7 @@ pub trait Engine {
         ensures loads { result ≡ (shows self.now).load_1 ∷ (shows self.now).load_2 ∷ [] }
         ensures laws { KeepsLaws (kt self.now) (shows self.now) };
 
-    /// The angle of the plate, in per mille.
+    /// The angle of the plate, or the position of a diesel engine's rack, in per mille.
     fn position(&self) -> u16
         ensures position { result ≡ (shows self.now).position }
         ensures laws { KeepsLaws (kt self.now) (shows self.now) };

@@ -116,7 +116,7 @@ pub fn next_plate(plant: &PlantData, plate: u16, command: u16, on: bool, held: O
     toward(plate, target, plant.slew())
 }
 
-/// The charge after a step, by the plate before it.
+/// The charge after a step, in per mille: it moves toward the charge of the plate as it was before the step.
 #[tactic(auto, unfolding(crate::specs::Gasoline::next_charge))]
 fn next_charge(plant: &PlantData, plate: u16, charge: u16) -> u16
     ensures { result ≡ gasoline.next_charge plant.now plate charge }

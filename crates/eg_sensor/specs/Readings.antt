@@ -34,7 +34,7 @@ used_pedal tracks limp = if limp then 0 else min (falling_pair tracks).first (fa
 abbrev pub checked_raise : ℕ → ℕ → ℕ
 checked_raise value check = if value + check == 65535 then value else 0
 
--- so much where a test is true, and else 0
+-- the bit of this size where a test is true, else 0
 abbrev pub bit : ℕ → Bool → ℕ
 bit size is_set = if is_set then size else 0
 
@@ -42,8 +42,8 @@ bit size is_set = if is_set then size else 0
 unfoldable pub has_bit : ℕ → ℕ → Bool
 has_bit size word = word / size % 2 == 1
 
--- the bits of those of the pairs of pedal, plate, load and speed whose values differ by more than their
--- tolerances
+-- the bits of the pairs that disagree, added up; the tolerances stand in the order pedal, plate, load and
+-- speed
 abbrev pub pair_bits : Readings → List ℕ → ℕ
 pair_bits r tolerances =
     bit PEDAL_PAIR (disagrees (falling_pair r.pedal) (slice_index tolerances 0))
@@ -51,7 +51,7 @@ pair_bits r tolerances =
     + bit LOAD_PAIR (disagrees (rising_pair r.load) (slice_index tolerances 2))
     + bit SPEED_PAIR (disagrees (rising_pair r.speed) (slice_index tolerances 3))
 
--- what sound tracks read, of two loads that the engine shows
+-- what sound tracks read, where the engine shows these two loads
 abbrev pub sound_readings : ℕ → ℕ → List ℕ → ℕ → ℕ → Readings
 sound_readings pedal plate loads speed raise = record {
   pedal = pedal ∷ (1000 - pedal) ∷ [];

@@ -11,22 +11,23 @@ pub fn falling(reading: u16) -> u16
     1000u16.saturating_sub(reading)
 }
 
-/// Whether two values of a pair differ by more than the tolerance.
+/// Whether two values of a pair differ by more than the tolerance (docs/CONCEPT.md, "Sensors").
 pub fn disagree(first: u16, second: u16, tolerance: u16) -> bool
     ensures { result ≡ disagrees (record { first = first; second = second }) tolerance }
 {
     first.abs_diff(second) > tolerance
 }
 
-/// The raise that counts: 0 where it and its check word don't add up to 65535.
+/// The raise that counts, in tenths of Nm: 0 where it and its check word don't add up to 65535
+/// (docs/CONCEPT.md, "Sensors").
 pub fn checked_raise(value: u16, check: u16) -> u16
     ensures { result ≡ checked_raise value check }
 {
     if check == u16::MAX - value { value } else { 0 }
 }
 
-/// The pedal that level 2 uses, of the readings of the pedal's two tracks: the lower of their two values, and
-/// 0 in limited operation.
+/// The pedal that level 2 uses, in per mille, by the readings of the pedal's two tracks: the lower of their
+/// two values, and 0 in limited operation (docs/CONCEPT.md, "Sensors").
 pub fn used(pedal: [u16; 2], limp: bool) -> u16
     ensures { result ≡ used_pedal pedal limp }
 {
@@ -37,8 +38,8 @@ pub fn used(pedal: [u16; 2], limp: bool) -> u16
     }
 }
 
-/// The sum of the bits of those of the pairs of pedal, plate, load and speed whose values differ by more than
-/// their tolerances, which stand in the same order.
+/// The bits of the pairs that disagree, added up: 1 for the pedal, 2 for the plate, 4 for the load, 8 for the
+/// speed. The tolerances stand in this order (docs/CONCEPT.md, "Sensors").
 pub fn pair_bits(r: &Readings, tolerances: &[u16; 4]) -> u16
     ensures { result ≡ pair_bits r.now tolerances.now }
 {
@@ -49,7 +50,7 @@ pub fn pair_bits(r: &Readings, tolerances: &[u16; 4]) -> u16
     bit(PEDAL_PAIR, pedal) + bit(PLATE_PAIR, plate) + bit(LOAD_PAIR, load) + bit(SPEED_PAIR, speed)
 }
 
-/// So much where a test is true, and else 0.
+/// The bit of this size where a test is true, else 0.
 fn bit(size: u16, is_set: bool) -> u16
     ensures { result ≡ bit size is_set }
 {

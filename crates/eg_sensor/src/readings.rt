@@ -17,7 +17,7 @@ pub struct Readings {
     pub speed: [u16; 2],
     /// What raises the permitted torque, in tenths of Nm.
     pub raise: u16,
-    /// What is to add up with the raise to 65535.
+    /// The check word of the raise: where nothing disturbs it, the two add up to 65535.
     pub raise_check: u16,
 }
 
@@ -30,7 +30,8 @@ impl Readings {
     }
 }
 
-/// What sound tracks read where the engine shows these two loads.
+/// What sound tracks read at this pedal, plate and speed, where the engine shows these two loads and this
+/// raise is sent (docs/CONCEPT.md, "Sensors"). Units are those of the fields.
 pub fn sound(pedal: u16, plate: u16, loads: [u16; 2], speed: u16, raise: u16) -> Readings
     requires pedal { pedal ≤ 1000 }
     requires plate { plate ≤ 1000 }

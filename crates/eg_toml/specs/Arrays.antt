@@ -44,7 +44,7 @@ numbers_in least most high d = array_in least most (one (number_in 0 high)) d
 abbrev pub rows_in : ℕ → ℕ → ℕ → Data → Option (List ℕ)
 rows_in tall wide high d = array_in tall tall (numbers_in wide wide high) d
 
--- what was read stands after what was found before, or nothing could be read
+-- where `ok`, what was read stands behind what was found before; else it couldn't be read
 abbrev pub HasRead : {X : Type 0} → Option (List X) → List X → List X → Bool → Type 0
 HasRead read before after ok = MatchBool ok (option_map (λ xs. before ++ xs) read ≡ Some after) (read ≡ None)
 

@@ -8,8 +8,8 @@ use Rattle.eg_toml.specs.declared.places.Place.TheVariants.{Outside, Comment, Op
 abbrev pub is_delimiter : ℕ → Bool
 is_delimiter c = c == byte "\"" || c == byte "'"
 
--- The place as this byte comes. Where it is no delimiter, two delimiters before it were an empty text, and
--- three or more in a text of several lines were its end.
+-- The place at this byte. Where the byte isn't the delimiter, two delimiters right before it were an empty
+-- text, and three or more in a text of several lines were the end of that text.
 abbrev pub settled : Place → ℕ → Place
 settled (Empty delimiter) c = if c == delimiter then Empty delimiter else Outside
 settled (Lines delimiter run) c =

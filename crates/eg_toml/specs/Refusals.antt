@@ -19,7 +19,7 @@ abbrev pub unless_some : {F X : Type 0} → F → Option X → Option F
 unless_some f (Some x) = None
 unless_some f None = Some f
 
--- a fault where something isn't so
+-- a fault where a test fails
 abbrev pub unless_true : {F : Type 0} → F → Bool → Option F
 unless_true f true = None
 unless_true f false = Some f
@@ -41,7 +41,7 @@ abbrev pub Checks : {F X : Type 0} → Option F → X → Result X F → Type 0
 Checks f value (Ok x) = (f ≡ None) × (x ≡ value)
 Checks f value (Err e) = f ≡ Some e
 
--- the same of what may run out of memory, which has a fault of its own
+-- the same of a reader, which may run out of memory too, and has a fault of its own for that
 abbrev pub Reads : {F X : Type 0} → F → Option F → X → Result X F → Type 0
 Reads memory f value (Ok x) = (f ≡ None) × (x ≡ value)
 Reads memory f value (Err e) = (e ≡ memory) ⊎ (f ≡ Some e)

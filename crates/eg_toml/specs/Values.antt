@@ -2,7 +2,7 @@
 use Rattle.std.specs.Prelude.{ℕ, ℤ, pos, negsuc, ◌&&◌, List, Option, Some, None, option_and_then, if◌then◌else◌, nat_le}
 use Rattle.toml.specs.Data.{Data, Members, get_member, as_integer, as_table}
 
--- what the second says of what the first gives, and none where it gives none
+-- the second, of what the first gives; none where the first gives none
 infixl 10 ◌>>=◌
 abbrev pub ◌>>=◌ : {A B : Type 0} → Option A → (A → Option B) → Option B
 o >>= f = option_and_then f o
@@ -20,6 +20,6 @@ natural_in low high (negsuc n) = None
 abbrev pub number_in : ℕ → ℕ → Data → Option ℕ
 number_in low high d = as_integer d >>= natural_in low high
 
--- the one under a name of a table
+-- the number under a name of a table, from `low` to `high`
 abbrev pub number_at : ℕ → ℕ → List ℕ → Members → Option ℕ
 number_at low high name ms = get_member name ms >>= number_in low high

@@ -1,5 +1,5 @@
--- What a document weighs: about how many bytes the tree takes that `toml` makes of it, told before it is
--- read. What stands in comments and in texts weighs nothing.
+-- What a document weighs: about how many bytes `toml` takes for its tree. It is weighed before it is read.
+-- What stands in comments and in texts weighs nothing.
 use Rattle.std.specs.Prelude.{ℕ, ◌+◌, ◌-◌, ◌*◌, Bool, true, false, not, ◌&&◌, ◌||◌, ◌==◌, nat_le, nat_lt, if◌then◌else◌, List, [], ◌∷◌, ◌++◌, length, take, slice_index_or, fold, bit_and}
 use Rattle.std.specs.Str.{byte}
 use Rattle.eg_toml.specs.declared.places.Place.{Place}
@@ -36,18 +36,18 @@ table_weight = 1296
 abbrev pub text_weight : ℕ
 text_weight = 32
 
--- A name behind so many others of its table. The room of a table is for fifteen at first; each one more may
--- double it, and is looked up behind the whole heading once more, so that it weighs much. Of good files only
--- a calibration without headings has some, thirteen or fourteen.
+-- A name behind this many others of its table. A table has room for fifteen names at first. Each further name
+-- may double the room, and is looked up behind the whole heading once more, so that it weighs much. Of good
+-- files only a calibration without headings has further names, thirteen or fourteen.
 abbrev pub name_weight : ℕ → ℕ
 name_weight names = if nat_lt names 15 then 32 else 27_000
 
--- A list of so many values is full. Its room is for 4 at first, and for twice as many whenever one more
--- comes; a power of two shares no bit with the number before it.
+-- A list of this many values is full. It has room for 4 at first, and the room doubles whenever a full list
+-- gets one more. (A power of two shares no bit with the number before it.)
 abbrev pub is_full : ℕ → Bool
 is_full values = nat_le 4 values && bit_and values (values - 1) == 0
 
--- a value behind so many others of its list: 40 for each place of the room that it takes, and 24 for the list
+-- a value behind this many others of its list: 40 for each new place of room, and 24 for the list itself
 abbrev pub value_weight : ℕ → ℕ
 value_weight values = if values == 0 then 184 else if is_full values then 40 * values else 0
 
@@ -68,12 +68,12 @@ is_between c = c == byte " " || c == byte "\t" || c == byte "\n" || c == byte "\
 abbrev pub is_closing : ℕ → Bool
 is_closing c = c == byte "]" || c == byte "}"
 
--- it begins a value of a list, or a name behind a comma of an inline table
+-- a byte begins a value of a list, or a name behind a comma of an inline table
 abbrev pub begins_item : Due → ℕ → Bool
 begins_item Item c = not (is_between c || is_closing c)
 begins_item _ c = false
 
--- it begins a heading
+-- a byte begins a heading
 abbrev pub begins_heading : Due → ℕ → Bool
 begins_heading Nothing c = c == byte "["
 begins_heading _ c = false
@@ -84,7 +84,7 @@ takes_value Nothing = false
 takes_value Heading = false
 takes_value _ = true
 
--- it opens a list or an inline table
+-- a byte opens a list or an inline table
 abbrev pub is_opening : Due → ℕ → Bool
 is_opening due c = c == byte "{" || (c == byte "[" && takes_value due)
 
@@ -103,7 +103,7 @@ due_behind due c =
     else if c == byte "[" then due_behind_bracket due
     else Nothing
 
--- what it weighs as a sign, behind so many names
+-- what a byte weighs as a sign, behind this many names of its table
 abbrev pub sign_weight : Due → ℕ → ℕ → ℕ
 sign_weight due names c =
     if begins_heading due c then heading_weight
@@ -112,12 +112,12 @@ sign_weight due names c =
     else if is_delimiter c && takes_value due then text_weight
     else 0
 
--- how many names stand behind it
+-- how many names of the table there are behind a byte
 abbrev pub names_behind : Due → ℕ → ℕ → ℕ
 names_behind due names c =
     if begins_heading due c then 0 else if c == byte "=" then names + 1 else names
 
--- what begins behind a `[` or a comma is weighed and counted
+-- a value of a list, or a name behind a comma, is weighed and counted where a byte begins one
 abbrev pub with_item : Weighed → ℕ → Weighed
 with_item w c =
     if begins_item w.due c
@@ -127,7 +127,7 @@ with_item w c =
     }
     else w
 
--- it is weighed as a sign, and names are counted
+-- a byte is weighed as a sign, and names are counted
 abbrev pub with_sign : Weighed → ℕ → Weighed
 with_sign w c =
     record w {
@@ -146,7 +146,7 @@ opened w =
     then record w { counts = no_counts; around = w.around ++ w.counts ∷ [] }
     else record w { counts = no_counts; weight = w.weight + (heaviest + 1) }
 
--- it is closed, and the last one around it goes on
+-- a list or an inline table is closed, and the counts of the one around it go on
 abbrev pub closed : Weighed → Weighed
 closed w =
     let outer = length w.around - 1 in

@@ -12,18 +12,18 @@ use Rattle.eg_toml.specs.Weight.{weighed_on, unweighed, weight_of}
 abbrev pub StandsOutside : List ℕ → ℕ → Type 0
 StandsOutside front c = settled (fold weighed_on unweighed front).place c ≡ Outside
 
--- a document weighs as much without a comment
+-- a document weighs the same without a comment
 abbrev pub CommentsWeighNothing : Type 0
 CommentsWeighNothing =
     (front comment rest : List ℕ) → StandsOutside front (byte "#") → StandsOutside front (byte "\n")
     → list_all (λ c. not (c == byte "\n")) comment ≡ true
     → weight_of (front ++ (byte "#" ∷ comment ++ byte "\n" ∷ rest)) ≡ weight_of (front ++ byte "\n" ∷ rest)
 
--- it stands for itself in a text of one line
+-- a byte stands for itself in a text of one line
 abbrev pub is_plain : ℕ → ℕ → Bool
 is_plain delimiter c = not (c == delimiter) && not (c == byte "\\")
 
--- a document weighs as much with another text in its place, where neither is empty
+-- a document weighs the same with another text of one line in the place of one, where neither is empty
 abbrev pub TextsWeighNothing : Type 0
 TextsWeighNothing =
     (delimiter a b : ℕ) (front text other rest : List ℕ) → is_delimiter delimiter ≡ true

@@ -33,7 +33,7 @@ impl Numbers {
     }
 }
 
-/// The items of an array of `least` to `most` items, or None where a value isn't one.
+/// The items of an array of `least` to `most` items, or None where the value isn't such an array.
 pub fn items_in(value: &Value, least: usize, most: usize) -> Option<&[Value]>
     ensures items { option_map (λ s. items_view s.now) result ≡ items_in least most (view value.now) }
     ensures count { IfSome result (λ s. (least ≤ length s.now) × (length s.now ≤ most)) }
@@ -45,7 +45,8 @@ pub fn items_in(value: &Value, least: usize, most: usize) -> Option<&[Value]>
     Some(items)
 }
 
-/// The numbers of an array of `least` to `most` numbers, each 0 to `high`, or None where a value isn't one.
+/// The numbers of an array of `least` to `most` numbers, each 0 to `high`, or None where the value isn't such
+/// an array.
 pub fn numbers_in(value: &Value, least: usize, most: usize, high: u16) -> Option<Numbers>
     requires { most ≤ 256 }
     ensures numbers { result ≡ numbers_in least most high (view value.now) }
@@ -61,7 +62,7 @@ pub fn numbers_in(value: &Value, least: usize, most: usize, high: u16) -> Option
 }
 
 /// The numbers, row by row, of an array of `tall` rows, each of `wide` numbers from 0 to `high`, or None
-/// where a value isn't one.
+/// where the value isn't such an array.
 pub fn rows_in(value: &Value, tall: usize, wide: usize, high: u16) -> Option<Numbers>
     requires tall { tall ≤ 16 }
     requires wide { wide ≤ 16 }
@@ -83,7 +84,7 @@ fn is_within(count: usize, least: usize, most: usize) -> bool
     least <= count && count <= most
 }
 
-/// Appends the items, where each is a number up to `high`, and answers false where one isn't.
+/// Appends the numbers that the items are. Answers false where an item isn't a number from 0 to `high`.
 fn push_numbers(items: &[Value], high: u16, found: &mut ArrayVec<u16, 256>) -> bool
     requires { array_vec_len found.old + length items.now ≤ 256 }
     ensures read { HasRead (all_numbers high (items_view items.now)) found.old.items found.new.items result }
@@ -98,8 +99,7 @@ fn push_numbers(items: &[Value], high: u16, found: &mut ArrayVec<u16, 256>) -> b
     true
 }
 
-/// Appends the numbers of the rows, where each row has `wide` of them up to `high`, and answers false where
-/// one hasn't.
+/// Appends the numbers of the rows. Answers false where a row isn't `wide` numbers from 0 to `high`.
 fn push_rows(rows: &[Value], wide: usize, high: u16, found: &mut ArrayVec<u16, 256>) -> bool
     requires wide { wide ≤ 16 }
     requires room { array_vec_len found.old + length rows.now * wide ≤ 256 }

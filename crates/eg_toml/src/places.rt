@@ -25,7 +25,8 @@ pub enum Place {
 }
 
 impl Place {
-    /// The place as this byte comes: behind a text that another delimiter would have gone on with, outside.
+    /// The place at which this byte stands. Where it isn't the delimiter, it stands outside behind the two
+    /// delimiters of an empty text, and behind three or more that end a text of several lines.
     #[inline]
     pub(crate) fn settled(self, byte: u8) -> Place
         ensures { result ≡ spec.settled self byte }

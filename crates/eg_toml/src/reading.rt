@@ -13,12 +13,12 @@ use toml::Table;
 pub enum DocumentFault {
     /// There was no memory for the document.
     Memory,
-    /// They are no TOML document: they weigh too much to be read, aren't UTF-8, or break a rule of TOML.
+    /// The bytes are no TOML document: they weigh too much to be read, aren't UTF-8, or break a rule of TOML.
     Text,
 }
 
-/// The document that a file's bytes are (docs/FORMATS.md, "Calibration files"). It answers Text exactly where
-/// they are no document, unless memory runs out, which may be at any bytes.
+/// The document that a file's bytes are (docs/FORMATS.md, "Calibration files"). Text is answered exactly
+/// where the bytes are no document, unless memory runs out, which may happen for any bytes.
 pub fn read_document(alloc: Global, bytes: &[u8]) -> Result<Table, DocumentFault>
     ensures read { IfOk result (λ t. document_of bytes.now ≡ Some (table_view t)) }
     ensures refused { result ≡ Err fault.Text → document_of bytes.now ≡ None }

@@ -13,7 +13,7 @@ pub fn member<'a>(table: &'a Table, name: &str) -> Option<&'a Value>
     table.get(name)
 }
 
-/// The table under a name of a table, or None where there is nothing or something else.
+/// The table under a name of a table, or None where no table stands there.
 pub fn table_at<'a>(table: &'a Table, name: &str) -> Option<&'a Table>
     ensures { option_map (λ t. table_view t.now) result ≡ table_at name.now (table_view table.now) }
 {
@@ -33,8 +33,7 @@ pub fn number_in(value: &Value, low: u16, high: u16) -> Option<u16>
     }
 }
 
-/// The number under a name of a table, or None where there is nothing or something else than a TOML integer
-/// from `low` to `high`.
+/// The number under a name of a table, or None where no TOML integer from `low` to `high` stands there.
 pub fn number_at(table: &Table, name: &str, low: u16, high: u16) -> Option<u16>
     ensures number { result ≡ number_at low high name.now (table_view table.now) }
     ensures within { IfSome result (λ n. (low ≤ n) × (n ≤ high)) }

@@ -22,9 +22,9 @@ pub enum Due {
 /// What stands in a list or an inline table, or behind a heading (docs/FORMATS.md, "What a document weighs").
 #[derive(Clone, Copy, Default)]
 pub struct Counts {
-    /// How many values of the list.
+    /// How many values the list has so far.
     pub values: u64,
-    /// How many names of the table.
+    /// How many names the table has so far.
     pub names: u64,
 }
 
@@ -40,18 +40,22 @@ const HEAVIEST: u128 = 55_000_000;
 /// How many lists and inline tables may stand in one another.
 const MOST_OPEN: usize = 80;
 
-/// What a heading weighs, a table, and a text that is a value.
+/// What a heading weighs.
 const HEADING: u128 = 1480;
 
+/// What a table weighs: a `{`, or a name with a `.` behind it.
 const TABLE: u128 = 1296;
 
+/// What a text weighs that is a value.
 const TEXT: u128 = 32;
 
-/// For how many names a table has room at first, what one of these weighs, and what one behind them.
+/// How many names a table has room for at first.
 const FIRST_NAMES: u64 = 15;
 
+/// What each of these names weighs.
 const NAME: u128 = 32;
 
+/// What each further name weighs.
 const NAME_MORE: u128 = 27_000;
 
 /// What is known behind some bytes of a document. Contracts see a `Weighed`.
@@ -106,7 +110,7 @@ impl Scale {
         }
     }
 
-    /// One byte more.
+    /// Weighs one byte more.
     #[inline]
     fn put(&mut self, byte: u8)
         requires small { self.old.weight ≤ spec.heaviest }
@@ -121,7 +125,7 @@ impl Scale {
         self.place = place.behind(byte);
     }
 
-    /// One byte more, outside of comments and texts.
+    /// Weighs one byte more, which stands outside of comments and texts.
     fn put_outside(&mut self, byte: u8)
         requires small { self.old.weight ≤ spec.heaviest }
         requires values { self.old.counts.values + 1 < 2 ^ 64 }
@@ -134,7 +138,7 @@ impl Scale {
         self.due = self.due.behind(byte);
     }
 
-    /// It may begin a value of a list.
+    /// Weighs and counts a value of a list, where the byte begins one.
     fn put_item(&mut self, byte: u8)
         requires small { self.old.weight ≤ spec.heaviest }
         requires values { self.old.counts.values + 1 < 2 ^ 64 }
@@ -146,7 +150,7 @@ impl Scale {
         }
     }
 
-    /// It may be a sign, and count names.
+    /// Weighs the byte as a sign, and counts names.
     fn put_sign(&mut self, byte: u8)
         requires small { self.old.weight < 2 ^ 80 }
         requires names { self.old.counts.names + 1 < 2 ^ 64 }
@@ -156,7 +160,7 @@ impl Scale {
         self.counts.names = names_behind(self.due, self.counts.names, byte);
     }
 
-    /// It may open or close a list or an inline table.
+    /// Opens or closes a list or an inline table, where the byte does.
     fn put_bracket(&mut self, byte: u8)
         requires { self.old.weight < 2 ^ 81 }
         ensures { self.new ≡ spec.with_lists self.old byte }
@@ -252,7 +256,7 @@ fn is_closing(byte: u8) -> bool
     byte == b']' || byte == b'}'
 }
 
-/// What a byte weighs as a sign, behind so many names.
+/// What a byte weighs as a sign, behind this many names of its table.
 #[inline]
 fn sign_weight(due: Due, names: u64, byte: u8) -> u128
     ensures { result ≡ spec.sign_weight due names byte }
@@ -281,7 +285,7 @@ fn names_behind(due: Due, names: u64, byte: u8) -> u64
     }
 }
 
-/// What a value of a list weighs behind so many others.
+/// What a value of a list weighs behind this many others of the list.
 #[inline]
 fn value_weight(values: u64) -> u128
     ensures { result ≡ spec.value_weight values }

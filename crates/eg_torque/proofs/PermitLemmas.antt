@@ -10,7 +10,7 @@ pub grid_at-rises : (g : Grid) → IsGrid g → DoesNotFall g → (p q column : 
 grid_at-rises g ok rows p q column h =
     value_at-rises g.rows (row_at g column) p q ok.0.2 (λ i below. value_at-under g.columns (cell g i) (cell g (i + 1)) column (λ j within. rows i j below within)) h
 
--- so the permitted torque doesn't fall with the pedal or with the raise
+-- so the permitted torque doesn't fall where the pedal or the raise rises
 pub permitted-rises : PermitRises
 unfolding permitted
 permitted-rises g ok rows p q a b r s h k = limits _ _ _ _ r s (grid_at-rises g ok rows p q a h) (grid_at-rises g ok rows p q b h) k

@@ -7,8 +7,8 @@ use eg_num::Table2;
 use std::marker::Model;
 
 /// The permit table (docs/CONCEPT.md, "Torque"): the torque that is permitted, in tenths of Nm, at a pedal
-/// (its rows, per mille) and a speed (its columns, rpm). It doesn't fall along the pedal, at any
-/// point of the speed. Contracts see its `Grid`.
+/// (its rows, per mille) and a speed (its columns, rpm). At no speed point does the torque fall as the pedal
+/// rises. Contracts see its `Grid`.
 #[derive(Drop)]
 pub struct Permit {
     table: Table2,

@@ -7,9 +7,9 @@ ghost use Rattle.eg_torque.specs.Excess.{is_excess};
 /// torque of a load of 1000 (docs/CONCEPT.md, "Torque"). It is rounded up, and is at most 65,535.
 pub fn actual(load: u16, kt: u16) -> u16
     ensures value { result ≡ estimate kt load }
-    // Below its limit the estimate isn't less than the torque of the load,
+    // Below 65,535 the estimate covers the torque of the load.
     ensures covers { result < 65535 → load * kt ≤ 1000 * result }
-    // and no smaller number covers that torque.
+    // No smaller number covers that torque.
     ensures least { (n : ℕ) → load * kt ≤ 1000 * n → result ≤ n }
 {
     let torque = (u32::from(load) * u32::from(kt)).div_ceil(1000);
