@@ -21,12 +21,12 @@ pub record Encoded : Type 0 where
   pub word : ℕ
   pub jump : Option (ℕ × Value)
 
--- a distance, where those past 65,536 either way are told as such ones
+-- a distance, cut at 65,536 either way
 unfoldable pub capped : ℤ → ℤ
 capped (pos n) = pos (min 65536 n)
 capped (negsuc n) = negsuc (min 65535 n)
 
--- a target, where its distance is told so
+-- a target, its distance cut likewise
 unfoldable pub capped_target : Value → Value
 capped_target (Distance d) = Distance (capped d)
 capped_target value = value
@@ -79,7 +79,7 @@ told (item.Label name) = Label name
 told (item.Instruction mnemonic values) =
     option_map_or (λ form. Instruction (encoded form values)) (form_named mnemonic) Nothing
 
--- what a line tells, where there is room for it behind so many words
+-- what a line tells, where there is room for it behind this many words
 unfoldable pub told_with_room : ℕ → Told → Option Told
 told_with_room words (Instruction e) = if words == MOST_WORDS then None else Some (Instruction e)
 told_with_room words tells = Some tells

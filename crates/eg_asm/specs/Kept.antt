@@ -20,7 +20,7 @@ unfoldable pub numbered : ℕ → Told → Option (ℕ × Encoded)
 numbered number (tells.Instruction e) = Some (number, e)
 numbered number _ = None
 
--- the instructions among items, the line of the first of which has this number
+-- the instructions among items; the line of the first item has this number
 unfoldable pub instructions_from : ℕ → List Item → List (ℕ × Encoded)
 instructions_from number [] = []
 instructions_from number (item ∷ items) =
@@ -56,21 +56,21 @@ HasForm _ = Unit {0}
 abbrev pub placed_shown : Placed → ℕ × Encoded
 placed_shown placed = (placed.line, instruction_shown placed.instruction)
 
--- what is kept of these items is this
+-- the source holds what is kept of these items
 abbrev pub Holds : Source → List Item → Type 0
 Holds source items =
     Keeps (λ (name : Bor (List ℕ)). name.now) items (map placed_shown source.instructions.items)
     (get (λ x y. slice_cmp nat_cmp x.now y.now) source.labels) source.repeated
 
--- Where the old source is kept of some items, the new one is kept of these and one more, whose line has
--- this number and tells this.
+-- Where the old source holds what is kept of some items, the new one holds what is kept of these and of one
+-- more, whose line has this number and tells this.
 abbrev pub Adds : ℕ → Told → Source → Source → Type 0
 Adds line tells old new =
     (items : List Item) (item : Item) → HasForm item → told item ≡ tells → line ≡ length items + 1
     → Holds old items → Holds new (items ++ item ∷ [])
 
--- Where the old source is kept of some items, the new one is kept of these and of the item that the line of
--- this number says.
+-- Where the old source holds what is kept of some items, the new one holds what is kept of these and of the
+-- item that the line of this number says.
 abbrev pub ReadsMore : ℕ → List ℕ → Source → Source → Type 0
 ReadsMore number line old new =
     (items : List Item) → number ≡ length items + 1 → Holds old items

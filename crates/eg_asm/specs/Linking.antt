@@ -21,7 +21,8 @@ jump_field labels address (Some (reach, target)) =
 unfoldable pub completed : Labels → ℕ → Encoded → Option ℕ
 completed labels address e = option_map (λ field. e.word + field) (jump_field labels address e.jump)
 
--- the line of the first instruction without a word, of those from this address on
+-- the line of the first instruction from this address on that has no word, since its target is missing or out
+-- of range
 unfoldable pub unresolved : Labels → ℕ → List (ℕ × Encoded) → Option ℕ
 unresolved labels address [] = None
 unresolved labels address (i ∷ is) =

@@ -31,7 +31,7 @@ is_numeral text =
 unfoldable pub numeral_in : List ℕ → Option ℕ
 numeral_in text = if is_numeral text then Some (decimal_value text) else None
 
--- a number that is at most so much
+-- a number, where it is at most `most`
 abbrev pub at_most : ℕ → ℕ → Option ℕ
 at_most most n = if nat_le n most then Some n else None
 
@@ -82,7 +82,7 @@ values_of (operand ∷ operands) (text ∷ texts) =
 abbrev pub is_byte : ℕ → ℕ → Bool
 is_byte wanted b = b == wanted
 
--- what stands behind the first such byte, where there is one
+-- what stands behind the first byte that is this one, where there is one
 unfoldable pub behind_first : ℕ → List ℕ → Option (List ℕ)
 behind_first wanted text =
     if nat_lt (position_or_len (is_byte wanted) text) (length text)
@@ -107,7 +107,7 @@ instruction_in text =
     (values_of form.operands (texts_in (behind_first (byte " ") text))))
     (form_named (before_first (is_byte (byte " ")) text))
 
--- what a text says that is neither empty nor a comment, where this stands before a colon at its end
+-- what a text says that is neither empty nor a comment, by what stands before a colon at its end, if anything
 unfoldable pub labelled : List ℕ → Option (List ℕ) → Option Item
 labelled text (Some name) = if is_name name then Some (Label name) else None
 labelled text None = instruction_in text
@@ -125,15 +125,15 @@ item_in line = option_and_then item_of_text (before_last_byte (byte "\n") line)
 
 -- ---- sources ----
 
--- an item, where there is room for it behind so many words
+-- an item, where there is room for it behind this many words
 abbrev pub with_room : ℕ → Item → Option Item
 with_room words item = if nat_le (words + size item) MOST_WORDS then Some item else None
 
--- what a line says that may come behind so many words
+-- what a line says, where it may come behind this many words
 unfoldable pub item_behind : ℕ → Line → Option Item
 item_behind words line = option_and_then (with_room words) (item_in line)
 
--- why the line of this number may not come behind so many words
+-- why the line of this number may not come behind this many words
 unfoldable pub refusal : ℕ → ℕ → AsmFault
 refusal words number = if words == MOST_WORDS then fault.Long else fault.Line number
 
@@ -144,7 +144,7 @@ item_before e None read = Err e
 item_before e (Some item) (Ok items) = Ok (item ∷ items)
 item_before e (Some item) (Err later) = Err later
 
--- what lines say, the first of which has this number, behind so many words
+-- what lines say behind this many words; the first line has this number
 unfoldable pub items_from : ℕ → ℕ → List Line → Result (List Item) AsmFault
 items_from words number [] = Ok []
 items_from words number (line ∷ lines) =
@@ -165,7 +165,7 @@ words_read (Err e) = Err e
 unfoldable pub assembled : List ℕ → Result (List ℕ) AsmFault
 assembled source = words_read (items_from 0 1 (lines_of source))
 
--- the answer is that, unless memory ran out
+-- the answer is the expected one, unless memory ran out
 abbrev pub IsAssembled : Result (List ℕ) AsmFault → Result (Vec ℕ Global) AsmFault → Type 0
 IsAssembled expected (Ok words) = expected ≡ Ok words.items
 IsAssembled expected (Err e) = (e ≡ fault.Memory) ⊎ (expected ≡ Err e)

@@ -14,7 +14,7 @@ pub record IsSourceOf (source words : List ℕ) : Type 0 where
   pub sound : first_fault items ≡ None
   pub words_are : words ≡ words_of items
 
--- the text goes on, and its next line isn't one of such an item
+-- the text goes on, and its next line isn't the line of an item that may come
 pub record GoesWrong (may_come : Item → Type 0) (text : List ℕ) : Type 0 where
   pub more : text ≢ []
   pub wrong : (line rest : List ℕ) (item : Item) → text ≡ line ++ rest → IsLineOf line item

@@ -15,7 +15,7 @@ unfoldable pub size : Item → ℕ
 size (Instruction mnemonic values) = 1
 size _ = 0
 
--- how many words items are: so many instructions are among them
+-- how many words items are: as many as there are instructions among them
 unfoldable pub word_count : List Item → ℕ
 word_count [] = 0
 word_count (item ∷ items) = size item + word_count items
@@ -39,7 +39,7 @@ address_of labels name = lookup (bytes_eq name) labels
 
 -- ---- words ----
 
--- a distance as two's complement, where it is not below -reach, and below reach
+-- a distance as two's complement, where it is at least -reach and below reach
 unfoldable pub complement_of : ℕ → ℤ → Option ℕ
 complement_of reach (pos n) = if nat_lt n reach then Some n else None
 complement_of reach (negsuc n) = if nat_lt n reach then Some (2 * reach - (n + 1)) else None
@@ -52,7 +52,7 @@ distance_to labels address (Name name) =
 distance_to labels address (Distance d) = Some d
 distance_to labels address _ = None
 
--- what an operand adds to the word at this address; nothing where its target isn't there or out of range
+-- what an operand adds to the word at this address; none where its target is missing or out of range
 unfoldable pub field_of : Labels → ℕ → Operand → Value → Option ℕ
 field_of labels address (operand.Register weight) (Register n) = Some (n * weight)
 field_of labels address (operand.Number most) (Number n) = Some n
@@ -60,7 +60,7 @@ field_of labels address (operand.Target reach) value =
     option_and_then (complement_of reach) (distance_to labels address value)
 field_of labels address _ _ = None
 
--- a sum, where there are both of its parts
+-- the sum of two numbers, where both are there
 abbrev pub added : Option ℕ → Option ℕ → Option ℕ
 added (Some m) (Some n) = Some (m + n)
 added _ _ = None
@@ -97,8 +97,8 @@ words_of items = words_from (labels_of items) 0 items
 
 -- ---- faults ----
 
--- Whether an item that stands behind others is without fault: a label isn't repeated, and the targets of an
--- instruction are there and in range.
+-- Whether an item that stands behind others is without fault: a label stands for the first time, and the
+-- target of an instruction, if it has one, is there and in range.
 unfoldable pub is_sound : Labels → List Item → Item → Bool
 is_sound labels before (Label name) = is_none (address_of (labels_of before) name)
 is_sound labels before (Instruction mnemonic values) =

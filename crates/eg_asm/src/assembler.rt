@@ -26,7 +26,7 @@ pub fn assemble(alloc: Global, bytes: &[u8]) -> Result<Vec<u16>, AsmFault>
     read_source(alloc, bytes)?.link(alloc)
 }
 
-/// What is kept of the lines of a source, or why one of them may not come.
+/// What is kept of the lines of a source, or why the first line that may not come is refused.
 fn read_source(alloc: Global, bytes: &[u8]) -> Result<Source<'_>, AsmFault>
     requires { length bytes.now ≤ 4194304 }
     ensures kept { IfOk result (λ source. (items : List Item)
@@ -42,8 +42,8 @@ fn read_source(alloc: Global, bytes: &[u8]) -> Result<Source<'_>, AsmFault>
     Ok(source)
 }
 
-/// What `assemble` says of a source is all that there is to say (docs/FORMATS.md, "Sources"): each source has
-/// one answer, which is found by reading its lines. The source of an image has the image's words as its
+/// Does nothing when it runs. Its clauses are laws (docs/FORMATS.md, "Sources"): each source has one answer,
+/// words or a fault, and reading its lines finds it. The source of an image has the image's words as its
 /// answer.
 pub fn sources_have_one_answer()
     ensures one { (source : List ℕ) (one other : Result (List ℕ) AsmFault) →
@@ -54,8 +54,8 @@ pub fn sources_have_one_answer()
         Assembles (source_text words) answer → answer ≡ Ok words }
 {}
 
-/// What the machine makes of a source (docs/FORMATS.md, "Sources"): it reads the word of an instruction as
-/// what the instruction means. `word` gives the word that it has.
+/// Does nothing when it runs. Its clauses are laws (docs/FORMATS.md, "Sources"): the machine reads the word
+/// of an instruction as what the instruction means, and the word of `word N` is N.
 pub fn words_mean_their_instructions()
     ensures meant { (labels : Labels) (address word : ℕ) (mnemonic : List ℕ) (values : List Value) →
         mnemonic ≢ codes "word" → IsItem (Instruction mnemonic values) →

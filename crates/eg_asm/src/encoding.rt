@@ -9,8 +9,7 @@ ghost use Rattle.eg_asm.specs.Reading.{at_most, negative, numeral_in, register_i
 use crate::Operand;
 use crate::numeral::numeral;
 
-/// Where a jump goes: to a label, or by a distance in words. A distance of more than 65,536 words either way
-/// is told as one of 65,536.
+/// Where a jump goes: to a label, or by a distance in words, which is cut at 65,536 words either way.
 #[derive(Clone, Copy)]
 pub(crate) enum Target<'a> {
     Label(&'a [u8]),
@@ -32,7 +31,7 @@ pub(crate) struct Encoding<'a> {
 }
 
 impl<'a> Encoding<'a> {
-    /// This with one operand more, the one that a text writes.
+    /// This encoding with one operand more, which the text writes.
     #[tactic(auto, unfolding(crate::specs::Encodings::with_operand, crate::specs::Reading::value_of))]
     pub(crate) fn with(self, operand: Operand, text: &'a [u8]) -> Option<Encoding<'a>>
         requires { self.word < 2 ^ 24 }
@@ -83,8 +82,7 @@ fn target_in(text: &[u8]) -> Option<Target<'_>>
     Some(Target::Distance(integer_in(text)?))
 }
 
-/// The number that a numeral with or without a sign writes, where 65,536 stands for those past it, either
-/// way.
+/// The number that a numeral with or without a sign writes, cut at 65,536 either way.
 #[tactic(auto, unfolding(crate::specs::Reading::integer_in, crate::specs::Encodings::capped))]
 fn integer_in(text: &[u8]) -> Option<i32>
     ensures { result ≡ option_map capped (integer_in text.now) }
@@ -106,7 +104,7 @@ fn negative(magnitude: u32) -> Option<i32>
     Some(-(magnitude as i32))
 }
 
-/// The number of at most so much that a numeral writes.
+/// The number that a numeral writes, where it is at most `most`.
 fn number(text: &[u8], most: u16) -> Option<u32>
     ensures shown { result ≡ option_and_then (at_most most) (numeral_in text.now) }
     ensures few { IfSome result (λ n. n ≤ most) }

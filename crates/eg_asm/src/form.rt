@@ -15,8 +15,7 @@ pub(crate) struct FormRow {
 }
 
 impl FormRow {
-    /// Whether a word is of the form: it has no other bits than the form and what stands in its operands'
-    /// places.
+    /// Whether a word is of the form: it has no bits but those of the form and those in the operands' places.
     pub(crate) fn is_of(&self, word: u16) -> bool
         requires { are_usable self.now.operands.now ≡ true }
         ensures { result ≡ is_of word (form_in self.now) }

@@ -4,8 +4,8 @@ ghost use Rattle.eg_asm.specs.Room.{room_of};
 
 use crate::encoding::Jump;
 
-/// An instruction as its line has it: its word without the target, which has room for it, and the target, if
-/// it has one.
+/// An instruction as its line has it: its word without the target, in which there is room for the target, and
+/// the target, if it has one.
 #[derive(Clone, Copy)]
 pub(crate) struct Instruction<'a> {
     pub(crate) word: u16,

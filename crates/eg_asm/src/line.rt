@@ -20,7 +20,7 @@ pub(crate) enum Line<'a> {
     Instruction(Instruction<'a>),
 }
 
-/// What a line tells, its line feed with it, or None where it isn't of the grammar (docs/FORMATS.md,
+/// What a line, including its line feed, tells, or None where it isn't of the grammar (docs/FORMATS.md,
 /// "Sources").
 #[tactic(auto, unfolding(crate::specs::Reading::item_in))]
 pub(crate) fn read_line(line: &[u8]) -> Option<Line<'_>>
@@ -40,7 +40,8 @@ fn read_text(text: &[u8]) -> Option<Line<'_>>
     }
 }
 
-/// What a text tells that is neither empty nor a comment, where this stands before a colon at its end.
+/// What a text tells that is neither empty nor a comment. `name` is what stands before a colon at the end of
+/// the text, if it ends with one.
 #[tactic(auto, unfolding(crate::specs::Reading::labelled, crate::specs::Encodings::told))]
 fn read_labelled<'a>(text: &'a [u8], name: Option<&'a [u8]>) -> Option<Line<'a>>
     ensures { option_map line_shown result ≡ option_map told (labelled text.now (option_copied name.entry)) }
@@ -71,8 +72,8 @@ fn read_instruction(text: &[u8]) -> Option<Instruction<'_>>
     })
 }
 
-/// The instruction of a form whose operands stand in a text, between commas, or that has none where there is
-/// no text.
+/// The instruction of a form whose operands stand in the text, between commas; it has no operands where there
+/// is no text.
 fn read_operands<'a>(form: &FormRow, text: Option<&'a [u8]>) -> Option<Encoding<'a>>
     requires { length form.now.operands.now ≤ 3 }
     ensures { option_map encoding_shown result

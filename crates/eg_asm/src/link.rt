@@ -15,7 +15,7 @@ use eg_input::MOST_WORDS;
 use std::alloc::Global;
 
 impl<'a> Source<'a> {
-    /// The words of the source, or the first line that repeats a label or whose target isn't there or out of
+    /// The words of the source, or the first line that repeats a label, or whose target is missing or out of
     /// range.
     pub(crate) fn link(&self, alloc: Global) -> Result<Vec<u16>, AsmFault>
         requires { vec_len self.now.instructions ≤ MOST_WORDS }
@@ -68,7 +68,7 @@ impl<'a> Source<'a> {
         }
     }
 
-    /// Where a label is, if it is anywhere.
+    /// The address of a label, if the source has the label.
     fn address_of(&self, name: &'a [u8]) -> Option<u16>
         ensures { (labels : Labels) → HasLabels self.now.labels labels →
             result ≡ address_of labels name.now }
@@ -86,7 +86,7 @@ fn behind(at: u16, address: usize) -> i32
     i32::from(at) - (address as i32 + 1)
 }
 
-/// A distance as two's complement, where it isn't below `-reach`, and below `reach`.
+/// A distance as two's complement, where it is at least `-reach` and below `reach`.
 #[tactic(auto, using(std::proofs::lemmas::Int::ints), unfolding(crate::specs::Words::complement_of))]
 fn complement_of(distance: i32, reach: u16) -> Option<u32>
     ensures value { result ≡ complement_of reach distance }
@@ -103,7 +103,7 @@ fn complement_of(distance: i32, reach: u16) -> Option<u32>
     }
 }
 
-/// The lower of two numbers of lines, of which one may not be there.
+/// The lower of two numbers of lines, the second of which may be missing.
 #[tactic(auto, unfolding(crate::specs::Linking::earlier))]
 fn earlier(number: u32, other: Option<u32>) -> u32
     ensures { Some result ≡ earlier (Some number) other }

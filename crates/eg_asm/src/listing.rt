@@ -19,8 +19,8 @@ use eg_input::MOST_WORDS;
 use itoa::Buffer;
 use std::alloc::Global;
 
-/// The source that words are written as (docs/FORMATS.md, "Sources"): a line for each of them, of up to 14
-/// bytes. It is a source of the same words.
+/// The source that words are written as (docs/FORMATS.md, "Sources"): a line of up to 14 bytes for each word.
+/// Assembled, it gives the same words. Refused only where memory runs out.
 pub fn disassemble(alloc: Global, words: &[u16]) -> Result<Vec<u8>, NoMemory>
     requires { length words.now ≤ MOST_WORDS }
     ensures text { IfOk result (λ text. text.items ≡ source_text words.now) }
@@ -34,8 +34,8 @@ pub fn disassemble(alloc: Global, words: &[u16]) -> Result<Vec<u8>, NoMemory>
     Ok(text)
 }
 
-/// The image that words are written as (docs/FORMATS.md, "Images"): four hexadecimal digits a line. It is an
-/// image of the same words, where they aren't too many for one.
+/// The image that words are written as (docs/FORMATS.md, "Images"): four hexadecimal digits a line. Where
+/// they are at most 1,024, it is read as the same words. Refused only where memory runs out.
 pub fn image_text(alloc: Global, words: &[u16]) -> Result<Vec<u8>, NoMemory>
     ensures text { IfOk result (λ text. text.items ≡ image_text words.now) }
     ensures image { IfOk result (λ text. length words.now ≤ MOST_WORDS → IsImageOf text.items words.now) }

@@ -9,9 +9,9 @@ ghost use Rattle.eg_asm.specs.Listings.{value_in};
 pub enum Operand {
     /// A register, whose number is added with this weight.
     Register { weight: u16 },
-    /// A number of at most so much.
+    /// A number from 0 to `most`.
     Number { most: u16 },
-    /// Where a jump goes: a distance that isn't below `-reach`, and below `reach`, as two's complement.
+    /// Where a jump goes: a distance from `-reach` to `reach - 1`, as two's complement.
     Target { reach: u16 },
 }
 

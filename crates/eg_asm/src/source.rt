@@ -29,7 +29,7 @@ pub(crate) struct Source<'a> {
     pub(crate) repeated: Option<u32>,
 }
 
-/// What a line tells that may come behind so many instructions.
+/// What a line tells, where it may come behind this many instructions.
 fn line_behind(words: usize, line: &[u8]) -> Option<Line<'_>>
     requires { words ≤ MOST_WORDS }
     ensures { option_map line_shown result ≡ option_map told (item_behind words line.now) }
@@ -37,7 +37,7 @@ fn line_behind(words: usize, line: &[u8]) -> Option<Line<'_>>
     with_room(words, read_line(line)?)
 }
 
-/// What a line tells, where there is room for it behind so many instructions.
+/// What a line tells, where there is room for it behind this many instructions.
 #[tactic(auto, unfolding(crate::specs::Encodings::told_with_room))]
 fn with_room(words: usize, line: Line<'_>) -> Option<Line<'_>>
     ensures { option_map line_shown result ≡ told_with_room words (line_shown line.entry) }
@@ -48,7 +48,7 @@ fn with_room(words: usize, line: Line<'_>) -> Option<Line<'_>>
     }
 }
 
-/// Why the line of this number may not come behind so many instructions.
+/// Why the line of this number may not come behind this many instructions.
 #[tactic(auto, unfolding(crate::specs::Reading::refusal))]
 fn refusal(words: usize, number: u32) -> AsmFault
     ensures { result ≡ refusal words number }
@@ -61,7 +61,7 @@ fn refusal(words: usize, number: u32) -> AsmFault
 }
 
 impl<'a> Source<'a> {
-    /// What is kept of no line.
+    /// What is kept before the first line.
     pub(crate) fn new(alloc: Global) -> Source<'a>
         ensures { Holds result [] }
     {

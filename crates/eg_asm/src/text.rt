@@ -4,8 +4,8 @@ ghost use Rattle.std.specs.Option.{option_copied};
 ghost use Rattle.std.specs.List.{before_first};
 ghost use Rattle.eg_asm.specs.Reading.{is_byte, behind_first, before_last_byte};
 
-/// What stands before the first such byte of a text, or the whole text where it has none, and what stands
-/// behind that byte.
+/// What stands in a text before the first byte that is `byte`, or the whole text where there is none; and
+/// what stands behind that byte.
 #[tactic(auto, unfolding(crate::specs::Reading::behind_first))]
 pub(crate) fn cut(text: &[u8], byte: u8) -> (&[u8], Option<&[u8]>)
     ensures front { result.0.now ≡ before_first (is_byte byte) text.now }
@@ -17,7 +17,7 @@ pub(crate) fn cut(text: &[u8], byte: u8) -> (&[u8], Option<&[u8]>)
     }
 }
 
-/// The index of the first such byte.
+/// The index of the first byte that is `byte`.
 fn index_of(text: &[u8], byte: u8) -> Option<usize>
     ensures { result ≡ position (is_byte byte) text.now }
 {

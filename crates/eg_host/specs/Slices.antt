@@ -18,12 +18,12 @@ wake (Trapped trap) = Trapped trap
 abbrev pub slice_start : Registers → Registers
 slice_start m = record m { state = wake m.state }
 
--- the world after so many steps
+-- the world after this many steps
 unfoldable pub steps : ℕ → View → World → World
 steps zero view world = world
 steps (suc count) view world = steps count view (world_step view world)
 
--- the world after a slice: it is woken, and then does as many steps as the budget says
+-- the world after a slice: its machine is woken, and then does as many steps as the budget says
 abbrev pub world_slice : View → ℕ → World → World
 world_slice view budget world = steps budget view (record world { registers = slice_start world.registers })
 

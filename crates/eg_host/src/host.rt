@@ -28,8 +28,8 @@ impl Host {
         }
     }
 
-    /// Wakes a machine that waits, and then does at most as many steps as the budget says. NoMemory ends the
-    /// slice early.
+    /// A slice: wakes a machine that waits, and then does at most `budget` steps. NoMemory ends the slice
+    /// early; the steps before it stand (docs/CONCEPT.md, "Level 1").
     pub fn slice<M: Guarded>(&mut self, memory: &mut M, budget: u16) -> Result<(), NoMemory>
         ensures { IsSlice budget self.old.registers self.new.registers
             (M.shows memory.old) (M.shows memory.new) result }
@@ -37,7 +37,8 @@ impl Host {
         self.run(memory, None, budget)
     }
 
-    /// The same for a caller that has the program of the memory's code, so that no word is decoded.
+    /// A slice, as `slice` does it, for a caller that has the program of the memory's code: no word is
+    /// decoded.
     #[inline]
     pub fn slice_of<M: Guarded>(
         &mut self,
@@ -52,7 +53,7 @@ impl Host {
         self.run(memory, Some(program), budget)
     }
 
-    /// A slice with or without a program. It is compiled once for each of the two.
+    /// A slice with or without a program. It is inlined, so that it is compiled once for each of these.
     #[inline(always)]
     fn run<M: Guarded>(
         &mut self,
@@ -88,7 +89,7 @@ fn wake(state: State) -> State
     }
 }
 
-/// Whether a machine in that state does anything.
+/// Whether a machine in that state does instructions.
 fn is_running(state: State) -> bool
     ensures { IsTrue result ↔ (state ≡ Running) }
 {

@@ -1,8 +1,8 @@
 //! Level 1 in slices.
 //!
-//! Between two modules of level 2 level 1 runs for a slice: so many steps of its machine, over the guarded
-//! memory. Whatever its image is, a slice changes no word but level 1's own, and it is a slice of level 1's
-//! private world (`specs/Slices.antt`), which the model of a run is built on.
+//! Before each module of level 2, and after the last, level 1 runs for a slice: its machine does a limited
+//! number of steps over the guarded memory. Whatever the image is, a slice changes no word but level 1's own,
+//! and it is a slice of level 1's private world (`specs/Slices.antt`), on which the model of a run is built.
 #![tactic(auto)]
 
 mod host;

@@ -10,13 +10,13 @@ use Rattle.eg_pages.specs.declared.page.TheConstants.{PAGES, PAGE_WORDS}
 abbrev pub IsPage : List ℕ → Type 0
 IsPage words = length words ≡ PAGE_WORDS
 
--- 64 pages, which are together the words of a memory
+-- 64 pages, which together are the words of a memory
 pub record ArePages (pages : List (List ℕ)) : Type 0 where
   pub count : length pages ≡ PAGES
   pub each : All IsPage pages
   pub words : AreWords (concat pages)
 
--- pages as they are, whoever shares them
+-- the words of each page, whether or not other memories share it
 abbrev pub pages_of : {A : Type 0} → List (Rc (List ℕ) A) → List (List ℕ)
 pages_of shared = map rc_value shared
 

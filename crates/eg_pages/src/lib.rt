@@ -1,5 +1,6 @@
-//! A guarded memory in pages: a copy of it shares its pages, and a page is copied where it is written while
-//! it is shared. So a copy is meant to be cheap, and memories that differ little to share what is the same.
+//! A guarded memory in pages. A copy of a memory shares its pages, and a page is copied when it is written
+//! while it is shared. So a copy is meant to be cheap, and memories that differ little are meant to share
+//! what is the same.
 #![tactic(auto)]
 
 mod page;

@@ -83,8 +83,8 @@ pub(crate) fn put_at(
     put(page, alloc, usize::from(address % PAGE_WORDS), word)
 }
 
-/// Puts a word at an index of a page. Whoever shares the page keeps it as it was. NoMemory comes only where
-/// it is shared, and changes nothing.
+/// Puts a word at an index of a page. Memories that share the page keep it as it was. NoMemory changes
+/// nothing, and is meant to come only where the page is shared.
 #[inline]
 fn put(page: &mut SharedPage, alloc: Global, index: usize, word: u16) -> Result<(), NoMemory>
     requires { index < PAGE_WORDS }
@@ -98,7 +98,7 @@ fn put(page: &mut SharedPage, alloc: Global, index: usize, word: u16) -> Result<
     put_in_copy(page, alloc, index, word)
 }
 
-/// The same where the page is shared: a copy of it, with the word, takes its place.
+/// Puts a word at an index of a page that is shared: a copy of the page, with the word, takes its place.
 #[cold]
 #[inline(never)]
 fn put_in_copy(

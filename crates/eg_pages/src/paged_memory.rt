@@ -8,9 +8,9 @@ use eg_guard::{CopyMemory, FlatMemory, Guarded, Refused, StoreRefusal, WORDS, Wh
 use std::alloc::Global;
 use std::marker::Model;
 
-/// A guarded memory in pages of 64 words, which a copy is meant to share with it until one of the two is
-/// written. It isn't sure, since a store to a page that is shared takes memory for a page of its own. What is
-/// really shared no contract says (docs/CONCEPT.md, "Guarded memory").
+/// A guarded memory in pages of 64 words. A copy is meant to share a page with it until one of the two writes
+/// the page. It isn't sure, since a store to a shared page takes memory for a page of its own. No contract
+/// says what is really shared (docs/CONCEPT.md, "Guarded memory").
 ///
 /// Contracts see the list of its words.
 #[derive(Drop)]
@@ -31,7 +31,7 @@ impl Model for PagedMemory {
 }
 
 impl PagedMemory {
-    /// A memory of which every word is 0. NoMemory is its one refusal.
+    /// A memory of which every word is 0. Refused only where memory runs out.
     pub fn new(alloc: Global) -> Result<PagedMemory, NoMemory>
         ensures words { IfOk result (λ memory. memory ≡ replicate WORDS 0) }
         ensures shown { IfOk result (λ memory. ⟦<PagedMemory as Guarded>⟧.shows memory

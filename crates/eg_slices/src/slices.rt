@@ -41,7 +41,7 @@ impl Default for Slices {
 }
 
 impl Slices {
-    /// These nine slices, or None where they are more than 1,000 instructions in all.
+    /// These nine slices, or None where their instructions are more than 1,000 in all.
     pub fn new(budget: [u16; 9]) -> Option<Slices>
         ensures { SomeIff result (sum budget ≤ 1000) budget }
     {
@@ -51,7 +51,7 @@ impl Slices {
         Some(Slices { budget })
     }
 
-    /// The instructions of each slice.
+    /// How many instructions level 1 may do in each slice.
     pub fn budget(&self) -> [u16; 9]
         ensures budget { result ≡ self.now }
         ensures nine { length self.now ≡ 9 }
@@ -60,7 +60,7 @@ impl Slices {
         self.budget
     }
 
-    /// The instructions of one slice, 0 to 8.
+    /// How many instructions level 1 may do in one slice, 0 to 8.
     pub fn budget_of(&self, slice: u8) -> u16
         requires { slice < 9 }
         ensures budget { result ≡ slice_index self.now slice }
@@ -106,7 +106,7 @@ impl SlicePlan {
         Some(SlicePlan { rows })
     }
 
-    /// The row of a tick: the rows come in turn, and after the last one the first comes again.
+    /// The slices of a tick of the run: the rows come in turn, and after the last one the first comes again.
     pub fn row(&self, tick: u32) -> &Slices
         ensures row { result.now ≡ slice_index_or self.now (tick % length self.now) [] }
         ensures least { 1 ≤ length self.now }

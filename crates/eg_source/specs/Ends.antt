@@ -31,7 +31,7 @@ source_end (fault.Line n) = outcome.Refused (refusal.Source (fault.Line n))
 source_end (fault.Label n) = outcome.Refused (refusal.Source (fault.Label n))
 source_end fault.Long = outcome.Refused (refusal.Source fault.Long)
 
--- the file that `dis` reads is an image of no run
+-- the file that `dis` reads: an image that belongs to no run
 abbrev pub read_alone : Role
 read_alone = role.Image 0
 

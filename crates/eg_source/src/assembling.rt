@@ -13,8 +13,8 @@ use eg_base::{Items, Sink, Store};
 use eg_outcome::{Outcome, Refusal, Role, file_bytes, put_text};
 use std::alloc::Global;
 
-/// Does `asm FILE`, but for its note (docs/FORMATS.md, "Commands"): reads a source, and writes its image, a
-/// line for each word.
+/// Does the work of `asm FILE` (docs/FORMATS.md, "Commands"): reads a source, and writes its image, a line
+/// for each word. The note of a refusal is left to the caller.
 pub fn asm<S: Store, K: Sink>(alloc: Global, file: &str, store: &mut S, out: &mut K) -> Outcome
     ensures ends { AsmEnds file.now (S.shows store.old) (S.shows store.new)
         (K.shows out.old) (K.shows out.new) result }

@@ -14,8 +14,8 @@ use eg_base::{Items, Sink, Store};
 use eg_outcome::{Outcome, Role, file_bytes, image_in, put_text};
 use std::alloc::Global;
 
-/// Does `dis FILE`, but for its note (docs/FORMATS.md, "Commands"): reads an image, and writes its source, a
-/// line for each word.
+/// Does the work of `dis FILE` (docs/FORMATS.md, "Commands"): reads an image, and writes its source, a line
+/// for each word. The note of a refusal is left to the caller.
 pub fn dis<S: Store, K: Sink>(alloc: Global, file: &str, store: &mut S, out: &mut K) -> Outcome
     ensures ends { DisEnds file.now (S.shows store.old) (S.shows store.new)
         (K.shows out.old) (K.shows out.new) result }

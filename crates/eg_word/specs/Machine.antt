@@ -26,7 +26,7 @@ reg m a = slice_index m.r a
 unfoldable pub next : Registers → ℕ
 next m = (m.pc + 1) % 65536
 
--- the address that lies so far beyond the next instruction
+-- the address at this distance from the next instruction
 unfoldable pub beyond : Registers → ℤ → ℕ
 beyond m distance = (next m + cast_unsigned w16 distance) % 65536
 

@@ -1,4 +1,4 @@
--- Outside the headline. The program of some words: what a controller keeps decoded, and what stands in a
+-- Outside the headline. The program of some words: the unit keeps the code decoded, beside the words of the
 -- memory.
 use Rattle.std.specs.Prelude.{◌≡◌, ℕ, ◌<◌, List, length, slice_index, slice_index_or}
 use Rattle.eg_guard.specs.declared.regions.TheConstants.{DATA}

@@ -7,9 +7,9 @@ use crate::Register;
 
 /// An instruction of level 1's machine (docs/FORMATS.md, "Instructions").
 ///
-/// `r[a]` is the word in register `a`, and sums and products wrap. Where nothing else is said the next
-/// instruction follows. Distances `d` count from the next instruction. Numbers are as narrow as they can be,
-/// so that an instruction takes four bytes.
+/// `r[a]` is the word in register `a`, and sums, differences and products wrap. Where nothing else is said
+/// the next instruction follows. Distances `d` count from the next instruction. Numbers are as narrow as they
+/// can be, so that an instruction takes four bytes.
 #[derive(Clone, Copy)]
 pub enum Instruction {
     /// Does nothing.
@@ -77,7 +77,7 @@ pub enum Instruction {
         b: Register,
         n: u8,
     },
-    /// the word at the address `r[b] + n` is `r[a]`
+    /// the word at the address `r[b] + n` becomes `r[a]`
     St {
         a: Register,
         b: Register,
@@ -126,7 +126,8 @@ macro_rules! two_registers {
     };
 }
 
-/// The instruction that a word is (docs/FORMATS.md, "Instructions"). Bits that it doesn't use are ignored.
+/// The instruction that a word is read as (docs/FORMATS.md, "Instructions"). Bits that the instruction
+/// doesn't use are ignored.
 #[inline]
 #[tactic(auto, unfolding(crate::specs::Instructions::instruction_with))]
 pub fn decode(word: u16) -> Instruction

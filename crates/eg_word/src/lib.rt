@@ -1,9 +1,9 @@
 //! The machine that runs level 1: its instructions, and one step over a guarded memory.
 //!
-//! Level 1 is code that nobody trusts: any 1,024 words may be its image. A step is the table of instructions,
-//! and reaches memory through `Guarded` alone, so that it changes no word but level 1's own. A step over a
-//! guarded memory is a step of level 1's private world (`specs/World.antt`), on which the model of a run is
-//! built.
+//! Level 1 is code that nobody trusts: any words, up to 1,024 of them, may be its image. A step does what the
+//! table of instructions says, and reaches memory through `Guarded` alone, so that it changes no word but
+//! level 1's own. A step over a guarded memory is a step of level 1's private world (`specs/World.antt`), on
+//! which the model of a run is built.
 #![tactic(auto)]
 
 mod images;

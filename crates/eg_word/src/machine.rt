@@ -33,9 +33,9 @@ pub fn step<M: Guarded>(registers: &mut Registers, memory: &mut M) -> Result<(),
     advance(registers, memory)
 }
 
-/// One step of a machine that runs, as `step` does it, which also tells whether the machine runs on: whoever
-/// makes many steps needn't look at the state before each of them. Where the caller has the program of the
-/// memory's code no word is decoded.
+/// One step of a machine that runs, as `step` does it. It answers whether the machine runs on, so that a
+/// caller who makes many steps needn't look at the state before each. Where the caller hands over the program
+/// of the memory's code, no word is decoded.
 #[inline]
 #[tactic(auto, using(crate::proofs::StepLaws::step_laws))]
 pub fn step_on<M: Guarded>(
@@ -54,7 +54,7 @@ pub fn step_on<M: Guarded>(
     fetch(registers, memory, program)
 }
 
-/// A step by its table alone: does the instruction at `pc`, where the machine runs.
+/// `step`, said by the table of instructions alone: does the instruction at `pc`, where the machine runs.
 #[inline]
 #[tactic(auto, unfolding(crate::specs::Machine::step_in, crate::specs::Memory::load_from))]
 fn advance<M: Guarded>(registers: &mut Registers, memory: &mut M) -> Result<(), NoMemory>
@@ -88,7 +88,7 @@ fn fetch<M: Guarded>(
     }
 }
 
-/// The same by the program of the memory's code.
+/// `fetch` with the program of the memory's code.
 #[inline]
 #[tactic(auto, using(crate::proofs::ProgramLemmas::code_loaded), unfolding(crate::specs::Machine::step_in))]
 fn fetch_decoded<M: Guarded>(
@@ -109,7 +109,7 @@ fn fetch_decoded<M: Guarded>(
     execute(instruction, registers, memory)
 }
 
-/// The same by the word that stands in the memory.
+/// `fetch` without a program: decodes the word that stands in the memory.
 #[inline]
 #[tactic(auto, using(crate::proofs::ProgramLemmas::code_loaded), unfolding(crate::specs::Machine::step_in))]
 fn fetch_loaded<M: Guarded>(registers: &mut Registers, memory: &mut M) -> Result<bool, NoMemory>

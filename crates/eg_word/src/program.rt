@@ -51,8 +51,8 @@ impl Program {
         Program { code }
     }
 
-    /// The instruction at that address, by the program of this memory's code. Refused exactly outside the
-    /// code. It stays where it is, since it is read field by field.
+    /// The instruction at that address of this memory's code, of which this is the program. Refused exactly
+    /// outside the code. It is lent and not copied, since a step reads only some of its fields.
     #[inline]
     pub(crate) fn decoded_at<M: Guarded>(
         &self,

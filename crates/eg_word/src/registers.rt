@@ -6,10 +6,10 @@ ghost use Rattle.eg_word.specs.World.{new_registers};
 
 use crate::Register;
 
-/// Why level 1 was stopped (docs/FORMATS.md, "Instructions").
+/// Why level 1's machine was trapped (docs/FORMATS.md, "Instructions").
 #[derive(Clone, Copy, PartialEq, Eq)]
 pub enum Trap {
-    /// The next instruction would stand outside the code.
+    /// `pc` lies outside the code.
     Fetch,
     /// A load that isn't allowed.
     Load,
@@ -26,15 +26,15 @@ pub enum State {
     Running,
     /// It waits for its next slice.
     Waiting,
-    /// It was stopped, for the rest of the power cycle.
+    /// It was stopped, to the end of the span.
     Trapped(Trap),
 }
 
-/// The machine that runs level 1 (docs/CONCEPT.md, "Level 1"). Its memory is outside of it.
+/// The machine that runs level 1 (docs/CONCEPT.md, "Level 1"). Its memory isn't a part of it.
 #[derive(Clone, Copy, PartialEq, Eq)]
 pub struct Registers {
-    /// The address of the next instruction. It stands before the registers, so that the compiler sees that
-    /// writing to one doesn't change it.
+    /// The address of the instruction that is done next. The field stands before the registers, so that the
+    /// compiler sees that writing to a register doesn't change it.
     pub pc: u16,
     /// Whether it runs.
     pub state: State,
@@ -64,7 +64,7 @@ impl Registers {
         self.r[register.index()]
     }
 
-    /// The address of the next instruction.
+    /// The address behind that of the instruction at `pc`.
     #[inline]
     #[tactic(auto, unfolding(crate::specs::Machine::next))]
     pub(crate) fn next(&self) -> u16
@@ -73,7 +73,7 @@ impl Registers {
         self.pc.wrapping_add(1)
     }
 
-    /// Where an instruction stands that is so far beyond the next one.
+    /// The address at this distance from the next instruction.
     #[inline]
     #[tactic(auto, unfolding(crate::specs::Machine::beyond))]
     pub(crate) fn beyond(&self, distance: i16) -> u16
@@ -82,7 +82,7 @@ impl Registers {
         self.next().wrapping_add_signed(distance)
     }
 
-    /// Puts a word into a register, and goes to the next instruction. Like the functions below it tells
+    /// Puts a word into a register, and goes to the next instruction. This function and those below answer
     /// whether the machine runs on.
     #[inline]
     #[tactic(auto, unfolding(crate::specs::Machine::next))]
@@ -106,7 +106,8 @@ impl Registers {
         true
     }
 
-    /// Goes so far beyond the next instruction where the condition holds, else to the next one.
+    /// Goes to the address at this distance from the next instruction where the condition holds, else to the
+    /// next instruction.
     #[inline]
     pub(crate) fn jump_if(&mut self, condition: bool, distance: i16) -> bool
         ensures runs { result ≡ true }
