@@ -1,6 +1,5 @@
 -- Laws of one tick over truth values and numbers alone: what a word becomes, by whether a word is flipped,
--- whether
--- the module runs, and whether a trip stood before.
+-- whether the module runs, and whether a trip stood before.
 use Rattle.std.proofs.Common.{◌≡◌, ℕ, ◌≤◌, Bool, true, false, not, ◌||◌, ◌&&◌, List, ◌∷◌, refl, sym, ap, ◌∙◌, nat_lt}
 use Rattle.std.specs.Prelude.{if◌then◌else◌, ◌==◌, is_some, bit_xor, Some, None}
 use Rattle.std.proofs.lemmas.Bool.{true≢false, false≢true}
@@ -31,7 +30,7 @@ pub if-false : (runs test : Bool) → (if runs then test else false) ≡ (runs &
 if-false true test = refl
 if-false false test = refl
 
--- what has to run doesn't where it is stopped by a trip, or by a flip
+-- what a trip or a flip stops doesn't run
 pub stopped : (driven runs trip flip : Bool) → trip ≡ true → (driven && (runs && not trip && not flip)) ≡ false
 stopped false runs trip flip e = refl
 stopped true true true flip e = refl

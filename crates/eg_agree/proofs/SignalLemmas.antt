@@ -48,8 +48,7 @@ seen-list flip before now j w are =
     λ i. are.pedal i ∷ are.permitted i ∷ are.actual i ∷ are.excess i ∷ are.pairs i ∷ []
 
 -- The words that debounce changes, as they stand before it: as they stood before the tick, but for a flip,
--- at which
--- module 0 gives them up.
+-- at which module 0 gives them up.
 pub record AreUnfed (rules : Rules) (flip : Bool) (past : List Moment) (w : Words) : Type 0 where
   pub pedal : w.pedal_counter ≡ (if flip then 0 else counter_after rules.pair pedal_bit past)
   pub plate : w.plate_counter ≡ (if flip then 0 else counter_after rules.pair plate_bit past)

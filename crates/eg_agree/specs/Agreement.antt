@@ -20,7 +20,7 @@ WordsStand =
     (kind : SpanKind) (s : Setting) → IsAccepted s.cal → (begin : ℕ) (h : List Tick) →
     Follows s.fault begin h → KeepsWords s (words_over kind s h) (moments_in kind s h)
 
--- and after every one shorter than 65,536 ticks token, flow and last tick are what `KeepsFlow` says of it
+-- after every history shorter than 65,536 ticks, token, flow and last tick are what `KeepsFlow` says of it
 abbrev pub FlowStands : Type 0
 FlowStands =
     (kind : SpanKind) (s : Setting) → IsAccepted s.cal → (begin : ℕ) (h : List Tick) →
@@ -53,12 +53,12 @@ unfoldable pub last_check : List Tick → ℕ
 last_check [] = 65535
 last_check (x ∷ before) = if x.effects.ran CHECK then length before else last_check before
 
--- the word for the last tick is that, after every history
+-- after every history the word for the last tick is the last tick at which module 0 ran
 abbrev pub LastChecksStand : Type 0
 LastChecksStand =
     (kind : SpanKind) (s : Setting) (h : List Tick) → (words_over kind s h).last ≡ last_check h
 
--- and a tick makes it so, whatever the words are
+-- and one tick sets it so, or leaves it where module 0 doesn't run, whatever the words are
 abbrev pub LastCheckIsKept : Type 0
 LastCheckIsKept =
     (kind : SpanKind) (s : Setting) (x : Tick) (h : List Tick) (words : Words) →

@@ -18,7 +18,7 @@ phase_at kind times x tick =
     then (if sends_at x times tick then Send else Quiet)
     else (if is_told_to_open kind times tick then TestOrder else Test)
 
--- a tick of that number: a word differs from its complement where one is flipped at this tick
+-- what level 2 meets at the tick of this number: a word differs from its complement where one is flipped then
 unfoldable pub doing_at : SpanKind → Setting → Effects → Readings → ℕ → Doing
 doing_at kind s x reads l = record {
   rules = s.cal.rules;

@@ -40,7 +40,8 @@ moment_after kind s x before = moment_in kind s x.effects x.entry (moments_in ki
 
 -- ---- what is expected, and what is heard ----
 
--- the number that is expected to be heard at a tick: that of the question that is asked, whoever asks
+-- the number that is expected to be heard at a tick: that of the question that is asked, also by a wild
+-- monitoring module
 unfoldable pub number_expected : Setting → Effects → ℕ → ℕ
 number_expected s x tick =
     answer_number (question_at s.cal.questions (asked_at x s.cal.times (length s.cal.questions) tick)).answer
@@ -90,7 +91,7 @@ pub record KeepsFlow (kind : SpanKind) (s : Setting) (words : Words) (h : List T
 
 -- ---- one tick ----
 
--- It is so at the start, and a tick keeps it, whatever runs.
+-- The words tell of the program flow at the start, and a tick keeps that, whatever runs.
 abbrev pub FlowBegins : Type 0
 FlowBegins = (kind : SpanKind) (s : Setting) → KeepsFlow kind s start []
 

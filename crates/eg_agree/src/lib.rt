@@ -1,5 +1,5 @@
-//! What level 2 does over its words, and what the model of a run says of it: that they agree. Nothing here
-//! runs; the functions carry the laws as their contracts.
+//! What level 2 does over its words agrees with what the model of a run says of level 2. Nothing here runs;
+//! the functions carry the laws as their contracts.
 #![tactic(auto)]
 
 mod agreement;

@@ -1,5 +1,5 @@
--- The results of a test row, and its answer: of the row's numbers level 2 works out, when it is made, what it
--- computes of the sensors' readings at each tick.
+-- The results of a test row, and its answer: level 2 computes on the row, once when level 2 is made, what it
+-- computes on the sensors' readings at each tick.
 use Rattle.std.specs.Prelude.{ℕ, ◌+◌, ◌*◌, false, List, [], ◌∷◌}
 use Rattle.eg_sensor.specs.Readings.{used_pedal}
 use Rattle.eg_answer.specs.Folds.{fold_of}

@@ -8,8 +8,8 @@ use Rattle.eg_sensor.specs.declared.readings.Readings.{Readings}
 use Rattle.eg_answer.specs.declared.rules.Rules.{Rules}
 use Rattle.eg_answer.specs.Formulas.{permitted_torque}
 
--- Gated readings permit no more than the readings themselves, so that one who is thought to brake and doesn't
--- is never permitted more by it.
+-- Gated readings permit no more than the readings that they were made of. So a brake that is taken as pressed
+-- while nobody brakes never permits more.
 abbrev pub GatingPermitsNoMore : Type 0
 GatingPermitsNoMore = (rules : Rules) → IsGrid rules.permit → DoesNotFall rules.permit →
     (r : Readings) (limp : Bool) →

@@ -28,7 +28,7 @@ is_send_tick times tick = place_of times tick == times.send
 unfoldable pub is_in_window : TimeParts → ℕ → Bool
 is_in_window times tick = nat_le times.first (place_of times tick) && nat_le (place_of times tick) times.last
 
--- The number of the question that is asked at a tick, of so many questions: each period has one, in their
+-- The number of the question that is asked at a tick, of `count` questions: each period has one, in their
 -- order, and after the last one the first comes again.
 unfoldable pub asked : TimeParts → ℕ → ℕ → ℕ
 asked times count tick = period_of times tick % count
@@ -63,7 +63,7 @@ verdict_of times (answer ∷ other ∷ others) = Wrong
 unfoldable pub verdict_over : TimeParts → ℕ → List HeardAnswer → Verdict
 verdict_over times expected heard = verdict_of times (map (marked expected) heard)
 
--- the same in words: one answer came, in the window, and it was the expected number
+-- a right verdict in words: one answer came, in the window, and it was the expected number
 pub record IsAnswered (times : TimeParts) (expected : ℕ) (heard : List HeardAnswer) : Type 0 where
   pub answer : HeardAnswer
   pub alone : heard ≡ answer ∷ []

@@ -27,21 +27,21 @@ unfoldable pub feeds_to_confirm : WeightParts → ℕ
 feeds_to_confirm w = quotient_up w.limit w.up
 
 -- The worst-case reaction: suppose that from the tick after a period's send tick no answer is right any
--- more. The verdict of that period may still be right, those of the next periods are wrong, and the path is
--- open at the tick after the verdict that confirms. So many ticks lie between the first tick without a right
--- answer and the first tick with an open path.
+-- more. The verdict of that period may still be right, those of the next periods are wrong, and path 2 is
+-- open at the tick after the verdict that confirms. The reaction counts the ticks from the first one without
+-- a right answer to the first one at which path 2 is open.
 unfoldable pub reaction_of : TimeParts → ℕ
 reaction_of t = (feeds_to_confirm t.weights + 1) * t.period - t.send - 1
 
--- How long the test of the shut-off paths takes: no answer is sent in it, so that each verdict is wrong, and
--- so many ticks from its begin on path 2 is open.
+-- How many ticks the test of the shut-off paths takes until path 2 is open: no answer is sent in it, so that
+-- each verdict is wrong.
 unfoldable pub test_ticks_of : TimeParts → ℕ
 test_ticks_of t = feeds_to_confirm t.weights * t.period
 
 -- ---- lapses: level 2 as a whole doesn't run at some ticks, again and again ----
 
--- How many periods the runs of level 2 fill that are enough to confirm an excess. A right verdict takes the
--- runs of a whole period, so fewer verdicts than this are right until the excess is confirmed.
+-- How many periods are filled by the runs of level 2 that are enough to confirm an excess. A right verdict
+-- takes the runs of a whole period, so fewer verdicts than this are right before the excess is confirmed.
 unfoldable pub periods_to_confirm : WeightParts → TimeParts → ℕ
 periods_to_confirm torque times = quotient_up (feeds_to_confirm torque) times.period
 
@@ -49,7 +49,7 @@ periods_to_confirm torque times = quotient_up (feeds_to_confirm torque) times.pe
 abbrev pub HasLapseBound : WeightParts → TimeParts → Type 0
 HasLapseBound torque times = (periods_to_confirm torque times - 1) * times.weights.down < times.weights.up
 
--- How much more: what so many verdicts in a row weigh at least, of which all but one are right.
+-- How much more: the weight of `periods_to_confirm` verdicts in a row of which one is wrong.
 unfoldable pub worth_of : WeightParts → TimeParts → ℕ
 worth_of torque times = times.weights.up - (periods_to_confirm torque times - 1) * times.weights.down
 
@@ -58,40 +58,40 @@ worth_of torque times = times.weights.up - (periods_to_confirm torque times - 1)
 unfoldable pub rounds_to_confirm : WeightParts → TimeParts → ℕ
 rounds_to_confirm torque times = quotient_up times.weights.limit (worth_of torque times)
 
--- After so many whole periods of excess a path is open: those of these rounds, and one before them, whose
+-- The whole periods of excess after which a path is open: those of the rounds, and one before them, whose
 -- verdict may be right by runs from before the excess.
 unfoldable pub lapse_periods : WeightParts → TimeParts → ℕ
 lapse_periods torque times = rounds_to_confirm torque times * periods_to_confirm torque times + 1
 
--- The bound for lapses, in ticks. Wherever so many ticks in a row begin, they hold those whole periods and a
--- tick after them; so each stretch of excess is shorter.
+-- The bound for lapses, in ticks. Wherever this many ticks in a row begin, they contain those whole periods
+-- and a tick after them; so each stretch of excess is shorter.
 unfoldable pub lapse_bound_of : WeightParts → TimeParts → ℕ
 lapse_bound_of torque times = (lapse_periods torque times + 1) * times.period
 
 -- ---- missed runs of level 2 after which wrong answers never cut ----
 
--- There is a distance from which on wrong answers never cut before a trip, where runs are missed so far
--- apart: two wrong verdicts in a row, which is as much as one missed run spoils, don't confirm, and right
--- ones take back what they add.
+-- There is a distance such that wrong answers never cut before a trip, where missed runs lie at least so far
+-- apart: two wrong verdicts in a row, the most that one missed run spoils, don't confirm, and a right verdict
+-- takes something back.
 pub record HasMissSpacing (times : TimeParts) : Type 0 where
   pub two_are_few : 2 * times.weights.up < times.weights.limit
   pub some_taken : 1 ≤ times.weights.down
 
--- Misses that lie so many periods apart: the right verdicts between them, which are all but two, take back
--- what those two add.
+-- Where two misses lie this many periods apart, the right verdicts between them, all but two, take back what
+-- those two add.
 abbrev pub TakesBack : TimeParts → ℕ → Type 0
 TakesBack times periods = 2 * times.weights.up ≤ (periods - 2) * times.weights.down
 
--- so many ticks are whole periods, and as many as that
+-- the ticks are whole periods, and enough of them to take that back
 pub record TakesBackWithin (times : TimeParts) (ticks : ℕ) : Type 0 where
   pub periods : ℕ
   pub are : ticks ≡ periods * times.period
   pub enough : TakesBack times periods
 
--- the least number of periods of which this is so
+-- the least number of periods that take that back
 unfoldable pub periods_between_misses : TimeParts → ℕ
 periods_between_misses times = quotient_up (2 * times.weights.up) times.weights.down + 2
 
--- these periods as ticks: misses that lie so far apart never cut by wrong answers before a trip
+-- these periods in ticks: where misses lie at least so far apart, wrong answers never cut before a trip
 unfoldable pub miss_spacing_of : TimeParts → ℕ
 miss_spacing_of times = periods_between_misses times * times.period

@@ -1,10 +1,11 @@
 -- Outside the headline. The token of the program flow check: in a tick the eight modules of level 2 move
--- it one after another, from 0 on. In the end it is 255 exactly where all eight did, in their order.
+-- it one after another, from 0 on. In the end it is 255 exactly where all eight moved it, in their order.
 use Rattle.std.specs.Prelude.{◌≡◌, ◌↔◌, ℕ, ◌+◌, ◌-◌, ◌<◌, ◌^◌, ◌==◌, List, [], ◌∷◌, All, reverse, if◌then◌else◌}
 use Rattle.eg_answer.specs.declared.modules.TheConstants.{MODULES}
 use Rattle.eg_answer.specs.Modules.{modules}
 
--- moved by the module of this number: to the bits below its own its own is added, and any other token is lost
+-- the token as the module of this number leaves it: where all bits below the module's own are set, and no
+-- others, its own is added; any other token is lost
 unfoldable pub next_token_of : ℕ → ℕ → ℕ
 next_token_of token number = if token == 2 ^ number - 1 then 2 ^ (number + 1) - 1 else 32768
 

@@ -8,7 +8,7 @@ use eg_sensor::used;
 
 /// The five results of a test row (docs/CONCEPT.md, "Questions and answers"): the lower of the two pedal
 /// values, in per mille; the permitted torque and the torque estimate, in tenths of Nm; 1 where the row's own
-/// estimate is an excess over what it allows, else 0; and the bits of the pairs that disagree.
+/// estimate is an excess over what the row allows, else 0; and the bits of the pairs that disagree.
 pub fn results(rules: &Rules, row: &TestRow) -> [u16; 5]
     ensures { result ≡ results_of rules.now row.now }
 {
@@ -45,7 +45,8 @@ pub fn folds_tell_results_apart()
     ensures { FoldLaw }
 {}
 
-/// The fold with one number more (docs/CONCEPT.md, "Questions and answers").
+/// The fold with one result more: the bits so far are rotated to the left by three places, and the result is
+/// mixed in by exclusive or (docs/CONCEPT.md, "Questions and answers").
 #[inline]
 #[tactic(auto, unfolding(crate::specs::Folds::mixed))]
 pub fn mix(bits: u16, number: u16) -> u16

@@ -49,9 +49,8 @@ pub fn disagreeing_pairs(rules: &Rules, read: &Readings) -> u16
     pair_bits(read, &rules.tolerances)
 }
 
-/// Does nothing when it runs. Its contract is a law: where the rows of the permit table don't fall, readings
-/// that are gated, since the brake is taken as pressed, permit no more than the readings themselves
-/// (docs/CONCEPT.md, "Torque").
+/// Does nothing when it runs. Its contract is a law: where the rows of the permit table don't fall, gated
+/// readings permit no more torque than the readings that they were made of (docs/CONCEPT.md, "The brake").
 #[tactic(auto, using(crate::proofs::BrakingLemmas::gating_permits_no_more))]
 pub fn gating_permits_no_more()
     ensures { GatingPermitsNoMore }

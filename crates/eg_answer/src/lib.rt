@@ -1,6 +1,6 @@
-//! Questions and answers of the controller monitoring: test rows and their results, the fold that an answer
-//! carries, the token that the modules of level 2 move, the questions, and the times of the answers with the
-//! worst-case reaction, the bound for lapses and the distance of missed runs that never cut.
+//! Questions of the monitoring module, and answers of level 2: test rows and their results, the fold that an
+//! answer carries, the token that the modules of level 2 move, the questions, and the times of the answers
+//! with the worst-case reaction, the bound for lapses and the distance of missed runs that never cut.
 #![tactic(auto)]
 
 mod answers;

@@ -15,9 +15,9 @@ pub enum Verdict {
 pub enum AnswerMark {
     /// No answer was sent.
     Absent,
-    /// An answer was sent, all eight modules of level 2 ran at each tick since the one before, and none is
+    /// An answer was sent, all eight modules of level 2 ran at each tick since the answer before, and none is
     /// disturbed at this tick.
     Good,
-    /// An answer was sent, and that isn't so.
+    /// An answer was sent that isn't good.
     Bad,
 }

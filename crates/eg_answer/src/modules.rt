@@ -24,5 +24,5 @@ pub const DEBOUNCE: u8 = 6;
 /// Module 7 orders path 1 open and sends the answer.
 pub const REACT: u8 = 7;
 
-/// How many modules there are.
+/// How many modules level 2 has.
 pub const MODULES: u8 = 8;

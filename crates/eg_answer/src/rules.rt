@@ -39,8 +39,8 @@ impl Rules {
     }
 }
 
-/// A test row: numbers of which level 2 works out, when it is made, what it computes of the sensors' readings
-/// at each tick, and for which the results are known (docs/CONCEPT.md, "Questions and answers").
+/// A test row (docs/CONCEPT.md, "Questions and answers"): numbers for which the right results are known.
+/// Level 2 computes on them, once when it is made, what it computes on the sensors' readings at each tick.
 #[derive(Clone, Copy)]
 pub struct TestRow {
     /// What the fold begins with.

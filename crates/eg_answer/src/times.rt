@@ -101,7 +101,7 @@ impl Times {
         ensures times { AreTimes self.now }
         ensures limits { AreWeights self.now.weights }
     {
-        // Whoever reads one of the weights learns that they keep their limits.
+        // Called for its clause alone: the weights keep their limits.
         let _limit = self.weights.limit();
         &self.weights
     }
@@ -121,7 +121,7 @@ impl Times {
 }
 
 /// The worst-case reaction in ticks (docs/CONCEPT.md, "Worst-case reaction"): where no answer is right any
-/// more from the tick after a send tick, the monitoring module's path is open so many ticks later.
+/// more from the tick after a send tick on, path 2 is open this many ticks later.
 pub fn reaction(times: &Times) -> u32
     ensures { result ≡ reaction_of times.now }
 {
@@ -140,7 +140,7 @@ pub fn feeds_to_confirm(weights: &Weights) -> u32
     u32::from(weights.limit()).div_ceil(u32::from(weights.up()))
 }
 
-/// How many periods the runs of level 2 fill that are enough to confirm an excess (docs/CONCEPT.md,
+/// How many periods are filled by the runs of level 2 that are enough to confirm an excess (docs/CONCEPT.md,
 /// "Lapses").
 fn periods_to_confirm(torque: &Weights, times: &Times) -> u32
     ensures number { result ≡ periods_to_confirm torque.now times.now }
@@ -173,10 +173,11 @@ pub fn lapse_bound(torque: &Weights, times: &Times) -> Option<u32>
 }
 
 /// How far apart, in ticks, missed runs of level 2 have to lie so that wrong answers never cut before a trip
-/// (docs/CONCEPT.md, "Lapses"). A missed run spoils at most two verdicts, which add `2 * up`; of two misses
-/// so far apart all verdicts between but those two are right, and take that back. The number is the least
-/// count of whole periods in which they do; nothing is said of misses that lie nearer. None exactly where two
-/// wrong verdicts are enough to confirm, `limit <= 2 * up`, or a right one takes nothing.
+/// (docs/CONCEPT.md, "Lapses"). A missed run spoils at most two verdicts, which add `2 * up`. Where two
+/// misses lie so far apart, all verdicts between them but those two are right, and take that back. The number
+/// is the least count of whole periods in which they do, in ticks; nothing is said of misses that lie nearer.
+/// None exactly where two wrong verdicts are enough to confirm, `limit <= 2 * up`, or a right one takes
+/// nothing.
 pub fn miss_spacing(times: &Times) -> Option<u32>
     ensures distance { SomeIff result (HasMissSpacing times.now) (miss_spacing_of times.now) }
     ensures enough { IfSome result (λ ticks. TakesBackWithin times.now ticks) }

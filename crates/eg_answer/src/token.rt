@@ -3,8 +3,8 @@ ghost use Rattle.std.specs.Prelude.{◌≡◌, ◌<◌};
 ghost use Rattle.eg_answer.specs.declared.modules.TheConstants.{MODULES};
 ghost use Rattle.eg_answer.specs.Token.{next_token_of, TokenLaw};
 
-/// The token as the module of this number (0 to 7) leaves it (docs/CONCEPT.md, "Questions and answers"). The
-/// module `i` takes `2^i - 1` to `2^(i+1) - 1`; any other token is lost, and bit 15 alone stands.
+/// The token as the module of level 2 of this number (0 to 7) leaves it (docs/CONCEPT.md, "Questions and
+/// answers"). Module `i` turns `2^i - 1` into `2^(i+1) - 1`; any other token is lost, and becomes 0x8000.
 pub fn next_token(token: u16, number: u8) -> u16
     requires { number < MODULES }
     ensures { result ≡ next_token_of token number }

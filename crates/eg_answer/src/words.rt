@@ -5,7 +5,8 @@ ghost use Rattle.eg_answer.specs.declared.formulas.TheConstants.{EXCESS_BIT};
 /// How many words level 2 has. Each is stored with its complement.
 pub const MIRRORED_WORDS: u8 = 16;
 
-/// How many it stores, their numbers from 0 on: first the words, then their complements in the same order.
+/// How many words level 2 stores, numbered from 0 on: first its words, then their complements in the same
+/// order.
 pub const STORED_WORDS: u8 = 2 * MIRRORED_WORDS;
 
 /// Does nothing when it runs. Its contract says in numbers how many words level 2 has, how many it stores,

@@ -38,7 +38,7 @@ PressedBrakesAreSeen =
 abbrev pub IsHeldWithin : Option ℕ → Type 0
 IsHeldWithin held = IfSome held (λ at. at ≤ 1000)
 
--- so it is at each tick, without a fault and under each valid one
+-- a held plate is within its range at each tick, without a fault and under each valid one
 abbrev pub PlatesAreHeldWithin : Type 0
 PlatesAreHeldWithin =
     (fault : Option Fault) → IsNoneOrValid fault → (tick : ℕ) → IsHeldWithin (effects fault tick).held_plate
@@ -49,29 +49,29 @@ PlatesAreHeldWithin =
 abbrev pub IsFlip : ℕ × ℕ → Type 0
 IsFlip flipped = (flipped.0 < STORED_WORDS) × (1 ≤ flipped.1)
 
--- so it is at each tick, without a fault and under each valid one
+-- what is flipped is such a word at each tick, without a fault and under each valid one
 abbrev pub FlipsAreInWords : Type 0
 FlipsAreInWords =
     (fault : Option Fault) → IsNoneOrValid fault → (tick : ℕ) → IfSome (effects fault tick).flip IsFlip
 
--- Where a word is flipped at a tick, module 0 runs at it, and so finds it. No more is asked of what is out
--- of order.
+-- Where a word is flipped at a tick, module 0 runs at that tick, and so finds the word. The law of a tick
+-- (`eg_agree`, `TickLaw`) asks no more of what is out of order.
 abbrev pub ChecksFlips : Effects → Type 0
 ChecksFlips x = is_some x.flip ≡ true → x.ran CHECK ≡ true
 
--- it is so under every fault, and without one
+-- module 0 runs at each tick at which a word is flipped, under every fault and without one
 abbrev pub FaultsCheckFlips : Type 0
 FaultsCheckFlips = (fault : Option Fault) (tick : ℕ) → ChecksFlips (effects fault tick)
 
 -- ---- the module that is left out ----
 
--- under a valid fault it is one of the eight
+-- under a valid fault a module that is left out is one of the eight
 abbrev pub OneOfEightIsLeftOut : Type 0
 OneOfEightIsLeftOut = (fault : Fault) → IsValid fault → (one : ℕ) → LeavesOut fault one → one < MODULES
 
 -- ---- the module that is disturbed ----
 
--- it is one at most at each tick, without a fault and under each valid one
+-- at most one module is disturbed at each tick, without a fault and under each valid one
 abbrev pub FaultsDisturbOne : Type 0
 FaultsDisturbOne =
     (fault : Option Fault) → IsNoneOrValid fault → (tick : ℕ) →
@@ -92,13 +92,13 @@ pub record IsRegular (x : Effects) : Type 0 where
   pub sends : x.send ≡ None
   pub judged : x.wild ≡ None
 
--- the classes under which it is otherwise
+-- the classes under which a tick may be otherwise
 unfoldable pub may_change_answers : Class → Bool
 may_change_answers (Timing offset) = true
 may_change_answers (Wild questions opens) = true
 may_change_answers _ = false
 
--- under all others it is so at each tick
+-- under all other classes each tick is regular
 abbrev pub OthersSpareAnswers : Type 0
 OthersSpareAnswers =
     (fault : Fault) (tick : ℕ) → may_change_answers fault.class ≡ false →

@@ -1,5 +1,5 @@
 -- What is out of order outside level 1 at one tick: one record, field by field as the parts of the unit meet
--- it. Whoever speaks of a tick is handed this record, and knows of no fault and of no onset.
+-- it. Definitions of what happens at a tick take this record, and know of no fault and of no onset.
 use Rattle.std.specs.Prelude.{ℕ, ◌%◌, ◌==◌, Bool, true, false, not, List, [], ◌∷◌, slice_index, Option, Some, None}
 use Rattle.eg_sensor.specs.declared.readings.Readings.{Readings}
 use Rattle.eg_sensor.specs.declared.tracks.TheConstants.{PEDAL_1, PEDAL_2, PLATE_1, PLATE_2, LOAD_1, LOAD_2, SPEED_1, SPEED_2, BRAKE_1, BRAKE_2}
@@ -28,7 +28,7 @@ pub record Effects : Type 0 where
   pub wild : Option ℕ
   -- whether a wild monitoring module orders path 2 open
   pub opens : Bool
-  -- whether path 1 or 2 conducts where its latch is open, and where it isn't
+  -- whether path 1 or 2 conducts, by whether its latch is open
   pub conducts : ℕ → Bool → Bool
 
 -- nothing is out of order
@@ -63,7 +63,7 @@ unfoldable pub contacts_under : Effects → List ℕ → List ℕ
 contacts_under x truth =
     x.track BRAKE_1 (slice_index truth 0) ∷ x.track BRAKE_2 (slice_index truth 1) ∷ []
 
--- whether a tick is one at which answers are sent: at the usual tick of each period, or at another
+-- whether a tick is one at which answers are sent: at the usual tick of each period, or at the moved one
 unfoldable pub sends_in : Option ℕ → TimeParts → ℕ → Bool
 sends_in None times tick = is_send_tick times tick
 sends_in (Some moved) times tick = place_of times tick == moved
@@ -72,8 +72,8 @@ sends_in (Some moved) times tick = place_of times tick == moved
 unfoldable pub sends_at : Effects → TimeParts → ℕ → Bool
 sends_at x times tick = sends_in x.send times tick
 
--- the number of the question that is asked at a tick, of so many questions: that of its period, or what a
--- wild module asks
+-- the number of the question that is asked at a tick, of `count` questions: that of its period, or what a
+-- wild monitoring module asks
 unfoldable pub asked_in : Option ℕ → TimeParts → ℕ → ℕ → ℕ
 asked_in None times count tick = asked times count tick
 asked_in (Some question) times count tick = question % count

@@ -28,7 +28,7 @@ unfoldable pub truth_in_turn : List Bool → ℕ → Bool
 truth_in_turn values k = slice_index_or values (k % length values) false
 
 -- Level 2 is left out k ticks after the onset: where `every` is 0, at the numbers of the list; else k counts
--- modulo `every`, so each number below `every` comes again every so many ticks, and the others never.
+-- modulo `every`, so each number below `every` comes again every `every` ticks, and the others never.
 unfoldable pub is_left_out : List ℕ → ℕ → ℕ → Bool
 is_left_out after every k = list_any (λ a. a == (if every == 0 then k else k % every)) after
 

@@ -30,7 +30,7 @@ pub record RunAlike (x y : Effects) : Type 0 where
   pub disturbance : x.disturbance ≡ y.disturbance
   pub flip : x.flip ≡ y.flip
 
--- the classes under which they may run otherwise than without a fault
+-- the classes under which level 1 and level 2 may run otherwise than without a fault
 unfoldable pub may_change_levels : Class → Bool
 may_change_levels (Skip index) = true
 may_change_levels (Disturb index mask) = true

@@ -22,11 +22,12 @@ pub struct Fault {
 pub enum Class {
     /// A track (0 to 9) reads these values in turn.
     Script { track: u8, values: Script },
-    /// A track (0 to 9) reads so much more, or less (-65,535 to 65,535, not 0).
+    /// A track (0 to 9) reads its sound reading plus this number (-65,535 to 65,535, not 0), cut at 0 and at
+    /// 65,535.
     Offset { track: u8, add: i32 },
     /// The raise comes with these bits (1 to 65,535) flipped, its check word as it was sent.
     Bus { mask: u16 },
-    /// The throttle plate is held there (0 to 1000 per mille).
+    /// The throttle plate, or the rack of a diesel engine, is held there (0 to 1000 per mille).
     Plate { at: u16 },
     /// A module of level 2 (0 to 7) doesn't run.
     Skip { module: u8 },
@@ -50,7 +51,7 @@ pub enum Class {
     /// A path (1 or 2) doesn't conduct.
     PathOpen { path: u8 },
     /// Level 2 doesn't run at these ticks after the onset (0 to 19,999, rising); where `every` (0 to 20,000)
-    /// isn't 0 they are counted anew every so many ticks.
+    /// isn't 0 the count begins anew every `every` ticks.
     Lapse { after: Script, every: u16 },
 }
 
@@ -141,17 +142,17 @@ impl Class {
 fn is_script(track: u8, values: &Script) -> bool
     ensures { IsTrue result ↔ IsValidClass (Class.Script track values.now) }
 {
-    // Whoever reads the numbers learns that they are 1 to 64 words.
+    // Called for its clause alone: a script has 1 to 64 numbers, and each is a word.
     let _values = values.values();
     track < TRACKS
 }
 
-/// Whether a class `Wild` of these is valid: each is.
+/// Whether a class `Wild` of these is valid, as it always is.
 #[tactic(auto, unfolding(crate::specs::Faults::IsValidClass))]
 fn is_wild(questions: &Script, opens: &Opens) -> bool
     ensures { IsTrue result ↔ IsValidClass (Class.Wild questions.now opens.now) }
 {
-    // Whoever reads them learns that they are 1 to 64.
+    // Called for its clause alone: the questions are 1 to 64 words, the truth values 1 to 64.
     let _questions = questions.values();
     let _opens = opens.values();
     true

@@ -50,7 +50,7 @@ impl Class {
         !matches!(self, Class::Halt)
     }
 
-    /// Whether it may change how level 1 and level 2 run.
+    /// Whether the class may change how level 1 and level 2 run.
     #[tactic(auto, unfolding(crate::specs::Running::may_change_levels))]
     pub(crate) fn may_change_levels(&self) -> bool
         ensures { result ≡ may_change_levels self.now }
@@ -81,7 +81,7 @@ impl Class {
         }
     }
 
-    /// What is mixed into the result of a module of level 2.
+    /// What is mixed into the signal of a module of level 2 and into its result of the test row.
     #[tactic(auto, unfolding(crate::specs::Effects::no_effects, crate::specs::Faults::effects_of))]
     pub(crate) fn disturbance(&self, after: u32, index: u8) -> u16
         ensures { result ≡ (effects_of self.now after).disturbance index }
@@ -128,7 +128,7 @@ impl Class {
         }
     }
 
-    /// Whether path 1 or 2 conducts, where its latch is open or isn't.
+    /// Whether path 1 or 2 conducts, where its latch is open (`opened`) or closed.
     #[tactic(auto, unfolding(crate::specs::Effects::no_effects, crate::specs::Faults::effects_of))]
     pub(crate) fn conducts(&self, after: u32, path: u8, opened: bool) -> bool
         ensures { result ≡ (effects_of self.now after).conducts path opened }
@@ -168,7 +168,7 @@ fn offset_by(add: i32, sound: u16) -> u16
     u32::from(sound).saturating_add_signed(add).min(65_535) as u16
 }
 
-/// Whether level 2 is left out, where these ticks are named.
+/// Whether level 2 is left out at this many ticks after the onset, by the ticks of a lapse.
 #[tactic(auto, unfolding(crate::specs::Faults::is_left_out))]
 fn is_left_out(ticks: &Script, every: u16, after: u32) -> bool
     ensures { result ≡ Faults.is_left_out ticks.now every after }

@@ -54,7 +54,8 @@ pub fn faulty_contacts(fault: Option<&Fault>, tick: u32, truth: [u16; 2]) -> [u1
     ]
 }
 
-/// Where the throttle plate is held at a tick, in per mille, if it is (docs/CONCEPT.md, "Faults").
+/// Where the throttle plate, or the rack of a diesel engine, is held at a tick, in per mille, if it is
+/// (docs/CONCEPT.md, "Faults").
 #[tactic(auto, unfolding(crate::specs::Effects::no_effects))]
 pub fn held_plate(fault: Option<&Fault>, tick: u32) -> Option<u16>
     ensures { result ≡ (effects (option_copied fault.entry) tick).held_plate }
@@ -107,8 +108,8 @@ pub fn flip(fault: Option<&Fault>, tick: u32) -> Option<(u8, u16)>
     class.flip(after)
 }
 
-/// The fault, where it may change at a tick how level 1 and level 2 run, else None (docs/CONCEPT.md,
-/// "Faults"). Under None each runs, undisturbed, and no word is flipped.
+/// The fault, where it may change at a tick how level 1 and level 2 run, else None: then both run, no module
+/// is disturbed, and no word is flipped (docs/CONCEPT.md, "Faults").
 pub fn fault_of_levels(fault: Option<&Fault>, tick: u32) -> Option<&Fault>
     ensures fault { IfSome (option_copied result) (λ found. option_copied fault.entry ≡ Some found) }
     ensures same { RunAlike (effects (option_copied result) tick) (effects (option_copied fault.entry) tick) }
@@ -132,9 +133,9 @@ pub fn sends(fault: Option<&Fault>, tick: u32, local: u32, times: &Times) -> boo
     sends_in(moved_send(fault, tick), local, times)
 }
 
-/// What a wild monitoring module does at a tick: the number of the question that it asks, which counts modulo
-/// the count of questions, and whether it orders path 2 open. None where the module isn't wild
-/// (docs/CONCEPT.md, "Faults").
+/// What a wild monitoring module does at a tick: the number of the question that it asks, which is taken
+/// modulo the count of questions, and whether it orders path 2 open. None where the monitoring module isn't
+/// wild (docs/CONCEPT.md, "Faults").
 #[tactic(auto, unfolding(crate::specs::Effects::no_effects))]
 pub fn wild(fault: Option<&Fault>, tick: u32) -> Option<(u16, bool)>
     ensures question { option_map (λ asked. asked.0) result
@@ -146,7 +147,8 @@ pub fn wild(fault: Option<&Fault>, tick: u32) -> Option<(u16, bool)>
     class.wild(after)
 }
 
-/// Whether path 1 or 2 conducts at a tick, where its latch is open or isn't (docs/CONCEPT.md, "Faults").
+/// Whether path 1 or 2 conducts at a tick, where its latch is open (`opened`) or closed (docs/CONCEPT.md,
+/// "Faults").
 #[tactic(auto, unfolding(crate::specs::Effects::no_effects))]
 pub fn conducts(fault: Option<&Fault>, tick: u32, path: u8, opened: bool) -> bool
     ensures { result ≡ (effects (option_copied fault.entry) tick).conducts path opened }
@@ -188,7 +190,7 @@ fn moved_send(fault: Option<&Fault>, tick: u32) -> Option<u16>
     class.moved_send(after)
 }
 
-/// Whether a tick is one at which answers are sent, at the usual tick of each period or at another.
+/// Whether a tick is one at which answers are sent: at the tick `moved` of each period, or at the usual one.
 #[tactic(auto, unfolding(crate::specs::Effects::sends_in, eg_answer::specs::Periods::is_send_tick))]
 fn sends_in(moved: Option<u16>, tick: u32, times: &Times) -> bool
     ensures { result ≡ Effects.sends_in moved times.now tick }

@@ -12,7 +12,7 @@ pub fn modules_run_together()
 /// Laws of what a fault leaves alone (docs/CONCEPT.md, "Faults"): all tracks but one are sound, so that a
 /// brake that the driver presses is taken as pressed; level 1 and level 2, the ticks of answers, and a path
 /// whose latch is open are as without a fault, but for the classes that may change them; and a monitoring
-/// module that isn't wild has never been.
+/// module that isn't wild at a tick wasn't wild at any tick before.
 pub fn faults_leave_the_rest()
     ensures tracks { OneTrackIsFaulty }
     ensures brake { PressedBrakesAreSeen }
@@ -29,9 +29,9 @@ pub fn plates_are_held_within()
     ensures { PlatesAreHeldWithin }
 {}
 
-/// Laws of the module that runs and of the word that is flipped (docs/CONCEPT.md, "Faults"): module 0 runs at
-/// each tick at which a word is flipped; and under a valid fault that is one of the words of level 2, by at
-/// least one bit, a module that is left out is one of the eight, and at most one module is disturbed.
+/// Laws of what a fault does in level 2 (docs/CONCEPT.md, "Faults"): module 0 runs at each tick at which a
+/// word is flipped. Under a valid fault the flipped word is one of level 2's, and at least one of its bits is
+/// flipped; a module that is left out is one of the eight; and at most one module is disturbed.
 pub fn faults_stay_in_level2()
     ensures checks { FaultsCheckFlips }
     ensures flips { FlipsAreInWords }

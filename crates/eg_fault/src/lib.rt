@@ -1,5 +1,5 @@
-//! Faults outside level 1: sensors, the bus, the plate, level 2 and its memory, the monitoring module, the
-//! shut-off paths. What each class of faults does at a tick.
+//! Faults outside level 1, and what each class of them does at a tick: to sensors, the bus, the plate, level
+//! 2 and its memory, the monitoring module, and the shut-off paths.
 #![tactic(auto)]
 
 mod class;

@@ -3,5 +3,5 @@
 /// The path that react orders open (docs/CONCEPT.md, "A run, tick by tick").
 pub const PATH_1: u8 = 1;
 
-/// The path that the monitoring module orders open.
+/// The path that the monitoring module orders open (docs/CONCEPT.md, "A run, tick by tick").
 pub const PATH_2: u8 = 2;

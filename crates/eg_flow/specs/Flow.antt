@@ -23,7 +23,7 @@ is_whole d = list_all (λ i. d.ran i) modules
 unfoldable pub row_asked : Doing → TestRow
 row_asked d = row_of d.questions d.asked
 
--- its answer, and the number that is expected to be heard
+-- the right answer to the row, and the number that is expected to be heard
 unfoldable pub expected_fold : Doing → ℕ
 expected_fold d = expected_of d.rules (row_asked d)
 
@@ -35,7 +35,7 @@ pub record FitsWords (rules : Rules) (row : TestRow) : Type 0 where
   pub seed : row.seed < 2 ^ 16
   pub results : All (λ result. result < 2 ^ 16) (results_of rules row)
 
--- whether none of the eight is
+-- whether none of the eight modules is disturbed
 unfoldable pub is_undisturbed : Doing → Bool
 is_undisturbed d = list_all (λ i. d.disturbance i == 0) modules
 
@@ -51,26 +51,26 @@ unfoldable pub AreTogether : List Doing → Type 0
 AreTogether [] = Unit {0}
 AreTogether (d ∷ before) = (AllRun d.ran ⊎ NoneRuns d.ran) × (d.differs ≡ false) × AreTogether before
 
--- the words after them
+-- the words after these ticks
 unfoldable pub words_after : Words → List Doing → Words
 words_after words [] = words
 words_after words (d ∷ before) = after_tick d (words_after words before)
 
--- After a tick: all eight modules ran at each tick since the last answer. A tick that sends one begins
--- anew.
+-- Whether, after a tick, all eight modules ran at each tick since the last answer. A tick that sends an
+-- answer begins anew.
 unfoldable pub whole_after : Doing → Words → Bool → Bool
 whole_after d words whole = is_some (answer_at d words) || (is_whole d && whole)
 
--- the same after all of these ticks
+-- whether they did after all of these ticks
 unfoldable pub whole_since : Words → List Doing → Bool
 whole_since words [] = true
 whole_since words (d ∷ before) = whole_after d (words_after words before) (whole_since words before)
 
 -- ---- what the words tell between two ticks ----
 
--- Steady words, after so many ticks (`made`). The token rests at 0. The flow is unmarked or marked. Module
--- 0 ran last at one of those ticks, or at none so far. And the flow is unmarked, and module 0 ran at the
--- very last of them, exactly where all eight modules ran at each tick since the last answer (`whole`).
+-- Steady words, after `made` ticks. The token rests at 0. The flow is unmarked or marked. Module 0 ran last
+-- at one of those ticks, or at none so far. And the flow is unmarked, and module 0 ran at the very last of
+-- these ticks, exactly where all eight modules ran at each tick since the last answer (`whole`).
 pub record IsSteady (made : ℕ) (whole : Bool) (words : Words) : Type 0 where
   pub token : words.token ≡ 0
   pub flow : (words.flow ≡ 0x00ff) ⊎ (words.flow ≡ 0x80ff)

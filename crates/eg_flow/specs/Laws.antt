@@ -23,14 +23,14 @@ abbrev pub TokenTells : Type 0
 TokenTells = (d : Doing) (words : Words) → d.differs ≡ false → words.token ≡ 0 →
     (next_token_of (at_react d words).token REACT == 255) ≡ list_all (λ i. d.ran i) modules_before_react
 
--- React clears it.
+-- React clears the token.
 abbrev pub ReactClears : Type 0
 ReactClears = (d : Doing) (words : Words) → d.ran REACT ≡ true → (after_tick d words).token ≡ 0
 
 -- ---- the flow and the last tick ----
 
--- A tick at which all eight modules run leaves the flow to the answer as it was, where module 0 ran last
--- just before it, and else marks it. The token is 0 after it, and the last tick is its own.
+-- A tick at which all eight modules run leaves the flow of the answer as it was, where module 0 ran at the
+-- tick before, and else marks it. After the tick the token is 0, and the word for the last tick is this tick.
 pub record RunsThrough (d : Doing) (words : Words) : Type 0 where
   pub flow : closed_flow (at_react d words)
       ≡ (if (words.last + 1) % 65536 == d.tick then words.flow else marked words.flow)
@@ -71,7 +71,7 @@ FoldTells = (d : Doing) (words : Words) → AllRun d.ran → d.differs ≡ false
 
 -- ---- the number that is sent ----
 
--- it is the expected one exactly where the flow is unmarked and the fold is that of the row
+-- the number is the expected one exactly where the flow is unmarked and the fold is that of the row
 abbrev pub NumberTells : Type 0
 NumberTells = (d : Doing) (words : Words) → FitsWords d.rules (row_asked d) → words.sign < 2 ^ 16 →
     (number_of words == expected_number d) ≡ (closed_flow words == 0x00ff && words.sign == expected_fold d)

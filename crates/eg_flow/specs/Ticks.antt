@@ -36,15 +36,15 @@ inputs_for d i = record {
   disturbance = d.disturbance i;
 }
 
--- the words after module i: it leaves them where it doesn't run, and module 0 gives all up where a word
--- differs
+-- the words after module i: a module that doesn't run leaves them, and module 0 gives all up where a word
+-- differs from its complement
 unfoldable pub after_module : Doing → ℕ → Words → Words
 after_module d i words =
     if d.ran i
     then (if i == CHECK && d.differs then given_up d.tick else module_step (inputs_for d i) i words)
     else words
 
--- the words after the first so many modules, and after all eight
+-- the words after the first modules, as many as the number says, and after all eight
 unfoldable pub after_modules : Doing → ℕ → Words → Words
 after_modules d zero words = words
 after_modules d (suc i) words = after_module d i (after_modules d i words)

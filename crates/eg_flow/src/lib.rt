@@ -1,18 +1,18 @@
 //! The program flow of level 2: the laws of the token, the flow, the last tick and the fold, over one tick
 //! and over many. They speak of level 2 alone, whatever the fault.
 //!
-//! A tick is the eight modules one after another (`specs/Ticks.antt`). Between two ticks three words tell
-//! whether all eight ran since the last answer (`specs/Flow.antt`, `IsSteady`), and the number that is sent
-//! is the expected one exactly where they did and none is disturbed now, where each tick ran whole or not
-//! at all.
+//! A tick is the eight modules of level 2 one after another (`specs/Ticks.antt`). Where at each tick all
+//! eight run or none does, three words tell between two ticks whether all eight ran at each tick since the
+//! last answer (`specs/Flow.antt`, `IsSteady`). The number that is sent is then the expected one exactly where
+//! they did and none is disturbed now.
 #![tactic(auto)]
 
 ghost use Rattle.eg_flow.specs.Laws.{TokenTells, ReactClears, WholeTick, EmptyTick, MarkStays, TwoFlows, FoldTells};
 ghost use Rattle.eg_flow.specs.Laws.{NumberTells, SteadyStays, SteadyAnswers, GapAnswers, SteadyFromStart};
 
 /// Does nothing when it runs. Its contract is two laws of the token, which is 0 as a tick begins
-/// (docs/CONCEPT.md, "Questions and answers"): it is 255 as react closes exactly where all seven modules
-/// before react ran, so that one that went wrong stays wrong until then; and react clears it.
+/// (docs/CONCEPT.md, "Questions and answers"). It is 255 as react closes exactly where all seven modules
+/// before react ran, so that a token that went wrong stays wrong until then. And react clears it.
 #[tactic(auto, using(crate::proofs::TickSteps::token_tells, crate::proofs::FlowSteps::react_clears))]
 pub fn tokens_tell_gaps()
     ensures tells { TokenTells }

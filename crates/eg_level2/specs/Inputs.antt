@@ -21,8 +21,8 @@ pub record Level2Parts : Type 0 where
 abbrev pub AreParts : Level2Parts → Type 0
 AreParts parts = 2 ≤ length parts.questions
 
--- what goes into one run: those two, the readings at the input ports, the number of the question at the link,
--- the tick, its phase, and what disturbs the run (0 where nothing does)
+-- what goes into one run: the rules and the questions, the readings at the input ports, the number of the
+-- question at the link, the tick, its phase, and what disturbs the run (0 where nothing does)
 pub record Inputs : Type 0 where
   pub rules : Rules
   pub questions : List Question

@@ -28,8 +28,8 @@ marked flow = bit_or flow BROKEN_FLOW
 
 -- ---- module 0, check ----
 
--- Where each word has its complement, it moves the token, marks the flow where its last run wasn't just the
--- tick before, notes the tick, and begins the fold with the seed of the question.
+-- Where each word has its complement, module 0 moves the token, marks the flow where its last run wasn't at
+-- the tick before, notes the tick, and begins the fold with the seed of the question.
 unfoldable pub check_step : ℕ → ℕ → Words → Words
 check_step seed tick words = record words {
   token = next_token_of words.token CHECK;
@@ -135,12 +135,12 @@ feeds_now phase words = feeds phase && not (is_set words.trip)
 unfoldable pub counted : Bool → WeightParts → ℕ → Bool → ℕ
 counted feeding weights value bad = if feeding then fed weights value bad else value
 
--- its watch is found: the feed brings it to its limit, for the first time
+-- the watch of a counter is found: the feed brings the counter to its limit, for the first time
 unfoldable pub is_found : Bool → WeightParts → ℕ → Bool → Bool
 is_found feeding weights value bad =
     feeding && (nat_lt value weights.limit && fed weights value bad == weights.limit)
 
--- the watches that it finds
+-- the watches that module 6 finds
 unfoldable pub debounced : Rules → Phase → Words → Watches
 debounced rules phase words =
     let feeding = feeds_now phase words in
@@ -163,7 +163,7 @@ limits found = found.pedal
 unfoldable pub trips : Watches → Bool
 trips found = found.plate || found.load || found.speed || found.torque
 
--- It feeds the counters, sets limp and trip by what is found, and moves the token.
+-- Module 6 feeds the counters, sets limp and trip by what is found, and moves the token.
 unfoldable pub debounce_step : Rules → Phase → Words → Words
 debounce_step rules phase words =
     let feeding = feeds_now phase words in
@@ -184,11 +184,11 @@ debounce_step rules phase words =
 unfoldable pub closed_flow : Words → ℕ
 closed_flow words = if next_token_of words.token REACT == 255 then words.flow else marked words.flow
 
--- path 1 is ordered open where a trip stands, and in the phase for it
+-- path 1 is ordered open where a trip stands, and in the phase `TestOrder`
 unfoldable pub opens_now : Phase → Words → Bool
 opens_now phase words = is_set words.trip || orders phase
 
--- an answer is sent in the phase for it, but never where a trip stands
+-- an answer is sent in the phase `Send`, but never where a trip stands
 unfoldable pub answers_now : Phase → Words → Bool
 answers_now phase words = sends phase && not (is_set words.trip)
 
@@ -223,15 +223,15 @@ module_step inputs number words =
     else if number == DEBOUNCE then debounce_step inputs.rules inputs.phase words
     else react_step inputs.phase words
 
--- the answer that it sends, if any
+-- the answer that the module sends, if any
 unfoldable pub answer_after : Inputs → ℕ → Words → Option ℕ
 answer_after inputs number words = if number == REACT then answer_of inputs.phase words else None
 
--- whether it orders path 1 open: react does where a trip stands, and in the phase for it
+-- whether the module orders path 1 open: react does where a trip stands, and in the phase `TestOrder`
 unfoldable pub order_after : Inputs → ℕ → Words → Bool
 order_after inputs number words = number == REACT && opens_now inputs.phase words
 
--- no watch,
+-- no watch is found
 unfoldable pub no_watches : Watches
 no_watches = record {
   mirror = false;
@@ -244,16 +244,16 @@ no_watches = record {
   start = false;
 }
 
--- and that of the mirrored words alone
+-- the watch of the mirrored words alone is found
 unfoldable pub mirror_alone : Watches
 mirror_alone = record no_watches { mirror = true }
 
--- the watches that it finds, where each word had its complement
+-- the watches that the module finds, where each word had its complement
 unfoldable pub found_by : Inputs → ℕ → Words → Watches
 found_by inputs number words =
     if number == DEBOUNCE then debounced inputs.rules inputs.phase words else no_watches
 
--- all three, as a run answers them
+-- order, answer and watches, as a run answers them
 unfoldable pub step_of : Inputs → ℕ → Words → Step
 step_of inputs number words = record {
   open_path = order_after inputs number words;
@@ -261,10 +261,10 @@ step_of inputs number words = record {
   found = found_by inputs number words;
 }
 
--- a run that finds these watches and does no more,
+-- a run that finds these watches and does no more
 abbrev pub finding : Watches → Step
 finding found = record { open_path = false; answer = None; found = found }
 
--- and one that finds none
+-- a run that finds nothing and does no more
 abbrev pub quiet_step : Step
 quiet_step = finding no_watches

@@ -51,7 +51,8 @@ stores_of inputs number words =
 unfoldable pub reset_stores : List Store
 reset_stores = both_from 0 (in_order start)
 
--- and giving up. The trip goes first, so that at no store the words are all mirrored without a trip.
+-- giving up: the trip goes first, so that after each store a trip stands or a word differs from its
+-- complement
 unfoldable pub given_up_stores : ℕ → List Store
 given_up_stores tick = both TRIP 1 (both_from 0 (in_order (given_up tick)))
 

@@ -21,8 +21,8 @@ pub record IsRun {E : Type 0} (parts : Level2Parts) (number tick : ℕ) (phase :
       ≡ order_after (inputs_of parts old.words tick phase disturbance) number (words_of old.words))
   pub found : AreMirrored old.words → IfOk result (λ step. step.found
       ≡ found_by (inputs_of parts old.words tick phase disturbance) number (words_of old.words))
-  -- Where a word differed from its complement, module 0 gives all words up, and finds that alone. Mirror is
-  -- found exactly there.
+  -- Where a word differed from its complement, module 0 gives all words up, and the watch `mirror` alone is
+  -- found. It is found exactly there.
   pub given_up : ¬ AreMirrored old.words → OnOk result (words_of new.words ≡ given_up tick)
   pub mirror_alone : ¬ AreMirrored old.words → IfOk result (λ step. step.found ≡ mirror_alone)
   pub mirror : IfOk result (λ step. IsTrue step.found.mirror ↔ ¬ AreMirrored old.words)
@@ -30,14 +30,14 @@ pub record IsRun {E : Type 0} (parts : Level2Parts) (number tick : ℕ) (phase :
   pub mirrored : OnOk result (AreMirrored new.words)
   pub within : (AreMirrored old.words → AreWithin parts.rules (words_of old.words)) →
       OnOk result (AreWithin parts.rules (words_of new.words))
-  -- Where memory ran out, the first so many of the run's stores were made, in their order, and no other.
+  -- Where memory ran out, the run's stores were made up to some point, in their order, and no other.
   pub stopped : AreMirrored old.words → OnErr result (AreFirst
       (stores_of (inputs_of parts old.words tick phase disturbance) number (words_of old.words))
       (word_at old.words) (word_at new.words))
   pub given_up_stopped : ¬ AreMirrored old.words →
       OnErr result (AreFirst (given_up_stores tick) (word_at old.words) (word_at new.words))
-  -- No trip is forgotten then, nor a word that differed: what told one still tells one, and one that the run
-  -- sets is told too, unless nothing was stored at all.
+  -- Then, where a trip stood or a word differed from its complement, a trip stands or a word differs still.
+  -- The same is so where the run sets a trip, unless nothing was stored at all.
   pub told : TellsTrip old.words → OnErr result (TellsTrip new.words)
   pub set_told : AreMirrored old.words → IsTrue (is_set
       (module_step (inputs_of parts old.words tick phase disturbance) number (words_of old.words)).trip) →

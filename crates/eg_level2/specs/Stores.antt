@@ -28,7 +28,7 @@ keep number value word = put (number + MIRRORED_WORDS) (65535 - value) (put numb
 unfoldable pub keep_where : Bool → ℕ → ℕ → (ℕ → ℕ) → ℕ → ℕ
 keep_where test number value word = if test then keep number value word else word
 
--- the first so many words made those of a list
+-- the first `count` words set to the values of a list
 unfoldable pub kept_from : List ℕ → ℕ → (ℕ → ℕ) → ℕ → ℕ
 kept_from values zero word = word
 kept_from values (suc count) word = keep count (slice_index values count) (kept_from values count word)
@@ -56,12 +56,12 @@ unfoldable pub after_stores : List Store → (ℕ → ℕ) → ℕ → ℕ
 after_stores [] word = word
 after_stores (one ∷ rest) word = after_stores rest (put one.number one.value word)
 
--- Of these stores the first so many were made, in their order, and no other.
+-- These stores were made up to some point, in their order, and no other.
 pub record AreFirst (stores : List Store) (before after : ℕ → ℕ) : Type 0 where
   pub count : ℕ
   pub made : after ≡ after_stores (take count stores) before
 
--- words of these values, from this number on
+-- the stores of words of these values, with their complements, from this number on
 unfoldable pub both_from : ℕ → List ℕ → List Store
 both_from number [] = []
 both_from number (value ∷ values) = both number value (both_from (number + 1) values)

@@ -9,9 +9,9 @@ use Rattle.eg_answer.specs.declared.rules.Rules.{Rules}
 use Rattle.eg_answer.specs.declared.words.TheConstants.{MIRRORED_WORDS, STORED_WORDS}
 use Rattle.eg_level2.specs.declared.words.TheConstants.{SIGNALS, PEDAL, PERMITTED, ACTUAL, EXCESS, PAIRS, PEDAL_COUNTER, PLATE_COUNTER, LOAD_COUNTER, SPEED_COUNTER, TORQUE_COUNTER, LIMP, TRIP, TOKEN, FLOW, LAST, SIGN, WHOLE_FLOW}
 
--- The words by their names: the five signals, the five debounce counters, whether limited operation and
--- whether a trip was found, and what tells that level 2 ran: the token, the high word of the next answer, the
--- last tick at which module 0 ran, and the fold so far.
+-- The words by their names: the five signals; the five debounce counters; whether the pedal is limited, and
+-- whether a trip came; and what tells that level 2 ran: the token, the high word of the next answer, the last
+-- tick at which module 0 ran, and the fold so far.
 pub record Words : Type 0 where
   pub pedal : ℕ
   pub permitted : ℕ
@@ -63,7 +63,7 @@ named word = record {
   sign = word SIGN;
 }
 
--- and the other way round: words that are given by their names, in the order of their numbers
+-- words that are given by their names, in the order of their numbers
 unfoldable pub in_order : Words → List ℕ
 in_order words =
     words.pedal ∷ words.permitted ∷ words.actual ∷ words.excess ∷ words.pairs

@@ -1,4 +1,4 @@
-// Module 0: whether level 2's words are what they were left as, and whether it ran at the tick before.
+// Module 0: whether level 2's words are as level 2 left them, and whether it ran at the tick before.
 ghost use Rattle.std.specs.Prelude.{◌≡◌, ◌↔◌, ◌+◌, ◌%◌, ◌==◌, IsTrue, OnOk, OnErr, IfOk, if◌then◌else◌, None, false};
 ghost use Rattle.eg_answer.specs.declared.rules.Rules.{Rules};
 ghost use Rattle.eg_level2.specs.Words.{word_at, words_of, in_order, AreMirrored, AreWithin};
@@ -84,8 +84,8 @@ fn flow_after(flow: u16, last: u16, tick: u16) -> u16
     }
 }
 
-/// Gives all words up, and trips. The trip is stored first: so at no store the words are all mirrored without
-/// one, and memory that runs out in between doesn't hide the fault.
+/// Gives all words up, and trips. The trip is stored first, so that after each store a trip stands or a word
+/// differs from its complement: memory that runs out in between doesn't hide the fault.
 fn give_up<M: Guarded>(memory: &mut M, tick: u16) -> Result<(), NoMemory>
     ensures words { OnOk result (words_of (M.shows memory.new).words ≡ given_up tick) }
     ensures stopped { OnErr result (AreFirst (given_up_stores tick)

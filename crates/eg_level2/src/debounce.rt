@@ -36,8 +36,9 @@ struct Feeds {
 }
 
 /// Module 6: debounces the pairs and the excess, but not in a test, nor where a trip stands. A pedal that is
-/// found limits the operation; any other watch that is found trips (docs/CONCEPT.md, "Level 2"). What is
-/// found is stored before the counters, so that none comes to its limit without it where memory runs out.
+/// found limits the operation; any other watch that is found trips (docs/CONCEPT.md, "Level 2"). A trip and
+/// limited operation are stored before the counters: where memory runs out, no counter stands at its limit
+/// without them.
 #[inline(always)]
 #[tactic(auto, using(crate::proofs::DebounceLemmas::debounce_laws))]
 pub(crate) fn debounce<M: Guarded>(

@@ -66,7 +66,8 @@ impl Model for Level2 {
 }
 
 impl Level2 {
-    /// Level 2 with these rules and questions.
+    /// Level 2 with these rules and these questions, of which there are at least two. The results of the test
+    /// rows are computed here, once.
     pub fn new(rules: Rules, questions: Questions) -> Level2
         requires { 2 ≤ length questions }
         ensures parts { result ≡ record { rules = rules; questions = questions } }
@@ -96,15 +97,15 @@ impl Level2 {
         &self.questions
     }
 
-    /// Puts level 2's words, with their complements, to their start, in the order of their numbers
-    /// (docs/CONCEPT.md, "Level 2").
+    /// Stores the words with which level 2 starts a span, with their complements, in the order of their
+    /// numbers (docs/CONCEPT.md, "Level 2").
     #[tactic(auto, using(crate::proofs::StoreLemmas::outsides))]
     pub fn reset<M: Guarded>(&self, memory: &mut M) -> Result<(), NoMemory>
         ensures words { OnOk result (words_of (M.shows memory.new).words ≡ start) }
         ensures within { OnOk result (AreWithin self.now.rules (words_of (M.shows memory.new).words)) }
         ensures mirrored { OnOk result (AreMirrored (M.shows memory.new).words) }
 
-        // Where memory ran out, the first so many of its stores were made, in their order, and no other.
+        // Where memory ran out, its stores were made up to some point, in their order, and no other.
         ensures stopped { OnErr result (AreFirst reset_stores
             (word_at (M.shows memory.old).words) (word_at (M.shows memory.new).words)) }
 
@@ -119,9 +120,9 @@ impl Level2 {
 
     /// Runs the module of this number, 0 to 7, over the memory (docs/CONCEPT.md, "Level 2"). The readings and
     /// the number of the question stand at the input ports and at the link. `tick` is the number of the tick
-    /// in its span, and `phase` says what is to be done at it. What disturbs the run is mixed in by exclusive
-    /// or; 0 disturbs nothing. After NoMemory, what was stored stays: the first so many of the run's stores,
-    /// by which no trip is forgotten, and no word that differed from its complement.
+    /// in its span, and `phase` says what is to be done at it. `disturbance` is mixed in by exclusive or; 0
+    /// disturbs nothing. After NoMemory the stores that the run made up to then stay. Their order makes sure
+    /// that no trip is forgotten, and no word that differed from its complement.
     pub fn module<M: Guarded>(
         &self,
         module: u8,
@@ -141,8 +142,8 @@ impl Level2 {
         self.module_with_lookup(module, memory, tick, phase, disturbance, &lookup)
     }
 
-    /// Does the same, and doesn't ask the permit table again for what was looked up already. The controller
-    /// calls it at every tick.
+    /// Runs a module as `module` does, but doesn't ask the permit table for what `lookup` has already. The
+    /// unit calls it at every tick.
     #[inline(always)]
     pub fn module_with_lookup<M: Guarded>(
         &self,
@@ -166,7 +167,7 @@ impl Level2 {
         self.run(number, memory, phase, disturbance, lookup)
     }
 
-    /// Runs a module other than the first.
+    /// Runs a module other than module 0.
     #[inline(always)]
     fn run<M: Guarded>(
         &self,
@@ -213,7 +214,7 @@ impl Level2 {
     }
 }
 
-/// The index of a question among so many: its number modulo their count.
+/// The index of a question among `count` questions: its number modulo their count.
 #[inline(always)]
 fn row_index(asked: u16, count: usize) -> usize
     requires { 1 ≤ count }

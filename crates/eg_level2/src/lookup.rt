@@ -5,7 +5,7 @@ ghost use Rattle.eg_level2.specs.Inputs.{IsLookup};
 use eg_answer::Rules;
 
 /// The permit table's value at a pedal and a speed, looked up already (docs/CONCEPT.md, "Torque"). Mostly
-/// level 2 reads the pedal and the speed of the drive row, for which the unit knows it.
+/// level 2 reads the pedal and the speed of the drive row, for which the unit has looked the value up.
 #[derive(Clone, Copy)]
 pub struct Lookup {
     /// The pedal, in per mille.

@@ -11,7 +11,7 @@ pub enum Phase {
     Send,
     /// The shut-off paths are tested: the debouncers aren't fed, and no answer is sent.
     Test,
-    /// The same, and path 1 is ordered open.
+    /// As `Test`, and path 1 is ordered open.
     TestOrder,
 }
 

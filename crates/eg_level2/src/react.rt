@@ -16,7 +16,7 @@ use eg_guard::Guarded;
 const WHOLE_TOKEN: u16 = 0x00ff;
 
 /// Module 7: orders path 1 open where a trip stands or a test asks for it, and sends the answer in the phase
-/// for it, where no trip stands (docs/CONCEPT.md, "Level 2").
+/// `Send` where no trip stands (docs/CONCEPT.md, "Level 2").
 #[inline(always)]
 pub(crate) fn react<M: Guarded>(memory: &mut M, phase: Phase) -> Result<Step, NoMemory>
     ensures words { OnOk result (words_of (M.shows memory.new).words
@@ -86,7 +86,7 @@ fn opens_now<M: Guarded>(memory: &M, phase: Phase) -> bool
     is_set(word(memory, TRIP)) || phase.orders()
 }
 
-/// Whether an answer is sent: in the phase for it, without a trip.
+/// Whether an answer is sent: in the phase `Send`, where no trip stands.
 #[tactic(auto, unfolding(crate::specs::Words::named, crate::specs::Modules::answers_now))]
 fn answers_now<M: Guarded>(memory: &M, phase: Phase) -> bool
     ensures { result ≡ answers_now phase (words_of (M.shows memory.now).words) }

@@ -13,7 +13,7 @@ pub(crate) struct RowResults {
 }
 
 impl RowResults {
-    /// Those of a row.
+    /// The seed and the results of a row.
     #[tactic(auto, unfolding(crate::specs::Inputs::results_by))]
     fn of(rules: &Rules, row: &TestRow) -> RowResults
         ensures { result ≡ results_by rules.now row.now }
@@ -25,7 +25,7 @@ impl RowResults {
     }
 }
 
-/// Those of the rows of all questions, in their order.
+/// The seeds and the results of the rows of all questions, in their order.
 pub(crate) fn results_of_all(rules: &Rules, questions: &Questions) -> ArrayVec<RowResults, 64>
     ensures { result.items ≡ map (λ question. results_by rules.now question.row) questions.now }
 {

@@ -158,7 +158,7 @@ pub(crate) fn pairs<M: Guarded>(
 }
 
 /// The permitted torque at a pedal (per mille), and at the speeds and the raise that are read. Where a trip
-/// stands 0 is written whatever it is, so that it isn't worked out.
+/// stands it isn't worked out, since 0 is written in any case.
 #[tactic(auto, using(crate::proofs::ModuleLemmas::looked_up))]
 fn permit(rules: &Rules, lookup: &Lookup, tripped: bool, pedal: u16, read: &Readings) -> u16
     requires { IsLookup rules.now lookup.now }

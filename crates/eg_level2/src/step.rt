@@ -27,7 +27,7 @@ impl Step {
         }
     }
 
-    /// What neither orders nor answers nor finds anything, as a module that doesn't run at a tick
+    /// A run that orders, answers and finds nothing. A module that doesn't run at a tick counts as this
     /// (docs/CONCEPT.md, "Level 2").
     pub fn quiet() -> Step
         ensures { result ≡ quiet_step }

@@ -11,7 +11,7 @@ use eg_guard::{Guarded, PROTECTED, RESULT_COUNT, RESULTS, StoreRefusal, Who};
 /// How many words there are. The complement of word `n` has the number `n + WORDS`.
 const WORDS: u16 = MIRRORED_WORDS as u16;
 
-/// How many of them, the first, are signals: these stand among the results.
+/// How many words, from word 0 on, are signals. The signals stand among the results.
 pub(crate) const SIGNALS: u16 = RESULT_COUNT;
 
 // The numbers of the words (docs/FORMATS.md, "Words of level 2").
@@ -50,7 +50,7 @@ pub(crate) const SIGN: u16 = 15;
 /// The high word of an answer where the program flow is whole.
 pub(crate) const WHOLE_FLOW: u16 = 0x00ff;
 
-/// What marks it where the program flow was broken.
+/// The bit that marks the high word of an answer where the program flow was broken.
 pub(crate) const BROKEN_FLOW: u16 = 0x8000;
 
 /// The address at which the word of level 2 of that number stands, 0 to 15, and from 16 on its complement

@@ -21,8 +21,8 @@ abbrev pub AreInTurn : List HeardAnswer → Type 0
 AreInTurn [] = Unit {0}
 AreInTurn (answer ∷ before) = All (λ earlier. earlier.tick < answer.tick) before × AreInTurn before
 
--- What a module always keeps. The answers that it holds came one after another, in one period: in that which
--- has no verdict yet.
+-- What a monitoring module always keeps. The answers that it holds came one after another, in the one period
+-- that has no verdict yet.
 pub record IsMonitor (m : MonitorParts) : Type 0 where
   pub times : AreTimes m.times
   pub weights : AreWeights m.times.weights
@@ -31,11 +31,11 @@ pub record IsMonitor (m : MonitorParts) : Type 0 where
   pub one_period : All (λ answer. period_of m.times answer.tick ≡ m.verdicts) m.heard
   pub within : m.value ≤ m.times.weights.limit
 
--- it has given these verdicts, newest first, and its counter stands for them
+-- the monitoring module has given these verdicts, newest first, and its counter stands for them
 pub record HasGiven (m : MonitorParts) (verdicts : List Verdict) : Type 0 where
   pub count : m.verdicts ≡ length verdicts
   pub counter : StandsFor m.times.weights m.value (map is_wrong verdicts)
 
--- the number that it expects in the period of a tick
+-- the number that the monitoring module expects in the period of a tick
 abbrev pub expected_at : MonitorParts → ℕ → ℕ
 expected_at m tick = expected_number m.times m.questions tick

@@ -50,7 +50,7 @@ impl Model for Monitor {
 }
 
 impl Monitor {
-    /// A module that has heard nothing and given no verdict.
+    /// A monitoring module that has heard nothing and given no verdict, for at least two questions.
     pub fn new(times: Times, questions: Questions) -> Monitor
         requires { 2 ≤ length questions }
         ensures begins { result ≡
@@ -59,7 +59,7 @@ impl Monitor {
         ensures next { result.verdicts ≡ period_of result.times 0 }
         ensures keeps { IsMonitor result }
     {
-        // Whoever reads the weights learns that they and the times keep their limits.
+        // Called for its clause alone: the weights and the times keep their limits.
         let _weights = times.weights();
         Monitor {
             times,
@@ -70,7 +70,7 @@ impl Monitor {
         }
     }
 
-    /// Begins again, as a new module with these times and questions.
+    /// Begins again, as a new monitoring module with the same times and questions.
     pub fn restart(&mut self)
         ensures begins { self.new ≡ record self.old { verdicts = 0; heard = []; value = 0 } }
         ensures given { HasGiven self.new [] }
@@ -82,7 +82,7 @@ impl Monitor {
         self.counter = Counter::new();
     }
 
-    /// An equal module.
+    /// An equal monitoring module.
     pub fn copy(&self) -> Monitor
         ensures equal { result ≡ self.now }
         ensures keeps { IsMonitor result }
@@ -146,8 +146,8 @@ impl Monitor {
           value = fed self.old.times.weights self.old.value (is_wrong verdict);
         }) }
         ensures unchanged { IfNone result (self.new ≡ self.old) }
-        // What it stands for, whichever verdicts it has given. The next tick lies in the period that has no
-        // verdict yet.
+        // The counter stands for the verdicts that were given, whichever they are. The next tick lies in the
+        // period that has no verdict yet.
         ensures given { (verdicts : List Verdict) → HasGiven self.old verdicts
             → HasGiven self.new (with_verdict result verdicts) }
         ensures next { self.new.verdicts ≡ period_of self.new.times (tick + 1) }

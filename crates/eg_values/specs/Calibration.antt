@@ -29,7 +29,7 @@ made_of rules plant times questions brake =
 abbrev pub IsAnswered : Rules → Question → Type 0
 IsAnswered rules question = question.answer ≡ expected_of rules question.row
 
--- so is each question's
+-- the answer of each question is the fold of its row
 abbrev pub AreAnswered : Rules → List Question → Type 0
 AreAnswered rules questions = All (IsAnswered rules) questions
 
@@ -46,7 +46,7 @@ pub record GoTogether (c : CalibrationParts) : Type 0 where
   pub two_questions : 2 ≤ length c.questions
   pub answered : AreAnswered c.rules c.questions
 
--- what keeps parts apart, where what is told before it in `Apart` does not
+-- why the parts don't go together, where no reason that stands before it in `Apart` applies
 abbrev pub IsApart : CalibrationParts → Apart → Type 0
 IsApart c Torque = ¬ (c.rules.kt ≡ c.plant.kt)
 IsApart c Few = (c.rules.kt ≡ c.plant.kt) × (length c.questions < 2)

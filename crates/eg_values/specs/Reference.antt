@@ -130,7 +130,7 @@ question_3 = record {
 abbrev pub reference_questions : List Question
 reference_questions = question_0 ∷ question_1 ∷ question_2 ∷ question_3 ∷ []
 
--- all of it; the brake doesn't count
+-- the whole calibration; the brake doesn't count
 abbrev pub reference_parts : CalibrationParts
 reference_parts = record {
   rules = reference_rules;

@@ -6,7 +6,8 @@ use eg_answer::{Questions, Rules, Times, expected};
 use eg_plant::PlantData;
 use std::marker::Model;
 
-/// Why parts don't go together as a calibration: the first of these rules that they break.
+/// Why parts don't go together as a calibration (docs/CONCEPT.md, "Calibration"): the first of these that
+/// applies.
 #[derive(Clone, Copy)]
 pub enum Apart {
     /// Plant and rules have different torques of a load of 1000.
@@ -18,8 +19,8 @@ pub enum Apart {
 }
 
 /// A calibration (docs/CONCEPT.md, "Calibration"): the rules of level 2, the plant, the times of the answers,
-/// the questions with their answers, and whether the brake counts. Its type keeps that it is an accepted one
-/// (`IsAccepted`). Contracts see its `CalibrationParts`.
+/// the questions with their answers, and whether the brake counts. Each value of the type is an accepted
+/// calibration (`IsAccepted`). Contracts see its `CalibrationParts`.
 #[derive(Drop)]
 pub struct Calibration {
     rules: Rules,
@@ -40,9 +41,9 @@ impl Model for Calibration {
 }
 
 impl Calibration {
-    /// The calibration of these parts, or None where they don't go together: plant and rules have one torque
-    /// of a load of 1000, there are two questions at least, and each question's answer is the fold of its
-    /// row.
+    /// The calibration of these parts, or None where they don't go together. They do where plant and rules
+    /// have one torque of a load of 1000, there are at least two questions, and each question's answer is the
+    /// fold of its row.
     pub fn new(
         rules: Rules,
         plant: PlantData,
@@ -57,7 +58,7 @@ impl Calibration {
         Calibration::of_parts(rules, plant, times, questions, brake).ok()
     }
 
-    /// The calibration of these parts, or the first rule that keeps them apart.
+    /// The calibration of these parts, or the first reason why they don't go together.
     pub fn of_parts(
         rules: Rules,
         plant: PlantData,
@@ -79,7 +80,7 @@ impl Calibration {
         if let Some(index) = wrong_answer(&rules, &questions) {
             return Err(Apart::Answer { index });
         }
-        // Whoever reads these values learns what their types keep.
+        // Called for its clause alone: tables, weights and times keep the limits of their types.
         let _values = rules.permit.table().values();
         let _limits = (rules.pair.limit(), rules.torque.limit());
         let _charges = plant.charge().values();
@@ -125,8 +126,8 @@ impl Calibration {
         &self.questions
     }
 
-    /// Whether the brake counts: while it is pressed pedal and raise are taken as 0 (docs/CONCEPT.md,
-    /// "Sensors" and "Torque").
+    /// Whether the brake counts: where it does, pedal and raise are taken as 0 while the brake is taken as
+    /// pressed (docs/CONCEPT.md, "The brake").
     pub fn brake(&self) -> bool
         ensures brake { result ≡ self.now.brake }
         ensures accepted { IsAccepted self.now }
@@ -148,8 +149,8 @@ impl Calibration {
     }
 }
 
-/// The first question, the first being 0, whose answer isn't the fold of its row. Whoever learns that there
-/// is none learns that the seeds are words.
+/// The index of the first question, from 0 on, whose answer isn't the fold of its row. Where there is none,
+/// it is known besides that the seeds are words.
 fn wrong_answer(rules: &Rules, questions: &Questions) -> Option<u16>
     ensures wrong { IfSome result (IsFirstWrong rules.now questions.now) }
     ensures answered { IfNone result (AreAnswered rules.now questions.now) }

@@ -1,5 +1,5 @@
-//! The values of a calibration, and the reference calibration. What reads calibrations from files stands
-//! above.
+//! The values of a calibration, and the reference calibration. The readers of calibration files stand in
+//! crates above.
 #![tactic(auto)]
 
 mod calibration;

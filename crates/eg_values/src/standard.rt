@@ -12,8 +12,8 @@ use eg_plant::PlantData;
 use eg_sensor::Readings;
 use eg_torque::Permit;
 
-/// The reference calibration (docs/CONCEPT.md, "Calibration"), which is an accepted one, in which the brake
-/// doesn't count. It takes no memory.
+/// The reference calibration (docs/CONCEPT.md, "Calibration"). It is an accepted one, and the brake doesn't
+/// count in it. It takes no memory.
 pub fn reference() -> Calibration
     ensures parts { result ≡ reference_parts }
     ensures accepted { IsAccepted result }
