@@ -1,4 +1,4 @@
-// What each class of faults does, so many ticks after the onset.
+// What each class of faults does, by the number of ticks since the onset.
 ghost use Rattle.std.specs.Prelude.{◌≡◌, ◌<◌, false, option_map};
 ghost use Rattle.std.specs.Option.{option_map_or};
 ghost use Rattle.eg_fault.specs.Faults;

@@ -3,8 +3,8 @@
 //!
 //! A tick is the eight modules of level 2 one after another (`specs/Ticks.antt`). Where at each tick all
 //! eight run or none does, three words tell between two ticks whether all eight ran at each tick since the
-//! last answer (`specs/Flow.antt`, `IsSteady`). The number that is sent is then the expected one exactly where
-//! they did and none is disturbed now.
+//! last answer (`specs/Flow.antt`, `IsSteady`). The number that is sent is then the expected one exactly
+//! where they did and none is disturbed now.
 #![tactic(auto)]
 
 ghost use Rattle.eg_flow.specs.Laws.{TokenTells, ReactClears, WholeTick, EmptyTick, MarkStays, TwoFlows, FoldTells};

@@ -16,7 +16,7 @@ pub enum Place {
     Empty(u8),
     /// In a text of one line.
     Line(u8),
-    /// In a text of several lines, behind so many of its delimiters in a row, up to three.
+    /// In a text of several lines, behind this many of its delimiters in a row, counted up to three.
     Lines(u8, u8),
     /// Behind a backslash in a text of one line.
     Escape,
