@@ -12,7 +12,7 @@ use Rattle.eg_model.specs.History.{Setting, SpanKind}
 use Rattle.eg_agree.specs.Doings.{phase_at, doing_at}
 
 module _ (kind : SpanKind) (s : Setting) (x : Effects) (reads : Readings) (l : ℕ) (w : Words) where
-  -- the words after the first so many modules
+  -- the words after the first modules, as many as the number says
   abbrev pub after : ℕ → Words
   after j = after_modules (doing_at kind s x reads l) j w
 

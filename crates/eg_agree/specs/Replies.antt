@@ -29,7 +29,7 @@ use Rattle.eg_agree.specs.Doings.{doing_at}
 unfoldable pub doing_after : SpanKind → Setting → Tick → List Tick → Doing
 doing_after kind s x before = doing_at kind s x.effects (readings_at s.cal x.effects x.entry) (length before)
 
--- its words after these ticks, from the start on
+-- the words of level 2 after these ticks, from the start on
 unfoldable pub words_over : SpanKind → Setting → List Tick → Words
 words_over kind s [] = start
 words_over kind s (x ∷ before) = after_tick (doing_after kind s x before) (words_over kind s before)

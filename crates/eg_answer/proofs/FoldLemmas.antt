@@ -18,7 +18,7 @@ moved-parts n h =
     let small : n / 8192 < 8 = omega arith in
     ap (λ x. bit_or x (n / 8192)) low ∙ or_shifted (n % 8192) 3 (n / 8192) small
 
--- it is a word,
+-- a word moved by three places is a word,
 moved_below : (n : ℕ) → Word n → Word (rotate_left w16 n 3)
 moved_below n h = let e = moved-parts n h in omega arith
 

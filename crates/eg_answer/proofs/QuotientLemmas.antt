@@ -19,7 +19,7 @@ div_ceil-quotient_up a b positive =
     below : (a b c : ℕ) → 0 < b → a ≤ c → c < a + b → a + (b - 1) - c < b
     below a b c h l m = omega arith
 
--- it is no more than the number
+-- a rounded quotient is no more than the number that is divided
 pub div_ceil_within : (a b : ℕ) → 0 < b → div_ceil a b ≤ a
 div_ceil_within a b positive = go (div_ceil a b) b positive (div_ceil_times a b positive).1
   where

@@ -8,7 +8,7 @@ use Rattle.std.proofs.lemmas.List.{drop_all, drop_more}
 use Rattle.std.proofs.lemmas.Slice.Eq.{bytes_eq-Decides}
 use Rattle.eg_asm.specs.Forms.{Form, forms, form_named}
 
--- the first of the values that passes is that of the first whose value passes
+-- the first image that passes a test is the image of the first element whose image passes it
 pub find-map : {X Y : Type 0} (f : X → Y) (p : Y → Bool) (xs : List X) → find p (map f xs) ≡ option_map f (find (λ x. p (f x)) xs)
 find-map f p [] = refl
 find-map f p (x ∷ xs) = at (p (f x)) (find-map f p xs)
@@ -17,7 +17,7 @@ find-map f p (x ∷ xs) = at (p (f x)) (find-map f p xs)
     at true h = refl
     at false h = h
 
--- what is made of what is made of a value
+-- two functions of a value, one after the other, are one function of it
 pub option_map-option_map : {X Y Z : Type 0} (f : X → Y) (g : Y → Z) (o : Option X) → option_map (λ x. g (f x)) o ≡ option_map g (option_map f o)
 option_map-option_map f g None = refl
 option_map-option_map f g (Some x) = refl
@@ -33,7 +33,7 @@ find-passes p (y ∷ ys) x is = at (p y) refl (find-passes p ys x) is
     at true here later is = let same : y ≡ x = cc in rw (← same) here
     at false here later is = later is
 
--- what all pass, the one that is found passes
+-- a test that all pass, the one that is found passes too
 pub find-all : {X : Type 0} (p test : X → Bool) (xs : List X) (x : X) → list_all test xs ≡ true → find p xs ≡ Some x → test x ≡ true
 find-all p test [] x all is = absurd cc
 find-all p test (y ∷ ys) x all is = at (p y) (test y) refl (find-all p test ys x) all is
@@ -75,6 +75,6 @@ form_named-few mnemonic f is = let small = each_form (λ f. nat_le (length f.ope
 pub find-here : {X Y : Type 0} (f : X → Y) (p : Y → Bool) (xs : List X) (i : ℕ) (d : X) → i < length xs → p (f (get_or xs i d)) ≡ true → find p (map f (drop i xs)) ≡ Some (f (get_or xs i d))
 find-here f p xs i d room here = rw (drop_more xs i d room, here) refl
 
--- none is left
+-- none that passes is left
 pub find-nowhere : {X Y : Type 0} (f : X → Y) (p : Y → Bool) (xs : List X) (i : ℕ) → length xs ≤ i → find p (map f (drop i xs)) ≡ None
 find-nowhere f p xs i end = rw (drop_all i xs end) refl

@@ -14,7 +14,7 @@ use Rattle.eg_asm.specs.Kept.{numbered, instructions_from, is_repeat, repeat_beh
 
 -- ---- one item more at the end ----
 
--- so many words
+-- how many words they are
 pub word_count-append : (items more : List Item) → word_count (items ++ more) ≡ word_count items + word_count more
 unfolding word_count
 word_count-append [] more = omega arith

@@ -47,7 +47,7 @@ digit_plain b h = at (is_ascii_lowercase b) (is_ascii_digit b) h
     at false true h = refl
     at false false h = absurd cc
 
--- they lack every other byte
+-- the texts of operands and names lack every other byte
 lacks-plain : (c : ℕ) → is_plain c ≡ false → (text : List ℕ) → list_all is_plain text ≡ true → Lacks c text
 lacks-plain c other [] h = refl
 lacks-plain c other (b ∷ bs) h = at (is_plain b) (b == c) refl refl h (lacks-plain c other bs)
@@ -309,7 +309,7 @@ of_instruction text item h =
     let P : Item → Type 0 = λ i. IsItem i × (text ≡ text_of i) in
     subst P (sym h.is) (may, h.written)
 
--- what is written of an item is read as it
+-- the text that is written of an item is read as that item
 pub item_of_text-written : (item : Item) → IsItem item → item_of_text (text_of item) ≡ Some item
 unfolding text_of IsItem
 item_of_text-written Nothing may = nothing

@@ -84,7 +84,7 @@ added-zero : (o : Option ℕ) → o ≡ added o (Some 0)
 added-zero None = refl
 added-zero (Some n) = let same : n + 0 ≡ n = omega arith in rw same refl
 
--- what an operand adds that is no target
+-- what an operand adds that isn't a target
 pub record AddsPlain (labels : Labels) (address word : ℕ) (o : Operand) (value : Value) : Type 0 where
   n : ℕ
   field : field_of labels address o value ≡ Some n
@@ -169,7 +169,7 @@ completed-word labels address mnemonic values f named fit =
 
 -- ---- places ----
 
--- the place, where there is one, is at least so far
+-- the number, where there is one, is at least this one
 abbrev From : ℕ → Option ℕ → Type 0
 From least o = (address : ℕ) → o ≡ Some address → least ≤ address
 
@@ -217,12 +217,12 @@ earlier-right address (Some other) h = let later = h other refl in let same : mi
 
 -- ---- faults ----
 
--- what is at fault among items behind others is so among what is kept of them
+-- the first line at fault among items behind others is the first one at fault in what is kept of them
 abbrev SameFault : Labels → List Item → List Item → Type 0
 SameFault labels before items =
     fault_behind labels before items ≡ earlier (unresolved labels (word_count before) (instructions_from (length before + 1) items)) (repeat_behind before items)
 
--- an item without fault, that is no label which is repeated
+-- an item without fault, which isn't a repeated label
 fault-sound : (labels : Labels) (before : List Item) (item : Item) (items : List Item) → is_sound labels before item ≡ true → is_repeat before item ≡ false
     → unresolved labels (word_count before) (cons_option (numbered (length before + 1) (told item)) (instructions_from (length before + 1 + 1) items))
     ≡ unresolved labels (word_count before + size item) (instructions_from (length before + 1 + 1) items)

@@ -12,7 +12,7 @@ pub link-more : (labels : Labels) (address : ℕ) (is : List (ℕ × Encoded)) (
 unfolding unresolved completed_words
 link-more labels address is i word room here has = rw (drop_more is address i room, here, ← has) (refl, refl)
 
--- one that has none
+-- an instruction that has no word
 pub link-bad : (labels : Labels) (address : ℕ) (is : List (ℕ × Encoded)) (i : ℕ × Encoded) → address < length is → get_or is address i ≡ i → None ≡ completed labels address i.1
     → unresolved labels address (drop address is) ≡ Some i.0
 unfolding unresolved

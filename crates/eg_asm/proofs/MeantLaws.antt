@@ -38,7 +38,7 @@ nothing_left : (values : List Value) → AllZip Fits [] values → values ≡ []
 nothing_left [] fit = refl
 nothing_left (value ∷ values) fit = absurd fit
 
--- they are a number, and nothing else
+-- the values are one number, and nothing else
 number_last : (most : ℕ) (values : List Value) → AllZip Fits (operand.Number most ∷ []) values → (n : ℕ) × (values ≡ Number n ∷ [])
 unfolding Fits
 number_last most [] fit = absurd fit
@@ -47,7 +47,7 @@ number_last most (Number n ∷ rest) fit = (n, ap (λ (l : List Value). Number n
 number_last most (Name name ∷ rest) fit = absurd fit.0
 number_last most (Distance d ∷ rest) fit = absurd fit.0
 
--- they are a target, and nothing else
+-- the values are one target, and nothing else
 target_last : (reach : ℕ) (values : List Value) → AllZip Fits (operand.Target reach ∷ []) values → (target : Value) × (values ≡ target ∷ [])
 target_last reach [] fit = absurd fit
 target_last reach (target ∷ rest) fit = (target, ap (λ (l : List Value). target ∷ l) (nothing_left rest fit.1))

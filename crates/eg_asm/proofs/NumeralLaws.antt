@@ -31,7 +31,7 @@ are_digits (d ∷ ds) h =
 abbrev step : ℕ → ℕ → ℕ
 step value digit = 10 * value + (digit - 48)
 
--- they have the number's value
+-- the digits of a number have the number's value
 value_behind : (a : ℕ) (ds : List ℕ) → fold step a (map digit ds) ≡ number_from_digits_after 10 a ds
 value_behind a [] = refl
 value_behind a (d ∷ ds) = let same : 10 * a + (48 + d - 48) ≡ a * 10 + d = omega arith in ap (λ n. fold step n (map digit ds)) same ∙ value_behind (a * 10 + d) ds
@@ -57,7 +57,7 @@ numeral-digits n = at (n == 0)
     at true = refl
     at false = are_digits (digits_of 10 n) (all_below_base_digits_of 10 n (lit≤ tt))
 
--- what is written of a number is read as it
+-- the numeral that is written of a number is read as that number
 pub numeral_in-numeral : (n : ℕ) → numeral_in (numeral n) ≡ Some n
 unfolding numeral numeral_in is_numeral decimal_value
 numeral_in-numeral n = at (n == 0) refl

@@ -50,7 +50,7 @@ operand-bad kept operand operands text is = rw (texts_in-some text) (at (value_o
 
 -- ---- what the operands from a place on add ----
 
--- what they add, where this is left of the text
+-- what these operands add, where this is left of the text
 unfoldable pub added_from : Encoded → List Operand → ℕ → Option (List ℕ) → Option Encoded
 added_from kept operands i rest = option_map (with_operands kept (drop i operands)) (values_of (drop i operands) (texts_in rest))
 
@@ -68,18 +68,18 @@ pub added-bad : (kept : Encoded) (operands : List Operand) (i : ℕ) (d : Operan
 unfolding added_from
 added-bad kept operands i d text room is = rw (drop_more operands i d room, operand-bad kept (get_or operands i d) (drop (i + 1) operands) text is) refl
 
--- one for which no text is left
+-- an operand for which no text is left
 pub added-missing : (kept : Encoded) (operands : List Operand) (i : ℕ) (d : Operand) → i < length operands → added_from kept operands i None ≡ None
 unfolding added_from values_of texts_in
 added-missing kept operands i d room = rw (drop_more operands i d room) refl
 
--- a text for which none is left
+-- a text for which no operand is left
 pub added-past : (kept : Encoded) (operands : List Operand) (i : ℕ) (rest : Option (List ℕ)) → length operands ≤ i → is_some rest ≡ true → added_from kept operands i rest ≡ None
 unfolding added_from values_of
 added-past kept operands i (Some text) end more = rw (drop_all i operands end, texts_in-some text) refl
 added-past kept operands i None end more = absurd cc
 
--- neither is left
+-- neither an operand nor a text is left
 pub added-all : (kept : Encoded) (operands : List Operand) (i : ℕ) → length operands ≤ i → added_from kept operands i None ≡ Some kept
 unfolding added_from values_of texts_in with_operands
 added-all kept operands i end = rw (drop_all i operands end) refl

@@ -147,7 +147,7 @@ assembled-then source (Err (fault.Line place)) h = line-then source place h
 assembled-then source (Err (fault.Label place)) h = label-then source place h
 assembled-then source (Err fault.Long) h = long-then source h
 
--- ---- what is read is so ----
+-- ---- what is read holds of the source ----
 
 -- lines that are read up to one that may not come
 pub record Stops (words place : ℕ) (lines : List Line) (e : AsmFault) : Type 0 where

@@ -28,7 +28,7 @@ listing = 0
 abbrev answers : List (List ℕ) → List (Result (List ℕ) AsmFault)
 answers sources = map assembled sources
 
--- a line that is written so many times
+-- a line that is written n times
 lines : ℕ → List ℕ → List ℕ
 lines zero line = []
 lines (suc n) line = line ++ lines n line
@@ -95,7 +95,7 @@ blanks : answers (codes "nop \n" ∷ codes " nop\n" ∷ codes "ldi  r0,1\n" ∷ 
 unfolding assembling
 blanks = refl
 
--- operands that are missing, and such as aren't wanted
+-- operands that are missing, too many or of another kind, and names that no form has
 operands : answers (codes "nop r0\n" ∷ codes "ldi\n" ∷ codes "ldi r0\n" ∷ codes "ldi r0,1,2\n" ∷ codes "ldi 1,r0\n" ∷ codes "add r0,r0,0\n"
     ∷ codes "jz r0,r1\n" ∷ codes "word\n" ∷ codes "dbl r0\n" ∷ codes "NOP\n" ∷ [])
     ≡ replicate 10 (Err (fault.Line 1))

@@ -38,7 +38,7 @@ with_operand kept (operand.Number most) (Number n) = record kept { word = kept.w
 with_operand kept (operand.Target reach) value = record kept { jump = Some (reach, capped_target value) }
 with_operand kept _ _ = kept
 
--- the same with some operands more
+-- what is kept with some operands more
 unfoldable pub with_operands : Encoded → List Operand → List Value → Encoded
 with_operands kept (operand ∷ operands) (value ∷ values) =
     with_operands (with_operand kept operand value) operands values

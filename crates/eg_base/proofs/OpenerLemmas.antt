@@ -5,7 +5,7 @@ use Rattle.std.proofs.lemmas.List.{length-take}
 use Rattle.eg_base.specs.Outside.{Files, Reads}
 use Rattle.eg_base.specs.Openers.{IsOpened}
 
--- at most so many bytes of a list
+-- the first `most` bytes of a list are at most `most`
 taken : (most : ℕ) (bytes : List ℕ) → length (take most bytes) ≤ most
 taken most bytes = let e = length-take most bytes in omega arith
 

@@ -57,6 +57,6 @@ diesel_step-off plant d command ignition held =
     torque_of-off plant.kt (quantity_of plant (next_rack plant d.rack command false held) (next_boost plant d.rack d.boost) false)
     ignition false refl
 
--- it shows one load twice
+-- a diesel engine shows one load twice
 pub shown_of-one_load : (d : Diesel) → (shown_of d).load_2 ≡ (shown_of d).load_1
 shown_of-one_load d = refl

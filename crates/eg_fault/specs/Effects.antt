@@ -68,7 +68,7 @@ unfoldable pub sends_in : Option ℕ → TimeParts → ℕ → Bool
 sends_in None times tick = is_send_tick times tick
 sends_in (Some moved) times tick = place_of times tick == moved
 
--- the same under what is out of order at it
+-- whether answers are sent at a tick, by what is out of order at it
 unfoldable pub sends_at : Effects → TimeParts → ℕ → Bool
 sends_at x times tick = sends_in x.send times tick
 
@@ -78,6 +78,6 @@ unfoldable pub asked_in : Option ℕ → TimeParts → ℕ → ℕ → ℕ
 asked_in None times count tick = asked times count tick
 asked_in (Some question) times count tick = question % count
 
--- the same under what is out of order at it
+-- the number of the question that is asked at a tick, by what is out of order at it
 unfoldable pub asked_at : Effects → TimeParts → ℕ → ℕ → ℕ
 asked_at x times count tick = asked_in x.wild times count tick

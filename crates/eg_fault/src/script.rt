@@ -43,7 +43,7 @@ impl Script {
         }
     }
 
-    /// Its numbers.
+    /// The numbers, in their order.
     pub fn values(&self) -> &[u16]
         ensures values { result.now ≡ self.now }
         ensures least { 1 ≤ length self.now }

@@ -30,12 +30,12 @@ pub number_tells : NumberTells
 unfolding number_of expected_number answer_number
 number_tells d w fits word = number_by (closed_flow w) w.sign (expected_fold d) word (expected-word d fits)
 
--- with a flow that is marked it isn't the expected one
+-- with a flow that is marked the number isn't the expected one
 marked_number : (d : Doing) (w : Words) → FitsWords d.rules (row_asked d) → 32768 ≤ closed_flow w → (number_of w == expected_number d) ≡ false
 unfolding number_of expected_number answer_number
 marked_number d w fits high = let word = expected-word d fits in ne_eqb _ _ (λ e. omega arith)
 
--- and with one that isn't it is told by the fold
+-- with a flow that is unmarked the number is the expected one exactly where the fold is
 unmarked_number : (d : Doing) (w : Words) → closed_flow w ≡ 255 → (number_of w == expected_number d) ≡ (w.sign == expected_fold d)
 unfolding number_of expected_number answer_number
 unmarked_number d w e = cases (eqb_tells w.sign (expected_fold d))

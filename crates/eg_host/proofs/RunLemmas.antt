@@ -1,4 +1,4 @@
--- What level 1 has done after so many steps of a slice.
+-- What level 1 has done after some steps of a slice.
 use Rattle.std.proofs.Common.{◌≡◌, ◌∙◌, refl, sym, ap, subst, ℕ, zero, suc, ◌+◌, ◌-◌, ◌≤◌, ◌<◌, List, arith}
 use Rattle.std.specs.Prelude.{Result, Ok, Err, IsErr, IsTrue, true, false}
 use Rattle.eg_guard.specs.Memory.{ShownMemory, AreWords, SameOutside}
@@ -35,7 +35,7 @@ steps-add (suc first) rest view world =
 
 -- ---- a slice so far ----
 
--- a slice that began with this machine and these words has led to that machine and those words, after so many steps
+-- a slice that began with this machine and these words has led to that machine and those words, after `count` steps
 pub record HasRun (count : ℕ) (m : Registers) (old : List ℕ) (now : Registers) (new : List ℕ) : Type 0 where
   pub outside : SameOutside is_level1_own old new
   pub are_words : AreWords old → AreWords new

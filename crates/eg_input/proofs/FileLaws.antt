@@ -249,7 +249,7 @@ AllZip-All row_of P each rs [] h = All-nil P
 AllZip-All row_of P each [] (row ∷ rows) h = absurd h
 AllZip-All row_of P each (r ∷ rs) (row ∷ rows) h = All-cons P row rows (each r row h.0) (AllZip-All row_of P each rs rows h.1)
 
--- so have the rows that were read
+-- where all rows that records write have a property, so have the rows that were read
 pub read-All : {X : Type 0} (headers : List Record) (row_of : ℕ → RowRule X) (P : X → Type 0) → ((width : ℕ) (r : Record) (row : X) → row_of width r ≡ Some row → P row)
     → (file : List Record)
     (result : Result (Vec X Global) TraceFault) → IsRead (rows_of headers row_of file) result → IfOk result (λ rows. All P rows.items)

@@ -18,7 +18,7 @@ use Rattle.eg_input.proofs.WritesLemmas.{written-word_of, word_of-written, lines
 there : (line : Line) → WritesSome line → is_none (word_of line) ≡ false
 there line h = rw (word_of-written line h.0 h.1) refl
 
--- the same, from the code's rule
+-- a line that the code's rule reads as a word writes some word
 writes : (line : Line) → is_none (word_of line) ≡ false → WritesSome line
 writes line h = at (word_of line) refl h
   where

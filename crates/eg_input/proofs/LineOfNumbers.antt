@@ -80,7 +80,7 @@ numeral-run s start fields (b ∷ rest) tail some e =
     let n = digit-no_mark b (and-left (is_ascii_digit b) (list_all is_ascii_digit rest) e) in
     digit-starts s start fields b (rest ++ tail) n ∙ digits-run fields [] (b ∷ rest) tail e
 
--- what is read as such a value is one digit or more
+-- a field that is read as a value is one digit or more
 abbrev pub OfDigits : {X : Type 0} → (List ℕ → Option X) → Type 0
 OfDigits {X} value_of = (field : List ℕ) (value : X) → value_of field ≡ Some value → (1 ≤ length field) × (list_all is_ascii_digit field ≡ true)
 

@@ -94,7 +94,7 @@ written-filter_map row_of (r ∷ rs) h =
     at_head None is there more = absurd cc
     at_head (Some row) is there more = rw is (is, more)
 
--- the place of the first item that gives none, counted from any number, where it is one of the first so many
+-- the place of the first item that gives none, counted from any number, where it is one of the first `most`
 pub first_missing : {A X : Type 0} (from most : ℕ) (row_of : A → Option X) (good : List A) (bad : A) (rest : List A) → length good < most
     → All (λ r. is_none (row_of r) ≡ false) good
     → row_of bad ≡ None → position_from (λ r. is_none (row_of r)) from (take most (good ++ bad ∷ rest)) ≡ Some (length good + from)
@@ -119,14 +119,14 @@ below-rows most row_of below some few clean =
     let is_some : nat_lt 0 (length below) ≡ true = grind (arith, nat_tests) in
     rw (take_all most below few, position_from-none (λ r. is_none (row_of r)) 2 below clean, enough, is_some) refl
 
--- a record that writes none, behind fewer than so many that do
+-- a record that writes no row, behind fewer than `most` records that do
 pub below-bad : {X : Type 0} (most : ℕ) (row_of : RowRule X) (good : List Record) (bad : Record) (rest : List Record) → length good < most
     → All (λ r. is_none (row_of r) ≡ false) good
     → row_of bad ≡ None → rows_below most row_of (good ++ bad ∷ rest) ≡ Err (fault.Row (length good + 2))
 unfolding rows_below rows_unless
 below-bad most row_of good bad rest room clean here = rw (first_missing 2 most row_of good bad rest room clean here) refl
 
--- too many, of which so many write a row
+-- more than `most` records, the first `most` of which write a row
 pub below-long : {X : Type 0} (most : ℕ) (row_of : RowRule X) (below : List Record) → most < length below
     → All (λ r. is_none (row_of r) ≡ false) (take most below)
     → rows_below most row_of below ≡ Err fault.Long

@@ -38,7 +38,7 @@ seen-more row_of left rest r rows count row s is = record {
   counted = omega (arith, length-append s.seen (r ∷ []), s.counted);
 }
 
--- a record that writes none is the first one
+-- a record that writes no row, behind records that were seen, is the first one
 pub seen-bad : {X : Type 0} (most : ℕ) (row_of : RowRule X) (left rest : List Record) (r : Record) (rows : List X) (count : ℕ)
     → Seen row_of left (r ∷ rest) rows count → count < most → row_of r ≡ None
     → rows_below most row_of left ≡ Err (fault.Row (count + 2))
@@ -48,7 +48,7 @@ seen-bad most row_of left rest r rows count s room bad =
     let Q : ℕ → Type 0 = λ n. rows_below most row_of left ≡ Err (fault.Row (n + 2)) in
     subst Q s.counted (subst P (sym s.parts) (below-bad most row_of s.seen r rest (omega arith) s.clean bad))
 
--- a record after so many makes the file too long
+-- a record behind `most` records that were seen makes the file too long
 pub seen-long : {X : Type 0} (most : ℕ) (row_of : RowRule X) (left rest : List Record) (r : Record) (rows : List X)
     → Seen row_of left (r ∷ rest) rows most → rows_below most row_of left ≡ Err fault.Long
 seen-long most row_of left rest r rows s =
@@ -58,7 +58,7 @@ seen-long most row_of left rest r rows s =
     let counted = s.counted in
     rw s.parts (below-long most row_of (s.seen ++ r ∷ rest) (omega (arith, length-append s.seen (r ∷ rest))) (subst Q (sym front) s.clean))
 
--- where all was seen, these are the rows, if there is one
+-- where all records were seen, these are the rows, if there is one
 all-seen : {X : Type 0} (most : ℕ) (row_of : RowRule X) (seen : List Record) → length seen ≤ most → All (λ r. is_none (row_of r) ≡ false) seen
     → rows_below most row_of seen ≡ (if nat_lt 0 (length (filter_map row_of seen)) then Ok (filter_map row_of seen) else Err fault.Empty)
 all-seen most row_of [] room clean = below-empty most row_of

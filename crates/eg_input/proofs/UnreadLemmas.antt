@@ -169,7 +169,7 @@ pub unread-read : (old new : Reader (Bor (List ℕ))) (found : Bool) (fields : L
 unread-read old new true fields reads first kept left h = unread-more old new fields left h (reads h.trim h.ready) (first h.trim) kept
 unread-read old new false fields reads first kept left h = unread-none old new fields left h (reads h.trim h.ready)
 
--- the same of a read's answer, with its error taken for another
+-- what one read takes, by the read's answer, its error taken for another
 pub unread-answer : {E D : Type 0} (old new : Reader (Bor (List ℕ))) (fields : List (List ℕ)) (before : Result Bool E) (after : Result Bool D) (Cause : E → D → Type 0)
     → MatchResult before (λ found. after ≡ Ok found) (λ e. IsErrAnd after (Cause e))
     → IfOk before (λ found. reader_trim old ≡ trim.None → Ready old → ReadRecord in_memory old new found fields)

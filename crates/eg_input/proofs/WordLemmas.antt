@@ -9,7 +9,7 @@ use Rattle.eg_input.specs.declared.fault.ImageFault.TheVariants as fault
 use Rattle.eg_input.proofs.RowsLemmas.{position_from-none, first_missing}
 use Rattle.eg_input.proofs.Seen.{Seen}
 
--- lines that each write a word, not too many
+-- at most `most` lines that each write a word
 pub words-all : (most : ℕ) (lines : List Line) → length lines ≤ most → All (λ line. is_none (word_of line) ≡ false) lines
     → words_of most lines ≡ Ok (filter_map word_of lines)
 unfolding words_of words_unless
@@ -17,13 +17,13 @@ words-all most lines few clean =
     let enough : nat_lt most (length lines) ≡ false = grind (arith, nat_tests) in
     rw (take_all most lines few, position_from-none (λ line. is_none (word_of line)) 1 lines clean, enough) refl
 
--- a line that writes none, behind fewer than so many that do
+-- a line that writes no word, behind fewer than `most` lines that do
 pub words-bad : (most : ℕ) (good : List Line) (bad : Line) (rest : List Line) → length good < most → All (λ line. is_none (word_of line) ≡ false) good
     → word_of bad ≡ None → words_of most (good ++ bad ∷ rest) ≡ Err (fault.Line (length good + 1))
 unfolding words_of words_unless
 words-bad most good bad rest room clean here = rw (first_missing 1 most word_of good bad rest room clean here) refl
 
--- too many, of which so many write a word
+-- more than `most` lines, the first `most` of which write a word
 pub words-long : (most : ℕ) (lines : List Line) → most < length lines → All (λ line. is_none (word_of line) ≡ false) (take most lines)
     → words_of most lines ≡ Err fault.Long
 unfolding words_of words_unless
@@ -39,7 +39,7 @@ seen-words most lines words count s room =
     let counted = s.counted in
     rw whole (words-all most s.seen (omega arith) s.clean ∙ ap (λ (ws : List ℕ). Ok ws) (sym s.rows_are))
 
--- a line that writes none is the first one
+-- a line that writes no word, behind lines that were seen, is the first one
 pub seen-bad_line : (most : ℕ) (lines : List Line) (line : Line) (rest : List Line) (words : List ℕ) (count : ℕ)
     → Seen word_of lines (line ∷ rest) words count → count < most → word_of line ≡ None
     → words_of most lines ≡ Err (fault.Line (count + 1))
@@ -47,7 +47,7 @@ seen-bad_line most lines line rest words count s room bad =
     let counted = s.counted in
     rw (s.parts, ← s.counted) (words-bad most s.seen line rest (omega arith) s.clean bad)
 
--- a line after so many makes the file too long
+-- a line behind `most` lines that were seen makes the file too long
 pub seen-long_file : (most : ℕ) (lines : List Line) (line : Line) (rest : List Line) (words : List ℕ)
     → Seen word_of lines (line ∷ rest) words most → words_of most lines ≡ Err fault.Long
 seen-long_file most lines line rest words s =

@@ -132,7 +132,7 @@ lines_of-word line after h =
     let P : Line → Type 0 = λ l. lines_of (l ++ after) ≡ l ∷ lines_of after in
     subst P (sym h.1.parts) (lines_of-line h.1.digits 10 after (digits-lack_newline h.1.digits h.1.values h.1.written) refl)
 
--- so are several such lines
+-- several lines that write words are cut as they stand
 pub lines_of-words : (good : List Line) (after : List ℕ) → All WritesSome good → lines_of (concat good ++ after) ≡ good ++ lines_of after
 lines_of-words [] after h = refl
 lines_of-words (line ∷ good) after h =

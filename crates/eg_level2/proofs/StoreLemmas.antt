@@ -46,7 +46,7 @@ unfolding kept_from
 kept_from-more values f g h count value ev e p =
     e ∙ ap (λ v. keep count v g) ev ∙ ap (keep count (slice_index values count)) p ∙ ap (λ k. kept_from values k f) (let one_more : suc count ≡ count + 1 = omega arith in one_more)
 
--- the first so many words are mirrored
+-- the first `count` words are mirrored
 abbrev pub MirrorBelow : ℕ → (ℕ → ℕ) → Type 0
 MirrorBelow count word = (k : ℕ) → k < count → word k + word (k + 16) ≡ 65535
 

@@ -24,7 +24,7 @@ put number value word k = if k == number then value else word k
 unfoldable pub keep : ℕ → ℕ → (ℕ → ℕ) → ℕ → ℕ
 keep number value word = put (number + MIRRORED_WORDS) (65535 - value) (put number value word)
 
--- the same where a test is true, and else nothing
+-- a store of a word and its complement where a test is true, and else none
 unfoldable pub keep_where : Bool → ℕ → ℕ → (ℕ → ℕ) → ℕ → ℕ
 keep_where test number value word = if test then keep number value word else word
 
@@ -47,7 +47,7 @@ store number value = record { number = number; value = value }
 unfoldable pub both : ℕ → ℕ → List Store → List Store
 both number value rest = store number value ∷ store (number + MIRRORED_WORDS) (65535 - value) ∷ rest
 
--- the same where a test is true, and else the rest alone
+-- the two stores and then the rest where a test is true, else the rest alone
 unfoldable pub both_where : Bool → ℕ → ℕ → List Store → List Store
 both_where test number value rest = if test then both number value rest else rest
 

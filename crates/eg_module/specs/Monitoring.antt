@@ -7,8 +7,8 @@ use Rattle.eg_answer.specs.Periods.{HeardAnswer, period_of, expected_number, is_
 use Rattle.eg_answer.specs.declared.questions.Question.{Question}
 use Rattle.eg_answer.specs.declared.marks.Verdict.{Verdict}
 
--- its times and its questions, how many verdicts it has given, the answers that it has heard since the last
--- one, newest first, and the value of the counter of wrong verdicts
+-- the times and the questions of a monitoring module, how many verdicts it has given, the answers that it has
+-- heard since the last one, newest first, and the value of the counter of wrong verdicts
 pub record MonitorParts : Type 0 where
   pub times : TimeParts
   pub questions : List Question

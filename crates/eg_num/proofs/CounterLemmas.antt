@@ -209,7 +209,7 @@ is_first-counted w b bits positive = is_first-cons w b bits ∙ comes (is_confir
     comes : (now before : Bool) (n n' l : ℕ) → n ≤ l → (n == l) ≡ before → (n' == l) ≡ now → (now && not before) ≡ (nat_lt n l && (n' == l))
     comes now before n n' l within is_before is_now = grind (arith, nat_tests)
 
--- the same of a number that stands for the list
+-- a number that stands for the list comes to the limit exactly where the last feed is the first at which it is reached
 pub StandsFor-first : (w : WeightParts) (value : ℕ) (b : Bool) (bits : List Bool) → 1 ≤ w.limit → StandsFor w value bits →
     is_first w (b ∷ bits) ≡ (nat_lt value w.limit && (fed w value b == w.limit))
 StandsFor-first w value b bits positive stands =

@@ -40,7 +40,7 @@ is_first-parts w b bits first = parts (is_reached w (b ∷ bits)) (is_confirmed 
     parts true false e = (refl, refl)
     parts false before e = absurd (false≢true e)
 
--- the same the other way
+-- where the list is confirmed now and wasn't before, the last feed is the first
 pub is_first_from : (w : WeightParts) (b : Bool) (bits : List Bool) → is_confirmed w (b ∷ bits) ≡ true → is_confirmed w bits ≡ false → is_first w (b ∷ bits) ≡ true
 is_first_from w b bits now before = is_first-cons w b bits ∙ both _ _ now before
   where

@@ -41,11 +41,11 @@ pub record Curve : Type 0 where
   pub axis : List ℕ
   pub values : List ℕ
 
--- its points are an axis, and each of them has a value
+-- the points of a table are an axis, and each of them has a value
 abbrev pub IsCurve : Curve → Type 0
 IsCurve c = IsAxis c.axis × (length c.values ≡ length c.axis)
 
--- its value at a place
+-- the value of a table at a place of its axis
 abbrev pub curve_at : Curve → ℕ → ℕ
 curve_at c x = value_at c.axis (slice_index c.values) x
 
@@ -55,7 +55,7 @@ pub record Grid : Type 0 where
   pub columns : List ℕ
   pub values : List ℕ
 
--- its rows and its columns are axes, and each crossing has a value
+-- the rows and the columns of a table are axes, and each crossing has a value
 abbrev pub IsGrid : Grid → Type 0
 IsGrid g = IsAxis g.rows × IsAxis g.columns × (length g.values ≡ length g.rows * length g.columns)
 

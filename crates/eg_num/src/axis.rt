@@ -36,7 +36,7 @@ impl Axis {
         Some(Axis { points })
     }
 
-    /// Its points.
+    /// The points, in their order.
     pub fn points(&self) -> &[u16]
         ensures points { result.now ≡ self.now }
         ensures axis { IsAxis self.now }

@@ -58,7 +58,7 @@ zero_pages = record {
 
 -- ---- pages that are held ----
 
--- The same of pages that something holds.
+-- A store to a page, where the pages are what some values hold.
 module _ {X : Type 0} {address page index : ℕ} (held : X → List ℕ) (pages : List X) (other : X) (are : ArePages (map held pages)) (at : LiesAt address page index) where
   held-old : held (get_or pages page other) ≡ get_or (map held pages) page []
   held-old =
@@ -68,7 +68,7 @@ module _ {X : Type 0} {address page index : ℕ} (held : X → List ℕ) (pages 
   pub index-held : slice_index (held (get_or pages page other)) index ≡ slice_index (concat (map held pages)) address
   index-held = ap (λ words. slice_index words index) held-old ∙ index-pages (map held pages) are at
 
-  -- the pages, after the one at the address gave way to one that has a word more
+  -- the pages, after the one at the address was replaced by one in which the word was put
   held-set : (next : X) (word : ℕ) → held next ≡ slice_set (held (get_or pages page other)) index word
       → map held (slice_set pages page next) ≡ slice_set (map held pages) page (slice_set (get_or (map held pages) page []) index word)
   held-set next word put = map-set held pages page next
@@ -83,12 +83,12 @@ module _ {X : Type 0} {address page index : ℕ} (held : X → List ℕ) (pages 
   ArePages-held next word put fits =
       rw (held-set next word put) (ArePages-set (map held pages) are at word fits)
 
-  -- the pages, after it gave way to one that has the same
+  -- the pages, after the one at the address was replaced by one that has the same words
   pub held-same : (next : X) → held next ≡ held (get_or pages page other) → map held (slice_set pages page next) ≡ map held pages
   held-same next same = map-set held pages page next ∙ ap (slice_set (map held pages) page) (same ∙ held-old)
       ∙ set-get_or (map held pages) page []
 
-  -- they are pages still, whether the word was put or not
+  -- they still are pages, whether or not the word was put
   pub ArePages-either : {T E : Type 0} (next : X) (word : ℕ) (result : Result T E) → OnOk result (held next ≡ slice_set (held (get_or pages page other)) index word)
       → OnErr result (held next ≡ held (get_or pages page other)) → word < 2 ^ 16 → ArePages (map held (slice_set pages page next))
   ArePages-either next word (Ok done) put same fits = ArePages-held next word put fits
@@ -96,7 +96,7 @@ module _ {X : Type 0} {address page index : ℕ} (held : X → List ℕ) (pages 
 
 -- ---- pages that are shared ----
 
--- what is held where each is one thing, or holds what that holds
+-- values that each are one page, or hold what this page holds, hold copies of it
 pub map-clones : {X : Type 0} (held : X → List ℕ) (page : X) (pages : List X) (count : ℕ) → AllByRecursion (λ y. (y ≡ page) ⊎ (held y ≡ held page)) pages
     → length pages ≡ count → map held pages ≡ replicate count (held page)
 map-clones held page [] zero same long = refl
@@ -106,7 +106,7 @@ map-clones held page (x ∷ pages) (suc count) same long =
     ap₂ (λ words rest. words ∷ rest) (elim same.0 [ inl is ↦ ap held is | inr alike ↦ alike ])
     (map-clones held page pages count same.1 (omega arith))
 
--- what is held where others hold the same, place by place
+-- copies that hold the same as the pages, place by place, hold the same list of pages
 pub map-copies : {X : Type 0} (held : X → List ℕ) (pages copies : List X) → AllZip (λ x y. held y ≡ held x) pages copies
     → map held copies ≡ map held pages
 map-copies held [] [] same = refl
@@ -124,7 +124,7 @@ concat-more pages number within =
     sym (concat-append (take number pages) (page ∷ []) ∙ ap (λ words. concat (take number pages) ++ words) (append-nil page))
     ∙ ap concat (sym (take_more pages number [] within))
 
--- words of a memory, of which a part of this length gave way to so many others
+-- the words of a memory stay 4,096 where a part of them is replaced by as many others
 length-put : (words part : List ℕ) (start count : ℕ) → length words ≡ 4096 → start + count ≤ 4096 → length part ≡ count
     → length (put_mid start count words part) ≡ 4096
 length-put words part start count long within same =

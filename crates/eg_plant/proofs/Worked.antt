@@ -25,7 +25,7 @@ unfoldable after : List ℕ → Gasoline
 after [] = at_rest reference
 after (command ∷ before) = gasoline_step reference (after before) command command true None
 
--- nothing is commanded at tick 0, and 1000 at each of so many ticks after it
+-- nothing is commanded at tick 0, and 1000 at each of a number of ticks after it
 abbrev commanded : ℕ → List ℕ
 commanded ticks = replicate ticks 1000 ++ 0 ∷ []
 

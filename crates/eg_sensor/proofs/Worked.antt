@@ -54,7 +54,7 @@ limited = refl
 
 -- ---- the raise and its check word ----
 
--- they add up to 65535, or are one off on either side
+-- a raise and its check word add up to 65535, or are one off on either side
 raises : map (λ check. checked_raise 600 check) (64935 ∷ 64934 ∷ 64936 ∷ []) ≡ 600 ∷ 0 ∷ 0 ∷ []
 raises = refl
 
@@ -64,8 +64,8 @@ raises = refl
 contacts : map sound_contacts (true ∷ false ∷ []) ≡ (1 ∷ 0 ∷ []) ∷ (0 ∷ 1 ∷ []) ∷ []
 contacts = refl
 
--- it is pressed where both say so, where the first alone does, by 1 or by another number, and where the second
--- alone does; not where neither does, and the second may read another number than 1 then
+-- the brake is taken as pressed where both contacts say so, where the first alone does, by 1 or by another number,
+-- and where the second alone does; not where neither does, and the second may read another number than 1 then
 said : map is_pressed ((1 ∷ 0 ∷ []) ∷ (1 ∷ 1 ∷ []) ∷ (6 ∷ 1 ∷ []) ∷ (0 ∷ 0 ∷ []) ∷ (0 ∷ 1 ∷ []) ∷ (0 ∷ 6 ∷ []) ∷ [])
     ≡ true ∷ true ∷ true ∷ true ∷ false ∷ false ∷ []
 said = refl

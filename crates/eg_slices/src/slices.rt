@@ -115,7 +115,7 @@ impl SlicePlan {
         &self.rows[tick as usize % self.rows.len()]
     }
 
-    /// Its rows, in their order. It takes no memory.
+    /// The rows of the plan, in their order. It takes no memory.
     pub fn rows(&self) -> &[Slices]
         ensures { result.now ≡ self.now }
     {

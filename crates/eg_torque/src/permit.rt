@@ -41,7 +41,7 @@ impl Permit {
         Ok(Permit { table })
     }
 
-    /// Its table.
+    /// The table of the permitted torques.
     pub fn table(&self) -> &Table2
         ensures table { result.now ≡ self.now }
         ensures permit { DoesNotFall self.now }

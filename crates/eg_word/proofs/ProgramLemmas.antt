@@ -37,7 +37,7 @@ program-begins program is = record {
   each = λ address past within. ap (λ p. slice_index_or p address past) is ∙ replicate-index 1024 address (instruction_of 0) past within;
 }
 
--- the words of an image from a place on aren't among its first so many
+-- the first `count` words of an image show 0 at each place from `count` on
 beyond-take : (image : List ℕ) (count k : ℕ) → count ≤ k → slice_index (take count image) k ≡ 0
 beyond-take image count k past = get_or_past (take count image) k 0 (omega (arith, length-take count image))
 
@@ -85,7 +85,7 @@ program-stays old new program same is = record {
   each = λ k past within. is.each k past within ∙ ap instruction_of (sym (same k within));
 }
 
--- so have words that are the same outside level 1's own regions
+-- words that are the same outside level 1's own regions have the same program
 pub program-outside : (old new : List ℕ) (program : List Instruction) → SameOutside is_level1_own old new
     → IsProgramOf old program → IsProgramOf new program
 unfolding is_level1_own

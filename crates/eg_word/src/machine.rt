@@ -16,7 +16,7 @@ use eg_guard::{Guarded, StoreRefusal, Who};
 /// (docs/CONCEPT.md, "Level 1"). NoMemory changes nothing.
 #[tactic(auto, using(crate::proofs::StepLaws::step_laws))]
 pub fn step<M: Guarded>(registers: &mut Registers, memory: &mut M) -> Result<(), NoMemory>
-    // It is one step of the table of instructions, and of level 1's private world.
+    // The call makes one step of the table of instructions, and of level 1's private world.
     ensures step { IsOneStep registers.old registers.new (M.shows memory.old) (M.shows memory.new) result }
 
     // A machine that doesn't run stays as it is, and changes nothing.

@@ -22,11 +22,11 @@ pub enum Trap {
 /// Whether level 1's machine runs.
 #[derive(Clone, Copy, PartialEq, Eq)]
 pub enum State {
-    /// It does the instruction at `pc` next.
+    /// The machine does the instruction at `pc` next.
     Running,
-    /// It waits for its next slice.
+    /// The machine waits for its next slice.
     Waiting,
-    /// It was stopped, to the end of the span.
+    /// The machine was stopped, to the end of the span.
     Trapped(Trap),
 }
 
