@@ -15,7 +15,7 @@ use Rattle.eg_agree.specs.Standing.{signals_of, mirror_found, counter_after, lim
 use Rattle.eg_agree.specs.Ticking.{StartLaw, WithinLaw}
 use Rattle.eg_agree.proofs.MomentLemmas.{trips_from_mirror}
 
--- a word that was found to differ tripped the unit
+-- a trip came where a word was found to differ from its complement
 pub mirror_trips : (kind : SpanKind) (s : Setting) (h : List Tick) → mirror_found (moments_in kind s h) ≡ true →
     tripped (moments_in kind s h) ≡ true
 unfolding moments_in mirror_found tripped

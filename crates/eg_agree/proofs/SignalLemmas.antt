@@ -75,7 +75,7 @@ unfed-same rules flip past true v w ep el eo es et ei er are = record {
   trip = er ∙ are.trip;
 }
 
--- a word that was found to differ tripped the unit
+-- a trip came where a word was found to differ from its complement
 abbrev pub MirrorTrips : List Moment → Type 0
 MirrorTrips past = mirror_found past ≡ true → tripped past ≡ true
 

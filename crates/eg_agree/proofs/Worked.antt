@@ -107,7 +107,7 @@ holds : map (λ h. holding (words_after Drive h)) histories ≡ expected
 unfolding whole_model words_after modules
 holds = refl
 
--- in a test of the shut-off paths no counter is fed, but a word that differs trips the unit
+-- in a test of the shut-off paths no counter is fed, but a word that differs from its complement trips
 abbrev tests : List (List Tick)
 tests = (replicate 5 load_off) ∷ (flip ∷ replicate 5 pedal_off) ∷ []
 

@@ -186,7 +186,7 @@ spacing-4 : (periods_between_misses (sevens 4)) ∷ miss_spacing_of (sevens 4) �
 unfolding answering
 spacing-4 = refl
 
--- where right verdicts take nothing there is none, nor where two wrong ones add all that the limit is
+-- there is no distance where right verdicts take nothing, and none where two wrong ones add the whole limit
 spacing-0 : ¬ HasMissSpacing (sevens 0)
 spacing-0 h = absurd (let f : 1 ≤ 0 = h.some_taken in omega arith)
 

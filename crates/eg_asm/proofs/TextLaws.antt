@@ -17,7 +17,7 @@ use Rattle.eg_asm.specs.Reading.{is_byte, behind_first, before_last_byte}
 abbrev pub Lacks : ℕ → List ℕ → Type 0
 Lacks c text = list_any (is_byte c) text ≡ false
 
--- no byte of the front is this one, nor of the rest
+-- this byte stands neither in the front nor in the rest
 pub lacks_parts : (c : ℕ) (xs ys : List ℕ) → Lacks c (xs ++ ys) → Lacks c xs × Lacks c ys
 lacks_parts c xs ys h = at (list_any (is_byte c) xs) (list_any (is_byte c) ys) refl refl (sym (list_any-append (is_byte c) xs ys) ∙ h)
   where

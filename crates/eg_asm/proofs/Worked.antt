@@ -43,7 +43,7 @@ loop : assembled (codes "loop:\nwait\njz r0,loop\n") ≡ Ok (0xf000 ∷ 0xd1fe �
 unfolding assembling
 loop = refl
 
--- an empty source has no words, nor have comments, labels and empty lines
+-- an empty source has no words, and neither do comments, labels and empty lines
 without_words : answers ([] ∷ codes "\n" ∷ codes "; any bytes: \r\t\n\na:\n;\n" ∷ []) ≡ Ok [] ∷ Ok [] ∷ Ok [] ∷ []
 unfolding assembling
 without_words = refl
@@ -110,7 +110,7 @@ named : answers (codes "ldi:\njz r0,ldi\n" ∷ codes "jz r0,abcdefghijklmnop\nab
 unfolding assembling
 named = refl
 
--- it may not have 17 letters, nor none, nor another byte
+-- a label may not have 17 letters, or none, or another byte than a letter
 unnamed : answers (codes "abcdefghijklmnopq:\n" ∷ codes ":\n" ∷ codes "a1:\n" ∷ codes "A:\n" ∷ codes "a::\n" ∷ codes "a: \n" ∷ codes "a:nop\n"
     ∷ codes "jz r0,abcdefghijklmnopq\n" ∷ [])
     ≡ replicate 8 (Err (fault.Line 1))

@@ -98,7 +98,7 @@ sends-usual : sends_at (under (Timing 2) 15) times 15 ≡ false
 unfolding faults
 sends-usual = refl
 
--- a wild module asks its own questions, by the count of all
+-- a wild monitoring module asks its own questions, modulo the count of questions
 wild-asked : asked_at (under (Wild (3 ∷ 1 ∷ 70 ∷ []) (false ∷ true ∷ [])) 15) times 4 15 ≡ 2
 unfolding faults
 wild-asked = refl

@@ -114,7 +114,7 @@ more-lines file good line others before cut none =
     let long = ap length (sym (ap lines_of whole ∙ lines_of-good good before) ∙ cut) in
     absurd (omega (arith, length-append good (line ∷ others)))
 
--- a file whose lines looked at all write a word
+-- a file of which all lines that are looked at write a word
 kind-clean : (file : List ℕ) (lines : List Line) → lines_of file ≡ lines → All WritesSome (take 1024 lines) → ImageKind file
 kind-clean file lines cut clean = by_length (cases_lt 1024 (length lines))
   where

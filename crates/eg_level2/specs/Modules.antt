@@ -38,7 +38,7 @@ check_step seed tick words = record words {
   sign = seed;
 }
 
--- Where a word differs from its complement, all words are given up: the unit trips, and the flow is marked.
+-- Where a word differs from its complement, all words are given up: a trip stands, and the flow is marked.
 unfoldable pub given_up : ℕ → Words
 given_up tick = record {
   pedal = 0;
@@ -65,7 +65,7 @@ given_up tick = record {
 unfoldable pub written : Words → ℕ → ℕ → ℕ
 written words signal disturbance = if is_set words.trip then 0 else bit_xor signal disturbance
 
--- the fold with one result more, which is disturbed likewise, also where a trip stands
+-- the fold with one result more, which is disturbed too, even where a trip stands
 unfoldable pub signed : Words → ℕ → ℕ → ℕ
 signed words result disturbance = bit_xor (mixed words.sign result) disturbance
 
@@ -155,11 +155,11 @@ debounced rules phase words =
       start = false;
     }
 
--- a pedal that is found limits the operation,
+-- the watch of the pedal limits the operation where it is found
 unfoldable pub limits : Watches → Bool
 limits found = found.pedal
 
--- and each of the other four trips the unit
+-- each of the other four watches trips where it is found
 unfoldable pub trips : Watches → Bool
 trips found = found.plate || found.load || found.speed || found.torque
 

@@ -163,7 +163,7 @@ fn keep_counters<M: Guarded>(memory: &mut M, feeds: &Feeds) -> Result<(), NoMemo
 }
 
 impl Feeds {
-    /// Whether a watch is found that trips the unit: any but the pedal's.
+    /// Whether a watch is found that trips: any of the five but `pedal`.
     #[tactic(auto, unfolding(crate::specs::Modules::trips, crate::specs::Stores::found_of))]
     fn trips(&self) -> bool
         ensures { result ≡ trips (found_of self.now) }

@@ -22,7 +22,7 @@ struct Heard {
     number: u32,
 }
 
-/// The high word of a number that is expected: the token that all eight modules have moved.
+/// The high word of a number that is expected: the token that all eight modules of level 2 have moved.
 const WHOLE_TOKEN: u32 = 0x00ff_0000;
 
 /// The monitoring module (docs/CONCEPT.md, "Questions and answers"). It counts the verdicts that it has

@@ -19,7 +19,7 @@ lerp-most most x0 y0 x1 y1 x from to left right =
     sums : (a b u v w : ℕ) → a ≤ most → b ≤ most → w ≡ u + v → a * u + b * v ≤ w * most
     sums a b u v w l m e = rw e (grind arith)
 
--- nor does the value at a place exceed what no value exceeds
+-- the value at a place of a table doesn't exceed what no value of it exceeds
 value_at-most : (most : ℕ) (points : List ℕ) (value : ℕ → ℕ) (x : ℕ) → ((i : ℕ) → value i ≤ most) → value_at points value x ≤ most
 unfolding value_at
 value_at-most most [] value x under = omega arith

@@ -88,7 +88,7 @@ takes_value _ = true
 abbrev pub is_opening : Due → ℕ → Bool
 is_opening due c = c == byte "{" || (c == byte "[" && takes_value due)
 
--- what is due behind a `[`: where nothing was due, it begins a heading, which may have a second one
+-- what is due behind a `[`: where nothing was due, the `[` begins a heading, which may have a second one
 abbrev pub due_behind_bracket : Due → Due
 due_behind_bracket Nothing = Heading
 due_behind_bracket Heading = Nothing
