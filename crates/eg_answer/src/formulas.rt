@@ -7,7 +7,8 @@ use crate::Rules;
 use eg_sensor::{Readings, checked_raise, pair_bits};
 use eg_torque::{actual, excess};
 
-/// The bit of the excess in its word.
+/// The bit of the excess in its word, which the debouncer of the torque is fed with (docs/CONCEPT.md, "Level
+/// 2").
 pub const EXCESS_BIT: u16 = 1;
 
 /// The torque that a pedal (per mille) permits at the speeds and the raise that are read, in tenths of Nm

@@ -2,7 +2,7 @@
 ghost use Rattle.std.specs.Prelude.{◌≡◌, [], ◌∷◌};
 ghost use Rattle.eg_answer.specs.declared.formulas.TheConstants.{EXCESS_BIT};
 
-/// How many words level 2 has. Each is stored with its complement.
+/// How many words level 2 has (docs/FORMATS.md, "Words of level 2"). Each is stored with its complement.
 pub const MIRRORED_WORDS: u8 = 16;
 
 /// How many words level 2 stores, numbered from 0 on: first its words, then their complements in the same

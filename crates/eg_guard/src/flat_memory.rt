@@ -5,7 +5,8 @@ ghost use Rattle.eg_guard.specs.Memory.{AreWords};
 use crate::{Guarded, Refused, StoreRefusal, WORDS, Who, access};
 use std::marker::Model;
 
-/// A guarded memory that is one array of words. It is sure: no store takes memory.
+/// A guarded memory that is one array of words (docs/CONCEPT.md, "Guarded memory"). It is sure: no store
+/// takes memory.
 ///
 /// Contracts see the list of its words.
 #[derive(Drop)]

@@ -6,14 +6,14 @@ ghost use Rattle.eg_guard.specs.Regions;
 
 use crate::Who;
 
-/// The memory map doesn't allow the load.
+/// The refusal of a load that the memory map doesn't allow (docs/FORMATS.md, "Memory map").
 #[derive(Clone, Copy, PartialEq, Eq)]
 pub struct Refused;
 
 /// Why a store was refused.
 #[derive(Clone, Copy, PartialEq, Eq)]
 pub enum StoreRefusal {
-    /// The memory map doesn't allow it.
+    /// The memory map doesn't allow the store.
     Refused,
     /// Memory ran out.
     Memory,

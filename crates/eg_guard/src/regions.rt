@@ -5,40 +5,40 @@ ghost use Rattle.eg_guard.specs.Regions;
 /// How many words the memory has (docs/FORMATS.md, "Memory map"). Its addresses are the numbers below this.
 pub const WORDS: u16 = 4096;
 
-/// The first word of level 1's own data. The code stands before it, from 0 on.
+/// The address of the first word of level 1's own data. The code stands before it, from 0 on.
 pub const DATA: u16 = 1024;
 
-/// The first input port.
+/// The address of the first input port.
 pub const IN_PORTS: u16 = 2048;
 
-/// The last input port.
+/// The address of the last input port.
 pub const LAST_IN_PORT: u16 = 2057;
 
 /// How many input ports there are: two tracks of four pairs, the raise and its check word.
 pub const IN_PORT_COUNT: u16 = LAST_IN_PORT - IN_PORTS + 1;
 
-/// The first output port: the command to the throttle plate.
+/// The address of the first output port: the command to the throttle plate.
 pub const THROTTLE: u16 = 2064;
 
-/// The second output port: the command to the ignition.
+/// The address of the second output port: the command to the ignition.
 pub const IGNITION: u16 = 2065;
 
-/// The first result. The results are the signals of level 2.
+/// The address of the first result. The results are the signals of level 2.
 pub const RESULTS: u16 = 2080;
 
-/// The last result.
+/// The address of the last result.
 pub const LAST_RESULT: u16 = 2084;
 
 /// How many results there are.
 pub const RESULT_COUNT: u16 = LAST_RESULT - RESULTS + 1;
 
-/// The first protected word.
+/// The address of the first protected word.
 pub const PROTECTED: u16 = 2096;
 
-/// The last protected word.
+/// The address of the last protected word.
 pub const LAST_PROTECTED: u16 = 2122;
 
-/// The link: the number of the question.
+/// The address of the link, at which the number of the question stands.
 pub const LINK: u16 = 2128;
 
 /// Who asks for a word (docs/CONCEPT.md, "Guarded memory").
@@ -73,7 +73,7 @@ pub enum Region {
     None,
 }
 
-/// What is allowed at an address.
+/// What the one who asks may do at an address (docs/FORMATS.md, "Memory map").
 #[derive(Clone, Copy, PartialEq, Eq)]
 pub struct Allowed {
     /// The word may be read.

@@ -9,7 +9,7 @@ use crate::ImageFault;
 use hex::FromHex;
 use std::alloc::Global;
 
-/// How many words an image may have.
+/// How many words an image may have (docs/FORMATS.md, "Images").
 pub const MOST_WORDS: usize = 1024;
 
 /// The words of an image (docs/FORMATS.md, "Images"): a file of 0 to 1,024 lines, each of four hexadecimal

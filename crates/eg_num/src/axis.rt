@@ -7,7 +7,8 @@ use crate::lerp_floor;
 use arrayvec::ArrayVec;
 use std::marker::Model;
 
-/// The points of a table's axis: 2 to 16, strictly rising. Contracts see the list of the points.
+/// The points of a table's axis: 2 to 16, strictly rising (docs/CONCEPT.md, "Interpolation"). Contracts see
+/// the list of the points.
 #[derive(Drop)]
 pub struct Axis {
     points: ArrayVec<u16, 16>,

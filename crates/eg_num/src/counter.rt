@@ -46,13 +46,14 @@ impl Counter {
     }
 }
 
-/// The law of counters: fed any feeds from 0, a counter stands for them. It does nothing when it runs.
+/// Does nothing when it runs. Its contract is the law of counters: fed any feeds from 0, a counter keeps what
+/// the rule says of them (docs/CONCEPT.md, "Debouncing").
 pub fn counters_count_windows()
     ensures { CounterLaw }
 {}
 
-/// The law of windows: the rule over lists that stand newest first is the rule by places in the order of
-/// time, and a counter keeps it too. It does nothing when it runs.
+/// Does nothing when it runs. Its contract is the law of windows: the rule over lists that stand newest first
+/// is the rule by places in the order of time, and a counter keeps it too (docs/CONCEPT.md, "Debouncing").
 pub fn windows_are_places()
     ensures { PlaceLaw }
 {}

@@ -24,7 +24,7 @@ pub const SPEED_1: u8 = 6;
 /// The second track of the speed.
 pub const SPEED_2: u8 = 7;
 
-/// How many tracks come in pairs that are compared; these have the first numbers.
+/// How many tracks come in pairs that are compared: those below this number, which leaves out the brake's.
 pub const PAIRED_TRACKS: u8 = 8;
 
 /// The first contact of the brake, which reads 1 where it is pressed, else 0.

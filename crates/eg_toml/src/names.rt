@@ -5,7 +5,7 @@ ghost use Rattle.eg_toml.specs.Names.{all_names, is_among};
 
 use toml::Table;
 
-/// Whether each name of a table is one of those that are known.
+/// Whether each name of a table is one of the known names.
 pub fn has_only_names(table: &Table, known: &[&str]) -> bool
     ensures { result ≡ all_names (is_among (map (λ k. k.now) known.now)) (table_view table.now) }
 {

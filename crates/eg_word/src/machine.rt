@@ -33,9 +33,9 @@ pub fn step<M: Guarded>(registers: &mut Registers, memory: &mut M) -> Result<(),
     advance(registers, memory)
 }
 
-/// One step of a machine that runs, as `step` does it. It answers whether the machine runs on, so that a
-/// caller who makes many steps needn't look at the state before each. Where the caller hands over the program
-/// of the memory's code, no word is decoded.
+/// One step of a machine that runs, as `step` does it (docs/CONCEPT.md, "Level 1"). It answers whether the
+/// machine runs on, so that a caller who makes many steps needn't look at the state before each. Where the
+/// caller hands over the program of the memory's code, no word is decoded. NoMemory changes nothing.
 #[inline]
 #[tactic(auto, using(crate::proofs::StepLaws::step_laws))]
 pub fn step_on<M: Guarded>(

@@ -3,7 +3,7 @@ ghost use Rattle.std.specs.Prelude.{◌≡◌, ◌<◌};
 
 use std::marker::Model;
 
-/// The number of one of the eight registers. Contracts see the number.
+/// The number of one of the eight registers (docs/FORMATS.md, "Instructions"). Contracts see the number.
 #[derive(Clone, Copy)]
 pub struct Register {
     index: u8,

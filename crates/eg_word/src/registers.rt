@@ -19,7 +19,7 @@ pub enum Trap {
     Illegal,
 }
 
-/// Whether level 1's machine runs.
+/// Whether level 1's machine runs (docs/CONCEPT.md, "Level 1").
 #[derive(Clone, Copy, PartialEq, Eq)]
 pub enum State {
     /// The machine does the instruction at `pc` next.
