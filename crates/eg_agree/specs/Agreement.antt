@@ -58,7 +58,7 @@ abbrev pub LastChecksStand : Type 0
 LastChecksStand =
     (kind : SpanKind) (s : Setting) (h : List Tick) → (words_over kind s h).last ≡ last_check h
 
--- and one tick sets it so, or leaves it where module 0 doesn't run, whatever the words are
+-- one tick sets that word, or leaves it where module 0 doesn't run, whatever the words are
 abbrev pub LastCheckIsKept : Type 0
 LastCheckIsKept =
     (kind : SpanKind) (s : Setting) (x : Tick) (h : List Tick) (words : Words) →

@@ -33,7 +33,7 @@ find-passes p (y ∷ ys) x is = at (p y) refl (find-passes p ys x) is
     at true here later is = let same : y ≡ x = cc in rw (← same) here
     at false here later is = later is
 
--- a test that all pass, the one that is found passes too
+-- the one that is found passes a test that all pass
 pub find-all : {X : Type 0} (p test : X → Bool) (xs : List X) (x : X) → list_all test xs ≡ true → find p xs ≡ Some x → test x ≡ true
 find-all p test [] x all is = absurd cc
 find-all p test (y ∷ ys) x all is = at (p y) (test y) refl (find-all p test ys x) all is

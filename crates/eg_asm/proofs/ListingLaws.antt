@@ -19,7 +19,7 @@ use Rattle.eg_asm.proofs.SourceLaws.{assembled-then}
 
 -- ---- the form of a word ----
 
--- a property that all have, the one that is found has too
+-- the one that is found has a property that all have
 pub find-all_of : {X : Type 0} (P : X → Type 0) (p : X → Bool) (xs : List X) (x : X) → AllByRecursion P xs → find p xs ≡ Some x → P x
 find-all_of P p [] x all is = absurd cc
 find-all_of P p (y ∷ ys) x all is = at (p y) is (find-all_of P p ys x all.1)

@@ -1,7 +1,7 @@
 //! What lies outside the simulator: files that are read, and bytes that are written.
 //!
 //! Contracts see a `Store` and a `Sink` through what they show: what they hold, where that is told; how many
-//! faults they have met; and whether they are sure. A sure store fails to read only where there is no such
+//! faults they have met; and whether they are sure. A sure store answers Failed only where there is no such
 //! file, and a sure output takes no memory. The program runs over `FileStore` and `StdSink`, whose files and
 //! streams no contract can tell. Tests and theorems run over the two stores and the two outputs that stand in
 //! memory.

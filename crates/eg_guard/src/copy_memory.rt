@@ -5,8 +5,8 @@ use crate::Guarded;
 use eg_base::NoMemory;
 use std::alloc::Global;
 
-/// A guarded memory that can be copied (docs/CONCEPT.md, "Guarded memory"): where several runs go on from one
-/// tick, each goes on with a copy of the memory.
+/// A guarded memory that can be copied (docs/CONCEPT.md, "Guarded memory"): copies of a run's memory are kept
+/// at some ticks, and other runs go on from there.
 pub trait CopyMemory: Guarded + Sized {
     /// A memory that shows the same: its words are equal, and it is sure exactly where this one is. Refused
     /// only where memory runs out.

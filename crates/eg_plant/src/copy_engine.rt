@@ -3,8 +3,8 @@ ghost use Rattle.std.specs.Prelude.{◌≡◌};
 
 use crate::Engine;
 
-/// An engine that can be copied (docs/CONCEPT.md, "Plant"): where several runs go on from one tick, each goes
-/// on with a copy of the engine.
+/// An engine that can be copied (docs/CONCEPT.md, "Plant"): copies of a run's engine are kept at some ticks,
+/// and other runs go on from there.
 pub trait CopyEngine: Engine + Sized {
     /// An equal engine. It takes no memory.
     fn copy(&self) -> Self
