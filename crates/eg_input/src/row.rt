@@ -28,8 +28,8 @@ pub(crate) trait FileRow: Drop {
     fn from_record(entry: &ByteRecord, width: usize) -> Option<Self>
         ensures { result ≡ row_of width (fields_of entry.now) };
 
-    /// Where the bytes begin with the line of a header: how many fields that header has, and what comes behind
-    /// the line. None says nothing of the bytes.
+    /// Where the bytes begin with the line of a header: how many fields that header has, and what comes
+    /// behind the line. None says nothing of the bytes.
     fn below_header(bytes: &[u8]) -> Option<(usize, &[u8])>
         ensures { IfSome result (λ found. BeginsWithHeader headers bytes.now found.0 found.1.now) };
 
