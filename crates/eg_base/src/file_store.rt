@@ -28,7 +28,7 @@ impl<O: Opens + Drop> Model for FileStore<O> {
 }
 
 impl<O: Opens + Drop> FileStore<O> {
-    /// A store of the files that this opens. The runtime's access to files is such an opener.
+    /// A store of the files that this opens. What the runtime hands out to open files is such an opener.
     pub fn new(opener: O) -> FileStore<O>
         ensures state { result ≡ record { opener = opener; faults = 0 } }
         ensures shown { ⟦<FileStore<O> as Store>⟧.shows result

@@ -115,7 +115,7 @@ impl Table2 {
         requires located { IsLocated self.now.columns column j }
         ensures { result ≡ row_at self.now column i }
     {
-        // Called for its clause alone: there are at most 16 columns, so that `j + 1` is a usize.
+        // Called for its clause alone: there are at most 16 columns, so that `j + 1` is a `usize`.
         let _width = self.width();
         let low = self.value(i, j);
         let high = self.value(i, j + 1);
