@@ -1,9 +1,9 @@
 -- Availability: under which lapses wrong answers never cut before a trip. Where level 2 misses a tick before
--- the send tick of its period, that period's answer is bad; where it misses one behind it, that of the next
--- period; and where it misses the send tick itself, no answer comes in that period, and the next one is bad.
--- So one miss spoils at most two verdicts. Where misses are far enough apart, right verdicts take back what
--- the spoiled ones add, and wrong answers are never confirmed before a trip. (After one no answer is sent, so
--- that they are.) Rows stand newest first.
+-- the send tick of its period, that period's answer is bad; where it misses one after the send tick, the
+-- answer of the next period is bad; and where it misses the send tick itself, no answer comes in that period,
+-- and the next answer is bad. So one miss spoils at most two verdicts. Where misses are far enough apart,
+-- right verdicts take back what the spoiled ones add, and wrong answers are never confirmed before a trip.
+-- (After a trip no answer is sent, so then they are.) Rows stand newest first.
 use Rattle.std.specs.Prelude.{◌≡◌, ◌⊎◌, ℕ, ◌+◌, ◌≤◌, ◌<◌, Bool, true, false, not, List, [], ◌∷◌, ◌++◌, All, Option, Some}
 use Rattle.std.specs.List.{list_any}
 use Rattle.eg_num.specs.declared.watches.Watches.{Watches}
@@ -33,13 +33,13 @@ use Rattle.eg_model.specs.Records.{IsRun}
 unfoldable pub misses_tick : Option Fault → ℕ → Bool
 misses_tick fault tick = not (is_whole (effects fault tick))
 
--- any two ticks that it misses lie at least so many ticks apart
+-- any two ticks that level 2 misses lie at least `distance` ticks apart
 abbrev pub MissesAreSpaced : Option Fault → (distance : ℕ) → Type 0
 MissesAreSpaced fault distance =
     (first second : ℕ) → misses_tick fault first ≡ true → misses_tick fault second ≡ true → first < second →
     first + distance ≤ second
 
--- so it is where one tick alone is left out, and where one is left out every so many ticks
+-- this holds where one tick alone is left out, and where one is left out every `distance` ticks or more
 abbrev pub SingleMissesAreSpaced : Type 0
 SingleMissesAreSpaced =
     (onset after every distance : ℕ) → (every ≡ 0) ⊎ (distance ≤ every) →
@@ -70,7 +70,7 @@ TripsAloneCut =
 abbrev pub ShowsTwice : Tick → Type 0
 ShowsTwice x = x.entry.shown.load_2 ≡ x.entry.shown.load_1
 
--- and none comes where the full-efficiency excess comes at no tick
+-- and no trip comes where the full-efficiency excess comes at no tick
 abbrev pub NoTripComes : Type 0
 NoTripComes =
     (s : Setting) → IsAccepted s.cal → IsSpacedLapse s → (start : ℕ) (h : List Tick) →
@@ -83,7 +83,7 @@ NoTripComes =
 unfoldable pub trips : Watches → Bool
 trips found = some_trips found.mirror found.plate found.load found.speed found.torque
 
--- one was found at one of these rows
+-- such a watch was found at one of these rows
 unfoldable pub has_tripped : List Row → Bool
 has_tripped rows = list_any (λ row. trips row.found) rows
 
@@ -97,7 +97,7 @@ pub record StaysAvailable (kt threshold start : ℕ) (rows : List Row) : Type 0 
   -- the stages are on at each row exactly where no trip came at an earlier one
   pub cut_by_trips : (later before : List Row) (row : Row) → rows ≡ later ++ row ∷ before →
       row.on ≡ not (has_tripped before)
-  -- and where the full-efficiency excess comes at none, they are on at each, and no trip comes
+  -- and where the full-efficiency excess comes at no row, the stages are on at each, and no trip comes
   pub stays_on : All (λ row. full_excess kt threshold row ≡ false) rows →
       All (λ row. row.on ≡ true) rows × (has_tripped rows ≡ false)
 

@@ -15,7 +15,7 @@ latest_cut =
     moments_of (closed_setting reference_parts)
     (replicate 34 (quiet_after at_rest) ++ until_confirmed reference_parts at_rest 1000)
 
--- the history of `LeastLapse` likewise: the 16 ticks before the lapse and 34 under it, and then a quiet one
+-- the history of `LeastLapse` with the same: the 16 ticks before the lapse, 34 under it, and then a quiet one
 abbrev pub longest_excess : List Moment
 longest_excess =
     moments_of (lapse_setting reference_parts)

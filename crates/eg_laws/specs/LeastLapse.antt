@@ -1,6 +1,6 @@
--- Outside the headline. The least bound for stretches of excess under lapses, where the runs of level 2
--- that confirm an excess fit into one period: R and as many ticks as confirm. (The bound of `Lapses` is
--- greater, and holds of more calibrations.)
+-- Outside the headline. The least bound for stretches of excess under lapses, in ticks: R + D, where D runs
+-- of level 2 confirm an excess and D is at most a period. (The bound of `Lapses` in `eg_model` is greater,
+-- and holds of more calibrations.)
 use Rattle.std.specs.Prelude.{ℕ, ◌+◌, ◌-◌, ◌≤◌, List, [], ◌++◌, ◌∷◌, All, replicate, Some}
 use Rattle.eg_num.specs.Arithmetic.{estimate}
 use Rattle.eg_num.specs.Drive.{DriveRow}
@@ -15,21 +15,22 @@ use Rattle.eg_model.specs.Premises.{AreProper, Follows}
 use Rattle.eg_model.specs.Lapses.{Exceeds, StretchesStayBelow}
 use Rattle.eg_laws.specs.LeastReaction.{CanExceed, GoesOn, ShowsWord, quiet, giving, exceeding}
 
--- as many runs as confirm an excess fit into one period
+-- the runs of level 2 that confirm an excess, D of them, fit into one period
 abbrev pub RunsFit : CalibrationParts → Type 0
 RunsFit cal = feeds_to_confirm cal.rules.torque ≤ cal.times.period
 
--- the number of ticks
+-- the least bound, R + D, in ticks
 unfoldable pub least_lapse_bound : CalibrationParts → ℕ
 least_lapse_bound cal = reaction_of cal.times + feeds_to_confirm cal.rules.torque
 
--- Where the runs fit into a period this number is such a bound. An answer isn't good at which as many ticks
--- of the stretch have passed as confirm the excess: level 2 would have run at all of them, and confirmed it.
+-- Where these runs fit into a period, each stretch of true excess is shorter than this number. For no answer
+-- is good once D ticks of the stretch have passed: level 2 would have run at all of them, and found the
+-- excess.
 abbrev pub StretchesAreShorter : Type 0
 StretchesAreShorter =
     (cal : CalibrationParts) → IsAccepted cal → RunsFit cal → StretchesStayBelow cal (least_lapse_bound cal)
 
--- ---- the history that shows that no smaller number is ----
+-- ---- the history that shows that no smaller number is a bound ----
 
 -- level 2 misses every tick from the one on that comes after the send tick of the second period
 unfoldable pub lapse_onset : CalibrationParts → ℕ
@@ -46,13 +47,13 @@ lapse_setting cal = record {
   fault = Some (record { onset = lapse_onset cal; class = missing_all });
 }
 
--- up to there quiet ticks, and then one tick of excess less than would confirm it (newest first)
+-- the ticks before the lapse, newest first: quiet ones, and then D - 1 of excess, one less than confirms it
 abbrev pub before_lapse : CalibrationParts → DriveRow → (load : ℕ) → List Tick
 before_lapse cal drive load =
     replicate (feeds_to_confirm cal.rules.torque - 1) (exceeding cal drive load)
     ++ replicate (lapse_onset cal + 1 - feeds_to_confirm cal.rules.torque) (quiet no_effects drive)
 
--- and after that ticks that level 2 misses, each with as much excess
+-- a tick of the lapse: level 2 misses it, and the excess is the same
 abbrev pub missed_excess : CalibrationParts → DriveRow → (load : ℕ) → Tick
 missed_excess cal drive load =
     record { effects = effects_of missing_all 0; entry = giving drive load (estimate cal.rules.kt load) }
@@ -66,7 +67,7 @@ pub record Lasts (s : Setting) (h : List Tick) (n : ℕ) : Type 0 where
   pub words : All ShowsWord h
   pub exceeds : Exceeds s n h
 
--- so the excess lasts one tick less than the bound: those before the lapse, and R under it
+-- so the excess lasts one tick less than the bound: D - 1 ticks before the lapse, and R ticks under it
 abbrev pub ExcessLastsSoLong : Type 0
 ExcessLastsSoLong =
     (cal : CalibrationParts) → IsAccepted cal → RunsFit cal → (can : CanExceed cal) →

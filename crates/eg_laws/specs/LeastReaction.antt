@@ -1,4 +1,4 @@
--- Outside the headline. R is the least number of ticks that can stand in the reaction theorem. Of each
+-- Outside the headline. R is the least number of ticks that can stand in the reaction theorem. For each
 -- accepted calibration under which an excess can be confirmed at all there is a history, with path 1
 -- closed and nothing else out of order, in which the stages are still on R - 1 ticks after the true excess
 -- was confirmed.
@@ -33,8 +33,8 @@ pub record CanExceed (cal : CalibrationParts) : Type 0 where
 abbrev pub ShowsWord : Tick → Type 0
 ShowsWord x = (x.entry.shown.load_1 < 2 ^ 16) × (x.entry.shown.load_2 < 2 ^ 16)
 
--- Without these none is ever confirmed, under any fault, where each load is a word: so this is the exact
--- condition.
+-- Without such a row and load no excess is ever confirmed, under any fault, where each load is a word. So
+-- `CanExceed` is the exact condition.
 abbrev pub NeedsCanExceed : Type 0
 NeedsCanExceed =
     (s : Setting) → IsAccepted s.cal → (h : List Tick) → AreProper s h → All ShowsWord h →
@@ -42,7 +42,7 @@ NeedsCanExceed =
 
 -- ---- the history ----
 
--- what comes in at a tick of it: the engine gives this torque, and tells this load on both tracks
+-- what comes in at a tick of the history: the engine gives this torque, and shows this load as both its loads
 abbrev pub giving : DriveRow → (load torque : ℕ) → Entry
 giving drive load torque = record {
   drive = drive;
@@ -58,18 +58,18 @@ abbrev pub exceeding : CalibrationParts → DriveRow → (load : ℕ) → Tick
 exceeding cal drive load =
     record { effects = no_effects; entry = giving drive load (estimate cal.rules.kt load) }
 
--- the last tick of excess: it comes right after a send tick, whose answer is still good, in a period before
--- which there is room for all ticks of excess
+-- the number of the last tick of excess: it comes right after a send tick, whose answer is still good, and
+-- late enough that all ticks of excess have room before it
 unfoldable pub last_excess : CalibrationParts → ℕ
 last_excess cal = periods_to_confirm cal.rules.torque cal.times * cal.times.period + cal.times.send + 1
 
--- the ticks up to that one: quiet ones, and then as many with excess as confirm it (newest first)
+-- the ticks up to that one, newest first: quiet ones, and then as many ticks of excess as confirm it
 abbrev pub until_confirmed : CalibrationParts → DriveRow → (load : ℕ) → List Tick
 until_confirmed cal drive load =
     replicate (feeds_to_confirm cal.rules.torque) (exceeding cal drive load)
     ++ replicate (last_excess cal + 1 - feeds_to_confirm cal.rules.torque) (quiet no_effects drive)
 
--- after that path 1 conducts, whatever react orders; level 1 has no image
+-- the setting: from the next tick on path 1 is held closed, whatever react orders; level 1 has an empty image
 abbrev pub closed_setting : CalibrationParts → Setting
 closed_setting cal = record {
   cal = cal;
@@ -77,7 +77,7 @@ closed_setting cal = record {
   fault = Some (record { onset = last_excess cal + 1; class = Path1Closed });
 }
 
--- and each tick is quiet
+-- a tick after that one: it is quiet, and path 1 is held closed
 abbrev pub quiet_after : DriveRow → Tick
 quiet_after drive = quiet (effects_of Path1Closed 0) drive
 
@@ -99,7 +99,7 @@ pub record IsStillOn (s : Setting) (h more : List Tick) (x : Tick) (n : ℕ) : T
   pub comes : length more + 1 ≡ n
   pub on : is_on_after s (more ++ h) x ≡ true
 
--- in this history it is so R - 1 ticks after the excess is confirmed
+-- in this history the stages are still on R - 1 ticks after the excess is confirmed
 abbrev pub StaysOnSoLong : Type 0
 StaysOnSoLong =
     (cal : CalibrationParts) → IsAccepted cal → (can : CanExceed cal) →

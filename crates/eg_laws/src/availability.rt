@@ -6,8 +6,8 @@ ghost use Rattle.eg_model.specs.Engines.{gasoline, diesel};
 /// at which level 2 doesn't run lie at least `eg_answer::miss_spacing` ticks apart, in every drive span wrong
 /// answers aren't confirmed as long as no trip has come, and path 2 isn't ordered open. So a trip alone cuts;
 /// and where the engine shows one load twice, none comes where the full-efficiency excess comes at no tick of
-/// the span. A lapse that leaves out one tick, or one every so many ticks, has its misses so far apart. It
-/// does nothing when it runs.
+/// the span. A lapse that leaves out a single tick, or one tick every `miss_spacing` ticks or more, keeps
+/// that distance. It does nothing when it runs.
 pub fn far_misses_never_cut()
     ensures path_2 { KeepsPath2 }
     ensures trips { TripsAloneCut }
@@ -15,8 +15,8 @@ pub fn far_misses_never_cut()
     ensures single { SingleMissesAreSpaced }
 {}
 
-/// The same by the rows of each drive span of the record of a run on the bench, for the gasoline engine and
-/// for the diesel engine. It does nothing when it runs.
+/// What `far_misses_never_cut` says (docs/CONCEPT.md, "Lapses"), by the rows of each drive span of the record
+/// of a run on the bench, for the gasoline engine and for the diesel engine. It does nothing when it runs.
 pub fn records_stay_available()
     ensures { RecordsStayAvailable gasoline × RecordsStayAvailable diesel }
 {}

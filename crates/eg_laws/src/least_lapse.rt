@@ -6,17 +6,17 @@ ghost use Rattle.eg_model.specs.Rows.{rows_of};
 ghost use Rattle.eg_laws.specs.LeastLapse.{least_lapse_bound, StretchesAreShorter, ExcessLastsSoLong, LapseBoundIsLeast};
 ghost use Rattle.eg_laws.specs.Examples.{longest_excess};
 
-/// The least bound under lapses, where the runs of level 2 that confirm an excess fit into one period
-/// (docs/CONCEPT.md, "Lapses"): each stretch of true excess is shorter than R and as many ticks as confirm,
-/// and where an excess can be confirmed at all, one lasts a tick less. It does nothing when it runs.
+/// The least bound under lapses, where the D runs of level 2 that confirm an excess fit into one period
+/// (docs/CONCEPT.md, "Lapses"): each stretch of true excess is shorter than R + D ticks, and where an excess
+/// can be confirmed at all, some stretch lasts R + D - 1 ticks. It does nothing when it runs.
 pub fn lapse_bound_is_least()
     ensures shorter { StretchesAreShorter }
     ensures lasts { ExcessLastsSoLong }
     ensures least { LapseBoundIsLeast }
 {}
 
-/// The same, worked out with the reference calibration, whose number is 39: there is excess at the 38 ticks
-/// from 12 to 49, and the stages are off at tick 50. It does nothing when it runs.
+/// `lapse_bound_is_least` worked out with the reference calibration, whose least bound is 39 ticks: there is
+/// excess at the 38 ticks from 12 to 49, and the stages are off at tick 50. It does nothing when it runs.
 pub fn longest_excess_run()
     ensures bound { least_lapse_bound reference_parts ≡ 39 }
     ensures excess { map (true_excess reference_rules.threshold) (reverse (rows_of longest_excess))

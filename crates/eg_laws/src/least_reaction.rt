@@ -15,8 +15,8 @@ pub fn reaction_is_least()
     ensures needed { NeedsCanExceed }
 {}
 
-/// The same, worked out with the reference calibration, whose R is 34: the excess is confirmed at tick 16,
-/// and the stages are on up to tick 49 and off at tick 50. It does nothing when it runs.
+/// `reaction_is_least` worked out with the reference calibration, whose R is 34: the excess is confirmed at
+/// tick 16, and the stages are on up to tick 49 and off at tick 50. It does nothing when it runs.
 pub fn latest_cut_run()
     ensures confirmed { first_confirmed reference_rules.torque reference_rules.threshold (rows_of latest_cut)
         ≡ Some 16 }

@@ -1,6 +1,7 @@
-//! Laws of all runs beside those of `eg_model`: that its two bounds are the least, and under which lapses
-//! wrong answers never cut before a trip. Nothing here runs: specs/ has the definitions, and the functions
-//! carry the laws as their contracts. They stand apart so that each of these laws has edits that it refuses.
+//! Laws of all runs besides those of `eg_model`: that R is the least worst-case reaction, which bound for
+//! lapses is the least, and under which lapses wrong answers never cut before a trip. Nothing here runs:
+//! specs/ has the definitions, and the functions carry the laws as their contracts. The crate stands apart
+//! from `eg_model` so that each of these laws has must-fail edits of its own.
 #![tactic(auto)]
 
 mod availability;

@@ -15,11 +15,11 @@ use Rattle.eg_model.specs.Signals.{tripped}
 
 -- ---- answers ----
 
--- all eight modules run at a tick
+-- all eight modules of level 2 run at a tick
 unfoldable pub is_whole : Effects → Bool
 is_whole x = list_all (λ i. x.ran i) modules
 
--- none of them is disturbed at a tick
+-- none of the eight modules is disturbed at a tick
 unfoldable pub is_undisturbed : Effects → Bool
 is_undisturbed x = list_all (λ i. x.disturbance i == 0) modules
 
@@ -34,23 +34,23 @@ unfoldable pub whole_since_answer : List Moment → Bool
 whole_since_answer [] = true
 whole_since_answer (m ∷ past) = is_answer m.mark || (m.whole && whole_since_answer past)
 
--- an answer is sent at a send tick at which react runs, where no trip has come by then (and the engine is
--- driven)
+-- An answer is sent at a send tick at which react runs and no trip has come, neither now (`trip`) nor earlier
+-- in the span. (`moment_in` asks this only where the engine is driven.)
 unfoldable pub is_sent : TimeParts → Effects → Bool → List Moment → Bool
 is_sent times x trip past = sends_at x times (length past) && x.ran REACT && not (trip || tripped past)
 
--- it is good exactly where all eight modules ran since the answer before it, and none is disturbed
+-- an answer is good where all eight modules ran at each tick since the last one, and none is disturbed now
 unfoldable pub is_good : Effects → List Moment → Bool
 is_good x past = is_whole x && whole_since_answer past && is_undisturbed x
 
--- the mark of a tick
+-- the mark of a tick: a good or a bad answer, or none
 unfoldable pub mark_at : TimeParts → Effects → Bool → List Moment → AnswerMark
 mark_at times x trip past = if is_sent times x trip past then
     (if is_good x past then Good else Bad) else Absent
 
 -- ---- verdicts ----
 
--- the answer of a tick, if any, with those before it
+-- the answer of a tick, if its mark says that one was sent, with the answers before it
 unfoldable pub with_answer : ℕ → AnswerMark → List MarkedAnswer → List MarkedAnswer
 with_answer tick Absent before = before
 with_answer tick Good before = record { tick = tick; good = true } ∷ before
@@ -75,8 +75,8 @@ unfoldable pub verdicts_in : List Moment → List Verdict
 verdicts_in [] = []
 verdicts_in (m ∷ past) = with_verdict m.verdict (verdicts_in past)
 
--- wrong answers are confirmed at a tick whose verdict is the first place at which the wrong ones reach the
--- limit
+-- Wrong answers are confirmed at the tick whose verdict first brings the list of verdicts to the limit of
+-- their weights; a wrong verdict is the bad bit.
 unfoldable pub confirms_at : TimeParts → Option Verdict → List Moment → Bool
 confirms_at times None past = false
 confirms_at times (Some verdict) past = is_first times.weights (map is_wrong (verdict ∷ verdicts_in past))

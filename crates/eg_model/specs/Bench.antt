@@ -12,22 +12,22 @@ use Rattle.eg_model.specs.Level1.{last_world}
 use Rattle.eg_model.specs.Spans.{kind_at, before_at, next_after}
 use Rattle.eg_model.specs.Engines.{BenchEngine}
 
--- an engine after a step, by level 1's outputs as these ticks left them, whether the stages are on, and where
--- the plate is held, if it is
+-- The engine e after one step: it uses level 1's outputs as the ticks `past` left them, whether the stages
+-- are on, and where a fault holds the plate, if one does.
 unfoldable pub stepped : {E : Type 0} → BenchEngine E → PlantParts → E → List Moment → (on : Bool) →
     (held : Option ℕ) → E
 stepped b plant e past on held =
     let world = last_world past in b.step plant e world.throttle world.ignition on held
 
--- The engine after these ticks of a run: it has made a step at each, from its rest on, and goes on from span
--- to span. At the first tick of a span nothing is commanded yet. Nothing is read off what it showed.
+-- The engine after these ticks of a run: one step at each tick, from its rest on, without a break between
+-- spans. At the first tick of a span nothing is commanded yet. A step uses the state, not what was shown.
 unfoldable pub engine_after : {E : Type 0} → BenchEngine E → Setting → List Moment → E
 engine_after b s [] = b.rest s.cal.plant
 engine_after b s (m ∷ past) =
     stepped b s.cal.plant (engine_after b s past) (if m.fresh then [] else past) m.on
     (effects s.fault (length past)).held_plate
 
--- what it shows after its step at the tick after these, whose drive row this is
+-- what the engine shows after its step at the tick that follows these and has this drive row
 unfoldable pub shown_at : {E : Type 0} → BenchEngine E → Setting → Effects → DriveRow → List Moment → Shown
 shown_at b s x drive past =
     let before = before_at drive past in
@@ -59,13 +59,13 @@ entry_at b r t past = record {
   shown = shown_at b r.setting (effects r.setting.fault t) (drive_at r t) past;
 }
 
--- the moments of the first so many ticks
+-- the moments of the first n ticks, n being the number that is given
 unfoldable pub moments_to : {E : Type 0} → BenchEngine E → Run → ℕ → List Moment
 moments_to b r zero = []
 moments_to b r (suc t) =
     let past = moments_to b r t in next_after r.setting (entry_at b r t past) past ∷ past
 
--- what came in at them
+-- what came in at these ticks
 unfoldable pub entries_to : {E : Type 0} → BenchEngine E → Run → ℕ → List Entry
 entries_to b r zero = []
 entries_to b r (suc t) = entry_at b r t (moments_to b r t) ∷ entries_to b r t

@@ -1,6 +1,6 @@
--- Outside the headline. Runs that branch. A fault does nothing before its onset: so up to there a run
--- under a fault is the run without one, and whoever has made the ticks of the one can go on with the
--- other.
+-- Outside the headline. Runs that branch. A fault does nothing before its onset. So up to the onset a run
+-- under a fault is the run without one, and a program that has made those ticks without the fault can go on
+-- from there under it.
 use Rattle.std.specs.Prelude.{◌≡◌, ℕ, ◌≤◌, List, length, Option, None, IfSome}
 use Rattle.eg_fault.specs.declared.class.Fault.{Fault}
 use Rattle.eg_model.specs.History.{Setting, Entry}
@@ -13,7 +13,7 @@ use Rattle.eg_model.specs.Records.{rows_to}
 abbrev pub BeginsFrom : ℕ → Option Fault → Type 0
 BeginsFrom n fault = IfSome fault (λ f. n ≤ f.onset)
 
--- the same setting under this fault, or none
+-- the same setting, but under this fault, or none
 abbrev pub under : Option Fault → Setting → Setting
 under fault s = record s { fault = fault }
 
@@ -25,7 +25,7 @@ pub record AreOneRun (s t : Setting) (h : List Entry) : Type 0 where
   pub ticks_are : ticks t h ≡ ticks s h
   pub span_is : span_ticks t h ≡ span_ticks s h
 
--- the law: up to the tick at which a fault begins a run is the one without it
+-- the law: up to the tick at which a fault begins, a run under it is the run without it
 abbrev pub RunsBranch : Type 0
 RunsBranch =
     (s : Setting) → s.fault ≡ None → (fault : Option Fault) (h : List Entry) → BeginsFrom (length h) fault →
@@ -42,7 +42,7 @@ pub record BeginAlike {E : Type 0} (b : BenchEngine E) (r q : Run) (n : ℕ) : T
   pub engine_is :
       engine_after b q.setting (moments_to b q n) ≡ engine_after b r.setting (moments_to b r n)
 
--- the law: it is so of a run without a fault and of the same run under a fault that begins at tick n or later
+-- the law: a run without a fault, and the same run under a fault that begins at tick n or later, begin alike
 abbrev pub RecordsBranch : {E : Type 0} → BenchEngine E → Type 0
 RecordsBranch b =
     (r : Run) → r.setting.fault ≡ None → (fault : Option Fault) (n : ℕ) → BeginsFrom n fault →

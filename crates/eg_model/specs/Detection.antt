@@ -24,16 +24,16 @@ speed_bit s = speed_feed s.pairs
 unfoldable pub torque_bit : Signals → Bool
 torque_bit s = torque_feed s.excess
 
--- they are fed at a tick where debounce runs, no trip stands and no word is flipped (and the engine is
--- driven)
+-- The debouncers are fed at a tick where debounce runs, no trip came earlier in the span, and no word is
+-- flipped. (`moment_in` asks this only where the engine is driven.)
 unfoldable pub feeds_at : Effects → List Moment → Bool
 feeds_at x past = x.ran DEBOUNCE && not (tripped past) && not (is_some x.flip)
 
--- the bits of the ticks at which they were fed, newest first
+-- the bits of the ticks at which the debouncers were fed, newest first
 unfoldable pub fed_bits : (Signals → Bool) → List Moment → List Bool
 fed_bits bit past = map (λ m. bit m.signals) (filter (λ m. m.feeds) past)
 
--- A watch is found at a tick that feeds it, and whose bit is the first place at which the list of its bits
--- reaches the limit.
+-- A watch is found at a tick at which the debouncers are fed, and whose bit brings the list of the watch's
+-- bits to its limit for the first time.
 unfoldable pub finds : WeightParts → (Signals → Bool) → Bool → Signals → List Moment → Bool
 finds w bit feeds now past = feeds && is_first w (bit now ∷ fed_bits bit past)

@@ -8,7 +8,7 @@ use Rattle.eg_diesel.specs.Diesel.{Diesel, diesel_step}
 use Rattle.eg_diesel.specs.Diesel as of_diesel
 use Rattle.eg_fault.specs.Classes.{IsHeldWithin}
 
--- An engine on the bench. What it has come to is its state, of any type E. It needn't show all of it.
+-- An engine on the bench. E is the type of its states; a state may have more in it than the engine shows.
 pub record BenchEngine (E : Type 0) : Type 0 where
   -- the state before the first tick
   pub rest : PlantParts → E
@@ -22,12 +22,12 @@ pub record BenchEngine (E : Type 0) : Type 0 where
 unfoldable pub gasoline : BenchEngine Gasoline
 gasoline = record { rest = at_rest; step = gasoline_step; shows = shown_of }
 
--- the diesel engine, which rests alike whatever its plant
+-- the diesel engine, whose state at rest is the same for each plant
 unfoldable pub diesel : BenchEngine Diesel
 diesel = record { rest = λ plant. of_diesel.at_rest; step = diesel_step; shows = of_diesel.shown_of }
 
--- What the laws of records ask of an engine, where `Keeps` is what its states keep from step to step,
--- whatever that is.
+-- What the laws of records ask of an engine. `Keeps` is a statement about a state that stays true from step
+-- to step; each engine may bring its own.
 pub record KeepsBenchLaws {E : Type 0} (b : BenchEngine E) (Keeps : PlantParts → E → Type 0) : Type 0 where
   -- the state before the first tick keeps it
   pub at_first : (plant : PlantParts) → ArePlantParts plant → Keeps plant (b.rest plant)
@@ -41,6 +41,6 @@ pub record KeepsBenchLaws {E : Type 0} (b : BenchEngine E) (Keeps : PlantParts �
   pub off : (plant : PlantParts) (e : E) → Keeps plant e → (throttle ignition : ℕ) (held : Option ℕ) →
       (b.shows (b.step plant e throttle ignition false held)).torque ≡ 0
 
--- the sharp cut asks besides that it shows one load twice
+-- what the sharp cut asks besides: the two loads that the engine shows are always the same
 pub record ShowsOneLoad {E : Type 0} (b : BenchEngine E) : Type 0 where
   pub loads : (e : E) → (b.shows e).load_2 ≡ (b.shows e).load_1

@@ -21,20 +21,21 @@ use Rattle.eg_model.specs.Engines.{gasoline}
 use Rattle.eg_model.specs.Bench.{Run, moments_to}
 use Rattle.eg_model.specs.Rows.{record_rows, report_of}
 
--- waits for ever
+-- the image that waits for ever
 abbrev pub idle : List ℕ
 idle = IDLE
 
--- sets both outputs to 1000, and waits
+-- the image that sets both outputs to 1000, and waits
 abbrev pub full : List ℕ
 full = FULL
 
--- in each slice: half of the pedal to the throttle, and 1000 to the ignition
+-- the image that gives, in each slice, half of the pedal to the throttle, and 1000 to the ignition
 abbrev pub follow : List ℕ
 follow =
     0x1210 ∷ 0x2200 ∷ 0x1407 ∷ 0x2468 ∷ 0xb640 ∷ 0x96c1 ∷ 0xc650 ∷ 0xc451 ∷ 0xf000 ∷ 0xd1fa ∷ []
 
--- reads the actual torque in one slice and again in the next, and gives the difference to the throttle
+-- the image that reads the actual torque in one slice and again in the next, and gives the difference to the
+-- throttle
 abbrev pub probe : List ℕ
 probe =
     0x1210 ∷ 0x2220 ∷ 0x1a10 ∷ 0x2a10 ∷ 0xb442 ∷ 0xf000 ∷ 0xb642 ∷ 0x58d0 ∷ 0xc940 ∷ 0xf000 ∷ 0xd1f9 ∷ []
@@ -59,7 +60,7 @@ run_of image fault drive = record {
   drive = drive;
 }
 
--- so many ticks of it with the pedal at rest
+-- such a run of `count` ticks, with the pedal at rest
 abbrev pub bench_run : List ℕ → Option Fault → ℕ → Run
 bench_run image fault count = run_of image fault (replicate count at_rest)
 
@@ -74,7 +75,7 @@ short_test = record reference_parts {
   times = record reference_times { weights = record { up = 9; down = 1; limit = 9 } };
 }
 
--- a run with it
+-- a run with this calibration
 abbrev pub tested_run : List ℕ → Option Fault → List DriveRow → Run
 tested_run image fault drive =
     record (run_of image fault drive) { setting = record { cal = short_test; image = image; fault = fault } }
@@ -150,15 +151,15 @@ abbrev pub flipped_probe_run : Run
 flipped_probe_run =
     record (bench_run probe (fault_from 1 (Flip 3 1)) 2) { plan = (10 ∷ 10 ∷ replicate 7 0) ∷ [] }
 
--- gives the raise, as it is read, to the throttle
+-- the image that gives the raise, as it is read, to the throttle
 abbrev pub raise_reader : List ℕ
 raise_reader = 0x1210 ∷ 0x2210 ∷ 0x1410 ∷ 0x2408 ∷ 0xb680 ∷ 0xc640 ∷ 0xf000 ∷ 0xd1fe ∷ []
 
--- one tick of it, with a raise of 7
+-- one tick of this image, with a raise of 7
 abbrev pub raise_run : Run
 raise_run = run_of raise_reader None (driven 0 800 7 ∷ [])
 
--- stores to the word of a signal
+-- the image that tries to store to the word of a signal
 abbrev pub storing : List ℕ
 storing = 0x1210 ∷ 0x2220 ∷ 0xc240 ∷ []
 

@@ -22,7 +22,7 @@ use Rattle.eg_model.specs.Records.{IsRun}
 
 -- ---- which watches, and which faults ----
 
--- the watches that cut while the engine is driven: that of the pedal limits the pedal instead
+-- the watches that cut while the engine is driven: all but `pedal`, which limits the pedal, and `start`
 abbrev pub cutting : List Watch
 cutting = Mirror ∷ Plate ∷ Load ∷ Speed ∷ Torque ∷ Answers ∷ []
 
@@ -72,10 +72,10 @@ FindsFailure start rows =
     (later before : List Row) (row : Row) → rows ≡ later ++ row ∷ before → row.testing ≡ false →
     Finds (Start ∷ []) before
 
--- Of a drive span: where a module is skipped or disturbed, or both levels halt, a watch that cuts is
--- found before `bound` ticks have passed from the onset, or from the span's begin if that is later, whatever
--- the torque. (Here `before` are the rows of the span before the tick that comes `bound` ticks after that
--- one.)
+-- Of a drive span: where a module of level 2 is skipped or disturbed, or both levels halt, a watch that cuts
+-- is found before `bound` ticks have passed from the onset, or from the span's begin if that is later,
+-- whatever the torque. (`before` are the rows of the span up to the last tick of these `bound` ticks. Where
+-- the span ends sooner nothing is said.)
 abbrev pub FindsFromOnset : Option Fault → (bound start : ℕ) → List Row → Type 0
 FindsFromOnset fault bound start rows = IfSome fault (λ f. spoils_answers f.class ≡ true →
     (later before : List Row) → rows ≡ later ++ before →
@@ -83,7 +83,7 @@ FindsFromOnset fault bound start rows = IfSome fault (λ f. spoils_answers f.cla
 
 -- ---- the rows of a run ----
 
--- the mirrored words tell exactly at the tick at which a word of level 2 is flipped
+-- the watch `mirror` is found exactly at the tick at which a word of level 2 is flipped
 abbrev pub TellsFlips : Option Fault → List Row → Type 0
 TellsFlips fault rows = All (λ row. row.found.mirror ≡ flips_at fault row.tick) rows
 

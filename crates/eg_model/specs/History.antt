@@ -13,7 +13,7 @@ use Rattle.eg_fault.specs.Effects.{Effects}
 use Rattle.eg_fault.specs.declared.class.Fault.{Fault}
 use Rattle.eg_values.specs.Calibration.{CalibrationParts}
 
--- what a run is made of beside its drive: the calibration, the image that level 1 runs, and the fault
+-- what a run has besides drive and slice plan: the calibration, the image of level 1, and the fault, if any
 pub record Setting : Type 0 where
   pub cal : CalibrationParts
   pub image : List ℕ
@@ -31,13 +31,13 @@ pub record Tick : Type 0 where
   pub effects : Effects
   pub entry : Entry
 
--- A span is a stretch of a run's ticks that is a history of its own. What it is for: the engine is driven in
--- it, or the two shut-off paths are tested.
+-- What a span is for, that is a stretch of a run's ticks which is a history of its own: in a drive span the
+-- engine is driven, in a test span the two shut-off paths are tested.
 pub data SpanKind : Type 0 where
   Drive : SpanKind
   Test : SpanKind
 
--- whether the engine is driven in it: the stages may have power, the debouncers be fed and answers be sent
+-- whether the engine is driven in such a span: only then are stages on, debouncers fed and answers sent
 unfoldable pub drives : SpanKind → Bool
 drives Drive = true
 drives Test = false
@@ -67,8 +67,8 @@ pub record Moment : Type 0 where
   pub path1 : Bool
   pub path2 : Bool
   pub on : Bool
-  -- level 2: the signals after the tick, whether the debouncers are fed, what they find, and whether that
-  -- trips
+  -- the signals of level 2 after the tick, whether its debouncers are fed, which watches are found, and
+  -- whether one of them trips
   pub signals : Signals
   pub feeds : Bool
   pub found : Watches

@@ -14,16 +14,16 @@ use Rattle.eg_model.specs.Records.{IsRun}
 abbrev pub IsWithin : (bound : ℕ) → Option ℕ → Type 0
 IsWithin bound reaction = IfSome reaction (λ ticks. ticks ≤ bound)
 
--- what is told of the reactions of a run is in time
+-- what is told of the reactions of a run is in time; `bound` is a number of ticks
 pub record IsInTime (bound : ℕ) (reactions : Reactions) : Type 0 where
   -- the longest is within the bound
   pub within : IsWithin bound reactions.longest
-  -- and where a true excess is confirmed, and each span in which one is goes on for so many ticks after that,
-  -- there is a longest reaction
+  -- and where a true excess is confirmed, and each span in which one is confirmed goes on for `bound` ticks
+  -- after that, there is a longest reaction
   pub told : is_settled bound reactions ≡ true → (ticks : ℕ) → reactions.followed ≡ Some ticks →
       is_some reactions.longest ≡ true
 
--- it is so of each run with at most one listed fault, by its worst-case reaction
+-- the law: of each run with no fault or a listed one this is in time, the bound being its worst-case reaction
 abbrev pub RecordsReactInTime : {E : Type 0} → BenchEngine E → Type 0
 RecordsReactInTime b =
     (r : Run) → IsRun r → IsListed r.setting.fault →

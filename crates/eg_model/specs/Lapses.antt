@@ -1,5 +1,5 @@
--- Lapses: level 2 as a whole doesn't run at some ticks, again and again. Nothing is said of which ticks
--- these are, so an excess that comes and goes may never be found. But one that stays is cut soon: either
+-- Lapses: level 2 as a whole doesn't run at some ticks, again and again. These may be any ticks, so an
+-- excess that comes and goes may never be found. But one that stays is cut soon: either
 -- level 2 runs often enough to find it, or too seldom to give the answers that the monitoring module needs.
 use Rattle.std.specs.Prelude.{◌≡◌, ℕ, ◌*◌, ◌<◌, ◌≤◌, true, List, length, take, Option, Some}
 use Rattle.std.specs.List.{list_all}
@@ -32,14 +32,14 @@ CutsStandingExcess =
     (start periods : ℕ) (h : List Tick) → length h ≡ periods * s.cal.times.period →
     Exceeds s (lapse_periods s.cal.rules.torque s.cal.times * s.cal.times.period) h → OffFrom s start h 1
 
--- Under every lapse, each stretch of ticks in a row with true excess is shorter than so many ticks. (Here h
+-- Under every lapse, each stretch of ticks in a row with true excess is shorter than `bound` ticks. (Here h
 -- is the history up to the end of the stretch, and n the ticks of the stretch.)
 abbrev pub StretchesStayBelow : CalibrationParts → ℕ → Type 0
 StretchesStayBelow cal bound =
     (s : Setting) → s.cal ≡ cal → IsLapse s.fault → (start : ℕ) (h : List Tick) →
     Follows s.fault start h → AreProper s h → (n : ℕ) → Exceeds s n h → n < bound
 
--- The law of stretches. Where the calibration is an accepted one with a bound for lapses, it is such a bound.
+-- The law of stretches: by an accepted calibration with a bound for lapses each is shorter than the bound.
 abbrev pub StretchesAreShort : Type 0
 StretchesAreShort =
     (cal : CalibrationParts) → IsAccepted cal → HasLapseBound cal.rules.torque cal.times →

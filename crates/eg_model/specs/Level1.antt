@@ -18,9 +18,9 @@ unfoldable pub ports_of : Readings → List ℕ
 ports_of reads =
     reads.pedal ++ reads.plate ++ reads.load ++ reads.speed ++ reads.raise ∷ reads.raise_check ∷ []
 
--- The signal of module i as slice j sees it. Slice j comes after the modules below j: so it is that of this
--- tick where i lies below j, and else that of the tick before. A flipped word is met by module 0, which
--- sets all signals to 0.
+-- The signal of module i as slice j sees it. Slice j comes after the modules below j: so the signal is that
+-- of this tick (`now`) where i is below j, else that of the tick before (`before`). Where a word is flipped,
+-- module 0 has set all signals to 0 before slice 1.
 unfoldable pub seen : Bool → ℕ → ℕ → ℕ → ℕ → ℕ
 seen flipped j i before now =
     if flipped && nat_le 1 j then 0 else if nat_lt i j then now else before

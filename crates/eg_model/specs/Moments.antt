@@ -21,11 +21,11 @@ use Rattle.eg_model.specs.Level1.{world_at}
 unfoldable pub effective_drive : CalibrationParts → DriveRow → DriveRow
 effective_drive cal drive = if cal.brake && drive.brake then record drive { pedal = 0; raise = 0 } else drive
 
--- the torque that a drive row permits, under this calibration: by the row, not by what is sensed
+-- the torque that a drive row permits, in tenths of Nm: by the row itself, not by what is sensed of it
 unfoldable pub limit_at : CalibrationParts → DriveRow → ℕ
 limit_at cal drive = drive_permits cal.rules.permit (effective_drive cal drive)
 
--- whether the unit takes the brake as pressed, by what its contacts read, where the brake counts
+-- whether the brake counts and the unit takes it as pressed, by what its two contacts read
 unfoldable pub is_braking : CalibrationParts → Effects → DriveRow → Bool
 is_braking cal x drive = cal.brake && is_pressed (contacts_under x (sound_contacts drive.brake))
 
@@ -44,10 +44,10 @@ readings_at cal x e = if is_braking cal x e.drive then gated (sensed_at x e) els
 abbrev pub some_trips : (mirror plate load speed torque : Bool) → Bool
 some_trips mirror plate load speed torque = mirror || plate || load || speed || torque
 
--- The moment of one tick, in a span of this kind, of which these ticks came before. Where the engine isn't
--- driven the stages are off, the debouncers aren't fed, no answer is sent, and wrong answers that are
--- confirmed aren't found. A start-up test is passed where neither path conducts as they are read back; else
--- it fails, which is found.
+-- The moment of one tick in a span of this kind; `past` are the moments of the span before it. Where the
+-- engine isn't driven the stages are off, the debouncers aren't fed, no answer is sent, and wrong answers
+-- that are confirmed aren't found. A start-up test is passed where neither path conducts at the tick at which
+-- they are read back; else it fails, and the watch `start` is found.
 unfoldable pub moment_in : SpanKind → Setting → Effects → Entry → List Moment → Moment
 moment_in kind s x e past =
     let rules = s.cal.rules in

@@ -1,5 +1,5 @@
--- Level 1 acts by its two outputs alone. Whatever its image, and however many instructions it may do, level 2
--- and the monitoring module go on as ever where the same came in; and the engine uses the two outputs.
+-- Level 1 acts by its two outputs alone. With any image, and any number of instructions, level 2 and the
+-- monitoring module do the same where the same comes in; and the engine uses only the two outputs of it.
 use Rattle.std.specs.Prelude.{◌≡◌, ℕ, List, [], ◌∷◌, ◌++◌, map}
 use Rattle.eg_record.specs.declared.row.Row.{Row}
 use Rattle.eg_word.specs.World.{new_world}
@@ -26,11 +26,11 @@ with_level1 image plan r = record r { setting = running image r.setting; plan = 
 unfoldable pub without_slices : Entry → Entry
 without_slices e = record e { slices = [] }
 
--- a tick of a history that stands by itself, but for those
+-- a tick of a history that stands by itself, but for these instructions
 unfoldable pub tick_without_slices : Tick → Tick
 tick_without_slices x = record x { entry = without_slices x.entry }
 
--- what is true of a tick, but for those and level 1's world
+-- what is true of a tick, but for these instructions and level 1's world
 unfoldable pub without_level1 : Moment → Moment
 without_level1 m = record m { entry = without_slices m.entry; world = new_world }
 
@@ -44,16 +44,16 @@ outputs_of rows = map (λ row. (row.throttle, row.ignition)) rows
 
 -- ---- histories ----
 
--- Whatever the images and the slices: where at each tick the same is out of order, and drive and engine are
--- the same, the same is true of each tick but for level 1. So it is in a history that stands by itself, as a
--- span of either kind.
+-- Take two histories that stand by themselves, as spans of either kind, with any images and any slices. If at
+-- each tick the same is out of order, the drive rows are the same, and the engine shows the same, then the
+-- same is true of each tick, but for level 1.
 abbrev pub SpansDisregardLevel1 : Type 0
 SpansDisregardLevel1 =
     (kind : SpanKind) (s : Setting) (image : List ℕ) (h others : List Tick) →
     map tick_without_slices h ≡ map tick_without_slices others →
     map without_level1 (moments_in kind s h) ≡ map without_level1 (moments_in kind (running image s) others)
 
--- and so it is in a run, whose spans then begin at the same ticks
+-- the same of two runs, whose spans then begin at the same ticks
 abbrev pub RunsDisregardLevel1 : Type 0
 RunsDisregardLevel1 =
     (s : Setting) (image : List ℕ) (h others : List Entry) →
@@ -71,13 +71,13 @@ ActByOutputs rows others =
     outputs_of before ≡ outputs_of other_before →
     map without_outputs (row ∷ before) ≡ map without_outputs (other ∷ other_before)
 
--- It is so of each run and of the same run with another image and slice plan.
+-- The law: this holds of each run and the same run with any other image and slice plan.
 abbrev pub RecordsActByOutputs : {E : Type 0} → BenchEngine E → Type 0
 RecordsActByOutputs b =
     (r : Run) (image : List ℕ) (plan : List (List ℕ)) →
     ActByOutputs (record_rows b r) (record_rows b (with_level1 image plan r))
 
--- So where their outputs are equal at all ticks, their rows are the same.
+-- So where the outputs of two such runs are equal at all ticks, their rows are the same.
 abbrev pub RecordsGoByOutputs : {E : Type 0} → BenchEngine E → Type 0
 RecordsGoByOutputs b =
     (r : Run) (image : List ℕ) (plan : List (List ℕ)) →

@@ -1,5 +1,5 @@
--- The two shut-off paths, and the start-up test of them. Their latches aren't kept: they are read off the
--- past of the span.
+-- The two shut-off paths, and the start-up test of them. No latch is kept here: whether one is open follows
+-- from the earlier ticks of the span.
 use Rattle.std.specs.Prelude.{ℕ, ◌+◌, ◌==◌, nat_le, Bool, false, ◌&&◌, ◌||◌, List, length}
 use Rattle.std.specs.List.{list_any}
 use Rattle.eg_answer.specs.Times.{TimeParts, test_ticks_of}
@@ -11,18 +11,18 @@ use Rattle.eg_model.specs.Signals.{tripped}
 
 -- ---- the start-up test, by the number of a tick in its span ----
 
--- a test is running up to the tick at which the paths are read back, which takes so long that path 2 is open
--- by then
+-- A test is running up to the tick at which the paths are read back, that tick included. By then the answers
+-- that didn't come have opened path 2.
 unfoldable pub is_testing : SpanKind → TimeParts → ℕ → Bool
 is_testing Drive times local = false
 is_testing Test times local = nat_le local (test_ticks_of times)
 
--- react is told to order path 1 open at the tick before that one
+-- react is told to order path 1 open at the tick before the paths are read back
 unfoldable pub is_told_to_open : SpanKind → TimeParts → ℕ → Bool
 is_told_to_open Drive times local = false
 is_told_to_open Test times local = local + 1 == test_ticks_of times
 
--- the paths are read back
+-- the paths are read back at the last tick of the test
 unfoldable pub reads_back : SpanKind → TimeParts → ℕ → Bool
 reads_back Drive times local = false
 reads_back Test times local = local == test_ticks_of times
@@ -50,6 +50,6 @@ path1_at x past = x.conducts PATH_1 (latch1 past)
 unfoldable pub path2_at : Effects → List Moment → Bool
 path2_at x past = x.conducts PATH_2 (latch2 past)
 
--- the power stages are on where both do, while the engine is driven
+-- whether both paths conduct: the power stages are on exactly then, while the engine is driven
 unfoldable pub on_at : Effects → List Moment → Bool
 on_at x past = path1_at x past && path2_at x past

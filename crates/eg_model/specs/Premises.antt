@@ -1,6 +1,6 @@
--- Outside the headline. What the laws of a run speak of, and the little that they ask of a history: of the
--- engine that it shows what every engine keeps, and of the drive that it is one. Nothing is asked of level
--- 1.
+-- Outside the headline. What the laws of a run speak of, and their two premises on a history: what is out of
+-- order at its ticks comes of the fault (`Follows`), and what comes in at its ticks is proper (`AreProper`):
+-- drive rows keep their limits, and the engine keeps the laws of engines. Nothing is asked of level 1.
 use Rattle.std.specs.Prelude.{◌≡◌, ℕ, ◌+◌, Bool, true, false, List, [], ◌∷◌, map, length, Option}
 use Rattle.eg_num.specs.Drive.{IsDrive}
 use Rattle.eg_num.specs.Windows.{is_confirmed}
@@ -14,14 +14,15 @@ use Rattle.eg_model.specs.Moments.{moment, moments_of}
 use Rattle.eg_model.specs.Spans.{next}
 use Rattle.eg_model.specs.Rows.{rows_of}
 
--- What comes in at a tick is proper: the drive row keeps its limits; the plate has an angle within its range,
--- and neither load hides torque; and where the stages are off there is no torque.
+-- What comes in at a tick is proper, `on` being whether the stages are on at it: the drive row keeps its
+-- limits; the plate stands at 1000 at most, and the estimate of neither load lies below the torque
+-- (`KeepsLaws`); and where the stages are off there is no torque.
 pub record IsProper (s : Setting) (on : Bool) (e : Entry) : Type 0 where
   pub drive : IsDrive e.drive
   pub engine : KeepsLaws s.cal.rules.kt e.shown
   pub no_torque : on ≡ false → e.shown.torque ≡ 0
 
--- it is so at each tick of a history in which the engine is driven
+-- what comes in is proper at each tick of a history in which the engine is driven
 unfoldable pub AreProper : Setting → List Tick → Type 0
 AreProper s [] = Unit {0}
 AreProper s (x ∷ before) =
@@ -32,7 +33,8 @@ unfoldable pub IsProperRun : Setting → List Entry → Type 0
 IsProperRun s [] = Unit {0}
 IsProperRun s (e ∷ before) = IsProper s (next s e before).on e × IsProperRun s before
 
--- a history that begins at tick `start` of a run with this fault, if any
+-- The earliest tick of the history is tick `start` of a run with this fault, if any; and at each of its ticks
+-- exactly that is out of order which the fault puts out of order at that tick of the run.
 unfoldable pub Follows : Option Fault → ℕ → List Tick → Type 0
 Follows fault start [] = Unit {0}
 Follows fault start (x ∷ before) =
@@ -49,6 +51,6 @@ true_excesses s h = map (true_excess s.cal.rules.threshold) (rows_of (moments_of
 unfoldable pub full_excesses : Setting → List Tick → List Bool
 full_excesses s h = map (full_excess s.cal.rules.kt s.cal.rules.threshold) (rows_of (moments_of s h))
 
--- it is confirmed by the last tick of h
+-- the true excess is confirmed by the last tick of h
 abbrev pub IsExcessConfirmed : Setting → List Tick → Type 0
 IsExcessConfirmed s h = is_confirmed s.cal.rules.torque (true_excesses s h) ≡ true

@@ -1,5 +1,5 @@
 -- The laws for the record of a run on the bench, span by span: what the report says, and what the rows keep.
--- Each is a statement about an engine; it holds of those that keep what `KeepsBenchLaws` says.
+-- Each is a statement about an engine; the laws hold of the engines that keep `KeepsBenchLaws`.
 use Rattle.std.specs.Prelude.{◌≡◌, ℕ, ◌+◌, ◌*◌, ◌≤◌, ◌<◌, Bool, true, false, not, nat_lt, nat_le, max, List, ◌∷◌, ◌++◌, All, map, take, length, Option, Some, None, IfSome, MatchOption}
 use Rattle.std.specs.List.{list_all}
 use Rattle.eg_num.specs.Drive.{IsDrive}
@@ -19,7 +19,7 @@ use Rattle.eg_model.specs.Engines.{BenchEngine}
 use Rattle.eg_model.specs.Bench.{Run, entry_at, moments_to, entries_to}
 use Rattle.eg_model.specs.Rows.{row_of, rows_of, record_rows}
 
--- a run that may be asked for: its calibration is an accepted one, and its drive rows keep their limits
+-- a run that the laws speak of: its calibration is an accepted one, and its drive rows keep their limits
 pub record IsRun (r : Run) : Type 0 where
   pub accepted : IsAccepted r.setting.cal
   pub drive : All IsDrive r.drive
@@ -56,8 +56,8 @@ RowsReactAtOnce fault weights threshold start rows =
     is_confirmed weights (map (true_excess threshold) before) ≡ true →
     is_at_once fault (start + length before) ≡ true → All (λ row. row.on ≡ false) later
 
--- the stages are on at each tick up to the first by which the full-efficiency excess is confirmed in it, and
--- off at each later one; and where it is never confirmed, they are on at every tick
+-- the stages are on at each tick up to the first by which the full-efficiency excess is confirmed in the
+-- span, and off at each later one; and where it is never confirmed, they are on at every tick
 abbrev pub CutOneTickAfter : WeightParts → (kt threshold start : ℕ) → List Row → Type 0
 CutOneTickAfter weights kt threshold start rows =
     MatchOption (first_index weights (map (full_excess kt threshold) rows))
@@ -68,8 +68,8 @@ unfoldable pub is_before_onset : Option Fault → ℕ → Bool
 is_before_onset None t = true
 is_before_onset (Some fault) t = nat_lt t fault.onset
 
--- where no fault has begun by a tick, the stages are on at it exactly where the full-efficiency excess isn't
--- confirmed before it
+-- where no fault has begun by a tick, the stages are on at that tick exactly where the full-efficiency excess
+-- isn't confirmed by the rows before it
 abbrev pub CutSharplyBefore : Option Fault → WeightParts → (kt threshold start : ℕ) → List Row → Type 0
 CutSharplyBefore fault weights kt threshold start rows =
     (later before : List Row) (row : Row) → rows ≡ later ++ row ∷ before →
@@ -81,8 +81,8 @@ pub record ExceedLast (threshold n : ℕ) (rows : List Row) : Type 0 where
   pub within : n ≤ length rows
   pub each : list_all (λ excess. excess) (take n (map (true_excess threshold) rows)) ≡ true
 
--- Excess that stands is cut: wherever a period ends at which there was true excess through so many whole
--- periods, the stages are off from the next tick on.
+-- Excess that stands is cut: wherever a period ends and there was true excess at each tick of the last
+-- `lapse_periods` periods, the stages are off from the next tick on.
 abbrev pub CutStandingExcess : CalibrationParts → (start : ℕ) → List Row → Type 0
 CutStandingExcess cal start rows =
     (later before : List Row) (periods : ℕ) → rows ≡ later ++ before →
@@ -96,8 +96,8 @@ ExcessIsShort cal start rows =
     (later before : List Row) (n : ℕ) → rows ≡ later ++ before →
     ExceedLast cal.rules.threshold n before → n < lapse_bound_of cal.rules.torque cal.times
 
--- where a module is skipped or disturbed, or both levels halt, the stages are off from `bound` ticks
--- after the onset, or after the span's begin if that is later, whatever the torque
+-- where a module of level 2 is skipped or disturbed, or both levels halt, the stages are off from `bound`
+-- ticks after the onset, or after the span's begin if that is later, whatever the torque
 abbrev pub CutFromOnset : Option Fault → (bound start : ℕ) → List Row → Type 0
 CutFromOnset fault bound start rows = IfSome fault (λ f. spoils_answers f.class ≡ true →
     All (λ row. max f.onset start + bound ≤ row.tick → row.on ≡ false) rows)

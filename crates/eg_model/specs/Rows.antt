@@ -16,7 +16,7 @@ use Rattle.eg_model.specs.Bench.{Run, moments_to}
 unfoldable pub signal_list : Signals → List ℕ
 signal_list s = s.pedal ∷ s.permitted ∷ s.actual ∷ s.excess ∷ s.pairs ∷ []
 
--- the row of a tick, by its place in the record
+-- the row of a moment, with its place in the record as its tick
 unfoldable pub row_of : ℕ → Moment → Row
 row_of tick m = record {
   tick = tick;
@@ -43,7 +43,7 @@ unfoldable pub rows_of : List Moment → List Row
 rows_of [] = []
 rows_of (m ∷ past) = row_of (length past) m ∷ rows_of past
 
--- the trap that a state tells, with the tick
+-- the trap of a state of level 1, if it is trapped, with the tick
 unfoldable pub trap_in : State → ℕ → Option (Trap × ℕ)
 trap_in Running tick = None
 trap_in Waiting tick = None

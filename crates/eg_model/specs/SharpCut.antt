@@ -13,13 +13,14 @@ pub record IsPlain (x : Tick) : Type 0 where
   pub effects : x.effects ≡ no_effects
   pub loads : x.entry.shown.load_2 ≡ x.entry.shown.load_1
 
--- so it is at each tick of a history
+-- each tick of a history is plain
 unfoldable pub ArePlain : List Tick → Type 0
 ArePlain [] = Unit {0}
 ArePlain (x ∷ before) = IsPlain x × ArePlain before
 
--- The law. The stages are on at the tick x after h exactly where the full-efficiency excess isn't confirmed
--- by the last tick of h.
+-- The law. Let h be plain, and let what comes in at its ticks be proper (`AreProper`); let nothing be out of
+-- order at the tick x after h. Then the stages are on at x exactly where the full-efficiency excess isn't
+-- confirmed by the last tick of h.
 abbrev pub CutsSharply : Type 0
 CutsSharply =
     (s : Setting) → IsAccepted s.cal → (h : List Tick) → ArePlain h → AreProper s h →

@@ -17,7 +17,7 @@ tripped past = list_any (λ m. m.trip) past
 unfoldable pub is_limited : List Moment → Bool
 is_limited past = list_any (λ m. m.found.pedal) past
 
--- all five are 0
+-- the signals that are all 0
 unfoldable pub no_signals : Signals
 no_signals = record { pedal = 0; permitted = 0; actual = 0; excess = 0; pairs = 0 }
 
@@ -26,9 +26,9 @@ unfoldable pub last_signals : List Moment → Signals
 last_signals [] = no_signals
 last_signals (m ∷ past) = m.signals
 
--- What the signal of module i is after a tick, by what it was before and by its value now. Where a word is
--- flipped it is 0. Where its module doesn't run it stays. After a trip it is 0. Otherwise it is its value,
--- with the disturbance mixed in.
+-- The signal of module i after a tick: `before` is the signal as it was, `value` what the module computes
+-- now. The first that applies: 0 where a word is flipped; as before where the module doesn't run; 0 after a
+-- trip; otherwise the value, with the disturbance mixed in by exclusive or.
 unfoldable pub signal : Effects → List Moment → ℕ → ℕ → ℕ → ℕ
 signal x past i before value =
     if is_some x.flip then 0

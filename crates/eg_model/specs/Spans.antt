@@ -13,7 +13,7 @@ use Rattle.eg_model.specs.Moments.{moment_in}
 
 -- ---- the span that these ticks of a run end in ----
 
--- its ticks so far: back to the one that was the first of a span
+-- its ticks so far: back to the latest one that was the first of a span
 unfoldable pub span_so_far : List Moment → List Moment
 span_so_far [] = []
 span_so_far (m ∷ past) = m ∷ (if m.fresh then [] else span_so_far past)
@@ -55,7 +55,7 @@ unfoldable pub moments : Setting → List Entry → List Moment
 moments s [] = []
 moments s (e ∷ before) = let past = moments s before in next_after s e past ∷ past
 
--- the moment of one tick more
+-- the moment of the tick at which e comes in, after a run in which h came in
 unfoldable pub next : Setting → Entry → List Entry → Moment
 next s e h = next_after s e (moments s h)
 
@@ -64,6 +64,6 @@ unfoldable pub ticks : Setting → List Entry → List Tick
 ticks s [] = []
 ticks s (e ∷ before) = record { effects = effects s.fault (length before); entry = e } ∷ ticks s before
 
--- the ticks of the span that it ends in
+-- the ticks of the span that a run ends in
 unfoldable pub span_ticks : Setting → List Entry → List Tick
 span_ticks s h = take (length (span_so_far (moments s h))) (ticks s h)

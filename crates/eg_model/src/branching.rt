@@ -3,8 +3,8 @@ ghost use Rattle.eg_model.specs.Engines.{gasoline, diesel};
 ghost use Rattle.eg_model.specs.Branching.{RunsBranch, RecordsBranch};
 
 /// Up to the tick at which a fault begins, the run under it is the run without one (docs/CONCEPT.md,
-/// "Faults"): what is true of its ticks, and on the bench also what comes in, the rows and the engine. So
-/// whoever has made these ticks without a fault can go on under one. It does nothing when it runs.
+/// "Faults"): what is true of its ticks, and on the bench also what comes in, the rows and the engine. So a
+/// program that has made these ticks without a fault can go on under one. It does nothing when it runs.
 pub fn runs_branch()
     ensures runs { RunsBranch }
     ensures records { RecordsBranch gasoline × RecordsBranch diesel }

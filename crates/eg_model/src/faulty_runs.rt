@@ -8,8 +8,8 @@ ghost use Rattle.eg_record.specs.declared.watch.Watch.TheVariants as found;
 ghost use Rattle.eg_model.specs.Rows.{signal_list};
 ghost use Rattle.eg_model.specs.Examples.{idle, full, at_rest, resetting, fault_from, bench_run, tested_run, pressed_run, offset_run, disturbed_raise_run, flipped_probe_run, report_on, reported, moments_in_time, answers_of, verdicts_of, stages_of};
 
-/// Path 2 conducts whatever its latch says, and a path that is open doesn't conduct. Nothing is found of it:
-/// it opens by itself.
+/// Two faults of path 2. Where it is held closed, it conducts whatever its latch says. Where it doesn't
+/// conduct, the stages are off, and no watch is found.
 pub fn path_2_runs()
     ensures closed { map (λ m. m.path2) (moments_in_time (bench_run full (fault_from 0 Path2Closed) 45))
         ≡ replicate 45 true }
@@ -19,13 +19,14 @@ pub fn path_2_runs()
         ≡ reported None (Some 3) None None }
 {}
 
-/// Module 0 has set the signals to 0 before slice 1 reads them, at the tick of the flip.
+/// At the tick at which a word is flipped, module 0 of level 2 has set the signals to 0 before slice 1 of
+/// level 1 reads them.
 pub fn flip_seen_by_level_1()
     ensures { map (λ m. m.world.throttle) (moments_in_time flipped_probe_run) ≡ 0 ∷ 65436 ∷ [] }
 {}
 
-/// The first pedal track reads 1000 where the pedal stands at 500: the pair is found at tick 4, and from
-/// tick 5 on the pedal is limited to 0.
+/// The first pedal track reads 1000 where the pedal stands at 500: the watch `pedal` is found at tick 4, and
+/// from tick 5 on level 2 takes the pedal as 0.
 pub fn limited_run()
     ensures found { report_on pressed_run ≡ reported (Some (found.Pedal, 4)) None None None }
     ensures permitted { map (λ m. m.signals.permitted) (moments_in_time pressed_run)
@@ -38,8 +39,8 @@ pub fn latched_run()
         ≡ replicate 10 true ++ replicate 5 false }
 {}
 
-/// Neither level runs: level 1's outputs stay 0. And a plate that is held stays there; the charge follows it
-/// from the next tick on.
+/// Two faults. Where neither level runs, level 1's outputs stay 0. A plate that is held stays where it is
+/// held, and the charge follows it from the next tick on.
 pub fn halted_and_held_runs()
     ensures halted { map (λ m. m.world.throttle)
         (moments_in_time (bench_run full (fault_from 0 Halt) 2)) ≡ 0 ∷ 0 ∷ [] }
@@ -78,8 +79,8 @@ pub fn offset_track()
     ensures { map (λ m. m.reads.pedal) (moments_in_time offset_run) ≡ (0 ∷ 950 ∷ []) ∷ [] }
 {}
 
-/// A raise of 600 is disturbed on its way, its check word isn't: it counts as 0 for level 2, whatever the
-/// drive permits.
+/// A raise of 600 is disturbed on its way, its check word isn't: for level 2 the raise counts as 0, so that
+/// it permits 200, while the drive row itself permits 600.
 pub fn disturbed_raise()
     ensures limit { map (λ m. m.limit) (moments_in_time disturbed_raise_run) ≡ 600 ∷ [] }
     ensures signals { map (λ m. signal_list m.signals) (moments_in_time disturbed_raise_run)

@@ -1,8 +1,8 @@
 // The laws of lapses.
 ghost use Rattle.eg_model.specs.Lapses.{CutsStandingExcess, StretchesAreShort};
 
-/// The laws of lapses (docs/CONCEPT.md, "Lapses"): level 2 as a whole doesn't run at some ticks, whichever
-/// they are. For a calibration that has a bound: where `lapse_periods` whole periods lie in a stretch of
+/// The laws of lapses (docs/CONCEPT.md, "Lapses"): level 2 as a whole doesn't run at some ticks, which may be
+/// any. For a calibration that has a bound: where `lapse_periods` whole periods lie in a stretch of
 /// true excess, the stages are off from the tick after the last of them to the end of the power cycle; and
 /// each such stretch is shorter than the bound in ticks that `eg_answer::lapse_bound` gives. Nothing is
 /// said of an excess with gaps. It does nothing when it runs.

@@ -2,16 +2,16 @@
 ghost use Rattle.eg_model.specs.Reaction.{ReactsInTime, ReactsAtOnce, CutsFromOnset};
 
 /// The reaction theorem (docs/CONCEPT.md, "Why the unit reacts"): for every accepted calibration, every
-/// image and slice plan, every drive, and at most one listed fault, the stages are off from R ticks after a
-/// confirmed torque excess on; under most faults, and without one, from the next tick on. It does nothing
-/// when it runs.
+/// image and slice plan, every drive within its limits, every engine that keeps its laws, and no fault or a
+/// listed one, the stages are off from R ticks after a confirmed torque excess on; under most faults, and
+/// without one, from the next tick on. It does nothing when it runs.
 pub fn reacts_in_time()
     ensures in_time { ReactsInTime }
     ensures at_once { ReactsAtOnce }
 {}
 
 /// Where a module of level 2 is skipped or disturbed, or both levels halt, the stages are off from R
-/// ticks after the onset, whatever the torque (docs/CONCEPT.md, "Worst-case reaction"). It does nothing
+/// ticks after the onset, whatever the torque (docs/CONCEPT.md, "Why the unit reacts"). It does nothing
 /// when it runs.
 pub fn cuts_from_onset()
     ensures { CutsFromOnset }

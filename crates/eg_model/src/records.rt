@@ -1,5 +1,5 @@
 // The laws of records of runs on the bench, for the gasoline engine and for the diesel engine. They are
-// proved of any engine that brings what `KeepsBenchLaws` says.
+// proved of any engine that keeps `KeepsBenchLaws`, the sharp cut of one that keeps `ShowsOneLoad` too.
 ghost use Rattle.eg_model.specs.Engines.{gasoline, diesel};
 ghost use Rattle.eg_model.specs.InTime.{RecordsReactInTime};
 ghost use Rattle.eg_model.specs.PowerCycles.{RecordsBeginInTurn};
@@ -12,8 +12,10 @@ pub fn records_are_histories()
     ensures rows { RecordsAreRows gasoline × RecordsAreRows diesel }
 {}
 
-/// The reaction theorem for runs on the bench, by the rows of each drive span of the record. It does nothing
-/// when it runs.
+/// The reaction theorem for runs on the bench with no fault or a listed one (docs/CONCEPT.md, "Why the unit
+/// reacts"). By the rows of each drive span of the record: the stages are off from R ticks after the first
+/// tick by which the true excess is confirmed in the span; under most faults, and without one, from the next
+/// tick on. It does nothing when it runs.
 pub fn records_react()
     ensures in_time { RecordsReact gasoline × RecordsReact diesel }
     ensures at_once { RecordsReactAtOnce gasoline × RecordsReactAtOnce diesel }
@@ -21,14 +23,16 @@ pub fn records_react()
 
 /// By the rows of each drive span of the record of a run on the bench: where a module of level 2 is skipped
 /// or disturbed, or both levels halt, the stages are off from R ticks after the onset, or after the
-/// span's begin if that is later, whatever the torque (docs/CONCEPT.md, "Worst-case reaction"). It does
+/// span's begin if that is later, whatever the torque (docs/CONCEPT.md, "Why the unit reacts"). It does
 /// nothing when it runs.
 pub fn records_cut_from_onset()
     ensures { RecordsCutFromOnset gasoline × RecordsCutFromOnset diesel }
 {}
 
-/// The sharp cut for runs on the bench, by the rows of each drive span of the record: at all of them without
-/// a fault, and at those before the onset of a fault, whatever the fault. It does nothing when it runs.
+/// The sharp cut for runs on the bench (docs/CONCEPT.md, "Why the unit reacts"). By the rows of each drive
+/// span of the record, the stages are on up to the tick by which the full-efficiency excess is first
+/// confirmed in the span, and off from the next tick on. This holds at all rows of a run without a fault, and
+/// under any fault at the rows before its onset. It does nothing when it runs.
 pub fn records_cut_sharply()
     ensures rows { RecordsCutSharply gasoline × RecordsCutSharply diesel }
     ensures before { RecordsCutSharplyBefore gasoline × RecordsCutSharplyBefore diesel }
@@ -43,8 +47,8 @@ pub fn spans_react_in_time()
 {}
 
 /// The laws of lapses by the rows of each drive span of the record of a run on the bench, for a calibration
-/// that has a bound (docs/CONCEPT.md, "Lapses"): a lapse is cut, and each stretch of true excess is shorter
-/// than the bound. It does nothing when it runs.
+/// that has a bound (docs/CONCEPT.md, "Lapses"): true excess that stands for `lapse_periods` whole periods is
+/// cut, and each stretch of true excess is shorter than the bound. It does nothing when it runs.
 pub fn records_cut_standing_excess()
     ensures cut { RecordsCutStandingExcess gasoline × RecordsCutStandingExcess diesel }
     ensures short { RecordsHaveShortExcess gasoline × RecordsHaveShortExcess diesel }

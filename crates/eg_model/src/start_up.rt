@@ -1,8 +1,8 @@
 // The start-up test of the shut-off paths, and runs without one.
 ghost use Rattle.eg_model.specs.StartUp.{TestsPass, RunsWithoutReset};
 
-/// Where nothing is out of order the start-up test of the shut-off paths is passed, for every accepted
-/// calibration. It does nothing when it runs.
+/// Where nothing is out of order outside level 1 the start-up test of the shut-off paths is passed, for every
+/// accepted calibration and image (docs/CONCEPT.md, "Power cycles"). It does nothing when it runs.
 pub fn tests_pass()
     ensures { TestsPass }
 {}

@@ -26,7 +26,7 @@ braking_run image fault drive = record (run_of image fault drive) {
 abbrev pub pressed : Bool → DriveRow
 pressed brake = record (driven 1000 800 600) { brake = brake }
 
--- the row of that tick where level 1 waits, by what changes in it
+-- the row of that tick where level 1 waits; the arguments are what differs between such runs
 abbrev pub row_told : (brake : Bool) (limit used permitted : ℕ) → Row
 row_told brake limit used permitted = record (probe_row 0 0 40 100 0) {
   drive = pressed brake;
@@ -34,7 +34,7 @@ row_told brake limit used permitted = record (probe_row 0 0 40 100 0) {
   signals = used ∷ permitted ∷ 100 ∷ 0 ∷ 0 ∷ [];
 }
 
--- its record where the brake counts, under a class of faults from that tick on
+-- the record of that one tick where the brake counts, under a fault of this class
 abbrev pub told_under : Class → Bool → List Row
 told_under class brake = rows_in_time (braking_run idle (fault_from 0 class) (pressed brake ∷ []))
 

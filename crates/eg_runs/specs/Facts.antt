@@ -6,7 +6,7 @@ use Rattle.eg_record.specs.declared.row.Row.{Row}
 use Rattle.eg_record.specs.declared.watch.Watch.TheVariants.{Torque}
 use Rattle.eg_record.specs.Facts.{facts_of}
 
--- the facts of these rows, and of those that stood before each later one was made, newest first
+-- the facts after each of these rows, newest first: of all rows up to that one
 unfoldable pub facts_along : List Row → List Facts
 facts_along [] = []
 facts_along (row ∷ before) =
@@ -17,12 +17,12 @@ unfoldable pub for_each : {A : Type 0} → (ℕ → A) → ℕ → List A
 for_each f zero = []
 for_each f (suc n) = f (suc n) ∷ for_each f n
 
--- a tick that is told once it was made
+-- a tick that is told from when it was made: by facts of more than `tick` ticks
 unfoldable pub told : (tick count : ℕ) → Option ℕ
 told tick count = if nat_le count tick then None else Some tick
 
--- The facts of so many ticks at full throttle, by the last tick of them at which the stages are on: the
--- torque is found and its excess confirmed at tick 9, and the stages are first off at tick 10.
+-- The facts of the first `count` ticks at full throttle, where `last_on count` is the last of them with the
+-- stages on: the torque is found and its excess confirmed at tick 9, and the stages are first off at tick 10.
 unfoldable pub cut_at_10 : (last_on : ℕ → ℕ) → (count : ℕ) → Facts
 cut_at_10 last_on count = record {
   first = if nat_le count 9 then None else Some (Torque, 9);
@@ -32,7 +32,7 @@ cut_at_10 last_on count = record {
   ticks = count;
 }
 
--- the last tick on where the stages are on up to tick 9, at ticks 11 to 39, and never again
+-- the last tick with the stages on, where they are on up to tick 9, at ticks 11 to 39, and never again
 unfoldable pub on_again : ℕ → ℕ
 on_again count =
     if nat_le count 10 then count - 1
@@ -40,7 +40,7 @@ on_again count =
     else if nat_le count 40 then count - 1
     else 39
 
--- the last tick on where they are on up to tick 9, at ticks 51 to 60, and never again
+-- the last tick with the stages on, where they are on up to tick 9, at ticks 51 to 60, and never again
 unfoldable pub on_after_the_test : ℕ → ℕ
 on_after_the_test count =
     if nat_le count 10 then count - 1

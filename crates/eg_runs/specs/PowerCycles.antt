@@ -17,23 +17,24 @@ use Rattle.eg_model.specs.Examples.{full, storing, at_rest, resetting, short_tes
 
 -- ---- drives: the pedal at rest ----
 
--- a power cycle of so many ticks: the unit is reset at the first of them
+-- a power cycle of this many ticks: the unit is reset at the first of them
 abbrev pub cycle : ℕ → List DriveRow
 cycle ticks = resetting ∷ replicate (ticks - 1) at_rest
 
--- so many ticks without a reset
+-- this many ticks without a reset
 abbrev pub rest : ℕ → List DriveRow
 rest ticks = replicate ticks at_rest
 
 -- ---- runs ----
 
--- at two ticks of level 1: it waits, and then stores to the word of a signal; it does nothing but in slice 0
+-- Level 1 waits at the first tick, and at the next tries to store to the word of a signal. It has
+-- instructions in slice 0 alone.
 abbrev pub trapping_run : Run
 trapping_run =
     record (run_of (0xf000 ∷ storing) None (rest 3 ++ cycle 3)) { plan = (100 ∷ replicate 8 0) ∷ [] }
 
--- The plate is held open, and the reset at tick 7 comes after three ticks with true excess. Good ticks take
--- nothing from the weight of the torque's debouncing, so that these three would count on.
+-- The plate is held open, and the reset at tick 7 comes after three ticks with true excess. A good tick takes
+-- nothing from the counter of the torque, so that these three would still count if it weren't begun anew.
 abbrev pub excess_goes_on : Run
 excess_goes_on =
     let cal = record short_test {
@@ -45,7 +46,7 @@ excess_goes_on =
 
 -- ---- what is told of a run, by its ticks ----
 
--- the ticks whose row passes
+-- the ticks whose rows `passes` is true of
 abbrev pub ticks_where : (Row → Bool) → Run → List ℕ
 ticks_where passes r = map (λ row. row.tick) (filter passes (rows_in_time r))
 

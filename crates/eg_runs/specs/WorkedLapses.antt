@@ -6,7 +6,7 @@ use Rattle.eg_record.specs.Excess.{true_excess}
 use Rattle.eg_model.specs.Bench.{Run}
 use Rattle.eg_model.specs.Examples.{full, fault_from, bench_run, rows_in_time}
 
--- it is left out at the ticks 0 to 8, 10 to 18, and so on
+-- level 2 is left out at the ticks 0 to 8, 10 to 18, and so on
 abbrev pub lapsing_run : Run
 lapsing_run = bench_run full (fault_from 0 (Lapse (0 ∷ 1 ∷ 2 ∷ 3 ∷ 4 ∷ 5 ∷ 6 ∷ 7 ∷ 8 ∷ []) 10)) 60
 

@@ -11,7 +11,7 @@ use Rattle.eg_record.specs.declared.watch.Watch.{Watch}
 use Rattle.eg_model.specs.Bench.{Run}
 use Rattle.eg_model.specs.Examples.{idle, full, at_rest, fault_from, bench_run, run_of, reported}
 
--- level 2 misses this tick, and then one every so many ticks, where that isn't 0
+-- level 2 misses this tick, and after it one tick every `every` ticks, unless that is 0
 abbrev pub missed_from : (tick every : ℕ) → Option Fault
 missed_from tick every = fault_from tick (Lapse (0 ∷ []) every)
 
@@ -28,17 +28,17 @@ sevens limit = record reference_parts {
   };
 }
 
--- so many ticks with this calibration, and level 1 waits
+-- a run of `count` ticks with this calibration, in which level 1 waits
 abbrev pub sevens_run : CalibrationParts → Option Fault → ℕ → Run
 sevens_run cal fault count = record (bench_run idle fault count) {
   setting = record { cal = cal; image = idle; fault = fault };
 }
 
--- misses at tick 3, which is a send tick, and then once every so many ticks; two wrong verdicts add 6 of 9
+-- misses at tick 3, which is a send tick, and every `every` ticks; two wrong verdicts add 6, the limit is 9
 abbrev pub missed_run : (every : ℕ) → Run
 missed_run every = sevens_run (sevens 9) (missed_from 3 every) 77
 
--- a single miss at tick 3, where two wrong verdicts add all of 6
+-- a single miss at tick 3, where the limit is 6, which two wrong verdicts reach
 abbrev pub single_miss : Run
 single_miss = sevens_run (sevens 6) (missed_from 3 0) 28
 

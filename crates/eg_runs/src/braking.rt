@@ -6,9 +6,9 @@ ghost use Rattle.eg_model.specs.Examples.{idle, full, raise_reader, fault_from, 
 ghost use Rattle.eg_runs.specs.Braking.{braking_run, pressed, row_told, told_under, seen_under, held};
 
 /// One tick with the pedal pressed right down at 800 rpm and a raise of 600. Where the driver brakes and the
-/// brake counts, level 2 uses the pedal 0, and both it and the drive permit 200, also where the first contact
-/// reads 0. Where the second reads 0 and nobody brakes, level 2 permits 200 and the drive 2000. Where the
-/// brake doesn't count both permit 2000.
+/// brake counts, level 2 uses the pedal 0, and level 2 and the drive row both permit 200, also where the
+/// first contact reads 0. Where the second contact reads 0 though nobody brakes, level 2 permits 200 and the
+/// drive row 2000. Where nobody brakes, or the brake doesn't count, both permit 2000.
 pub fn braking_ticks()
     ensures braked { rows_in_time (braking_run idle None (pressed true ∷ [])) ≡ row_told true 200 0 200 ∷ [] }
     ensures one_contact { told_under (Script 8 (0 ∷ [])) true ≡ row_told true 200 0 200 ∷ [] }
@@ -19,9 +19,9 @@ pub fn braking_ticks()
         ≡ row_told true 2000 1000 2000 ∷ [] }
 {}
 
-/// Contacts that read other numbers than 0 and 1: the first says "pressed" by 5, the second doesn't, but
-/// does where it is offset down to 0. Gating comes after what faults do to the pedal's tracks and to the
-/// raise, and level 1 reads the gated raise.
+/// Contacts that read other numbers than 0 and 1. The first one says "pressed" where it reads 5. The second
+/// one doesn't say so where it reads 5 or 6, but does where an offset takes it down to 0. Gating comes after
+/// what faults do to the pedal's tracks and to the raise, and level 1 reads the gated raise.
 pub fn contacts_and_gates()
     ensures first { seen_under (Offset 8 (pos 5)) false ≡ (0 ∷ 200 ∷ 100 ∷ 0 ∷ 0 ∷ []) ∷ [] }
     ensures second { seen_under (Offset 9 (pos 5)) true ≡ (0 ∷ 200 ∷ 100 ∷ 0 ∷ 0 ∷ []) ∷ [] }

@@ -28,8 +28,8 @@ pub fn diesel_that_loses_a_load_track()
         ≡ reported (Some (found.Load, 6)) (Some 7) None None }
 {}
 
-/// A rack that is held stands there, whatever is commanded, while the boost follows it and lets more and more
-/// burn. Nothing ignites it: level 1 waits, and there is no torque.
+/// A rack that a fault holds stands there, whatever is commanded, while the boost follows the rack and lets
+/// more and more burn. Nothing ignites the fuel: level 1 waits, and there is no torque.
 pub fn diesel_with_a_held_rack()
     ensures racks { racks (bench_run idle (fault_from 2 (Plate 300)) 7)
         ≡ 0 ∷ 0 ∷ 300 ∷ 300 ∷ 300 ∷ 300 ∷ 300 ∷ [] }

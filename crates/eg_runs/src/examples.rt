@@ -54,7 +54,8 @@ pub fn refused_store()
     ensures rows { rows_in_time (bench_run storing None 30) ≡ rows_in_time (bench_run idle None 30) }
 {}
 
-/// An empty image runs off the end of the code at tick 1: 900 words are done in tick 0, and 124 in tick 1.
+/// An empty image runs off the end of the code at tick 1: level 1 does 900 words in tick 0, and 124 in tick
+/// 1.
 pub fn empty_image()
     ensures { report_on (bench_run [] None 30)
         ≡ reported None None (Some (trapped.Fetch, 1)) None }

@@ -6,8 +6,8 @@ ghost use Rattle.eg_fault.specs.declared.class.Class.TheVariants.{Script, Skip, 
 ghost use Rattle.eg_record.specs.declared.watch.Watch.TheVariants as found;
 ghost use Rattle.eg_model.specs.Examples.{idle, full, fault_from, bench_run, raised_run, report_on, reported, moments_in_time, verdicts_of, stages_of};
 
-/// Path 1 is closed from the start: the torque is found at tick 9 in vain, no answer comes any more, and
-/// path 2 cuts at tick 40.
+/// Path 1 is held closed from the start: the torque is found and trips at tick 9, but path 1 conducts all the
+/// same. After the trip no answer is sent, and path 2 cuts at tick 40.
 pub fn path_1_closed_run()
     ensures report { report_on (bench_run full (fault_from 0 Path1Closed) 60)
         ≡ reported (Some (found.Torque, 9)) (Some 40) None (Some 9) }
@@ -34,9 +34,9 @@ pub fn reaction_is_met()
     ensures stages { stages_of raised_run ≡ replicate 50 true ++ replicate 10 false }
 {}
 
-/// Module 2 is disturbed from tick 12 on, and from tick 16 on, right after an answer: no answer is good any
-/// more, and path 2 cuts at tick 40, and at tick 50, which is 16 + 34: it is found at tick 49, the last at
-/// which it may be.
+/// Two runs: module 2 of level 2 is disturbed from tick 12 on, and from tick 16 on, right after an answer. No
+/// answer is good any more, and path 2 cuts at tick 40 in the first run, and at tick 50, which is 16 + 34, in
+/// the second. There `answers` is found at tick 49, the last tick at which it may be.
 pub fn disturbed_run()
     ensures before_sending { report_on (bench_run idle (fault_from 12 (Disturb 2 4096)) 60)
         ≡ reported (Some (found.Answers, 39)) (Some 40) None None }
@@ -44,13 +44,13 @@ pub fn disturbed_run()
         ≡ reported (Some (found.Answers, 49)) (Some 50) None None }
 {}
 
-/// A bit of word 3 is flipped at tick 7: it is found there, and the stages are off at tick 8.
+/// A bit of word 3 is flipped at tick 7: `mirror` is found at that tick, and the stages are off at tick 8.
 pub fn flipped_run()
     ensures { report_on (bench_run idle (fault_from 7 (Flip 3 1)) 20)
         ≡ reported (Some (found.Mirror, 7)) (Some 8) None None }
 {}
 
-/// The first load track reads 0: the pair disagrees from tick 2 on, and is found at tick 6.
+/// The first load track reads 0: the pair disagrees from tick 2 on, and `load` is found at tick 6.
 pub fn lost_load_run()
     ensures report { report_on (bench_run full (fault_from 0 (Script 4 (0 ∷ []))) 20)
         ≡ reported (Some (found.Load, 6)) (Some 7) None None }

@@ -10,8 +10,8 @@ ghost use Rattle.eg_laws.specs.Availability.{IsSpacedLapse};
 ghost use Rattle.eg_runs.specs.WorkedMisses.{missed_from, sevens, missed_run, single_miss, gap_run, reported_with};
 
 /// A run under lapses that is cut: level 2 runs at one tick of ten, so it feeds too few bits to find the
-/// excess of ticks 5 to 29, and sends no answer; the monitoring module finds that at tick 29, and the
-/// stages are off from tick 30 on. The bound is 50 ticks. It does nothing when it runs.
+/// excess of ticks 5 to 29, and sends no answer; `answers` is found at tick 29, and the stages are off from
+/// tick 30 on. The bound for lapses is 50 ticks (docs/CONCEPT.md, "Lapses"). It does nothing when it runs.
 pub fn a_run_with_lapses_is_cut()
     ensures line { report_on lapsing_run ≡ reported (Some (Answers, 29)) (Some 30) None (Some 9) }
     ensures stretch { excesses_of lapsing_run ≡ replicate 5 false ++ replicate 25 true ++ replicate 30 false }
@@ -22,9 +22,9 @@ pub fn a_run_with_lapses_is_cut()
 
 /// Misses that cut and misses that don't, by one calibration with a question every 7 ticks: a wrong verdict
 /// adds 3 of 9, and a right one takes 2. Level 2 misses tick 3, which is a send tick, and so spoils two
-/// verdicts. Every 28 ticks that cuts, at tick 70; every 35, which is `eg_answer::miss_spacing`, it doesn't.
-/// Where two wrong verdicts are enough there is no such distance: a single miss cuts. It does nothing when
-/// it runs.
+/// verdicts. A miss every 28 ticks cuts, at tick 70; one every 35 ticks, which is `eg_answer::miss_spacing`,
+/// doesn't. Where two wrong verdicts are enough to confirm there is no such distance: a single miss cuts. It
+/// does nothing when it runs.
 pub fn near_misses_cut_and_far_ones_do_not()
     ensures spacing { miss_spacing_of (sevens 9).times ≡ 35 }
     ensures near { report_on (missed_run 28) ≡ reported_with 24 (Some (Answers, 69)) (Some 70) }
@@ -35,8 +35,8 @@ pub fn near_misses_cut_and_far_ones_do_not()
 {}
 
 /// A single miss that cuts by a trip: the full-efficiency excess of ticks 5 to 8 and of tick 10 isn't
-/// confirmed, since tick 9 takes one from its weight. Where level 2 misses tick 9 it is fed with five bits
-/// that are set, and finds the torque. It does nothing when it runs.
+/// confirmed, since the good tick 9 takes one from the counter. Where level 2 misses tick 9 the debouncer is
+/// fed with five bad bits, and the torque is found. It does nothing when it runs.
 pub fn missed_gap_is_cut()
     ensures excesses { map (full_excess 2500 200) (rows_in_time (gap_run None))
         ≡ replicate 5 false ++ replicate 4 true ++ false ∷ true ∷ replicate 19 false }

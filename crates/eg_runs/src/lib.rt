@@ -1,6 +1,6 @@
 //! Runs of the simulated unit that are worked out, tick by tick, from the definitions of a run in `eg_model`.
-//! Nothing here runs: each function carries what a run gives as its contract. They stand apart since they
-//! take long to compute, and `eg_model` is checked often.
+//! Nothing here runs: each function carries what a run gives as its contract. The runs stand apart from
+//! `eg_model` since they take long to compute, and `eg_model` is checked often.
 #![tactic(auto)]
 
 mod braking;

@@ -1,5 +1,5 @@
-// Runs that show what level 1 acts by, worked out from the definitions. None of these functions does anything
-// when it runs.
+// Runs that show that level 1 acts by its two outputs alone, worked out from the definitions. None of these
+// functions does anything when it runs.
 ghost use Rattle.std.specs.Prelude.{◌≡◌, [], ◌∷◌, map, take, None};
 ghost use Rattle.eg_model.specs.Outputs.{without_outputs};
 ghost use Rattle.eg_model.specs.Examples.{full, bench_run, alternating_run, rows_in_time};

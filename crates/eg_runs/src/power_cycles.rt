@@ -71,9 +71,9 @@ pub fn test_that_is_cut()
     ensures { report_on (tested_run idle None (cycle 10)) ≡ short_report None None None None }
 {}
 
-/// A path that never conducts lets the test pass, and keeps the stages off after it. Where nothing runs,
-/// where the monitoring module is wild and orders nothing, or where react doesn't run, a path conducts as it
-/// is read back, and the test fails.
+/// A path that never conducts lets the test pass, and keeps the stages off after it. Where both levels halt,
+/// where the monitoring module is wild and orders nothing, or where react doesn't run, a path still conducts
+/// at the tick at which both are read back, and the test fails.
 pub fn tests_under_faults()
     ensures opened { report_on (tested_run idle (fault_from 0 (PathOpen 1)) (cycle 13))
         ≡ short_report None (Some 11) None None }
@@ -118,8 +118,8 @@ pub fn faults_go_on()
 {}
 
 /// There is true excess at the last three ticks before the reset at tick 7, and again from the second tick of
-/// the drive span at tick 18 on. Neither level 2 nor the report counts the three on: level 2 finds the torque
-/// at the fifth tick of the span, and the true excess isn't confirmed.
+/// the drive span at tick 18 on. Neither level 2 nor the report goes on counting from the three: level 2
+/// finds the torque at the fifth tick of the span, and the true excess isn't confirmed.
 pub fn excess_over_two_cycles()
     ensures excess { ticks_where (true_excess 200) excess_goes_on
         ≡ 4 ∷ 5 ∷ 6 ∷ 19 ∷ 20 ∷ 21 ∷ 22 ∷ [] }
