@@ -42,7 +42,7 @@ RecordsAreRows b = (r : Run) (n : ℕ) → AreRows (rows_to b r n) × (length (r
 
 -- ---- the rows of a drive span that begins at tick `start`, or of its part up to any tick ----
 
--- from `bound` ticks after the first tick by which the true excess is confirmed in it, the stages are off
+-- the stages are off from `bound` ticks after the first tick by which the true excess is confirmed in a span
 abbrev pub ReactWithin : (bound : ℕ) → WeightParts → (threshold start : ℕ) → List Row → Type 0
 ReactWithin bound weights threshold start rows =
     (c : ℕ) → first_index weights (map (true_excess threshold) rows) ≡ Some c →

@@ -13,7 +13,7 @@ use Rattle.eg_record.specs.Spans.{this_span}
 unfoldable pub true_excess : (threshold : ℕ) → Row → Bool
 true_excess threshold row = is_excess row.torque row.limit threshold
 
--- so is the estimate of its charge, where `kt` is the torque of a load of 1000
+-- the estimate of the charge is more than that, where `kt` is the torque of a load of 1000
 unfoldable pub full_excess : (kt threshold : ℕ) → Row → Bool
 full_excess kt threshold row = is_excess (estimate kt row.charge) row.limit threshold
 
@@ -22,7 +22,7 @@ unfoldable pub is_excess_confirmed : WeightParts → (threshold : ℕ) → List 
 is_excess_confirmed weights threshold rows =
     is_confirmed weights (map (true_excess threshold) (this_span rows))
 
--- the first tick at which it is, or none
+-- the first tick at which the true excess is confirmed, or none
 unfoldable pub first_confirmed : WeightParts → (threshold : ℕ) → List Row → Option ℕ
 first_confirmed weights threshold [] = None
 first_confirmed weights threshold (row ∷ before) =

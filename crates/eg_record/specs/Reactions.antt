@@ -53,7 +53,7 @@ less (Some n) (Some other) = Some (min n other)
 unfoldable pub no_reactions : Reactions
 no_reactions = record { longest = None; followed = None }
 
--- what is told of some spans and of others
+-- what is told of these spans and of the others together
 unfoldable pub combined : Reactions → Reactions → Reactions
 combined these others = record {
   longest = greater these.longest others.longest;
@@ -82,8 +82,8 @@ unfoldable pub settled_by : (bound : ℕ) → Option ℕ → Bool
 settled_by bound None = true
 settled_by bound (Some ticks) = nat_le bound ticks
 
--- Each span in which an excess is confirmed has so many ticks after the first one by which it is, so that the
--- run shows whether a reaction takes no more.
+-- Each span in which an excess is confirmed has `bound` ticks or more after the first one by which it is
+-- confirmed, so that the run shows whether a reaction takes more than `bound` ticks.
 unfoldable pub is_settled : (bound : ℕ) → Reactions → Bool
 is_settled bound reactions = settled_by bound reactions.followed
 

@@ -9,11 +9,11 @@ use Rattle.eg_record.specs.Rows.{AreRows, first_given}
 unfoldable pub is_off : Row → Bool
 is_off row = not row.on && not row.testing
 
--- the tick of a row, where that is so
+-- the tick of such a row, and none of any other
 unfoldable pub off_at : Row → Option ℕ
 off_at row = if is_off row then Some row.tick else None
 
--- the first tick at which it is so, or none
+-- the first tick at which the stages are off and no test is running, or none
 unfoldable pub first_off : List Row → Option ℕ
 first_off rows = first_given off_at rows
 

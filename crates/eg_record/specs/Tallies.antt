@@ -13,8 +13,8 @@ use Rattle.eg_record.specs.Excess.{true_excess}
 use Rattle.eg_record.specs.Facts.{facts_of}
 use Rattle.eg_record.specs.Reactions.{confirmed_in, reactions_of_spans}
 
--- the threshold and the weights by which the true excess goes, the facts of the rows, the value of the
--- counter of the true excess, and what is kept of the spans
+-- the threshold and the weights that the true excess uses, the facts of the rows, the value of the counter of
+-- the true excess, and what is kept of the spans
 pub record TallyParts : Type 0 where
   pub threshold : ℕ
   pub weights : WeightParts
@@ -22,15 +22,16 @@ pub record TallyParts : Type 0 where
   pub value : ℕ
   pub spans : SpanTally
 
--- it is what is to be kept of the spans of these rows
+-- what is kept of the spans is what these rows give
 pub record AreSpansOf (weights : WeightParts) (threshold : ℕ) (spans : SpanTally) (rows : List Row) : Type 0
   where
     pub last_on : spans.last_on ≡ last_on (this_span rows)
     pub confirmed : spans.confirmed ≡ confirmed_in weights threshold (this_span rows)
     pub ended : spans.ended ≡ reactions_of_spans weights threshold (drop 1 (spans_of rows))
 
--- It stands for these rows: they are those of a run from tick 0 on, its facts are theirs, its counter stands
--- for the true excess in the span that they end with, and what it keeps of the spans is of theirs.
+-- The tally stands for these rows: they are those of a run from tick 0 on, its facts are theirs, its counter
+-- stands for the true excess in the span that they end with, and what it keeps of the spans is what they
+-- give.
 pub record IsTallyOf (tally : TallyParts) (rows : List Row) : Type 0 where
   pub run : AreRows rows
   pub facts : tally.facts ≡ facts_of tally.weights tally.threshold rows

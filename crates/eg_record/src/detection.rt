@@ -79,7 +79,7 @@ pub(crate) fn is_off(row: &Row) -> bool
     !row.on && !row.testing
 }
 
-/// Whether the torque of a row exceeds what is permitted.
+/// Whether the torque of a row is more than what is permitted and the threshold together, in tenths of Nm.
 #[tactic(auto, unfolding(crate::specs::Excess::true_excess))]
 pub(crate) fn is_excess(row: &Row, threshold: u16) -> bool
     ensures { result ≡ true_excess threshold row.now }

@@ -25,13 +25,13 @@ pub struct Facts {
     pub last_on: Option<u32>,
     /// The first tick at which the true excess is confirmed within its span, or None.
     pub confirmed: Option<u32>,
-    /// How many ticks there are.
+    /// How many rows there are, one a tick.
     pub ticks: u32,
 }
 
 impl Facts {
     /// What a report says of the run (docs/CONCEPT.md, "The report of a run"): its facts, with the name, the
-    /// trap and the worst-case reaction (ticks) that are handed in.
+    /// trap and the worst-case reaction (ticks) that are handed in. NoMemory is its one refusal.
     #[tactic(auto, unfolding(crate::specs::Facts::summary_with))]
     pub fn summary(
         &self,
@@ -57,8 +57,9 @@ impl Facts {
         })
     }
 
-    /// The reaction of the run, in ticks (docs/CONCEPT.md, "`soak`"). None where it has none: no true excess
-    /// is confirmed, or the power stages are on at the last tick.
+    /// The reaction of the run, in ticks: from the first tick by which a true excess is confirmed until the
+    /// power stages are off for good (docs/CONCEPT.md, "`soak`"). None where no true excess is confirmed, or
+    /// the power stages are on at the last tick.
     #[tactic(auto, unfolding(crate::specs::Facts::reaction_in))]
     pub fn reaction(&self) -> Option<u32>
         ensures { result ≡ reaction_in self.now }
@@ -99,7 +100,7 @@ impl Facts {
 pub(crate) fn reaction_by(last_on: Option<u32>, confirmed: Option<u32>, end: u32) -> Option<u32>
     ensures { result ≡ reaction_by last_on confirmed end }
 {
-    // At the greatest u32, which no run reaches, there is none either way.
+    // Where the sum would pass the greatest u32, which no run reaches, the answer is None either way.
     let off_from = last_on.map_or(0, |last| last.saturating_add(1));
     match confirmed {
         Some(confirmed) if off_from < end => Some(off_from.saturating_sub(confirmed)),

@@ -15,8 +15,8 @@ pub struct Reactions {
 }
 
 impl Reactions {
-    /// Whether each span in which a true excess is confirmed has so many ticks after the first one by which
-    /// it is, so that the run shows whether a reaction takes no more.
+    /// Whether each span in which a true excess is confirmed has `bound` ticks or more after the first one by
+    /// which it is confirmed, so that the run shows whether a reaction takes more than `bound` ticks.
     #[tactic(auto, unfolding(crate::specs::Reactions::is_settled, crate::specs::Reactions::settled_by))]
     pub fn is_settled(&self, bound: u32) -> bool
         ensures { result ≡ is_settled bound self.now }

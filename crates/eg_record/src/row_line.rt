@@ -39,7 +39,7 @@ pub fn push_row(text: &mut Vec<u8>, row: &Row) -> Result<(), NoMemory>
     Ok(())
 }
 
-/// The line of a row, with its LF (docs/FORMATS.md, "The record").
+/// The line of a row, with its LF (docs/FORMATS.md, "The record"). NoMemory is its one refusal.
 pub fn row_text(alloc: Global, row: &Row) -> Result<String, NoMemory>
     ensures { IfOk result (λ line. string_bytes line ≡ row_line row.now) }
 {
@@ -149,7 +149,7 @@ fn put_paths(row: &Row, line: &mut [u8], end: usize) -> usize
     put_bit(row.path1, line, start)
 }
 
-/// Puts the columns of level 2.
+/// Puts the columns of the five signals of level 2.
 fn put_signals(row: &Row, line: &mut [u8], end: usize) -> usize
     requires room { 55 ≤ end }
     requires within { end ≤ length line.old }

@@ -29,7 +29,7 @@ pub struct Summary {
 
 /// The summary of a run of these rows, which stand in the order of time, from tick 0 on (docs/CONCEPT.md,
 /// "The report of a run"). The true excess uses the threshold (tenths of Nm) and these weights; name,
-/// trap and worst-case reaction (ticks) are told as they are handed in.
+/// trap and worst-case reaction (ticks) are told as they are handed in. NoMemory is its one refusal.
 #[tactic(auto, unfolding(crate::specs::Summaries::summary_of))]
 pub fn summarize(
     alloc: Global,

@@ -7,7 +7,7 @@ use eg_base::NoMemory;
 use eg_word::Trap;
 use std::alloc::{AllocError, Global};
 
-/// The line of a summary, with its LF (docs/FORMATS.md, "The report").
+/// The line of a summary, with its LF (docs/FORMATS.md, "The report"). NoMemory is its one refusal.
 #[tactic(auto, unfolding(crate::specs::Texts::summary_line))]
 pub fn summary_text(alloc: Global, summary: &Summary) -> Result<String, NoMemory>
     ensures { IfOk result (λ line. string_bytes line ≡ summary_line summary.now) }
@@ -26,7 +26,8 @@ pub fn summary_text(alloc: Global, summary: &Summary) -> Result<String, NoMemory
     Ok(line)
 }
 
-/// The last line of a report on these runs, with its LF (docs/FORMATS.md, "The report").
+/// The last line of a report on these runs, with its LF (docs/FORMATS.md, "The report"). NoMemory is its one
+/// refusal.
 #[tactic(auto, unfolding(crate::specs::Texts::report_end))]
 pub fn report_end_text(alloc: Global, runs: &[Summary]) -> Result<String, NoMemory>
     ensures { IfOk result (λ line. string_bytes line ≡ report_end runs.now) }

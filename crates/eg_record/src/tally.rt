@@ -10,9 +10,9 @@ use crate::{Facts, Reactions, Row};
 use eg_num::{Counter, Weights};
 use std::marker::Model;
 
-/// The facts of the rows that it was fed, one by one from tick 0 on, in place of the rows (docs/CONCEPT.md,
-/// "The report of a run"). Contracts see its `TallyParts`, and say for which rows it stands. No call takes
-/// memory.
+/// A tally is fed the rows of a run one by one, from tick 0 on, and has their facts and reactions in place of
+/// the rows (docs/CONCEPT.md, "The report of a run"). Contracts see its `TallyParts`, and say for which rows
+/// it stands. No call takes memory.
 #[derive(Clone, Copy)]
 pub struct Tally {
     threshold: u16,
@@ -61,7 +61,7 @@ impl Tally {
         // It stands for no rows.
         ensures stands { IsTallyOf result [] }
     {
-        // Whoever reads one of the weights learns that they keep their limits.
+        // Called for its clause alone: the weights keep their limits.
         let _limit = weights.limit();
         Tally {
             threshold,
@@ -72,15 +72,15 @@ impl Tally {
         }
     }
 
-    /// Feeds the row of the next tick: its tick is the count of rows that were fed, and fewer than 20,000
-    /// were.
+    /// Feeds the row of the next tick. Its tick is the number of rows that were fed before, which is less
+    /// than 20,000.
     pub fn feed(&mut self, row: &Row)
         requires tick { row.now.tick ≡ self.old.facts.ticks }
         requires fewer { self.old.facts.ticks < 20000 }
         ensures threshold { self.new.threshold ≡ self.old.threshold }
         ensures weights { self.new.weights ≡ self.old.weights }
         ensures ticks { self.new.facts.ticks ≡ self.old.facts.ticks + 1 }
-        // What it stands for, whichever rows it was fed.
+        // It stands for the rows that it stood for, whichever they are, and this one.
         ensures stands { (rows : List Row) → IsTallyOf self.old rows → IsTallyOf self.new (row.now ∷ rows) }
     {
         let mut counter = counter_at(row, self.counter);

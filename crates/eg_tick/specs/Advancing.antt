@@ -41,7 +41,7 @@ StaysOrSteps steps s drive slices shown h old new =
     (new ≡ old) ⊎ steps old (world_before s drive h).throttle (world_before s drive h).ignition
     (next s (entry_of drive slices shown) h).on (effects_after s h).held_plate new
 
--- its machine is trapped
+-- level 1 is trapped in this world
 pub record IsTrapped (world : World) : Type 0 where
   pub kind : Trap
   pub is : world.registers.state ≡ Trapped kind
@@ -70,24 +70,24 @@ pub record DrivesOn (s : Setting) (c : Kept) (row : Row) (h : List Entry) (span 
 -- `more` are the ticks since then, newest first. So the tick of the row comes length more + 1 ticks after
 -- that one.
 
--- The reaction theorem: where that is R ticks or more, the stages are off at the row, under each listed
--- fault.
+-- The reaction theorem: where the row comes R ticks or more after the confirmed excess, the stages are off at
+-- the row, under each listed fault.
 abbrev pub RowReactsInTime : Setting → Kept → Row → Type 0
 RowReactsInTime s c row =
     (h : List Entry) (more before : List Tick) → DrivesOn s c row h (more ++ before) →
     IsListed s.fault → IsExcessConfirmed s before →
     reaction_of s.cal.times ≤ length more + 1 → row.on ≡ false
 
--- Under most faults they are off already at each tick after the one by which it was confirmed. (The tick
--- after `before` has the number length h - length more in the run.)
+-- Under most faults the stages are off already at each tick after the one by which the excess was confirmed.
+-- (The tick after `before` has the number length h - length more in the run.)
 abbrev pub RowReactsAtOnce : Setting → Kept → Row → Type 0
 RowReactsAtOnce s c row =
     (h : List Entry) (more before : List Tick) → DrivesOn s c row h (more ++ before) →
     IsListed s.fault → IsExcessConfirmed s before →
     is_at_once s.fault (length h - length more) ≡ true → row.on ≡ false
 
--- A lapse is cut: where `before` ends with the last tick of a period, and there was true excess at each tick
--- of its last `lapse_periods` periods, the stages are off at the row.
+-- Under a lapse, excess that stands is cut: where `before` ends with the last tick of a period, and there was
+-- true excess at each tick of its last `lapse_periods` periods, the stages are off at the row.
 abbrev pub RowCutsLapses : Setting → Kept → Row → Type 0
 RowCutsLapses s c row =
     (h : List Entry) (more before : List Tick) (periods : ℕ) → DrivesOn s c row h (more ++ before) →
@@ -96,8 +96,8 @@ RowCutsLapses s c row =
     Exceeds s (lapse_periods s.cal.rules.torque s.cal.times * s.cal.times.period) before →
     row.on ≡ false
 
--- And in whichever history a controller stands for, each stretch of ticks in a row with true excess that
--- reaches to its end in a drive span is shorter than the bound for lapses.
+-- In each history that the controller stands for and that ends in a drive span: the ticks in a row with true
+-- excess at its end are fewer than the bound for lapses.
 abbrev pub HistoryHasShortLapses : Setting → Kept → Type 0
 HistoryHasShortLapses s c =
     (h : List Entry) → Stands s c h → span_kind (moments s h) ≡ Drive →

@@ -17,16 +17,16 @@ gasoline_of plant state = record { parts = plant; state = state }
 abbrev pub diesel_of : ComeTo Diesel DieselPlant
 diesel_of plant state = record { parts = plant; state = state }
 
--- it shows what the state shows
+-- the engine shows what the state shows
 abbrev pub ShowsAs : {S E : Type 0} → BenchEngine S → ComeTo S E → (E → Shown) → Type 0
 ShowsAs {S = S} b come_to shows =
     (plant : PlantParts) (state : S) → shows (come_to plant state) ≡ b.shows state
 
--- its `kt` is that of the plant
+-- the engine's `kt` is that of the plant
 abbrev pub HasKtOfPlant : {S E : Type 0} → ComeTo S E → (E → ℕ) → Type 0
 HasKtOfPlant {S = S} come_to kt = (plant : PlantParts) (state : S) → kt (come_to plant state) ≡ plant.kt
 
--- after a step it has come to the state after that step
+-- after a step the engine has come to the state after that step
 abbrev pub StepsAs : {S E : Type 0} → BenchEngine S → ComeTo S E
     → (E → ℕ → ℕ → Bool → Option ℕ → E → Type 0) → Type 0
 StepsAs {S = S} {E = E} b come_to steps = (plant : PlantParts) (state : S) (throttle ignition : ℕ) (on : Bool)

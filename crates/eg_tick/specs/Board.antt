@@ -6,7 +6,7 @@ use Rattle.eg_guard.specs.declared.regions.TheConstants.{DATA, IN_PORTS, THROTTL
 use Rattle.eg_sensor.specs.declared.readings.Readings.{Readings}
 use Rattle.eg_level2.specs.Stores.{Store, store, AreFirst}
 
--- the first so many of these values stand from an address on, and each other word is as before
+-- the first `count` of these values stand from the address `first` on, and each other word is as before
 pub record IsWritten (old new : List ℕ) (first : ℕ) (values : List ℕ) (count : ℕ) : Type 0 where
   pub told : (k : ℕ) → k < count → slice_index new (first + k) ≡ slice_index values k
   pub elsewhere : (address : ℕ) → (address < first) ⊎ (first + count ≤ address) →
@@ -51,6 +51,6 @@ ten_ports r =
 unfoldable pub showing : Readings → ℕ → List Store
 showing r asked = stores_from IN_PORTS (ten_ports r) ++ (store LINK asked ∷ [])
 
--- Of these stores the first so many were made in a memory, and no other.
+-- Some of these stores were made in a memory, from the first on and in their order, and no other store.
 abbrev pub AreMade : List Store → (old new : List ℕ) → Type 0
 AreMade stores old new = AreFirst stores (slice_index old) (slice_index new)

@@ -4,16 +4,16 @@ use Rattle.std.specs.List.{sum}
 use Rattle.eg_record.specs.declared.row.Row.{Row}
 use Rattle.eg_tick.specs.Weights.{TickCount, weight_of}
 
--- the count after these rows were made: so many ticks more, and what their rows weigh
+-- the count after these rows were made: a tick more for each row, and the weight of each
 abbrev pub count_with : TickCount → List Row → TickCount
 count_with was rows = record {
   count = (was.count + length rows) % 2 ^ 64;
   weights = (was.weights + sum (map weight_of rows)) % 2 ^ 64;
 }
 
--- Memory ran out before these rows were made, among them, or behind them. So many of their ticks were begun,
--- in order, and are counted. Weighed are the rows of all of those; or of all but the last, where memory ran
--- out within it.
+-- Memory ran out before these rows were made, while they were made, or after it. The first `begun` of their
+-- ticks were begun, and are counted. The rows of the first `made` ticks are weighed: of all that were begun,
+-- or of all but the last, where memory ran out within it.
 pub record RanOutAmong (rows : List Row) (was is : TickCount) : Type 0 where
   pub begun : ℕ
   pub made : ℕ

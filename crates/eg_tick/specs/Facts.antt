@@ -40,8 +40,8 @@ IsWithoutReset drive = All (λ row. row.reset ≡ false) drive
 abbrev pub FactsReactWithin : (bound : ℕ) → Facts → Type 0
 FactsReactWithin bound facts = IfSome facts.confirmed (λ c. IfSome facts.last_on (λ last. last < c + bound))
 
--- where the fault, if any, is one under which the reaction is at once then, they are off from the next tick
--- on
+-- where the fault, if any, is one under which the reaction is then at once, the stages are off from the next
+-- tick on
 abbrev pub FactsReactAtOnce : Option Fault → Facts → Type 0
 FactsReactAtOnce fault facts =
     IfSome facts.confirmed (λ c. is_at_once fault (c + 1) ≡ true →

@@ -11,15 +11,15 @@ use Rattle.eg_agree.specs.Replies.{moment_after, number_expected, mark_of}
 use Rattle.eg_tick.specs.Stands.{HoldsMonitor}
 use Rattle.eg_tick.specs.declared.monitoring.Judgement.{Judgement}
 
--- ---- the module at a tick ----
+-- ---- the monitoring module at a tick ----
 
--- the answers with the number that comes at a tick, if one does
+-- the answers that were heard, and the number that comes at this tick, if one does
 unfoldable pub with_heard : ℕ → Option ℕ → List HeardAnswer → List HeardAnswer
 with_heard tick None heard = heard
 with_heard tick (Some number) heard = record { tick = tick; number = number } ∷ heard
 
--- An orderly module hears the answer of a tick. At the last tick of a period it gives the verdict over what
--- it has heard in it, and forgets that.
+-- A monitoring module that isn't wild hears the answer of a tick. At the last tick of a period it gives the
+-- verdict over the answers that it has heard in the period, and forgets them.
 pub record Takes (tick : ℕ) (answer : Option ℕ) (before now : MonitorParts)
     (verdict : Option Verdict) : Type 0 where
   pub times : now.times ≡ before.times
@@ -33,7 +33,7 @@ pub record Takes (tick : ℕ) (answer : Option ℕ) (before now : MonitorParts)
   pub given : (verdicts : List Verdict) → HasGiven before verdicts →
       HasGiven now (with_verdict verdict verdicts)
 
--- a wild module hears nothing and gives no verdict
+-- a wild monitoring module hears nothing and gives no verdict
 pub record IsDeaf (before now : MonitorParts) (verdict : Option Verdict) : Type 0 where
   pub unchanged : now ≡ before
   pub none : verdict ≡ None
@@ -41,8 +41,8 @@ pub record IsDeaf (before now : MonitorParts) (verdict : Option Verdict) : Type 
 -- ---- a tick of a run ----
 
 -- The setting has this fault. Tick x comes after h in a span of this kind, from tick `begin` of the run on,
--- and has these numbers in the run and in the span. The module is as the model says of h, and what level 2
--- answers at the tick has the mark of the model.
+-- and has these numbers in the run and in the span. The monitoring module is as the model says of h, and what
+-- level 2 answers at the tick has the mark of the model.
 pub record ComesNext (kind : SpanKind) (s : Setting) (fault : Option Fault) (tick local : ℕ)
     (answer : Option ℕ) (monitor : MonitorParts) (x : Tick) (h : List Tick) : Type 0 where
   pub same_fault : s.fault ≡ fault

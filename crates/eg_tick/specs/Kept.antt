@@ -10,8 +10,8 @@ use Rattle.eg_tick.specs.declared.span.Span.{Span}
 
 -- All but the engine itself. The calibration and the fault, if any, are those of the run, `ticks` is how many
 -- ticks of it were made, and `trap` is level 1's first trap in it with its tick, if any. `span` is what is
--- kept of the span of ticks that the run is in, beside level 1's registers and what the memory shows. What
--- the engine shows belongs to it, and the `kt` of the engine. `lost` tells that memory ran out.
+-- kept of the span of ticks that the run is in, besides level 1's registers and what the memory shows.
+-- `shown` is what the engine shows, and `kt` its torque of a load of 1000. `lost` tells that memory ran out.
 pub record Kept : Type 0 where
   pub cal : CalibrationParts
   pub fault : Option Fault

@@ -54,9 +54,9 @@ pub record IsSet (w : Work) (memory : List ℕ) : Type 0 where
   pub readings : readings_of memory ≡ w.doing.readings
   pub asked : asked_of memory ≡ w.doing.asked
 
--- After so many slices and so many modules: what the board wrote stands; level 2's words are those after so
--- many modules, each with its complement; and the slices that are left make of level 1's world now what all
--- nine make of the world with which the tick began.
+-- After this many slices of level 1 and this many modules of level 2: what the board wrote stands; level 2's
+-- words are those after these modules, each with its complement; and the slices that are left make of level
+-- 1's world now what all nine make of the world with which the tick began.
 pub record IsMidway (w : Work) (slices modules : ℕ) (m : Registers) (memory : List ℕ) : Type 0 where
   pub set : IsSet w memory
   pub mirrored : AreMirrored memory

@@ -1,4 +1,4 @@
--- A run on the bench: what a controller stands for after so many ticks of it, and what its record is. Lists
+-- A run on the bench: what a controller stands for after some ticks of it, and what its record is. Lists
 -- of rows stand newest first.
 use Rattle.std.specs.Prelude.{◌≡◌, ℕ, List, reverse, length, Option}
 use Rattle.eg_num.specs.Drive.{DriveRow}
@@ -22,8 +22,8 @@ run_by cal image fault plan drive = record {
   drive = drive;
 }
 
--- After so many ticks of a run of this engine of the model a controller stands for what came in at them, and
--- its engine has come to the state of the model.
+-- After t ticks of the run r, of the engine b of the model, the controller c stands for what came in at them,
+-- and its engine has come to the state that b has come to.
 pub record IsAt {S E : Type 0} (b : BenchEngine S) (come_to : ComeTo S E) (r : Run) (t : ℕ)
     (c : ControllerParts E) : Type 0 where
   pub stands : Stands r.setting c.kept (entries_to b r t)

@@ -60,17 +60,17 @@ pub record HoldsLatches (open1 open2 : Bool) (past : List Moment) : Type 0 where
 unfoldable pub was_wild : List Tick → Bool
 was_wild h = list_any (λ x. is_some x.effects.wild) h
 
--- In an orderly module the verdicts are as many as the periods that are over, and the answers that it holds
--- are those that were sent in the period that isn't over yet, each at its tick, and each with the expected
--- number exactly where it is good.
+-- In a monitoring module that was never wild the verdicts are as many as the periods that are over, and the
+-- answers that it holds are those that were sent in the period that isn't over yet, each at its tick, and
+-- each with the expected number exactly where it is good.
 pub record IsOrderly (kind : SpanKind) (s : Setting) (monitor : MonitorParts)
     (h : List Tick) : Type 0 where
   pub period : monitor.verdicts ≡ period_of s.cal.times (length h)
   pub heard : map (marked (expected_number s.cal.times s.cal.questions (length h))) monitor.heard
       ≡ answers_in (take (place_of s.cal.times (length h)) (moments_in kind s h))
 
--- The module has the run's times and questions, and has given the verdicts of the model, so that its counter
--- of wrong verdicts is that of the model. It is orderly where it was never wild.
+-- The monitoring module has the run's times and questions, and has given the verdicts of the model, so that
+-- its counter of wrong verdicts is that of the model. It is orderly where it was never wild.
 pub record HoldsMonitor (kind : SpanKind) (s : Setting) (monitor : MonitorParts)
     (h : List Tick) : Type 0 where
   pub times : monitor.times ≡ s.cal.times

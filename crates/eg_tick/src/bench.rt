@@ -69,8 +69,8 @@ pub fn bench_row<E: BenchedEngine>(
 }
 
 /// The controller with which a run on the bench begins, as `bench_controller` makes it, over a memory of
-/// 0s of any kind (docs/CONCEPT.md, "A run, tick by tick"): for callers whose memory can be copied. NoMemory
-/// gives the memory up. It never comes over a sure one.
+/// 0s of any kind (docs/CONCEPT.md, "A run, tick by tick"): for callers whose memory can be copied. On
+/// NoMemory the memory is dropped. Over a sure memory NoMemory never comes.
 pub fn bench_begin<E: BenchedEngine, M: Guarded + Drop>(
     calibration: &Calibration,
     image: &[u16],
@@ -131,7 +131,7 @@ pub fn bench_tick<E: BenchedEngine, M: Guarded + Drop>(
     ensures no_weight { OnErr result (steps.new.weights ≡ steps.old.weights) }
 {
     let row = controller.tick(drive, plan.row(tick), steps)?;
-    // Whoever reads the engine learns that it shows what the controller keeps of it.
+    // Called for its clause alone: the engine shows what the controller keeps of it.
     let _engine = controller.engine();
     Ok(row)
 }

@@ -20,7 +20,7 @@ use eg_sensor::Readings;
 /// The first word of the code (docs/FORMATS.md, "Memory map").
 const CODE: u16 = 0;
 
-/// Stores a word, where one stands.
+/// Stores a word at an address that the board may store to.
 fn put<M: Guarded>(memory: &mut M, address: u16, word: u16) -> Result<(), NoMemory>
     requires { IsTrue (Regions.access Board address).store }
     ensures stored { OnOk result
@@ -35,7 +35,7 @@ fn put<M: Guarded>(memory: &mut M, address: u16, word: u16) -> Result<(), NoMemo
     }
 }
 
-/// Loads a word, where one stands.
+/// Loads a word from an address that the board may load from.
 pub(crate) fn load<M: Guarded>(memory: &M, address: u16) -> u16
     requires { IsTrue (Regions.access Board address).load }
     ensures word { result ≡ slice_index (M.shows memory.now).words address }
@@ -47,8 +47,8 @@ pub(crate) fn load<M: Guarded>(memory: &M, address: u16) -> u16
     }
 }
 
-/// Stores these words from an address on. Where memory runs out the first so many stand, and nothing else
-/// has changed.
+/// Stores these words from an address on, in their order. Where memory runs out the stores up to there were
+/// made, and nothing else has changed.
 fn write<M: Guarded>(memory: &mut M, first: u16, values: &[u16]) -> Result<(), NoMemory>
     requires stored { (k : ℕ) → k < length values.now → IsTrue (Regions.access Board (first + k)).store }
     requires within { first + length values.now ≤ WORDS }

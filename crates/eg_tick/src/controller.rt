@@ -95,8 +95,8 @@ impl<E: Engine, M: Guarded> Model for Controller<E, M> {
 impl<E: Engine + Drop, M: Guarded + Drop> Controller<E, M> {
     /// A controller that has made no tick (docs/CONCEPT.md, "The controller"): with this calibration, the
     /// image that level 1 runs (at most 1,024 words), the fault of the run, if any, which is a valid one, a
-    /// memory of 0s, and an engine whose `kt` is that of the calibration. NoMemory gives up memory and
-    /// engine.
+    /// memory of 0s, and an engine whose `kt` is that of the calibration. On NoMemory, its one refusal,
+    /// memory and engine are dropped.
     pub fn new(
         calibration: Calibration,
         image: &[u16],
@@ -173,7 +173,7 @@ impl<E: Engine + Drop, M: Guarded + Drop> Controller<E, M> {
             → IsTrapped (world_before s drive.now h)
             → IfOk result (HoldsOutputs (world_before s drive.now h)) }
         // The stages are off while the paths are tested. While the engine is driven they are off in time
-        // after a confirmed torque excess, and a lapse is cut.
+        // after a confirmed torque excess, and under a lapse excess that stands is cut.
         ensures unpowered { (s : Setting) → IfOk result (RowIsUnpowered s self.old.kept drive.now) }
         ensures reacts { (s : Setting) → IfOk result (RowReactsInTime s self.old.kept) }
         ensures at_once { (s : Setting) → IfOk result (RowReactsAtOnce s self.old.kept) }
@@ -283,7 +283,7 @@ impl<E: Engine + Drop, M: Guarded + Drop> Controller<E, M> {
         Ok(row(begins, &self.engine, &self.memory, step.found, judged))
     }
 
-    /// The engine. Whoever reads it learns that what is kept of it is what it shows.
+    /// The engine. What the controller keeps of it is what it shows.
     pub fn engine(&self) -> &E
         ensures engine { result.now ≡ self.now.engine }
         ensures shown { self.now.kept.shown ≡ E.shows self.now.engine }
@@ -291,8 +291,8 @@ impl<E: Engine + Drop, M: Guarded + Drop> Controller<E, M> {
         &self.engine
     }
 
-    /// Level 1's trap, with the tick at which it came, or None where it hasn't trapped in the ticks that were
-    /// made (docs/CONCEPT.md, "Level 1").
+    /// Level 1's first trap in the run, with the tick at which it came, or None where it hasn't trapped in
+    /// the ticks that were made (docs/CONCEPT.md, "Level 1").
     pub fn trap(&self) -> Option<(Trap, u32)>
         ensures trap { result ≡ self.now.kept.trap }
         ensures first { (s : Setting) (h : List Entry) → Stands s self.now.kept h

@@ -61,7 +61,7 @@ pub fn run_facts(
           (run_by calibration.now image.now (option_copied fault.entry) plan.now drive.now)))) % 2 ^ 64;
     } }
 {
-    // Whoever reads it learns that the calibration is an accepted one.
+    // Called for its clause alone: the calibration is an accepted one.
     let _rules = calibration.rules();
     let told = bench_facts::<GasolineEngine>(calibration, image, plan, drive, fault, steps);
     (told.facts, told.trap)
@@ -91,7 +91,7 @@ pub fn bench_facts<E: BenchedEngine>(
           (run_by calibration.now image.now (option_copied fault.entry) plan.now drive.now)))) % 2 ^ 64;
     } }
 {
-    // Whoever reads them learns that both numbers are a u64.
+    // Called for its clause alone: both numbers are a u64.
     let _numbers = (steps.count(), steps.sum());
     let rules = calibration.rules();
     let mut tally = Tally::new(rules.threshold, rules.torque);

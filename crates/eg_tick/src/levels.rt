@@ -164,7 +164,7 @@ fn turn<M: Guarded>(
 
 /// The nine slices of level 1 and the eight modules of level 2 of a tick, in turn: after each slice but the
 /// last comes the module of its number (docs/CONCEPT.md, "A run, tick by tick"). Answers what the modules
-/// order, answer and find. Ticks at which no fault may change that have a shorter form.
+/// order, answer and find. A tick at which no fault can act on the two levels takes a shorter form.
 #[inline(always)]
 #[tactic(auto, unfolding(eg_fault::specs::Faults::IsNoneOrValid))]
 pub(crate) fn run_levels<E: Engine + Drop, M: Guarded + Drop>(
@@ -195,9 +195,9 @@ pub(crate) fn run_levels<E: Engine + Drop, M: Guarded + Drop>(
     }
 }
 
-/// The same in one of its two forms: compiled with what is asked of a fault at each turn, or without. The
-/// turns are written out, so that each is compiled for its own number. No engine is asked here: by the types
-/// of their controller the turns stand apart for each, and are compiled as a part of its tick.
+/// `run_levels` in one of its two forms: compiled with what is asked of a fault at each turn, or without. The
+/// turns are written out, so that each is compiled for its own number. The body doesn't use the type E: it is
+/// there so that the turns are compiled apart for each type of controller, as a part of its tick.
 fn run_turns<E: Engine + Drop, M: Guarded + Drop, const FAULTY: bool>(
     level2: &Level2,
     fault: Option<&Fault>,

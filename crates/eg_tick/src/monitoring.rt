@@ -26,13 +26,13 @@ pub(crate) struct Judgement {
     pub verdict: Option<Verdict>,
     /// Whether wrong answers are confirmed now, for the first time.
     pub confirms: bool,
-    /// Whether a wild module orders path 2 open.
+    /// Whether a wild monitoring module orders path 2 open.
     pub opens: bool,
 }
 
-/// The number of the question that is asked at a tick, also by a wild module: it counts modulo the count of
-/// questions (docs/CONCEPT.md, "Questions and answers"). A fault uses the number `tick` that the tick has
-/// in the run, a period by the number `local` that it has in its span.
+/// The number of the question that is asked at a tick, also by a wild monitoring module, whose numbers count
+/// modulo the count of questions (docs/CONCEPT.md, "Questions and answers"). A fault uses the number `tick`
+/// that the tick has in the run, a period the number `local` that it has in its span.
 #[tactic(auto, unfolding(eg_fault::specs::Effects::asked_at, eg_fault::specs::Effects::asked_in))]
 pub(crate) fn question(
     monitor: &Monitor,
@@ -56,8 +56,8 @@ pub(crate) fn question(
 /// Judges a tick at which this question was asked, and level 2 sends this answer, or none (docs/CONCEPT.md,
 /// "Questions and answers" and "A run, tick by tick"). The monitoring module hears the answer, and gives its
 /// verdict at the last tick of a period. A wild one hears nothing, gives no verdict, and may order path 2
-/// open. A fault uses the number `tick` that the tick has in the run, the module by the number `local`
-/// that it has in its span.
+/// open. A fault uses the number `tick` that the tick has in the run, the monitoring module the number
+/// `local` that it has in its span.
 #[inline(always)]
 pub(crate) fn judge(
     monitor: &mut Monitor,
@@ -76,7 +76,7 @@ pub(crate) fn judge(
         → monitor.old.verdicts ≡ period_of monitor.old.times local }
     requires later { (effects (option_copied fault) tick).wild ≡ None
         → All (λ heard. heard.tick < local) monitor.old.heard }
-    // The module goes on to be what the model says.
+    // The monitoring module goes on to be what the model says.
     ensures holds { (kind : SpanKind) (s : Setting) (x : Tick) (h : List Tick)
         → ComesNext kind s (option_copied fault.entry) tick local answer monitor.old x h
         → HoldsMonitor kind s monitor.new (x ∷ h) }
@@ -117,7 +117,7 @@ fn mark(expected: u32, answer: Option<u32>) -> AnswerMark
     }
 }
 
-/// The verdict of a tick, if there is one. A wild module hears nothing and gives none.
+/// The verdict of a tick, if there is one. A wild monitoring module hears nothing and gives none.
 #[inline(always)]
 fn verdict(
     monitor: &mut Monitor,

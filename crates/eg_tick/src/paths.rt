@@ -18,7 +18,7 @@ pub(crate) struct Paths {
 }
 
 impl Paths {
-    /// At a tick of this span. The stages are off where the paths are tested in it.
+    /// The paths at a tick of this span. The stages are off where the paths are tested in it.
     #[inline(always)]
     #[tactic(auto, unfolding(crate::specs::Stands::kind_of, eg_model::specs::History::drives))]
     pub(crate) fn at(fault: Option<&Fault>, tick: u32, span: &Span) -> Paths

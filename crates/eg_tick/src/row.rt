@@ -44,7 +44,7 @@ impl Beginning {
         self.place.reads_back && !(self.paths.path1 || self.paths.path2)
     }
 
-    /// Whether it fails.
+    /// Whether a start-up test fails: the paths are read back, and one of them conducts, or both do.
     fn fails(&self) -> bool
         ensures { result ≡ (self.now.place.reads_back && (self.now.paths.path1 || self.now.paths.path2)) }
     {

@@ -39,6 +39,7 @@ pub struct RunRecord {
 
 /// Runs a gasoline engine of the calibration's plant from rest on the bench, one tick for each drive row
 /// (docs/CONCEPT.md, "A run, tick by tick" and "The record of a run"). The ticks are counted in `steps`.
+/// NoMemory is its one refusal.
 pub fn run_one(
     alloc: Global,
     calibration: &Calibration,
@@ -69,7 +70,8 @@ pub fn run_one(
     ensures cuts { option_copied fault.entry ≡ None → IfOk result (λ made.
         EachDriveSpan (CutOneTickAfter calibration.now.rules.torque calibration.now.rules.kt
         calibration.now.rules.threshold) (reverse made.rows)) }
-    // Lapses are cut, and never let an excess stand for long.
+    // Under lapses excess that stands is cut, and each stretch of excess is shorter than the bound for
+    // lapses.
     ensures lapses { HasLapseBound calibration.now.rules.torque calibration.now.times →
         IsLapse (option_copied fault.entry) → IfOk result (λ made.
         EachDriveSpan (CutStandingExcess calibration.now) (reverse made.rows)) }
@@ -87,7 +89,7 @@ pub fn run_one(
         (run_by calibration.now image.now (option_copied fault.entry) plan.now drive.now)))
         steps.old steps.new result }
 {
-    // Whoever reads it learns that the calibration is an accepted one.
+    // Called for its clause alone: the calibration is an accepted one.
     let _rules = calibration.rules();
     record_run(alloc, calibration, image, plan, drive, fault, steps)
 }
@@ -112,7 +114,7 @@ fn record_run(
         (run_by calibration.now image.now (option_copied fault.entry) plan.now drive.now)))
         steps.old steps.new result }
 {
-    // Whoever reads them learns that both numbers are a u64.
+    // Called for its clause alone: both numbers are a u64.
     let _numbers = (steps.count(), steps.sum());
     let mut controller = bench_begin(calibration, image, fault, FlatMemory::new())?;
     let rows = make_rows(alloc, &mut controller, plan, drive, steps)?;
@@ -150,7 +152,7 @@ fn make_rows(
         IsAt gasoline gasoline_of r 0 controller.old →
         AreCounted (reverse (record_rows gasoline r)) steps.old steps.new result }
 {
-    // Whoever reads them learns that both numbers are a u64.
+    // Called for its clause alone: both numbers are a u64.
     let _numbers = (steps.count(), steps.sum());
     let mut rows = Vec::new(alloc);
     for tick in 0..drive.len() {

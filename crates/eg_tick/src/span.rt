@@ -22,7 +22,7 @@ use eg_host::Host;
 use eg_level2::{Level2, Phase};
 use eg_module::Monitor;
 
-/// What a controller keeps of the span of ticks that it is in, beside level 1 and the memory
+/// What a controller keeps of the span of ticks that it is in, besides level 1 and the memory
 /// (docs/CONCEPT.md, "The controller").
 #[derive(Drop)]
 pub(crate) struct Span {
@@ -77,7 +77,7 @@ impl Span {
         }
     }
 
-    /// The place of its next tick, where a start-up test takes so many ticks.
+    /// The place of its next tick, where a start-up test reads the paths back at its tick `test_ticks`.
     pub(crate) fn place(&self, test_ticks: u32) -> Place
         requires { self.now.local < 20000 }
         ensures tests { result.tests ≡ self.now.tests }
@@ -98,7 +98,7 @@ impl Span {
         }
     }
 
-    /// Whether a start-up test is running at it.
+    /// Whether a start-up test is running at the next tick.
     #[tactic(auto, unfolding(crate::specs::Stands::kind_of, eg_model::specs::Paths::is_testing))]
     fn testing(&self, test_ticks: u32) -> bool
         ensures { (times : TimeParts) → test_ticks ≡ test_ticks_of times
@@ -107,7 +107,7 @@ impl Span {
         self.tests && self.local <= test_ticks
     }
 
-    /// Whether react is told at it to order path 1 open.
+    /// Whether react is told at the next tick to order path 1 open.
     #[tactic(auto, unfolding(crate::specs::Stands::kind_of, eg_model::specs::Paths::is_told_to_open))]
     fn told(&self, test_ticks: u32) -> bool
         requires { self.now.local < 20000 }
@@ -117,7 +117,7 @@ impl Span {
         self.tests && self.local + 1 == test_ticks
     }
 
-    /// Whether the paths are read back at it.
+    /// Whether the paths are read back at the next tick.
     #[tactic(auto, unfolding(crate::specs::Stands::kind_of, eg_model::specs::Paths::reads_back))]
     fn reads_back(&self, test_ticks: u32) -> bool
         ensures { (times : TimeParts) → test_ticks ≡ test_ticks_of times

@@ -22,9 +22,9 @@ use eg_plant::Engine;
 use eg_sensor::Readings;
 use eg_word::Program;
 
-/// What level 1 and level 2 are handed at a tick: its number in the run, by which a fault goes; its number in
-/// its span, by which level 2 goes; what level 2 is to do at it, the number of the question, the readings,
-/// what the permit table says of the drive row, and the slices of level 1.
+/// What level 1 and level 2 are handed at a tick: its number in the run, which a fault uses; its number in
+/// its span, which level 2 uses; what level 2 is to do at it, the number of the question, the readings, what
+/// the permit table says of the drive row, and the slices of level 1.
 #[derive(Clone, Copy)]
 pub(crate) struct Task {
     pub(crate) tick: u32,
@@ -56,8 +56,8 @@ impl Level1 {
     }
 }
 
-/// What level 1 and level 2 do at a tick (docs/CONCEPT.md, "A run, tick by tick"). Nothing else touches the
-/// memory in it.
+/// What level 1 and level 2 do at a tick (docs/CONCEPT.md, "A run, tick by tick"). But for the begin of a
+/// span, nothing else stores to the memory at a tick.
 #[inline(always)]
 pub(crate) fn work<E: Engine + Drop, M: Guarded + Drop>(
     level2: &Level2,

@@ -47,7 +47,7 @@ impl<E: CopyEngine + Drop, M: CopyMemory + Drop> Controller<E, M> {
 }
 
 impl<E: CopyEngine + Drop, M: Guarded + Drop> Controller<E, M> {
-    /// The memory (docs/CONCEPT.md, "Guarded memory"), for whoever makes another of the same words.
+    /// The memory (docs/CONCEPT.md, "Guarded memory"), so that a caller can make another of the same words.
     pub fn memory(&self) -> &M
         ensures { M.shows result.now ≡ self.now.kept.memory }
     {
