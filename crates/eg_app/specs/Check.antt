@@ -10,11 +10,11 @@ use Rattle.eg_outcome.specs.declared.outcome.Refusal.{Refusal}
 use Rattle.eg_outcome.specs.declared.outcome.Refusal.TheVariants as refusal
 use Rattle.eg_outcome.specs.declared.outcome.Role.TheVariants as role
 
--- the torque of a row exceeds what the drive permits, by more than the threshold
+-- the torque of a row is more than what its drive row permits and the threshold together
 abbrev pub is_row_excess : Rules → CheckRow → Bool
 is_row_excess rules row = is_excess row.1 (drive_permits rules.permit row.0) rules.threshold
 
--- so for each row, in the file's order
+-- the same of each row, in the file's order
 abbrev pub excesses : Rules → List CheckRow → List Bool
 excesses rules rows = map (is_row_excess rules) rows
 

@@ -79,7 +79,7 @@ Ends (Some (asm file)) store later out now was is o = AsmEnds file store later o
 Ends (Some (dis file)) store later out now was is o = DisEnds file store later out now o
 Ends None store later out now was is o = (o ≡ outcome.Usage) × (now ≡ out)
 
--- no tick is made
+-- the command makes no tick
 abbrev pub CountsNothing : Option Command → Type 0
 CountsNothing (Some (check calibration file)) = Unit {0}
 CountsNothing (Some (bound calibration)) = Unit {0}
@@ -93,7 +93,7 @@ CountsNothing (Some (asm file)) = Unit {0}
 CountsNothing (Some (dis file)) = Unit {0}
 CountsNothing None = Unit {0}
 
--- no file is read
+-- the command reads no file
 abbrev pub ReadsNothing : Option Command → Type 0
 ReadsNothing (Some (check calibration file)) = ⊥
 ReadsNothing (Some (bound (Some name))) = ⊥

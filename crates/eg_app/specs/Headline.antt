@@ -63,7 +63,7 @@ pub record IsNamedInput (campaign name : List ℕ) (store : ShownStore) (input :
   pub is_named : run_named name 1 plans ≡ Some (n, plan)
   pub files_say : IsInput store n plan input
 
--- Of that run: its record was written, and keeps the headline.
+-- Of the run of that name: its record was written, and keeps the headline.
 pub record TellsRecord (calibration : Option (List ℕ)) (campaign name : List ℕ) (store : ShownStore)
     (out now : ShownSink) : Type 0 where
   pub cal : CalibrationParts
@@ -73,9 +73,9 @@ pub record TellsRecord (calibration : Option (List ℕ)) (campaign name : List �
   pub written : Appends out now (record_text cal input)
   pub headline : KeepsHeadline (run_with cal input)
 
--- Of that run under a fault of each class at each `step`th tick: the table of these runs was written, each
--- of them keeps the headline, and under each class but lapses the greatest reaction is at most the reaction
--- time.
+-- Of the run of that name, without its resets, under a fault of each class at each `step`th tick: the table
+-- of these runs was written, each of them keeps the headline, and under each class but lapses the greatest
+-- reaction is at most the worst-case reaction.
 pub record TellsSweep (calibration : Option (List ℕ)) (campaign name : List ℕ) (step : ℕ)
     (store : ShownStore) (out now : ShownSink) : Type 0 where
   pub cal : CalibrationParts
@@ -86,12 +86,12 @@ pub record TellsSweep (calibration : Option (List ℕ)) (campaign name : List �
   pub headline : All KeepsHeadline (map (run_with cal) (runs_over step input))
   pub in_time : IsBounded (reaction_of cal.times) (table_over cal step input)
 
--- Of so many runs that are drawn from a seed: their summary was written, and each of them keeps the headline.
+-- Of the `count` runs that are drawn from a seed: their summary was written, and each keeps the headline.
 pub record TellsSoak (seed count : ℕ) (out now : ShownSink) : Type 0 where
   pub written : Appends out now (soak_text (soak_of (drawn_runs count seed)))
   pub headline : All KeepsHeadline (drawn_runs count seed)
 
--- What a command that plays runs has told where its work is done.
+-- What a command that plays runs has told where its outcome is Done; of any other command nothing is said.
 abbrev pub TellsHeadline : Option Command → ShownStore → ShownSink → ShownSink → Type 0
 TellsHeadline (Some (run telling calibration campaign)) store out now =
     TellsRuns telling calibration campaign store out now

@@ -1,5 +1,4 @@
--- Outside the headline. The one line that notes how a call ended. Nothing is noted of one that did its
--- work.
+-- Outside the headline. The one line that notes how a call ended. A call that did its work gets none.
 use Rattle.std.specs.Prelude.{◌≡◌, ℕ, List, [], ◌++◌, codes, decimal, Option, Some, None, unwrap_or, IsTrue}
 use Rattle.eg_base.specs.Outside.{ShownStore, ShownSink, Rose, Appends, AppendsPrefix}
 use Rattle.eg_input.specs.declared.fault.TraceFault.{TraceFault}
@@ -110,7 +109,7 @@ abbrev pub IsFileName : Option Command → ShownStore → Outcome → List ℕ �
 IsFileName (Some command) store o name = IsNameOf command store (file_role o) name
 IsFileName None store o name = name ≡ []
 
--- what comes beside the outcome of a command: the name of the trace or the image of a run that it speaks of
+-- what comes with the outcome of a command: the name of the trace or the image of a run that it speaks of
 abbrev pub Names : Command → ShownStore → Outcome → Option (List ℕ) → Type 0
 Names (run telling calibration campaign) store o name = NamesFile campaign store (role_in o) name
 Names (record_run calibration campaign played) store o name = NamesFile campaign store (role_in o) name

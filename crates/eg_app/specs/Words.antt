@@ -9,12 +9,12 @@ use Rattle.eg_play.specs.declared.telling.Telling.TheVariants.{Report, Table}
 use Rattle.eg_app.specs.declared.command.Command.{Command as Parsed}
 use Rattle.eg_app.specs.declared.command.Command.TheVariants as parsed
 
--- What can be asked for: to check the file of this name; the bounds, or all limits; to run the campaign of
--- this name, and tell its runs by the report or by a table; the record of its run of that name; or to sweep
--- over all classes of faults with that run, at each `step`th tick. Each of these uses the calibration in
--- the file of the name behind `--cal`, or by the reference calibration where there is none. Or so many runs
--- that are drawn from a number; or the right answers to the questions of a calibration file; or the image
--- of a source, or the source of an image.
+-- What can be asked for: to check the file of this name; to tell the two bounds, or all limits; to run the
+-- campaign of this name, and tell its runs by the report or by a table; to record its run of that name; or to
+-- sweep over all classes of faults with that run, at each `step`th tick. Each of these uses the calibration
+-- in the file behind `--cal`, or the reference calibration where there is no `--cal`. Or to play `runs` runs
+-- that are drawn from a seed; to tell the right answers to the questions of a calibration file; to make the
+-- image of a source, or the source of an image.
 pub data Command : Type 0 where
   check : (calibration : Option (List ℕ)) (file : List ℕ) → Command
   bound : (calibration : Option (List ℕ)) → Command
@@ -82,11 +82,11 @@ abbrev pub is_sweep : List (List ℕ) → ℕ → Bool
 is_sweep words own = (length words == own + 3) && bytes_eq (word words 0) (codes "sweep")
     && is_name (word words own) && is_name (word words (own + 1))
 
--- a number, where it is one from .. to ..
+-- the number n, where it is from `least` to `most`
 abbrev pub within : (least most : ℕ) → ℕ → Option ℕ
 within least most n = if nat_le least n && nat_le n most then Some n else None
 
--- the number from .. to .. that a word of one to so many decimal digits writes
+-- the number from `least` to `most` that a word of 1 to `digits` decimal digits writes
 abbrev pub number_in : (digits least most : ℕ) → List ℕ → Option ℕ
 number_in digits least most word = option_and_then (within least most) (decimal digits word)
 
@@ -121,7 +121,7 @@ runs_in word = number_in 10 1 500 word
 abbrev pub is_soak : List (List ℕ) → Bool
 is_soak words = bytes_eq (word words 0) (codes "soak")
 
--- to play so many runs from this seed, where both are numbers
+-- to play this many runs from this seed, where both are numbers
 abbrev pub soak_by : (seed runs : Option ℕ) → Option Command
 soak_by (Some seed) (Some runs) = Some (soak seed runs)
 soak_by _ _ = None

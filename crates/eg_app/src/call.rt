@@ -33,8 +33,9 @@ pub fn egasim<S: Store, K: Sink, N: Sink>(
     notes: &mut N,
     steps: &mut Ticks,
 ) -> Outcome
-    // The headline: whatever the files hold, the report, record or table written is that of the runs that
-    // they say, and each of these runs keeps it; so does each run that is drawn.
+    // The headline (docs/READING.md, "The headline, field by field"): on Done the report, the record or the
+    // table that was written is that of the runs that the files say, whatever they hold, and each of these
+    // runs keeps the headline; so does each run that is drawn.
     ensures headline { result ≡ Done → TellsHeadline (command_of (words_of words.now)) (S.shows store.old)
         (K.shows out.old) (K.shows out.new) }
 
@@ -104,7 +105,8 @@ fn run<S: Store, K: Sink>(
     work(alloc, command, store, out, steps)
 }
 
-/// The same. The headline, and that the work is done where nothing hinders it, are `run`'s to say.
+/// Does what a command asks for, but for its note. That the headline holds, and that the work is done where
+/// nothing hinders it, are clauses of `run`, which calls this.
 fn work<S: Store, K: Sink>(
     alloc: Global,
     command: Command<'_>,

@@ -18,7 +18,8 @@ use eg_num::Drive;
 use eg_outcome::{Outcome, Refusal, Role, calibration_for, file_bytes, put_line};
 use std::alloc::{AllocError, Global};
 
-/// Does `check [--cal NAME] FILE`, but for its note. The calibration is read before the file.
+/// Does `check [--cal NAME] FILE`, but for its note (docs/FORMATS.md, "Commands"). The calibration is read
+/// before the file.
 pub(crate) fn check<S: Store, K: Sink>(
     alloc: Global,
     calibration: Option<&str>,

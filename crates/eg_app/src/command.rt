@@ -56,7 +56,7 @@ pub(crate) enum Command<'a> {
     Dis {
         file: &'a str,
     },
-    /// `soak SEED RUNS`: so many runs, 1 to 500, that are drawn from the seed.
+    /// `soak SEED RUNS`: this many runs, 1 to 500, that are drawn from the seed.
     Soak {
         seed: u32,
         runs: u32,
@@ -186,8 +186,8 @@ impl<'a> Command<'a> {
         None
     }
 
-    /// What the words `sweep CAMPAIGN RUN STEP` ask for, which begin at place `own`: nothing where STEP is no
-    /// number of ticks.
+    /// What the words `sweep CAMPAIGN RUN STEP` ask for, where CAMPAIGN stands at place `own`; None where
+    /// STEP isn't a number from 1 to 20,000.
     fn of_sweep(
         words: &'a [String],
         calibration: Option<&'a str>,

@@ -7,7 +7,7 @@ use eg_answer::Rules;
 use eg_num::{Counter, Drive};
 use eg_torque::excess;
 
-/// Whether the torque exceeds what the drive permits by more than the threshold.
+/// Whether the torque (tenths of Nm) is more than what the drive row permits and the threshold together.
 fn is_row_excess(rules: &Rules, drive: &Drive, torque: u16) -> bool
     ensures { result ≡ is_row_excess rules.now (drive.now, torque) }
 {

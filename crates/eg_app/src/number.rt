@@ -4,7 +4,7 @@ ghost use Rattle.eg_app.specs.Words.{number_in};
 
 use eg_input::decimal_in;
 
-/// The number that a word of one to so many decimal digits writes, where it is one from `least` to `most`
+/// The number that a word of 1 to `digits` decimal digits writes, where it is from `least` to `most`
 /// (docs/FORMATS.md, "Commands").
 pub(crate) fn number_in(word: &[u8], digits: usize, least: u32, most: u32) -> Option<u32>
     requires { digits ≤ 10 }

@@ -1,4 +1,5 @@
-// `run`, `table`, `record` and `sweep`: beside eg_play's own clauses, when the calibration is missing.
+// `run`, `table`, `record` and `sweep` as eg_play does them, with one clause more: how missing files are
+// told.
 ghost use Rattle.std.specs.Prelude.{◌≤◌, Some};
 ghost use Rattle.std.specs.Option.{option_copied};
 ghost use Rattle.eg_outcome.specs.Outcomes.{EndsOrderly};

@@ -10,7 +10,7 @@ use eg_tick::Ticks;
 use eg_values::reference;
 use std::alloc::Global;
 
-/// Does `soak SEED RUNS`, but for its note: plays so many runs (1 to 500) that are drawn from the seed, and
+/// Does `soak SEED RUNS`, but for its note: plays `runs` runs (1 to 500) that are drawn from the seed, and
 /// writes the summary of them (docs/FORMATS.md, "The summary of `soak`"). Ticks are counted in `steps`.
 pub(crate) fn play_drawn<K: Sink>(
     alloc: Global,
@@ -24,7 +24,7 @@ pub(crate) fn play_drawn<K: Sink>(
     ensures ends { SoakEnds seed runs (K.shows out.old) (K.shows out.new) steps.old steps.new result }
     ensures put { PutsNothing result → ⊥ }
 {
-    // Whoever makes it learns that the reference calibration is an accepted one.
+    // Called for its clause alone: the reference calibration is an accepted one.
     let _calibration = reference();
     let Ok(summary) = soak(alloc, seed, runs, steps) else {
         return Outcome::Memory;

@@ -37,13 +37,13 @@ use Rattle.eg_play.specs.Sweeping.{runs_over, table_over, swept_text}
 
 -- ---- runs are played ----
 
--- The ticks of these rows were made and counted, with the weights of the rows. Where memory ran out, those of
--- the first of them were; the last of these may be counted and weigh nothing.
+-- The ticks of these rows were made and counted, with the weights of the rows. Where memory ran out, only the
+-- first of them were; the last of these may be counted without the weight of its row.
 abbrev pub AreTicked : List Row → TickCount → TickCount → Outcome → Type 0
 AreTicked rows was is outcome.Memory = RanOutAmong rows was is
 AreTicked rows was is o = is ≡ count_with was rows
 
--- These runs were played, for which these rows were made, and this text on them was written: on Done all of
+-- These runs were played, the rows were made for that, and this text on the runs was written: on Done all of
 -- it. The record of each run keeps the headline.
 pub record Plays (text : List ℕ) (runs : List EngineRun) (rows : List Row) (out now : ShownSink)
     (was is : TickCount) (o : Outcome) : Type 0 where
@@ -145,7 +145,7 @@ run_named name n [] = None
 run_named name n (plan ∷ plans) =
     if bytes_eq plan.name name then Some (n, plan) else run_named name (n + 1) plans
 
--- there is no run of that name, or its files are read; whatever its count of ticks, it isn't refused for that
+-- there is no run of that name, or its files are read; no count of ticks is refused here
 abbrev pub FoundComes : Option (ℕ × RunPlan) → ShownStore → ShownStore → Result RunInput Outcome → Type 0
 FoundComes None store later come =
     (come ≡ Err (outcome.Refused refusal.NoRun)) × (later.faults ≡ store.faults)

@@ -1,6 +1,6 @@
 -- The headline, for the record of one run of either engine with its power cycles; its rows stand newest
 -- first. That no image changes a protected word is said of each slice: field `outside` of `IsSlice`,
--- which `eg_host::Host::slice` keeps. That it acts on level 2 by its two outputs alone is said here.
+-- which `eg_host::Host::slice` keeps. That level 1 acts by its two outputs alone is said here.
 use Rattle.std.specs.Prelude.{◌≡◌, ℕ, false, List, All, None}
 use Rattle.eg_answer.specs.Times.{reaction_of, HasLapseBound}
 use Rattle.eg_fault.specs.Faults.{IsListed}
@@ -23,37 +23,37 @@ use Rattle.eg_campaign.specs.Plays.{EngineRun, rows_of_run, report_of_run}
 -- its rows under each image and slice plan.
 pub record Headline (s : Setting) (rows : List Row) (report : List ℕ → Summary)
     (rows_under : List ℕ → List (List ℕ) → List Row) : Type 0 where
-  -- At each reset a start-up test begins, and with it a test span. Else a drive span begins, at the first
-  -- tick of the run and right after a test that has found both paths open; at no other tick does any begin.
+  -- At each reset a test span begins. Where the tick doesn't reset, a drive span begins at the first tick of
+  -- the run and right after a test that has found both paths open, and no span at any other tick.
   pub cycles : SpansBeginInTurn rows
-  -- With at most one listed fault outside level 1, in each drive span the power stages are off from R ticks
-  -- after any torque excess that is confirmed in it to its end; under most faults from the next tick.
+  -- With no fault or a listed one, in each drive span the power stages are off from R ticks after a confirmed
+  -- torque excess to the end of the span; under most faults, and without one, from the next tick.
   pub reacts : IsListed s.fault → EachDriveSpan (ReactWithin (reaction_of s.cal.times)
       s.cal.rules.torque s.cal.rules.threshold) rows
   pub at_once : IsListed s.fault → EachDriveSpan (RowsReactAtOnce s.fault
       s.cal.rules.torque s.cal.rules.threshold) rows
-  -- In each test span, so from a reset until a test is passed, they are off.
+  -- In each test span, that is from a reset until its test is passed, the stages are off.
   pub unpowered : EachTestSpan AreOff rows
-  -- Without a fault no test fails, and in each drive span they go off exactly one tick after the first
-  -- confirmed full-efficiency excess.
+  -- Without a fault no test fails, and in each drive span the stages go off exactly one tick after the
+  -- full-efficiency excess is first confirmed.
   pub passes : s.fault ≡ None → All (λ row. row.found.start ≡ false) rows
   pub cuts : s.fault ≡ None → EachDriveSpan (CutOneTickAfter s.cal.rules.torque
       s.cal.rules.kt s.cal.rules.threshold) rows
-  -- Where a module of level 2 is skipped or disturbed, or both levels halt, they are off from R ticks
-  -- after the onset, or after the begin of the drive span, whatever the torque.
+  -- Where a module of level 2 is skipped or disturbed, or both levels halt, the stages are off from R ticks
+  -- after the onset, or after the begin of the drive span if that is later, whatever the torque.
   pub from_onset : EachDriveSpan (CutFromOnset s.fault (reaction_of s.cal.times)) rows
-  -- No cut without a watch. In each drive span, wherever they are off, a watch that cuts was found at an
-  -- earlier tick of the span, unless a fault that opens a shut-off path by itself has begun; and in each test
-  -- span, where no test is running any more, `start` was found: the test has failed.
+  -- No cut without a watch. In each drive span, wherever the stages are off, a watch that cuts was found at
+  -- an earlier tick of the span, unless a fault that opens a shut-off path by itself has begun; and in each
+  -- test span, where no test is running any more, `start` was found: the test has failed.
   pub finds_before_off : EachDriveSpan (FindsBeforeOff s.fault) rows
   pub finds_failure : EachTestSpan FindsFailure rows
-  -- What spoils the answers is found in time: where a module of level 2 is skipped or disturbed, or
-  -- both levels halt, a watch that cuts is found before R ticks have passed from the onset, or from the begin
-  -- of the drive span, whatever the torque. And a word of level 2 that is flipped is told at that tick, and
-  -- at no other.
+  -- What spoils the answers is found in time: where a module of level 2 is skipped or disturbed, or both
+  -- levels halt, a watch that cuts is found before R ticks have passed from the onset, or from the begin of
+  -- the drive span if that is later, whatever the torque. And `mirror` is found at the tick at which a word
+  -- of level 2 is flipped, and at no other.
   pub finds_from_onset : EachDriveSpan (FindsFromOnset s.fault (reaction_of s.cal.times)) rows
   pub tells_flips : TellsFlips s.fault rows
-  -- Lapses are cut, and each stretch of torque excess under them is short, where the calibration has a bound.
+  -- Under lapses excess that stands is cut, and each stretch is below the bound, where there is a bound.
   pub lapses : HasLapseBound s.cal.rules.torque s.cal.times → IsLapse s.fault →
       EachDriveSpan (CutStandingExcess s.cal) rows
   pub short : HasLapseBound s.cal.rules.torque s.cal.times → IsLapse s.fault →
@@ -67,14 +67,14 @@ pub record Headline (s : Setting) (rows : List Row) (report : List ℕ → Summa
   -- tick at which the stages are off while no test is running.
   pub detects : (name : List ℕ) → IsFirstDetection rows (report name).first
   pub tells_when_off : (name : List ℕ) → IsFirstOff rows (report name).off
-  -- Where it tells the stages off from a tick on it names a watch that found something before that tick, unless a
-  -- fault that opens a shut-off path by itself has begun; so where it names none, such a fault has.
+  -- Where it tells a tick at which the stages are off, it names a watch that was found before, unless a fault
+  -- that opens a shut-off path by itself has begun; so where it names none, such a fault has begun.
   pub names : (name : List ℕ) → NamesWhatCuts s.fault (report name)
   -- Level 1 acts by its two outputs alone: under any other image and slice plan, where the two outputs were
   -- the same after each tick before some tick, the rows up to that tick are the same but for the outputs.
   pub by_outputs : (image : List ℕ) (plan : List (List ℕ)) → ActByOutputs rows (rows_under image plan)
 
--- the record of this run keeps it
+-- the record of this run keeps the headline
 abbrev pub KeepsHeadline : EngineRun → Type 0
 KeepsHeadline r = Headline r.run.setting (rows_of_run r) (λ name. report_of_run name r)
     (λ image plan. rows_of_run (record r { run = with_level1 image plan r.run }))

@@ -86,12 +86,12 @@ AcceptsInput refuses store n plan = Accepts (trace_file n) plan.trace store
     × Accepts (image_file n) plan.image store × ((drive : List DriveRow)
     → ReadComes (trace_file n) plan.trace store (Ok drive) → refuses (length drive) ≡ None)
 
--- so of all runs
+-- the files of all runs are found
 abbrev pub FindsRuns : ShownStore → ShownStore → List RunPlan → Type 0
 FindsRuns store later [] = Unit {0}
 FindsRuns store later (plan ∷ plans) = FindsInput store later plan × FindsRuns store later plans
 
--- so of the runs from run n on, in their order, where the runs before have `sum` ticks
+-- the same is accepted of all runs from run n on, in their order, where the runs before have `sum` ticks
 abbrev pub AcceptsRuns : ShownStore → ℕ → ℕ → List RunPlan → Type 0
 AcceptsRuns store n sum [] = Unit {0}
 AcceptsRuns store n sum (plan ∷ plans) = AcceptsInput (too_many sum n) store n plan

@@ -11,11 +11,11 @@ use Rattle.eg_sweep.specs.Grid.{swept_faults}
 use Rattle.eg_sweep.specs.Table.{table_of}
 use Rattle.eg_sweep.specs.Texts.{sweep_text_of}
 
--- a drive row, at which the unit isn't reset
+-- this drive row, but without a reset of the unit
 abbrev pub without_reset : DriveRow → DriveRow
 without_reset row = record row { reset = false }
 
--- the run of an input under this fault in place of its own, where no row of its trace resets the unit
+-- the run of an input, but under this fault in place of its own, and without the resets of its trace
 unfoldable pub swept : RunInput → Fault → RunInput
 swept input fault = record {
   plan = record input.plan { fault = Some fault };
@@ -34,6 +34,6 @@ runs_over step input = map (swept input) (faults_over step input)
 unfoldable pub table_over : CalibrationParts → (step : ℕ) → RunInput → List SweepRow
 table_over cal step input = table_of (faults_over step input) (map (facts_by cal) (runs_over step input))
 
--- its text
+-- the text of this table
 unfoldable pub swept_text : CalibrationParts → (step : ℕ) → RunInput → List ℕ
 swept_text cal step input = sweep_text_of (table_over cal step input)

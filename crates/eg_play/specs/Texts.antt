@@ -19,8 +19,8 @@ report_text cal inputs =
     concat (map (λ input. summary_line (report_with cal input)) inputs)
     ++ report_end (map (report_with cal) inputs)
 
--- the table of some runs, of which this is told: a header, and a row for each in their order, by this
--- worst-case reaction
+-- the table of these runs, `told` being what is told of each: a header, and a row for each in their order;
+-- the bound is the worst-case reaction, in ticks
 unfoldable pub table_by : (bound : ℕ) → List RunInput → List RunFacts → List ℕ
 table_by bound inputs told =
     table_header

@@ -23,9 +23,9 @@ use eg_outcome::{Outcome, Refusal, Role, file_bytes, image_in};
 use eg_plan::{RunPlan, add_ticks};
 use std::alloc::Global;
 
-/// The input of a run, the first run being 1: its trace is read, and then its image. Where a sum is given, it
-/// is that of the ticks of the runs before, and a sum of more than 1,000,000 with this run's is refused
-/// before the image is read.
+/// The input of a run, the first run being 1: its trace is read, and then its image. `sum`, where it is
+/// given, is how many ticks the runs before have; where this run's ticks take it above 1,000,000, the run is
+/// refused before its image is read (docs/FORMATS.md, "Campaign files").
 pub(crate) fn input_for<S: Store>(
     alloc: Global,
     run: u32,

@@ -1,8 +1,8 @@
 //! The commands that play whole runs: `run`, `table`, `record` and `sweep`.
 //!
-//! A campaign is read, then the drive trace and the image of each run that is played; then the controller
-//! plays them tick by tick, and the report, the record or a table is written, a record as its ticks are
-//! made.
+//! A campaign is read, then the drive trace and the image of each run that is played; then the runs are
+//! played tick by tick, and the report, the record or a table is written: a record while its ticks are made,
+//! the others after the last tick.
 #![tactic(auto)]
 
 mod campaign;

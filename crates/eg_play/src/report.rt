@@ -31,7 +31,7 @@ pub(crate) fn put_told<K: Sink>(
         (K.shows out.old) (K.shows out.new) steps.old steps.new result }
     ensures put { PutsNothing result → ⊥ }
 {
-    // Whoever reads it learns that the calibration is an accepted one.
+    // Called for its clause alone: the calibration is an accepted one.
     let _rules = calibration.rules();
     match telling {
         Telling::Report => put_report(alloc, calibration, inputs, out, steps),
@@ -54,7 +54,7 @@ fn put_report<K: Sink>(
         (K.shows out.old) (K.shows out.new) steps.old steps.new result }
     ensures put { PutsNothing result → ⊥ }
 {
-    // Whoever reads it learns that the calibration is an accepted one.
+    // Called for its clause alone: the calibration is an accepted one.
     let _rules = calibration.rules();
     let Ok(summaries) = run_all(alloc, calibration, inputs, steps) else {
         return Outcome::Memory;
@@ -79,7 +79,7 @@ pub(crate) fn put_record<K: Sink>(
         (K.shows out.old) (K.shows out.new) steps.old steps.new result }
     ensures put { PutsNothing result → ⊥ }
 {
-    // Whoever reads it learns that the calibration is an accepted one.
+    // Called for its clause alone: the calibration is an accepted one.
     let _rules = calibration.rules();
     match record_into(alloc, calibration, input, out, steps) {
         Ok(()) => Outcome::Done,

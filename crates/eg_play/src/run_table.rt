@@ -31,7 +31,7 @@ pub(crate) fn put_run_table<K: Sink>(
         (K.shows out.old) (K.shows out.new) steps.old steps.new result }
     ensures put { PutsNothing result → ⊥ }
 {
-    // Whoever reads it learns that the calibration is an accepted one.
+    // Called for its clause alone: the calibration is an accepted one.
     let _rules = calibration.rules();
     let Ok(told) = told_all(alloc, calibration, inputs, steps) else {
         return Outcome::Memory;
@@ -43,7 +43,8 @@ pub(crate) fn put_run_table<K: Sink>(
     put_text(&text, out)
 }
 
-/// The text of the table of these runs, of which this is told, by this worst-case reaction (ticks).
+/// The text of the table of these runs: `told` is what is told of each, and `bound` the worst-case reaction,
+/// in ticks.
 fn table_text(
     alloc: Global,
     bound: u32,

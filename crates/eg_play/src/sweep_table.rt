@@ -38,7 +38,7 @@ pub(crate) fn put_table<K: Sink>(
     ensures nothing_put { PutsNothing result → out.new ≡ out.old }
     ensures nothing_played { PutsNothing result → steps.new ≡ steps.old }
 {
-    // Whoever reads them learns that the calibration is an accepted one, and that both numbers are a u64.
+    // Called for their clauses alone: the calibration is an accepted one, and both numbers are a u64.
     let _rules = calibration.rules();
     let _numbers = (steps.count(), steps.sum());
     let faults = match sweep_faults(alloc, input.drive.as_slice().len() as u32, step) {
@@ -69,7 +69,7 @@ fn put_rows<K: Sink>(
         (K.shows out.old) (K.shows out.new) steps.old steps.new result }
     ensures put { PutsNothing result → ⊥ }
 {
-    // Whoever reads it learns that the calibration is an accepted one.
+    // Called for its clause alone: the calibration is an accepted one.
     let _rules = calibration.rules();
     let Ok(facts) = facts_all(alloc, calibration, inputs, steps) else {
         return Outcome::Memory;

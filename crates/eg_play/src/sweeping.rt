@@ -18,8 +18,9 @@ use eg_values::Calibration;
 use std::alloc::Global;
 
 /// Does `sweep [--cal NAME] CAMPAIGN RUN STEP`, but for its note (docs/FORMATS.md, "Commands"): reads the
-/// campaign and the files of the run of that name, plays it under a fault of each class at each `step`th tick
-/// (1 to 20,000), and writes the table of these runs. Ticks are counted in `steps`.
+/// campaign and the files of the run of that name, plays it, without its resets, under a fault of each class
+/// at each `step`th tick (1 to 20,000), and writes the table of these runs. A grid that is too large is
+/// refused. Ticks are counted in `steps`.
 pub fn sweep<S: Store, K: Sink>(
     alloc: Global,
     calibration: Option<&str>,

@@ -68,7 +68,7 @@ fn words(alloc: Global, words: &[u16]) -> Result<Items<u16>, NoMemory>
     Ok(Items::new(copy))
 }
 
-/// The rows of a drive, of which none resets the unit.
+/// The rows of a drive, but without their resets.
 fn without_resets(alloc: Global, drive: &[Drive]) -> Result<Items<Drive>, NoMemory>
     ensures { IfOk result (λ rows. rows ≡ map without_reset drive.now) }
 {
@@ -79,7 +79,7 @@ fn without_resets(alloc: Global, drive: &[Drive]) -> Result<Items<Drive>, NoMemo
     Ok(Items::new(rows))
 }
 
-/// A drive row, at which the unit isn't reset.
+/// This drive row, but without a reset of the unit.
 fn without_reset(row: &Drive) -> Drive
     ensures { result ≡ without_reset row.now }
 {

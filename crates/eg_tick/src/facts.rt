@@ -67,11 +67,11 @@ pub fn run_facts(
     (told.facts, told.trap)
 }
 
-/// The same of an engine of either kind, for callers that run one by its type: it tells the facts of the run,
-/// the reactions in its spans and its trap (docs/CONCEPT.md, "The report of a run" and "`table`"), keeps no
-/// row, takes no memory and refuses nothing.
-/// What facts tell of the reaction is said of the gasoline engine alone, by `run_facts`; of the reactions of
-/// either engine eg_model's `spans_react_in_time` says it, and the headline of the rows.
+/// Runs an engine of either kind, which the caller names by its type, as `run_facts` runs a gasoline engine.
+/// It tells the facts of the run, the reactions in its spans and its trap (docs/CONCEPT.md, "The report of a
+/// run" and "`table`"), keeps no row, takes no memory and refuses nothing. That the facts show a reaction in
+/// time is a clause of `run_facts` alone. Of either engine `eg_model::spans_react_in_time` says it by the
+/// reactions, and the headline by the rows.
 pub fn bench_facts<E: BenchedEngine>(
     calibration: &Calibration,
     image: &[u16],

@@ -1,4 +1,4 @@
-//! The controller: one tick of all three levels.
+//! The unit as it runs, `Controller`: one tick of all three levels.
 //!
 //! A tick is made of slices of level 1, which nobody trusts, between the modules of level 2, over one
 //! guarded memory; of the monitoring module, two latches and the engine. This crate has what a tick is cut
