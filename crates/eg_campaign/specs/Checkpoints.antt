@@ -1,4 +1,4 @@
--- Outside the headline. Where runs under faults go on from: what was played of a run up to a tick, and
+-- Outside the headline. From where runs under faults go on: what was played of a run up to a tick, and
 -- what is kept of the run without a fault.
 use Rattle.std.specs.Prelude.{◌≡◌, ℕ, ◌+◌, ◌*◌, ◌-◌, ◌≤◌, ◌<◌, List, take, length, Option, slice_index_or}
 use Rattle.eg_fault.specs.declared.class.Fault.{Fault}
@@ -32,7 +32,7 @@ pub record PlaysInput (input : RunInput) (r : Run) : Type 0 where
   pub plan : r.plan ≡ input.plan.plan
   pub drive : r.drive ≡ input.drive
 
--- Of a run of this engine so many ticks were played: the controller has come to the last of them, and the
+-- The first t ticks of a run of this engine were played: the controller has come to the last of them, and the
 -- tally, which uses the calibration of the run, stands for their rows.
 pub record HasPlayed {S E M : Type 0} (b : BenchEngine S) (come_to : ComeTo S E) (r : Run) (t : ℕ)
     (played : Played E M) : Type 0 where

@@ -41,7 +41,7 @@ is_alike x y =
     is_same_engine x.plan.engine y.plan.engine && pointwise nat_eq x.image y.image
     && pointwise (pointwise nat_eq) x.plan.plan y.plan.plan && pointwise is_same_row x.drive y.drive
 
--- what that says
+-- what is equal of two inputs of one group
 pub record AreAlike (x y : RunInput) : Type 0 where
   pub engine : x.plan.engine ≡ y.plan.engine
   pub image : x.image ≡ y.image
@@ -52,7 +52,7 @@ pub record AreAlike (x y : RunInput) : Type 0 where
 abbrev pub group_of : List RunInput → RunInput → List RunInput
 group_of inputs x = filter (is_alike x) inputs
 
--- those runs of a list that are the first of their groups, where these runs came earlier
+-- the runs of `later` that are the first of their groups, where the runs of `earlier` came before them
 unfoldable pub firsts_after : (earlier later : List RunInput) → List RunInput
 firsts_after earlier [] = []
 firsts_after earlier (x ∷ xs) =
@@ -94,7 +94,7 @@ rows_of_group cal (x ∷ []) = rows_in_time (run_with cal x)
 rows_of_group cal (x ∷ y ∷ more) =
     rows_in_time (run_with cal (faultless x)) ++ flat_map (own_rows cal) (x ∷ y ∷ more)
 
--- the same of a group of more, that of input x, by an engine of the model
+-- the same of the group of input x, where it has more than one run, by an engine of the model
 abbrev pub rows_shared : {S : Type 0} → BenchEngine S → CalibrationParts → List RunInput → RunInput → List Row
 rows_shared b cal inputs x =
     reverse (record_rows b (run_with cal (faultless x)).run) ++ flat_map (own_on b cal) (group_of inputs x)

@@ -12,8 +12,8 @@ abbrev pub HasLines : ℕ → List Row → List ℕ → Type 0
 HasLines zero rows front = Unit {0}
 HasLines (suc n) rows front = BeginsWith (text_of (take n rows)) front
 
--- The writing of a record of these rows was stopped: only a front of its text was appended. So many ticks of
--- the run were made and counted; the line of each but the last stands whole in that front.
+-- The writing of a record of these rows was stopped: only a front of its text was appended. The first `ticks`
+-- ticks of the run were made and counted; the line of each but the last stands whole in that front.
 pub record IsStopped (rows : List Row) (out now : ShownSink) (was is : TickCount) : Type 0 where
   pub front : List ℕ
   pub rest : List ℕ

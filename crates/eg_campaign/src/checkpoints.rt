@@ -23,7 +23,8 @@ use eg_tick::{BenchedEngine, Controller, Ticks, bench_begin, bench_tick};
 use eg_values::Calibration;
 use std::alloc::Global;
 
-/// The run without a fault is kept once every so many ticks, first at tick 0.
+/// How many ticks lie between two checkpoints of the run without a fault, the first of which is at tick 0
+/// (docs/CONCEPT.md, "The record of a run").
 pub(crate) const CHECKPOINT_TICKS: usize = 100;
 
 /// What was played of a run, up to a tick: the controller that goes on with it, and the tally of its rows.
@@ -58,7 +59,7 @@ pub(crate) fn share<E: BenchedEngine + CopyEngine>(
         (reverse (record_rows E.bench (run_with calibration.now (faultless input.now)).run))
         steps.old steps.new result }
 {
-    // Whoever reads them learns that both numbers are a u64.
+    // Called for its clause alone: both numbers are a u64.
     let _numbers = (steps.count(), steps.sum());
     let mut played = begin::<E>(alloc, calibration, input)?;
     let mut checkpoints = Vec::new(alloc);
@@ -112,7 +113,7 @@ fn keep<E: BenchedEngine + CopyEngine>(
     keep_copy(alloc, kept, played)
 }
 
-/// The same at such a tick. It is called, so that its large locals are set to 0 there alone.
+/// Keeps what was played. It isn't inlined, so that its large locals are set to 0 at a hundredth tick alone.
 #[inline(never)]
 fn keep_copy<E: BenchedEngine + CopyEngine>(
     alloc: Global,
@@ -130,8 +131,8 @@ fn keep_copy<E: BenchedEngine + CopyEngine>(
     Ok(())
 }
 
-/// Goes on under this fault from where a run without one was kept. The memory is one array now: it is copied
-/// once, and each tick is shorter for it. It takes no memory and refuses nothing.
+/// Goes on under this fault from where a run without one was kept. The pages of its memory are copied once
+/// into one array, so that each tick takes less time. It takes no memory and refuses nothing.
 fn go_on<E: BenchedEngine + CopyEngine>(
     kept: &Checkpoint<E>,
     fault: Option<Fault>,
@@ -165,7 +166,7 @@ fn play_tick<E: BenchedEngine + CopyEngine, M: Guarded + Drop>(
     ensures made { (r : Run) (from : ℕ) (was : TickCount) → PlaysInput input.now r →
         HasMade E.bench E.come_to r from tick played.old was steps.old →
         OnOk result (HasMade E.bench E.come_to r from (tick + 1) played.new was steps.new) }
-    // Where memory runs out the tick is counted, and weighs nothing.
+    // Where memory runs out the tick is counted, but no row is weighed.
     ensures count { steps.new.count ≡ (steps.old.count + 1) % 2 ^ 64 }
     ensures no_weight { OnErr result (steps.new.weights ≡ steps.old.weights) }
     ensures sure { IsTrue played.old.controller.kept.memory.sure → IsOk result }
@@ -197,7 +198,7 @@ pub(crate) fn play_from<E: BenchedEngine + CopyEngine>(
         IsSharedFor E.bench E.come_to cal input.now shared.now →
         steps.new ≡ count_with steps.old (own_on E.bench cal input.now) }
 {
-    // Whoever reads them learns that both numbers are a u64.
+    // Called for its clause alone: both numbers are a u64.
     let _numbers = (steps.count(), steps.sum());
     let Some(fault) = &input.plan.fault else {
         return shared.told;
@@ -223,7 +224,7 @@ fn told_so_far<E: BenchedEngine + CopyEngine, M: Guarded + Drop>(played: &Played
     }
 }
 
-/// Plays the ticks of the run of an input from one on.
+/// Plays the ticks of the run of an input from tick `from` on, to its end.
 fn play_on<E: BenchedEngine + CopyEngine>(
     played: &mut Played<E, FlatMemory>,
     input: &RunInput,
@@ -237,7 +238,7 @@ fn play_on<E: BenchedEngine + CopyEngine>(
     ensures { (r : Run) → PlaysInput input.now r → HasPlayed E.bench E.come_to r from played.old →
         HasMade E.bench E.come_to r from (length r.drive) played.new steps.old steps.new }
 {
-    // Whoever reads them learns that both numbers are a u64.
+    // Called for its clause alone: both numbers are a u64.
     let _numbers = (steps.count(), steps.sum());
     for tick in from..input.drive.as_slice().len() {
         play_row(played, input, tick, steps);

@@ -31,7 +31,7 @@ pub(crate) fn tell_all(
         all.items ≡ map (λ x. Some (told_with calibration.now x)) inputs.now) }
     ensures counted { AreCounted (rows_made calibration.now inputs.now) steps.old steps.new result }
 {
-    // Whoever reads them learns that both numbers are a u64.
+    // Called for its clause alone: both numbers are a u64.
     let _numbers = (steps.count(), steps.sum());
     let mut told = nothing_told(alloc, inputs.len())?;
     for i in 0..inputs.len() {
@@ -44,15 +44,15 @@ pub(crate) fn tell_all(
     Ok(told)
 }
 
-/// Places for what so many runs tell.
+/// Places for what `count` runs tell, with nothing in them yet.
 fn nothing_told(alloc: Global, count: usize) -> Result<Vec<Option<RunFacts>>, NoMemory>
     ensures { IfOk result (λ told. told.items ≡ replicate count None) }
 {
     Ok(vec![in alloc; None; count]?)
 }
 
-/// Plays the group of an input, which has this index: the one run, where it is alone. What each run of
-/// the group tells is written at its index.
+/// Plays the group of the input at this index, or its run alone where the group has no other. What each run
+/// of the group tells is written at its index.
 fn play_first(
     alloc: Global,
     calibration: &Calibration,
@@ -87,7 +87,7 @@ fn play_first(
     }
 }
 
-/// How many of these inputs are alike to one.
+/// How many of these inputs are of the group of one.
 fn count_alike(inputs: &[RunInput], input: &RunInput) -> usize
     ensures { result ≡ length (group_of inputs.now input.now) }
 {
@@ -113,7 +113,7 @@ fn play_group<E: BenchedEngine + CopyEngine>(
     ensures counted { AreCounted (rows_shared E.bench calibration.now inputs.now input.now)
         steps.old steps.new result }
 {
-    // Whoever reads them learns that both numbers are a u64.
+    // Called for its clause alone: both numbers are a u64.
     let _numbers = (steps.count(), steps.sum());
     let shared = share::<E>(alloc, calibration, input, steps)?;
     for i in 0..inputs.len() {

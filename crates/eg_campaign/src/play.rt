@@ -165,7 +165,7 @@ pub(crate) fn tell_one(calibration: &Calibration, input: &RunInput, steps: &mut 
     }
 }
 
-/// The same of an engine of this type, whichever the run names.
+/// Plays one run with an engine of this type, whichever the run names, and tells of it.
 fn tell_on<E: BenchedEngine>(
     calibration: &Calibration,
     input: &RunInput,

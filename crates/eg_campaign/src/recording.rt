@@ -66,7 +66,7 @@ pub fn record_into<K: Sink>(
     }
 }
 
-/// The same with an engine of this type, whichever the run names.
+/// Does what `record_into` does, with an engine of this type, whichever the run names.
 fn record_on<E: BenchedEngine, K: Sink>(
     alloc: Global,
     calibration: &Calibration,
@@ -87,7 +87,7 @@ fn record_on<E: BenchedEngine, K: Sink>(
     ensures memory { IsErrOf result Memory → (K.shows out.new).faults ≡ (K.shows out.old).faults }
     ensures stays_sure { (K.shows out.new).sure ≡ (K.shows out.old).sure }
 {
-    // Whoever reads them learns that both numbers are a u64.
+    // Called for its clause alone: both numbers are a u64.
     let _numbers = (steps.count(), steps.sum());
     let (image, drive) = (input.image.as_slice(), input.drive.as_slice());
     let (plan, fault) = (&input.plan.plan, input.plan.fault.as_ref());
@@ -101,7 +101,7 @@ fn record_on<E: BenchedEngine, K: Sink>(
     Ok(())
 }
 
-/// Puts the line of a row, which is made in this buffer, whatever that held.
+/// Puts the line of a row. The line is made in this buffer, whatever it held before.
 fn put_row<K: Sink>(line: &mut Vec<u8>, row: &Row, out: &mut K) -> Result<(), RecordStop>
     ensures ok { OnOk result (Appends (K.shows out.old) (K.shows out.new) (row_line row.now)) }
     ensures prefix { OnErr result (AppendsPrefix (K.shows out.old) (K.shows out.new) (row_line row.now)) }

@@ -39,7 +39,7 @@ run_array ms = get_member (codes "run") ms >>= as_array
 abbrev pub run_items : Members → Items
 run_items ms = unwrap_or (run_array ms) no_items
 
--- tables, and not none
+-- the items are tables, and there is at least one
 abbrev pub are_runs : Items → Bool
 are_runs ds = all_items is_table ds && nat_le 1 (count ds)
 

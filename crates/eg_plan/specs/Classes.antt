@@ -24,7 +24,7 @@ class_names =
     ∷ (codes "path2-closed" means Path2Closed) ∷ (codes "path-open" means PathOpen)
     ∷ (codes "lapse" means Lapse) ∷ []
 
--- the class that has a name, of some
+-- the class that has this name, among these
 abbrev pub named_among : List (List ℕ × ClassName) → List ℕ → Option ClassName
 named_among [] name = None
 named_among (c ∷ more) name = if bytes_eq name c.0 then Some c.1 else named_among more name
@@ -46,7 +46,7 @@ own_keys Path2Closed = []
 own_keys PathOpen = path ∷ []
 own_keys Lapse = after ∷ every ∷ []
 
--- what they say
+-- what these keys say
 abbrev pub class_of : ClassName → Members → Class
 class_of Script ms = class.Script (number_of track ms) (numbers_of values ms)
 class_of Offset ms = class.Offset (number_of track ms) (shift_of add ms)
@@ -63,7 +63,7 @@ class_of Path2Closed ms = class.Path2Closed
 class_of PathOpen ms = class.PathOpen (number_of path ms)
 class_of Lapse ms = class.Lapse (numbers_of after ms) (number_of every ms)
 
--- Whatever else a campaign says of a class, what the class is told as is a name by which campaigns tell it.
+-- what each class is told as, whatever its numbers, is the name by which campaigns tell that class
 abbrev pub AreNames : (Class → List ℕ) → Type 0
 AreNames told = (name : ClassName) (ms : Members) →
     named_among class_names (told (class_of name ms)) ≡ Some name

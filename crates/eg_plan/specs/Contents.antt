@@ -90,11 +90,11 @@ abbrev pub is_shift : ℤ → Bool
 is_shift (pos n) = nat_le 1 n && nat_le n 65535
 is_shift (negsuc n) = nat_le n 65534
 
--- an integer that is one
+-- an integer that is such a number
 abbrev pub shift_in : Data → Option ℤ
 shift_in d = as_integer d >>= when is_shift
 
--- the one under a key
+-- the same under a key
 abbrev pub shift_at : List ℕ → Members → Option ℤ
 shift_at key ms = get_member key ms >>= shift_in
 
@@ -106,7 +106,7 @@ words_at key ms = get_member key ms >>= numbers_in 1 64 65535
 abbrev pub ticks_in : Data → Option (List ℕ)
 ticks_in d = numbers_in 1 64 19999 d >>= when is_rising
 
--- the one under a key
+-- the same under a key
 abbrev pub ticks_at : List ℕ → Members → Option (List ℕ)
 ticks_at key ms = get_member key ms >>= ticks_in
 
@@ -114,7 +114,7 @@ ticks_at key ms = get_member key ms >>= ticks_in
 abbrev pub truths_in : Data → Option (List Bool)
 truths_in d = array_in 1 64 (one as_bool) d
 
--- the one under a key
+-- the same under a key
 abbrev pub truths_at : List ℕ → Members → Option (List Bool)
 truths_at key ms = get_member key ms >>= truths_in
 

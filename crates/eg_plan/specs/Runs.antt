@@ -30,7 +30,7 @@ abbrev pub are_tables : Option Items → Bool
 are_tables None = false
 are_tables (Some ds) = all_items is_table ds
 
--- at most one of them
+-- an array of at most one item, or none
 abbrev pub is_one_at_most : Option Items → Bool
 is_one_at_most None = true
 is_one_at_most (Some ds) = nat_le (count ds) 1

@@ -25,7 +25,7 @@ pub enum RunKey {
     Faults,
     /// `class`: the name of the fault's class.
     Class,
-    /// `onset`: the first tick at which it acts.
+    /// `onset`: the first tick at which the fault acts.
     Onset,
     /// `track`: a track of a sensor.
     Track,
@@ -51,7 +51,7 @@ pub enum RunKey {
     Path,
     /// `after`: the ticks after the onset at which level 2 doesn't run.
     After,
-    /// `every`: after how many ticks they come again.
+    /// `every`: after how many ticks the ticks of `after` come again.
     Every,
     /// A name that may not stand there.
     Unknown,

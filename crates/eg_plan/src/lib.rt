@@ -1,7 +1,7 @@
 //! Campaign files: a file is read as the plans of its runs, or refused by the first rule that it breaks.
 //!
-//! A plan is what a campaign says of a run. What its files hold, and what the run comes to, is for the crates
-//! above: nothing here stands on the controller.
+//! A plan is what a campaign says of a run. The files that it names are read, and the run is played, in the
+//! crates above: nothing here uses `eg_tick`.
 #![tactic(auto)]
 
 mod class_name;

@@ -16,9 +16,9 @@ use std::alloc::Global;
 use toml::{Table, Value};
 
 /// The runs that a campaign file says (docs/FORMATS.md, "Campaign files"), or the first rule that the file
-/// breaks. The result is exactly that of `campaign_of`, unless memory runs out, which it may at any bytes.
-/// The runs keep the rules: they are 1 to 1,000, no two of one name, each with proper names and slices and
-/// with no fault or a valid one.
+/// breaks. The result is exactly that of `campaign_of`, unless memory runs out, which may happen with any
+/// bytes. The runs keep the rules: they are 1 to 1,000, no two of one name, each with proper names and slices
+/// and with no fault or a valid one.
 pub fn read_campaign(alloc: Global, bytes: &[u8]) -> Result<Vec<RunPlan>, CampaignFault>
     ensures read { IsRead Memory (campaign_of (document_of bytes.now)) (seen (λ runs. runs.items) result) }
     ensures rules { IfOk result (λ runs. AreRuns runs.items) }
@@ -76,7 +76,7 @@ fn run_array(root: &Table) -> Option<&[Value]>
     Some(items.as_slice())
 }
 
-/// Whether these are tables, and not none.
+/// Whether these are tables, and there is at least one.
 fn are_runs(items: &[Value]) -> bool
     ensures value { result ≡ are_runs (items_view items.now) }
     ensures tables { result ≡ true → all_items is_table (items_view items.now) ≡ true }

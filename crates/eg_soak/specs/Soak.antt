@@ -25,7 +25,7 @@ abbrev pub run_drawn : DrawnRun → EngineRun
 run_drawn drawn =
     on_gasoline (run_by reference_parts drawn.image drawn.fault usual_slices drawn.drive)
 
--- So many runs in their order, the first of them drawn in state x. The draws of each go on from where those
+-- `count` runs in their order, the first of them drawn in state x. The draws of each go on from where those
 -- of the one before it ended.
 unfoldable pub drawn_runs : (count x : ℕ) → List EngineRun
 drawn_runs zero x = []

@@ -1,8 +1,8 @@
 //! `soak`: runs that are drawn from a number are played, and counted.
 //!
 //! What is drawn stands in `eg_draw`. Each run is played by the reference calibration with the slices of a
-//! run that names none, and the summary tells how many runs each watch detected first, and how long the
-//! longest reaction took.
+//! run that names none, and the summary tells in how many runs each watch was the first that was found, and
+//! how long the longest reaction took.
 #![tactic(auto)]
 
 mod facts;

@@ -14,8 +14,9 @@ use eg_tick::Ticks;
 use eg_values::reference;
 use std::alloc::Global;
 
-/// Plays so many runs (1 to 500), of 2,000 ticks each, that are drawn from a number one after another
-/// (docs/CONCEPT.md, "`soak`"), and tells the summary of them. The ticks are counted in `steps`.
+/// Plays `runs` runs (1 to 500), of 2,000 ticks each, that are drawn from a number one after another
+/// (docs/CONCEPT.md, "`soak`"), and tells the summary of them. The ticks are counted in `steps`. NoMemory is
+/// its one refusal.
 #[tactic(auto, unfolding(crate::specs::Soak::soak_of))]
 pub fn soak(alloc: Global, seed: u32, runs: u32, steps: &mut Ticks) -> Result<SoakSummary, NoMemory>
     requires least { 1 ≤ runs }
@@ -27,7 +28,7 @@ pub fn soak(alloc: Global, seed: u32, runs: u32, steps: &mut Ticks) -> Result<So
     // The ticks of all runs are counted, with their weights; where memory ran out, the first of them.
     ensures counted { AreCounted (rows_of_runs (drawn_runs runs seed)) steps.old steps.new result }
     ensures ticks { length (rows_of_runs (drawn_runs runs seed)) ≡ runs * 2000 }
-    // They are then those of the first runs, each of them whole.
+    // Where memory ran out, the ticks that are counted are those of the first runs, each run whole.
     ensures stopped { OnErr result ((k : ℕ) × (k ≤ runs)
         × (steps.new ≡ count_with steps.old (rows_of_runs (drawn_runs k seed)))) }
 {
@@ -50,7 +51,7 @@ fn play_all(
     ensures stopped { OnErr result ((k : ℕ) × (k ≤ runs)
         × (steps.new ≡ count_with steps.old (rows_of_runs (drawn_runs k seed)))) }
 {
-    // Whoever reads them learns that both numbers are a u64.
+    // Called for its clause alone: both numbers are a u64.
     let _numbers = (steps.count(), steps.sum());
     let calibration = reference();
     let mut generator = Generator::new(seed);

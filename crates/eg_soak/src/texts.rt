@@ -7,7 +7,7 @@ use eg_base::NoMemory;
 use std::alloc::Global;
 
 /// The lines of a summary, one for each of its numbers, each with its LF (docs/FORMATS.md, "The summary of
-/// `soak`").
+/// `soak`"). NoMemory is its one refusal.
 pub fn soak_lines(alloc: Global, summary: &SoakSummary) -> Result<Vec<String>, NoMemory>
     ensures { IfOk result (λ lines. map string_bytes lines.items ≡ lines_of (numbers summary.now)) }
 {
