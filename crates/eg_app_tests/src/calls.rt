@@ -46,7 +46,7 @@ check = 65535, used = 500, estimate = 1400, allowed = 1000, answer = 8842 },
 ]
 ";
 
-/// How a call with the words of a line ends, which stand apart by blanks.
+/// How a call ends with the words of a line, which are separated by blanks.
 fn end<S: Store, K: Sink, N: Sink>(
     alloc: Global,
     line: &str,

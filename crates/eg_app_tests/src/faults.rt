@@ -110,7 +110,7 @@ fn ticks_at(line: &str, number: u32, whole: &Shown) -> u64 {
     }
 }
 
-/// Whether a call has shown so many bytes of what the whole call shows, and made so many ticks.
+/// Whether a call has shown the first `length` bytes of what the whole call shows, and made `ticks` ticks.
 fn is_cut(whole: &Shown, shown: &Shown, length: usize, ticks: u64) -> bool {
     let wanted = if length == whole.out.bytes().len() {
         Outcome::Done

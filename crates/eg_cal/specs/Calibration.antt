@@ -81,7 +81,7 @@ rules_of ms = record {
   torque = torque_weights_of ms;
 }
 
--- whether the brake counts: as the file says, where its version says it
+-- whether the brake counts: as the file says, where its version has a key for that, and else it doesn't
 abbrev pub brake_of : Members → Bool
 brake_of ms = has_brake (version_of ms) && truth_of ms PermitBrake
 
@@ -97,7 +97,7 @@ parts_of ms = record {
 
 -- ---- what they are refused for together
 
--- the first number from `from` on that passes, of so many numbers
+-- of this many numbers from `from` on, the first that passes
 unfoldable pub first_from : (ℕ → Bool) → ℕ → ℕ → Option ℕ
 first_from passes zero from = None
 first_from passes (suc more) from = if passes from then Some from else first_from passes more (suc from)

@@ -32,7 +32,7 @@ read_truth ms key = value_of ms key >>= as_bool
 abbrev pub read_numbers : ℕ → ℕ → ℕ → Members → CalKey → Option (List ℕ)
 read_numbers least most high ms key = value_of ms key >>= numbers_in least most high
 
--- an array of so many rows, each of so many numbers from 0 to high, row by row
+-- an array of `tall` rows, each of `wide` numbers from 0 to high, row by row
 abbrev pub read_rows : ℕ → ℕ → ℕ → Members → CalKey → Option (List ℕ)
 read_rows tall wide high ms key = value_of ms key >>= rows_in tall wide high
 

@@ -19,7 +19,7 @@ abbrev pub row_items : List (List ℕ) → Items
 row_items [] = no_items
 row_items (row ∷ rows) = item (array (number_items row)) (row_items rows)
 
--- so many numbers up to high
+-- `many` numbers from 0 to `high`
 pub record AreNumbers (many high : ℕ) (numbers : List ℕ) : Type 0 where
   pub as_many : length numbers ≡ many
   pub within : All (λ n. n ≤ high) numbers
@@ -43,13 +43,13 @@ pub record IsAxisArray (high : ℕ) (o : Option Data) : Type 0 where
   pub rises : IsAxis points
   pub within : All (λ n. n ≤ high) points
 
--- an array of so many integers from 0 to high
+-- an array of `many` integers from 0 to `high`
 pub record IsNumberArray (many high : ℕ) (o : Option Data) : Type 0 where
   pub numbers : List ℕ
   pub is : o ≡ Some (array (number_items numbers))
   pub are : AreNumbers many high numbers
 
--- an array of so many arrays of so many integers from 0 to high
+-- an array of `tall` arrays of `wide` integers from 0 to `high`
 pub record IsRowArray (tall wide high : ℕ) (o : Option Data) : Type 0 where
   pub rows : List (List ℕ)
   pub is : o ≡ Some (array (row_items rows))

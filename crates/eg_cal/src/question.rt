@@ -16,8 +16,8 @@ const NAMES: [&str; 11] = [
     "answer",
 ];
 
-/// The 2 to 64 questions that an array is (docs/FORMATS.md, "Calibration files"), or None where a value isn't
-/// one.
+/// The 2 to 64 questions that an array is (docs/FORMATS.md, "Calibration files"), or None where the value
+/// isn't such an array.
 pub(crate) fn questions_in(value: &Value) -> Option<Questions>
     ensures value { result ≡ questions_in (view value.now) }
     ensures count { IfSome result (λ questions. 2 ≤ length questions) }

@@ -18,7 +18,8 @@ use eg_values::Calibration;
 use std::alloc::Global;
 
 /// The calibration that a file says (docs/FORMATS.md, "Calibration files"), or the first rule that the file
-/// breaks. The result is exactly that of `calibration_of`, unless memory runs out, which it may at any bytes.
+/// breaks. The result is exactly that of `calibration_of`, unless memory runs out, which may happen with any
+/// bytes.
 pub fn read_calibration(alloc: Global, bytes: &[u8]) -> Result<Calibration, CalFault>
     ensures { IsRead Memory (calibration_of (document_of bytes.now)) result }
 {
@@ -27,8 +28,8 @@ pub fn read_calibration(alloc: Global, bytes: &[u8]) -> Result<Calibration, CalF
 }
 
 /// The questions of a calibration file, each with the right answer, whatever answers stand in it
-/// (docs/FORMATS.md, "Commands"), or the first rule that the file breaks, but that on answers. The result is
-/// exactly that of `answers_of`, unless memory runs out, which it may at any bytes.
+/// (docs/CONCEPT.md, "`answers`"), or the first rule that the file breaks, the rule on answers left out. The
+/// result is exactly that of `answers_of`, unless memory runs out, which may happen with any bytes.
 pub fn read_answers(alloc: Global, bytes: &[u8]) -> Result<Questions, CalFault>
     ensures { IsRead Memory (answers_of (document_of bytes.now)) result }
 {

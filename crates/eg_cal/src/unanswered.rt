@@ -11,8 +11,8 @@ use eg_plant::PlantData;
 use eg_values::{Apart, Calibration};
 use std::marker::Model;
 
-/// What goes together as a calibration, but that its answers may be wrong. Contracts see the parts of the
-/// calibration.
+/// The parts of a calibration, which keep all rules together but the one on answers. Contracts see the parts
+/// of the calibration.
 #[derive(Drop)]
 pub(crate) struct Unanswered {
     pub(crate) rules: Rules,

@@ -72,8 +72,8 @@ faultless x = record x { plan = record x.plan { fault = None } }
 unfoldable pub checkpoint : ℕ → ℕ
 checkpoint t = t / CHECKPOINT_TICKS * CHECKPOINT_TICKS
 
--- Of these rows of a run of a group of more, in the order of time, those that are made for it: from the
--- checkpoint before its onset on; none where it has no fault, or the fault begins after the run.
+-- The rows that are made for a run whose group has more, out of its rows in the order of time: from the last
+-- checkpoint on that isn't after its onset; none where it has no fault, or one that begins after the run.
 unfoldable pub own_under : Option Fault → (ticks : ℕ) → List Row → List Row
 own_under None ticks rows = []
 own_under (Some fault) ticks rows =

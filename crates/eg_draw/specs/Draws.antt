@@ -9,12 +9,12 @@ next x = (1664525 * x + 1013904223) % 2 ^ 32
 unfoldable pub draw : ℕ → ℕ
 draw x = next x / 65536
 
--- the state after so many draws
+-- the state after this many draws
 unfoldable pub after : ℕ → ℕ → ℕ
 after zero x = x
 after (suc n) x = after n (next x)
 
--- what so many draws give, in their order
+-- what this many draws give, in their order
 unfoldable pub draws : ℕ → ℕ → List ℕ
 draws zero x = []
 draws (suc n) x = draw x ∷ draws n (next x)

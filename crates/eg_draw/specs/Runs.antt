@@ -25,18 +25,18 @@ unfoldable pub image_of : ℕ → ℕ → List ℕ
 image_of kind x =
     if kind == 0 then IDLE else if kind == 1 then FULL else if kind == 2 then draws 256 x else full_with x
 
--- how many draws it takes
+-- how many draws the image takes
 abbrev pub image_draws : ℕ → ℕ
 image_draws kind = if kind == 2 then 256 else if kind == 3 then 2 else 0
 
 -- ---- the drive ----
 
--- a row of it: 0 to 1000 per mille, 800 to 6000 rpm, 0 to 499 tenths of Nm
+-- a row of the drive: pedal 0 to 1000 per mille, speed 800 to 6000 rpm, raise 0 to 499 tenths of Nm
 unfoldable pub stretch_row : ℕ → DriveRow
 stretch_row x =
     driven (draw x % 1001) (800 + draw (next x) % 5201) (draw (next (next x)) % 500)
 
--- so many stretches of a hundred equal rows, each with three draws of its own
+-- this many stretches of a hundred equal rows, each with three draws of its own
 unfoldable pub stretches : ℕ → ℕ → List DriveRow
 stretches zero x = []
 stretches (suc n) x = replicate 100 (stretch_row x) ++ stretches n (after 3 x)
@@ -63,7 +63,7 @@ four_values x = map (λ d. d % 1001) (draws 4 x)
 unfoldable pub first_ticks : ℕ → List ℕ
 first_ticks x = take (one_of 8 x) (0 ∷ 1 ∷ 2 ∷ 3 ∷ 4 ∷ 5 ∷ 6 ∷ 7 ∷ [])
 
--- the class of a number, 0 to 13, in the order of `Class`; a faulty track is one of a pair, and no contact
+-- the class of a number, 0 to 13, in the order of `Class`; a faulty track is one of a pair, never a contact
 unfoldable pub class_of : ℕ → ℕ → Class
 class_of class x =
     if class == 0 then Script (draw x % PAIRED_TRACKS) (four_values (next x))

@@ -15,13 +15,13 @@ pub struct DrawnRun {
     pub image: Items<u16>,
     /// Its drive: a row for each of 2,000 ticks.
     pub drive: Items<Drive>,
-    /// The fault that comes, a valid one, if any does.
+    /// The fault, a valid one, if there is one.
     pub fault: Option<Fault>,
 }
 
 impl Generator {
-    /// Draws the next run (docs/CONCEPT.md, "The generator of `soak`"). Where memory runs out nothing is
-    /// said of the state that it goes on from.
+    /// Draws the next run (docs/CONCEPT.md, "The generator of `soak`"). NoMemory is its one refusal; after it
+    /// nothing is said of the generator's state.
     #[tactic(auto, using(crate::proofs::ProperLemmas::proper_of))]
     pub fn run(&mut self, alloc: Global) -> Result<DrawnRun, NoMemory>
         ensures run { IfOk result (λ run. run ≡ drawn_run self.old) }

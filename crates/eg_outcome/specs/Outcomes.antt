@@ -46,7 +46,7 @@ IsDoneOrMemory outcome.Done = Unit {0}
 IsDoneOrMemory outcome.Memory = Unit {0}
 IsDoneOrMemory _ = ⊥
 
--- these put nothing to the output
+-- an outcome with which nothing was put to the output
 abbrev pub PutsNothing : Outcome → Type 0
 PutsNothing outcome.Usage = Unit {0}
 PutsNothing (outcome.ReadFault _) = Unit {0}

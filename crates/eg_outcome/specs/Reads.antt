@@ -64,7 +64,7 @@ pub record Says {X : Type 0} (says : List ℕ → Result X Refusal) (bytes : Lis
   pub comes : BytesCome says bytes come
   pub no_memory : IfErr come TellsNoMemory
 
--- no file changes; and where something comes, nothing does that the store shows
+-- no file changes; and where a value comes, nothing that the store shows changes
 pub record KeepsFiles {X E : Type 0} (store later : ShownStore) (come : Result X E) : Type 0 where
   pub files : later.files ≡ store.files
   pub shown : IsOk come → later ≡ store

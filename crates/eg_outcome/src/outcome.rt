@@ -7,14 +7,14 @@ use eg_cal::CalFault;
 use eg_input::{ImageFault, TraceFault};
 use eg_plan::CampaignFault;
 
-/// A file of a command, by what it is for.
+/// A file of a command, by what it is for (docs/FORMATS.md, "Commands").
 #[derive(Clone, Copy, PartialEq, Eq)]
 pub enum Role {
-    /// The calibration file behind `--cal`.
+    /// The calibration file behind `--cal`, or that of `answers`.
     Calibration,
     /// The file of `check`.
     Check,
-    /// The campaign file of `run`, `record` or `sweep`.
+    /// The campaign file of `run`, `table`, `record` or `sweep`.
     Campaign,
     /// The drive trace of a run of the campaign, the first being 1.
     Trace { run: u32 },

@@ -21,12 +21,12 @@ abbrev pub OnsetsAreWithin : Type 0
 OnsetsAreWithin =
     (ticks step : ℕ) → 1 ≤ step → All (λ fault. fault.onset < ticks) (swept_faults ticks step)
 
--- each is valid, where a run has as many ticks as one may have
+-- each fault is valid, where the run has at most 20,000 ticks
 abbrev pub SweptAreValid : Type 0
 SweptAreValid =
     (ticks step : ℕ) → ticks ≤ 20000 → 1 ≤ step → All IsValid (swept_faults ticks step)
 
--- and each but the lapses is a listed one
+-- and each fault but the lapses is a listed one
 abbrev pub SweptAreListed : Type 0
 SweptAreListed =
     (ticks step : ℕ) → ticks ≤ 20000 → 1 ≤ step →
@@ -34,11 +34,11 @@ SweptAreListed =
 
 -- ---- the table ----
 
--- a reaction of a run with these facts is at most so long
+-- the reaction of a run with these facts, if it has one, takes at most `bound` ticks
 abbrev pub ReactsIn : (bound : ℕ) → Facts → Type 0
 ReactsIn bound facts = IfSome (reaction_in facts) (λ n. n ≤ bound)
 
--- in each row but that of lapses the greatest reaction is at most so long, and so is that in the last line
+-- in each row but that of lapses the greatest reaction is at most `bound`, and so is that in the last line
 pub record IsBounded (bound : ℕ) (rows : List SweepRow) : Type 0 where
   pub each : All (λ row. IfSome row.reaction (λ n. n ≤ bound)) (take 13 rows)
   pub greatest : IfSome (greatest_listed rows) (λ n. n ≤ bound)

@@ -27,10 +27,10 @@ impl From<NoMemory> for SweepFault {
     }
 }
 
-/// The faults of a sweep over a run of so many ticks, at most 20,000: one of each class, in the order of
+/// The faults of a sweep over a run of `ticks` ticks, at most 20,000: one of each class, in the order of
 /// `Class`, at each onset. The onsets are 0, `step`, twice `step` and so on below `ticks` (docs/CONCEPT.md,
 /// "`sweep`"). It is refused as Grid exactly where these are more than 1,000 runs, or more than 1,000,000
-/// ticks in all.
+/// ticks in all; else Memory is its one refusal.
 pub fn sweep_faults(alloc: Global, ticks: u32, step: u32) -> Result<Vec<Fault>, SweepFault>
     requires ticks { ticks ≤ 20000 }
     requires step { 1 ≤ step }
@@ -132,7 +132,7 @@ fn script_of(value: u16) -> Script
     }
 }
 
-/// Path 2 is never ordered open.
+/// The orders of a wild monitoring module that never orders path 2 open.
 fn never_open() -> Opens
     ensures { result ≡ false ∷ [] }
 {

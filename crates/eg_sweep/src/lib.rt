@@ -1,7 +1,7 @@
 //! The table of `sweep`: the faults of a grid, one of each class at each of its onsets; what comes of the
 //! runs under them, class by class; and the text of the table.
 //!
-//! Nothing is played here: whoever plays the runs hands in the facts of each.
+//! Nothing is played here: the caller plays the runs, and hands in the facts of each.
 #![tactic(auto)]
 
 mod grid;

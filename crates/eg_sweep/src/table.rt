@@ -7,8 +7,8 @@ use crate::SweepRow;
 use eg_fault::{Class, Fault};
 use eg_record::Facts;
 
-/// What comes of the runs under these faults, at most 1,000, of which these facts are told in the same order:
-/// a row for each class, in the order of `Class` (docs/CONCEPT.md, "`sweep`"). It takes no memory.
+/// What comes of the runs under these faults, at most 1,000, `facts` being those of each run in the same
+/// order: a row for each class, in the order of `Class` (docs/CONCEPT.md, "`sweep`"). It takes no memory.
 pub fn tabulate(faults: &[Fault], facts: &[Facts]) -> [SweepRow; 14]
     requires same { length faults.now ≡ length facts.now }
     requires few { length faults.now ≤ 1000 }

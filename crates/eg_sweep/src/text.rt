@@ -41,7 +41,7 @@ pub fn class_name(class: &Class) -> &'static str
 const LISTED: usize = 13;
 
 /// The text of a table: the line of each class, and the last line with the greatest reaction of all classes
-/// but lapses, each with its LF (docs/FORMATS.md, "The table of `sweep`").
+/// but lapses, each with its LF (docs/FORMATS.md, "The table of `sweep`"). NoMemory is its one refusal.
 pub fn sweep_text(alloc: Global, rows: &[SweepRow; 14]) -> Result<Vec<u8>, NoMemory>
     ensures { IfOk result (λ text. text.items ≡ sweep_text_of rows.now) }
 {

@@ -17,7 +17,7 @@ has_effect _ k = true
 unfoldable pub acts_at : Fault → ℕ → Bool
 acts_at fault tick = nat_le fault.onset tick && has_effect fault.class (tick - fault.onset)
 
--- whether it has one at some tick of a run of so many
+-- whether a fault has an effect at some tick of a run of `ticks` ticks
 unfoldable pub acts_within : Fault → (ticks : ℕ) → Bool
 acts_within fault ticks = list_any (acts_at fault) (range_with_len 0 ticks)
 

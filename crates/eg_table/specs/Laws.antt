@@ -15,11 +15,11 @@ abbrev pub EffectsDoSomething : Type 0
 EffectsDoSomething =
     (class : Class) (k : ℕ) → IsValidClass class → has_effect class k ≡ true → effects_of class k ≢ no_effects
 
--- at some tick of so many something is out of order by this fault
+-- at some tick below `ticks` something is out of order by this fault
 abbrev pub DoesSomething : Fault → (ticks : ℕ) → Type 0
 DoesSomething fault ticks = (tick : ℕ) × (tick < ticks) × (effects (Some fault) tick ≢ no_effects)
 
--- at each of them nothing is
+-- at each tick below `ticks` nothing is out of order by this fault
 abbrev pub DoesNothing : Fault → (ticks : ℕ) → Type 0
 DoesNothing fault ticks = (tick : ℕ) → tick < ticks → effects (Some fault) tick ≡ no_effects
 
@@ -29,7 +29,7 @@ ActedLaw =
     (fault : Fault) → IsValid fault → (ticks : ℕ) →
     (has_acted (Some fault) ticks ≡ Some true) ↔ DoesSomething fault ticks
 
--- and it hasn't exactly where it does nothing at any
+-- and it hasn't acted exactly where it does nothing at any tick of the run
 abbrev pub UnactedLaw : Type 0
 UnactedLaw =
     (fault : Fault) → IsValid fault → (ticks : ℕ) →

@@ -32,7 +32,7 @@ unfoldable pub class_column : Option Fault → List ℕ
 class_column None = codes ",none"
 class_column (Some fault) = codes "," ++ class_name fault.class
 
--- `class`, `onset` and `acted`, in a run of so many ticks
+-- `class`, `onset` and `acted`, in a run of `ticks` ticks
 unfoldable pub fault_columns : Option Fault → (ticks : ℕ) → List ℕ
 fault_columns fault ticks =
     class_column fault ++ number_column (option_map (λ fault. fault.onset) fault)

@@ -7,7 +7,7 @@ ghost use Rattle.eg_table.specs.Acting.{acts_within, has_acted, has_effect};
 
 use eg_fault::{Class, Fault, Script};
 
-/// Whether the fault of a run of so many ticks has an effect at one of them, and None where there is no fault
+/// Whether the fault of a run of `ticks` ticks has an effect at one of them, or None where there is no fault
 /// (docs/CONCEPT.md, "`table`"). It takes no memory.
 #[tactic(auto, unfolding(crate::specs::Acting::has_acted))]
 pub fn has_acted(fault: Option<&Fault>, ticks: u32) -> Option<bool>
@@ -19,14 +19,14 @@ pub fn has_acted(fault: Option<&Fault>, ticks: u32) -> Option<bool>
     }
 }
 
-/// Whether a fault has an effect at one of so many ticks.
+/// Whether a fault has an effect at a tick below `ticks`.
 fn acts_within(fault: &Fault, ticks: u32) -> bool
     ensures { result ≡ acts_within fault.now ticks }
 {
     fault.onset < ticks && has_effect_within(&fault.class, ticks - fault.onset)
 }
 
-/// Whether a class has an effect at one of so many ticks from the onset on, which are one at least.
+/// Whether a class has an effect at one of the first `ticks` ticks from the onset on; `ticks` is at least 1.
 fn has_effect_within(class: &Class, ticks: u32) -> bool
     requires { 1 ≤ ticks }
     ensures { result ≡ list_any (has_effect class.now) (range_with_len 0 ticks) }
@@ -37,15 +37,15 @@ fn has_effect_within(class: &Class, ticks: u32) -> bool
     }
 }
 
-/// Whether level 2 is left out at one of so many ticks from the onset on. A number of the list that comes at
-/// all comes first at that very tick.
+/// Whether level 2 is left out at one of the first `ticks` ticks from the onset on. A number of the list that
+/// ever leaves it out does so first at the tick of that number.
 fn is_left_out_within(after: &Script, every: u16, ticks: u32) -> bool
     ensures { result ≡ list_any (is_left_out after.now every) (range_with_len 0 ticks) }
 {
     some_comes_within(after.values(), every, ticks)
 }
 
-/// Whether one of these numbers alone leaves level 2 out at one of so many ticks.
+/// Whether one of these numbers by itself leaves level 2 out at one of the first `ticks` ticks.
 fn some_comes_within(numbers: &[u16], every: u16, ticks: u32) -> bool
     ensures { result
         ≡ list_any (λ tick. list_any (is_left_out (tick ∷ []) every) (range_with_len 0 ticks)) numbers.now }
@@ -53,7 +53,7 @@ fn some_comes_within(numbers: &[u16], every: u16, ticks: u32) -> bool
     numbers.iter().any(|tick| comes_within(*tick, every, ticks))
 }
 
-/// Whether this number alone leaves level 2 out at one of so many ticks.
+/// Whether this number by itself leaves level 2 out at one of the first `ticks` ticks.
 fn comes_within(tick: u16, every: u16, ticks: u32) -> bool
     ensures { result ≡ list_any (is_left_out (tick ∷ []) every) (range_with_len 0 ticks) }
 {

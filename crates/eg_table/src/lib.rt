@@ -1,6 +1,6 @@
 //! The rows of `table`: whether the fault of a run has acted, and the header and the line of each run.
 //!
-//! Nothing is played here: whoever plays the runs hands in what is told of each.
+//! Nothing is played here: the caller plays the runs, and hands in what is told of each.
 #![tactic(auto)]
 
 mod acting;

@@ -42,7 +42,7 @@ pub fn push_table_line(
     text.push_str("\n")
 }
 
-/// Appends the class of a fault, its onset and whether it has acted in a run of so many ticks.
+/// Appends the class of a fault, its onset, and whether it has acted in a run of `ticks` ticks.
 #[tactic(auto, unfolding(crate::specs::Texts::fault_columns))]
 fn push_fault(text: &mut String, fault: Option<&Fault>, ticks: u32) -> Result<(), AllocError>
     ensures { OnOk result (string_bytes text.new

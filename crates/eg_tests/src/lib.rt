@@ -1,5 +1,5 @@
-//! Tests of the crates below the controller, of what the built program can't show: a stream and memories of
-//! which a write, a flush or a store fails, and calls that the program never makes.
+//! Tests of the crates below `eg_tick`, of what the built program can't show: a stream and memories of which
+//! a write, a flush or a store fails, and calls that the program never makes.
 #![tactic(auto)]
 
 #[cfg(test)]

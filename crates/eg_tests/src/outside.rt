@@ -25,7 +25,7 @@ impl Write for Narrow {
     }
 }
 
-/// Puts seven bytes to a narrow stream with so much room. Gives whether they are taken, and the room left.
+/// Puts seven bytes to a narrow stream with this much room. Gives whether they are taken, and the room left.
 fn put_seven(room: usize, flushes: bool) -> (bool, usize) {
     let mut stream = Narrow { room, flushes };
     let taken = StdSink::new(&mut stream).put(b"0123456").is_ok();

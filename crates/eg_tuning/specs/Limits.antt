@@ -5,9 +5,9 @@ use Rattle.eg_values.specs.Calibration.{CalibrationParts}
 use Rattle.eg_tuning.specs.declared.limit.Limits.{Limits}
 
 -- These are the limits of a calibration: the worst-case reaction; the bound for lapses, if it has one; how
--- many wrong verdicts in a row open path 2; how many runs of level 2 in a row confirm an excess that each of
--- them finds; the local tick at which a start-up test reads the paths back; and how many ticks apart missed
--- runs of level 2 have to lie so that wrong answers never cut before a watch trips.
+-- many wrong verdicts in a row open path 2; how many ticks of excess in a row confirm it, where level 2 runs
+-- at each; the tick of its span at which a start-up test reads the paths back; and how many ticks apart
+-- missed runs of level 2 have to lie so that wrong answers never cut before a watch trips.
 pub record AreLimits (cal : CalibrationParts) (limits : Limits) : Type 0 where
   pub reaction : limits.reaction ≡ reaction_of cal.times
   pub lapse : SomeIff limits.lapse (HasLapseBound cal.rules.torque cal.times)

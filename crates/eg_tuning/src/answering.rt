@@ -59,7 +59,7 @@ fn questions_in(alloc: Global, bytes: &[u8]) -> Result<Questions, Outcome>
     }
 }
 
-/// The same, or why they are refused.
+/// The questions that these bytes say, each with the right answer, or why the bytes are refused.
 #[tactic(auto, unfolding(crate::specs::Ends::answers_said))]
 fn answers_said(alloc: Global, bytes: &[u8]) -> Result<Questions, CalFault>
     ensures { IsRead Memory (answers_said bytes.now) result }

@@ -1,5 +1,5 @@
-//! The commands for whoever chooses a calibration: `bound` and `limits` tell what it comes to, `answers` the
-//! right answers to its questions.
+//! The commands for choosing a calibration: `bound` and `limits` tell what it comes to, `answers` the right
+//! answers to its questions.
 #![tactic(auto)]
 
 mod answering;

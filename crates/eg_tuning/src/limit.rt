@@ -14,9 +14,9 @@ pub struct Limits {
     pub lapse: Option<u32>,
     /// How many wrong verdicts in a row open path 2.
     pub verdicts: u32,
-    /// How many runs of level 2 in a row confirm an excess that each of them finds.
+    /// How many ticks of excess in a row confirm it, where level 2 runs at each.
     pub excess: u32,
-    /// The local tick at which a start-up test reads the shut-off paths back.
+    /// The tick of its span at which a start-up test reads the shut-off paths back.
     pub test: u32,
     /// How far apart, in ticks, missed runs of level 2 have to lie so that wrong answers never cut before a
     /// watch trips: the least number of whole periods that is proved to be enough, if there is one.

@@ -59,7 +59,7 @@ pub fn limits<S: Store, K: Sink>(
     }
 }
 
-/// Puts lines that were made, where memory didn't run out meanwhile.
+/// Puts these lines, or answers Memory where memory ran out while they were made.
 fn put_made<K: Sink>(made: Result<String, NoMemory>, out: &mut K) -> Outcome
     ensures ends { (lines : List ℕ) → IfOk made (λ text. string_bytes text ≡ lines) →
         LineEnds lines (K.shows out.old) (K.shows out.new) result }
