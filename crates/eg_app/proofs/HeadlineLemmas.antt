@@ -1,4 +1,4 @@
--- The headline, from how `run`, `record` and `sweep` end.
+-- The headline, from how `run`, `table`, `record` and `sweep` end.
 use Rattle.std.proofs.Common.{◌≡◌, ◌∙◌, ◌+◌, ◌∷◌, [], List, ℕ, Bool, true, false, Option, Some, None, length, refl, sym, subst}
 use Rattle.std.specs.Prelude.{Result, Ok, Err}
 use Rattle.eg_base.specs.Outside.{ShownStore, ShownSink}

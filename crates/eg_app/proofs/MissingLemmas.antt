@@ -1,4 +1,4 @@
--- Which files `run`, `record` and `sweep` say to be missing, from how they end.
+-- Which files `run`, `table`, `record` and `sweep` say to be missing, from how they end.
 use Rattle.std.proofs.Common.{◌≡◌, ◌∙◌, ◌+◌, ◌∷◌, [], List, ℕ, Bool, true, false, Option, Some, None, length, refl, sym, subst}
 use Rattle.std.specs.Prelude.{Result, Ok, Err, IsTrue}
 use Rattle.eg_base.specs.Outside.{ShownStore, ShownSink}

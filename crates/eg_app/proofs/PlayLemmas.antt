@@ -1,4 +1,4 @@
--- When runs are played to their end, from how `run`, `record` and `sweep` end.
+-- When runs are played to their end, from how `run`, `table`, `record` and `sweep` end.
 use Rattle.std.proofs.Common.{◌≡◌, ◌+◌, ◌∷◌, [], List, ℕ, Bool, true, false, Option, Some, None, length, refl, sym, ap, subst}
 use Rattle.std.specs.Prelude.{Result, Ok, Err}
 use Rattle.eg_base.specs.Outside.{ShownStore, ShownSink, Rose}

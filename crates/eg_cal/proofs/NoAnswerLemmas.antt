@@ -1,4 +1,4 @@
--- Whoever asks for the right answers isn't refused for wrong ones.
+-- Where the right answers are asked for, no file is refused for wrong ones.
 use Rattle.std.proofs.Common.{◌≡◌, ◌≢◌, ℕ, Bool, true, false, List, [], ◌∷◌, Option, Some, None, option_map, if◌then◌else◌, subst}
 use Rattle.std.specs.Prelude.{Err}
 use Rattle.toml.specs.Data.{Members}

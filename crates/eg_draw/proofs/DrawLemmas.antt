@@ -4,7 +4,7 @@ use Rattle.std.proofs.lemmas.Bool.Decides.{nat_tests}
 use Rattle.eg_draw.specs.Draws.{next, draw, after, draws}
 use Rattle.eg_draw.specs.Runs.{four_values, class_draws, fault_draws}
 
--- ---- so many draws are so many single ones ----
+-- ---- n draws are n single ones ----
 
 pub after_none : (x : ℕ) → after 0 x ≡ x
 unfolding after

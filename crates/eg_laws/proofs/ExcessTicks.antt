@@ -92,7 +92,7 @@ module _ (s : Setting) (accepted : IsAccepted s.cal) (can : CanExceed s.cal) (qu
   abbrev calm_tick : Tick
   calm_tick = quiet no_effects can.drive
 
-  -- so many ticks of excess, over the quiet ones
+  -- j ticks of excess, over the quiet ones
   abbrev ticks : ℕ → List Tick
   ticks j = replicate j (exceeding s.cal can.drive can.load) ++ replicate quiets calm_tick
 

@@ -203,7 +203,7 @@ few_more s are p x h regular absent later was = elim (before_or_past (length h +
       usual = λ within. absurd (omega arith);
     }
 
--- and so many ticks more
+-- and any number of ticks more
 pub few_on : (s : Setting) → AreTimes s.cal.times → (p : ℕ) (more h : List Tick) → AreRegular more →
     Unanswered s more h → p * s.cal.times.period + s.cal.times.send < length h → HasFew s (p + 1) h →
     HasFew s (p + 1) (more ++ h)

@@ -105,7 +105,7 @@ module _ (cal : CalibrationParts) (accepted : IsAccepted cal) (can : CanExceed c
   abbrev calm_tick : Tick
   calm_tick = quiet no_effects can.drive
 
-  -- so many ticks of excess, over the quiet ones
+  -- j ticks of excess, over the quiet ones
   abbrev ticks : ℕ → List Tick
   ticks j = replicate j (exceeding cal can.drive can.load) ++ replicate first_quiet calm_tick
 

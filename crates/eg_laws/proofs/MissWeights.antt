@@ -106,7 +106,7 @@ weighs_more w q settled bits true right before = elim (before_or_from settled q)
   | inr early ↦ weighs_bad w q settled bits early before
 ]
 
--- after so many right verdicts nothing is left of the two
+-- after the right verdicts between two misses nothing is left of the two wrong ones
 pub weighs_nothing : (times : TimeParts) (q settled : ℕ) (bits : List Bool) → 1 ≤ times.weights.down →
     settled + periods_between_misses times ≤ q + 2 → Weighs times.weights q settled bits → greatest times.weights bits ≡ 0
 unfolding periods_between_misses

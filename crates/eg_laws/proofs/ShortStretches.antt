@@ -78,7 +78,7 @@ module _ (s : Setting) (accepted : IsAccepted s.cal) (fit : RunsFit s.cal) where
   abbrev many : ℕ
   many = feeds_to_confirm s.cal.rules.torque
 
-  -- where level 2 ran at so many ticks of it a trip has come
+  -- where level 2 ran at `many` ticks of it a trip has come
   trip_from_runs : (h : List Tick) → AllOrNoneEach h → AreProper s h → AllExceed s many h →
       runs_in many (moments_of s h) ≡ many → tripped (moments_of s h) ≡ true
   trip_from_runs h each proper exceed ran = go (tripped (moments_of s h)) refl
@@ -128,7 +128,7 @@ module _ (s : Setting) (accepted : IsAccepted s.cal) (fit : RunsFit s.cal) where
       ran : runs_in many (m ∷ past) ≡ many
       ran = go many refl some
 
-  -- none of the ticks after so many has a good answer
+  -- from the tick at which `many` ticks of excess have passed no answer is good
   silence : (front back : List Tick) → AllOrNoneEach (front ++ back) → AreProper s (front ++ back) → 0 < many →
       many ≤ length back + 1 →
       AllExceed s (length front + (many - 1)) (front ++ back) → tripped (moments_of s (front ++ back)) ≡ false →

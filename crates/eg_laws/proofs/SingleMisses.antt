@@ -1,4 +1,4 @@
--- A lapse that leaves out one tick, or one every so many ticks: how far apart its misses lie.
+-- A lapse that leaves out one tick, or one tick every `every` ticks: how far apart its misses lie.
 use Rattle.std.proofs.Common.{◌≡◌, ℕ, zero, suc, ◌+◌, ◌-◌, ◌*◌, ◌/◌, ◌%◌, ◌≤◌, ◌<◌, Bool, true, false, not, [], ◌∷◌, inl, inr, Some, refl, sym, ap, ◌∙◌, arith}
 use Rattle.std.specs.Prelude.{if◌then◌else◌, ◌==◌}
 use Rattle.std.proofs.lemmas.Bool.{or_cases, ne_eqb, eqb-true, true≢false}

@@ -37,7 +37,7 @@ record Lapsing (s : Setting) : Type 0 where
   bounded : HasLapseBound s.cal.rules.torque s.cal.times
   lapse : IsLapse s.fault
 
--- so many ticks have the whole periods of excess that are cut
+-- how many ticks the whole periods of excess have that are cut
 abbrev whole_ticks : Setting → ℕ
 whole_ticks s = lapse_periods s.cal.rules.torque s.cal.times * s.cal.times.period
 
@@ -266,8 +266,8 @@ none_longer s has start periods n front (x ∷ h) follows proper size fits long 
     (AreProper-tail s front (x ∷ h) proper) (omega arith) (omega arith)
     (all_of_fewer (λ b. b) (suc ticks) (n - length front) (true_excesses s (x ∷ h)) (omega arith) behind)
 
--- Where a stretch begins at tick `from`, the first whole period in it begins within a period, and so many
--- periods of it end before the stretch does.
+-- Where a stretch begins at tick `from`, the first whole period in it begins within a period, and `whole` of
+-- its periods end before the stretch does.
 record Room (from whole period n : ℕ) : Type 0 where
   periods : ℕ
   begins : from ≤ (periods - whole) * period

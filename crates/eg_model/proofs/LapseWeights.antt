@@ -72,7 +72,7 @@ weight_below w (suc n) (false ∷ bits) =
 pub rounded_up : (n d : ℕ) → 0 < d → n ≤ quotient_up n d * d
 rounded_up n d h = let f = lt-div-mul-add {a = n + (d - 1)} h in omega arith
 
--- so many rounds of verdicts, of which fewer than a round are right, weigh at least the limit
+-- rounds of verdicts, suc b of them, of which fewer than a round are right, weigh at least the limit
 rounds_weigh : (up down limit b c right : ℕ) → right ≤ c → c * down < up → limit ≤ suc b * (up - c * down) →
     limit ≤ up * (suc b * suc c - right) - down * right
 rounds_weigh up down limit b c right few worth enough = let m = most in let d = less in omega arith

@@ -72,7 +72,7 @@ with_all (row ∷ rows) (other ∷ others) rest same =
 
 -- ---- two runs of which one has another level 1 ----
 
--- so many ticks of both are the same but for level 1, and so is the engine after them
+-- these ticks of both runs are the same but for level 1, and the engine after them is the same
 record Alike {E : Type 0} (b : BenchEngine E) (s t : Setting) (past others : List Moment) : Type 0 where
   pub moments : map without_level1 past ≡ map without_level1 others
   pub engine : engine_after b s past ≡ engine_after b t others

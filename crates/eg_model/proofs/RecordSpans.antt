@@ -226,7 +226,7 @@ with_part rows newer span older later row before e split = e ∙ ap (λ part. ne
     ∙ sym (append_assoc newer later ((row ∷ before) ++ older))
 
 module _ {E : Type 0} (b : BenchEngine E) where
-  -- the ticks of the span that the first so many ticks of a run end in
+  -- the ticks of the span that the first `count` ticks of a run end in
   abbrev pub SpanTo : Run → ℕ → List Tick
   SpanTo r count = span_ticks r.setting (entries_to b r count)
 

@@ -1,4 +1,4 @@
--- The record of a run on the bench, whatever engine it is of: it is a history from power-on, and its rows are
+-- The record of a run on the bench, whatever engine it is of: it is a history from tick 0, and its rows are
 -- numbered.
 use Rattle.std.proofs.Common.{◌≡◌, ℕ, zero, suc, ◌<◌, List, [], ◌∷◌, ◌++◌, All, length, refl, sym, ap, ◌∙◌, arith, subst}
 use Rattle.std.proofs.lemmas.List.Elements.{All-cons, All-nil}

@@ -68,7 +68,7 @@ module _ (s : Setting) (start : ℕ) (h : List Tick) where
   proper_before proper newer x before whole = proper-end s (x ∷ []) before
       (proper-end s newer (x ∷ before) (subst (AreProper s) whole proper))
 
-  -- where the stages are off from so many ticks after `rest` on, they are off at each such tick of h
+  -- where the stages are off from `after` ticks after `rest` on, they are off at each such tick of h
   off_now : Follows s.fault start h → AreProper s h → (more rest : List Tick) → h ≡ more ++ rest → (after : ℕ) → 1 ≤ after →
       OffFrom s start rest after → (newer : List Tick) (x : Tick) (before : List Tick) → h ≡ newer ++ x ∷ before →
       length rest + after ≤ length before + 1 → (RowAfter s start x before).on ≡ false

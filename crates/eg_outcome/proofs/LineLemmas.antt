@@ -35,7 +35,7 @@ concat-at f xs i x below is = concat-cut f xs i x below
 
 -- ---- lines that are put ----
 
--- a line is refused after whole ones: so much of all lines was put
+-- a line is refused after whole ones: a prefix of all lines was put
 pub LineEnds-within : (before mid now : ShownSink) (whole line rest : List ℕ) (o : Outcome) → (o ≡ outcome.Done → ⊥) →
     Appends before mid whole → mid.faults ≡ before.faults → LineEnds line mid now o → LineEnds ((whole ++ line) ++ rest) before now o
 LineEnds-within before mid now whole line rest outcome.Done refused put same ends = absurd (refused refl)
@@ -47,7 +47,7 @@ LineEnds-within before mid now whole line rest outcome.Usage refused put same en
 LineEnds-within before mid now whole line rest (outcome.ReadFault file) refused put same ends = ends
 LineEnds-within before mid now whole line rest (outcome.Refused why) refused put same ends = ends
 
--- the first so many lines were put whole, and no fault was met
+-- the first `count` lines were put whole, and no fault was met
 pub record HasPut {X : Type 0} (text : X → List ℕ) (lines : List X) (count : ℕ) (before now : ShownSink) : Type 0 where
   pub put : Appends before now (concat (map text (take count lines)))
   pub faults : now.faults ≡ before.faults
@@ -62,7 +62,7 @@ HasPut-more text lines i line before mid now below is so_far ends = record {
   faults = ends.1 ∙ so_far.faults;
 }
 
--- or it is refused: so much of all lines was put
+-- or it is refused: a prefix of all lines was put
 pub HasPut-refused : {X : Type 0} (text : X → List ℕ) (lines : List X) (i : ℕ) (line : X) (before mid now : ShownSink) (o : Outcome) →
     i < length lines → line ≡ get_or lines i line → HasPut text lines i before mid →
     (o ≡ outcome.Done → ⊥) → LineEnds (text line) mid now o → LineEnds (concat (map text lines)) before now o

@@ -81,7 +81,7 @@ told-most tells (x ∷ xs) bound most = one (tells x) (All-head (λ x. IfSome (t
     one None here others = others
     one (Some n) here others = All-cons (λ n. n ≤ bound) n (filter_map tells xs) here others
 
--- what is told by each is at most so much, and so is the greatest
+-- where what each tells is at most the bound, so is the greatest
 pub greatest-within : {X : Type 0} (tells : X → Option ℕ) (xs : List X) (bound : ℕ) →
     All (λ x. IfSome (tells x) (λ n. n ≤ bound)) xs → IfSome (greatest (filter_map tells xs)) (λ n. n ≤ bound)
 greatest-within tells xs bound most = greatest-most (filter_map tells xs) bound (told-most tells xs bound most)

@@ -35,7 +35,7 @@ multiple-within ticks step i some below = place-within (ticks / step) (ticks % s
 multiple-below : (ticks step i : ℕ) → 1 ≤ step → i * step < ticks → i < div_ceil ticks step
 multiple-below ticks step i some within = within-place (ticks / step) (ticks % step) step i ticks (div-add-mod ticks step) (omega arith) within
 
--- so many multiples from 0 on
+-- the first n multiples, from 0 on
 unfoldable pub multiples : (step n : ℕ) → List ℕ
 multiples step n = map (λ i. i * step) (range_with_len 0 n)
 

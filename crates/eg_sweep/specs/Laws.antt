@@ -43,7 +43,7 @@ pub record IsBounded (bound : ℕ) (rows : List SweepRow) : Type 0 where
   pub each : All (λ row. IfSome row.reaction (λ n. n ≤ bound)) (take 13 rows)
   pub greatest : IfSome (greatest_listed rows) (λ n. n ≤ bound)
 
--- so it is where each run under a listed fault of the grid keeps that, whatever the facts of a run come from
+-- the law: a table is bounded where each run under a listed fault is, wherever the facts of runs come from
 abbrev pub ReactionsAreBounded : Type 0
 ReactionsAreBounded =
     (ticks step bound : ℕ) (told : Fault → Facts) → ticks ≤ 20000 → 1 ≤ step →

@@ -49,7 +49,7 @@ comes_within_every every tick k at = go (every == 0) refl at
         let below = mod-lt k some in
         lt-ltb tick every (omega (arith, at, below))
 
--- a number alone leaves level 2 out at one of so many ticks
+-- a number by itself leaves level 2 out at one of the first n ticks
 abbrev comes : (every n : ℕ) → ℕ → Bool
 comes every n tick = list_any (is_left_out (tick ∷ []) every) (range_with_len 0 n)
 

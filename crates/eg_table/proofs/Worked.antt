@@ -23,7 +23,7 @@ rows = 0
 
 -- ---- what has acted ----
 
--- a fault of this class from tick 10 on, in a run of so many ticks
+-- a fault of this class from tick 10 on, in a run of `ticks` ticks
 abbrev acted : Class → ℕ → Option Bool
 acted class ticks = has_acted (Some (record { onset = 10; class = class })) ticks
 

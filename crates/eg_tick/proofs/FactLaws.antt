@@ -154,7 +154,8 @@ if-not : (test : Bool) (o : Option ℕ) (P : ℕ → Type 0) → test ≡ false 
 if-not true o P not = absurd cc
 if-not false o P not = tt
 
--- a reaction is at most so long where the stages are off for good so many ticks after the excess is confirmed
+-- a reaction takes at most `bound` ticks where the stages are off for good that many after the confirmed
+-- excess
 reaction_in-within : (facts : Facts) (bound : ℕ) → FactsReactWithin bound facts → IfSome (reaction_in facts) (λ n. n ≤ bound)
 unfolding reaction_in
 reaction_in-within facts bound reacts = if-within (nat_lt (off_from facts.last_on) facts.ticks) _ (λ n. n ≤ bound) (parts facts.confirmed facts.last_on reacts)
@@ -207,7 +208,7 @@ rows-next b r n row is = ap (λ (x : Row). x ∷ rows_to b r n) is ∙ sym (rows
 
 -- ---- the whole run ----
 
--- what is told of so many of its rows, where this is its trap
+-- what is told of the first n rows of a run, where this is its trap
 abbrev pub told_to : {S : Type 0} (b : BenchEngine S) (r : Run) (n : ℕ) (trap : Option (Trap × ℕ)) → RunFacts
 told_to b r n trap = record {
   facts = facts_of r.setting.cal.rules.torque r.setting.cal.rules.threshold (rows_to b r n);
@@ -227,7 +228,7 @@ told b come_to r c is_told at are = record {
   proper = at.stands.engine.proper;
 }
 
--- what a tally of so many rows tells, with this trap
+-- what a tally of the first n rows tells, with this trap
 pub tallied : {S : Type 0} (b : BenchEngine S) (r : Run) (n : ℕ) (tally : TallyParts) (is_told : RunFacts) (trap : Option (Trap × ℕ)) →
     tally.weights ≡ r.setting.cal.rules.torque → tally.threshold ≡ r.setting.cal.rules.threshold →
     is_told.facts ≡ facts_of tally.weights tally.threshold (rows_to b r n) →

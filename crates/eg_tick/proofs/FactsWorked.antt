@@ -23,7 +23,7 @@ in_time = omega arith
 too_late : ¬ FactsReactWithin 34 (full_until (Some 43))
 too_late late = omega arith
 
--- off from the next tick on, unless path 1 is closed, or the controller has halted by the tick of the excess
+-- off from the next tick on, unless path 1 is closed, or both levels have halted by the tick of the excess
 next_tick : FactsReactAtOnce None (full_until (Some 9))
 next_tick now = omega arith
 

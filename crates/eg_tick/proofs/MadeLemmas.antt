@@ -27,7 +27,7 @@ one-more (value ∷ values) first (suc i) f within = one-more values (first + 1)
     ∙ ap (λ a. put a (slice_index values i) (after_stores (take i (stores_from (first + 1) values)) (put first value f)))
     (let e : first + 1 + i ≡ first + suc i = omega arith in e)
 
--- the first so many of the stores, and the next one
+-- the first i of the stores, and the next one
 pub made-more : (old mid new : List ℕ) (first i address value : ℕ) (values : List ℕ) → new ≡ slice_set mid address value → address ≡ first + i →
     value ≡ slice_index values i → i < length values → address < length mid →
     slice_index mid ≡ after_stores (take i (stores_from first values)) (slice_index old) →

@@ -75,7 +75,8 @@ heard_below n t (answer ∷ before) all =
     All-cons (λ answer. answer.tick < t) answer before (All-head (λ answer. answer.tick < t) _ (map (marked n) before) all)
     (heard_below n t before (All-tail (λ answer. answer.tick < t) _ (map (marked n) before) all))
 
--- What a tick asks of a module that isn't wild at it: it has given the verdicts of the periods that are over,
+-- What a tick asks of a monitoring module that isn't wild: it has given the verdicts of the periods that are
+-- over,
 pub orderly_period : (kind : SpanKind) (s : Setting) (monitor : MonitorParts) (h : List Tick) → HoldsMonitor kind s monitor h → was_wild h ≡ false →
     monitor.verdicts ≡ period_of monitor.times (length h)
 orderly_period kind s monitor h holds never = (holds.orderly never).period ∙ ap (λ times. period_of times (length h)) (sym holds.times)
@@ -372,7 +373,8 @@ module _ (kind : SpanKind) (s : Setting) (x : Tick) (h : List Tick) (fault : Opt
 
 -- ---- for the controller ----
 
--- what a controller knows of its module as a tick begins, which comes after h in a span that begins at tick `begin` of the run
+-- what a controller knows of its monitoring module as a tick begins, which comes after h in a span that
+-- begins at tick `begin` of the run
 module _ (kind : SpanKind) (s : Setting) (c : Kept) (begin : ℕ) (h : List Tick) (cal : c.cal ≡ s.cal) (fault : c.fault ≡ s.fault)
     (follows : Follows s.fault begin h) (count : begin + length h ≡ c.ticks)
     (holds : HoldsSpan kind s c.span c.registers c.memory.words h) where

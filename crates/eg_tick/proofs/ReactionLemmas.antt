@@ -98,7 +98,7 @@ module _ (s : Setting) (e : Entry) (h : List Entry) where
         both {kind} {ticks} driven same = ap (λ kind. (moment_in kind s (effects s.fault (length h)) e (moments_in kind s ticks)).on) driven
             ∙ ap (λ ticks. (moment_in Drive s (effects s.fault (length h)) e (moments_in Drive s ticks)).on) same
 
-    -- where the stages are off so many ticks after `before`, they are off in the row of a tick that comes as late
+    -- where the stages are off from `after` ticks after `before` on, they are off in the row of such a tick
     pub off_row : (after : ℕ) → IsProperRun s h → OffFrom s start before after → after ≤ length more + 1 →
         (row_of (length h) (next s e h)).on ≡ false
     off_row after proper off late = is_on

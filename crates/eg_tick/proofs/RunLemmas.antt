@@ -229,7 +229,7 @@ recorded come_to r c rows trap at are is = record {
 
 -- ---- the counts ----
 
--- after so many ticks, with these rows
+-- the count after t ticks more, which have these rows
 abbrev pub counted : TickCount → ℕ → List Row → TickCount
 counted from t rows = record {
   count = (from.count + t) % 2 ^ 64;

@@ -116,7 +116,8 @@ next-on s e h old paths enter leads =
 
 -- ---- a tick that was made ----
 
--- the row of a tick of this number, at which so much is allowed, by what its parts say, where the controller is `new` after it
+-- the row of a tick of this number, at which the torque `allowed` is permitted, by what its parts say, where
+-- the controller is `new` after it
 abbrev pub row_by : (tick : ℕ) → DriveRow → (allowed : ℕ) → (new : Kept) → Paths → Place → Step → Judgement → Row
 row_by tick drive allowed new paths place step judgement = record {
   tick = tick;

@@ -14,7 +14,8 @@ use Rattle.eg_tick.specs.Midway.{step_at, found_in_both, joined, tick_step}
 
 -- ---- one module more ----
 
--- what the first so many modules order, answer and find, where the words before the tick are these
+-- what the first modules of level 2, this many, order, answer and find, where the words before the tick are
+-- these
 unfoldable pub steps_at : Doing → ℕ → Words → Step
 steps_at d zero words = quiet_step
 steps_at d (suc i) words = joined (steps_at d i words) (step_at d i words)

@@ -3,7 +3,7 @@ use Rattle.eg_model.specs.Bench.{Run}
 use Rattle.eg_campaign.specs.Checkpoints.{PlaysInput, HasPlayed, HasMade}
 use Rattle.eg_campaign.proofs.checkpoints.play_on.Given as goal
 
--- so many ticks were played, and counted, over a sure memory
+-- the ticks so far were played and counted, over a sure memory
 abbrev pub invariant-loop-tick : goal.invariant-loop-tick
 invariant-loop-tick g l =
     let bench = g.E.BenchedEngine.bench in

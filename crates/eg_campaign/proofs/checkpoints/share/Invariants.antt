@@ -4,7 +4,8 @@ use Rattle.eg_campaign.specs.Groups.{faultless}
 use Rattle.eg_campaign.specs.Checkpoints.{HasMade, AreCheckpoints}
 use Rattle.eg_campaign.proofs.checkpoints.share.Given as goal
 
--- so many ticks of the run without a fault were played and counted, and it is kept at the hundredths among them
+-- the ticks so far of the run without a fault are played and counted, and it is kept at the hundredths among
+-- them
 abbrev pub invariant-loop-tick : goal.invariant-loop-tick
 invariant-loop-tick g l =
     let bench = g.E.BenchedEngine.bench in

@@ -5,7 +5,7 @@ use Rattle.eg_campaign.specs.Plays.{run_with}
 use Rattle.eg_campaign.proofs.RecordLemmas.{HasWritten}
 use Rattle.eg_campaign.proofs.recording.record_on.Given as goal
 
--- so many ticks were made: the controller stands for them, and their lines are written whole
+-- the controller stands for the ticks so far, and their lines are written whole
 abbrev pub invariant-loop-tick : goal.invariant-loop-tick
 invariant-loop-tick g l =
     let bench = g.E.BenchedEngine.bench in

@@ -4,7 +4,7 @@ use Rattle.eg_level2.specs.Stores.{after_stores}
 use Rattle.eg_tick.specs.Board.{IsWritten, stores_from}
 use Rattle.eg_tick.proofs.board.write.Given as goal
 
--- so many values stand, and the memory is as sure as it was
+-- the values so far stand, and the memory is as sure as it was
 abbrev pub invariant-loop-value : goal.invariant-loop-value
 invariant-loop-value g l = record {
   at : l.address ≡ l.fn.first + l.value-index;

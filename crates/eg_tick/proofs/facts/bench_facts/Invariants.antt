@@ -7,7 +7,7 @@ use Rattle.eg_tick.specs.Run.{run_by, IsAt}
 use Rattle.eg_tick.proofs.RunLemmas.{counted}
 use Rattle.eg_tick.proofs.facts.bench_facts.Given as goal
 
--- so many ticks were made: the controller stands for them, the tally for their rows, and they are counted
+-- the controller stands for the ticks so far, the tally for their rows, and they are counted
 abbrev pub invariant-loop-tick : goal.invariant-loop-tick
 invariant-loop-tick g l =
     let bench = g.E.BenchedEngine.bench in

@@ -8,7 +8,7 @@ use Rattle.eg_tick.specs.Run.{IsAt}
 use Rattle.eg_tick.proofs.RunLemmas.{counted}
 use Rattle.eg_tick.proofs.run.make_rows.Given as goal
 
--- so many ticks were made: the controller stands for them, and their rows are told and counted
+-- the controller stands for the ticks so far, and their rows are told and counted
 abbrev pub invariant-loop-tick : goal.invariant-loop-tick
 invariant-loop-tick l = record {
   ticks : l.controller.kept.ticks ≡ l.tick;
