@@ -104,8 +104,8 @@ impl From<DocumentFault> for CalFault {
 }
 
 impl CalKey {
-    /// The key as a note prints it: the name of its table, a dot and its own name, or its name alone where it
-    /// stands at the top. `Unknown` is printed as `unknown`.
+    /// The key as a note prints it (docs/FORMATS.md, "Notes"): the name of its table, a dot and its own name,
+    /// or its name alone where it stands at the top. `Unknown` is printed as `unknown`.
     pub fn text(&self) -> &str
         ensures { result.now ≡ text_of self.now }
     {

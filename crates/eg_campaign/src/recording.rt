@@ -19,7 +19,7 @@ use eg_tick::{BenchedEngine, Ticks, bench_controller, bench_row};
 use eg_values::Calibration;
 use std::alloc::Global;
 
-/// Why the writing of a record was stopped.
+/// Why the writing of a record was stopped (docs/CONCEPT.md, "The record of a run").
 #[derive(Clone, Copy)]
 pub enum RecordStop {
     /// Memory ran out.

@@ -288,7 +288,8 @@ module _ (s : Setting) (are : AreTimes s.cal.times) (start : ℕ) (e : Entry) (h
 
 -- ---- a tick that it misses ----
 
--- a miss that comes `most` periods after the last one, or later, has a period as much later
+-- where a miss comes `most` periods or more after the last one, its period comes at least `most` periods
+-- later
 periods_apart : (m t q n period most : ℕ) → 0 < period → n < period → t ≡ q * period + n → m + most * period ≤ t →
     m / period + most ≤ q
 periods_apart m t q n period most some room at apart =

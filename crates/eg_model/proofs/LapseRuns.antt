@@ -205,7 +205,7 @@ pub runs_in-cons : (n : ℕ) (m : Moment) (past : List Moment) →
 unfolding runs_in
 runs_in-cons n m past = count-cons (λ x. x.whole) m (take n past)
 
--- as many of the newest fed torque bits are set as level 2 ran at the newest n ticks
+-- as many of the newest fed torque bits are set as level 2 had runs at the newest n ticks
 abbrev RunsFind : ℕ → List Moment → Type 0
 RunsFind n ms = TrueRun (runs_in n ms) (fed_bits torque_bit ms)
 

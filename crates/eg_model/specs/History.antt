@@ -31,8 +31,8 @@ pub record Tick : Type 0 where
   pub effects : Effects
   pub entry : Entry
 
--- What a span is for, that is a stretch of a run's ticks which is a history of its own: in a drive span the
--- engine is driven, in a test span the two shut-off paths are tested.
+-- What a span is for: in a drive span the engine is driven, in a test span the two shut-off paths are tested.
+-- (A span is a stretch of a run's ticks that is a history of its own.)
 pub data SpanKind : Type 0 where
   Drive : SpanKind
   Test : SpanKind

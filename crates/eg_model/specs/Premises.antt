@@ -34,7 +34,7 @@ IsProperRun s [] = Unit {0}
 IsProperRun s (e ∷ before) = IsProper s (next s e before).on e × IsProperRun s before
 
 -- The earliest tick of the history is tick `start` of a run with this fault, if any; and at each of its ticks
--- exactly that is out of order which the fault puts out of order at that tick of the run.
+-- what the fault puts out of order at that tick of the run is out of order, and nothing else.
 unfoldable pub Follows : Option Fault → ℕ → List Tick → Type 0
 Follows fault start [] = Unit {0}
 Follows fault start (x ∷ before) =

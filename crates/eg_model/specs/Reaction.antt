@@ -11,10 +11,10 @@ use Rattle.eg_model.specs.History.{Setting, Tick}
 use Rattle.eg_model.specs.Premises.{AreProper, Follows, is_on_after, IsExcessConfirmed}
 
 -- After h, the stages are off at each tick x that comes `after` ticks or more after the last of h. (`more`
--- are the ticks between h and x.) Two premises: `Follows`, the ticks begin at tick `start` of a run, and at
--- each of them exactly that is out of order which the fault puts out of order there; and `AreProper`, each
--- drive row keeps its limits, the plate stands at 1000 at most, the estimate of neither load lies below the
--- torque, and where the stages are off there is no torque.
+-- are the ticks between h and x.) It has two premises. `Follows`: the ticks begin at tick `start` of a run,
+-- and at each of them what the fault puts out of order there is out of order, and nothing else. `AreProper`:
+-- each drive row keeps its limits, the plate stands at 1000 at most, the estimate of neither load lies below
+-- the torque, and where the stages are off there is no torque.
 abbrev pub OffFrom : Setting → (start : ℕ) → List Tick → (after : ℕ) → Type 0
 OffFrom s start h after =
     (more : List Tick) (x : Tick) → Follows s.fault start (x ∷ more ++ h) → AreProper s (more ++ h) →

@@ -14,8 +14,8 @@ abbrev pub IsUndisturbed : Tick → Type 0
 IsUndisturbed x = x.effects ≡ no_effects
 
 -- What holds of the tick x of a test span, h being the ticks of the span before it: where x is the tick at
--- which the paths are read back, the test is passed at x; and at no tick is it found to fail. By `TestsPass`
--- this holds wherever nothing is out of order up to x, x included.
+-- which the paths are read back, the test is passed at x; and the watch `start` isn't found at x. By
+-- `TestsPass` this holds wherever nothing is out of order up to x, x included.
 pub record PassesTest (s : Setting) (x : Tick) (h : List Tick) : Type 0 where
   pub passes : length h ≡ test_ticks_of s.cal.times →
       (moment_in Test s x.effects x.entry (moments_in Test s h)).passes ≡ true

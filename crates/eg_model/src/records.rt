@@ -5,8 +5,8 @@ ghost use Rattle.eg_model.specs.InTime.{RecordsReactInTime};
 ghost use Rattle.eg_model.specs.PowerCycles.{RecordsBeginInTurn};
 ghost use Rattle.eg_model.specs.Records.{RecordsAreHistories, RecordsAreRows, RecordsReact, RecordsReactAtOnce, RecordsCutFromOnset, RecordsCutSharply, RecordsCutSharplyBefore, RecordsCutStandingExcess, RecordsHaveShortExcess, RecordsTestUnpowered, RecordsPassTests};
 
-/// The record of a run on the bench is a history from tick 0, and its rows are numbered from 0 on. It
-/// does nothing when it runs.
+/// The record of a run on the bench is a history from tick 0, and its rows are numbered from 0 on
+/// (docs/CONCEPT.md, "The record of a run"). It does nothing when it runs.
 pub fn records_are_histories()
     ensures histories { RecordsAreHistories gasoline × RecordsAreHistories diesel }
     ensures rows { RecordsAreRows gasoline × RecordsAreRows diesel }
@@ -56,7 +56,8 @@ pub fn records_cut_standing_excess()
 
 /// By the rows of the record of a run on the bench: a test span begins at each reset, and a drive span at the
 /// first tick and after a test that has found both paths open; while the shut-off paths are tested the stages
-/// are off, whatever the fault; and without a fault no test fails. It does nothing when it runs.
+/// are off, whatever the fault; and without a fault no test fails (docs/CONCEPT.md, "Power cycles"). It does
+/// nothing when it runs.
 pub fn records_test_the_paths()
     ensures cycles { RecordsBeginInTurn gasoline × RecordsBeginInTurn diesel }
     ensures unpowered { RecordsTestUnpowered gasoline × RecordsTestUnpowered diesel }

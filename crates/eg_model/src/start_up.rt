@@ -7,7 +7,8 @@ pub fn tests_pass()
     ensures { TestsPass }
 {}
 
-/// A run whose drive rows never reset the unit is one drive span from tick 0. It does nothing when it runs.
+/// A run whose drive rows never reset the unit is one drive span from tick 0 (docs/CONCEPT.md, "Power
+/// cycles"). It does nothing when it runs.
 pub fn runs_without_reset_are_one_span()
     ensures { RunsWithoutReset }
 {}

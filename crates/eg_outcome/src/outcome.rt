@@ -67,7 +67,8 @@ pub enum Outcome {
 }
 
 impl Outcome {
-    /// The exit status: 0 where the work was done, and 2 to 6 for the other outcomes in their order.
+    /// The exit status: 0 where the work was done, and 2 to 6 for the other outcomes in their order
+    /// (docs/FORMATS.md, "Outcomes").
     pub fn status(&self) -> u8
         ensures { result ≡ status_of self.now }
     {

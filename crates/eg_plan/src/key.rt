@@ -107,7 +107,8 @@ impl<T: Drop> From<AllocFailed<T>> for CampaignFault {
 }
 
 impl RunKey {
-    /// The key as it stands in the file, and as a note prints it. `Unknown` is printed as `unknown`.
+    /// The key as it stands in the file, and as a note prints it (docs/FORMATS.md, "Notes"). `Unknown` is
+    /// printed as `unknown`.
     pub fn text(&self) -> &str
         ensures { result.now ≡ text_of self.now }
     {

@@ -43,7 +43,7 @@ abbrev pub AreTicked : List Row → TickCount → TickCount → Outcome → Type
 AreTicked rows was is outcome.Memory = RanOutAmong rows was is
 AreTicked rows was is o = is ≡ count_with was rows
 
--- These runs were played, the rows were made for that, and this text on the runs was written: on Done all of
+-- These runs were played and these rows made for them, and this text on the runs was written: on Done all of
 -- it. The record of each run keeps the headline.
 pub record Plays (text : List ℕ) (runs : List EngineRun) (rows : List Row) (out now : ShownSink)
     (was is : TickCount) (o : Outcome) : Type 0 where

@@ -16,7 +16,8 @@ pub struct Reactions {
 
 impl Reactions {
     /// Whether each span in which a true excess is confirmed has `bound` ticks or more after the first one by
-    /// which it is confirmed, so that the run shows whether a reaction takes more than `bound` ticks.
+    /// which it is confirmed, so that the run shows whether a reaction takes more than `bound` ticks
+    /// (docs/CONCEPT.md, "`table`").
     #[tactic(auto, unfolding(crate::specs::Reactions::is_settled, crate::specs::Reactions::settled_by))]
     pub fn is_settled(&self, bound: u32) -> bool
         ensures { result ≡ is_settled bound self.now }

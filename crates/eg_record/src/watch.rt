@@ -57,7 +57,7 @@ impl Watch {
         }
     }
 
-    /// Whether it is found, where these are found.
+    /// Whether this watch is among those that are found.
     #[tactic(auto, unfolding(crate::specs::Detection::is_found))]
     pub fn is_among(self, found: &Watches) -> bool
         ensures { result ≡ is_found found.now self }
@@ -74,7 +74,7 @@ impl Watch {
         }
     }
 
-    /// The first in their order that is found, where these are found, or None.
+    /// The first watch in their order that is among those that are found, or None where none is found.
     #[tactic(auto, unfolding(crate::specs::Detection::first_watch))]
     pub fn first_among(found: &Watches) -> Option<Watch>
         ensures { result ≡ first_watch found.now }

@@ -32,7 +32,7 @@ pub fn test_that_fails()
         ≡ reported (Some (found.Start, 30)) (Some 31) None None }
 {}
 
-/// Full throttle with a reset at tick 20: the torque is found in each drive span, ten ticks after its begin.
+/// Full throttle with a reset at tick 20: the torque is found in each drive span, nine ticks after its begin.
 pub fn full_run_with_a_reset()
     ensures report { report_on (run_of full None (rest 20 ++ cycle 50))
         ≡ reported (Some (found.Torque, 9)) (Some 10) None (Some 9) }

@@ -10,7 +10,7 @@ use eg_fault::{Class, Fault, Opens, PATH_1, Script};
 use eg_sensor::{LOAD_1, PEDAL_1};
 use std::alloc::Global;
 
-/// Why there are no faults of a grid.
+/// Why the faults of a grid are refused (docs/CONCEPT.md, "`sweep`").
 #[derive(Clone, Copy)]
 pub enum SweepFault {
     /// There was no memory for the faults.

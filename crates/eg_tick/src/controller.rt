@@ -283,7 +283,7 @@ impl<E: Engine + Drop, M: Guarded + Drop> Controller<E, M> {
         Ok(row(begins, &self.engine, &self.memory, step.found, judged))
     }
 
-    /// The engine. What the controller keeps of it is what it shows.
+    /// The engine (docs/CONCEPT.md, "The controller"). What the controller keeps of it is what it shows.
     pub fn engine(&self) -> &E
         ensures engine { result.now ≡ self.now.engine }
         ensures shown { self.now.kept.shown ≡ E.shows self.now.engine }

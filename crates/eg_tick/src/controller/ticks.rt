@@ -24,21 +24,21 @@ impl Model for Ticks {
 }
 
 impl Ticks {
-    /// No tick was made.
+    /// The count before any tick was made.
     pub fn new() -> Ticks
         ensures { result ≡ record { count = 0; weights = 0 } }
     {
         Ticks { count: 0, sum: 0 }
     }
 
-    /// How many ticks were made.
+    /// How many ticks were made, modulo 2^64.
     pub fn count(&self) -> u64
         ensures { result ≡ self.now.count }
     {
         self.count
     }
 
-    /// The weights of the rows of all ticks that were made.
+    /// The weights of the rows of all ticks that were made, in all, modulo 2^64.
     pub fn sum(&self) -> u64
         ensures { result ≡ self.now.weights }
     {
@@ -52,7 +52,7 @@ impl Ticks {
         self.count = self.count.wrapping_add(1);
     }
 
-    /// The row of that tick.
+    /// Adds the weight of the row of that tick.
     pub(super) fn add(&mut self, row: &Row)
         ensures { self.new
             ≡ record self.old { weights = (self.old.weights + weight_of row.now) % 2 ^ 64 } }
