@@ -5,6 +5,7 @@ use Rattle.std.specs.Prelude.{IsTrue, Contains}
 use Rattle.std.proofs.lemmas.Bool.{cases_lt}
 use Rattle.std.proofs.lemmas.List.Elements.{All-nil, All-cons, All-contains, Contains-append_left, Contains-append_right}
 use Rattle.eg_fault.specs.declared.class.Fault.{Fault}
+use Rattle.eg_answer.specs.Times.{test_ticks_of}
 use Rattle.eg_record.specs.declared.row.Row.{Row}
 use Rattle.eg_record.specs.declared.watch.Watch.{Watch}
 use Rattle.eg_record.specs.declared.watch.Watch.TheVariants.{Start}
@@ -30,10 +31,10 @@ use Rattle.eg_model.proofs.FindingRecords.{records_find_before_off, records_find
 abbrev pub FirstBegins : List Row → Type 0
 FirstBegins rows = (newer : List Row) (first : Row) → rows ≡ newer ++ first ∷ [] → first.fresh ≡ true
 
-pub first_begins : (rows : List Row) → SpansBeginInTurn rows → FirstBegins rows
-first_begins rows turns newer first is = by_reset first.drive.reset refl
+pub first_begins : (read_back : ℕ) (rows : List Row) → SpansBeginInTurn read_back rows → FirstBegins rows
+first_begins read_back rows turns newer first is = by_reset first.drive.reset refl
   where
-    begins : BeginsInTurn first []
+    begins : BeginsInTurn read_back first []
     begins = turns newer first [] is
 
     by_reset : (b : Bool) → first.drive.reset ≡ b → first.fresh ≡ true
@@ -175,7 +176,7 @@ module _ {E : Type 0} (b : BenchEngine E) where
       at_place : (row : Row) → row.on ≡ false → row.testing ≡ false → opens_by_itself r.setting.fault row.tick ≡ false →
           PlaceOf rows row → IsNamedBefore row.tick (first_detection rows)
       at_place row out untested quiet p = detected_before rows p.newer row p.older (are_rows b r) p.is
-          (found_before r.setting.fault rows (first_begins rows (records_begin_in_turn b r)) (records_find_before_off b r)
+          (found_before r.setting.fault rows (first_begins (test_ticks_of r.setting.cal.times) rows (records_begin_in_turn b r)) (records_find_before_off b r)
           (records_find_failures b r) p.newer row p.older p.is out untested quiet)
 
       at_row : IsOffFirst rows tick → IsNamedBefore tick (first_detection rows)

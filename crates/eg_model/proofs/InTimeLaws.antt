@@ -8,7 +8,7 @@ use Rattle.std.proofs.lemmas.List.{length-map}
 use Rattle.std.proofs.lemmas.List.Elements.{All-head, All-tail, All-weaker}
 use Rattle.eg_num.specs.Windows.{WeightParts, is_confirmed, first_index}
 use Rattle.eg_num.proofs.FirstIndexLemmas.{first_index_within}
-use Rattle.eg_answer.specs.Times.{reaction_of}
+use Rattle.eg_answer.specs.Times.{reaction_of, test_ticks_of}
 use Rattle.eg_plant.specs.PlantParts.{PlantParts}
 use Rattle.eg_record.specs.declared.row.Row.{Row}
 use Rattle.eg_record.specs.declared.reactions.Reactions.{Reactions}
@@ -287,5 +287,5 @@ module _ {E : Type 0} {b : BenchEngine E} {Keeps : PlantParts → E → Type 0} 
   pub records_react_in_time : RecordsReactInTime b
   records_react_in_time r run listed = rows_in_time (reaction_of r.setting.cal.times) r.setting.cal.rules.torque
       r.setting.cal.rules.threshold (record_rows b r) (are_rows b r)
-      (first_begins (record_rows b r) (records_begin_in_turn b r)) (records_react keeps r run listed)
+      (first_begins (test_ticks_of r.setting.cal.times) (record_rows b r) (records_begin_in_turn b r)) (records_react keeps r run listed)
       (records_test_unpowered b r)

@@ -1,17 +1,20 @@
 -- The spans of a record begin at the resets of its drive, and after tests that were passed.
-use Rattle.std.proofs.Common.{◌≡◌, ◌∙◌, refl, sym, subst, arith, ℕ, zero, suc, ◌==◌, nat_le, Bool, true, false, ◌&&◌, ◌||◌, not, if◌then◌else◌, List, [], ◌∷◌, ◌++◌, length}
+use Rattle.std.proofs.Common.{◌≡◌, ◌∙◌, refl, sym, ap, ap₂, subst, arith, ℕ, zero, suc, ◌+◌, ◌==◌, nat_le, Bool, true, false, ◌&&◌, ◌||◌, not, if◌then◌else◌, List, [], ◌∷◌, ◌++◌, length}
+use Rattle.std.proofs.lemmas.Bool.{eqb-true, eq-eqb}
 use Rattle.eg_answer.specs.Times.{TimeParts, test_ticks_of}
 use Rattle.eg_fault.specs.Effects.{Effects}
 use Rattle.eg_fault.specs.Faults.{effects}
 use Rattle.eg_record.specs.declared.row.Row.{Row}
-use Rattle.eg_model.specs.History.{Setting, Entry, SpanKind, Drive, Test, Moment}
+use Rattle.eg_record.specs.Spans.{this_span}
+use Rattle.eg_model.specs.History.{Setting, Entry, SpanKind, Drive, Test, drives, Moment}
 use Rattle.eg_model.specs.Paths.{is_testing, reads_back}
 use Rattle.eg_model.specs.Moments.{moment_in}
 use Rattle.eg_model.specs.Spans.{span_so_far, has_passed, span_kind, kind_at, before_at, moment_at, next_after}
 use Rattle.eg_model.specs.Engines.{BenchEngine}
 use Rattle.eg_model.specs.Bench.{Run, entry_at, moments_to}
 use Rattle.eg_model.specs.Rows.{row_of, rows_of, record_rows}
-use Rattle.eg_model.specs.PowerCycles.{BeginsTest, BeginsDrive, IsOpened, BeginsInTurn, SpansBeginInTurn, RecordsBeginInTurn}
+use Rattle.eg_model.specs.PowerCycles.{BeginsTest, BeginsDrive, stands_in_test, IsPassed, BeginsInTurn, SpansBeginInTurn, RecordsBeginInTurn}
+use Rattle.eg_model.proofs.SpanLemmas.{before-begins, kind-goes_on, span_so_far-next}
 
 -- ---- numbers ----
 
@@ -50,6 +53,17 @@ begins_drive s x e n past stays passed = record {
       (length (if p then [] else span_so_far past)) ≡ false) (sym passed) refl);
 }
 
+-- whether or not the row resets, a span begins there
+begins_fresh : (s : Setting) (x : Effects) (e : Entry) (n : ℕ) (past : List Moment) → has_passed past ≡ true →
+    (row_of n (moment_at s x e past)).fresh ≡ true
+unfolding row_of moment_at moment_in
+begins_fresh s x e n past passed = ap (λ before. length before == 0)
+    (before-begins e.drive past (ap (λ p. e.drive.reset || p) passed ∙ or_true e.drive.reset))
+  where
+    or_true : (b : Bool) → (b || true) ≡ true
+    or_true true = refl
+    or_true false = refl
+
 -- and so at the first tick of a run
 begins_first : (s : Setting) (x : Effects) (e : Entry) (n : ℕ) → e.drive.reset ≡ false →
     BeginsDrive (row_of n (moment_at s x e []))
@@ -73,10 +87,72 @@ passed_before s x e n m past stays fresh = by_passes m.passes
     by_passes true is = refl
     by_passes false is = sym (not_zero (length (if m.fresh then [] else span_so_far past))) ∙ is
 
+-- ---- the span of a row ----
+
+-- how many ticks of its span there are so far
+span_length : (past : List Moment) → length (this_span (rows_of past)) ≡ length (span_so_far past)
+unfolding this_span rows_of row_of span_so_far
+span_length [] = refl
+span_length (m ∷ past) = ap suc (go m.fresh (span_length past))
+  where
+    go : (b : Bool) → length (this_span (rows_of past)) ≡ length (span_so_far past) →
+        length (if b then [] else this_span (rows_of past)) ≡ length (if b then [] else span_so_far past)
+    go true so = refl
+    go false so = so
+
+-- with one moment more: those of its span before it, and itself
+span_length-next : (s : Setting) (e : Entry) (past : List Moment) →
+    length (this_span (rows_of (next_after s e past ∷ past))) ≡ suc (length (before_at e.drive past))
+span_length-next s e past = span_length (next_after s e past ∷ past) ∙ ap length (span_so_far-next s e past)
+
+-- its row stands in a test span exactly where that is what its span is for
+abbrev tests_by_kind : List Moment → Type 0
+tests_by_kind past = stands_in_test (rows_of past) ≡ not (drives (span_kind past))
+
+tests_by_kind-next : (s : Setting) (e : Entry) (past : List Moment) → tests_by_kind past →
+    stands_in_test (rows_of (next_after s e past ∷ past)) ≡ not (drives (kind_at e.drive past))
+unfolding stands_in_test rows_of row_of next_after moment_at moment_in is_testing drives
+tests_by_kind-next s e past so = by_fresh (length (before_at e.drive past) == 0) refl
+  where
+    kind : SpanKind
+    kind = kind_at e.drive past
+
+    at_begin : (k : SpanKind) → is_testing k s.cal.times 0 ≡ not (drives k)
+    at_begin Drive = refl
+    at_begin Test = zero_le (test_ticks_of s.cal.times)
+
+    goes_on : (b : Bool) → (e.drive.reset || has_passed past) ≡ b → (length (before_at e.drive past) == 0) ≡ false →
+        kind ≡ span_kind past
+    goes_on true begins later = absurd (let f : true ≡ false =
+        sym (ap (λ before. length before == 0) (before-begins e.drive past begins)) ∙ later in cc)
+    goes_on false goes later = kind-goes_on e.drive past goes
+
+    by_fresh : (b : Bool) → (length (before_at e.drive past) == 0) ≡ b →
+        (if b then is_testing kind s.cal.times (length (before_at e.drive past)) else stands_in_test (rows_of past)) ≡ not (drives kind)
+    by_fresh true fresh = ap (is_testing kind s.cal.times) (eqb-true (length (before_at e.drive past)) 0 fresh) ∙ at_begin kind
+    by_fresh false later = so ∙ ap (λ k. not (drives k)) (sym (goes_on (e.drive.reset || has_passed past) refl later))
+
+-- a test is running at it by the rows of its span
+runs_by_rows : (s : Setting) (e : Entry) (past : List Moment) → tests_by_kind past →
+    (next_after s e past).testing ≡ (stands_in_test (rows_of (next_after s e past ∷ past)) &&
+    nat_le (length (this_span (rows_of (next_after s e past ∷ past)))) (test_ticks_of s.cal.times + 1))
+unfolding next_after moment_at moment_in is_testing drives
+runs_by_rows s e past so = by_kind (kind_at e.drive past) ∙ ap₂ (λ tests many. tests && nat_le many (test_ticks_of s.cal.times + 1))
+    (sym (tests_by_kind-next s e past so)) (sym (span_length-next s e past))
+  where
+    later : (n m : ℕ) → nat_le n m ≡ nat_le (suc n) (m + 1)
+    later n m = grind arith
+
+    by_kind : (k : SpanKind) → is_testing k s.cal.times (length (before_at e.drive past)) ≡
+        (not (drives k) && nat_le (suc (length (before_at e.drive past))) (test_ticks_of s.cal.times + 1))
+    by_kind Drive = refl
+    by_kind Test = later (length (before_at e.drive past)) (test_ticks_of s.cal.times)
+
 -- ---- a test that was passed ----
 
 record Opened (kind : SpanKind) (times : TimeParts) (local : ℕ) (path1 path2 : Bool) : Type 0 where
   runs : is_testing kind times local ≡ true
+  reads : suc local ≡ test_ticks_of times + 1
   opens1 : path1 ≡ false
   opens2 : path2 ≡ false
 
@@ -86,6 +162,7 @@ unfolding reads_back is_testing
 opened Drive times local p q is = absurd (let e : false ≡ true = is in cc)
 opened Test times local p q is = record {
   runs = le_equal local (test_ticks_of times) (first (local == test_ticks_of times) (not (p || q)) is);
+  reads = last_tick (eqb-true local (test_ticks_of times) (first (local == test_ticks_of times) (not (p || q)) is));
   opens1 = no_first p q (second (local == test_ticks_of times) (not (p || q)) is);
   opens2 = no_second p q (second (local == test_ticks_of times) (not (p || q)) is);
 }
@@ -98,6 +175,9 @@ opened Test times local p q is = record {
     second true b is = is
     second false b is = absurd (let e : false ≡ true = is in cc)
 
+    last_tick : local ≡ test_ticks_of times → suc local ≡ test_ticks_of times + 1
+    last_tick e = omega arith
+
     no_first : (a b : Bool) → not (a || b) ≡ true → a ≡ false
     no_first true b is = absurd (let e : false ≡ true = is in cc)
     no_first false b is = refl
@@ -107,13 +187,33 @@ opened Test times local p q is = record {
     no_second false true is = absurd (let e : false ≡ true = is in cc)
     no_second false false is = refl
 
-is_opened : (s : Setting) (x : Effects) (e : Entry) (n : ℕ) (past : List Moment) →
-    (moment_at s x e past).passes ≡ true → IsOpened (row_of n (moment_at s x e past))
-unfolding row_of moment_at moment_in
-is_opened s x e n past passes =
+-- by the moment, and so by its row
+is_passed : (s : Setting) (e : Entry) (past : List Moment) → (next_after s e past).passes ≡ true →
+    IsPassed (test_ticks_of s.cal.times) (row_of (length past) (next_after s e past)) (rows_of past)
+unfolding row_of rows_of next_after moment_at moment_in
+is_passed s e past passes =
     let both = opened (kind_at e.drive past) s.cal.times (length (before_at e.drive past))
-    (moment_at s x e past).path1 (moment_at s x e past).path2 passes in
-    record { tests = both.runs; path1 = both.opens1; path2 = both.opens2 }
+    (next_after s e past).path1 (next_after s e past).path2 passes in
+    record { tests = both.runs; reads = span_length-next s e past ∙ both.reads; path1 = both.opens1; path2 = both.opens2 }
+
+-- by its row, and so by the moment
+passes : (s : Setting) (e : Entry) (past : List Moment) →
+    IsPassed (test_ticks_of s.cal.times) (row_of (length past) (next_after s e past)) (rows_of past) →
+    (next_after s e past).passes ≡ true
+unfolding row_of rows_of next_after moment_at moment_in is_testing reads_back
+passes s e past passed = by_kind (kind_at e.drive past) passed.tests
+    (this_tick (sym (span_length-next s e past) ∙ passed.reads))
+  where
+    local : ℕ
+    local = length (before_at e.drive past)
+
+    this_tick : suc local ≡ test_ticks_of s.cal.times + 1 → local ≡ test_ticks_of s.cal.times
+    this_tick is = omega arith
+
+    by_kind : (k : SpanKind) → is_testing k s.cal.times local ≡ true → local ≡ test_ticks_of s.cal.times →
+        (reads_back k s.cal.times local && not ((next_after s e past).path1 || (next_after s e past).path2)) ≡ true
+    by_kind Drive tests is = absurd (let f : false ≡ true = tests in cc)
+    by_kind Test tests is = rw (passed.path1, passed.path2, is, eq-eqb (test_ticks_of s.cal.times) (test_ticks_of s.cal.times) refl) refl
 
 -- ---- the rows of a run ----
 
@@ -128,12 +228,22 @@ newest : {E : Type 0} (b : BenchEngine E) (r : Run) (t : ℕ) → Row
 newest b r t = let past = moments_to b r t in
     row_of (length past) (next_after r.setting (entry_at b r t past) past)
 
-begins_in_turn : {E : Type 0} (b : BenchEngine E) (r : Run) (t : ℕ) → BeginsInTurn (newest b r t) (rows_of (moments_to b r t))
+tests_by_kind-at : {E : Type 0} (b : BenchEngine E) (r : Run) (t : ℕ) → tests_by_kind (moments_to b r t)
+unfolding moments_to stands_in_test rows_of span_kind drives next_after moment_at moment_in
+tests_by_kind-at b r zero = refl
+tests_by_kind-at b r (suc t) =
+    let past = moments_to b r t in
+    tests_by_kind-next r.setting (entry_at b r t past) past (tests_by_kind-at b r t)
+
+begins_in_turn : {E : Type 0} (b : BenchEngine E) (r : Run) (t : ℕ) →
+    BeginsInTurn (test_ticks_of r.setting.cal.times) (newest b r t) (rows_of (moments_to b r t))
 unfolding newest rows_of moments_to next_after entry_at row_of moment_at moment_in has_passed
 begins_in_turn b r zero = record {
   resets = λ reset. begins_test r.setting (effects r.setting.fault 0) (entry_at b r 0 []) 0 [] reset;
   first = λ stays none. begins_first r.setting (effects r.setting.fault 0) (entry_at b r 0 []) 0 stays;
   later = λ last before stays is fresh. absurd (let e : [] ≡ last ∷ before = is in cc);
+  passed = λ last before is passed. absurd (let e : [] ≡ last ∷ before = is in cc);
+  runs = runs_by_rows r.setting (entry_at b r 0 []) [] (tests_by_kind-at b r 0);
 }
 begins_in_turn b r (suc t) =
     let before = moments_to b r t in
@@ -149,18 +259,40 @@ begins_in_turn b r (suc t) =
       later = λ last older stays is fresh.
           let passes = passed_before r.setting comes now (length past) m before stays fresh in (
             begins_drive r.setting comes now (length past) past stays passes,
-            subst IsOpened (head_is (row_of (length before) m) last (rows_of before) older is)
-                (is_opened r.setting x e (length before) before passes),
+            moved last older is (is_passed r.setting e before passes),
           );
+      passed = λ last older is passed.
+          begins_fresh r.setting comes now (length past) past (passes r.setting e before (moved_back last older is passed));
+      runs = runs_by_rows r.setting now past (tests_by_kind-at b r (suc t));
     }
+  where
+    row : Row
+    row = newest b r t
 
-rows_in_turn : {E : Type 0} (b : BenchEngine E) (r : Run) (t : ℕ) → SpansBeginInTurn (rows_of (moments_to b r t))
+    moved : (last : Row) (older : List Row) → row ∷ rows_of (moments_to b r t) ≡ last ∷ older →
+        IsPassed (test_ticks_of r.setting.cal.times) row (rows_of (moments_to b r t)) →
+        IsPassed (test_ticks_of r.setting.cal.times) last older
+    moved last older is passed =
+        subst (λ rows. IsPassed (test_ticks_of r.setting.cal.times) last rows) (tail_is row last (rows_of (moments_to b r t)) older is)
+        (subst (λ first. IsPassed (test_ticks_of r.setting.cal.times) first (rows_of (moments_to b r t)))
+        (head_is row last (rows_of (moments_to b r t)) older is) passed)
+
+    moved_back : (last : Row) (older : List Row) → row ∷ rows_of (moments_to b r t) ≡ last ∷ older →
+        IsPassed (test_ticks_of r.setting.cal.times) last older →
+        IsPassed (test_ticks_of r.setting.cal.times) row (rows_of (moments_to b r t))
+    moved_back last older is passed =
+        subst (λ rows. IsPassed (test_ticks_of r.setting.cal.times) row rows) (sym (tail_is row last (rows_of (moments_to b r t)) older is))
+        (subst (λ first. IsPassed (test_ticks_of r.setting.cal.times) first older)
+        (sym (head_is row last (rows_of (moments_to b r t)) older is)) passed)
+
+rows_in_turn : {E : Type 0} (b : BenchEngine E) (r : Run) (t : ℕ) →
+    SpansBeginInTurn (test_ticks_of r.setting.cal.times) (rows_of (moments_to b r t))
 unfolding rows_of moments_to
 rows_in_turn b r zero [] row older is = absurd (let e : [] ≡ row ∷ older = is in cc)
 rows_in_turn b r zero (other ∷ newer) row older is = absurd (let e : [] ≡ other ∷ (newer ++ (row ∷ older)) = is in cc)
 rows_in_turn b r (suc t) [] row older is =
-    subst (λ rows. BeginsInTurn row rows) (tail_is (newest b r t) row (rows_of (moments_to b r t)) older (unfold newest in is))
-    (subst (λ first. BeginsInTurn first (rows_of (moments_to b r t))) (head_is (newest b r t) row (rows_of (moments_to b r t)) older (unfold newest in is))
+    subst (λ rows. BeginsInTurn (test_ticks_of r.setting.cal.times) row rows) (tail_is (newest b r t) row (rows_of (moments_to b r t)) older (unfold newest in is))
+    (subst (λ first. BeginsInTurn (test_ticks_of r.setting.cal.times) first (rows_of (moments_to b r t))) (head_is (newest b r t) row (rows_of (moments_to b r t)) older (unfold newest in is))
     (begins_in_turn b r t))
 rows_in_turn b r (suc t) (other ∷ newer) row older is =
     rows_in_turn b r t newer row older (tail_is (newest b r t) other (rows_of (moments_to b r t)) (newer ++ (row ∷ older)) (unfold newest in is))

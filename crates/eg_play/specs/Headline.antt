@@ -2,7 +2,7 @@
 -- first. That no image changes a protected word is said of each slice: field `outside` of `IsSlice`,
 -- which `eg_host::Host::slice` keeps. That level 1 acts by its two outputs alone is said here.
 use Rattle.std.specs.Prelude.{◌≡◌, ℕ, false, List, All, None}
-use Rattle.eg_answer.specs.Times.{reaction_of, HasLapseBound}
+use Rattle.eg_answer.specs.Times.{reaction_of, test_ticks_of, HasLapseBound}
 use Rattle.eg_fault.specs.Faults.{IsListed}
 use Rattle.eg_record.specs.declared.row.Row.{Row}
 use Rattle.eg_record.specs.declared.summary.Summary.{Summary}
@@ -24,8 +24,9 @@ use Rattle.eg_campaign.specs.Plays.{EngineRun, rows_of_run, report_of_run}
 pub record Headline (s : Setting) (rows : List Row) (report : List ℕ → Summary)
     (rows_under : List ℕ → List (List ℕ) → List Row) : Type 0 where
   -- At each reset a test span begins. Where the tick doesn't reset, a drive span begins at the first tick of
-  -- the run and right after a test that has found both paths open, and no span at any other tick.
-  pub cycles : SpansBeginInTurn rows
+  -- the run and exactly where a test was passed at the tick before, and no span at any other tick. A test
+  -- runs for the ticks that the calibration gives it, and in no drive span.
+  pub cycles : SpansBeginInTurn (test_ticks_of s.cal.times) rows
   -- With no fault or a listed one, in each drive span the power stages are off from R ticks after a confirmed
   -- torque excess to the end of the span; under most faults, and without one, from the next tick.
   pub reacts : IsListed s.fault → EachDriveSpan (ReactWithin (reaction_of s.cal.times)

@@ -2,7 +2,7 @@
 ghost use Rattle.std.specs.Prelude.{◌≡◌, ◌≤◌, ◌<◌, false, None, All, reverse, length, IfOk, OnOk};
 ghost use Rattle.std.specs.Option.{option_copied};
 ghost use Rattle.eg_guard.specs.declared.regions.TheConstants.{DATA as CODE_END};
-ghost use Rattle.eg_answer.specs.Times.{HasLapseBound, reaction_of};
+ghost use Rattle.eg_answer.specs.Times.{HasLapseBound, reaction_of, test_ticks_of};
 ghost use Rattle.eg_fault.specs.Faults.{IsListed};
 ghost use Rattle.eg_record.specs.Spans.{EachDriveSpan, EachTestSpan};
 ghost use Rattle.eg_model.specs.Engines.{gasoline};
@@ -78,9 +78,11 @@ pub fn run_one(
     ensures short { HasLapseBound calibration.now.rules.torque calibration.now.times →
         IsLapse (option_copied fault.entry) → IfOk result (λ made.
         EachDriveSpan (ExcessIsShort calibration.now) (reverse made.rows)) }
-    // A test span begins at each reset, and else a drive span at the first tick and after a test that has
-    // found both paths open. In each test span the stages are off. Without a fault no start-up test fails.
-    ensures cycles { IfOk result (λ made. SpansBeginInTurn (reverse made.rows)) }
+    // A test span begins at each reset, else a drive span at the first tick and exactly where a test was
+    // passed at the tick before. In each test span the stages are off. Without a fault no start-up test
+    // fails.
+    ensures cycles { IfOk result (λ made.
+        SpansBeginInTurn (test_ticks_of calibration.now.times) (reverse made.rows)) }
     ensures unpowered { IfOk result (λ made. EachTestSpan AreOff (reverse made.rows)) }
     ensures passes { option_copied fault.entry ≡ None → IfOk result (λ made.
         All (λ row. row.found.start ≡ false) (reverse made.rows)) }

@@ -1,7 +1,7 @@
 use Rattle.std.proofs.Common.{◌≡◌, All, false, subst}
 use Rattle.std.specs.Option.{option_copied}
 use Rattle.std.proofs.lemmas.Result.{IfOk-weaker}
-use Rattle.eg_answer.specs.Times.{reaction_of}
+use Rattle.eg_answer.specs.Times.{reaction_of, test_ticks_of}
 use Rattle.eg_record.specs.Spans.{EachDriveSpan, EachTestSpan}
 use Rattle.eg_model.specs.Engines.{gasoline}
 use Rattle.eg_model.specs.Bench.{Run}
@@ -48,7 +48,7 @@ returns-clause-short c = λ bound lapse. IfOk-weaker c.record_run.result _ _ (λ
 pub returns-clause-cycles : goal.returns-clause-cycles
 returns-clause-cycles c = IfOk-weaker c.record_run.result _ _ (λ made m.
     let r : Run = run_by c.args.calibration.now c.args.image.now (option_copied c.args.fault) c.args.plan.now c.args.drive.now in
-    subst SpansBeginInTurn (newest_first gasoline r made.rows m.rows_are)
+    subst (SpansBeginInTurn (test_ticks_of r.setting.cal.times)) (newest_first gasoline r made.rows m.rows_are)
     (records_begin_in_turn gasoline r)) c.record_run.ensures.made
 
 pub returns-clause-unpowered : goal.returns-clause-unpowered
