@@ -20,7 +20,7 @@ use Rattle.eg_model.specs.Moments.{moments_in}
 use Rattle.eg_model.proofs.TickLemmas.{tripped-cons}
 use Rattle.eg_agree.specs.Doings.{doing_at}
 use Rattle.eg_agree.proofs.MomentLemmas.{length-moments_in, phase-sends, sent_in, moment_in-mark, moment_in-answer, moment_in-whole}
-use Rattle.eg_agree.specs.Replies.{doing_after, moment_after, TellsTrip, is_flipped, RanTogether, ReactRan, has_just_answered, KeepsFlow, FlowBegins, FlowIsKept}
+use Rattle.eg_agree.specs.Replies.{doing_after, moment_after, WordTellsTrip, is_flipped, RanTogether, ReactRan, has_just_answered, KeepsFlow, FlowBegins, FlowIsKept}
 
 -- ---- Bool alone ----
 
@@ -55,7 +55,7 @@ module _ (kind : SpanKind) (s : Setting) (x : Tick) (h : List Tick) where
   unfolding flow.is_undisturbed eight.modules_before_react eight.modules is_undisturbed doing_after doing_at
   undisturbed_same = refl
 
-  answers_as_sent : (w : Words) → TellsTrip kind s w x h → (d.ran 7 && answers_now d.phase (at_react d w)) ≡ sent
+  answers_as_sent : (w : Words) → WordTellsTrip kind s w x h → (d.ran 7 && answers_now d.phase (at_react d w)) ≡ sent
   unfolding answers_now is_sent doing_after doing_at
   answers_as_sent w told =
       ap (λ sends. x.effects.ran 7 && (sends && not (is_set (at_react d w).trip)))
@@ -68,7 +68,7 @@ module _ (kind : SpanKind) (s : Setting) (x : Tick) (h : List Tick) where
       (sym (length-moments_in kind s h))
 
   -- an answer is sent exactly where the model has one
-  pub sent_same : (w : Words) → TellsTrip kind s w x h → is_some (answer_at d w) ≡ sent
+  pub sent_same : (w : Words) → WordTellsTrip kind s w x h → is_some (answer_at d w) ≡ sent
   sent_same w told = answers d w ∙ answers_as_sent w told
 
   pub mark-is : m.mark ≡ (if sent then (if is_good x.effects past then Good else Bad) else Absent)
@@ -77,7 +77,7 @@ module _ (kind : SpanKind) (s : Setting) (x : Tick) (h : List Tick) where
   pub answer-is : is_answer m.mark ≡ sent
   answer-is = moment_in-answer kind s x.effects x.entry past
 
-  since_answer : (w : Words) → TellsTrip kind s w x h →
+  since_answer : (w : Words) → WordTellsTrip kind s w x h →
       flow.whole_after d w (whole_since_answer past) ≡ whole_since_answer (m ∷ past)
   unfolding flow.whole_after whole_since_answer
   since_answer w told = ap₂ (λ a b. a || (b && whole_since_answer past)) (sent_same w told ∙ sym answer-is)
@@ -93,7 +93,7 @@ module _ (kind : SpanKind) (s : Setting) (x : Tick) (h : List Tick) where
   unfolding is_flipped doing_after doing_at
   unflipped_now e = or_parts _ _ e
 
-  next_steady : (w : Words) → TellsTrip kind s w x h → length h < 65535 → KeepsFlow kind s w h →
+  next_steady : (w : Words) → WordTellsTrip kind s w x h → length h < 65535 → KeepsFlow kind s w h →
       is_flipped (x ∷ h) ≡ false → RanTogether (x ∷ h) →
       IsSteady (suc (length h)) (whole_since_answer (m ∷ past)) (after_tick d w)
   unfolding RanTogether doing_after doing_at
@@ -108,7 +108,7 @@ module _ (kind : SpanKind) (s : Setting) (x : Tick) (h : List Tick) where
   reacts ran = ran.0
 
   -- where an answer was sent the token and the flow begin anew
-  begins_anew : (w : Words) → TellsTrip kind s w x h → is_answer m.mark ≡ true →
+  begins_anew : (w : Words) → WordTellsTrip kind s w x h → is_answer m.mark ≡ true →
       ((after_tick d w).token ≡ 0) × ((after_tick d w).flow ≡ 255)
   begins_anew w told answer =
       let some : is_some (answer_at d w) ≡ true = sent_same w told ∙ sym answer-is ∙ answer in
@@ -116,7 +116,7 @@ module _ (kind : SpanKind) (s : Setting) (x : Tick) (h : List Tick) where
       (react_clears d w ran, flow-after d w ∙ rw some refl)
 
   -- one tick keeps what the words tell
-  pub keeps_next : (w : Words) → TellsTrip kind s w x h → length h < 65535 → KeepsFlow kind s w h →
+  pub keeps_next : (w : Words) → WordTellsTrip kind s w x h → length h < 65535 → KeepsFlow kind s w h →
       KeepsFlow kind s (after_tick (doing_after kind s x h) w) (x ∷ h)
   unfolding moments_in has_just_answered
   keeps_next w told small keeps = record {

@@ -54,8 +54,8 @@ mark_of expected (Some number) = if number == expected then Good else Bad
 -- ---- what the law of one tick asks for ----
 
 -- As react begins at tick x, the word for the trip tells whether a trip came by this tick.
-abbrev pub TellsTrip : SpanKind → Setting → Words → Tick → List Tick → Type 0
-TellsTrip kind s words x before =
+abbrev pub WordTellsTrip : SpanKind → Setting → Words → Tick → List Tick → Type 0
+WordTellsTrip kind s words x before =
     is_set (at_react (doing_after kind s x before) words).trip
     ≡ tripped (moment_after kind s x before ∷ moments_in kind s before)
 
@@ -98,7 +98,7 @@ FlowBegins = (kind : SpanKind) (s : Setting) → KeepsFlow kind s start []
 abbrev pub FlowIsKept : Type 0
 FlowIsKept =
     (kind : SpanKind) (s : Setting) (x : Tick) (h : List Tick) (words : Words) →
-    TellsTrip kind s words x h → length h < 65535 → KeepsFlow kind s words h →
+    WordTellsTrip kind s words x h → length h < 65535 → KeepsFlow kind s words h →
     KeepsFlow kind s (after_tick (doing_after kind s x h) words) (x ∷ h)
 
 -- The words are ready for tick x, which comes after h in a history from tick `begin` of the run on: all
@@ -110,7 +110,7 @@ pub record IsReady (kind : SpanKind) (s : Setting) (begin : ℕ) (x : Tick) (h :
   pub follows : Follows s.fault begin (x ∷ h)
   pub short : length h < 65535
   pub keeps : KeepsFlow kind s words h
-  pub trip : TellsTrip kind s words x h
+  pub trip : WordTellsTrip kind s words x h
 
 -- What level 2 sends at a tick, if anything, has the mark of the model's tick.
 abbrev pub FlowMarks : Type 0

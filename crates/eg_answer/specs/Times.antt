@@ -33,8 +33,8 @@ feeds_to_confirm w = quotient_up w.limit w.up
 unfoldable pub reaction_of : TimeParts → ℕ
 reaction_of t = (feeds_to_confirm t.weights + 1) * t.period - t.send - 1
 
--- How many ticks the test of the shut-off paths takes until path 2 is open: no answer is sent in it, so that
--- each verdict is wrong.
+-- The number of the tick of a start-up test at which path 2 is open, counted from 0: no answer is sent in the
+-- test, so that each verdict is wrong.
 unfoldable pub test_ticks_of : TimeParts → ℕ
 test_ticks_of t = feeds_to_confirm t.weights * t.period
 

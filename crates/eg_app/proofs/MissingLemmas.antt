@@ -21,7 +21,7 @@ use Rattle.eg_outcome.specs.Images.{image_file}
 use Rattle.eg_play.specs.Files.{campaign_file, trace_file}
 use Rattle.eg_play.specs.Inputs.{TicksCome, InputComes, InputsCome, too_many}
 use Rattle.eg_play.specs.declared.telling.Telling.{Telling}
-use Rattle.eg_play.specs.Ends.{NothingPlayed, RunsEnd, RecordEnds, GridEnds, SweepEnds, FoundComes, NamedComes, NamedEnds, CampaignEnds, RunCommandEnds, RecordCommandEnds, SweepCommandEnds, run_named}
+use Rattle.eg_play.specs.Ends.{NothingPlayed, RunsEnd, RecordEnds, GridEnds, SweepEnds, FoundComes, NamedComes, NamedEnds, CampaignEnds, CampaignCommandEnds, RecordCommandEnds, SweepCommandEnds, run_named}
 use Rattle.eg_app.proofs.PlayLemmas.{same_error, no_value}
 
 -- ---- the calibration ----
@@ -114,7 +114,7 @@ campaign_other campaign store later nothing work o (Err end, comes, (is, same)) 
     not_campaign (other_file role.Campaign campaign_file campaign store later end comes (sym is ∙ fault))
 
 pub run_missing : (telling : Telling) (calibration : Option (List ℕ)) (campaign : List ℕ) (store later : ShownStore) (out now : ShownSink) (was then : TickCount)
-    (o : Outcome) → RunCommandEnds telling calibration campaign store later out now was then o → IsTrue store.sure
+    (o : Outcome) → CampaignCommandEnds telling calibration campaign store later out now was then o → IsTrue store.sure
     → o ≡ ReadFault role.Calibration → MissesCalibration calibration store
 run_missing telling calibration campaign store later out now was then o ends sure =
     let nothing = NothingPlayed out now was then in

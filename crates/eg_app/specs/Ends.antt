@@ -21,7 +21,7 @@ use Rattle.eg_outcome.specs.Calibrations.{CalibratedEnds, MissesCalibration, Fin
 use Rattle.eg_campaign.specs.Plays.{rows_of_runs}
 use Rattle.eg_play.specs.Files.{campaign_file}
 use Rattle.eg_play.specs.Inputs.{FindsRuns, AcceptsRuns}
-use Rattle.eg_play.specs.Ends.{Plays, RunCommandEnds, RecordCommandEnds, SweepCommandEnds, AcceptsNamed, AcceptsGrid, run_named}
+use Rattle.eg_play.specs.Ends.{Plays, CampaignCommandEnds, RecordCommandEnds, SweepCommandEnds, AcceptsNamed, AcceptsGrid, run_named}
 use Rattle.eg_soak.specs.Soak.{drawn_runs, soak_of}
 use Rattle.eg_soak.specs.Texts.{soak_text}
 use Rattle.eg_outcome.specs.Images.{image_file}
@@ -68,7 +68,7 @@ Ends (Some (check calibration file)) store later out now was is o =
 Ends (Some (bound calibration)) store later out now was is o = BoundEnds calibration store later out now o
 Ends (Some (limits calibration)) store later out now was is o = LimitsEnd calibration store later out now o
 Ends (Some (run telling calibration campaign)) store later out now was is o =
-    RunCommandEnds telling calibration campaign store later out now was is o
+    CampaignCommandEnds telling calibration campaign store later out now was is o
 Ends (Some (record_run calibration campaign name)) store later out now was is o =
     RecordCommandEnds calibration campaign name store later out now was is o
 Ends (Some (sweep calibration campaign name step)) store later out now was is o =

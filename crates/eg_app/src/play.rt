@@ -3,7 +3,7 @@
 ghost use Rattle.std.specs.Prelude.{◌≤◌, Some};
 ghost use Rattle.std.specs.Option.{option_copied};
 ghost use Rattle.eg_outcome.specs.Outcomes.{EndsOrderly};
-ghost use Rattle.eg_play.specs.Ends.{RunCommandEnds, RecordCommandEnds, SweepCommandEnds, NamesFile, role_in};
+ghost use Rattle.eg_play.specs.Ends.{CampaignCommandEnds, RecordCommandEnds, SweepCommandEnds, NamesFile, role_in};
 ghost use Rattle.eg_app.specs.Words.{run, record_run, sweep};
 ghost use Rattle.eg_app.specs.Ends.{TellsMissing};
 
@@ -23,7 +23,7 @@ pub(crate) fn play_campaign<S: Store, K: Sink>(
     out: &mut K,
     steps: &mut Ticks,
 ) -> End
-    ensures ends { RunCommandEnds telling (option_copied calibration.entry) campaign.now
+    ensures ends { CampaignCommandEnds telling (option_copied calibration.entry) campaign.now
         (S.shows store.old) (S.shows store.new) (K.shows out.old) (K.shows out.new) steps.old steps.new
         result.outcome }
     ensures named { NamesFile campaign.now (S.shows store.old) (role_in result.outcome) result.file }

@@ -16,7 +16,7 @@ use Rattle.eg_answer.specs.Answers.{expected_of}
 use Rattle.eg_answer.specs.declared.rules.Rules.{Rules}
 use Rattle.eg_answer.specs.declared.rules.TestRow.{TestRow}
 use Rattle.eg_answer.specs.declared.questions.Question.{Question as QuestionParts}
-use Rattle.eg_values.specs.Calibration.{CalibrationParts, IsAnswered}
+use Rattle.eg_values.specs.Calibration.{CalibrationParts, HasRightAnswer}
 use Rattle.eg_cal.specs.declared.key.CalKey.{CalKey}
 use Rattle.eg_cal.specs.declared.key.CalKey.TheVariants.{Version, PermitPedal, PermitSpeed, PermitTable, PermitThreshold, PermitBrake, TorqueKt, TorqueUp, TorqueDown, TorqueLimit, PairsPedal, PairsPlate, PairsLoad, PairsSpeed, PairsUp, PairsDown, PairsLimit, PlantSlew, PlantFill, PlantAngle, PlantCharge, AnswersPeriod, AnswersFirst, AnswersLast, AnswersSend, AnswersUp, AnswersDown, AnswersLimit, Question, Unknown}
 use Rattle.eg_cal.specs.declared.key.CalFault.{CalFault}
@@ -361,8 +361,8 @@ parts-kept answers ms asked are =
 -- ---- the law
 
 -- whatever the answers were, the right ones are right
-all-answered : (rules : Rules) (qs : List QuestionParts) → All (IsAnswered rules) (map (answered rules) qs)
-all-answered rules qs = All-map (IsAnswered rules) (answered rules) qs (λ i d below. refl)
+all-answered : (rules : Rules) (qs : List QuestionParts) → All (HasRightAnswer rules) (map (answered rules) qs)
+all-answered rules qs = All-map (HasRightAnswer rules) (answered rules) qs (λ i d below. refl)
 
 accepted : (ms : Members) → unanswered_refusal_of ms ≡ None
     → ((d : Data) (q : QuestionParts) → question_of d ≡ Some q → expected_of (rules_of ms) q.row ≤ 65535)

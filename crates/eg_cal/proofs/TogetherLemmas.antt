@@ -11,7 +11,7 @@ use Rattle.eg_answer.specs.declared.rules.Rules.{Rules}
 use Rattle.eg_answer.specs.declared.questions.Question.{Question}
 use Rattle.eg_values.specs.declared.calibration.Apart.{Apart}
 use Rattle.eg_values.specs.declared.calibration.Apart.TheVariants.{Answer}
-use Rattle.eg_values.specs.Calibration.{CalibrationParts, IsAnswered, AreAnswered, IsFirstWrong, IsApart}
+use Rattle.eg_values.specs.Calibration.{CalibrationParts, HasRightAnswer, AreAnswered, IsFirstWrong, IsApart}
 use Rattle.eg_cal.specs.declared.key.CalFault.TheVariants as fault
 use Rattle.eg_toml.proofs.RisingLemmas.{lt-true, true-lt}
 use Rattle.eg_cal.proofs.AxisLemmas.{le-true, true-le, not-true}
@@ -133,14 +133,14 @@ differs a b h = grind (arith, nat_tests)
 -- where there is no first wrong answer, all are right
 pub wrong_answer-none : (rules : Rules) (asked : List Question) → wrong_answer rules asked ≡ None → AreAnswered rules asked
 wrong_answer-none rules asked none =
-    All-from_get_or (IsAnswered rules) asked no_question (λ i below.
+    All-from_get_or (HasRightAnswer rules) asked no_question (λ i below.
     right _ _ (none-first_from (is_wrong rules asked) (length asked) 0 none i (omega arith) (omega arith)))
 
 -- with all answers right there is none
 pub answered-none : (rules : Rules) (asked : List Question) → AreAnswered rules asked → wrong_answer rules asked ≡ None
 answered-none rules asked all =
     first_from-none (is_wrong rules asked) (length asked) 0 (λ k from to.
-    equal _ _ (All-get_or (IsAnswered rules) asked k no_question (omega arith) all))
+    equal _ _ (All-get_or (HasRightAnswer rules) asked k no_question (omega arith) all))
 
 -- the first wrong one by the relation is the first
 wrong_answer-some : (rules : Rules) (asked : List Question) (i : ℕ) → IsFirstWrong rules asked i → wrong_answer rules asked ≡ Some i

@@ -103,6 +103,7 @@ pub record StaysAvailable (kt threshold start : ℕ) (rows : List Row) : Type 0 
 
 -- ---- of every record ----
 
+-- under a lapse whose misses are spaced: in each drive span wrong answers never cut before a trip
 abbrev pub RecordsStayAvailable : {E : Type 0} → BenchEngine E → Type 0
 RecordsStayAvailable b =
     (r : Run) → IsRun r → IsNoneOrValid r.setting.fault → IsSpacedLapse r.setting →

@@ -10,7 +10,7 @@ use Rattle.eg_level2.specs.Order.{stores_of, given_up_stores, TellsTrip}
 use Rattle.eg_level2.specs.Modules.{given_up, module_step, answer_after, order_after, mirror_alone, found_by}
 
 -- The run of the module of that number at a tick of that phase, with what disturbs it.
-pub record IsRun {E : Type 0} (parts : Level2Parts) (number tick : ℕ) (phase : Phase) (disturbance : ℕ)
+pub record IsModuleRun {E : Type 0} (parts : Level2Parts) (number tick : ℕ) (phase : Phase) (disturbance : ℕ)
     (old new : ShownMemory) (result : Result Step E) : Type 0 where
   -- the words after it, and what it answers, orders and finds, where each word had its complement
   pub words : AreMirrored old.words → OnOk result (words_of new.words

@@ -7,7 +7,7 @@ ghost use Rattle.eg_level2.specs.Inputs.{AreParts, IsLookup, inputs_of, asked_of
 ghost use Rattle.eg_level2.specs.Modules.{module_step, step_of};
 ghost use Rattle.eg_level2.specs.Stores.{Keeps, AreFirst};
 ghost use Rattle.eg_level2.specs.Order.{reset_stores, stores_of};
-ghost use Rattle.eg_level2.specs.Runs.{IsRun};
+ghost use Rattle.eg_level2.specs.Runs.{IsModuleRun};
 
 use crate::check::check;
 use crate::debounce::debounce;
@@ -135,7 +135,7 @@ impl Level2 {
         // Module 0 takes any words. The others rely on what it has checked.
         requires mirrored { CHECK < «module» → AreMirrored (M.shows memory.old).words }
         requires within { CHECK < «module» → AreWithin self.now.rules (words_of (M.shows memory.old).words) }
-        ensures { IsRun self.now «module» tick phase disturbance
+        ensures { IsModuleRun self.now «module» tick phase disturbance
             (M.shows memory.old) (M.shows memory.new) result }
     {
         let lookup = Lookup::new(self.rules(), 0, 0);
@@ -158,7 +158,7 @@ impl Level2 {
         requires lookup { IsLookup self.now.rules lookup.now }
         requires mirrored { CHECK < number → AreMirrored (M.shows memory.old).words }
         requires within { CHECK < number → AreWithin self.now.rules (words_of (M.shows memory.old).words) }
-        ensures { IsRun self.now number tick phase disturbance
+        ensures { IsModuleRun self.now number tick phase disturbance
             (M.shows memory.old) (M.shows memory.new) result }
     {
         if number == eg_answer::CHECK {

@@ -13,7 +13,7 @@ use Rattle.eg_model.specs.Engines.{BenchEngine}
 use Rattle.eg_model.specs.Bench.{Run, stepped, engine_after, shown_at, drive_at, entry_at, moments_to}
 use Rattle.eg_model.specs.Rows.{row_of, rows_of, record_rows}
 use Rattle.eg_model.specs.Records.{rows_to}
-use Rattle.eg_model.specs.Outputs.{with_level1, without_slices, without_level1, without_outputs, outputs_of, RecordsActByOutputs, RecordsGoByOutputs}
+use Rattle.eg_model.specs.Outputs.{with_level1, without_slices, without_level1, without_outputs, outputs_of, RecordsActByOutputs, RecordsFollowOutputs}
 use Rattle.eg_model.proofs.RecordTicks.{no_rows, front, record_rows-is}
 use Rattle.eg_model.proofs.OutputLaws.{parts_of, nothing, length-bare, length-alike, passed-alike, kind-alike, before-alike, on-alike, next-alike}
 
@@ -185,8 +185,8 @@ module _ {E : Type 0} (b : BenchEngine E) where
           ∙ ap outputs_of (below (with_level1 image plan r) other_later other other_before others_are)
           ∙ ap (λ n. outputs_of (rows_to b (with_level1 image plan r) n)) (sym long)
 
-  pub records_go_by_outputs : RecordsGoByOutputs b
-  records_go_by_outputs r image plan same =
+  pub records_follow_outputs : RecordsFollowOutputs b
+  records_follow_outputs r image plan same =
       record_rows-is b r
       ∙ rows_to-same b r image plan (length r.drive)
       (ap outputs_of (sym (record_rows-is b r)) ∙ same ∙ ap outputs_of (record_rows-is b (with_level1 image plan r)))

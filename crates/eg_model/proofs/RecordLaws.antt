@@ -260,8 +260,8 @@ module _ {E : Type 0} {b : BenchEngine E} {Keeps : PlantParts → E → Type 0} 
       cut_lapses r.setting start (SpanTo b r count) run.accepted bound lapse is.follows
       (proper_span r run valid start count span is))
 
-  pub records_have_short_lapses : RecordsHaveShortExcess b
-  records_have_short_lapses r run valid bound lapse = each_drive b (ExcessIsShort r.setting.cal) r (λ start count span is.
+  pub records_have_short_excess : RecordsHaveShortExcess b
+  records_have_short_excess r run valid bound lapse = each_drive b (ExcessIsShort r.setting.cal) r (λ start count span is.
       short_lapses r.setting start (SpanTo b r count) run.accepted bound lapse is.follows
       (proper_span r run valid start count span is))
 

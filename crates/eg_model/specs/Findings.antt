@@ -35,7 +35,7 @@ pub record Finds (which : List Watch) (rows : List Row) : Type 0 where
   pub found : IsTrue (is_found row.found watch)
 
 -- the classes that open a shut-off path by themselves: that of a path that doesn't conduct, and that of a
--- wild monitoring module which orders path 2 open at some tick
+-- wild monitoring module whose list has an order to open path 2, whether or not its turn comes
 unfoldable pub opens_path : Class → Bool
 opens_path (PathOpen path) = true
 opens_path (Wild questions opens) = list_any (λ order. order) opens
@@ -107,20 +107,25 @@ pub record NamesWhatCuts (fault : Option Fault) (report : Summary) : Type 0 wher
 
 -- ---- of every record, and every report ----
 
+-- in each drive span a watch that cuts is found before the stages are off
 abbrev pub RecordsFindBeforeOff : {E : Type 0} → BenchEngine E → Type 0
 RecordsFindBeforeOff b = (r : Run) → EachDriveSpan (FindsBeforeOff r.setting.fault) (record_rows b r)
 
+-- in each test span a test that failed is found to have failed
 abbrev pub RecordsFindFailures : {E : Type 0} → BenchEngine E → Type 0
 RecordsFindFailures b = (r : Run) → EachTestSpan FindsFailure (record_rows b r)
 
+-- with no fault or a valid one, in each drive span what spoils the answers is found in time
 abbrev pub RecordsFindFromOnset : {E : Type 0} → BenchEngine E → Type 0
 RecordsFindFromOnset b =
     (r : Run) → IsRun r → IsNoneOrValid r.setting.fault →
     EachDriveSpan (FindsFromOnset r.setting.fault (reaction_of r.setting.cal.times)) (record_rows b r)
 
+-- a word of level 2 that is flipped is found at that tick, and at no other
 abbrev pub RecordsTellFlips : {E : Type 0} → BenchEngine E → Type 0
 RecordsTellFlips b = (r : Run) → TellsFlips r.setting.fault (record_rows b r)
 
+-- the report, whatever name it gives the run, names a watch that was found before its `off`
 abbrev pub ReportsNameWhatCuts : {E : Type 0} → BenchEngine E → Type 0
 ReportsNameWhatCuts b =
     (r : Run) (name : List ℕ) → NamesWhatCuts r.setting.fault (report_of b name r)

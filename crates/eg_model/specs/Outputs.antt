@@ -78,8 +78,8 @@ RecordsActByOutputs b =
     ActByOutputs (record_rows b r) (record_rows b (with_level1 image plan r))
 
 -- So where the outputs of two such runs are equal at all ticks, their rows are the same.
-abbrev pub RecordsGoByOutputs : {E : Type 0} → BenchEngine E → Type 0
-RecordsGoByOutputs b =
+abbrev pub RecordsFollowOutputs : {E : Type 0} → BenchEngine E → Type 0
+RecordsFollowOutputs b =
     (r : Run) (image : List ℕ) (plan : List (List ℕ)) →
     outputs_of (record_rows b r) ≡ outputs_of (record_rows b (with_level1 image plan r)) →
     record_rows b r ≡ record_rows b (with_level1 image plan r)

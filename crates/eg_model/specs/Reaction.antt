@@ -1,5 +1,5 @@
 -- The reaction theorem: whatever level 1 does, and under each listed fault, the stages are off from R ticks
--- after a confirmed torque excess to the end of the power cycle.
+-- after a confirmed torque excess to the end of the drive span.
 use Rattle.std.specs.Prelude.{◌≡◌, ℕ, ◌+◌, ◌≤◌, Bool, true, false, nat_le, List, ◌∷◌, ◌++◌, length, Option, Some, None}
 use Rattle.eg_answer.specs.Times.{reaction_of}
 use Rattle.eg_values.specs.Calibration.{CalibrationParts, IsAccepted}

@@ -110,42 +110,49 @@ AreOff start rows = All (λ row. row.on ≡ false) rows
 
 -- ---- of every record ----
 
+-- with no fault or a listed one: in each drive span the stages are off within R of a confirmed true excess
 abbrev pub RecordsReact : {E : Type 0} → BenchEngine E → Type 0
 RecordsReact b =
     (r : Run) → IsRun r → IsListed r.setting.fault →
     EachDriveSpan (ReactWithin (reaction_of r.setting.cal.times) r.setting.cal.rules.torque
     r.setting.cal.rules.threshold) (record_rows b r)
 
+-- under those of these faults that let level 2 react at once they are off at the next tick
 abbrev pub RecordsReactAtOnce : {E : Type 0} → BenchEngine E → Type 0
 RecordsReactAtOnce b =
     (r : Run) → IsRun r → IsListed r.setting.fault →
     EachDriveSpan (RowsReactAtOnce r.setting.fault r.setting.cal.rules.torque r.setting.cal.rules.threshold)
     (record_rows b r)
 
+-- without a fault: in each drive span they go off one tick after the full-efficiency excess is confirmed
 abbrev pub RecordsCutSharply : {E : Type 0} → BenchEngine E → Type 0
 RecordsCutSharply b =
     (r : Run) → IsRun r → r.setting.fault ≡ None →
     EachDriveSpan (CutOneTickAfter r.setting.cal.rules.torque r.setting.cal.rules.kt
     r.setting.cal.rules.threshold) (record_rows b r)
 
+-- under any fault, up to its onset: the same
 abbrev pub RecordsCutSharplyBefore : {E : Type 0} → BenchEngine E → Type 0
 RecordsCutSharplyBefore b =
     (r : Run) → IsRun r →
     EachDriveSpan (CutSharplyBefore r.setting.fault r.setting.cal.rules.torque r.setting.cal.rules.kt
     r.setting.cal.rules.threshold) (record_rows b r)
 
+-- under a lapse, where the calibration has a bound: excess that stands is cut in each drive span
 abbrev pub RecordsCutStandingExcess : {E : Type 0} → BenchEngine E → Type 0
 RecordsCutStandingExcess b =
     (r : Run) → IsRun r → IsNoneOrValid r.setting.fault →
     HasLapseBound r.setting.cal.rules.torque r.setting.cal.times → IsLapse r.setting.fault →
     EachDriveSpan (CutStandingExcess r.setting.cal) (record_rows b r)
 
+-- and each stretch of excess in it is shorter than the bound for lapses
 abbrev pub RecordsHaveShortExcess : {E : Type 0} → BenchEngine E → Type 0
 RecordsHaveShortExcess b =
     (r : Run) → IsRun r → IsNoneOrValid r.setting.fault →
     HasLapseBound r.setting.cal.rules.torque r.setting.cal.times → IsLapse r.setting.fault →
     EachDriveSpan (ExcessIsShort r.setting.cal) (record_rows b r)
 
+-- with no fault or a valid one: what spoils the answers cuts within R of its onset, in each drive span
 abbrev pub RecordsCutFromOnset : {E : Type 0} → BenchEngine E → Type 0
 RecordsCutFromOnset b =
     (r : Run) → IsRun r → IsNoneOrValid r.setting.fault →

@@ -1,7 +1,7 @@
 // Level 1 acts by its two outputs alone, over histories and by the records of runs on the bench, for the
 // gasoline engine and for the diesel engine.
 ghost use Rattle.eg_model.specs.Engines.{gasoline, diesel};
-ghost use Rattle.eg_model.specs.Outputs.{SpansDisregardLevel1, RunsDisregardLevel1, RecordsActByOutputs, RecordsGoByOutputs};
+ghost use Rattle.eg_model.specs.Outputs.{SpansDisregardLevel1, RunsDisregardLevel1, RecordsActByOutputs, RecordsFollowOutputs};
 
 /// Level 1 acts by its two outputs alone (docs/CONCEPT.md, "Why the unit reacts"), whatever its image and its
 /// slices, without a fault and under every fault. Where the same is out of order at each tick, and drive and
@@ -13,5 +13,5 @@ pub fn level_1_acts_by_its_outputs()
     ensures spans { SpansDisregardLevel1 }
     ensures histories { RunsDisregardLevel1 }
     ensures records { RecordsActByOutputs gasoline × RecordsActByOutputs diesel }
-    ensures same { RecordsGoByOutputs gasoline × RecordsGoByOutputs diesel }
+    ensures same { RecordsFollowOutputs gasoline × RecordsFollowOutputs diesel }
 {}

@@ -44,10 +44,11 @@ first_index w [] = None
 first_index w (bad ∷ before) =
     if is_first w (bad ∷ before) then Some (length before) else first_index w before
 
--- the greatest weight of a window that ends at the last feed, the empty window weighing 0
+-- the greatest of some numbers, and 0 where there is none
 unfoldable pub greatest_of : List ℕ → ℕ
 greatest_of [] = 0
 greatest_of (n ∷ ns) = max n (greatest_of ns)
 
+-- the greatest weight of a window that ends at the last feed, the empty window weighing 0
 unfoldable pub greatest : WeightParts → List Bool → ℕ
 greatest w bits = greatest_of (map (weight w) (windows bits))

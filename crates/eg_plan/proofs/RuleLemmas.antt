@@ -30,7 +30,7 @@ use Rattle.eg_plan.specs.Classes.{class_in, own_keys, class_of}
 use Rattle.eg_plan.specs.Faults.{class_at, fault_refusal, fault_of}
 use Rattle.eg_plan.specs.Runs.{all_items, is_table, faults_refusal, fault_table, table_refusal, is_all_known, run_of, has_name, run_refusal}
 use Rattle.eg_plan.specs.Campaign.{members_in, runs_of, runs_refusal, run_items, are_runs, is_top_known, refusal_of, campaign_of}
-use Rattle.eg_plan.specs.Rules.{IsRun, AreRuns, AcceptedLaw}
+use Rattle.eg_plan.specs.Rules.{IsRunPlan, AreRuns, AcceptedLaw}
 use Rattle.eg_plan.proofs.HeldLemmas.{run_name-held, file_name-held, slices-held, number-held, optional-held, shift-held, words-held, ticks-held, truths-held}
 
 keys-none : (n : ℕ) (ms : Members) (rules : List KeyRule) → keys_refusal n rules ms ≡ None → AllByRecursion (λ rule. key_refusal n rule ms ≡ None) rules
@@ -98,7 +98,7 @@ passed n earlier ms e =
     ∷ unless_true (Name n) (not (has_name (bytes_of name ms) earlier)) ∷ []) e in
     record { keys = keys-none n ms run_keys h.0; table = h.1.1.0; new = not-false _ (unless_true-none (Name n) _ h.1.1.1.1.0) }
 
-run-keeps : (n : ℕ) (earlier : List RunPlan) (ms : Members) → Passed n earlier ms → IsRun (run_of ms)
+run-keeps : (n : ℕ) (earlier : List RunPlan) (ms : Members) → Passed n earlier ms → IsRunPlan (run_of ms)
 run-keeps n earlier ms p = record {
   name = run_name-held n key.Name ms p.keys.0;
   trace = file_name-held n key.Trace ms p.keys.1.0;
@@ -109,11 +109,11 @@ run-keeps n earlier ms p = record {
 
 -- ---- all runs
 
-runs-keep : (n : ℕ) (earlier : List RunPlan) (ds : Items) → runs_refusal n earlier ds ≡ None → All IsRun (runs_of ds)
-runs-keep n earlier no_items e = All-nil IsRun
+runs-keep : (n : ℕ) (earlier : List RunPlan) (ds : Items) → runs_refusal n earlier ds ≡ None → All IsRunPlan (runs_of ds)
+runs-keep n earlier no_items e = All-nil IsRunPlan
 runs-keep n earlier (item d ds) e =
     let (here, rest) = or-none (run_refusal n earlier (members_in d)) _ e in
-    All-cons IsRun _ (runs_of ds) (run-keeps n earlier (members_in d) (passed n earlier (members_in d) here)) (runs-keep (n + 1) (earlier ++ run_of (members_in d) ∷ []) ds rest)
+    All-cons IsRunPlan _ (runs_of ds) (run-keeps n earlier (members_in d) (passed n earlier (members_in d) here)) (runs-keep (n + 1) (earlier ++ run_of (members_in d) ∷ []) ds rest)
 
 fewer : (text : List ℕ) (earlier more : List RunPlan) → has_name text (earlier ++ more) ≡ false → (has_name text earlier ≡ false) × (has_name text more ≡ false)
 fewer text earlier more e =

@@ -43,7 +43,7 @@ pub record IsSlicePlan (rows : List (List ℕ)) : Type 0 where
   pub each : All IsSliceRow rows
 
 -- a run that may be made: its names and its slices keep the rules, and its fault, if any, is a valid one
-pub record IsRun (run : RunPlan) : Type 0 where
+pub record IsRunPlan (run : RunPlan) : Type 0 where
   pub name : IsRunName run.name
   pub trace : IsFileName run.trace
   pub image : IsFileName run.image
@@ -54,7 +54,7 @@ pub record IsRun (run : RunPlan) : Type 0 where
 pub record AreRuns (runs : List RunPlan) : Type 0 where
   pub least : 1 ≤ length runs
   pub most : length runs ≤ 1000
-  pub each : All IsRun runs
+  pub each : All IsRunPlan runs
   pub names : AllPairs (λ earlier later. ¬ (earlier.name ≡ later.name)) runs
 
 -- the law: what is accepted keeps these rules

@@ -1,4 +1,4 @@
--- The data of the gasoline plant.
+-- The data of a plant, gasoline or diesel (the diesel plant reads them in its own way).
 use Rattle.std.specs.Prelude.{ℕ, ◌≤◌, All}
 use Rattle.eg_num.specs.Interpolation.{Curve}
 

@@ -15,7 +15,7 @@ use Rattle.eg_model.specs.Rows.{report_of}
 use Rattle.eg_model.specs.Records.{IsRun}
 use Rattle.eg_model.proofs.GasolineLaws.{gasoline_keeps, gasoline_shows_one_load}
 use Rattle.eg_model.proofs.DieselLaws.{diesel_keeps, diesel_shows_one_load}
-use Rattle.eg_model.proofs.RecordLaws.{records_react, records_react_at_once, records_cut_sharply, records_cut_from_onset, records_cut_standing_excess, records_have_short_lapses, records_test_unpowered, records_pass_tests}
+use Rattle.eg_model.proofs.RecordLaws.{records_react, records_react_at_once, records_cut_sharply, records_cut_from_onset, records_cut_standing_excess, records_have_short_excess, records_test_unpowered, records_pass_tests}
 use Rattle.eg_laws.proofs.AvailabilityRecords.{records_stay_available}
 use Rattle.eg_model.proofs.FindingRecords.{records_find_before_off, records_find_failures, records_find_from_onset, records_tell_flips}
 use Rattle.eg_model.proofs.FindingReports.{reports_name_what_cuts}
@@ -71,7 +71,7 @@ headline r run valid =
       finds_from_onset = records_find_from_onset (bench_of r.engine) r.run run valid;
       tells_flips = records_tell_flips (bench_of r.engine) r.run;
       lapses = records_cut_standing_excess keeps r.run run valid;
-      short = records_have_short_lapses keeps r.run run valid;
+      short = records_have_short_excess keeps r.run run valid;
       stays_available = records_stay_available keeps (shows_one_load_of r.engine) r.run run valid;
       detects = detects r;
       tells_when_off = tells_when_off r;

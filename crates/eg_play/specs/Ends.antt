@@ -165,9 +165,9 @@ NamedEnds campaign name store later nothing work o = (come : Result RunInput Out
 
 -- ---- each command ----
 
-abbrev pub RunCommandEnds : Telling → Option (List ℕ) → List ℕ → ShownStore → ShownStore → ShownSink
+abbrev pub CampaignCommandEnds : Telling → Option (List ℕ) → List ℕ → ShownStore → ShownStore → ShownSink
     → ShownSink → TickCount → TickCount → Outcome → Type 0
-RunCommandEnds telling calibration campaign store later out now was is o =
+CampaignCommandEnds telling calibration campaign store later out now was is o =
     CalibratedEnds calibration store later (NothingPlayed out now was is)
     (λ cal. CampaignEnds campaign store later (NothingPlayed out now was is)
     (λ plans. RunsEnd telling cal plans store later out now was is)) o

@@ -7,7 +7,7 @@ ghost use Rattle.eg_outcome.specs.Calibrations.{MissesCalibration};
 ghost use Rattle.eg_outcome.specs.Outcomes.{EndsOrderly};
 ghost use Rattle.eg_outcome.specs.declared.outcome.Outcome.TheVariants.{ReadFault};
 ghost use Rattle.eg_outcome.specs.declared.outcome.Role.TheVariants as role;
-ghost use Rattle.eg_play.specs.Ends.{NothingPlayed, RunsEnd, CampaignEnds, RunCommandEnds, NamesFile, role_in, name_for, IsNamedIfOfRun};
+ghost use Rattle.eg_play.specs.Ends.{NothingPlayed, RunsEnd, CampaignEnds, CampaignCommandEnds, NamesFile, role_in, name_for, IsNamedIfOfRun};
 
 use crate::campaign::campaign_for;
 use crate::inputs::inputs_for;
@@ -32,8 +32,9 @@ pub fn run<S: Store, K: Sink>(
     out: &mut K,
     steps: &mut Ticks,
 ) -> End
-    ensures ends { RunCommandEnds telling (option_copied calibration.entry) campaign.now (S.shows store.old)
-        (S.shows store.new) (K.shows out.old) (K.shows out.new) steps.old steps.new result.outcome }
+    ensures ends { CampaignCommandEnds telling (option_copied calibration.entry) campaign.now
+        (S.shows store.old) (S.shows store.new) (K.shows out.old) (K.shows out.new) steps.old steps.new
+        result.outcome }
     ensures named { NamesFile campaign.now (S.shows store.old) (role_in result.outcome) result.file }
     // Over a sure store a missing calibration is told, and so is a missing campaign that is read first.
     ensures missing { IsTrue (S.shows store.old).sure

@@ -17,12 +17,12 @@ true_excess threshold row = is_excess row.torque row.limit threshold
 unfoldable pub full_excess : (kt threshold : ℕ) → Row → Bool
 full_excess kt threshold row = is_excess (estimate kt row.charge) row.limit threshold
 
--- the true excess is confirmed at the last of these rows, by the rows of its span
+-- the true excess is confirmed by the last of these rows: at it, or at an earlier row of its span
 unfoldable pub is_excess_confirmed : WeightParts → (threshold : ℕ) → List Row → Bool
 is_excess_confirmed weights threshold rows =
     is_confirmed weights (map (true_excess threshold) (this_span rows))
 
--- the first tick at which the true excess is confirmed, or none
+-- the first tick by which the true excess is confirmed, or none
 unfoldable pub first_confirmed : WeightParts → (threshold : ℕ) → List Row → Option ℕ
 first_confirmed weights threshold [] = None
 first_confirmed weights threshold (row ∷ before) =

@@ -18,11 +18,12 @@ pub record IsSpan (rows : List Row) : Type 0 where
   pub begins : first.fresh ≡ true
   pub goes_on : All (λ row. row.fresh ≡ false) later
 
--- it is a drive span, or a test span
+-- it is a drive span: no test is running at its first row (of the others nothing is asked)
 pub record IsDriveSpan (rows : List Row) : Type 0 where
   pub span : IsSpan rows
   pub drives : span.first.testing ≡ false
 
+-- it is a test span: a test is running at its first row
 pub record IsTestSpan (rows : List Row) : Type 0 where
   pub span : IsSpan rows
   pub tests : span.first.testing ≡ true

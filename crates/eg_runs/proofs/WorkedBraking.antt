@@ -5,7 +5,7 @@ use Rattle.eg_fault.specs.declared.class.Class.TheVariants.{Script, Offset, Bus}
 use Rattle.eg_record.specs.declared.watch.Watch.TheVariants as found
 use Rattle.eg_model.specs.Examples.{idle, full, raise_reader, fault_from, run_of, report_on, reported, moments_in_time, rows_in_time}
 use Rattle.eg_model.proofs.WholeModel.{whole_model}
-use Rattle.eg_runs.specs.Braking.{braking_run, pressed, row_told, told_under, seen_under, held}
+use Rattle.eg_runs.specs.Braking.{braking_run, pressed, row_told, told_under, seen_under, held_throttle_drive}
 
 pub braking_ticks-braked : rows_in_time (braking_run idle None (pressed true ∷ [])) ≡ row_told true 200 0 200 ∷ []
 unfolding whole_model
@@ -24,10 +24,10 @@ pub braking_ticks-free : rows_in_time (braking_run idle None (pressed false ∷ 
 unfolding whole_model
 braking_ticks-free = refl
 
-pub braking_ticks-by_version_1 : rows_in_time (run_of idle None (pressed true ∷ []))
+pub braking_ticks-without_brake : rows_in_time (run_of idle None (pressed true ∷ []))
     ≡ row_told true 2000 1000 2000 ∷ []
 unfolding whole_model
-braking_ticks-by_version_1 = refl
+braking_ticks-without_brake = refl
 
 pub contacts_and_gates-first : seen_under (Offset 8 (pos 5)) false ≡ (0 ∷ 200 ∷ 100 ∷ 0 ∷ 0 ∷ []) ∷ []
 unfolding whole_model
@@ -59,16 +59,16 @@ pub contacts_and_gates-bus_free : map (λ m. m.world.throttle) (moments_in_time
 unfolding whole_model
 contacts_and_gates-bus_free = refl
 
-pub held_throttle_run-cut : report_on (braking_run full None held)
+pub held_throttle_run-cut : report_on (braking_run full None held_throttle_drive)
     ≡ reported (Some (found.Torque, 24)) (Some 25) None (Some 24)
 unfolding whole_model
 held_throttle_run-cut = refl
 
-pub held_throttle_run-one_contact : report_on (braking_run full (fault_from 0 (Script 8 (0 ∷ []))) held)
+pub held_throttle_run-one_contact : report_on (braking_run full (fault_from 0 (Script 8 (0 ∷ []))) held_throttle_drive)
     ≡ reported (Some (found.Torque, 24)) (Some 25) None (Some 24)
 unfolding whole_model
 held_throttle_run-one_contact = refl
 
-pub held_throttle_run-by_version_1 : report_on (run_of full None held) ≡ reported None None None None
+pub held_throttle_run-without_brake : report_on (run_of full None held_throttle_drive) ≡ reported None None None None
 unfolding whole_model
-held_throttle_run-by_version_1 = refl
+held_throttle_run-without_brake = refl

@@ -45,5 +45,6 @@ seen_under class brake = map (λ row. row.signals) (told_under class brake)
 -- ---- level 1 holds the throttle while the driver brakes ----
 
 -- the pedal pressed right down at 3000 rpm for 20 ticks, and then the brake besides for ten more
-abbrev pub held : List DriveRow
-held = replicate 20 (driven 1000 3000 0) ++ replicate 10 (record (driven 1000 3000 0) { brake = true })
+abbrev pub held_throttle_drive : List DriveRow
+held_throttle_drive =
+    replicate 20 (driven 1000 3000 0) ++ replicate 10 (record (driven 1000 3000 0) { brake = true })

@@ -3,7 +3,7 @@ ghost use Rattle.std.specs.Prelude.{◌≡◌, pos, negsuc, true, false, [], ◌
 ghost use Rattle.eg_fault.specs.declared.class.Class.TheVariants.{Script, Offset, Bus};
 ghost use Rattle.eg_record.specs.declared.watch.Watch.TheVariants as found;
 ghost use Rattle.eg_model.specs.Examples.{idle, full, raise_reader, fault_from, run_of, report_on, reported, moments_in_time, rows_in_time};
-ghost use Rattle.eg_runs.specs.Braking.{braking_run, pressed, row_told, told_under, seen_under, held};
+ghost use Rattle.eg_runs.specs.Braking.{braking_run, pressed, row_told, told_under, seen_under, held_throttle_drive};
 
 /// One tick with the pedal pressed right down at 800 rpm and a raise of 600. Where the driver brakes and the
 /// brake counts, level 2 uses the pedal 0, and level 2 and the drive row both permit 200, also where the
@@ -15,7 +15,7 @@ pub fn braking_ticks()
     ensures falsely { told_under (Script 9 (0 ∷ [])) false ≡ row_told false 2000 0 200 ∷ [] }
     ensures free { rows_in_time (braking_run idle None (pressed false ∷ []))
         ≡ row_told false 2000 1000 2000 ∷ [] }
-    ensures by_version_1 { rows_in_time (run_of idle None (pressed true ∷ []))
+    ensures without_brake { rows_in_time (run_of idle None (pressed true ∷ []))
         ≡ row_told true 2000 1000 2000 ∷ [] }
 {}
 
@@ -38,9 +38,9 @@ pub fn contacts_and_gates()
 /// the 100 that are permitted from then on, and is cut one tick after the fifth tick of excess, also where
 /// the first contact is stuck at 0. Where the brake doesn't count nothing is found.
 pub fn held_throttle_run()
-    ensures cut { report_on (braking_run full None held)
+    ensures cut { report_on (braking_run full None held_throttle_drive)
         ≡ reported (Some (found.Torque, 24)) (Some 25) None (Some 24) }
-    ensures one_contact { report_on (braking_run full (fault_from 0 (Script 8 (0 ∷ []))) held)
+    ensures one_contact { report_on (braking_run full (fault_from 0 (Script 8 (0 ∷ []))) held_throttle_drive)
         ≡ reported (Some (found.Torque, 24)) (Some 25) None (Some 24) }
-    ensures by_version_1 { report_on (run_of full None held) ≡ reported None None None None }
+    ensures without_brake { report_on (run_of full None held_throttle_drive) ≡ reported None None None None }
 {}

@@ -37,7 +37,7 @@ use Rattle.eg_tick.specs.Judging.{ComesNext, Tells}
 use Rattle.eg_tick.specs.Advancing.{effects_after, entry_of, world_before, StaysOrSteps}
 use Rattle.eg_tick.specs.declared.monitoring.Judgement.{Judgement}
 use Rattle.eg_tick.specs.declared.paths.Paths.{Paths}
-use Rattle.eg_tick.specs.declared.span.Place.{Place}
+use Rattle.eg_tick.specs.declared.span.SpanTick.{SpanTick}
 use Rattle.eg_tick.specs.declared.span.Span.{Span}
 use Rattle.eg_tick.specs.declared.working.Task.{Task}
 use Rattle.eg_tick.proofs.MonitorLemmas.{span-period, span-later, span-asked}
@@ -193,7 +193,7 @@ stepped result steps s drive slices shown h now before span m memory reset paths
 
 -- What the parts of a tick say, where `old` is the controller as it begins: `under` is the fault, and level 2 is `made` of these parts.
 pub record Advance (old new : Kept) (drive : DriveRow) (budgets : List ℕ) (under : Option Fault) (made : Level2Parts)
-    (paths : Paths) (place : Place) (task : Task) (done : Step) (judged : Judgement) : Type 0 where
+    (paths : Paths) (span_tick : SpanTick) (task : Task) (done : Step) (judged : Judgement) : Type 0 where
   pub accepted : IsAccepted old.cal
   pub parts : made ≡ record { rules = old.cal.rules; questions = old.cal.questions }
   pub few : old.ticks < 20000
@@ -201,10 +201,10 @@ pub record Advance (old new : Kept) (drive : DriveRow) (budgets : List ℕ) (und
   pub path1 : paths.path1 ≡ (effects under old.ticks).conducts 1 old.span.open1
   pub path2 : paths.path2 ≡ (effects under old.ticks).conducts 2 old.span.open2
   pub on : paths.on ≡ (drives (kind_of old.span.tests) && (paths.path1 && paths.path2))
-  pub placed : place.tests ≡ old.span.tests
-  pub fresh : place.fresh ≡ (old.span.local == 0)
-  pub testing : place.testing ≡ is_testing (kind_of old.span.tests) old.cal.times old.span.local
-  pub read : place.reads_back ≡ reads_back (kind_of old.span.tests) old.cal.times old.span.local
+  pub placed : span_tick.tests ≡ old.span.tests
+  pub fresh : span_tick.fresh ≡ (old.span.local == 0)
+  pub testing : span_tick.testing ≡ is_testing (kind_of old.span.tests) old.cal.times old.span.local
+  pub read : span_tick.reads_back ≡ reads_back (kind_of old.span.tests) old.cal.times old.span.local
   pub tick : task.tick ≡ old.ticks
   pub at : task.local ≡ old.span.local
   pub phase : task.phase ≡ phase_at (kind_of old.span.tests) old.cal.times (effects under old.ticks) old.span.local
@@ -225,7 +225,7 @@ pub record Advance (old new : Kept) (drive : DriveRow) (budgets : List ℕ) (und
   pub are_words : AreWords new.memory.words
   pub tests : new.span.tests ≡ old.span.tests
   pub local : new.span.local ≡ old.span.local + 1
-  pub passed : new.span.passed ≡ (place.reads_back && not (paths.path1 || paths.path2))
+  pub passed : new.span.passed ≡ (span_tick.reads_back && not (paths.path1 || paths.path2))
   pub open1 : new.span.open1 ≡ (done.open_path || old.span.open1)
   pub open2 : new.span.open2 ≡ ((judged.confirms || judged.opens) || old.span.open2)
   pub kt : new.kt ≡ old.kt
@@ -234,8 +234,8 @@ pub record Advance (old new : Kept) (drive : DriveRow) (budgets : List ℕ) (und
   pub trap : new.trap ≡ option_or old.trap (trap_in new.registers.state old.ticks)
   pub not_lost : new.lost ≡ false
 
-module _ (old new : Kept) (drive : DriveRow) (budgets : List ℕ) (made : Level2Parts) (paths : Paths) (place : Place) (task : Task) (done : Step)
-    (judged : Judgement) (advance : Advance old new drive budgets old.fault made paths place task done judged) (image : List ℕ) (h : List Entry)
+module _ (old new : Kept) (drive : DriveRow) (budgets : List ℕ) (made : Level2Parts) (paths : Paths) (span_tick : SpanTick) (task : Task) (done : Step)
+    (judged : Judgement) (advance : Advance old new drive budgets old.fault made paths span_tick task done judged) (image : List ℕ) (h : List Entry)
     (enter : Enters (setting_of old image) old (entry_of drive budgets new.shown) h) where
   abbrev s : Setting
   s = setting_of old image
@@ -303,7 +303,7 @@ module _ (old new : Kept) (drive : DriveRow) (budgets : List ℕ) (made : Level2
     begin = begin s e h old enter;
     follows = follows-now s e h old enter;
     count = counted s e h old enter;
-    place = sym enter.span.local;
+    number_in_span = sym enter.span.local;
     marked = steps.mark;
     holds = enter.span.monitor;
   }
@@ -316,7 +316,7 @@ module _ (old new : Kept) (drive : DriveRow) (budgets : List ℕ) (made : Level2
   unfolding tick_after entry_of
   drive-now = advance.is_drive
 
-  pub makes : Makes kind-now s x span-now old new paths place done judged
+  pub makes : Makes kind-now s x span-now old new paths span_tick done judged
   makes = record {
     cal = advance.cal;
     fault = advance.fault;
@@ -346,9 +346,9 @@ module _ (old new : Kept) (drive : DriveRow) (budgets : List ℕ) (made : Level2
   }
 
   -- its row is the model's
-  pub row-told : (row : Row) (allowed : ℕ) → allowed ≡ limit_at old.cal drive → row ≡ row_by old.ticks drive allowed new paths place done judged → row ≡ row_of (length h) (next s e h)
+  pub row-told : (row : Row) (allowed : ℕ) → allowed ≡ limit_at old.cal drive → row ≡ row_by old.ticks drive allowed new paths span_tick done judged → row ≡ row_of (length h) (next s e h)
   unfolding entry_of
-  row-told row allowed permits is = next_row s e h old new paths place done judged enter makes row allowed permits is
+  row-told row allowed permits is = next_row s e h old new paths span_tick done judged enter makes row allowed permits is
 
   pub step-told : (P : ℕ → ℕ → Bool → Option ℕ → Type 0) → P (slice_index old.memory.words 2064) (slice_index old.memory.words 2065) paths.on (effects old.fault old.ticks).held_plate
       → P (world_before s drive h).throttle (world_before s drive h).ignition (next s e h).on (effects_after s h).held_plate

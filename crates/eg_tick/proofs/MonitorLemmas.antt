@@ -336,7 +336,7 @@ module _ (kind : SpanKind) (s : Setting) (x : Tick) (h : List Tick) (fault : Opt
       (verdict ≡ (moment_after kind s x h).verdict) × HoldsMonitor kind s now (x ∷ h)
   judged now verdict hears =
       either kind s comes.begin x h comes.follows answer before now verdict comes.holds comes.marked
-      (subst (λ t. Hears x.effects t answer before now verdict) (sym comes.place)
+      (subst (λ t. Hears x.effects t answer before now verdict) (sym comes.number_in_span)
       (subst (λ y. Hears y local answer before now verdict) effects-is hears)) _ refl
 
   pub judged-opens : (opens : Bool) → opens ≡ (effects fault tick).opens → opens ≡ (moment_after kind s x h).opens
@@ -347,7 +347,7 @@ module _ (kind : SpanKind) (s : Setting) (x : Tick) (h : List Tick) (fault : Opt
   number-is questions same =
       ap (λ questions. number_of (effects fault tick) before.times questions local) (sym same ∙ comes.holds.questions)
       ∙ ap (λ times. number_of (effects fault tick) times s.cal.questions local) comes.holds.times
-      ∙ ap₂ (λ y t. number_of y s.cal.times s.cal.questions t) effects-is (sym comes.place)
+      ∙ ap₂ (λ y t. number_of y s.cal.times s.cal.questions t) effects-is (sym comes.number_in_span)
 
   pub judged-mark : (mark : AnswerMark) (number asked : ℕ) (questions : List Question) → before.questions ≡ questions → mark ≡ mark_of number answer →
       number ≡ answer_number (question_at questions asked).answer → asked ≡ asked_at (effects fault tick) before.times (length questions) local →

@@ -18,7 +18,7 @@ use Rattle.eg_model.proofs.LapseLaw.{cuts_lapses, lapses_are_short}
 use Rattle.eg_model.proofs.SpanLemmas.{length-moments_in, kind-goes_on, ticks_before-begins, ticks_before-goes_on, tick_after, ticks_before, Continues, continues, begin_of, EndsIn, ends_in, proper_drive}
 use Rattle.eg_tick.specs.Kept.{Kept}
 use Rattle.eg_tick.specs.Stands.{Stands}
-use Rattle.eg_tick.specs.Advancing.{entry_of, RowIsUnpowered, DrivesOn, RowReactsInTime, RowReactsAtOnce, RowCutsLapses, HistoryHasShortLapses}
+use Rattle.eg_tick.specs.Advancing.{entry_of, RowIsUnpowered, DrivesOn, RowReactsInTime, RowReactsAtOnce, RowCutsStandingExcess, HistoryHasShortExcess}
 use Rattle.eg_tick.proofs.MomentLemmas.{moment_in-fresh}
 
 -- ---- the next row of a run ----
@@ -136,11 +136,11 @@ module _ (s : Setting) (c : Kept) (drive : DriveRow) (slices : List ℕ) (shown 
       owes h more before 1 on (omega arith)
       (λ start is. reacts_at_once_law s (fit h on.stands) listed start before (subst (λ n. is_at_once s.fault n ≡ true) (sym is) soon) confirmed)
 
-  pub cuts : RowCutsLapses s c row
+  pub cuts : RowCutsStandingExcess s c row
   cuts h more before periods on bounded lapse whole exceeds =
       owes h more before 1 on (omega arith) (λ start is. cuts_lapses s (fit h on.stands) bounded lapse start periods before whole exceeds)
 
-pub short : (s : Setting) (c : Kept) → IsAccepted c.cal → HistoryHasShortLapses s c
+pub short : (s : Setting) (c : Kept) → IsAccepted c.cal → HistoryHasShortExcess s c
 short s c accepted h stands driven bounded lapse n exceeds =
     lapses_are_short s (subst IsAccepted stands.cal accepted) bounded lapse (begin_of s h) (span_ticks s h) (ends_in s h).follows
     (proper_drive s h stands.engine.proper driven) n exceeds

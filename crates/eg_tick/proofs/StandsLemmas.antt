@@ -30,7 +30,7 @@ use Rattle.eg_tick.specs.Working.{Served, IsStep}
 use Rattle.eg_tick.specs.Judging.{Tells}
 use Rattle.eg_tick.specs.declared.monitoring.Judgement.{Judgement}
 use Rattle.eg_tick.specs.declared.paths.Paths.{Paths}
-use Rattle.eg_tick.specs.declared.span.Place.{Place}
+use Rattle.eg_tick.specs.declared.span.SpanTick.{SpanTick}
 use Rattle.eg_tick.specs.declared.span.Span.{Span}
 use Rattle.eg_tick.proofs.MomentLemmas.{moment_in-entry, moment_in-limit, moment_in-path1, moment_in-path2, moment_in-on, moment_in-testing, moment_in-fresh, moment_in-passes, moment_in-start, moment_in-answers}
 
@@ -118,8 +118,8 @@ next-on s e h old paths enter leads =
 
 -- the row of a tick of this number, at which the torque `allowed` is permitted, by what its parts say, where
 -- the controller is `new` after it
-abbrev pub row_by : (tick : ℕ) → DriveRow → (allowed : ℕ) → (new : Kept) → Paths → Place → Step → Judgement → Row
-row_by tick drive allowed new paths place step judgement = record {
+abbrev pub row_by : (tick : ℕ) → DriveRow → (allowed : ℕ) → (new : Kept) → Paths → SpanTick → Step → Judgement → Row
+row_by tick drive allowed new paths span_tick step judgement = record {
   tick = tick;
   drive = drive;
   plate = new.shown.position;
@@ -133,13 +133,13 @@ row_by tick drive allowed new paths place step judgement = record {
   throttle = slice_index new.memory.words 2064;
   ignition = slice_index new.memory.words 2065;
   found = record step.found {
-    answers = drives (kind_of place.tests) && judgement.confirms;
-    start = place.reads_back && (paths.path1 || paths.path2);
+    answers = drives (kind_of span_tick.tests) && judgement.confirms;
+    start = span_tick.reads_back && (paths.path1 || paths.path2);
   };
   answer = judgement.mark;
   verdict = judgement.verdict;
-  testing = place.testing;
-  fresh = place.fresh;
+  testing = span_tick.testing;
+  fresh = span_tick.fresh;
 }
 
 -- the watches of level 2 with those of the monitoring module and of the start-up test are those of the tick
@@ -149,24 +149,24 @@ unfolding found_in_level2
 watches-are found answers start m is same fails = λ i. record (is i) { answers = same i; start = fails i }
 
 -- What the parts of a tick made of a controller: tick x came after h in a span of this kind, and `old` is the controller as it began.
-pub record Makes (kind : SpanKind) (s : Setting) (x : Tick) (h : List Tick) (old new : Kept) (paths : Paths) (place : Place) (done : Step)
+pub record Makes (kind : SpanKind) (s : Setting) (x : Tick) (h : List Tick) (old new : Kept) (paths : Paths) (span_tick : SpanTick) (done : Step)
     (judgement : Judgement) : Type 0 where
   pub cal : new.cal ≡ old.cal
   pub fault : new.fault ≡ old.fault
   pub count : new.ticks ≡ old.ticks + 1
   pub are_words : AreWords new.memory.words
   pub leads : Leads x old paths
-  pub placed : place.tests ≡ old.span.tests
-  pub fresh : place.fresh ≡ (old.span.local == 0)
-  pub testing : place.testing ≡ is_testing (kind_of old.span.tests) s.cal.times old.span.local
-  pub read : place.reads_back ≡ reads_back (kind_of old.span.tests) s.cal.times old.span.local
+  pub placed : span_tick.tests ≡ old.span.tests
+  pub fresh : span_tick.fresh ≡ (old.span.local == 0)
+  pub testing : span_tick.testing ≡ is_testing (kind_of old.span.tests) s.cal.times old.span.local
+  pub read : span_tick.reads_back ≡ reads_back (kind_of old.span.tests) s.cal.times old.span.local
   pub served : Served kind s x h new.registers new.memory.words
   pub step : IsStep kind s x h done
   pub judged : Tells judgement (moment_after kind s x h)
   pub monitor : HoldsMonitor kind s new.span.monitor (x ∷ h)
   pub tests : new.span.tests ≡ old.span.tests
   pub local : new.span.local ≡ old.span.local + 1
-  pub passed : new.span.passed ≡ (place.reads_back && not (paths.path1 || paths.path2))
+  pub passed : new.span.passed ≡ (span_tick.reads_back && not (paths.path1 || paths.path2))
   pub open1 : new.span.open1 ≡ (done.open_path || old.span.open1)
   pub open2 : new.span.open2 ≡ ((judgement.confirms || judgement.opens) || old.span.open2)
   pub kt : new.kt ≡ old.kt
@@ -177,8 +177,8 @@ pub record Makes (kind : SpanKind) (s : Setting) (x : Tick) (h : List Tick) (old
   pub trap : new.trap ≡ option_or old.trap (trap_in new.registers.state old.ticks)
   pub not_lost : new.lost ≡ false
 
-module _ (kind : SpanKind) (s : Setting) (x : Tick) (h : List Tick) (old new : Kept) (paths : Paths) (place : Place) (step : Step)
-    (judgement : Judgement) (makes : Makes kind s x h old new paths place step judgement)
+module _ (kind : SpanKind) (s : Setting) (x : Tick) (h : List Tick) (old new : Kept) (paths : Paths) (span_tick : SpanTick) (step : Step)
+    (judgement : Judgement) (makes : Makes kind s x h old new paths span_tick step judgement)
     (holds : HoldsSpan kind s old.span old.registers old.memory.words h) where
   abbrev m : Moment
   m = moment_after kind s x h
@@ -208,14 +208,14 @@ module _ (kind : SpanKind) (s : Setting) (x : Tick) (h : List Tick) (old new : K
   on-is : paths.on ≡ m.on
   on-is = led-on kind s x h old paths makes.leads holds
 
-  read-is : place.reads_back ≡ reads_back kind s.cal.times (length past)
+  read-is : span_tick.reads_back ≡ reads_back kind s.cal.times (length past)
   read-is = makes.read ∙ ap₂ (λ k n. reads_back k s.cal.times n) holds.kind_is local-is
 
   passes-is : new.span.passed ≡ m.passes
   passes-is = makes.passed ∙ ap₂ (λ r b. r && not b) read-is (ap₂ (λ a b. a || b) path1-is path2-is)
       ∙ sym (moment_in-passes kind s x.effects x.entry past)
 
-  fails-is : (place.reads_back && (paths.path1 || paths.path2)) ≡ m.found.start
+  fails-is : (span_tick.reads_back && (paths.path1 || paths.path2)) ≡ m.found.start
   fails-is = ap₂ (λ r b. r && b) read-is (ap₂ (λ a b. a || b) path1-is path2-is) ∙ sym (moment_in-start kind s x.effects x.entry past)
 
   -- ---- the span ----
@@ -245,11 +245,11 @@ module _ (kind : SpanKind) (s : Setting) (x : Tick) (h : List Tick) (old new : K
   shown-is : new.shown ≡ m.entry.shown
   shown-is = sym makes.shown ∙ ap (λ (e : Entry). e.shown) entered-is
 
-  answers-are : (drives (kind_of place.tests) && judgement.confirms) ≡ m.found.answers
+  answers-are : (drives (kind_of span_tick.tests) && judgement.confirms) ≡ m.found.answers
   answers-are = ap₂ (λ k b. drives k && b) (ap kind_of makes.placed ∙ holds.kind_is) makes.judged.confirms
       ∙ sym (moment_in-answers kind s x.effects x.entry past)
 
-  pub row-is : (row : Row) (allowed : ℕ) → allowed ≡ limit_at s.cal x.entry.drive → row ≡ row_by old.ticks x.entry.drive allowed new paths place step judgement → row ≡ row_of old.ticks m
+  pub row-is : (row : Row) (allowed : ℕ) → allowed ≡ limit_at s.cal x.entry.drive → row ≡ row_by old.ticks x.entry.drive allowed new paths span_tick step judgement → row ≡ row_of old.ticks m
   unfolding row_of world_of
   row-is row allowed permits is = is ∙ (λ i. record {
     tick = old.ticks;
@@ -273,9 +273,9 @@ module _ (kind : SpanKind) (s : Setting) (x : Tick) (h : List Tick) (old new : K
 
 -- ---- what a controller stands for ----
 
-module _ (s : Setting) (e : Entry) (h : List Entry) (old new : Kept) (paths : Paths) (place : Place) (step : Step) (judgement : Judgement)
+module _ (s : Setting) (e : Entry) (h : List Entry) (old new : Kept) (paths : Paths) (span_tick : SpanTick) (step : Step) (judgement : Judgement)
     (enter : Enters s old e h)
-    (makes : Makes (kind_at e.drive (moments s h)) s (tick_after s e h) (ticks_before s e h) old new paths place step judgement) where
+    (makes : Makes (kind_at e.drive (moments s h)) s (tick_after s e h) (ticks_before s e h) old new paths span_tick step judgement) where
   abbrev kind : SpanKind
   kind = kind_at e.drive (moments s h)
 
@@ -321,12 +321,12 @@ module _ (s : Setting) (e : Entry) (h : List Entry) (old new : Kept) (paths : Pa
   unfolding first_trap world_of
   trap-next = makes.trap ∙ ap₂ option_or enter.trap (ap₂ trap_in
       (ap (λ (world : World). world.registers.state)
-      (world-is kind s x before old new paths place step judgement makes enter.span ∙ ap (λ (m : Moment). m.world) (sym moment-is)))
+      (world-is kind s x before old new paths span_tick step judgement makes enter.span ∙ ap (λ (m : Moment). m.world) (sym moment-is)))
       (enter.count ∙ sym (length-run_moments s h)))
 
   passed-next : new.span.passed ≡ has_passed (next s e h ∷ moments s h)
   unfolding has_passed
-  passed-next = passes-is kind s x before old new paths place step judgement makes enter.span ∙ ap (λ (m : Moment). m.passes) (sym moment-is)
+  passed-next = passes-is kind s x before old new paths span_tick step judgement makes enter.span ∙ ap (λ (m : Moment). m.passes) (sym moment-is)
 
   pub next_stands : Stands s new (e ∷ h)
   next_stands = record {
@@ -336,14 +336,14 @@ module _ (s : Setting) (e : Entry) (h : List Entry) (old new : Kept) (paths : Pa
     are_words = makes.are_words;
     span = subst (λ k. HoldsSpan k s new.span new.registers new.memory.words (span_ticks s (e ∷ h))) (sym goes.kind_is)
         (subst (HoldsSpan kind s new.span new.registers new.memory.words) (sym goes.ticks_are)
-        (span-next kind s x before old new paths place step judgement makes enter.span));
+        (span-next kind s x before old new paths span_tick step judgement makes enter.span));
     passed = passed-next ∙ ap has_passed (sym moments-next);
     engine = engine-next;
     trap = trap-next ∙ ap first_trap (sym moments-next);
     not_lost = makes.not_lost;
   }
 
-  pub next_row : (row : Row) (allowed : ℕ) → allowed ≡ limit_at s.cal e.drive → row ≡ row_by old.ticks e.drive allowed new paths place step judgement → row ≡ row_of (length h) (next s e h)
+  pub next_row : (row : Row) (allowed : ℕ) → allowed ≡ limit_at s.cal e.drive → row ≡ row_by old.ticks e.drive allowed new paths span_tick step judgement → row ≡ row_of (length h) (next s e h)
   unfolding tick_after
-  next_row row allowed permits is = row-is kind s x before old new paths place step judgement makes enter.span row allowed permits is
+  next_row row allowed permits is = row-is kind s x before old new paths span_tick step judgement makes enter.span row allowed permits is
       ∙ ap₂ row_of enter.count (sym moment-is)

@@ -88,8 +88,8 @@ RowReactsAtOnce s c row =
 
 -- Under a lapse, excess that stands is cut: where `before` ends with the last tick of a period, and there was
 -- true excess at each tick of its last `lapse_periods` periods, the stages are off at the row.
-abbrev pub RowCutsLapses : Setting → Kept → Row → Type 0
-RowCutsLapses s c row =
+abbrev pub RowCutsStandingExcess : Setting → Kept → Row → Type 0
+RowCutsStandingExcess s c row =
     (h : List Entry) (more before : List Tick) (periods : ℕ) → DrivesOn s c row h (more ++ before) →
     HasLapseBound s.cal.rules.torque s.cal.times → IsLapse s.fault →
     length before ≡ periods * s.cal.times.period →
@@ -98,8 +98,8 @@ RowCutsLapses s c row =
 
 -- In each history that the controller stands for and that ends in a drive span: the ticks in a row with true
 -- excess at its end are fewer than the bound for lapses.
-abbrev pub HistoryHasShortLapses : Setting → Kept → Type 0
-HistoryHasShortLapses s c =
+abbrev pub HistoryHasShortExcess : Setting → Kept → Type 0
+HistoryHasShortExcess s c =
     (h : List Entry) → Stands s c h → span_kind (moments s h) ≡ Drive →
     HasLapseBound s.cal.rules.torque s.cal.times → IsLapse s.fault →
     (n : ℕ) → Exceeds s n (span_ticks s h) → n < lapse_bound_of s.cal.rules.torque s.cal.times

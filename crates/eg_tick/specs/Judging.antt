@@ -49,7 +49,7 @@ pub record ComesNext (kind : SpanKind) (s : Setting) (fault : Option Fault) (tic
   pub begin : ℕ
   pub follows : Follows s.fault begin (x ∷ h)
   pub count : begin + length h ≡ tick
-  pub place : length h ≡ local
+  pub number_in_span : length h ≡ local
   pub marked : mark_of (number_expected s x.effects (length h)) answer
       ≡ (moment_after kind s x h).mark
   pub holds : HoldsMonitor kind s monitor h

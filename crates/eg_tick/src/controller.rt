@@ -9,7 +9,7 @@ ghost use Rattle.eg_model.specs.Rows.{row_of, trap_in, first_trap};
 ghost use Rattle.eg_fault.specs.Faults.{IsNoneOrValid};
 ghost use Rattle.eg_tick.specs.Stands.{Stands, IsController};
 ghost use Rattle.eg_tick.specs.Entering.{StaysOrBegins};
-ghost use Rattle.eg_tick.specs.Advancing.{effects_after, entry_of, world_before, StaysOrSteps, IsTrapped, HoldsOutputs, RowIsUnpowered, RowReactsInTime, RowReactsAtOnce, RowCutsLapses, HistoryHasShortLapses};
+ghost use Rattle.eg_tick.specs.Advancing.{effects_after, entry_of, world_before, StaysOrSteps, IsTrapped, HoldsOutputs, RowIsUnpowered, RowReactsInTime, RowReactsAtOnce, RowCutsStandingExcess, HistoryHasShortExcess};
 ghost use Rattle.eg_tick.specs.Weights.{weight_of};
 
 use crate::Slices;
@@ -177,8 +177,8 @@ impl<E: Engine + Drop, M: Guarded + Drop> Controller<E, M> {
         ensures unpowered { (s : Setting) → IfOk result (RowIsUnpowered s self.old.kept drive.now) }
         ensures reacts { (s : Setting) → IfOk result (RowReactsInTime s self.old.kept) }
         ensures at_once { (s : Setting) → IfOk result (RowReactsAtOnce s self.old.kept) }
-        ensures lapses { (s : Setting) → IfOk result (RowCutsLapses s self.old.kept) }
-        ensures short { (s : Setting) → HistoryHasShortLapses s self.new.kept }
+        ensures lapses { (s : Setting) → IfOk result (RowCutsStandingExcess s self.old.kept) }
+        ensures short { (s : Setting) → HistoryHasShortExcess s self.new.kept }
         // The tick is counted, and its row is weighed.
         ensures count { steps.new.count ≡ (steps.old.count + 1) % 2 ^ 64 }
         ensures weight { IfOk result (λ row.
@@ -257,7 +257,7 @@ impl<E: Engine + Drop, M: Guarded + Drop> Controller<E, M> {
             tick,
             drive: *drive,
             limit: limit(&lookup, &effective),
-            place: self.span.place(self.test_ticks),
+            span_tick: self.span.next_tick(self.test_ticks),
             paths: Paths::at(fault, tick, &self.span),
         };
         let held_plate = held_plate(fault, tick);
@@ -266,7 +266,7 @@ impl<E: Engine + Drop, M: Guarded + Drop> Controller<E, M> {
         let task = Task {
             tick,
             local: local as u16,
-            phase: self.span.phase(fault, tick, times, begins.place.told),
+            phase: self.span.phase(fault, tick, times, begins.span_tick.told),
             asked,
             readings: readings(&self.engine, drive, brake, fault, tick),
             lookup,

@@ -17,7 +17,7 @@ use crate::board::load;
 use crate::monitoring::Judgement;
 use crate::paths::Paths;
 use crate::plant::Commands;
-use crate::span::Place;
+use crate::span::SpanTick;
 use eg_guard::Guarded;
 use eg_level2::{Lookup, word_address};
 use eg_num::{Drive, Watches};
@@ -32,31 +32,32 @@ pub(crate) struct Beginning {
     pub(crate) tick: u32,
     pub(crate) drive: Drive,
     pub(crate) limit: u16,
-    pub(crate) place: Place,
+    pub(crate) span_tick: SpanTick,
     pub(crate) paths: Paths,
 }
 
 impl Beginning {
     /// Whether a start-up test is passed: the paths are read back, and neither conducts.
     pub(crate) fn passes(&self) -> bool
-        ensures { result ≡ (self.now.place.reads_back && not (self.now.paths.path1 || self.now.paths.path2)) }
+        ensures { result ≡
+            (self.now.span_tick.reads_back && not (self.now.paths.path1 || self.now.paths.path2)) }
     {
-        self.place.reads_back && !(self.paths.path1 || self.paths.path2)
+        self.span_tick.reads_back && !(self.paths.path1 || self.paths.path2)
     }
 
     /// Whether a start-up test fails: the paths are read back, and one of them conducts, or both do.
     fn fails(&self) -> bool
-        ensures { result ≡ (self.now.place.reads_back && (self.now.paths.path1 || self.now.paths.path2)) }
+        ensures { result ≡ (self.now.span_tick.reads_back && (self.now.paths.path1 || self.now.paths.path2)) }
     {
-        self.place.reads_back && (self.paths.path1 || self.paths.path2)
+        self.span_tick.reads_back && (self.paths.path1 || self.paths.path2)
     }
 
     /// Whether wrong answers are found, where they are confirmed so: not where the paths are tested.
     #[tactic(auto, unfolding(crate::specs::Stands::kind_of, eg_model::specs::History::drives))]
     fn finds(&self, confirms: bool) -> bool
-        ensures { result ≡ (drives (kind_of self.now.place.tests) && confirms) }
+        ensures { result ≡ (drives (kind_of self.now.span_tick.tests) && confirms) }
     {
-        !self.place.tests && confirms
+        !self.span_tick.tests && confirms
     }
 }
 
@@ -149,13 +150,13 @@ pub(crate) fn row<E: Engine, M: Guarded>(
       throttle = slice_index (M.shows memory.now).words THROTTLE;
       ignition = slice_index (M.shows memory.now).words IGNITION;
       found = record found {
-        answers = drives (kind_of begins.place.tests) && judgement.confirms;
-        start = begins.place.reads_back && (begins.paths.path1 || begins.paths.path2);
+        answers = drives (kind_of begins.span_tick.tests) && judgement.confirms;
+        start = begins.span_tick.reads_back && (begins.paths.path1 || begins.paths.path2);
       };
       answer = judgement.mark;
       verdict = judgement.verdict;
-      testing = begins.place.testing;
-      fresh = begins.place.fresh;
+      testing = begins.span_tick.testing;
+      fresh = begins.span_tick.fresh;
     } }
 {
     let commands = Commands::of(memory);
@@ -179,7 +180,7 @@ pub(crate) fn row<E: Engine, M: Guarded>(
         },
         answer: judgement.mark,
         verdict: judgement.verdict,
-        testing: begins.place.testing,
-        fresh: begins.place.fresh,
+        testing: begins.span_tick.testing,
+        fresh: begins.span_tick.fresh,
     }
 }

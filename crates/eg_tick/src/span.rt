@@ -42,7 +42,7 @@ pub(crate) struct Span {
 
 /// The place of a tick in its span.
 #[derive(Clone, Copy)]
-pub(crate) struct Place {
+pub(crate) struct SpanTick {
     /// Whether the shut-off paths are tested in the span. Else the engine is driven.
     pub(crate) tests: bool,
     /// Whether the tick is the first of the span.
@@ -78,7 +78,7 @@ impl Span {
     }
 
     /// The place of its next tick, where a start-up test reads the paths back at its tick `test_ticks`.
-    pub(crate) fn place(&self, test_ticks: u32) -> Place
+    pub(crate) fn next_tick(&self, test_ticks: u32) -> SpanTick
         requires { self.now.local < 20000 }
         ensures tests { result.tests ≡ self.now.tests }
         ensures fresh { result.fresh ≡ (self.now.local == 0) }
@@ -89,7 +89,7 @@ impl Span {
         ensures reads_back { (times : TimeParts) → test_ticks ≡ test_ticks_of times
             → result.reads_back ≡ reads_back (kind_of self.now.tests) times self.now.local }
     {
-        Place {
+        SpanTick {
             tests: self.tests,
             fresh: self.local == 0,
             testing: self.testing(test_ticks),

@@ -26,18 +26,18 @@ made_of rules plant times questions brake =
     record { rules = rules; plant = plant; times = times; questions = questions; brake = brake }
 
 -- the question's answer is the fold of its row
-abbrev pub IsAnswered : Rules → Question → Type 0
-IsAnswered rules question = question.answer ≡ expected_of rules question.row
+abbrev pub HasRightAnswer : Rules → Question → Type 0
+HasRightAnswer rules question = question.answer ≡ expected_of rules question.row
 
 -- the answer of each question is the fold of its row
 abbrev pub AreAnswered : Rules → List Question → Type 0
-AreAnswered rules questions = All (IsAnswered rules) questions
+AreAnswered rules questions = All (HasRightAnswer rules) questions
 
 -- question i, the first being 0, is the first whose answer isn't the fold of its row
 pub record IsFirstWrong (rules : Rules) (questions : List Question) (i : ℕ) : Type 0 where
   pub within : i < length questions
-  pub wrong : ¬ IsAnswered rules (question_at questions i)
-  pub first : (k : ℕ) → k < i → IsAnswered rules (question_at questions k)
+  pub wrong : ¬ HasRightAnswer rules (question_at questions i)
+  pub first : (k : ℕ) → k < i → HasRightAnswer rules (question_at questions k)
 
 -- the parts go together: one torque of a load of 1000, two questions at least, and each question's answer is
 -- the fold of its row

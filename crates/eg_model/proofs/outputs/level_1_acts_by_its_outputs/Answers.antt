@@ -1,6 +1,6 @@
 use Rattle.eg_model.specs.Engines.{gasoline, diesel}
 use Rattle.eg_model.proofs.OutputLaws.{spans_disregard_level1, runs_disregard_level1}
-use Rattle.eg_model.proofs.OutputRecords.{records_act_by_outputs, records_go_by_outputs}
+use Rattle.eg_model.proofs.OutputRecords.{records_act_by_outputs, records_follow_outputs}
 use Rattle.eg_model.proofs.outputs.level_1_acts_by_its_outputs.Goals as goal
 
 pub returns-clause-spans : goal.returns-clause-spans
@@ -13,4 +13,4 @@ pub returns-clause-records : goal.returns-clause-records
 returns-clause-records c = (records_act_by_outputs gasoline, records_act_by_outputs diesel)
 
 pub returns-clause-same : goal.returns-clause-same
-returns-clause-same c = (records_go_by_outputs gasoline, records_go_by_outputs diesel)
+returns-clause-same c = (records_follow_outputs gasoline, records_follow_outputs diesel)

@@ -1,4 +1,4 @@
-use Rattle.eg_runs.proofs.WorkedBraking.{braking_ticks-braked, braking_ticks-one_contact, braking_ticks-falsely, braking_ticks-free, braking_ticks-by_version_1}
+use Rattle.eg_runs.proofs.WorkedBraking.{braking_ticks-braked, braking_ticks-one_contact, braking_ticks-falsely, braking_ticks-free, braking_ticks-without_brake}
 use Rattle.eg_runs.proofs.braking.braking_ticks.Goals as goal
 
 pub returns-clause-braked : goal.returns-clause-braked
@@ -13,5 +13,5 @@ returns-clause-falsely c = braking_ticks-falsely
 pub returns-clause-free : goal.returns-clause-free
 returns-clause-free c = braking_ticks-free
 
-pub returns-clause-by_version_1 : goal.returns-clause-by_version_1
-returns-clause-by_version_1 c = braking_ticks-by_version_1
+pub returns-clause-without_brake : goal.returns-clause-without_brake
+returns-clause-without_brake c = braking_ticks-without_brake

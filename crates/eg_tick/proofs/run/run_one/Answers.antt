@@ -8,7 +8,7 @@ use Rattle.eg_model.specs.Bench.{Run}
 use Rattle.eg_model.specs.PowerCycles.{SpansBeginInTurn}
 use Rattle.eg_model.specs.Records.{ReactWithin, CutOneTickAfter, RowsReactAtOnce, CutStandingExcess, ExcessIsShort, AreOff}
 use Rattle.eg_model.proofs.GasolineLaws.{gasoline_keeps, gasoline_shows_one_load}
-use Rattle.eg_model.proofs.RecordLaws.{records_react, records_react_at_once, records_cut_sharply, records_cut_standing_excess, records_have_short_lapses, records_test_unpowered, records_pass_tests}
+use Rattle.eg_model.proofs.RecordLaws.{records_react, records_react_at_once, records_cut_sharply, records_cut_standing_excess, records_have_short_excess, records_test_unpowered, records_pass_tests}
 use Rattle.eg_model.proofs.PowerCycleLaws.{records_begin_in_turn}
 use Rattle.eg_model.proofs.WholeRecord.{newest_first}
 use Rattle.eg_tick.specs.Run.{run_by}
@@ -43,7 +43,7 @@ pub returns-clause-short : goal.returns-clause-short
 returns-clause-short c = λ bound lapse. IfOk-weaker c.record_run.result _ _ (λ made m.
     let r : Run = run_by c.args.calibration.now c.args.image.now (option_copied c.args.fault) c.args.plan.now c.args.drive.now in
     subst (EachDriveSpan (ExcessIsShort r.setting.cal)) (newest_first gasoline r made.rows m.rows_are)
-    (records_have_short_lapses gasoline_keeps r (is_run r made.rows made.trap c.rules-rules.ensures.accepted m) c.requires.fault bound lapse)) c.record_run.ensures.made
+    (records_have_short_excess gasoline_keeps r (is_run r made.rows made.trap c.rules-rules.ensures.accepted m) c.requires.fault bound lapse)) c.record_run.ensures.made
 
 pub returns-clause-cycles : goal.returns-clause-cycles
 returns-clause-cycles c = IfOk-weaker c.record_run.result _ _ (λ made m.

@@ -35,8 +35,8 @@ enter-requires g c =
       decoded = c.self.invariant.decoded c.if-self.false;
     }
 
-pub place-requires : goal.place-requires
-place-requires g c =
+pub next_tick-requires : goal.next_tick-requires
+next_tick-requires g c =
     few-in _ (c.self.invariant.keeps.stands c.if-self.false) c.args.drive.now _ c.enter.new.span c.enter.new.level1.host.registers (g.M.Guarded.shows c.enter.new.memory)
     c.reset.ensures.reset c.in_ok-enter.ensures.holds (subst (λ v. v < 20000) (sym (ap (λ v. v.kept.ticks) c.self.view_is)) c.requires.fewer)
 
@@ -115,11 +115,11 @@ are_words : (g : Over) (c : goal.After-row g) → AreWords (g.M.Guarded.shows c.
 are_words g c = c.work.ensures.keeps.are_words (c.enter.ensures.keeps.are_words (c.self.invariant.keeps.stands c.if-self.false).2.are_words)
 
 advance : (g : Over) (c : goal.After-row g) → Advance (old g c) (new g c) c.args.drive.now c.args.slices.now c.self.inside.fault c.self.inside.level2
-    c.at.result c.place.result (task g c) c.in_ok-step.step c.judge-judged.result
+    c.at.result c.next_tick.result (task g c) c.in_ok-step.step c.judge-judged.result
 advance g c =
     let noted = c.note.ensures in
     let test_ticks = c.self.invariant.test_ticks_are in
-    subst (λ under. Advance (old g c) (new g c) c.args.drive.now c.args.slices.now under c.self.inside.level2 c.at.result c.place.result
+    subst (λ under. Advance (old g c) (new g c) c.args.drive.now c.args.slices.now under c.self.inside.level2 c.at.result c.next_tick.result
     (task g c) c.in_ok-step.step c.judge-judged.result)
     c.as_ref-fault.ensures.value
     (record {
@@ -130,10 +130,10 @@ advance g c =
       path1 = c.at.ensures.path1;
       path2 = c.at.ensures.path2;
       on = c.at.ensures.on;
-      placed = c.place.ensures.tests;
-      fresh = c.place.ensures.fresh;
-      testing = c.place.ensures.testing _ test_ticks;
-      read = c.place.ensures.reads_back _ test_ticks;
+      placed = c.next_tick.ensures.tests;
+      fresh = c.next_tick.ensures.fresh;
+      testing = c.next_tick.ensures.testing _ test_ticks;
+      read = c.next_tick.ensures.reads_back _ test_ticks;
       tick = refl;
       at = refl;
       phase = c.phase.ensures
