@@ -1,5 +1,6 @@
--- The results of a test row, and its answer: level 2 computes on the row, once when level 2 is made, what it
--- computes on the sensors' readings at each tick.
+-- The answer to a test row is the fold of its seed and of the five results that level 2's formulas give on
+-- the row. Level 2 computes on the row, once when level 2 is made, what it computes on the sensors' readings
+-- at each tick.
 use Rattle.std.specs.Prelude.{ℕ, ◌+◌, ◌*◌, false, List, [], ◌∷◌}
 use Rattle.eg_sensor.specs.Readings.{used_pedal}
 use Rattle.eg_answer.specs.Folds.{fold_of}

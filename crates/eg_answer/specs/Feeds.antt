@@ -1,5 +1,5 @@
--- What the five debouncers of level 2 are fed with: each a bit of its own, those of the four pairs in the
--- word of the pairs, and that of the torque in the word of the excess. Other bits don't count.
+-- Each of the five debouncers of level 2 is fed with one bit: the four pairs' in the word of the pairs, the
+-- torque's in the word of the excess. Other bits don't count.
 use Rattle.std.specs.Prelude.{ℕ, Bool}
 use Rattle.eg_sensor.specs.Readings.{has_bit}
 use Rattle.eg_sensor.specs.declared.pairs.TheConstants.{PEDAL_PAIR, PLATE_PAIR, LOAD_PAIR, SPEED_PAIR}

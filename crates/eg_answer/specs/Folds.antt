@@ -1,4 +1,5 @@
--- The fold: one number of 16 bits for a seed and its results. It is one-to-one in each single result.
+-- The fold of a seed and results rotates the bits so far by three places for each result, and mixes the
+-- result in by exclusive or. It is one number of 16 bits, and one-to-one in each single result.
 use Rattle.std.specs.Prelude.{◌≡◌, ℕ, ◌<◌, ◌^◌, List, length, All, fold, slice_set, bit_xor}
 use Rattle.std.specs.Int.{w16, rotate_left}
 

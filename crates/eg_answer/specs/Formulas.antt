@@ -1,5 +1,6 @@
--- What level 2 computes, of the sensors' readings and of a test row alike. The lower of the two pedal values
--- is `used_pedal` of the sensors.
+-- Level 2 computes the permitted torque, the estimate of the higher load, whether it is an excess, and the
+-- pairs that disagree, of readings and test rows alike. The lower of the two pedal values is `used_pedal` of
+-- the sensors.
 use Rattle.std.specs.Prelude.{ℕ, max, slice_index}
 use Rattle.eg_num.specs.Arithmetic.{estimate}
 use Rattle.eg_torque.specs.Permit.{permitted}

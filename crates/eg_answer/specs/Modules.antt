@@ -1,4 +1,6 @@
--- The eight modules of level 2, by their numbers, in the order in which they run.
+-- Level 2 is eight modules, which run in this order: check, pedal, permitted, actual, excess, pairs, debounce
+-- and react. Each has a number, from 0 on. What is said of those that run at a tick, and of those that are
+-- disturbed, stands here too.
 use Rattle.std.specs.Prelude.{ℕ, ◌≡◌, ◌^◌, ◌≤◌, ◌<◌, ◌==◌, ◌⊎◌, Bool, true, false, not, List, [], ◌∷◌, ◌++◌, if◌then◌else◌}
 use Rattle.eg_answer.specs.declared.modules.TheConstants.{CHECK, PEDAL, PERMITTED, ACTUAL, EXCESS, PAIRS, DEBOUNCE, REACT}
 

@@ -1,5 +1,6 @@
--- Periods: which question is asked at a tick, when its answer is sent and may come, and what the verdict over
--- a period's answers is. Ticks are counted from the begin of the first period, and lists stand newest first.
+-- Ticks are counted in periods, each with a question; a period's verdict is right exactly where one answer
+-- came in it, within the window, and it was good. Ticks are counted from the begin of the first period, and
+-- lists stand newest first.
 use Rattle.std.specs.Prelude.{ℕ, ◌+◌, ◌/◌, ◌%◌, ◌==◌, ◌≡◌, ◌≤◌, nat_le, Bool, true, false, ◌&&◌, List, [], ◌∷◌, length, map, Option, Some, None, if◌then◌else◌}
 use Rattle.eg_answer.specs.Answers.{answer_number}
 use Rattle.eg_answer.specs.Questions.{question_at}

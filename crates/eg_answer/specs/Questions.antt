@@ -1,4 +1,5 @@
--- The questions of the monitoring module, by their numbers from 0 on.
+-- The questions of the monitoring module have numbers from 0 on, and past the last one stands a question
+-- whose numbers are all 0.
 use Rattle.std.specs.Prelude.{ℕ, List, [], ◌∷◌, slice_index_or}
 use Rattle.eg_answer.specs.declared.questions.Question.{Question}
 

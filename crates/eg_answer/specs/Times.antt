@@ -1,5 +1,6 @@
--- When answers are sent and may come, and how long it takes until wrong ones open a path. The ticks of a
--- period are counted from its begin.
+-- The worst-case reaction is a period for each wrong verdict that it takes to confirm, and one more, less the
+-- send tick and 1; the bound for lapses is whole periods. A calibration says how long a period is, when in it
+-- answers are sent and when they may come. The ticks of a period are counted from its begin.
 use Rattle.std.specs.Prelude.{◌≡◌, ℕ, ◌+◌, ◌*◌, ◌-◌, ◌≤◌, ◌<◌}
 use Rattle.eg_num.specs.Arithmetic.{quotient_up}
 use Rattle.eg_num.specs.Windows.{WeightParts}

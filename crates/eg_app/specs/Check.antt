@@ -1,4 +1,5 @@
--- What `check` says of a file: the first tick by which the torque excess of its rows is confirmed.
+-- A row of a check file has excess where its torque is more than it permits and the threshold; `check` tells
+-- the first tick by which that is confirmed.
 use Rattle.std.specs.Prelude.{ℕ, List, ◌++◌, Bool, map, codes, decimal, Option, Some, None, Result}
 use Rattle.eg_torque.specs.Permit.{drive_permits}
 use Rattle.eg_torque.specs.Excess.{is_excess}

@@ -1,8 +1,9 @@
--- How a call ends: one relation for each command, by cases on the outcome, inside what comes of its
--- calibration. It speaks of what the store and the output show before the call (`store`, `out`) and after
--- it (`later`, `now`). A fault that is met is counted, and each case says whose count rose and whose
--- stayed. So each outcome comes exactly where its case says (but where a count stands at the last value of
--- a u64); running out of memory alone may come at any place. Where a call reads several files, the count
+-- Each command ends Done, with its whole text written, or with another outcome, whose case says what was put
+-- and whose count of faults rose. There is one relation for each command, by cases on the outcome, inside
+-- what comes of its calibration. It speaks of what the store and the output show before the call (`store`,
+-- `out`) and after it (`later`, `now`). A fault that is met is counted, and each case says whose count stayed
+-- too. So each outcome comes exactly where its case says (but where a count stands at the last value of a
+-- u64); running out of memory alone may come at any place. Where a call reads several files, the count
 -- doesn't tell which of the reads met a fault: over a sure store `FileComes` and `TellsMissing` do, else a
 -- test.
 use Rattle.std.specs.Prelude.{◌≡◌, ◌⊎◌, ◌↔◌, ℕ, List, Option, Some, None, Result, Ok, IsTrue}

@@ -1,4 +1,5 @@
--- The headline, over the files that a call reads and the text that it writes.
+-- Where a command that plays runs ends Done, its runs are those that the files say, or that were drawn, their
+-- text was written, and each of them keeps the headline.
 use Rattle.std.specs.Prelude.{◌≡◌, ℕ, ◌+◌, List, [], ◌∷◌, map, All, Option, Some, None, Ok}
 use Rattle.eg_base.specs.Outside.{ShownStore, ShownSink, Appends}
 use Rattle.eg_answer.specs.Times.{reaction_of}

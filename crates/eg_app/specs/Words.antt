@@ -1,4 +1,5 @@
--- What the words of the command line ask for. A word is the list of its bytes.
+-- The words of the command line ask for one command, with the files, run, step, seed or calibration that it
+-- needs, or for none. A word is the list of its bytes.
 use Rattle.std.specs.Prelude.{ℕ, ◌+◌, ◌≤◌, List, [], map, codes, length, Option, Some, None, option_and_then, option_map, Bool, ◌&&◌, ◌==◌, not, nat_le, nat_lt, if◌then◌else◌, bytes_eq, string_bytes, slice_index_or, slice_index}
 use Rattle.std.specs.Option.{option_copied}
 use Rattle.std.specs.declared.string.String.{String}

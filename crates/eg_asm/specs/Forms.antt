@@ -1,4 +1,5 @@
--- The forms of instructions. Assembling and disassembling both use this table.
+-- A form of instructions has a name, a word with 0 in each operand, and the kinds of its operands; there are
+-- eighteen, and any word is of the last. Assembling and disassembling both use this table.
 use Rattle.std.specs.Prelude.{ℕ, List, [], ◌∷◌, codes, Option, find}
 use Rattle.std.specs.Str.{bytes_eq}
 use Rattle.eg_asm.specs.declared.operand.Operand.{Operand}

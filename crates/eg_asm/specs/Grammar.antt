@@ -1,4 +1,5 @@
--- The grammar of sources: what a line may say, and how it is written. Reading a line undoes this.
+-- A line of a source says nothing, a comment, a label, or an instruction with its operands, and is the text
+-- of that with a line feed. Reading a line undoes this.
 use Rattle.std.specs.Prelude.{◌≡◌, ℕ, ◌<◌, ◌≤◌, ℤ, true, false, List, [], ◌∷◌, ◌++◌, map, codes, IsSomeAnd}
 use Rattle.std.specs.Char.{is_newline}
 use Rattle.std.specs.List.{AllZip, AllByRecursion, flat_map, join_with_byte, list_any}

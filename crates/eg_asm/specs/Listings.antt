@@ -1,4 +1,5 @@
--- What words are written as: as a source, and as an image.
+-- A word is written in a source as an instruction of the first form that has this word, and in an image as
+-- four hexadecimal digits.
 use Rattle.std.specs.Prelude.{ℕ, ◌+◌, ◌/◌, ◌%◌, ◌*◌, ◌==◌, Bool, false, List, [], ◌++◌, map, codes, find, unwrap_or}
 use Rattle.std.specs.Int.{to_be_bytes, w16}
 use Rattle.std.specs.List.{flat_map}

@@ -1,4 +1,5 @@
--- Numbers and names, as a source has them.
+-- A number is written as decimal digits without a leading 0, with a sign where it is negative, and a name is
+-- 1 to 16 letters a to z.
 use Rattle.std.specs.Prelude.{ℕ, ◌+◌, ◌==◌, ℤ, pos, negsuc, if◌then◌else◌, nat_le, Bool, ◌&&◌, List, ◌++◌, length, map, codes}
 use Rattle.std.specs.List.{list_all}
 use Rattle.std.specs.Str.{byte}

@@ -1,4 +1,6 @@
--- The words of a source, and what is at fault in it though each of its lines is of the grammar.
+-- The word of an instruction is its form's with its operands added; at fault is a label that stands twice, or
+-- a target that is missing or out of range. A source may be at fault by these though each of its lines is of
+-- the grammar.
 use Rattle.std.specs.Prelude.{ℕ, ◌+◌, ◌-◌, ◌*◌, ℤ, pos, negsuc, ◌-ℤ◌, if◌then◌else◌, nat_lt, Bool, true, List, [], ◌∷◌, ◌++◌, length, Option, Some, None, is_none, is_some, option_map, option_and_then}
 use Rattle.std.specs.List.{cons_option}
 use Rattle.std.specs.Map.{lookup}

@@ -1,5 +1,6 @@
--- What lies outside the program: the files that a store holds and the bytes that an output takes.
--- A contract sees a store or an output by what it shows at a moment, and says how a call changes that.
+-- A store shows its files, and an output the bytes that were written, each where they are told, with how many
+-- faults were met and whether it is sure. A contract sees a store or an output, which lie outside the
+-- program, by what it shows at a moment, and says how a call changes that.
 use Rattle.std.specs.Prelude.{◌≡◌, ℕ, ◌+◌, ◌-◌, ◌^◌, ◌≤◌, min, List, ◌++◌, length, take, Bool, Option, option_map, IfSome, IsSomeAnd, IsNone}
 use Rattle.std.specs.Ordering.{nat_cmp}
 use Rattle.std.specs.Cmp.Lexicographic.{slice_cmp}

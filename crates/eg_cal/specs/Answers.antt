@@ -1,5 +1,6 @@
--- The right answers to the questions of a calibration file, whatever answers stand in it, and what becomes of
--- the file with these put in.
+-- The right answers to the questions of a calibration file are the folds of their rows, whatever answers
+-- stand in it; it may still be refused for anything else. What becomes of the file with these put in is said
+-- here too.
 use Rattle.std.specs.Prelude.{◌≡◌, ◌≢◌, ℕ, pos, List, ◌∷◌, map, codes, Option, Some, None, Result, Ok, Err, if◌then◌else◌}
 use Rattle.toml.specs.Data.{Data, integer, array, table, Items, item, Members, no_members, member, same_key}
 use Rattle.eg_toml.specs.Refusals.{unless}

@@ -1,4 +1,5 @@
--- What a calibration file says: a calibration, or the first refusal.
+-- A calibration file says the calibration under its keys, or its first refusal: of the keys in their order,
+-- other names, the values together, and last the answers.
 use Rattle.std.specs.Prelude.{ℕ, zero, suc, ◌-◌, ◌==◌, ◌&&◌, Bool, not, nat_le, nat_lt, is_some, [], ◌∷◌, List, length, Option, Some, None, option_map, if◌then◌else◌, Result, Err}
 use Rattle.toml.specs.Data.{Members}
 use Rattle.eg_num.specs.Windows.{WeightParts}

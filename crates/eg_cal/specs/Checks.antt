@@ -1,4 +1,5 @@
--- The first key of a calibration file that has a fault.
+-- A key of a calibration file has a fault where it doesn't hold what it may, and of several keys the first
+-- that has one in their order counts.
 use Rattle.std.specs.Prelude.{ℕ, List, [], ◌∷◌, Option, Some, None, if◌then◌else◌}
 use Rattle.toml.specs.Data.{Members}
 use Rattle.eg_toml.specs.Arrays.{is_rising}

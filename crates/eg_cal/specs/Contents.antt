@@ -1,4 +1,5 @@
--- What stands under the keys of a calibration file.
+-- What stands under a key of a calibration file is read where the key may hold it, and else counts as 0, as
+-- false or as an empty list. A file is refused in which a key of its version holds something else.
 use Rattle.std.specs.Prelude.{ℕ, Bool, false, List, [], ◌∷◌, length, Option, Some, unwrap_or}
 use Rattle.toml.specs.Data.{Data, Members, get_member, as_bool}
 use Rattle.eg_answer.specs.declared.questions.Question.{Question as QuestionParts}

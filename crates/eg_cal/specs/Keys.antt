@@ -1,5 +1,5 @@
--- The table of a calibration file's keys: where each stands, what it may hold, and in which versions of the
--- format it stands. The keys are checked in the order in which they stand here.
+-- Each key of a calibration file stands at the top or in one of five tables, and may hold what this table
+-- says; only version 2 has one for the brake. The keys are checked in the order in which they stand here.
 use Rattle.std.specs.Prelude.{ℕ, ◌==◌, Bool, List, [], ◌∷◌, ◌++◌, codes, if◌then◌else◌}
 use Rattle.eg_cal.specs.declared.key.CalKey.{CalKey}
 use Rattle.eg_cal.specs.declared.key.CalKey.TheVariants.{Version, PermitPedal, PermitSpeed, PermitTable, PermitThreshold, PermitBrake, TorqueKt, TorqueUp, TorqueDown, TorqueLimit, PairsPedal, PairsPlate, PairsLoad, PairsSpeed, PairsUp, PairsDown, PairsLimit, PlantSlew, PlantFill, PlantAngle, PlantCharge, AnswersPeriod, AnswersFirst, AnswersLast, AnswersSend, AnswersUp, AnswersDown, AnswersLimit, Question, Unknown}

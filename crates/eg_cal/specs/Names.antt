@@ -1,4 +1,5 @@
--- The names that a calibration file may have.
+-- A calibration file may have no name, at the top or in a table, but those of its five tables and of its
+-- version's keys.
 use Rattle.std.specs.Prelude.{ℕ, Bool, true, ◌&&◌, List, [], ◌∷◌, ◌++◌, map, codes, Option, Some, None}
 use Rattle.toml.specs.Data.{Members}
 use Rattle.eg_toml.specs.Values.{table_at}

@@ -1,4 +1,5 @@
--- The questions of a calibration file.
+-- A question of a calibration file is a table with all of eleven names and no other, each of one word or two,
+-- and there are 2 to 64 questions.
 use Rattle.std.specs.Prelude.{ℕ, List, [], ◌∷◌, codes, Option, Some, None, if◌then◌else◌}
 use Rattle.toml.specs.Data.{Data, Members, get_member, as_table}
 use Rattle.eg_sensor.specs.declared.readings.Readings.{Readings}

@@ -1,7 +1,7 @@
--- Runs that share the part before their faults. Runs of one drive, one image, one slice plan and one engine
--- are of one group: up to the onset of its fault each of them is the run without a fault. So where a group
--- has more than one run, the run without a fault is made once and kept at each hundredth tick, and a run with
--- a fault is made from the last of these ticks on that isn't after the onset.
+-- Runs of one drive, image, slice plan and engine are a group, in which a run with a fault goes on from a
+-- tick of the run without one. Up to the onset of its fault each of them is the run without a fault. So where
+-- a group has more than one run, that run is kept at each hundredth tick, and a run with a fault is made from
+-- the last of these ticks on that isn't after the onset.
 use Rattle.std.specs.Prelude.{◌≡◌, ℕ, ◌*◌, ◌/◌, Bool, true, false, ◌==◌, ◌&&◌, nat_lt, nat_eq, List, [], ◌∷◌, ◌++◌, map, filter, drop, length, reverse, Option, Some, None, if◌then◌else◌}
 use Rattle.std.specs.Bool.{beq}
 use Rattle.std.specs.List.{flat_map, list_any}

@@ -1,5 +1,5 @@
--- The runs of a campaign, played: which inputs may be, what run an input is and of which engine, and what the
--- report says of it.
+-- An input is a plan, a drive and an image, and by a calibration a run of the engine that its plan names,
+-- with a record and a report. Which inputs may be played is said here too.
 use Rattle.std.specs.Prelude.{ℕ, ◌≤◌, List, length, reverse, All}
 use Rattle.std.specs.List.{flat_map}
 use Rattle.eg_guard.specs.declared.regions.TheConstants.{DATA as CODE_END}

@@ -1,4 +1,5 @@
--- How a record is written while its ticks are made: all of it, or up to where that was stopped.
+-- A record is written while its ticks are made: where that was stopped, the line of each tick that was made,
+-- but for the last, stands whole in what was written.
 use Rattle.std.specs.Prelude.{◌≡◌, ℕ, zero, suc, ◌≤◌, List, ◌++◌, take, length}
 use Rattle.eg_base.specs.Outside.{ShownSink, Appends, BeginsWith}
 use Rattle.eg_record.specs.declared.row.Row.{Row}

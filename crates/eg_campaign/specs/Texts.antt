@@ -1,4 +1,4 @@
--- The record of a run as a text.
+-- The record of a run is written as a header and a line for each of its rows, in the order of time.
 use Rattle.std.specs.Prelude.{ℕ, List, ◌++◌, map}
 use Rattle.std.specs.List.{concat}
 use Rattle.eg_values.specs.Calibration.{CalibrationParts}

@@ -1,8 +1,8 @@
--- The diesel plant. The rack meters what is injected, the boost of air follows the rack, and no more is
--- injected than burns in this boost without smoke. Torque is what the quantity gives at the efficiency of the
--- ignition. One step is one tick. The plant uses the data of the gasoline plant: `charge` is read as the
--- smoke limit of each boost, `slew` is the most that the rack moves in a tick, and `fill` the most that the
--- boost does.
+-- At each step of the diesel engine the rack moves toward its command, the boost follows the rack, and no
+-- more is injected than burns in that boost without smoke. Torque is what the quantity gives at the
+-- efficiency of the ignition. One step is one tick. The plant uses the data of the gasoline plant: `charge`
+-- is read as the smoke limit of each boost, `slew` is the most that the rack moves in a tick, and `fill` the
+-- most that the boost does.
 use Rattle.std.specs.Prelude.{◌≡◌, ℕ, Bool, Option, min, if◌then◌else◌}
 use Rattle.eg_num.specs.Arithmetic.{moved_toward}
 use Rattle.eg_num.specs.Interpolation.{curve_at}

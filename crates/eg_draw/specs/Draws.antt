@@ -1,4 +1,5 @@
--- Numbers that are drawn one after another from a state, which goes on with each.
+-- A draw takes a state of 32 bits to the next, a fixed number times it and another added, and gives the upper
+-- half of the next. So numbers are drawn one after another.
 use Rattle.std.specs.Prelude.{ℕ, zero, suc, ◌+◌, ◌*◌, ◌/◌, ◌%◌, ◌^◌, List, [], ◌∷◌}
 
 -- the state after a draw

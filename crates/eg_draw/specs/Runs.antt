@@ -1,5 +1,5 @@
--- The run that is drawn in a state: an image of level 1, a drive of 2,000 ticks, and a fault or none. Beside
--- what each part gives stands how many draws it takes.
+-- The run drawn in a state has an image of one of four kinds, a drive of twenty stretches of a hundred equal
+-- rows, and a fault of any class or none. Beside what each part gives stands how many draws it takes.
 use Rattle.std.specs.Prelude.{ℕ, zero, suc, ◌≡◌, ◌+◌, ◌%◌, ◌≤◌, ◌==◌, pos, false, List, [], ◌∷◌, ◌++◌, map, replicate, take, slice_index, slice_set, length, All, Option, Some, None, IfSome, if◌then◌else◌}
 use Rattle.eg_num.specs.Drive.{DriveRow, driven, IsDrive}
 use Rattle.eg_sensor.specs.declared.tracks.TheConstants.{PAIRED_TRACKS}

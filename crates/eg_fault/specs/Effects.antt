@@ -1,5 +1,6 @@
--- What is out of order outside level 1 at one tick: one record, field by field as the parts of the unit meet
--- it. Definitions of what happens at a tick take this record, and know of no fault and of no onset.
+-- What is out of order outside level 1 at one tick is one record: what tracks read, what runs, is disturbed
+-- or flipped, when answers are sent, and which paths conduct. Its fields are as the parts of the unit meet
+-- them. Definitions of what happens at a tick take this record, and know of no fault and of no onset.
 use Rattle.std.specs.Prelude.{ℕ, ◌%◌, ◌==◌, Bool, true, false, not, List, [], ◌∷◌, slice_index, Option, Some, None}
 use Rattle.eg_sensor.specs.declared.readings.Readings.{Readings}
 use Rattle.eg_sensor.specs.declared.tracks.TheConstants.{PEDAL_1, PEDAL_2, PLATE_1, PLATE_2, LOAD_1, LOAD_2, SPEED_1, SPEED_2, BRAKE_1, BRAKE_2}

@@ -1,5 +1,5 @@
--- Faults outside level 1: what each class of them does, k ticks after its onset. Before the onset, and
--- without a fault, nothing is out of order.
+-- From its onset on a fault puts out of order what its class does, and nothing before; a listed fault is
+-- none, or a valid one of any class but lapses. What a class does is said by k, the ticks since the onset.
 use Rattle.std.specs.Prelude.{ℕ, ◌+◌, ◌-◌, ◌%◌, ◌≤◌, ◌<◌, ◌==◌, ◌≡◌, ℤ, pos, negsuc, Bool, true, false, not, ◌&&◌, ◌||◌, min, nat_le, bit_xor, List, length, All, slice_index, slice_index_or, Option, Some, None, if◌then◌else◌}
 use Rattle.std.specs.List.{list_any}
 use Rattle.std.specs.List.Sorted.{IsStrictlyIncreasing}

@@ -1,4 +1,6 @@
--- What contracts see of a guarded memory.
+-- Whatever it answers, a call over a guarded memory leaves 4,096 words of 16 bits, is done where the memory
+-- is sure, and leaves it as sure as it was. Contracts see no more of a memory than its words and whether it
+-- is sure.
 use Rattle.std.specs.Prelude.{◌≡◌, ℕ, ◌<◌, ◌^◌, Bool, false, List, length, slice_index, Result, IsTrue, IsOk}
 use Rattle.eg_guard.specs.declared.regions.Region.{Region}
 use Rattle.eg_guard.specs.declared.regions.TheConstants.{WORDS}

@@ -1,4 +1,5 @@
--- The memory map: which words there are, and who may load and store them.
+-- The memory map says which words level 1, level 2 and the board may load and store; level 1 may store to its
+-- data and its two outputs alone.
 use Rattle.std.specs.Prelude.{ℕ, ◌&&◌, Bool, true, false, nat_le, nat_lt, ◌==◌, if◌then◌else◌}
 use Rattle.eg_guard.specs.declared.regions.Who.{Who}
 use Rattle.eg_guard.specs.declared.regions.Who.TheVariants.{Level1, Level2, Board}

@@ -1,4 +1,5 @@
--- What a slice makes of level 1's private world, and what a call for one keeps.
+-- A slice wakes level 1's machine and does as many steps as its budget says, and a call for it changes no
+-- word outside level 1's own regions.
 use Rattle.std.specs.Prelude.{◌≡◌, ℕ, zero, suc, ◌<◌, Result, OnOk, OnErr}
 use Rattle.eg_guard.specs.Memory.{ShownMemory, SameOutside, KeepsMemory}
 use Rattle.eg_word.specs.declared.registers.Trap.{Trap}

@@ -1,4 +1,5 @@
--- The file that a check of torques reads: drive rows, each with a torque.
+-- A record of a check file writes a drive row, with neither reset nor brake, and in its fourth field a
+-- torque. The file is what a check of torques reads.
 use Rattle.std.specs.Prelude.{ℕ, ◌==◌, ◌≤◌, List, [], ◌∷◌, length, codes, false, Option, Some, None, if◌then◌else◌, Result}
 use Rattle.std.specs.Option.{option_zip}
 use Rattle.eg_num.specs.Drive.{DriveRow, IsDrive}

@@ -1,4 +1,5 @@
--- The file of a drive trace: a drive row for each tick.
+-- A drive trace begins with one of three headers, and each record below it writes the drive row of a tick;
+-- reset and brake are false where they have no column.
 use Rattle.std.specs.Prelude.{ℕ, ◌==◌, List, [], ◌∷◌, length, codes, Bool, Option, Some, None, if◌then◌else◌, Result}
 use Rattle.eg_num.specs.Drive.{DriveRow}
 use Rattle.eg_input.specs.Records.{Record}

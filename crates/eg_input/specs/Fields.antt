@@ -1,4 +1,5 @@
--- Decimal numbers, and those in the fields of a record.
+-- A field of one to five decimal digits writes a number, where that is at most its limit, and a field that is
+-- 0 or 1 writes a truth value.
 use Rattle.std.specs.Prelude.{ℕ, ◌+◌, ◌*◌, ◌-◌, ◌&&◌, Bool, true, false, List, length, codes, fold, Option, Some, None, option_and_then, if◌then◌else◌, nat_le}
 use Rattle.std.specs.Str.{byte, bytes_eq}
 use Rattle.std.specs.Char.{is_ascii_digit}

@@ -1,6 +1,7 @@
--- An image, the words of level 1: a line for each word, of four hexadecimal digits.
--- `image_words` says what a file is read as. `IsImageOf`, `HasBadLineAt` and `HasTooManyLines` say by the
--- bytes of a file alone which files are accepted, and which have which fault.
+-- An image file has a line for each word of level 1's image, at most 1,024 of them, and each line is four
+-- hexadecimal digits and a line feed. `image_words` says what a file is read as. `IsImageOf`, `HasBadLineAt`
+-- and `HasTooManyLines` say by the bytes of a file alone which files are accepted, and which have which
+-- fault.
 use Rattle.std.specs.Prelude.{◌≡◌, ◌≢◌, ◌⊎◌, ℕ, ◌+◌, ◌*◌, ◌-◌, ◌≤◌, List, [], ◌∷◌, ◌++◌, length, drop, take, fold, filter_map, All, codes, Option, Some, None, is_none, option_map, option_and_then, if◌then◌else◌, nat_lt, Result, Ok, Err}
 use Rattle.std.specs.Char.{is_newline}
 use Rattle.std.specs.Int.{from_be_bytes, w16}

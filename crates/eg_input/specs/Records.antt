@@ -1,4 +1,5 @@
--- The records of a text of comma-separated fields.
+-- A text is read as records of comma-separated fields by the usual rules of csv, and a rule says which row a
+-- record writes, if it writes one.
 use Rattle.std.specs.Prelude.{ℕ, List, Bool, Option}
 use Rattle.std.specs.Str.{bytes_eq}
 use Rattle.std.specs.Cmp.Lexicographic.{pointwise}

@@ -1,7 +1,7 @@
--- A file of rows: a header, and below it 1 to 20,000 records that each write a row.
--- `rows_of` says what such a file is read as, whatever headers it may have and whatever a record writes.
--- `IsFileOf`, `HasNoRowAt` and `IsTooLong` say in the file's words which are accepted, and which have which
--- fault.
+-- A file of rows has one of its headers and below it 1 to 20,000 records that each write a row; of any other
+-- file the first fault is told. `rows_of` says what a file is read as, whatever headers it may have and
+-- whatever a record writes. `IsFileOf`, `HasNoRowAt` and `IsTooLong` say in the file's words which are
+-- accepted, and which have which fault.
 use Rattle.std.specs.Prelude.{◌≡◌, ◌⊎◌, ℕ, ◌+◌, ◌<◌, ◌≤◌, List, [], ◌∷◌, ◌++◌, length, take, Bool, All, Option, Some, None, IsSome, is_none, if◌then◌else◌, nat_lt, Result, Ok, Err, filter_map}
 use Rattle.std.specs.List.{AllZip, list_any, position_from}
 use Rattle.std.specs.declared.vec.Vec.{Vec}

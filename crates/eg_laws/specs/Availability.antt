@@ -1,9 +1,9 @@
--- Availability: under which lapses wrong answers never cut before a trip. Where level 2 misses a tick before
--- the send tick of its period, that period's answer is bad; where it misses one after the send tick, the
--- answer of the next period is bad; and where it misses the send tick itself, no answer comes in that period,
--- and the next answer is bad. So one miss spoils at most two verdicts. Where misses are far enough apart,
--- right verdicts take back what the spoiled ones add, and wrong answers are never confirmed before a trip.
--- (After a trip no answer is sent, so then they are.) Rows stand newest first.
+-- Under lapses whose misses lie far enough apart wrong answers never cut before a trip, since right verdicts
+-- take back what those that a miss spoils, two at most, add. Where level 2 misses a tick before the send tick
+-- of its period, that period's answer is bad; where it misses one after the send tick, the answer of the next
+-- period is bad; and where it misses the send tick itself, no answer comes in that period, and the next
+-- answer is bad. (After a trip no answer is sent, so that wrong answers are confirmed then.) Rows stand
+-- newest first.
 use Rattle.std.specs.Prelude.{◌≡◌, ◌⊎◌, ℕ, ◌+◌, ◌≤◌, ◌<◌, Bool, true, false, not, List, [], ◌∷◌, ◌++◌, All, Option, Some}
 use Rattle.std.specs.List.{list_any}
 use Rattle.eg_num.specs.declared.watches.Watches.{Watches}

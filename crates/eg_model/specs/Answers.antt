@@ -1,4 +1,5 @@
--- Answers of level 2, and verdicts of the monitoring module.
+-- An answer is good where all eight modules ran at each tick since the last one and none is disturbed now; a
+-- verdict is over the answers of its period.
 use Rattle.std.specs.Prelude.{ℕ, ◌-◌, ◌==◌, Bool, true, false, not, ◌&&◌, ◌||◌, is_some, List, [], ◌∷◌, map, take, length, Option, Some, None, if◌then◌else◌}
 use Rattle.std.specs.List.{list_all}
 use Rattle.eg_num.specs.Windows.{is_first}

@@ -1,5 +1,5 @@
--- The run of an engine on the bench: from its rest on, under level 1's two outputs as the tick before left
--- them.
+-- On the bench an engine makes one step a tick, from its rest on, by level 1's two outputs as the tick before
+-- in the span left them. A run has a setting, a slice plan and a drive, from which its moments follow.
 use Rattle.std.specs.Prelude.{ℕ, zero, suc, ◌%◌, Bool, ◌&&◌, if◌then◌else◌, List, [], ◌∷◌, length, slice_index_or, Option}
 use Rattle.eg_num.specs.Drive.{DriveRow, driven}
 use Rattle.eg_plant.specs.PlantParts.{PlantParts}

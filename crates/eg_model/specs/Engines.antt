@@ -1,5 +1,6 @@
--- Engines on the bench: what the bench knows of an engine, the gasoline engine and the diesel engine, and
--- what is asked of an engine so that the laws of records hold of it.
+-- An engine on the bench is a state at rest, a step from state to state, and what a state shows; the gasoline
+-- and the diesel engine are two. What is asked of an engine so that the laws of records hold of it stands
+-- here too.
 use Rattle.std.specs.Prelude.{◌≡◌, ℕ, Bool, false, Option}
 use Rattle.eg_plant.specs.PlantParts.{PlantParts, ArePlantParts}
 use Rattle.eg_plant.specs.Engine.{Shown, KeepsLaws}

@@ -1,6 +1,6 @@
--- What the watches find. No cut without a watch: where the stages are off, a watch was found before, and
--- the report names one, unless a fault opens a shut-off path by itself. And what spoils the answers is found
--- in time. Rows stand newest first.
+-- In a drive span a cutting watch is found before the stages are off, unless a fault opens a path by itself,
+-- and what spoils the answers is found in time. In a test span that failed `start` was found. So there is no
+-- cut without a watch, and the report names one. Rows stand newest first.
 use Rattle.std.specs.Prelude.{◌≡◌, ℕ, ◌+◌, ◌<◌, ◌==◌, Bool, true, false, ◌&&◌, max, nat_le, IsTrue, List, [], ◌∷◌, ◌++◌, All, Contains, length, Option, Some, None, IfSome}
 use Rattle.std.specs.List.{list_any}
 use Rattle.eg_answer.specs.Times.{reaction_of}

@@ -1,6 +1,6 @@
--- A run, tick by tick: what comes in, and what is true of each tick. A history is a list of ticks from a
--- start on; it stands newest first, so the past of a tick is the rest of the list behind it, and the number
--- of a tick is the length of its past.
+-- A run is made of a calibration, an image, a fault or none, and what comes in at each tick; a moment is all
+-- that is true of one tick. A history is a list of ticks from a start on; it stands newest first, so the past
+-- of a tick is the rest of the list behind it, and the number of a tick is the length of its past.
 use Rattle.std.specs.Prelude.{ℕ, Bool, true, false, List, Option}
 use Rattle.eg_num.specs.Drive.{DriveRow}
 use Rattle.eg_num.specs.declared.watches.Watches.{Watches}

@@ -1,5 +1,5 @@
--- The longest reaction that is told of a run: it is within the worst-case reaction; and each run in which an
--- excess is confirmed, and whose spans go on long enough after it, has one.
+-- The longest reaction told of a run is at most the bound, and there is one where an excess is confirmed and
+-- the spans go on long enough after it.
 use Rattle.std.specs.Prelude.{◌≡◌, ℕ, ◌≤◌, true, is_some, Option, Some, IfSome}
 use Rattle.eg_answer.specs.Times.{reaction_of}
 use Rattle.eg_fault.specs.Faults.{IsListed}

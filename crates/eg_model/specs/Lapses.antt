@@ -1,6 +1,7 @@
--- Lapses: level 2 as a whole doesn't run at some ticks, again and again. These may be any ticks, so an
--- excess that comes and goes may never be found. But one that stays is cut soon: either
--- level 2 runs often enough to find it, or too seldom to give the answers that the monitoring module needs.
+-- Under a lapse level 2 as a whole doesn't run at some ticks; each stretch of true excess is then shorter
+-- than the bound for lapses, if there is one. These may be any ticks, so an excess that comes and goes may
+-- never be found. But one that stays is cut soon: either level 2 runs often enough to find it, or too seldom
+-- to give the answers that the monitoring module needs.
 use Rattle.std.specs.Prelude.{◌≡◌, ℕ, ◌*◌, ◌<◌, ◌≤◌, true, List, length, take, Option, Some}
 use Rattle.std.specs.List.{list_all}
 use Rattle.eg_answer.specs.Times.{HasLapseBound, lapse_periods, lapse_bound_of}

@@ -1,4 +1,5 @@
--- Level 1 in a run: its slices between the modules of level 2, and what it is shown in each of them.
+-- At each tick level 1 runs a slice before each module of level 2 and one after the last, and is shown in it
+-- the signals as they then are.
 use Rattle.std.specs.Prelude.{ℕ, ◌+◌, Bool, ◌&&◌, is_some, nat_le, nat_lt, List, [], ◌∷◌, ◌++◌, if◌then◌else◌}
 use Rattle.eg_sensor.specs.declared.readings.Readings.{Readings}
 use Rattle.eg_word.specs.World.{View, World, new_world}

@@ -1,5 +1,5 @@
--- What is true of a tick, from what is out of order at it, what comes in, and what was true of the ticks of
--- its span before; and so of each tick of a span.
+-- The moment of a tick follows from the setting, what its span is for, what is out of order, what comes in,
+-- and the moments of its span before it. So follow, tick by tick, the moments of a span.
 use Rattle.std.specs.Prelude.{ℕ, ◌==◌, Bool, not, ◌&&◌, ◌||◌, is_some, List, [], ◌∷◌, length, if◌then◌else◌}
 use Rattle.eg_num.specs.Drive.{DriveRow}
 use Rattle.eg_sensor.specs.Readings.{sound_readings}

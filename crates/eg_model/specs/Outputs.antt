@@ -1,5 +1,7 @@
--- Level 1 acts by its two outputs alone. With any image, and any number of instructions, level 2 and the
--- monitoring module do the same where the same comes in; and the engine uses only the two outputs of it.
+-- Two runs that differ in image and slice plan alone have the same rows, but for the two outputs, up to a
+-- tick before which these outputs were the same. So level 1 acts by its two outputs alone: with any image,
+-- and any number of instructions, level 2 and the monitoring module do the same where the same comes in; and
+-- the engine uses only the two outputs of it.
 use Rattle.std.specs.Prelude.{◌≡◌, ℕ, List, [], ◌∷◌, ◌++◌, map}
 use Rattle.eg_record.specs.declared.row.Row.{Row}
 use Rattle.eg_word.specs.World.{new_world}

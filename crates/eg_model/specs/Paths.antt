@@ -1,5 +1,6 @@
--- The two shut-off paths, and the start-up test of them. No latch is kept here: whether one is open follows
--- from the earlier ticks of the span.
+-- Unless a fault acts on it, path 1 conducts until react has ordered it open, path 2 until wrong answers are
+-- confirmed or a wild monitoring module has ordered it. No latch is kept here: whether one is open follows
+-- from the earlier ticks of the span. The start-up test reads both paths back at its last tick.
 use Rattle.std.specs.Prelude.{ℕ, ◌+◌, ◌==◌, nat_le, Bool, false, ◌&&◌, ◌||◌, List, length}
 use Rattle.std.specs.List.{list_any}
 use Rattle.eg_answer.specs.Times.{TimeParts, test_ticks_of}

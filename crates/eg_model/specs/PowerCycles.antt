@@ -1,5 +1,6 @@
--- The power cycles of a record: how its spans follow from the resets of its drive and from its start-up
--- tests. Rows stand newest first.
+-- A test span begins at each reset; else a drive span begins at the first row, and later exactly where a test
+-- was passed at the row before. No other span begins. So the spans of a record follow from the resets of its
+-- drive and from its start-up tests. Rows stand newest first.
 use Rattle.std.specs.Prelude.{◌≡◌, ℕ, ◌+◌, nat_le, Bool, true, false, ◌&&◌, List, [], ◌∷◌, ◌++◌, length, if◌then◌else◌}
 use Rattle.eg_answer.specs.Times.{test_ticks_of}
 use Rattle.eg_record.specs.declared.row.Row.{Row}

@@ -1,5 +1,7 @@
--- The reaction theorem: whatever level 1 does, and under each listed fault, the stages are off from R ticks
--- after a confirmed torque excess to the end of the drive span.
+-- Whatever level 1 does, and under each listed fault, the stages are off from R ticks after a confirmed
+-- torque excess to the end of the drive span. This is the reaction theorem. Under most faults they are off
+-- from the next tick; and where a module of level 2 is skipped or disturbed, or both levels halt, from R
+-- ticks after the onset, whatever the torque.
 use Rattle.std.specs.Prelude.{◌≡◌, ℕ, ◌+◌, ◌≤◌, Bool, true, false, nat_le, List, ◌∷◌, ◌++◌, length, Option, Some, None}
 use Rattle.eg_answer.specs.Times.{reaction_of}
 use Rattle.eg_values.specs.Calibration.{CalibrationParts, IsAccepted}

@@ -1,5 +1,7 @@
--- The laws for the record of a run on the bench, span by span: what the report says, and what the rows keep.
--- Each is a statement about an engine; the laws hold of the engines that keep `KeepsBenchLaws`.
+-- In a record with no fault or a listed one the stages are off from R ticks after a confirmed true excess to
+-- the end of the drive span. In each test span they are off. Other laws for the record of a run on the bench
+-- say span by span when it cuts at once, sharply, from the onset, and under lapses. Each is a statement about
+-- an engine; the laws hold of the engines that keep `KeepsBenchLaws`.
 use Rattle.std.specs.Prelude.{◌≡◌, ℕ, ◌+◌, ◌*◌, ◌≤◌, ◌<◌, Bool, true, false, not, nat_lt, nat_le, max, List, ◌∷◌, ◌++◌, All, map, take, length, Option, Some, None, IfSome, MatchOption}
 use Rattle.std.specs.List.{list_all}
 use Rattle.eg_num.specs.Drive.{IsDrive}

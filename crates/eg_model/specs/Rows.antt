@@ -1,4 +1,5 @@
--- The record of a run: its rows and the trap of level 1, and what the report says of it.
+-- A row of a record is what its moment says, with its place in the run as its tick; a report is the summary
+-- of the rows and the trap.
 use Rattle.std.specs.Prelude.{ℕ, List, [], ◌∷◌, length, Option, Some, None}
 use Rattle.std.specs.Option.{option_or}
 use Rattle.eg_answer.specs.Times.{reaction_of}

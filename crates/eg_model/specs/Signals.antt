@@ -1,4 +1,6 @@
--- The signals of level 2: what it makes of the readings at a tick.
+-- A signal is 0 where a word is flipped, else as before where its module doesn't run, else 0 after a trip,
+-- else what its module computes, disturbed or not. So the signals are what level 2 makes of the readings at a
+-- tick.
 use Rattle.std.specs.Prelude.{ℕ, Bool, not, is_some, List, [], ◌∷◌, bit_xor, if◌then◌else◌}
 use Rattle.std.specs.List.{list_any}
 use Rattle.eg_sensor.specs.Readings.{used_pedal}

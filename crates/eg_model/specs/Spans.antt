@@ -1,9 +1,9 @@
--- A run, span by span. A power cycle begins at tick 0 and at each tick whose drive row resets the unit;
--- with a reset it begins with a test span, in which the two shut-off paths are tested and the stages are
--- off. Where the test is passed, a drive span begins at the next tick; where it fails, the test span lasts
--- to the next reset. A run whose first row doesn't reset begins with a drive span. In each span all is as
--- at the start of a run but for the engine, which goes on: so of the ticks before a tick only those of its
--- span count for it.
+-- A tick that resets the unit begins a test span, another right after a passed test a drive span, and of
+-- earlier ticks only those of its span count. A power cycle begins at tick 0 and at each tick whose drive row
+-- resets the unit; with a reset it begins with a test span, in which the two shut-off paths are tested and
+-- the stages are off. Where the test fails, the test span lasts to the next reset. A run whose first row
+-- doesn't reset begins with a drive span. In each span all is as at the start of a run but for the engine,
+-- which goes on.
 use Rattle.std.specs.Prelude.{Bool, false, ◌||◌, List, [], ◌∷◌, take, length, if◌then◌else◌}
 use Rattle.eg_num.specs.Drive.{DriveRow}
 use Rattle.eg_fault.specs.Effects.{Effects}

@@ -1,4 +1,5 @@
--- Small rules on numbers that several parts of the unit share.
+-- The torque estimate of a load is the load times `kt` over 1000, rounded up, at most 65535; and a value
+-- moves toward a target by at most so much.
 use Rattle.std.specs.Prelude.{ℕ, ◌+◌, ◌*◌, ◌-◌, ◌/◌, min, if◌then◌else◌, nat_le}
 
 -- the quotient rounded up

@@ -1,4 +1,5 @@
--- What a debounce counter keeps: one number in place of all the feeds so far.
+-- A debounce counter begins at 0: a bad feed adds `up`, a good one takes `down`, not below 0, and at `limit`
+-- it is cut and stays. It is one number in place of all the feeds so far.
 use Rattle.std.specs.Prelude.{◌≡◌, ℕ, ◌+◌, ◌-◌, ◌==◌, Bool, List, [], ◌∷◌, min, if◌then◌else◌}
 use Rattle.eg_num.specs.Windows.{WeightParts, AreWeights, is_confirmed, greatest}
 

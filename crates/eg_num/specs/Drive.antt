@@ -1,4 +1,5 @@
--- What a drive trace gives to one tick.
+-- A drive row gives one tick its pedal, speed and raise, each up to its limit, and tells whether the unit is
+-- reset and whether the driver brakes.
 use Rattle.std.specs.Prelude.{ℕ, ◌≤◌, Bool, false}
 
 -- pedal in per mille, speed in rpm, raise of the permitted torque in tenths of Nm; whether the unit is reset

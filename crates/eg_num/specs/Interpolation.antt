@@ -1,6 +1,6 @@
--- Tables with values between their points. The value at x lies on the line between the two neighbouring
--- points that enclose it, rounded down; past an end of the axis the end value holds. `IsValueAt` is the rule:
--- it names any neighbours that enclose x. `value_at` computes it.
+-- The value of a table between two neighbouring points lies on the line through them, rounded down, and past
+-- an end of the axis it is the end's value. `IsValueAt` is the rule: it names any neighbours that enclose x.
+-- `value_at` computes it.
 use Rattle.std.specs.Prelude.{◌≡◌, ℕ, suc, ◌+◌, ◌*◌, ◌-◌, ◌/◌, ◌≤◌, ◌<◌, List, [], ◌∷◌, length, slice_index, if◌then◌else◌, nat_le}
 use Rattle.std.specs.List.Sorted.{IsStrictlyIncreasing}
 

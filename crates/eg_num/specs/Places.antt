@@ -1,5 +1,7 @@
--- Debouncing as a reader of the rule says it: by places of a list that stands in the order of time, the first
--- feed at place 0. It is the same rule as that of `Windows`, whose lists stand newest first.
+-- At a place of the feeds the limit is reached where some window that ends there weighs at least that much,
+-- and confirmed where it was reached there or before. This is debouncing as a reader of the rule says it: the
+-- list stands in the order of time, the first feed at place 0. It is the same rule as that of `Windows`,
+-- whose lists stand newest first.
 use Rattle.std.specs.Prelude.{◌≡◌, ◌⊎◌, ◌↔◌, ℕ, ◌+◌, ◌*◌, ◌≤◌, ◌<◌, Bool, not, IsTrue, List, length, take, reverse, slice_range, count_by, Option, MatchOption}
 use Rattle.eg_num.specs.Windows.{WeightParts, AreWeights, is_reached, is_confirmed, is_first, first_index}
 use Rattle.eg_num.specs.Counting.{fed_all}

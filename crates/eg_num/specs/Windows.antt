@@ -1,7 +1,8 @@
--- Debouncing by windows. A list of bits has one bit a feed, true for a bad one, and stands newest first: its
--- head is the last feed, and what came before it is its tail. A window that ends at the last feed is a prefix
--- of the list. There is no counter here: `Counting` says what a counter keeps of this, and `Places` says the
--- same in the order of time.
+-- The weight of some consecutive feeds is `up` for each bad one less `down` for each good one; the limit is
+-- reached where a window that ends there weighs at least as much. A list of feeds has one bit a feed, true
+-- for a bad one, and stands newest first: its head is the last feed, and what came before it is its tail. A
+-- window that ends at the last feed is a prefix of the list. There is no counter here: `Counting` says what a
+-- counter keeps of this, and `Places` says the same in the order of time.
 use Rattle.std.specs.Prelude.{ℕ, ◌*◌, ◌-◌, ◌≤◌, Bool, false, not, ◌&&◌, ◌||◌, nat_le, List, [], ◌∷◌, length, map, max, count_by, Option, Some, None, if◌then◌else◌}
 use Rattle.std.specs.List.{list_any}
 

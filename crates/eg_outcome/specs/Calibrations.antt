@@ -1,4 +1,5 @@
--- What the calibration of a command is: the reference calibration, or what the file behind `--cal` says.
+-- The calibration of a command is what the file behind `--cal` says, or else the reference calibration; where
+-- that file can't be read or is refused, the call ends with that.
 use Rattle.std.specs.Prelude.{◌≡◌, ℕ, List, Option, Some, None, Result, Ok}
 use Rattle.eg_base.specs.Outside.{ShownStore, IsMissing}
 use Rattle.eg_toml.specs.Documents.{document_of}

@@ -1,4 +1,4 @@
--- What a command reads of a file.
+-- A command reads the first 4,194,305 bytes of a file, and one that gives as many as that is too long.
 use Rattle.std.specs.Prelude.{ℕ, List, length, Bool, nat_le}
 use Rattle.eg_base.specs.Outside.{ShownStore, AreFirstBytes}
 

@@ -1,4 +1,5 @@
--- What an image file says: the words of level 1.
+-- The image file of a run says the words of level 1, or has a first refusal: of its size, or else of its
+-- lines.
 use Rattle.std.specs.Prelude.{ℕ, List, Result}
 use Rattle.eg_input.specs.Images.{image_words}
 use Rattle.eg_outcome.specs.Reads.{refused, sized}

@@ -1,4 +1,6 @@
--- How a call ends: what was put, and what each outcome tells.
+-- Once its text is known a call ends Done, with all of it written, or with a prefix of it written, by a fault
+-- of writing or as memory ran out. What each outcome tells is said here, and that the work follows where
+-- something comes.
 use Rattle.std.specs.Prelude.{◌≡◌, ◌≢◌, ℕ, List, IsTrue, Result, Ok, Err}
 use Rattle.eg_base.specs.Outside.{ShownStore, ShownSink, Rose, Appends, AppendsPrefix}
 use Rattle.eg_input.specs.declared.fault.TraceFault.TheVariants as trace_fault

@@ -1,5 +1,5 @@
--- What comes of reading a file: its value, or how the call ends without it. `says` is what the bytes of such
--- a file say: a value, or the first refusal.
+-- A file gives the value or the first refusal that its bytes say, or reading it fails, over a sure store only
+-- where it is missing, or memory runs out. `says` is what the bytes of a file of a kind say.
 use Rattle.std.specs.Prelude.{◌≡◌, ◌⊎◌, ◌↔◌, ℕ, List, IsTrue, IsOk, IfErr, Result, Ok, Err, if◌then◌else◌}
 use Rattle.eg_base.specs.Outside.{ShownStore, Rose, IsMissing}
 use Rattle.eg_outcome.specs.Files.{AreRead, is_too_long}

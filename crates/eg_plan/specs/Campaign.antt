@@ -1,4 +1,5 @@
--- What a campaign file says: its runs, or the first refusal.
+-- A campaign file says its runs, 1 to 1,000 of them, or its first refusal: of their array, of other names, of
+-- their count, and then of each run in turn.
 use Rattle.std.specs.Prelude.{ℕ, ◌+◌, ◌&&◌, Bool, nat_le, List, [], ◌∷◌, ◌++◌, codes, Option, Some, None, unwrap_or, Result, Err}
 use Rattle.toml.specs.Data.{Data, Members, no_members, Items, no_items, item, get_member, as_table, as_array}
 use Rattle.eg_toml.specs.Values.{◌>>=◌}

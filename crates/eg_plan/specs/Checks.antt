@@ -1,4 +1,5 @@
--- The first key of some that holds something else than it may.
+-- A key of a campaign file is refused where it doesn't hold what it may, and of several keys the first that
+-- is refused counts.
 use Rattle.std.specs.Prelude.{ℕ, List, [], ◌∷◌, Option, None}
 use Rattle.toml.specs.Data.{Members}
 use Rattle.eg_toml.specs.Values.{number_at}

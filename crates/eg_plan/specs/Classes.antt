@@ -1,4 +1,5 @@
--- The table of the classes of faults: the name of each, its own keys, and what they say.
+-- Each of the fourteen classes of faults has a name in campaign files and keys of its own, under which stand
+-- the values that make it up.
 use Rattle.std.specs.Prelude.{◌≡◌, ℕ, List, [], ◌∷◌, codes, bytes_eq, Option, Some, None, if◌then◌else◌}
 use Rattle.toml.specs.Data.{Members, get_member, as_str}
 use Rattle.eg_toml.specs.Values.{◌>>=◌}

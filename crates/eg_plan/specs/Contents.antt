@@ -1,4 +1,5 @@
--- What stands under the keys of a campaign file.
+-- What stands under a key of a campaign file is read where the key may hold it; missing slices are nine of
+-- 100 instructions, a missing engine is gasoline.
 use Rattle.std.specs.Prelude.{ℕ, ℤ, pos, negsuc, ◌==◌, ◌&&◌, ◌||◌, Bool, false, not, nat_le, List, [], ◌∷◌, length, codes, bytes_eq, Option, Some, None, unwrap_or, if◌then◌else◌}
 use Rattle.std.specs.List.{sum, list_all}
 use Rattle.toml.specs.Data.{Data, Members, get_member, as_str, as_integer, as_bool}

@@ -1,4 +1,5 @@
--- The fault of a run: what its table says, or the first refusal of its keys.
+-- The fault of a run has the onset and class that its table says, or a first refusal: of class, of onset, and
+-- then of the class's own keys.
 use Rattle.std.specs.Prelude.{ℕ, List, [], ◌∷◌, Bool, map, codes, Option, unwrap_or, Result}
 use Rattle.toml.specs.Data.{Members}
 use Rattle.eg_toml.specs.Names.{all_names, is_among}

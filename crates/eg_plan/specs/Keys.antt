@@ -1,4 +1,5 @@
--- The keys of a campaign file, and the table of what each may hold.
+-- Each key of a campaign file may hold what its rule says: a name, rows of slices, an engine, or numbers or
+-- truth values of a fault, each within its range.
 use Rattle.std.specs.Prelude.{ℕ, ◌-◌, List, [], ◌∷◌, codes}
 use Rattle.eg_sensor.specs.declared.tracks.TheConstants.{PEDAL_1, BRAKE_2}
 use Rattle.eg_answer.specs.declared.modules.TheConstants.{CHECK, PEDAL, PAIRS, REACT}

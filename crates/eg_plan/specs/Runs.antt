@@ -1,4 +1,5 @@
--- One run of a campaign file: what its table says, or the first refusal.
+-- A run of a campaign file has the name, trace, image, slices, engine and at most one fault that its table
+-- says, or else a first refusal.
 use Rattle.std.specs.Prelude.{ℕ, ◌&&◌, Bool, true, false, nat_le, List, [], ◌∷◌, ◌++◌, map, codes, bytes_eq, is_some, not, Option, Some, None, option_map}
 use Rattle.std.specs.List.{list_any}
 use Rattle.toml.specs.Data.{Data, Members, Items, no_items, item, get_member, get_item, as_table, as_array}

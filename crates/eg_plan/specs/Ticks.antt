@@ -1,4 +1,4 @@
--- How many ticks the runs of a campaign have in all.
+-- A run of a campaign is refused where its ticks, with those of the runs before it, are more than 1,000,000.
 use Rattle.std.specs.Prelude.{ℕ, ◌+◌, nat_le, Result, Ok, Err, if◌then◌else◌}
 use Rattle.eg_plan.specs.declared.key.CampaignFault.{CampaignFault}
 use Rattle.eg_plan.specs.declared.key.CampaignFault.TheVariants.{Ticks}

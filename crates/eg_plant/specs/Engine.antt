@@ -1,4 +1,5 @@
--- What an engine shows, and the laws that each engine keeps.
+-- An engine shows the angle of its plate, two loads and a torque; by its laws the angle is at most 1000, and
+-- neither load's estimate lies below the torque.
 use Rattle.std.specs.Prelude.{ℕ, ◌≤◌}
 use Rattle.eg_num.specs.Arithmetic.{estimate}
 

@@ -1,5 +1,5 @@
--- The gasoline plant. The throttle plate lets air in, the charge of air follows the plate, and torque is what
--- the charge gives at the efficiency of the ignition. One step is one tick.
+-- At each step of the gasoline engine the plate moves toward its command, the charge of air follows the
+-- plate, and the charge gives torque at the ignition's efficiency. One step is one tick.
 use Rattle.std.specs.Prelude.{◌≡◌, ℕ, ◌*◌, ◌/◌, Bool, Option, None, Some, min, if◌then◌else◌}
 use Rattle.eg_num.specs.Arithmetic.{moved_toward}
 use Rattle.eg_num.specs.Interpolation.{curve_at}

@@ -1,4 +1,5 @@
--- The data of a plant, gasoline or diesel (the diesel plant reads them in its own way).
+-- A plant has the most that plate and charge move in a tick, a charge for each angle of the plate, and the
+-- torque of a load of 1000. It is gasoline or diesel (the diesel plant reads these data in its own way).
 use Rattle.std.specs.Prelude.{ℕ, ◌≤◌, All}
 use Rattle.eg_num.specs.Interpolation.{Curve}
 

@@ -1,6 +1,7 @@
--- How `run`, `table`, `record` and `sweep` end: by cases on the outcome, nested from the outside in, as
--- `check` and `bound` are. `store`, `out` and `was` are what the store, the output and the count of ticks
--- show before the call, `later`, `now` and `is` what they show after it.
+-- On Done `run`, `table`, `record` and `sweep` have written their whole text on runs that keep the headline;
+-- after a refusal or a failed read they put nothing. This is said by cases on the outcome, nested from the
+-- outside in, as of `check` and `bound`. `store`, `out` and `was` are what the store, the output and the
+-- count of ticks show before the call, `later`, `now` and `is` what they show after it.
 use Rattle.std.specs.Prelude.{◌≡◌, ℕ, Bool, true, false, ◌+◌, ◌-◌, length, List, [], ◌∷◌, map, All, Option, Some, None, option_map, Result, Ok, Err, IsSome, slice_get, bytes_eq, if◌then◌else◌}
 use Rattle.eg_base.specs.Outside.{ShownStore, ShownSink}
 use Rattle.eg_num.specs.Drive.{DriveRow}

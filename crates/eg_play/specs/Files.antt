@@ -1,5 +1,5 @@
--- What the files of a campaign say: the campaign its runs, and of each run its drive trace. What its image
--- says stands in `eg_outcome`.
+-- A campaign file says its runs, a trace file the drive of a run, or each has a first refusal: of its size,
+-- or by the rules of its kind. What an image file says stands in `eg_outcome`.
 use Rattle.std.specs.Prelude.{ℕ, List, Result}
 use Rattle.eg_num.specs.Drive.{DriveRow}
 use Rattle.eg_toml.specs.Documents.{document_of}

@@ -1,6 +1,8 @@
--- The headline, for the record of one run of either engine with its power cycles; its rows stand newest
--- first. That no image changes a protected word is said of each slice: field `outside` of `IsSlice`,
--- which `eg_host::Host::slice` keeps. That level 1 acts by its two outputs alone is said here.
+-- The headline says of a record: in test spans the stages are off, in drive spans from R ticks after a
+-- confirmed excess, and cut only where a watch was found. Each field names the faults under which it holds.
+-- It is said of one run of either engine with its power cycles; its rows stand newest first. That no image
+-- changes a protected word is said of each slice: field `outside` of `IsSlice`, which `eg_host::Host::slice`
+-- keeps. That level 1 acts by its two outputs alone is said here.
 use Rattle.std.specs.Prelude.{◌≡◌, ℕ, false, List, All, None}
 use Rattle.eg_answer.specs.Times.{reaction_of, test_ticks_of, HasLapseBound}
 use Rattle.eg_fault.specs.Faults.{IsListed}

@@ -1,4 +1,5 @@
--- What comes of the files of runs: the drive and the image of each, or how the call ends without them.
+-- The files of runs are read in their order, of each run its trace and then its image, and the call ends at
+-- the first that fails or is refused. It ends too where the ticks of the runs so far are too many.
 use Rattle.std.specs.Prelude.{◌≡◌, ℕ, ◌+◌, List, [], ◌∷◌, length, Option, Some, None, Result, Ok, Err}
 use Rattle.eg_base.specs.Outside.{ShownStore}
 use Rattle.eg_num.specs.Drive.{DriveRow}

@@ -1,5 +1,5 @@
--- The runs of a sweep, and what is written of them: one run of a campaign under a fault of each class at each
--- onset of a grid.
+-- A sweep plays one run of a campaign, without its resets, under a fault of each class at each onset of a
+-- grid, and writes the table of these runs.
 use Rattle.std.specs.Prelude.{ℕ, false, List, map, length, Some}
 use Rattle.eg_num.specs.Drive.{DriveRow}
 use Rattle.eg_fault.specs.declared.class.Fault.{Fault}

@@ -1,5 +1,5 @@
--- What `run` and `table` write of the runs of a campaign. What `record` writes is `record_text` of
--- `eg_campaign`.
+-- `run` writes a line for each run of a campaign in its order, and a last line; `table` writes a header, and
+-- a row for each run. What `record` writes is `record_text` of `eg_campaign`.
 use Rattle.std.specs.Prelude.{ℕ, List, ◌++◌, map}
 use Rattle.std.specs.List.{concat, zip}
 use Rattle.eg_answer.specs.Times.{reaction_of}

@@ -1,5 +1,5 @@
--- The first detection of a run: the least tick at which a watch is found, and which watch that is. Of several
--- watches that are found at one tick, the first in their order counts.
+-- The first detection of a run is the least tick at which a watch is found, with the first watch in their
+-- order that is found at it.
 use Rattle.std.specs.Prelude.{◌≡◌, ◌↔◌, ℕ, ◌<◌, ◌==◌, Bool, false, IsTrue, List, [], ◌∷◌, Option, Some, None, option_map}
 use Rattle.std.specs.List.{All, Contains, find}
 use Rattle.eg_num.specs.declared.watches.Watches.{Watches}

@@ -1,6 +1,6 @@
--- The excess of the torque of a row over what its drive permits: the true one by the torque of the engine,
--- and the full-efficiency one by the torque that its charge would give at full ignition efficiency. Both are
--- debounced by the weights of the torque, in each span anew.
+-- A row has true excess where the torque of its engine, and full-efficiency excess where the estimate of its
+-- charge, is more than its permitted torque and the threshold together. Both are debounced by the weights of
+-- the torque, in each span anew.
 use Rattle.std.specs.Prelude.{ℕ, Bool, List, [], ◌∷◌, length, map, Option, Some, None, if◌then◌else◌}
 use Rattle.std.specs.Option.{option_or}
 use Rattle.eg_num.specs.Arithmetic.{estimate}

@@ -1,4 +1,5 @@
--- The facts of a run: what is told of its rows once they are gone.
+-- The facts of a run are its first detection, first tick off, last tick on, first confirmed true excess, and
+-- how many ticks it has. They are what is told of its rows once they are gone.
 use Rattle.std.specs.Prelude.{ℕ, ◌+◌, ◌-◌, Bool, nat_lt, List, length, Option, Some, None, option_map, if◌then◌else◌}
 use Rattle.std.specs.Option.{option_or}
 use Rattle.eg_num.specs.Windows.{WeightParts}

@@ -1,5 +1,6 @@
--- The reactions of a run, span by span: how many ticks after a true excess is confirmed the stages are off
--- for good, and whether a span goes on long enough afterwards to say so. All ticks are those of the run.
+-- The reaction of a span is the ticks from its confirmed true excess until the stages are off for good in it;
+-- of a run the longest is told. So is whether each span goes on long enough after the excess to show one. All
+-- ticks are those of the run.
 use Rattle.std.specs.Prelude.{ℕ, ◌+◌, ◌-◌, Bool, true, max, min, nat_le, List, [], ◌∷◌, map, Option, Some, None, option_map, if◌then◌else◌}
 use Rattle.std.specs.Option.{option_or}
 use Rattle.eg_num.specs.Windows.{WeightParts, is_confirmed}

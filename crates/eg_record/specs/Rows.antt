@@ -1,5 +1,6 @@
--- The record of a run: a list of rows, one a tick. Lists of rows stand newest first: the head is the row of
--- the last tick, and what came before it is its tail.
+-- The record of a run is a list of rows, one a tick, newest first; what is first given by its rows is given
+-- by the earliest one that gives anything. The head is the row of the last tick, and what came before it is
+-- its tail. The tick of a row is the count of the rows before it.
 use Rattle.std.specs.Prelude.{◌≡◌, List, [], ◌∷◌, length, Option, None}
 use Rattle.std.specs.Option.{option_or}
 use Rattle.eg_record.specs.declared.row.Row.{Row}

@@ -1,6 +1,6 @@
--- The spans of a run, by its rows. A span begins at each row that is fresh, and lasts to the row before the
--- next such one. In a drive span the engine is driven; in a test span the shut-off paths are tested, which
--- its first row tells.
+-- A span begins at each fresh row and lasts to the row before the next fresh one; its first row tells whether
+-- it is a drive or a test span. In a drive span the engine is driven; in a test span the shut-off paths are
+-- tested.
 use Rattle.std.specs.Prelude.{◌≡◌, ℕ, true, false, List, [], ◌∷◌, ◌++◌, length, if◌then◌else◌}
 use Rattle.std.specs.List.{All}
 use Rattle.eg_record.specs.declared.row.Row.{Row}

@@ -1,5 +1,6 @@
--- When the power stages of a run are first off, and when they are last on. While a start-up test is running
--- they are off in any case, so that its ticks don't count as off. Those after a test that failed do.
+-- A run is first off at the first tick with the stages off and no start-up test running, and last on at the
+-- last tick with the stages on. While a test is running they are off in any case, so that its ticks don't
+-- count as off. Those after a test that failed do.
 use Rattle.std.specs.Prelude.{◌≡◌, ◌↔◌, ◌⊎◌, ℕ, ◌<◌, Bool, not, ◌&&◌, IsTrue, IsFalse, List, [], ◌∷◌, Option, Some, None, if◌then◌else◌}
 use Rattle.std.specs.List.{All, Contains}
 use Rattle.eg_record.specs.declared.row.Row.{Row}

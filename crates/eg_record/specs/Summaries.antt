@@ -1,4 +1,5 @@
--- The summary of a run: what a report says of it.
+-- The summary of a run, which a report tells, has its name, first detection, first tick off, trap, first
+-- confirmed true excess, and worst-case reaction.
 use Rattle.std.specs.Prelude.{ℕ, List, Option}
 use Rattle.eg_num.specs.Windows.{WeightParts}
 use Rattle.eg_word.specs.declared.registers.Trap.{Trap}

@@ -1,5 +1,5 @@
--- The lines that are printed of a run: the record has a header and a line for each row, the report a line for
--- each summary and a last line. A text is the list of its bytes, and each line ends with LF.
+-- The record is printed as a header and a line of columns for each row, the report as a line for each summary
+-- and a last line. A text is the list of its bytes, and each line ends with LF.
 use Rattle.std.specs.Prelude.{ℕ, Bool, List, [], ◌∷◌, ◌++◌, map, length, codes, decimal, Option, Some, None, is_some, if◌then◌else◌, slice_index, count_by}
 use Rattle.std.specs.List.{filter, join_with_byte}
 use Rattle.eg_num.specs.declared.watches.Watches.{Watches}

@@ -1,6 +1,7 @@
--- The brake. Two contacts sense it: the first reads 1 where it is pressed and 0 where it isn't, the second
--- reads 0 where it is pressed and 1 where it isn't. No watch compares them: the unit takes the brake as
--- pressed where either contact says that it is. While the driver brakes, pedal and raise count as 0.
+-- The unit takes the brake as pressed where the first contact doesn't read 0 or the second reads 0; gated
+-- readings are those with pedal and raise at 0. A sound first contact reads 1 where the brake is pressed and
+-- 0 where it isn't, a sound second one 0 where it is pressed and 1 where it isn't. No watch compares them.
+-- Readings are gated where the brake counts and is taken as pressed.
 use Rattle.std.specs.Prelude.{ℕ, ◌==◌, Bool, not, ◌||◌, List, [], ◌∷◌, slice_index, if◌then◌else◌}
 use Rattle.eg_sensor.specs.declared.readings.Readings.{Readings}
 

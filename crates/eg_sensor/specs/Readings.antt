@@ -1,6 +1,7 @@
--- Redundant sensors. Pedal, plate, load and speed are each sensed by a pair of tracks. The second track of
--- pedal and plate falls: a sound one reads 1000 less the value. A raise of the permitted torque comes with a
--- check word.
+-- Pedal, plate, load and speed are each sensed by a pair of tracks, which disagrees where its two values
+-- differ by more than its tolerance. The second track of pedal and plate falls: a sound one reads 1000 less
+-- the value. A raise of the permitted torque comes with a check word, and counts where the two add up to
+-- 65535.
 use Rattle.std.specs.Prelude.{ℕ, ◌+◌, ◌-◌, ◌/◌, ◌%◌, ◌==◌, Bool, List, [], ◌∷◌, min, if◌then◌else◌, nat_lt, slice_index}
 use Rattle.eg_sensor.specs.declared.pairs.TheConstants.{PEDAL_PAIR, PLATE_PAIR, LOAD_PAIR, SPEED_PAIR}
 use Rattle.eg_sensor.specs.declared.readings.Readings.{Readings}

@@ -1,4 +1,5 @@
--- What `soak` counts of a run.
+-- `soak` counts of a run its first watch, whether level 1 traps, whether the stages go off, and its reaction,
+-- or 0 where it has none.
 use Rattle.std.specs.Prelude.{Bool, is_some, option_map, unwrap_or}
 use Rattle.eg_record.specs.declared.facts.Facts.{Facts}
 use Rattle.eg_record.specs.declared.watch.Watch.{Watch}

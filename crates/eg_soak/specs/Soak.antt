@@ -1,4 +1,5 @@
--- The runs that `soak` plays, and its summary of them.
+-- `soak` plays drawn runs of the gasoline engine by the reference calibration, counts those with each first
+-- watch, a trap or the stages off, and tells the longest reaction.
 use Rattle.std.specs.Prelude.{ℕ, zero, suc, not, is_some, max, List, [], ◌∷◌, map, length, count_by}
 use Rattle.std.specs.List.{fold}
 use Rattle.eg_values.specs.Reference.{reference_parts}

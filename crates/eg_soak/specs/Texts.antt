@@ -1,4 +1,5 @@
--- What `soak` writes: a line for each number of its summary.
+-- `soak` writes a line for each number of its summary: runs, none, one for each of seven watches, trapped,
+-- off and longest.
 use Rattle.std.specs.Prelude.{ℕ, List, [], ◌∷◌, ◌++◌, map, codes, decimal, slice_index}
 use Rattle.std.specs.List.{concat}
 use Rattle.eg_soak.specs.declared.summary.SoakSummary.{SoakSummary}

@@ -1,5 +1,6 @@
--- What a source file says, and how `asm` and `dis` end: by cases on the outcome, nested from the outside in.
--- `store` and `out` are what the store and the output show before the call, `later` and `now` after it.
+-- `asm` writes the image of a source file, and `dis` the source of an image file; where no words come of the
+-- file nothing is put. This is said by cases on the outcome, nested from the outside in. `store` and `out`
+-- are what the store and the output show before the call, `later` and `now` after it.
 use Rattle.std.specs.Prelude.{◌≡◌, ℕ, List, Result}
 use Rattle.eg_base.specs.Outside.{ShownStore, ShownSink}
 use Rattle.eg_asm.specs.declared.fault.AsmFault.{AsmFault}

@@ -1,4 +1,5 @@
--- The faults of a sweep: one of each class, at each onset of a grid.
+-- A sweep has a fault of each of fourteen classes at each multiple of its step below the run's ticks; more
+-- than 1,000 runs or 1,000,000 ticks are too many.
 use Rattle.std.specs.Prelude.{ℕ, ◌*◌, pos, Bool, false, ◌||◌, nat_lt, List, [], ◌∷◌, map}
 use Rattle.std.specs.List.{flat_map, range_with_len}
 use Rattle.std.specs.Int.{div_ceil}

@@ -1,4 +1,6 @@
--- What holds of each sweep: which faults it has, and how far the reactions in its table go.
+-- In the table of a sweep the greatest reaction under each class but lapses is at most the bound, and each
+-- fault of its grid begins within the run. Which faults are valid, and which are listed ones, is said here
+-- too.
 use Rattle.std.specs.Prelude.{◌≡◌, ◌↔◌, ℕ, ◌%◌, ◌≤◌, ◌<◌, false, List, All, map, take, IfSome, Some}
 use Rattle.std.specs.List.{Contains}
 use Rattle.eg_fault.specs.declared.class.Fault.{Fault}

@@ -1,4 +1,5 @@
--- The table of a sweep: what comes of the runs under the faults of each class.
+-- A class's row has how many runs there are under its faults, in how many nothing is found, how often each
+-- watch is first, and the greatest reaction.
 use Rattle.std.specs.Prelude.{ℕ, ◌==◌, Bool, max, is_none, List, [], ◌∷◌, map, take, length, count_by, Option, Some, None, option_map}
 use Rattle.std.specs.List.{filter, filter_map, fold, zip}
 use Rattle.eg_fault.specs.declared.class.Class.{Class}

@@ -1,4 +1,5 @@
--- What `sweep` writes: a line for each class, and a last line.
+-- `sweep` writes a line for each class with the numbers of its row, and a last line with the greatest
+-- reaction under listed faults.
 use Rattle.std.specs.Prelude.{ℕ, List, [], ◌∷◌, ◌++◌, map, get_or, codes, decimal, Option, Some, None}
 use Rattle.std.specs.List.{concat, zip}
 use Rattle.eg_fault.specs.declared.class.Class.{Class}

@@ -1,4 +1,5 @@
--- Whether a fault has acted: whether anything is out of order by it at some tick of a run.
+-- A fault has acted where it has an effect at some tick of the run: a flip at its onset alone, a lapse where
+-- level 2 is left out.
 use Rattle.std.specs.Prelude.{ℕ, ◌-◌, ◌==◌, Bool, true, ◌&&◌, nat_le, Option, Some, None}
 use Rattle.std.specs.List.{list_any, range_with_len}
 use Rattle.eg_fault.specs.declared.class.Class.{Class}

@@ -1,5 +1,5 @@
--- The text of `table`: a header, and a line for each run. Columns are parted by commas, and what isn't there
--- is an empty column.
+-- `table` writes a header and for each run a line with its fault, first detection, stages, confirmed excess,
+-- reaction and trap; what isn't there is an empty column. Columns are parted by commas.
 use Rattle.std.specs.Prelude.{ℕ, Bool, List, ◌++◌, codes, decimal, Option, Some, None, option_map}
 use Rattle.eg_word.specs.declared.registers.Trap.{Trap}
 use Rattle.eg_fault.specs.declared.class.Fault.{Fault}

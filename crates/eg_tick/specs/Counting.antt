@@ -1,4 +1,5 @@
--- How the ticks that are made are counted. Rows stand here in the order in which their ticks are made.
+-- Each tick that is made is counted, with the weight of its row; where memory ran out the first of them are,
+-- the last perhaps without its weight. Rows stand here in the order in which their ticks are made.
 use Rattle.std.specs.Prelude.{◌≡◌, ℕ, ◌+◌, ◌%◌, ◌^◌, ◌≤◌, List, map, take, length, Result, Ok, Err}
 use Rattle.std.specs.List.{sum}
 use Rattle.eg_record.specs.declared.row.Row.{Row}

@@ -1,5 +1,6 @@
--- What a run comes to where its rows aren't kept: what is told of them. And what the facts tell of the
--- reaction, for drives that never reset the unit: such a run is one drive span from tick 0 on.
+-- Of a run whose rows aren't kept there are told the facts of its record, the reactions in its spans, and its
+-- trap. For drives that never reset the unit stands here too what the facts tell of the reaction: a run
+-- without a reset is one drive span from tick 0 on.
 use Rattle.std.specs.Prelude.{◌≡◌, ℕ, ◌+◌, ◌<◌, true, false, List, All, length, Option, IfSome, IsSomeAnd, MatchOption}
 use Rattle.eg_num.specs.Drive.{DriveRow}
 use Rattle.eg_fault.specs.declared.class.Fault.{Fault}

@@ -1,5 +1,5 @@
--- A run on the bench: what a controller stands for after some ticks of it, and what its record is. Lists
--- of rows stand newest first.
+-- A run on the bench is made of a calibration, an image, a fault or none, a slice plan and a drive, and a
+-- controller stands for some ticks of it. Its record is said here too. Lists of rows stand newest first.
 use Rattle.std.specs.Prelude.{◌≡◌, ℕ, List, reverse, length, Option}
 use Rattle.eg_num.specs.Drive.{DriveRow}
 use Rattle.eg_fault.specs.declared.class.Fault.{Fault}

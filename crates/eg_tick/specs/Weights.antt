@@ -1,4 +1,6 @@
--- What the ticks that were made weigh, so that whoever counts them can tell whether they were made.
+-- A row weighs its tick, charge, five signals and two outputs together, and the count of ticks keeps how many
+-- were made and what their rows weigh, modulo 2^64. So the weights tell whether ticks that are counted were
+-- made.
 use Rattle.std.specs.Prelude.{ℕ, ◌+◌}
 use Rattle.std.specs.List.{sum}
 use Rattle.eg_record.specs.declared.row.Row.{Row}

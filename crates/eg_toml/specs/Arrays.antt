@@ -1,4 +1,5 @@
--- What the items of an array read as, one after another; and whether numbers rise.
+-- An array reads as what its items read as, one after another, where it has as many items as it may and each
+-- of them can be read. Numbers rise where each is more than the one before it.
 use Rattle.std.specs.Prelude.{◌≡◌, ℕ, suc, ◌&&◌, Bool, true, List, [], ◌∷◌, ◌++◌, Option, Some, None, option_map, if◌then◌else◌, nat_le, nat_lt, MatchBool}
 use Rattle.toml.specs.Data.{Data, Items, no_items, item, as_array}
 use Rattle.eg_toml.specs.Values.{number_in, ◌>>=◌}

@@ -1,4 +1,5 @@
--- The document that a file's bytes are. What a document is, and its tree, is the crate `toml`'s to say.
+-- The bytes of a file are a document unless they weigh too much, aren't UTF-8 or break a rule of TOML. What a
+-- document is, and its tree, is the crate `toml`'s to say.
 use Rattle.std.specs.Prelude.{ℕ, List, Option, None, if◌then◌else◌}
 use Rattle.std.specs.Str.{is_utf8}
 use Rattle.toml.specs.Data.{Members}

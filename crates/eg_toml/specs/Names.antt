@@ -1,4 +1,5 @@
--- The names that a table has.
+-- The names of a table pass where each of them does, and a name is a known one where it is among those of a
+-- list.
 use Rattle.std.specs.Prelude.{ℕ, Bool, true, ◌&&◌, List, bytes_eq}
 use Rattle.std.specs.List.{list_any}
 use Rattle.toml.specs.Data.{Members, no_members, member}

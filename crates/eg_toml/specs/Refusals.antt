@@ -1,5 +1,5 @@
--- Refusals of a file, whatever the faults of its kind are, and what a check or a reader answers: a value, or
--- the first fault.
+-- Of the faults of a file the first counts, and what a check or a reader answers is that fault, or the value
+-- where there is none. The faults may be those of any kind of file.
 use Rattle.std.specs.Prelude.{◌≡◌, ◌⊎◌, Bool, true, false, List, [], ◌∷◌, Option, Some, None, Result, Ok, Err}
 
 -- ---- faults, where there may be none ----

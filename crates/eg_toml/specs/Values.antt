@@ -1,4 +1,5 @@
--- The values in a document's tables. A number is a TOML integer, and no float or text that looks like one.
+-- A number of a document's table is a TOML integer within its range, and no float or text that looks like
+-- one.
 use Rattle.std.specs.Prelude.{ℕ, ℤ, pos, negsuc, ◌&&◌, List, Option, Some, None, option_and_then, if◌then◌else◌, nat_le}
 use Rattle.toml.specs.Data.{Data, Members, get_member, as_integer, as_table}
 

@@ -1,5 +1,6 @@
--- What a document weighs: about how many bytes `toml` takes for its tree. It is weighed before it is read.
--- What stands in comments and in texts weighs nothing.
+-- A document weighs about as many bytes as `toml` takes for its tree, and is too heavy to be read where that
+-- is more than `heaviest`. What stands in comments and in texts weighs nothing. More than `deepest` lists and
+-- inline tables in one another weigh too much.
 use Rattle.std.specs.Prelude.{ℕ, ◌+◌, ◌-◌, ◌*◌, Bool, true, false, not, ◌&&◌, ◌||◌, ◌==◌, nat_le, nat_lt, if◌then◌else◌, List, [], ◌∷◌, ◌++◌, length, take, slice_index_or, fold, bit_and}
 use Rattle.std.specs.Str.{byte}
 use Rattle.eg_toml.specs.declared.places.Place.{Place}

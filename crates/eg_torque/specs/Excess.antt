@@ -1,4 +1,5 @@
--- The excess of the torque estimate over the permitted torque, all in tenths of Nm.
+-- There is an excess where the torque estimate is more than the permitted torque and the threshold together,
+-- and none at a tie. All three are in tenths of Nm.
 use Rattle.std.specs.Prelude.{ℕ, ◌+◌, Bool, nat_lt}
 
 -- the estimate is more than the permitted torque and the threshold together; a tie is no excess

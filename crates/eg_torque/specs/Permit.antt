@@ -1,7 +1,7 @@
--- The permit table: how much torque the driver's pedal permits, at each pedal and speed. Its rows are those
--- of the pedal, in per mille, its columns those of the speed, in rpm, and its values are in tenths of Nm.
--- What is permitted doesn't fall where the pedal rises, so a table is refused where one of its rows falls
--- below the row before it.
+-- The permitted torque is the permit table's value at a pedal and a speed, of two speeds the lower value, or
+-- the raise where that is more. The rows of the table are those of the pedal, in per mille, its columns those
+-- of the speed, in rpm, and its values are in tenths of Nm. What is permitted doesn't fall where the pedal
+-- rises, so a table is refused where one of its rows falls below the row before it.
 use Rattle.std.specs.Prelude.{ℕ, ◌+◌, ◌-◌, ◌≤◌, ◌<◌, length, min, max}
 use Rattle.eg_num.specs.Drive.{DriveRow}
 use Rattle.eg_num.specs.Interpolation.{Grid, IsGrid, cell, grid_at}

@@ -1,5 +1,7 @@
--- How `bound`, `limits` and `answers` end: by cases on the outcome, nested from the outside in. `store` and
--- `out` are what the store and the output show before the call, `later` and `now` after it.
+-- `bound` and `limits` write limits of the calibration, and `answers` the right answer to each question of a
+-- file; where the file is refused or can't be read nothing is put. This is said by cases on the outcome,
+-- nested from the outside in. `store` and `out` are what the store and the output show before the call,
+-- `later` and `now` after it.
 use Rattle.std.specs.Prelude.{◌≡◌, ℕ, List, Option, Result}
 use Rattle.eg_base.specs.Outside.{ShownStore, ShownSink}
 use Rattle.eg_answer.specs.declared.questions.Question.{Question}

@@ -1,4 +1,5 @@
--- What a calibration comes to: its worst-case reaction, and what it tolerates.
+-- The limits of a calibration are its worst-case reaction, bound for lapses, how many wrong verdicts or ticks
+-- of excess confirm, a test's last tick, and the spacing of misses.
 use Rattle.std.specs.Prelude.{◌≡◌, SomeIff}
 use Rattle.eg_answer.specs.Times.{feeds_to_confirm, reaction_of, test_ticks_of, HasLapseBound, lapse_bound_of, HasMissSpacing, miss_spacing_of}
 use Rattle.eg_values.specs.Calibration.{CalibrationParts}

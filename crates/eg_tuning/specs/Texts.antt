@@ -1,4 +1,5 @@
--- What `bound`, `limits` and `answers` write.
+-- `bound` writes a line for the worst-case reaction and one for the bound for lapses, `limits` these and four
+-- more, and `answers` a line for each question.
 use Rattle.std.specs.Prelude.{ℕ, ◌+◌, List, [], ◌∷◌, ◌++◌, codes, decimal, Option, Some, None}
 use Rattle.eg_answer.specs.declared.questions.Question.{Question}
 use Rattle.eg_tuning.specs.declared.limit.Limits.{Limits}

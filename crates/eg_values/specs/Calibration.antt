@@ -1,4 +1,5 @@
--- What a calibration holds, and when it is an accepted one.
+-- A calibration has rules, a plant, times, questions, and whether the brake counts; it is accepted where each
+-- part keeps its limits and they go together, each question's answer being right.
 use Rattle.std.specs.Prelude.{◌≡◌, ℕ, ◌≤◌, ◌<◌, ◌^◌, Bool, List, length, All}
 use Rattle.eg_num.specs.Interpolation.{IsGrid, IsCurve}
 use Rattle.eg_num.specs.Windows.{AreWeights}

@@ -1,4 +1,5 @@
--- The reference calibration.
+-- The reference calibration has a permit table of three pedals and three speeds, periods of 10 ticks, four
+-- questions with their answers, and a brake that doesn't count.
 use Rattle.std.specs.Prelude.{ℕ, false, List, [], ◌∷◌}
 use Rattle.eg_num.specs.Interpolation.{Grid}
 use Rattle.eg_plant.specs.PlantParts.{PlantParts}

@@ -1,4 +1,5 @@
--- The instructions of level 1's machine, and how a word of 16 bits is read as one.
+-- Each word of 16 bits is one instruction of level 1's machine, or an illegal one, by its fields: the
+-- operation, the registers, and a number or a distance.
 use Rattle.std.specs.Prelude.{ℕ, ◌*◌, ◌/◌, ◌%◌, ℤ, pos, ◌-ℤ◌, if◌then◌else◌, ◌==◌, nat_lt}
 use Rattle.eg_word.specs.declared.instruction.Instruction.{Instruction}
 use Rattle.eg_word.specs.declared.instruction.Instruction.TheVariants.{Nop, Ldi, Ldx, Mov, Add, Sub, And, Or, Xor, Shr, Mul, Ld, St, Jz, Jlt, Wait, Jr, Illegal}

@@ -1,4 +1,5 @@
--- What one step makes of level 1's machine: the table of instructions.
+-- Unless it waits or is trapped, a step of level 1's machine does the instruction at pc, which changes
+-- registers and stores one word at most, or traps it.
 use Rattle.std.specs.Prelude.{ℕ, ◌+◌, ◌-◌, ◌*◌, ◌/◌, ◌%◌, ◌^◌, ℤ, if◌then◌else◌, ◌==◌, nat_lt, slice_index, slice_set, bit_and, bit_or, bit_xor, Option, Some, None}
 use Rattle.std.specs.Int.{w16, cast_unsigned}
 use Rattle.eg_guard.specs.declared.regions.TheConstants.{DATA}

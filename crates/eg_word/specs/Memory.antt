@@ -1,4 +1,5 @@
--- What a step makes of the words of a guarded memory.
+-- Level 1's machine loads a word of a guarded memory where it may, its step stores one at most, and its own
+-- regions are its data and its outputs.
 use Rattle.std.specs.Prelude.{ℕ, Bool, true, false, if◌then◌else◌, List, slice_index, slice_set, Option, Some, None}
 use Rattle.eg_guard.specs.declared.regions.Who.TheVariants.{Level1}
 use Rattle.eg_guard.specs.declared.regions.Region.{Region}

@@ -1,4 +1,5 @@
--- Level 1's private world: its machine, its words and its two outputs; and what it is shown besides.
+-- Level 1's private world is its machine, its data and its two outputs; a step changes nothing else, and sees
+-- besides the image, the ten readings and the five signals.
 use Rattle.std.specs.Prelude.{◌≡◌, ℕ, ◌+◌, ◌-◌, ◌<◌, if◌then◌else◌, ◌==◌, List, slice_index, slice_set, replicate, Option, Some, None}
 use Rattle.std.specs.List.{slice_range}
 use Rattle.eg_guard.specs.declared.regions.TheConstants.{DATA, IN_PORTS, IN_PORT_COUNT, THROTTLE, IGNITION, RESULTS, RESULT_COUNT}
