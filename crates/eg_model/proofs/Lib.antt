@@ -29,6 +29,7 @@ pub mod PowerCycleLaws
 pub mod GasolineLaws
 pub mod DieselLaws
 pub mod WholeRecord
+pub mod ShowingLaws
 pub mod FindingReports
 pub mod LapseRuns
 pub mod LapseAnswers

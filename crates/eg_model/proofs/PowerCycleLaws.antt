@@ -1,13 +1,13 @@
 -- The spans of a record begin at the resets of its drive, and after tests that were passed.
 use Rattle.std.proofs.Common.{◌≡◌, ◌∙◌, refl, sym, ap, ap₂, subst, arith, ℕ, zero, suc, ◌+◌, ◌==◌, nat_le, Bool, true, false, ◌&&◌, ◌||◌, not, if◌then◌else◌, List, [], ◌∷◌, ◌++◌, length}
-use Rattle.std.proofs.lemmas.Bool.{eqb-true, eq-eqb}
+use Rattle.std.proofs.lemmas.Bool.{eqb-true, eq-eqb, ne_eqb}
 use Rattle.eg_answer.specs.Times.{TimeParts, test_ticks_of}
 use Rattle.eg_fault.specs.Effects.{Effects}
 use Rattle.eg_fault.specs.Faults.{effects}
 use Rattle.eg_record.specs.declared.row.Row.{Row}
 use Rattle.eg_record.specs.Spans.{this_span}
 use Rattle.eg_model.specs.History.{Setting, Entry, SpanKind, Drive, Test, drives, Moment}
-use Rattle.eg_model.specs.Paths.{is_testing, reads_back}
+use Rattle.eg_model.specs.Paths.{is_testing, reads_back, on_at}
 use Rattle.eg_model.specs.Moments.{moment_in}
 use Rattle.eg_model.specs.Spans.{span_so_far, has_passed, span_kind, kind_at, before_at, moment_at, next_after}
 use Rattle.eg_model.specs.Engines.{BenchEngine}
@@ -148,6 +148,44 @@ runs_by_rows s e past so = by_kind (kind_at e.drive past) ∙ ap₂ (λ tests ma
     by_kind Drive = refl
     by_kind Test = later (length (before_at e.drive past)) (test_ticks_of s.cal.times)
 
+-- the stages are on exactly where the engine is driven and both paths conduct
+powered_by_rows : (s : Setting) (e : Entry) (past : List Moment) → tests_by_kind past →
+    (next_after s e past).on ≡ (not (stands_in_test (rows_of (next_after s e past ∷ past))) &&
+    ((next_after s e past).path1 && (next_after s e past).path2))
+unfolding next_after moment_at moment_in on_at
+powered_by_rows s e past so = ap (λ driven. driven && ((next_after s e past).path1 && (next_after s e past).path2))
+    (twice (drives (kind_at e.drive past)) ∙ ap not (sym (tests_by_kind-next s e past so)))
+  where
+    twice : (b : Bool) → b ≡ not (not b)
+    twice true = refl
+    twice false = refl
+
+-- and a test is found to have failed exactly where it reads the paths back and one of them conducts
+fails_by_rows : (s : Setting) (e : Entry) (past : List Moment) →
+    (next_after s e past).found.start ≡ (((next_after s e past).testing &&
+    (length (this_span (rows_of (next_after s e past ∷ past))) == test_ticks_of s.cal.times + 1)) &&
+    ((next_after s e past).path1 || (next_after s e past).path2))
+unfolding next_after moment_at moment_in is_testing reads_back
+fails_by_rows s e past = ap (λ read. read && ((next_after s e past).path1 || (next_after s e past).path2))
+    (by_kind (kind_at e.drive past) ∙ ap (λ many. is_testing (kind_at e.drive past) s.cal.times (length (before_at e.drive past)) &&
+    (many == test_ticks_of s.cal.times + 1)) (sym (span_length-next s e past)))
+  where
+    last : (n m : ℕ) (b : Bool) → (n == m) ≡ b → b ≡ (nat_le n m && (suc n == m + 1))
+    last n m true is = let same = eqb-true n m is in rw (le_equal n m is, eq-eqb (suc n) (m + 1) (omega arith)) refl
+    last n m false other = rw (ne_eqb (suc n) (m + 1) (λ e. never (n == m) (eq-eqb n m (omega arith)) other)) (nothing (nat_le n m))
+      where
+        never : (c : Bool) → c ≡ true → c ≡ false → ⊥
+        never c is other = absurd (let f : true ≡ false = sym is ∙ other in cc)
+
+        nothing : (c : Bool) → false ≡ (c && false)
+        nothing true = refl
+        nothing false = refl
+
+    by_kind : (k : SpanKind) → reads_back k s.cal.times (length (before_at e.drive past)) ≡
+        (is_testing k s.cal.times (length (before_at e.drive past)) && (suc (length (before_at e.drive past)) == test_ticks_of s.cal.times + 1))
+    by_kind Drive = refl
+    by_kind Test = last (length (before_at e.drive past)) (test_ticks_of s.cal.times) _ refl
+
 -- ---- a test that was passed ----
 
 record Opened (kind : SpanKind) (times : TimeParts) (local : ℕ) (path1 path2 : Bool) : Type 0 where
@@ -244,6 +282,8 @@ begins_in_turn b r zero = record {
   later = λ last before stays is fresh. absurd (let e : [] ≡ last ∷ before = is in cc);
   passed = λ last before is passed. absurd (let e : [] ≡ last ∷ before = is in cc);
   runs = runs_by_rows r.setting (entry_at b r 0 []) [] (tests_by_kind-at b r 0);
+  powered = powered_by_rows r.setting (entry_at b r 0 []) [] (tests_by_kind-at b r 0);
+  fails = fails_by_rows r.setting (entry_at b r 0 []) [];
 }
 begins_in_turn b r (suc t) =
     let before = moments_to b r t in
@@ -264,6 +304,8 @@ begins_in_turn b r (suc t) =
       passed = λ last older is passed.
           begins_fresh r.setting comes now (length past) past (passes r.setting e before (moved_back last older is passed));
       runs = runs_by_rows r.setting now past (tests_by_kind-at b r (suc t));
+      powered = powered_by_rows r.setting now past (tests_by_kind-at b r (suc t));
+      fails = fails_by_rows r.setting now past;
     }
   where
     row : Row

@@ -30,11 +30,12 @@ use Rattle.eg_model.specs.Rows.{row_of, rows_of, record_rows}
 use Rattle.eg_model.specs.Premises.{IsProper, AreProper, IsProperRun, Follows}
 use Rattle.eg_model.specs.SharpCut.{ArePlain}
 use Rattle.eg_model.specs.StartUp.{IsUndisturbed}
+use Rattle.eg_model.specs.Findings.{FindsExcessAlone, RecordsFindSharply}
 use Rattle.eg_model.specs.Records.{IsRun, is_before_onset, ReactWithin, RowsReactAtOnce, CutOneTickAfter, CutStandingExcess, ExcessIsShort, CutFromOnset, RecordsReact, RecordsReactAtOnce, RecordsCutSharply, RecordsCutSharplyBefore, RecordsCutStandingExcess, RecordsHaveShortExcess, RecordsCutFromOnset, RecordsTestUnpowered, RecordsPassTests}
 use Rattle.eg_model.proofs.StartUpLaws.{tests_pass}
 use Rattle.eg_model.proofs.SpanLemmas.{tick_after, ticks_before, Continues, continues, begin_of, ends_in, proper_drive}
 use Rattle.eg_model.proofs.SpanRows.{rows_after, SpanRows, RowAfter, row_tick, rows_off, bits_after, full_unnumbered}
-use Rattle.eg_model.proofs.SpanLaws.{react_within, react_at_once, cut_lapses, short_lapses, cut_from_onset, sharp_after, cut_one_tick_after}
+use Rattle.eg_model.proofs.SpanLaws.{react_within, react_at_once, cut_lapses, short_lapses, cut_from_onset, sharp_after, found_after, cut_one_tick_after}
 use Rattle.eg_model.proofs.RecordTicks.{length-moments_to, records_are_histories}
 use Rattle.eg_model.proofs.RecordSpans.{kind_by, head_of, tail_of, part_of, with_part, SpanTo, SpanIn, span_in}
 
@@ -151,6 +152,15 @@ module _ {E : Type 0} (b : BenchEngine E) where
   records_pass_tests r run none = subst (All NeverFails) (ap rows_of (sym (records_are_histories b r (length r.drive))) ∙ (unfold record_rows in refl))
       (none_fails r.setting run.accepted none (entries_to b r (length r.drive)))
 
+-- a row of a drive span is that of a plain tick, after plain ones
+record QuietLast (s : Setting) (start : ℕ) (row : Row) (before : List Row) : Type 0 where
+  pub tick : Tick
+  pub past : List Tick
+  pub row_is : row ≡ RowAfter s start tick past
+  pub before_are : before ≡ SpanRows s start past
+  pub plain : ArePlain (tick ∷ past)
+  pub proper : AreProper s (tick ∷ past)
+
 module _ {E : Type 0} {b : BenchEngine E} {Keeps : PlantParts → E → Type 0} (keeps : KeepsBenchLaws b Keeps) where
   -- ---- what comes in on the bench is proper ----
 
@@ -234,7 +244,7 @@ module _ {E : Type 0} {b : BenchEngine E} {Keeps : PlantParts → E → Type 0} 
   proper_to r run (suc t) holds = (proper_at r run t holds, proper_to r run t (λ u l. holds u (omega arith)))
 
   -- so it is under each valid fault
-  proper_under : (r : Run) → IsRun r → IsNoneOrValid r.setting.fault → (n : ℕ) → IsProperRun r.setting (entries_to b r n)
+  pub proper_under : (r : Run) → IsRun r → IsNoneOrValid r.setting.fault → (n : ℕ) → IsProperRun r.setting (entries_to b r n)
   proper_under r run valid n = proper_to r run n (λ t l. plates_are_held_within r.setting.fault valid t)
 
   -- and so the ticks of each drive span are proper
@@ -311,29 +321,21 @@ module _ {E : Type 0} {b : BenchEngine E} {Keeps : PlantParts → E → Type 0} 
         quiet : (t : ℕ) → is_before_onset r.setting.fault t ≡ true
         quiet t = rw none (unfold is_before_onset in refl)
 
-    -- the last row of a part of a span, at a tick at which no fault has begun
-    sharp_last : (r : Run) → IsRun r → (start count : ℕ) (row : Row) (before : List Row) →
+    -- the last row of a part of a span, at a tick at which no fault has begun, is that of a plain tick
+    quiet_last : (r : Run) → IsRun r → (start count : ℕ) (row : Row) (before : List Row) →
         SpanIn b r start count Drive (row ∷ before) → is_before_onset r.setting.fault row.tick ≡ true →
-        row.on ≡ not (is_confirmed r.setting.cal.rules.torque (map (full_excess r.setting.cal.rules.kt r.setting.cal.rules.threshold) before))
-    sharp_last r run start count row before is quiet = go (SpanTo b r count) refl
+        QuietLast r.setting start row before
+    quiet_last r run start count row before is quiet = go (SpanTo b r count) refl
       where
         s : Setting
         s = r.setting
 
-        bit : Row → Bool
-        bit = full_excess s.cal.rules.kt s.cal.rules.threshold
-
-        Sharp : Type 0
-        Sharp = row.on ≡ not (is_confirmed s.cal.rules.torque (map bit before))
-
         rows_are : (h : List Tick) → SpanTo b r count ≡ h → row ∷ before ≡ SpanRows s start h
         rows_are h e = is.rows_are ∙ (unfold moments_of in ap (λ g. rows_after start (moments_in Drive s g)) e)
 
-        last : (x : Tick) (h : List Tick) → SpanTo b r count ≡ x ∷ h → row ∷ before ≡ RowAfter s start x h ∷ SpanRows s start h → Sharp
-        last x h e rows = ap (λ (r : Row). r.on) first
-            ∙ sharp_after s start run.accepted x h (unfold ArePlain in plain.0.effects) (unfold ArePlain in plain.1) (unfold AreProper in proper.1)
-            ∙ ap (λ bits. not (is_confirmed s.cal.rules.torque bits))
-            (sym (ap (map bit) rest ∙ bits_after bit (full_unnumbered s.cal.rules.kt s.cal.rules.threshold) s start h))
+        last : (x : Tick) (h : List Tick) → SpanTo b r count ≡ x ∷ h → row ∷ before ≡ RowAfter s start x h ∷ SpanRows s start h →
+            QuietLast s start row before
+        last x h e rows = record { tick = x; past = h; row_is = first; before_are = rest; plain = plain; proper = proper }
           where
             first : row ≡ RowAfter s start x h
             first = head_of row (RowAfter s start x h) before (SpanRows s start h) rows
@@ -357,20 +359,63 @@ module _ {E : Type 0} {b : BenchEngine E} {Keeps : PlantParts → E → Type 0} 
             proper : AreProper s (x ∷ h)
             proper = subst (AreProper s) e (proper_quiet r run start count (row ∷ before) is still)
 
-        go : (h : List Tick) → SpanTo b r count ≡ h → Sharp
+        go : (h : List Tick) → SpanTo b r count ≡ h → QuietLast s start row before
         go [] e = absurd (none (rows_are [] e ∙ (unfold rows_after moments_of moments_in in refl)))
           where
             none : row ∷ before ≡ [] → ⊥
             none f = cc
         go (x ∷ h) e = last x h e (rows_are (x ∷ h) e ∙ (unfold rows_after moments_of moments_in in refl))
 
+    sharp_last : (r : Run) → IsRun r → (start count : ℕ) (row : Row) (before : List Row) →
+        SpanIn b r start count Drive (row ∷ before) → is_before_onset r.setting.fault row.tick ≡ true →
+        row.on ≡ not (is_confirmed r.setting.cal.rules.torque (map (full_excess r.setting.cal.rules.kt r.setting.cal.rules.threshold) before))
+    sharp_last r run start count row before is quiet = ap (λ (r : Row). r.on) last.row_is
+        ∙ sharp_after s start run.accepted last.tick last.past (unfold ArePlain in last.plain.0.effects) (unfold ArePlain in last.plain.1)
+        (unfold AreProper in last.proper.1)
+        ∙ ap (λ bits. not (is_confirmed s.cal.rules.torque bits))
+        (sym (ap (map bit) last.before_are ∙ bits_after bit (full_unnumbered s.cal.rules.kt s.cal.rules.threshold) s start last.past))
+      where
+        s : Setting
+        s = r.setting
+
+        bit : Row → Bool
+        bit = full_excess s.cal.rules.kt s.cal.rules.threshold
+
+        last : QuietLast s start row before
+        last = quiet_last r run start count row before is quiet
+
+    found_last : (r : Run) → IsRun r → (start count : ℕ) (row : Row) (before : List Row) →
+        SpanIn b r start count Drive (row ∷ before) → is_before_onset r.setting.fault row.tick ≡ true →
+        FindsExcessAlone r.setting.cal.rules.torque r.setting.cal.rules.kt r.setting.cal.rules.threshold row before
+    found_last r run start count row before is quiet =
+        subst (λ rows. FindsExcessAlone s.cal.rules.torque s.cal.rules.kt s.cal.rules.threshold row rows) (sym last.before_are)
+        (subst (λ row. FindsExcessAlone s.cal.rules.torque s.cal.rules.kt s.cal.rules.threshold row (SpanRows s start last.past)) (sym last.row_is)
+        (found_after s start run.accepted last.tick last.past last.plain last.proper))
+      where
+        s : Setting
+        s = r.setting
+
+        last : QuietLast s start row before
+        last = quiet_last r run start count row before is quiet
+
+    -- and so at each row of a drive span at which no fault has begun
+    module _ (r : Run) (newer span older : List Row) (e : record_rows b r ≡ newer ++ (span ++ older)) (is : IsDriveSpan span)
+        (later : List Row) (row : Row) (before : List Row) (split : span ≡ later ++ row ∷ before) where
+      span_to_row : SpanIn b r (length older) (length ((row ∷ before) ++ older)) Drive (row ∷ before)
+      span_to_row = unfold kind_by in span_in b r (newer ++ later) (row ∷ before) older longer part.span false part.drives
+        where
+          part : IsDriveSpan (row ∷ before)
+          part = part_of later row before (subst IsDriveSpan split is)
+
+          longer : record_rows b r ≡ (newer ++ later) ++ ((row ∷ before) ++ older)
+          longer = with_part (record_rows b r) newer span older later row before e split
+
     pub records_cut_sharply_before : RecordsCutSharplyBefore b
     records_cut_sharply_before r run newer span older e is later before row split quiet =
         sharp_last r run (length older) (length ((row ∷ before) ++ older)) row before
-        (unfold kind_by in span_in b r (newer ++ later) (row ∷ before) older longer part.span false part.drives) quiet
-      where
-        part : IsDriveSpan (row ∷ before)
-        part = part_of later row before (subst IsDriveSpan split is)
+        (span_to_row r newer span older e is later row before split) quiet
 
-        longer : record_rows b r ≡ (newer ++ later) ++ ((row ∷ before) ++ older)
-        longer = with_part (record_rows b r) newer span older later row before e split
+    pub records_find_sharply : RecordsFindSharply b
+    records_find_sharply r run newer span older e is later before row split quiet =
+        found_last r run (length older) (length ((row ∷ before) ++ older)) row before
+        (span_to_row r newer span older e is later row before split) quiet

@@ -1,6 +1,6 @@
 -- The sharp cut: while nothing is out of order, the stages go off one tick after the first confirmed
 -- full-efficiency excess, and at no other time.
-use Rattle.std.proofs.Common.{◌≡◌, ℕ, zero, suc, ◌+◌, ◌-◌, ◌*◌, ◌/◌, ◌%◌, ◌≤◌, ◌<◌, Bool, true, false, not, ◌||◌, ◌&&◌, List, [], ◌∷◌, map, length, take, refl, sym, ap, ap₂, ◌∙◌, arith, inl, inr, ◌⊎◌, Option, Some, None, nat_lt, subst}
+use Rattle.std.proofs.Common.{◌≡◌, ℕ, zero, suc, ◌+◌, ◌-◌, ◌*◌, ◌/◌, ◌%◌, ◌≤◌, ◌<◌, Bool, true, false, not, ◌||◌, ◌&&◌, List, [], ◌∷◌, map, length, take, refl, sym, ap, ap₂, ◌∙◌, arith, inl, inr, ◌⊎◌, Option, Some, None, nat_lt, subst, true≢false}
 use Rattle.std.specs.Prelude.{if◌then◌else◌, ◌==◌}
 use Rattle.std.proofs.lemmas.Nat.{mod-mul-add}
 use Rattle.std.proofs.lemmas.Bool.{and_from, or_left, or_right, or_from, or_parts, and_right, and_left, le-ltb, lt-ltb, le-leb, lt-leb, eq-eqb, eqb-true}
@@ -19,7 +19,7 @@ use Rattle.eg_fault.specs.declared.paths.TheConstants.{PATH_1}
 use Rattle.eg_record.specs.Excess.{full_excess}
 use Rattle.eg_model.specs.History.{Setting, Entry, Tick, Moment, Signals}
 use Rattle.eg_model.specs.Signals.{tripped, is_limited}
-use Rattle.eg_model.specs.Detection.{fed_bits, finds, pedal_bit, plate_bit, load_bit, speed_bit, torque_bit}
+use Rattle.eg_model.specs.Detection.{fed_bits, finds, pedal_bit, plate_bit, load_bit, speed_bit, torque_bit, feeds_at}
 use Rattle.eg_answer.specs.Modules.{modules_before_react, modules}
 use Rattle.eg_model.specs.Answers.{is_whole, is_undisturbed, is_answer, whole_since_answer, is_sent, is_good, mark_at, with_answer, answers_in, verdict_at, verdicts_in, confirms_at}
 use Rattle.eg_model.specs.Paths.{latch1, latch2, on_at, path1_at, path2_at}
@@ -28,7 +28,7 @@ use Rattle.eg_model.specs.Rows.{row_of, rows_of}
 use Rattle.eg_model.specs.Premises.{IsProper, AreProper, is_on_after, full_excesses}
 use Rattle.eg_model.specs.SharpCut.{ArePlain, CutsSharply}
 use Rattle.eg_model.proofs.PeriodLemmas.{period_closes}
-use Rattle.eg_model.proofs.TickLemmas.{Each, length-moments, moment-tick, moment-mark, moment-on, moment-verdict, moment-confirms, moment-orders, moment-trip, moment-mirror, moment-pedal, moment-plate, moment-load, moment-speed, moment-torque_found, moment-torque, moment-opens, moment-whole, moment-feeds, trip_from_torque, tripped-cons, untripped_before}
+use Rattle.eg_model.proofs.TickLemmas.{Each, length-moments, moment-tick, moment-mark, moment-on, moment-verdict, moment-confirms, moment-orders, moment-trip, moment-mirror, moment-pedal, moment-plate, moment-load, moment-speed, moment-torque_found, moment-torque, moment-opens, moment-whole, moment-feeds, trip_from_torque, tripped-cons, untripped_before, moment-answers, moment-feeds_at}
 use Rattle.eg_model.proofs.TripLemmas.{fed_bits-cons, latch1-cons, off_after_trip, ReactsAll}
 use Rattle.eg_model.proofs.Silence.{latch2-cons, wrongs, with_wrong, wrongs-cons, period_least, send_within, verdict_none, verdict_some}
 use Rattle.eg_model.proofs.PlainTick.{plain, plain_runs, torque_bit-is, pedal_bit-is, plate_bit-is, load_bit-is, speed_bit-is}
@@ -313,6 +313,17 @@ pub full_excesses-cons : (s : Setting) (x : Tick) (h : List Tick) →
 unfolding full_excesses moments_of rows_of
 full_excesses-cons s x h = refl
 
+-- what is found at the tick x after h: the full-efficiency excess as it is first confirmed, and nothing else
+pub record FoundSharply (s : Setting) (x : Tick) (h : List Tick) : Type 0 where
+  pub torque : (moment s x.effects x.entry (moments_of s h)).found.torque ≡ is_first s.cal.rules.torque (full_excesses s (x ∷ h))
+  pub answers : is_confirmed s.cal.rules.torque (full_excesses s (x ∷ h)) ≡ false →
+      (moment s x.effects x.entry (moments_of s h)).found.answers ≡ false
+  pub mirror : (moment s x.effects x.entry (moments_of s h)).found.mirror ≡ false
+  pub pedal : (moment s x.effects x.entry (moments_of s h)).found.pedal ≡ false
+  pub plate : (moment s x.effects x.entry (moments_of s h)).found.plate ≡ false
+  pub load : (moment s x.effects x.entry (moments_of s h)).found.load ≡ false
+  pub speed : (moment s x.effects x.entry (moments_of s h)).found.speed ≡ false
+
 module _ (s : Setting) (a : IsAccepted s.cal) (e : Entry) (h : List Tick)
     (proper : IsProper s (on_at no_effects (moments_of s h)) e) (loads : e.shown.load_2 ≡ e.shown.load_1)
     (calm : Calm s h) where
@@ -409,6 +420,27 @@ module _ (s : Setting) (a : IsAccepted s.cal) (e : Entry) (h : List Tick)
     answers = (mark-is quiet, calm.answers);
   }
 
+  fed_torque : finds s.cal.rules.torque torque_bit m.feeds m.signals past ≡
+      is_first s.cal.rules.torque (full_excesses s (plain e ∷ h))
+  unfolding finds
+  fed_torque = ap (λ f. f && is_first s.cal.rules.torque (torque_bit m.signals ∷ fed_bits torque_bit past)) feeds-is ∙ first_is
+
+  pub step_found : FoundSharply s (plain e) h
+  step_found = record {
+    torque = moment-torque_found s no_effects e past ∙ fed_torque;
+    answers = λ quiet. moment-answers s no_effects e past ∙ moment-confirms s no_effects e past
+        ∙ no_answers s.cal.times m.verdict past (let l = a.answers.3 in omega arith) (not_wrong quiet) calm.right;
+    mirror = moment-mirror s no_effects e past ∙ (unfold no_effects in refl);
+    pedal = moment-pedal s no_effects e past
+        ∙ unfound_now pairs pedal_bit m.feeds m.signals past pair_least unpressed calm.pedal;
+    plate = moment-plate s no_effects e past
+        ∙ unfound_now pairs plate_bit m.feeds m.signals past pair_least plate_good calm.plate;
+    load = moment-load s no_effects e past
+        ∙ unfound_now pairs load_bit m.feeds m.signals past pair_least load_good calm.load;
+    speed = moment-speed s no_effects e past
+        ∙ unfound_now pairs speed_bit m.feeds m.signals past pair_least speed_good calm.speed;
+  }
+
   pub step_trip : is_first s.cal.rules.torque (full_excesses s (plain e ∷ h)) ≡ true →
       tripped (m ∷ past) ≡ true
   step_trip first = tripped-cons m past
@@ -470,6 +502,51 @@ trip_once_confirmed s a (x ∷ h) each proper c =
           (to_plain (λ y. is_first s.cal.rules.torque (full_excesses s (y ∷ h)) ≡ true) x none
           (subst (λ l. is_first s.cal.rules.torque l ≡ true) (sym (full_excesses-cons s x h)) now.1)))
     ]
+
+-- after a trip nothing is fed, and so nothing is found
+module _ (s : Setting) (e : Entry) (h : List Tick) (trips : tripped (moments_of s h) ≡ true)
+    (late : is_confirmed s.cal.rules.torque (full_excesses s h) ≡ true) where
+  abbrev tripped_past : List Moment
+  tripped_past = moments_of s h
+
+  abbrev now : Moment
+  now = moment s no_effects e tripped_past
+
+  unfed : now.feeds ≡ false
+  unfolding feeds_at no_effects
+  unfed = moment-feeds_at s no_effects e tripped_past ∙ ap (λ t. true && not t && not false) trips
+
+  unfound : (w : WeightParts) (bit : Signals → Bool) → finds w bit now.feeds now.signals tripped_past ≡ false
+  unfolding finds
+  unfound w bit = ap (λ f. f && is_first w (bit now.signals ∷ fed_bits bit tripped_past)) unfed
+
+  not_anew : is_first s.cal.rules.torque (full_excesses s (plain e ∷ h)) ≡ false
+  unfolding is_first
+  not_anew = ap (is_first s.cal.rules.torque) (full_excesses-cons s (plain e) h) ∙ and_right _ _ (ap not late)
+
+  found_late : FoundSharply s (plain e) h
+  found_late = record {
+    torque = moment-torque_found s no_effects e tripped_past ∙ unfound s.cal.rules.torque torque_bit ∙ sym not_anew;
+    answers = λ quiet. absurd (true≢false (sym late ∙ not_before s.cal.rules.torque _ (full_excesses s h)
+        (subst (λ l. is_confirmed s.cal.rules.torque l ≡ false) (full_excesses-cons s (plain e) h) quiet)));
+    mirror = moment-mirror s no_effects e tripped_past ∙ (unfold no_effects in refl);
+    pedal = moment-pedal s no_effects e tripped_past ∙ unfound s.cal.rules.pair pedal_bit;
+    plate = moment-plate s no_effects e tripped_past ∙ unfound s.cal.rules.pair plate_bit;
+    load = moment-load s no_effects e tripped_past ∙ unfound s.cal.rules.pair load_bit;
+    speed = moment-speed s no_effects e tripped_past ∙ unfound s.cal.rules.pair speed_bit;
+  }
+
+pub found_sharply : (s : Setting) → IsAccepted s.cal → (x : Tick) (h : List Tick) → ArePlain (x ∷ h) → AreProper s (x ∷ h) →
+    FoundSharply s x h
+unfolding ArePlain AreProper
+found_sharply s a x h each proper = as_plain (λ y. FoundSharply s y h) x each.0.effects
+    (go (is_confirmed s.cal.rules.torque (full_excesses s h)) refl)
+  where
+    go : (b : Bool) → is_confirmed s.cal.rules.torque (full_excesses s h) ≡ b → FoundSharply s (plain x.entry) h
+    go true late = found_late s x.entry h (trip_once_confirmed s a h each.1 proper.1 late) late
+    go false quiet = step_found s a x.entry h
+        (to_plain (λ y. IsProper s (on_at y.effects (moments_of s h)) y.entry) x each.0.effects proper.0) each.0.loads
+        (calm_until s a h each.1 proper.1 quiet)
 
 -- no trip, no order
 pub latch1_shut : (s : Setting) (h : List Tick) → tripped (moments_of s h) ≡ false →

@@ -94,6 +94,11 @@ pub row_on : (s : Setting) (start : ℕ) (x : Tick) (before : List Tick) → (Ro
 unfolding row_of is_on_after
 row_on s start x before = refl
 
+pub row_found : (s : Setting) (start : ℕ) (x : Tick) (before : List Tick) →
+    (RowAfter s start x before).found ≡ (moment s x.effects x.entry (moments_of s before)).found
+unfolding row_of
+row_found s start x before = refl
+
 pub row_tick : (s : Setting) (start : ℕ) (x : Tick) (before : List Tick) → (RowAfter s start x before).tick ≡ start + length before
 unfolding row_of
 row_tick s start x before = ap (λ n. start + n) (length-moments s before)

@@ -1,8 +1,9 @@
 -- In a drive span a cutting watch is found before the stages are off, unless a fault opens a path by itself,
 -- and what spoils the answers is found in time. In a test span that failed `start` was found. So there is no
 -- cut without a watch, and the report names one. Rows stand newest first.
-use Rattle.std.specs.Prelude.{◌≡◌, ℕ, ◌+◌, ◌<◌, ◌==◌, Bool, true, false, ◌&&◌, max, nat_le, IsTrue, List, [], ◌∷◌, ◌++◌, All, Contains, length, Option, Some, None, IfSome}
+use Rattle.std.specs.Prelude.{◌≡◌, ℕ, ◌+◌, ◌<◌, ◌==◌, Bool, true, false, ◌&&◌, max, nat_le, IsTrue, List, [], ◌∷◌, ◌++◌, All, Contains, length, map, Option, Some, None, IfSome}
 use Rattle.std.specs.List.{list_any}
+use Rattle.eg_num.specs.Windows.{WeightParts, is_confirmed, is_first}
 use Rattle.eg_answer.specs.Times.{reaction_of}
 use Rattle.eg_fault.specs.Faults.{IsNoneOrValid}
 use Rattle.eg_fault.specs.declared.class.Class.{Class}
@@ -13,12 +14,13 @@ use Rattle.eg_record.specs.declared.watch.Watch.{Watch}
 use Rattle.eg_record.specs.declared.watch.Watch.TheVariants.{Mirror, Plate, Load, Speed, Torque, Answers, Start}
 use Rattle.eg_record.specs.declared.summary.Summary.{Summary}
 use Rattle.eg_record.specs.Detection.{is_found}
+use Rattle.eg_record.specs.Excess.{full_excess}
 use Rattle.eg_record.specs.Spans.{EachDriveSpan, EachTestSpan}
 use Rattle.eg_model.specs.Reaction.{spoils_answers}
 use Rattle.eg_model.specs.Engines.{BenchEngine}
 use Rattle.eg_model.specs.Bench.{Run}
 use Rattle.eg_model.specs.Rows.{record_rows, report_of}
-use Rattle.eg_model.specs.Records.{IsRun}
+use Rattle.eg_model.specs.Records.{IsRun, is_before_onset}
 
 -- ---- which watches, and which faults ----
 
@@ -105,7 +107,34 @@ pub record NamesWhatCuts (fault : Option Fault) (report : Summary) : Type 0 wher
   -- conduct, or a wild monitoring module orders path 2 open
   pub unnamed : (tick : ℕ) → report.first ≡ None → report.off ≡ Some tick → opens_by_itself fault tick ≡ true
 
+-- What is found at a row of a drive span at which no fault has begun, `before` being the rows of the span
+-- before it: `torque` exactly where the full-efficiency excess is first confirmed, `answers` not before that,
+-- and of the other watches that a drive span can find none.
+pub record FindsExcessAlone (weights : WeightParts) (kt threshold : ℕ) (row : Row) (before : List Row)
+    : Type 0 where
+  pub torque : row.found.torque ≡ is_first weights (map (full_excess kt threshold) (row ∷ before))
+  pub answers : is_confirmed weights (map (full_excess kt threshold) (row ∷ before)) ≡ false →
+      row.found.answers ≡ false
+  pub mirror : row.found.mirror ≡ false
+  pub pedal : row.found.pedal ≡ false
+  pub plate : row.found.plate ≡ false
+  pub load : row.found.load ≡ false
+  pub speed : row.found.speed ≡ false
+
+-- this is so at each row of a drive span up to the onset of the fault, if there is one
+abbrev pub FindsSharply : Option Fault → WeightParts → (kt threshold start : ℕ) → List Row → Type 0
+FindsSharply fault weights kt threshold start rows =
+    (later before : List Row) (row : Row) → rows ≡ later ++ row ∷ before →
+    is_before_onset fault row.tick ≡ true → FindsExcessAlone weights kt threshold row before
+
 -- ---- of every record, and every report ----
+
+-- up to the onset of a fault, in each drive span the full-efficiency excess alone is found
+abbrev pub RecordsFindSharply : {E : Type 0} → BenchEngine E → Type 0
+RecordsFindSharply b =
+    (r : Run) → IsRun r →
+    EachDriveSpan (FindsSharply r.setting.fault r.setting.cal.rules.torque r.setting.cal.rules.kt
+    r.setting.cal.rules.threshold) (record_rows b r)
 
 -- in each drive span a watch that cuts is found before the stages are off
 abbrev pub RecordsFindBeforeOff : {E : Type 0} → BenchEngine E → Type 0

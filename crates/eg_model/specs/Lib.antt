@@ -21,3 +21,4 @@ pub mod PowerCycles
 pub mod StartUp
 pub mod Lapses
 pub mod InTime
+pub mod Showing

@@ -1,7 +1,7 @@
 -- A test span begins at each reset; else a drive span begins at the first row, and later exactly where a test
 -- was passed at the row before. No other span begins. So the spans of a record follow from the resets of its
 -- drive and from its start-up tests. Rows stand newest first.
-use Rattle.std.specs.Prelude.{◌≡◌, ℕ, ◌+◌, nat_le, Bool, true, false, ◌&&◌, List, [], ◌∷◌, ◌++◌, length, if◌then◌else◌}
+use Rattle.std.specs.Prelude.{◌≡◌, ℕ, ◌+◌, ◌==◌, nat_le, Bool, true, false, not, ◌&&◌, ◌||◌, List, [], ◌∷◌, ◌++◌, length, if◌then◌else◌}
 use Rattle.eg_answer.specs.Times.{test_ticks_of}
 use Rattle.eg_record.specs.declared.row.Row.{Row}
 use Rattle.eg_record.specs.Spans.{this_span}
@@ -33,10 +33,12 @@ pub record IsPassed (read_back : ℕ) (row : Row) (before : List Row) : Type 0 w
   pub path1 : row.path1 ≡ false
   pub path2 : row.path2 ≡ false
 
--- Which span begins at a row, and whether a test is running at it, `older` being the rows before it. A test
--- span begins at each row that resets the unit. At other rows: a drive span begins at the first row of a run,
--- and at a later one exactly where a test was passed at the row before; no other span begins. In a test span
--- a test is running up to the row that reads the paths back, in a drive span at no row.
+-- Which span begins at a row, and what its span makes of it, `older` being the rows before it. A test span
+-- begins at each row that resets the unit. At other rows: a drive span begins at the first row of a run, and
+-- at a later one exactly where a test was passed at the row before; no other span begins. In a test span a
+-- test is running up to the row that reads the paths back, in a drive span at no row. The stages are on
+-- exactly where the row stands in a drive span and both paths conduct. And a test is found to have failed
+-- exactly where it reads the paths back and one of them conducts.
 pub record BeginsInTurn (read_back : ℕ) (row : Row) (older : List Row) : Type 0 where
   pub resets : row.drive.reset ≡ true → BeginsTest row
   pub first : row.drive.reset ≡ false → older ≡ [] → BeginsDrive row
@@ -46,6 +48,9 @@ pub record BeginsInTurn (read_back : ℕ) (row : Row) (older : List Row) : Type 
       row.fresh ≡ true
   pub runs : row.testing ≡
       (stands_in_test (row ∷ older) && nat_le (length (this_span (row ∷ older))) (read_back + 1))
+  pub powered : row.on ≡ (not (stands_in_test (row ∷ older)) && (row.path1 && row.path2))
+  pub fails : row.found.start ≡
+      ((row.testing && (length (this_span (row ∷ older)) == read_back + 1)) && (row.path1 || row.path2))
 
 -- this holds of each row of a record
 abbrev pub SpansBeginInTurn : (read_back : ℕ) → List Row → Type 0

@@ -1,7 +1,7 @@
 // What the watches find, by the records of runs on the bench, for the gasoline engine and for the diesel
 // engine.
 ghost use Rattle.eg_model.specs.Engines.{gasoline, diesel};
-ghost use Rattle.eg_model.specs.Findings.{RecordsFindBeforeOff, RecordsFindFailures, ReportsNameWhatCuts, RecordsFindFromOnset, RecordsTellFlips};
+ghost use Rattle.eg_model.specs.Findings.{RecordsFindBeforeOff, RecordsFindFailures, ReportsNameWhatCuts, RecordsFindFromOnset, RecordsTellFlips, RecordsFindSharply};
 
 /// No cut without a watch (docs/CONCEPT.md, "Why the unit reacts"): in each drive span, wherever the stages
 /// are off, a watch that cuts was found at an earlier tick of the span, unless a fault has begun that opens a
@@ -23,4 +23,12 @@ pub fn records_name_what_cuts()
 pub fn records_find_in_time()
     ensures onset { RecordsFindFromOnset gasoline × RecordsFindFromOnset diesel }
     ensures flips { RecordsTellFlips gasoline × RecordsTellFlips diesel }
+{}
+
+/// What is found while nothing is out of order outside level 1 (docs/CONCEPT.md, "Why the unit reacts"): in
+/// each drive span, up to the onset of a fault if there is one, the watch `torque` is found exactly at the
+/// tick at which the full-efficiency excess is first confirmed, `answers` not before that, and none of the
+/// other watches that a drive span can find. It does nothing when it runs.
+pub fn records_find_sharply()
+    ensures { RecordsFindSharply gasoline × RecordsFindSharply diesel }
 {}

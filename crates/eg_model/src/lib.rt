@@ -20,7 +20,7 @@ pub use faulty_runs::{
     disturbed_raise, failed_test, flip_seen_by_level_1, halted_and_held_runs, lapsed_run,
     latched_run, limited_run, offset_track, path_2_runs, wild_run,
 };
-pub use findings::{records_find_in_time, records_name_what_cuts};
+pub use findings::{records_find_in_time, records_find_sharply, records_name_what_cuts};
 pub use lapses::standing_excess_is_cut;
 pub use outputs::level_1_acts_by_its_outputs;
 pub use reaction::{cuts_from_onset, reacts_in_time};

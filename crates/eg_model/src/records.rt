@@ -3,13 +3,17 @@
 ghost use Rattle.eg_model.specs.Engines.{gasoline, diesel};
 ghost use Rattle.eg_model.specs.InTime.{RecordsReactInTime};
 ghost use Rattle.eg_model.specs.PowerCycles.{RecordsBeginInTurn};
+ghost use Rattle.eg_model.specs.Showing.{RecordsShowRuns};
 ghost use Rattle.eg_model.specs.Records.{RecordsAreHistories, RecordsAreRows, RecordsReact, RecordsReactAtOnce, RecordsCutFromOnset, RecordsCutSharply, RecordsCutSharplyBefore, RecordsCutStandingExcess, RecordsHaveShortExcess, RecordsTestUnpowered, RecordsPassTests};
 
 /// The record of a run on the bench is a history from tick 0, and its rows are numbered from 0 on
-/// (docs/CONCEPT.md, "The record of a run"). It does nothing when it runs.
+/// (docs/CONCEPT.md, "The record of a run"). With no fault or a valid one they have the drive rows of the
+/// trace, and the torque that these permit, and no torque where the stages are off. It does nothing when it
+/// runs.
 pub fn records_are_histories()
     ensures histories { RecordsAreHistories gasoline × RecordsAreHistories diesel }
     ensures rows { RecordsAreRows gasoline × RecordsAreRows diesel }
+    ensures shown { RecordsShowRuns gasoline × RecordsShowRuns diesel }
 {}
 
 /// The reaction theorem for runs on the bench with no fault or a listed one (docs/CONCEPT.md, "Why the unit

@@ -1,9 +1,11 @@
 -- Every run that may be played keeps the headline.
-use Rattle.std.proofs.Common.{ℕ, List, All, refl, map}
+use Rattle.std.proofs.Common.{◌≡◌, ℕ, List, All, refl, map}
 use Rattle.std.proofs.lemmas.List.Elements.{All-map, All-weaker}
+use Rattle.eg_answer.specs.Times.{reaction_of}
 use Rattle.eg_values.specs.Calibration.{CalibrationParts, IsAccepted}
 use Rattle.eg_fault.specs.Faults.{IsNoneOrValid}
 use Rattle.eg_record.specs.Detection.{first_detection, IsFirstDetection}
+use Rattle.eg_record.specs.Excess.{first_confirmed}
 use Rattle.eg_record.specs.Stages.{IsFirstOff, first_off}
 use Rattle.eg_record.specs.Summaries.{summary_of}
 use Rattle.eg_record.proofs.LawLemmas.{detection_law, off_law}
@@ -15,13 +17,14 @@ use Rattle.eg_model.specs.Rows.{report_of}
 use Rattle.eg_model.specs.Records.{IsRun}
 use Rattle.eg_model.proofs.GasolineLaws.{gasoline_keeps, gasoline_shows_one_load}
 use Rattle.eg_model.proofs.DieselLaws.{diesel_keeps, diesel_shows_one_load}
-use Rattle.eg_model.proofs.RecordLaws.{records_react, records_react_at_once, records_cut_sharply, records_cut_from_onset, records_cut_standing_excess, records_have_short_excess, records_test_unpowered, records_pass_tests}
+use Rattle.eg_model.proofs.RecordLaws.{records_react, records_react_at_once, records_cut_sharply, records_cut_sharply_before, records_find_sharply, records_cut_from_onset, records_cut_standing_excess, records_have_short_excess, records_test_unpowered, records_pass_tests}
 use Rattle.eg_laws.proofs.AvailabilityRecords.{records_stay_available}
 use Rattle.eg_model.proofs.FindingRecords.{records_find_before_off, records_find_failures, records_find_from_onset, records_tell_flips}
 use Rattle.eg_model.proofs.FindingReports.{reports_name_what_cuts}
 use Rattle.eg_model.proofs.OutputRecords.{records_act_by_outputs}
 use Rattle.eg_model.proofs.InTimeLaws.{records_react_in_time}
 use Rattle.eg_model.proofs.PowerCycleLaws.{records_begin_in_turn}
+use Rattle.eg_model.proofs.ShowingLaws.{records_show_runs}
 use Rattle.eg_model.proofs.WholeRecord.{are_rows}
 use Rattle.eg_plan.specs.declared.engine.EngineKind.{EngineKind}
 use Rattle.eg_plan.specs.declared.engine.EngineKind.TheVariants as kind
@@ -39,6 +42,19 @@ detects r name = (detection_law (rows_of_run r) (are_rows (bench_of r.engine) r.
 tells_when_off : (r : EngineRun) (name : List ℕ) → IsFirstOff (rows_of_run r) (report_of_run name r).off
 unfolding report_of summary_of
 tells_when_off r name = (off_law (rows_of_run r) (are_rows (bench_of r.engine) r.run) (first_off (rows_of_run r))).1 refl
+
+tells_when_confirmed : (r : EngineRun) (name : List ℕ) → (report_of_run name r).confirmed ≡
+    first_confirmed r.run.setting.cal.rules.torque r.run.setting.cal.rules.threshold (rows_of_run r)
+unfolding report_of summary_of
+tells_when_confirmed r name = refl
+
+tells_bound : (r : EngineRun) (name : List ℕ) → (report_of_run name r).bound ≡ reaction_of r.run.setting.cal.times
+unfolding report_of summary_of
+tells_bound r name = refl
+
+tells_name : (r : EngineRun) (name : List ℕ) → (report_of_run name r).name ≡ name
+unfolding report_of summary_of
+tells_name r name = refl
 
 -- what the states of an engine of either kind keep, and that they do
 abbrev kept_of : (engine : EngineKind) → PlantParts → state_of engine → Type 0
@@ -59,15 +75,18 @@ pub headline : (r : EngineRun) → IsRun r.run → IsNoneOrValid r.run.setting.f
 headline r run valid =
     let keeps = keeps_of r.engine in
     record {
+      shows = records_show_runs keeps r.run run valid;
       cycles = records_begin_in_turn (bench_of r.engine) r.run;
       reacts = records_react keeps r.run run;
       at_once = records_react_at_once keeps r.run run;
       unpowered = records_test_unpowered (bench_of r.engine) r.run;
       passes = records_pass_tests (bench_of r.engine) r.run run;
       cuts = records_cut_sharply keeps (shows_one_load_of r.engine) r.run run;
+      cuts_before = records_cut_sharply_before keeps (shows_one_load_of r.engine) r.run run;
       from_onset = records_cut_from_onset (bench_of r.engine) r.run run valid;
       finds_before_off = records_find_before_off (bench_of r.engine) r.run;
       finds_failure = records_find_failures (bench_of r.engine) r.run;
+      finds_sharply = records_find_sharply keeps (shows_one_load_of r.engine) r.run run;
       finds_from_onset = records_find_from_onset (bench_of r.engine) r.run run valid;
       tells_flips = records_tell_flips (bench_of r.engine) r.run;
       lapses = records_cut_standing_excess keeps r.run run valid;
@@ -75,6 +94,9 @@ headline r run valid =
       stays_available = records_stay_available keeps (shows_one_load_of r.engine) r.run run valid;
       detects = detects r;
       tells_when_off = tells_when_off r;
+      tells_when_confirmed = tells_when_confirmed r;
+      tells_bound = tells_bound r;
+      tells_name = tells_name r;
       names = λ name. reports_name_what_cuts (bench_of r.engine) r.run name;
       by_outputs = records_act_by_outputs (bench_of r.engine) r.run;
     }

@@ -4,30 +4,37 @@
 -- changes a protected word is said of each slice: field `outside` of `IsSlice`, which `eg_host::Host::slice`
 -- keeps. That level 1 acts by its two outputs alone is said here.
 use Rattle.std.specs.Prelude.{◌≡◌, ℕ, false, List, All, None}
+use Rattle.eg_num.specs.Drive.{DriveRow}
 use Rattle.eg_answer.specs.Times.{reaction_of, test_ticks_of, HasLapseBound}
 use Rattle.eg_fault.specs.Faults.{IsListed}
 use Rattle.eg_record.specs.declared.row.Row.{Row}
 use Rattle.eg_record.specs.declared.summary.Summary.{Summary}
 use Rattle.eg_record.specs.Detection.{IsFirstDetection}
+use Rattle.eg_record.specs.Excess.{first_confirmed}
 use Rattle.eg_record.specs.Stages.{IsFirstOff}
 use Rattle.eg_record.specs.Spans.{EachDriveSpan, EachTestSpan}
 use Rattle.eg_model.specs.History.{Setting}
+use Rattle.eg_model.specs.Showing.{ShowsRun}
 use Rattle.eg_model.specs.PowerCycles.{SpansBeginInTurn}
 use Rattle.eg_model.specs.Records.{ReactWithin, RowsReactAtOnce, CutFromOnset, CutOneTickAfter}
-use Rattle.eg_model.specs.Records.{CutStandingExcess, ExcessIsShort, AreOff}
-use Rattle.eg_model.specs.Findings.{FindsBeforeOff, FindsFailure, FindsFromOnset, TellsFlips, NamesWhatCuts}
+use Rattle.eg_model.specs.Records.{CutSharplyBefore, CutStandingExcess, ExcessIsShort, AreOff}
+use Rattle.eg_model.specs.Findings.{FindsBeforeOff, FindsFailure, FindsFromOnset, FindsSharply, TellsFlips, NamesWhatCuts}
 use Rattle.eg_model.specs.Lapses.{IsLapse}
 use Rattle.eg_model.specs.Outputs.{with_level1, ActByOutputs}
 use Rattle.eg_laws.specs.Availability.{IsSpacedLapse, StaysAvailable}
 use Rattle.eg_campaign.specs.Plays.{EngineRun, rows_of_run, report_of_run}
 
--- What the headline says of the record of a run, by its setting, its rows, its report under each name, and
--- its rows under each image and slice plan.
-pub record Headline (s : Setting) (rows : List Row) (report : List ℕ → Summary)
+-- What the headline says of the record of a run, by its setting, its drive, its rows, its report under each
+-- name, and its rows under each image and slice plan.
+pub record Headline (s : Setting) (drive : List DriveRow) (rows : List Row) (report : List ℕ → Summary)
     (rows_under : List ℕ → List (List ℕ) → List Row) : Type 0 where
+  -- The rows show the run: they are numbered in order, have the drive rows of the trace and what these
+  -- permit, and there is torque only while the stages are on.
+  pub shows : ShowsRun s drive rows
   -- At each reset a test span begins. Where the tick doesn't reset, a drive span begins at the first tick of
   -- the run and exactly where a test was passed at the tick before, and no span at any other tick. A test
-  -- runs for the ticks that the calibration gives it, and in no drive span.
+  -- runs up to the tick that reads the paths back, and in no drive span; it fails exactly where a path then
+  -- conducts. The stages are on exactly where the engine is driven and both paths conduct.
   pub cycles : SpansBeginInTurn (test_ticks_of s.cal.times) rows
   -- With no fault or a listed one, in each drive span the power stages are off from R ticks after a confirmed
   -- torque excess to the end of the span; under most faults, and without one, from the next tick.
@@ -42,6 +49,9 @@ pub record Headline (s : Setting) (rows : List Row) (report : List ℕ → Summa
   pub passes : s.fault ≡ None → All (λ row. row.found.start ≡ false) rows
   pub cuts : s.fault ≡ None → EachDriveSpan (CutOneTickAfter s.cal.rules.torque
       s.cal.rules.kt s.cal.rules.threshold) rows
+  -- Under every fault the cut is as sharp at the ticks before its onset.
+  pub cuts_before : EachDriveSpan (CutSharplyBefore s.fault s.cal.rules.torque s.cal.rules.kt
+      s.cal.rules.threshold) rows
   -- Where a module of level 2 is skipped or disturbed, or both levels halt, the stages are off from R ticks
   -- after the onset, or after the begin of the drive span if that is later, whatever the torque.
   pub from_onset : EachDriveSpan (CutFromOnset s.fault (reaction_of s.cal.times)) rows
@@ -50,6 +60,10 @@ pub record Headline (s : Setting) (rows : List Row) (report : List ℕ → Summa
   -- test span, where no test is running any more, `start` was found: the test has failed.
   pub finds_before_off : EachDriveSpan (FindsBeforeOff s.fault) rows
   pub finds_failure : EachTestSpan FindsFailure rows
+  -- At the ticks before the onset of a fault, and at all without one, in each drive span `torque` is found
+  -- exactly as the full-efficiency excess is first confirmed, `answers` not before that, and no other watch.
+  pub finds_sharply : EachDriveSpan (FindsSharply s.fault s.cal.rules.torque s.cal.rules.kt
+      s.cal.rules.threshold) rows
   -- What spoils the answers is found in time: where a module of level 2 is skipped or disturbed, or both
   -- levels halt, a watch that cuts is found before R ticks have passed from the onset, or from the begin of
   -- the drive span if that is later, whatever the torque. And `mirror` is found at the tick at which a word
@@ -66,10 +80,15 @@ pub record Headline (s : Setting) (rows : List Row) (report : List ℕ → Summa
   -- after a trip, and where no full-efficiency excess comes they are on at each tick.
   pub stays_available : IsSpacedLapse s →
       EachDriveSpan (StaysAvailable s.cal.rules.kt s.cal.rules.threshold) rows
-  -- The report, whatever name it gives the run, names the first detecting watch and its tick, and the first
-  -- tick at which the stages are off while no test is running.
+  -- The report, whatever name it gives the run, names the first detecting watch and its tick, the first tick
+  -- at which the stages are off while no test is running, the first one by which a true excess is confirmed,
+  -- and R; and it bears that name.
   pub detects : (name : List ℕ) → IsFirstDetection rows (report name).first
   pub tells_when_off : (name : List ℕ) → IsFirstOff rows (report name).off
+  pub tells_when_confirmed : (name : List ℕ) → (report name).confirmed ≡
+      first_confirmed s.cal.rules.torque s.cal.rules.threshold rows
+  pub tells_bound : (name : List ℕ) → (report name).bound ≡ reaction_of s.cal.times
+  pub tells_name : (name : List ℕ) → (report name).name ≡ name
   -- Where it tells a tick at which the stages are off, it names a watch that was found before, unless a fault
   -- that opens a shut-off path by itself has begun; so where it names none, such a fault has begun.
   pub names : (name : List ℕ) → NamesWhatCuts s.fault (report name)
@@ -79,5 +98,5 @@ pub record Headline (s : Setting) (rows : List Row) (report : List ℕ → Summa
 
 -- the record of this run keeps the headline
 abbrev pub KeepsHeadline : EngineRun → Type 0
-KeepsHeadline r = Headline r.run.setting (rows_of_run r) (λ name. report_of_run name r)
+KeepsHeadline r = Headline r.run.setting r.run.drive (rows_of_run r) (λ name. report_of_run name r)
     (λ image plan. rows_of_run (record r { run = with_level1 image plan r.run }))

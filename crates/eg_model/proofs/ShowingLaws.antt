@@ -1,0 +1,121 @@
+-- The rows of a record show its run.
+use Rattle.std.proofs.Common.{◌≡◌, ◌∙◌, refl, sym, ap, subst, ℕ, zero, suc, ◌≤◌, ◌==◌, Bool, true, false, not, ◌&&◌, ◌||◌, List, [], ◌∷◌, All, map, reverse, take, length, slice_index_or, Option, arith}
+use Rattle.std.proofs.Math.Seq.{take-suc, take-length}
+use Rattle.std.proofs.lemmas.List.{reverse-append}
+use Rattle.std.proofs.lemmas.List.Elements.{All-nil, All-cons}
+use Rattle.eg_fault.specs.declared.class.Class.{Class}
+use Rattle.eg_fault.specs.declared.class.Class.TheVariants.{Path1Closed, Path2Closed, PathOpen}
+use Rattle.eg_fault.specs.declared.class.Fault.{Fault}
+use Rattle.eg_fault.specs.declared.paths.TheConstants.{PATH_1, PATH_2}
+use Rattle.eg_fault.specs.Effects.{Effects, no_effects}
+use Rattle.eg_fault.specs.Faults.{effects_of, effects}
+use Rattle.eg_fault.proofs.ActingLemmas.{of_all}
+use Rattle.eg_record.specs.declared.row.Row.{Row}
+use Rattle.eg_model.specs.History.{Setting, Entry}
+use Rattle.eg_model.specs.Moments.{limit_at, moment_in}
+use Rattle.eg_model.specs.Paths.{latch1, latch2, path1_at, path2_at}
+use Rattle.eg_model.specs.Spans.{before_at, moment_at, next_after, moments, next}
+use Rattle.eg_model.specs.Premises.{IsProperRun}
+use Rattle.eg_model.specs.Engines.{BenchEngine, KeepsBenchLaws}
+use Rattle.eg_model.specs.Bench.{Run, no_drive, drive_at, entry_at, moments_to, entries_to}
+use Rattle.eg_model.specs.Rows.{row_of, rows_of, record_rows}
+use Rattle.eg_model.specs.Showing.{RecordsShowRuns}
+use Rattle.eg_model.proofs.RecordTicks.{records_are_histories}
+use Rattle.eg_model.proofs.RecordLaws.{proper_under}
+use Rattle.eg_model.proofs.WholeRecord.{are_rows}
+use Rattle.eg_plant.specs.PlantParts.{PlantParts}
+
+or_true : (b : Bool) → (b || true) ≡ true
+or_true true = refl
+or_true false = refl
+
+never : {A : Type 0} (b : Bool) → (b && false) ≡ true → A
+never true is = absurd (let f : false ≡ true = is in cc)
+never false is = absurd (let f : false ≡ true = is in cc)
+
+-- ---- over the moments of any run ----
+
+abbrev Permitted : Setting → Row → Type 0
+Permitted s row = row.limit ≡ limit_at s.cal row.drive
+
+abbrev HasNoTorque : Row → Type 0
+HasNoTorque row = row.on ≡ false → row.torque ≡ 0
+
+permitted : (s : Setting) (h : List Entry) → All (Permitted s) (rows_of (moments s h))
+unfolding moments rows_of row_of next_after moment_at moment_in
+permitted s [] = All-nil (Permitted s)
+permitted s (e ∷ h) = All-cons (Permitted s) (row_of (length (moments s h)) (next_after s e (moments s h))) (rows_of (moments s h))
+    refl (permitted s h)
+
+no_torque : (s : Setting) (h : List Entry) → IsProperRun s h → All HasNoTorque (rows_of (moments s h))
+unfolding moments rows_of row_of next next_after moment_at moment_in IsProperRun
+no_torque s [] proper = All-nil HasNoTorque
+no_torque s (e ∷ h) proper = All-cons HasNoTorque (row_of (length (moments s h)) (next_after s e (moments s h))) (rows_of (moments s h))
+    proper.0.no_torque (no_torque s h proper.1)
+
+-- what conducts with its latch open conducts with it closed, under every fault
+abbrev ConductsMore : Effects → Type 0
+ConductsMore x = (path : ℕ) → x.conducts path true ≡ true → x.conducts path false ≡ true
+
+more_class : (class : Class) (k : ℕ) → ConductsMore (effects_of class k)
+unfolding effects_of no_effects
+more_class Path1Closed k path is = or_true (path == PATH_1)
+more_class Path2Closed k path is = or_true (path == PATH_2)
+more_class (PathOpen other) k path is = never (not (path == other)) is
+more_class _ k path is = refl
+
+conducts_more : (fault : Option Fault) (tick : ℕ) → ConductsMore (effects fault tick)
+unfolding no_effects
+conducts_more fault tick = of_all ConductsMore (λ path is. refl) more_class fault tick
+
+closed_conducts : (fault : Option Fault) (tick path : ℕ) (is_open : Bool) →
+    (effects fault tick).conducts path true ≡ true → (effects fault tick).conducts path is_open ≡ true
+closed_conducts fault tick path true is = is
+closed_conducts fault tick path false is = conducts_more fault tick path is
+
+abbrev Closed1 : Setting → Row → Type 0
+Closed1 s row = (effects s.fault row.tick).conducts PATH_1 true ≡ true → row.path1 ≡ true
+
+abbrev Closed2 : Setting → Row → Type 0
+Closed2 s row = (effects s.fault row.tick).conducts PATH_2 true ≡ true → row.path2 ≡ true
+
+closed1 : (s : Setting) (h : List Entry) → All (Closed1 s) (rows_of (moments s h))
+unfolding moments rows_of row_of next_after moment_at moment_in path1_at
+closed1 s [] = All-nil (Closed1 s)
+closed1 s (e ∷ h) = All-cons (Closed1 s) (row_of (length (moments s h)) (next_after s e (moments s h))) (rows_of (moments s h))
+    (closed_conducts s.fault (length (moments s h)) PATH_1 (latch1 (before_at e.drive (moments s h)))) (closed1 s h)
+
+closed2 : (s : Setting) (h : List Entry) → All (Closed2 s) (rows_of (moments s h))
+unfolding moments rows_of row_of next_after moment_at moment_in path2_at
+closed2 s [] = All-nil (Closed2 s)
+closed2 s (e ∷ h) = All-cons (Closed2 s) (row_of (length (moments s h)) (next_after s e (moments s h))) (rows_of (moments s h))
+    (closed_conducts s.fault (length (moments s h)) PATH_2 (latch2 (before_at e.drive (moments s h)))) (closed2 s h)
+
+-- ---- on the bench ----
+
+module _ {E : Type 0} (b : BenchEngine E) where
+  driven_to : (r : Run) (n : ℕ) → n ≤ length r.drive → map (λ row. row.drive) (rows_of (moments_to b r n)) ≡ reverse (take n r.drive)
+  unfolding moments_to rows_of row_of next_after moment_at moment_in entry_at drive_at
+  driven_to r zero within = refl
+  driven_to r (suc n) within = ap (λ rows. drive_at r n ∷ rows) (driven_to r n (omega arith))
+      ∙ sym (ap reverse (take-suc r.drive n no_drive (omega arith)) ∙ reverse-append (take n r.drive) (slice_index_or r.drive n no_drive ∷ []))
+
+  pub driven : (r : Run) → map (λ row. row.drive) (record_rows b r) ≡ reverse r.drive
+  unfolding record_rows
+  driven r = driven_to r (length r.drive) (omega arith) ∙ ap reverse (take-length r.drive)
+
+  -- what holds of the rows of every list of entries holds of those of a record
+  of_entries : (P : Row → Type 0) (r : Run) → All P (rows_of (moments r.setting (entries_to b r (length r.drive)))) → All P (record_rows b r)
+  unfolding record_rows
+  of_entries P r each = subst (λ past. All P (rows_of past)) (sym (records_are_histories b r (length r.drive))) each
+
+module _ {E : Type 0} {b : BenchEngine E} {Keeps : PlantParts → E → Type 0} (keeps : KeepsBenchLaws b Keeps) where
+  pub records_show_runs : RecordsShowRuns b
+  records_show_runs r run valid = record {
+    numbered = are_rows b r;
+    driven = driven b r;
+    permitted = of_entries b (Permitted r.setting) r (permitted r.setting (entries_to b r (length r.drive)));
+    no_torque = of_entries b HasNoTorque r (no_torque r.setting (entries_to b r (length r.drive)) (proper_under keeps r run valid (length r.drive)));
+    closed1 = of_entries b (Closed1 r.setting) r (closed1 r.setting (entries_to b r (length r.drive)));
+    closed2 = of_entries b (Closed2 r.setting) r (closed2 r.setting (entries_to b r (length r.drive)));
+  }
