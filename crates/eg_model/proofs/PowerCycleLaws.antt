@@ -7,13 +7,14 @@ use Rattle.eg_fault.specs.Faults.{effects}
 use Rattle.eg_record.specs.declared.row.Row.{Row}
 use Rattle.eg_record.specs.Spans.{this_span}
 use Rattle.eg_model.specs.History.{Setting, Entry, SpanKind, Drive, Test, drives, Moment}
+use Rattle.eg_model.specs.Detection.{finds}
 use Rattle.eg_model.specs.Paths.{is_testing, reads_back, on_at}
 use Rattle.eg_model.specs.Moments.{moment_in}
 use Rattle.eg_model.specs.Spans.{span_so_far, has_passed, span_kind, kind_at, before_at, moment_at, next_after}
 use Rattle.eg_model.specs.Engines.{BenchEngine}
 use Rattle.eg_model.specs.Bench.{Run, entry_at, moments_to}
 use Rattle.eg_model.specs.Rows.{row_of, rows_of, record_rows}
-use Rattle.eg_model.specs.PowerCycles.{BeginsTest, BeginsDrive, stands_in_test, IsPassed, BeginsInTurn, SpansBeginInTurn, RecordsBeginInTurn}
+use Rattle.eg_model.specs.PowerCycles.{BeginsTest, BeginsDrive, stands_in_test, IsPassed, IsUnfed, BeginsInTurn, SpansBeginInTurn, RecordsBeginInTurn}
 use Rattle.eg_model.proofs.SpanLemmas.{before-begins, kind-goes_on, span_so_far-next}
 
 -- ---- numbers ----
@@ -186,6 +187,32 @@ fails_by_rows s e past = ap (λ read. read && ((next_after s e past).path1 || (n
     by_kind Drive = refl
     by_kind Test = last (length (before_at e.drive past)) (test_ticks_of s.cal.times) _ refl
 
+-- in a test span no debounced watch is found
+unfed_by_rows : (s : Setting) (e : Entry) (past : List Moment) → tests_by_kind past →
+    stands_in_test (rows_of (next_after s e past ∷ past)) ≡ true → IsUnfed (row_of (length past) (next_after s e past))
+unfolding row_of next_after moment_at moment_in finds
+unfed_by_rows s e past so tests = record {
+  pedal = none _ _;
+  plate = none _ _;
+  load = none _ _;
+  speed = none _ _;
+  torque = none _ _;
+  answers = driven_not _;
+}
+  where
+    driven : drives (kind_at e.drive past) ≡ false
+    driven = flip (drives (kind_at e.drive past)) (sym (tests_by_kind-next s e past so) ∙ tests)
+      where
+        flip : (b : Bool) → not b ≡ true → b ≡ false
+        flip true is = sym is
+        flip false is = refl
+
+    driven_not : (c : Bool) → (drives (kind_at e.drive past) && c) ≡ false
+    driven_not c = ap (λ b. b && c) driven
+
+    none : (f c : Bool) → ((drives (kind_at e.drive past) && f) && c) ≡ false
+    none f c = ap (λ b. (b && f) && c) driven
+
 -- ---- a test that was passed ----
 
 record Opened (kind : SpanKind) (times : TimeParts) (local : ℕ) (path1 path2 : Bool) : Type 0 where
@@ -284,6 +311,7 @@ begins_in_turn b r zero = record {
   runs = runs_by_rows r.setting (entry_at b r 0 []) [] (tests_by_kind-at b r 0);
   powered = powered_by_rows r.setting (entry_at b r 0 []) [] (tests_by_kind-at b r 0);
   fails = fails_by_rows r.setting (entry_at b r 0 []) [];
+  unfed = unfed_by_rows r.setting (entry_at b r 0 []) [] (tests_by_kind-at b r 0);
 }
 begins_in_turn b r (suc t) =
     let before = moments_to b r t in
@@ -306,6 +334,7 @@ begins_in_turn b r (suc t) =
       runs = runs_by_rows r.setting now past (tests_by_kind-at b r (suc t));
       powered = powered_by_rows r.setting now past (tests_by_kind-at b r (suc t));
       fails = fails_by_rows r.setting now past;
+      unfed = unfed_by_rows r.setting now past (tests_by_kind-at b r (suc t));
     }
   where
     row : Row

@@ -1,5 +1,5 @@
 -- The rows of a record show its run.
-use Rattle.std.proofs.Common.{◌≡◌, ◌∙◌, refl, sym, ap, subst, ℕ, zero, suc, ◌≤◌, ◌==◌, Bool, true, false, not, ◌&&◌, ◌||◌, List, [], ◌∷◌, All, map, reverse, take, length, slice_index_or, Option, arith}
+use Rattle.std.proofs.Common.{◌≡◌, ◌∙◌, refl, sym, ap, ap₂, subst, ℕ, zero, suc, ◌≤◌, ◌==◌, Bool, true, false, not, ◌&&◌, ◌||◌, List, [], ◌∷◌, All, map, reverse, take, length, slice_index_or, Option, if◌then◌else◌, arith}
 use Rattle.std.proofs.Math.Seq.{take-suc, take-length}
 use Rattle.std.proofs.lemmas.List.{reverse-append}
 use Rattle.std.proofs.lemmas.List.Elements.{All-nil, All-cons}
@@ -11,16 +11,19 @@ use Rattle.eg_fault.specs.Effects.{Effects, no_effects}
 use Rattle.eg_fault.specs.Faults.{effects_of, effects}
 use Rattle.eg_fault.proofs.ActingLemmas.{of_all}
 use Rattle.eg_record.specs.declared.row.Row.{Row}
-use Rattle.eg_model.specs.History.{Setting, Entry}
+use Rattle.eg_word.specs.World.{World, new_world}
+use Rattle.eg_model.specs.History.{Setting, Entry, drives, Moment}
+use Rattle.eg_model.specs.Level1.{last_world}
 use Rattle.eg_model.specs.Moments.{limit_at, moment_in}
-use Rattle.eg_model.specs.Paths.{latch1, latch2, path1_at, path2_at}
-use Rattle.eg_model.specs.Spans.{before_at, moment_at, next_after, moments, next}
+use Rattle.eg_model.specs.Paths.{latch1, latch2, path1_at, path2_at, on_at}
+use Rattle.eg_model.specs.Spans.{kind_at, before_at, moment_at, next_after, moments, next}
 use Rattle.eg_model.specs.Premises.{IsProperRun}
 use Rattle.eg_model.specs.Engines.{BenchEngine, KeepsBenchLaws}
-use Rattle.eg_model.specs.Bench.{Run, no_drive, drive_at, entry_at, moments_to, entries_to}
+use Rattle.eg_model.specs.Bench.{Run, no_drive, stepped, engine_after, shown_at, drive_at, entry_at, moments_to, entries_to}
 use Rattle.eg_model.specs.Rows.{row_of, rows_of, record_rows}
-use Rattle.eg_model.specs.Showing.{RecordsShowRuns}
-use Rattle.eg_model.proofs.RecordTicks.{records_are_histories}
+use Rattle.eg_model.specs.Showing.{commands_at, engine_by, ShowEngine, RecordsShowRuns}
+use Rattle.eg_model.proofs.SpanLemmas.{commands}
+use Rattle.eg_model.proofs.RecordTicks.{length-moments_to, records_are_histories}
 use Rattle.eg_model.proofs.RecordLaws.{proper_under}
 use Rattle.eg_model.proofs.WholeRecord.{are_rows}
 use Rattle.eg_plant.specs.PlantParts.{PlantParts}
@@ -73,6 +76,33 @@ closed_conducts : (fault : Option Fault) (tick path : ℕ) (is_open : Bool) →
 closed_conducts fault tick path true is = is
 closed_conducts fault tick path false is = conducts_more fault tick path is
 
+open_conducts : (fault : Option Fault) (tick path : ℕ) (is_open : Bool) →
+    (effects fault tick).conducts path false ≡ false → (effects fault tick).conducts path is_open ≡ false
+open_conducts fault tick path false is = is
+open_conducts fault tick path true is = go ((effects fault tick).conducts path true) refl
+  where
+    go : (b : Bool) → (effects fault tick).conducts path true ≡ b → b ≡ false
+    go true more = absurd (let f : false ≡ true = sym is ∙ conducts_more fault tick path more in cc)
+    go false more = refl
+
+abbrev Open1 : Setting → Row → Type 0
+Open1 s row = (effects s.fault row.tick).conducts PATH_1 false ≡ false → row.path1 ≡ false
+
+abbrev Open2 : Setting → Row → Type 0
+Open2 s row = (effects s.fault row.tick).conducts PATH_2 false ≡ false → row.path2 ≡ false
+
+open1 : (s : Setting) (h : List Entry) → All (Open1 s) (rows_of (moments s h))
+unfolding moments rows_of row_of next_after moment_at moment_in path1_at
+open1 s [] = All-nil (Open1 s)
+open1 s (e ∷ h) = All-cons (Open1 s) (row_of (length (moments s h)) (next_after s e (moments s h))) (rows_of (moments s h))
+    (open_conducts s.fault (length (moments s h)) PATH_1 (latch1 (before_at e.drive (moments s h)))) (open1 s h)
+
+open2 : (s : Setting) (h : List Entry) → All (Open2 s) (rows_of (moments s h))
+unfolding moments rows_of row_of next_after moment_at moment_in path2_at
+open2 s [] = All-nil (Open2 s)
+open2 s (e ∷ h) = All-cons (Open2 s) (row_of (length (moments s h)) (next_after s e (moments s h))) (rows_of (moments s h))
+    (open_conducts s.fault (length (moments s h)) PATH_2 (latch2 (before_at e.drive (moments s h)))) (open2 s h)
+
 abbrev Closed1 : Setting → Row → Type 0
 Closed1 s row = (effects s.fault row.tick).conducts PATH_1 true ≡ true → row.path1 ≡ true
 
@@ -91,6 +121,13 @@ closed2 s [] = All-nil (Closed2 s)
 closed2 s (e ∷ h) = All-cons (Closed2 s) (row_of (length (moments s h)) (next_after s e (moments s h))) (rows_of (moments s h))
     (closed_conducts s.fault (length (moments s h)) PATH_2 (latch2 (before_at e.drive (moments s h)))) (closed2 s h)
 
+-- the two outputs of level 1's world
+abbrev outputs : World → ℕ × ℕ
+outputs w = (w.throttle, w.ignition)
+
+abbrev no_outputs : ℕ × ℕ
+no_outputs = (0, 0)
+
 -- ---- on the bench ----
 
 module _ {E : Type 0} (b : BenchEngine E) where
@@ -104,6 +141,53 @@ module _ {E : Type 0} (b : BenchEngine E) where
   unfolding record_rows
   driven r = driven_to r (length r.drive) (omega arith) ∙ ap reverse (take-length r.drive)
 
+  -- the engine by the rows is that of the run
+  commands_are : (m : Moment) (past : List Moment) →
+      commands_at (row_of (length past) m) (rows_of past) ≡ outputs (last_world (if m.fresh then [] else past))
+  unfolding commands_at rows_of row_of last_world new_world
+  commands_are m [] = go m.fresh
+    where
+      go : (b : Bool) → no_outputs ≡ outputs (last_world (if b then [] else []))
+      go true = refl
+      go false = refl
+  commands_are m (last ∷ past) = go m.fresh
+    where
+      go : (b : Bool) → (if b then no_outputs else outputs last.world) ≡ outputs (last_world (if b then [] else last ∷ past))
+      go true = refl
+      go false = refl
+
+  engine_is : (s : Setting) (past : List Moment) → engine_by b s (rows_of past) ≡ engine_after b s past
+  unfolding engine_by engine_after stepped rows_of row_of
+  engine_is s [] = refl
+  engine_is s (m ∷ past) = ap₂ (λ e (w : ℕ × ℕ). b.step s.cal.plant e w.0 w.1 m.on (effects s.fault (length past)).held_plate)
+      (engine_is s past) (commands_are m past)
+
+  -- and what comes in at a tick is what it shows then
+  shown_is : (r : Run) (t : ℕ) → (entry_at b r t (moments_to b r t)).shown ≡
+      b.shows (engine_after b r.setting (next_after r.setting (entry_at b r t (moments_to b r t)) (moments_to b r t) ∷ moments_to b r t))
+  unfolding entry_at shown_at engine_after stepped next_after moment_at moment_in
+  shown_is r t = ap₂ (λ (w : World) n. b.shows (b.step r.setting.cal.plant (engine_after b r.setting past) w.throttle w.ignition
+      (drives (kind_at (drive_at r t) past) && on_at (effects r.setting.fault n) (before_at (drive_at r t) past))
+      (effects r.setting.fault n).held_plate)) (sym (commands (drive_at r t) past)) (sym (length-moments_to b r t))
+    where
+      past : List Moment
+      past = moments_to b r t
+
+  show_engine : (r : Run) (n : ℕ) → ShowEngine b r.setting (rows_of (moments_to b r n))
+  unfolding moments_to rows_of row_of next_after moment_at moment_in
+  show_engine r zero = tt
+  show_engine r (suc t) = (record { plate = ap (λ w. w.position) is; charge = ap (λ w. w.load_1) is; torque = ap (λ w. w.torque) is }, show_engine r t)
+    where
+      now : Moment
+      now = next_after r.setting (entry_at b r t (moments_to b r t)) (moments_to b r t)
+
+      is : (entry_at b r t (moments_to b r t)).shown ≡ b.shows (engine_by b r.setting (rows_of (now ∷ moments_to b r t)))
+      is = shown_is r t ∙ ap b.shows (sym (engine_is r.setting (now ∷ moments_to b r t)))
+
+  pub shows_engine : (r : Run) → ShowEngine b r.setting (record_rows b r)
+  unfolding record_rows
+  shows_engine r = show_engine r (length r.drive)
+
   -- what holds of the rows of every list of entries holds of those of a record
   of_entries : (P : Row → Type 0) (r : Run) → All P (rows_of (moments r.setting (entries_to b r (length r.drive)))) → All P (record_rows b r)
   unfolding record_rows
@@ -116,6 +200,9 @@ module _ {E : Type 0} {b : BenchEngine E} {Keeps : PlantParts → E → Type 0} 
     driven = driven b r;
     permitted = of_entries b (Permitted r.setting) r (permitted r.setting (entries_to b r (length r.drive)));
     no_torque = of_entries b HasNoTorque r (no_torque r.setting (entries_to b r (length r.drive)) (proper_under keeps r run valid (length r.drive)));
+    engine = shows_engine b r;
     closed1 = of_entries b (Closed1 r.setting) r (closed1 r.setting (entries_to b r (length r.drive)));
     closed2 = of_entries b (Closed2 r.setting) r (closed2 r.setting (entries_to b r (length r.drive)));
+    open1 = of_entries b (Open1 r.setting) r (open1 r.setting (entries_to b r (length r.drive)));
+    open2 = of_entries b (Open2 r.setting) r (open2 r.setting (entries_to b r (length r.drive)));
   }

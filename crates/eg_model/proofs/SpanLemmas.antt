@@ -7,6 +7,7 @@ use Rattle.std.proofs.lemmas.List.{length-take-le}
 use Rattle.eg_num.specs.Drive.{DriveRow}
 use Rattle.eg_fault.specs.Faults.{effects}
 use Rattle.eg_model.specs.History.{Setting, Entry, Tick, SpanKind, Drive, drives, Moment}
+use Rattle.eg_model.specs.Level1.{last_world}
 use Rattle.eg_model.specs.Paths.{on_at}
 use Rattle.eg_model.specs.Moments.{moment_in, moments_in, moments_of}
 use Rattle.eg_model.specs.Spans.{span_so_far, span_kind, has_passed, kind_at, before_at, moment_at, next_after, moments, next, ticks, span_ticks}
@@ -60,6 +61,26 @@ pub kind-goes_on : (drive : DriveRow) (past : List Moment) → (drive.reset || h
     kind_at drive past ≡ span_kind past
 kind-goes_on drive past e =
     let parts = or_parts drive.reset (has_passed past) e in unfold kind_at in rw (parts.0, parts.1) refl
+
+-- at the first tick of a span nothing is commanded yet, and else it is what the tick before left
+pub commands : (drive : DriveRow) (past : List Moment) →
+    last_world (if length (before_at drive past) == 0 then [] else past) ≡ last_world (before_at drive past)
+unfolding span_so_far last_world
+commands drive past = go (drive.reset || has_passed past) refl past refl
+  where
+    none : (before : List Moment) → before ≡ [] → last_world (if length before == 0 then [] else past) ≡ last_world before
+    none before is = rw is refl
+
+    some : (m : Moment) (rest : List Moment) → past ≡ m ∷ rest →
+        last_world (if length (span_so_far (m ∷ rest)) == 0 then [] else past) ≡ last_world (span_so_far (m ∷ rest))
+    some m rest is = ap (λ b. last_world (if b then [] else past)) (ne_eqb (length (span_so_far (m ∷ rest))) 0 (λ f. omega arith)) ∙ ap last_world is
+
+    go : (b : Bool) → (drive.reset || has_passed past) ≡ b → (all : List Moment) → past ≡ all →
+        last_world (if length (before_at drive past) == 0 then [] else past) ≡ last_world (before_at drive past)
+    go true begins all is = none (before_at drive past) (before-begins drive past begins)
+    go false on [] is = none (before_at drive past) (before-goes_on drive past on ∙ ap span_so_far is)
+    go false on (m ∷ rest) is = subst (λ before. last_world (if length before == 0 then [] else past) ≡ last_world before)
+        (sym (before-goes_on drive past on ∙ ap span_so_far is)) (some m rest is)
 
 -- the span with a moment that comes next
 pub span_so_far-next : (s : Setting) (e : Entry) (past : List Moment) →

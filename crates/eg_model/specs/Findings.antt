@@ -121,7 +121,7 @@ pub record FindsExcessAlone (weights : WeightParts) (kt threshold : ℕ) (row : 
   pub load : row.found.load ≡ false
   pub speed : row.found.speed ≡ false
 
--- this is so at each row of a drive span up to the onset of the fault, if there is one
+-- this is so at each row of a drive span before the onset of the fault, if there is one
 abbrev pub FindsSharply : Option Fault → WeightParts → (kt threshold start : ℕ) → List Row → Type 0
 FindsSharply fault weights kt threshold start rows =
     (later before : List Row) (row : Row) → rows ≡ later ++ row ∷ before →
@@ -129,7 +129,7 @@ FindsSharply fault weights kt threshold start rows =
 
 -- ---- of every record, and every report ----
 
--- up to the onset of a fault, in each drive span the full-efficiency excess alone is found
+-- in each drive span, before any onset: `torque` as that excess is first confirmed, and `answers` no sooner
 abbrev pub RecordsFindSharply : {E : Type 0} → BenchEngine E → Type 0
 RecordsFindSharply b =
     (r : Run) → IsRun r →

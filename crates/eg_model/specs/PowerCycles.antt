@@ -33,12 +33,22 @@ pub record IsPassed (read_back : ℕ) (row : Row) (before : List Row) : Type 0 w
   pub path1 : row.path1 ≡ false
   pub path2 : row.path2 ≡ false
 
+-- no watch that is debounced is found at this row
+pub record IsUnfed (row : Row) : Type 0 where
+  pub pedal : row.found.pedal ≡ false
+  pub plate : row.found.plate ≡ false
+  pub load : row.found.load ≡ false
+  pub speed : row.found.speed ≡ false
+  pub torque : row.found.torque ≡ false
+  pub answers : row.found.answers ≡ false
+
 -- Which span begins at a row, and what its span makes of it, `older` being the rows before it. A test span
 -- begins at each row that resets the unit. At other rows: a drive span begins at the first row of a run, and
 -- at a later one exactly where a test was passed at the row before; no other span begins. In a test span a
 -- test is running up to the row that reads the paths back, in a drive span at no row. The stages are on
--- exactly where the row stands in a drive span and both paths conduct. And a test is found to have failed
--- exactly where it reads the paths back and one of them conducts.
+-- exactly where the row stands in a drive span and both paths conduct. A test is found to have failed exactly
+-- where it reads the paths back and one of them conducts. And in a test span no watch is found beside that
+-- one but `mirror`.
 pub record BeginsInTurn (read_back : ℕ) (row : Row) (older : List Row) : Type 0 where
   pub resets : row.drive.reset ≡ true → BeginsTest row
   pub first : row.drive.reset ≡ false → older ≡ [] → BeginsDrive row
@@ -51,6 +61,7 @@ pub record BeginsInTurn (read_back : ℕ) (row : Row) (older : List Row) : Type 
   pub powered : row.on ≡ (not (stands_in_test (row ∷ older)) && (row.path1 && row.path2))
   pub fails : row.found.start ≡
       ((row.testing && (length (this_span (row ∷ older)) == read_back + 1)) && (row.path1 || row.path2))
+  pub unfed : stands_in_test (row ∷ older) ≡ true → IsUnfed row
 
 -- this holds of each row of a record
 abbrev pub SpansBeginInTurn : (read_back : ℕ) → List Row → Type 0

@@ -133,7 +133,7 @@ RecordsCutSharply b =
     EachDriveSpan (CutOneTickAfter r.setting.cal.rules.torque r.setting.cal.rules.kt
     r.setting.cal.rules.threshold) (record_rows b r)
 
--- under any fault, up to its onset: the same
+-- under any fault, before its onset: the same
 abbrev pub RecordsCutSharplyBefore : {E : Type 0} → BenchEngine E → Type 0
 RecordsCutSharplyBefore b =
     (r : Run) → IsRun r →

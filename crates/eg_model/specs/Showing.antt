@@ -1,8 +1,9 @@
--- The rows of a record are numbered in order, have the drive rows of the trace and the torque that these
--- permit, show torque only while the stages are on, and a path as conducting that a fault holds closed. Rows
--- stand newest first.
-use Rattle.std.specs.Prelude.{◌≡◌, true, false, List, All, map, reverse}
+-- The rows of a record are numbered in order, have the drive rows of the drive and the torque that these
+-- permit, and show the engine as it steps from row to row, and what the fault does to the paths. Rows stand
+-- newest first.
+use Rattle.std.specs.Prelude.{◌≡◌, ℕ, true, false, List, [], ◌∷◌, All, map, reverse, if◌then◌else◌}
 use Rattle.eg_num.specs.Drive.{DriveRow}
+use Rattle.eg_plant.specs.Engine.{Shown}
 use Rattle.eg_fault.specs.Faults.{effects, IsNoneOrValid}
 use Rattle.eg_fault.specs.declared.paths.TheConstants.{PATH_1, PATH_2}
 use Rattle.eg_record.specs.declared.row.Row.{Row}
@@ -14,18 +15,49 @@ use Rattle.eg_model.specs.Bench.{Run}
 use Rattle.eg_model.specs.Rows.{record_rows}
 use Rattle.eg_model.specs.Records.{IsRun}
 
+-- the two outputs of level 1 that the engine uses at a row: those of the row before, and 0 at the first row
+-- of a span
+unfoldable pub commands_at : Row → List Row → ℕ × ℕ
+commands_at row [] = (0, 0)
+commands_at row (last ∷ before) = if row.fresh then (0, 0) else (last.throttle, last.ignition)
+
+-- The engine after these rows: from its rest on it makes one step a row, by these outputs, by whether the
+-- stages are on at the row, and with the plate held that the fault holds there.
+unfoldable pub engine_by : {E : Type 0} → BenchEngine E → Setting → List Row → E
+engine_by b s [] = b.rest s.cal.plant
+engine_by b s (row ∷ before) =
+    let commands = commands_at row before in
+    b.step s.cal.plant (engine_by b s before) commands.0 commands.1 row.on
+    (effects s.fault row.tick).held_plate
+
+-- a row has what an engine shows
+pub record HasShown (row : Row) (shown : Shown) : Type 0 where
+  pub plate : row.plate ≡ shown.position
+  pub charge : row.charge ≡ shown.load_1
+  pub torque : row.torque ≡ shown.torque
+
+-- each of these rows has what the engine shows after it
+abbrev pub ShowEngine : {E : Type 0} → BenchEngine E → Setting → List Row → Type 0
+ShowEngine b s [] = Unit {0}
+ShowEngine b s (row ∷ before) = HasShown row (b.shows (engine_by b s (row ∷ before))) × ShowEngine b s before
+
 -- These rows show a run of this drive in this setting: the tick of each row is the count of the rows before
--- it; its drive row is that of the trace; its limit is the torque that its drive row permits; where the
--- stages are off there is no torque; and a path that the fault lets conduct with its latch open conducts.
-pub record ShowsRun (s : Setting) (drive : List DriveRow) (rows : List Row) : Type 0 where
+-- it; its drive row is that of the drive; its limit is the torque that its drive row permits; it has what the
+-- engine shows; and where the stages are off there is no torque. A path that the fault lets conduct with its
+-- latch open conducts, and one that the fault doesn't let conduct with its latch closed doesn't.
+pub record ShowsRun {E : Type 0} (b : BenchEngine E) (s : Setting) (drive : List DriveRow) (rows : List Row)
+    : Type 0 where
   pub numbered : AreRows rows
   pub driven : map (λ row. row.drive) rows ≡ reverse drive
   pub permitted : All (λ row. row.limit ≡ limit_at s.cal row.drive) rows
+  pub engine : ShowEngine b s rows
   pub no_torque : All (λ row. row.on ≡ false → row.torque ≡ 0) rows
   pub closed1 : All (λ row. (effects s.fault row.tick).conducts PATH_1 true ≡ true → row.path1 ≡ true) rows
   pub closed2 : All (λ row. (effects s.fault row.tick).conducts PATH_2 true ≡ true → row.path2 ≡ true) rows
+  pub open1 : All (λ row. (effects s.fault row.tick).conducts PATH_1 false ≡ false → row.path1 ≡ false) rows
+  pub open2 : All (λ row. (effects s.fault row.tick).conducts PATH_2 false ≡ false → row.path2 ≡ false) rows
 
 -- with no fault or a valid one: the record of each run shows it
 abbrev pub RecordsShowRuns : {E : Type 0} → BenchEngine E → Type 0
 RecordsShowRuns b =
-    (r : Run) → IsRun r → IsNoneOrValid r.setting.fault → ShowsRun r.setting r.drive (record_rows b r)
+    (r : Run) → IsRun r → IsNoneOrValid r.setting.fault → ShowsRun b r.setting r.drive (record_rows b r)

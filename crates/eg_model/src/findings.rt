@@ -26,7 +26,7 @@ pub fn records_find_in_time()
 {}
 
 /// What is found while nothing is out of order outside level 1 (docs/CONCEPT.md, "Why the unit reacts"): in
-/// each drive span, up to the onset of a fault if there is one, the watch `torque` is found exactly at the
+/// each drive span, before the onset of a fault if there is one, the watch `torque` is found exactly at the
 /// tick at which the full-efficiency excess is first confirmed, `answers` not before that, and none of the
 /// other watches that a drive span can find. It does nothing when it runs.
 pub fn records_find_sharply()

@@ -7,9 +7,9 @@ ghost use Rattle.eg_model.specs.Showing.{RecordsShowRuns};
 ghost use Rattle.eg_model.specs.Records.{RecordsAreHistories, RecordsAreRows, RecordsReact, RecordsReactAtOnce, RecordsCutFromOnset, RecordsCutSharply, RecordsCutSharplyBefore, RecordsCutStandingExcess, RecordsHaveShortExcess, RecordsTestUnpowered, RecordsPassTests};
 
 /// The record of a run on the bench is a history from tick 0, and its rows are numbered from 0 on
-/// (docs/CONCEPT.md, "The record of a run"). With no fault or a valid one they have the drive rows of the
-/// trace, and the torque that these permit, and no torque where the stages are off. It does nothing when it
-/// runs.
+/// (docs/CONCEPT.md, "The record of a run"). With no fault or a valid one they have the rows of the drive,
+/// the torque that these permit, and what the engine shows as it steps from row to row. It does nothing when
+/// it runs.
 pub fn records_are_histories()
     ensures histories { RecordsAreHistories gasoline × RecordsAreHistories diesel }
     ensures rows { RecordsAreRows gasoline × RecordsAreRows diesel }
@@ -58,9 +58,9 @@ pub fn records_cut_standing_excess()
     ensures short { RecordsHaveShortExcess gasoline × RecordsHaveShortExcess diesel }
 {}
 
-/// By the rows of the record of a run on the bench: a test span begins at each reset, and a drive span at the
-/// first tick and exactly where a test was passed at the tick before, so that a drive span lasts to the end
-/// of its power cycle; while the shut-off paths are tested the stages are off, whatever the fault; and
+/// By the rows of the record of a run on the bench: a test span begins at each reset, else a drive span at
+/// the first tick and exactly where a test was passed at the tick before, so that a drive span lasts to the
+/// end of its power cycle; while the shut-off paths are tested the stages are off, whatever the fault; and
 /// without a fault no test fails (docs/CONCEPT.md, "Power cycles"). It does nothing when it runs.
 pub fn records_test_the_paths()
     ensures cycles { RecordsBeginInTurn gasoline × RecordsBeginInTurn diesel }

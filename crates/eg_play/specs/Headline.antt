@@ -14,6 +14,7 @@ use Rattle.eg_record.specs.Excess.{first_confirmed}
 use Rattle.eg_record.specs.Stages.{IsFirstOff}
 use Rattle.eg_record.specs.Spans.{EachDriveSpan, EachTestSpan}
 use Rattle.eg_model.specs.History.{Setting}
+use Rattle.eg_model.specs.Engines.{BenchEngine}
 use Rattle.eg_model.specs.Showing.{ShowsRun}
 use Rattle.eg_model.specs.PowerCycles.{SpansBeginInTurn}
 use Rattle.eg_model.specs.Records.{ReactWithin, RowsReactAtOnce, CutFromOnset, CutOneTickAfter}
@@ -22,19 +23,20 @@ use Rattle.eg_model.specs.Findings.{FindsBeforeOff, FindsFailure, FindsFromOnset
 use Rattle.eg_model.specs.Lapses.{IsLapse}
 use Rattle.eg_model.specs.Outputs.{with_level1, ActByOutputs}
 use Rattle.eg_laws.specs.Availability.{IsSpacedLapse, StaysAvailable}
-use Rattle.eg_campaign.specs.Plays.{EngineRun, rows_of_run, report_of_run}
+use Rattle.eg_campaign.specs.Plays.{EngineRun, bench_of, rows_of_run, report_of_run}
 
--- What the headline says of the record of a run, by its setting, its drive, its rows, its report under each
--- name, and its rows under each image and slice plan.
-pub record Headline (s : Setting) (drive : List DriveRow) (rows : List Row) (report : List ℕ → Summary)
-    (rows_under : List ℕ → List (List ℕ) → List Row) : Type 0 where
-  -- The rows show the run: they are numbered in order, have the drive rows of the trace and what these
-  -- permit, and there is torque only while the stages are on.
-  pub shows : ShowsRun s drive rows
+-- What the headline says of the record of a run, by its engine, its setting, its drive, its rows, its report
+-- under each name, and its rows under each image and slice plan.
+pub record Headline {E : Type 0} (b : BenchEngine E) (s : Setting) (drive : List DriveRow) (rows : List Row)
+    (report : List ℕ → Summary) (rows_under : List ℕ → List (List ℕ) → List Row) : Type 0 where
+  -- The rows show the run: they are numbered in order, have the rows of the drive and what these permit, and
+  -- what the engine shows as it steps from row to row, with torque only while the stages are on.
+  pub shows : ShowsRun b s drive rows
   -- At each reset a test span begins. Where the tick doesn't reset, a drive span begins at the first tick of
   -- the run and exactly where a test was passed at the tick before, and no span at any other tick. A test
   -- runs up to the tick that reads the paths back, and in no drive span; it fails exactly where a path then
-  -- conducts. The stages are on exactly where the engine is driven and both paths conduct.
+  -- conducts. The stages are on exactly where the engine is driven and both paths conduct, and in a test span
+  -- only `start` and `mirror` are found.
   pub cycles : SpansBeginInTurn (test_ticks_of s.cal.times) rows
   -- With no fault or a listed one, in each drive span the power stages are off from R ticks after a confirmed
   -- torque excess to the end of the span; under most faults, and without one, from the next tick.
@@ -98,5 +100,6 @@ pub record Headline (s : Setting) (drive : List DriveRow) (rows : List Row) (rep
 
 -- the record of this run keeps the headline
 abbrev pub KeepsHeadline : EngineRun → Type 0
-KeepsHeadline r = Headline r.run.setting r.run.drive (rows_of_run r) (λ name. report_of_run name r)
+KeepsHeadline r =
+    Headline (bench_of r.engine) r.run.setting r.run.drive (rows_of_run r) (λ name. report_of_run name r)
     (λ image plan. rows_of_run (record r { run = with_level1 image plan r.run }))

@@ -1,9 +1,8 @@
 -- One tick of a run on the bench, and what its ticks come to.
-use Rattle.std.proofs.Common.{◌≡◌, ◌∙◌, refl, sym, ap, ap₂, subst, ℕ, zero, suc, ◌+◌, ◌%◌, ◌^◌, ◌<◌, ◌&&◌, ◌||◌, Bool, true, false, List, [], ◌∷◌, ◌++◌, map, length, arith, Option, Result, Ok, Err}
-use Rattle.std.specs.Prelude.{reverse, slice_index_or, IfOk, ◌==◌, if◌then◌else◌}
+use Rattle.std.proofs.Common.{◌≡◌, ◌∙◌, refl, sym, ap, ap₂, subst, ℕ, zero, suc, ◌+◌, ◌%◌, ◌^◌, ◌<◌, ◌&&◌, Bool, List, [], ◌∷◌, ◌++◌, map, length, arith, Option, Result, Ok, Err}
+use Rattle.std.specs.Prelude.{reverse, slice_index_or, IfOk}
 use Rattle.std.specs.List.{sum}
 use Rattle.std.proofs.Math.Nat.{mod-add-mod, mod-eq_of_lt}
-use Rattle.std.proofs.lemmas.Bool.{ne_eqb}
 use Rattle.std.proofs.lemmas.List.{map-append}
 use Rattle.std.proofs.lemmas.List.Sums.{fold-append}
 use Rattle.eg_num.specs.Drive.{DriveRow}
@@ -21,12 +20,12 @@ use Rattle.eg_model.specs.History.{Setting, Entry, drives, Moment}
 use Rattle.eg_model.specs.Paths.{on_at}
 use Rattle.eg_model.specs.Level1.{last_world}
 use Rattle.eg_model.specs.Moments.{moment_in}
-use Rattle.eg_model.specs.Spans.{kind_at, before_at, moment_at, next_after, moments, next, has_passed, span_so_far}
+use Rattle.eg_model.specs.Spans.{kind_at, before_at, moment_at, next_after, moments, next}
 use Rattle.eg_model.specs.Engines.{BenchEngine, gasoline}
 use Rattle.eg_model.specs.Bench.{Run, no_drive, stepped, engine_after, shown_at, drive_at, slices_at, entry_at, moments_to, entries_to}
 use Rattle.eg_model.specs.Rows.{row_of, first_trap, record_rows, record_trap}
 use Rattle.eg_model.specs.Records.{row_at, rows_to}
-use Rattle.eg_model.proofs.SpanLemmas.{before-begins, before-goes_on}
+use Rattle.eg_model.proofs.SpanLemmas.{commands}
 use Rattle.eg_model.proofs.RecordTicks.{length-entries, length-moments_to, records_are_histories}
 use Rattle.eg_tick.specs.Benched.{ComeTo, ShowsAs, StepsAs}
 use Rattle.eg_tick.specs.Kept.{ControllerParts}
@@ -34,28 +33,6 @@ use Rattle.eg_tick.specs.Stands.{Stands}
 use Rattle.eg_tick.specs.Advancing.{effects_after, entry_of, world_before}
 use Rattle.eg_tick.specs.Weights.{TickCount, weight_of}
 use Rattle.eg_tick.specs.Run.{run_by, IsAt, IsRecordOf}
-
--- ---- one tick ----
-
--- at the first tick of a span nothing is commanded yet, and else it is what the tick before left
-commands : (drive : DriveRow) (past : List Moment) →
-    last_world (if length (before_at drive past) == 0 then [] else past) ≡ last_world (before_at drive past)
-unfolding span_so_far last_world
-commands drive past = go (drive.reset || has_passed past) refl past refl
-  where
-    none : (before : List Moment) → before ≡ [] → last_world (if length before == 0 then [] else past) ≡ last_world before
-    none before is = rw is refl
-
-    some : (m : Moment) (rest : List Moment) → past ≡ m ∷ rest →
-        last_world (if length (span_so_far (m ∷ rest)) == 0 then [] else past) ≡ last_world (span_so_far (m ∷ rest))
-    some m rest is = ap (λ b. last_world (if b then [] else past)) (ne_eqb (length (span_so_far (m ∷ rest))) 0 (λ f. omega arith)) ∙ ap last_world is
-
-    go : (b : Bool) → (drive.reset || has_passed past) ≡ b → (all : List Moment) → past ≡ all →
-        last_world (if length (before_at drive past) == 0 then [] else past) ≡ last_world (before_at drive past)
-    go true begins all is = none (before_at drive past) (before-begins drive past begins)
-    go false on [] is = none (before_at drive past) (before-goes_on drive past on ∙ ap span_so_far is)
-    go false on (m ∷ rest) is = subst (λ before. last_world (if length before == 0 then [] else past) ≡ last_world before)
-        (sym (before-goes_on drive past on ∙ ap span_so_far is)) (some m rest is)
 
 -- ---- the tick of a run on the bench ----
 
