@@ -31,9 +31,9 @@ use Rattle.eg_model.specs.Premises.{IsProper, AreProper, IsProperRun, Follows}
 use Rattle.eg_model.specs.SharpCut.{ArePlain}
 use Rattle.eg_model.specs.StartUp.{IsUndisturbed}
 use Rattle.eg_model.specs.Findings.{FindsExcessAlone, RecordsFindSharply}
-use Rattle.eg_model.specs.Records.{IsRun, is_before_onset, ReactWithin, RowsReactAtOnce, CutOneTickAfter, CutStandingExcess, ExcessIsShort, CutFromOnset, RecordsReact, RecordsReactAtOnce, RecordsCutSharply, RecordsCutSharplyBefore, RecordsCutStandingExcess, RecordsHaveShortExcess, RecordsCutFromOnset, RecordsTestUnpowered, RecordsPassTests}
+use Rattle.eg_model.specs.Records.{IsRun, NeverFails, is_before_onset, ReactWithin, RowsReactAtOnce, CutOneTickAfter, CutStandingExcess, ExcessIsShort, CutFromOnset, RecordsReact, RecordsReactAtOnce, RecordsCutSharply, RecordsCutSharplyBefore, RecordsCutStandingExcess, RecordsHaveShortExcess, RecordsCutFromOnset, RecordsTestUnpowered, RecordsPassTests}
 use Rattle.eg_model.proofs.StartUpLaws.{tests_pass}
-use Rattle.eg_model.proofs.SpanLemmas.{tick_after, ticks_before, Continues, continues, begin_of, ends_in, proper_drive}
+use Rattle.eg_model.proofs.SpanLemmas.{length-run_moments, tick_after, ticks_before, Continues, continues, begin_of, ends_in, proper_drive}
 use Rattle.eg_model.proofs.SpanRows.{rows_after, SpanRows, RowAfter, row_tick, rows_off, bits_after, full_unnumbered}
 use Rattle.eg_model.proofs.SpanLaws.{react_within, react_at_once, cut_lapses, short_lapses, cut_from_onset, sharp_after, found_after, cut_one_tick_after}
 use Rattle.eg_model.proofs.RecordTicks.{length-moments_to, records_are_histories}
@@ -80,40 +80,39 @@ All-take P zero xs all = All-nil P
 All-take P (suc n) [] all = All-nil P
 All-take P (suc n) (x ∷ xs) all = All-cons P x (take n xs) (All-head P x xs all) (All-take P n xs (All-tail P x xs all))
 
--- ---- without a fault no test fails ----
+-- ---- before the onset of a fault no test fails ----
 
-quiet_ticks : (s : Setting) → s.fault ≡ None → (start : ℕ) (h : List Tick) → Follows s.fault start h → All IsUndisturbed h
+quiet_ticks : (s : Setting) (start : ℕ) (h : List Tick) → Follows s.fault start h →
+    ((t : ℕ) → t < start + length h → is_before_onset s.fault t ≡ true) → All IsUndisturbed h
 unfolding Follows
-quiet_ticks s none start [] follows = All-nil IsUndisturbed
-quiet_ticks s none start (x ∷ h) follows = All-cons IsUndisturbed x h
-    (follows.0 ∙ ap (λ f. effects f (start + length h)) none ∙ nothing (start + length h)) (quiet_ticks s none start h follows.1)
-  where
-    nothing : (t : ℕ) → effects None t ≡ no_effects
-    nothing t = unfold effects in refl
+quiet_ticks s start [] follows quiet = All-nil IsUndisturbed
+quiet_ticks s start (x ∷ h) follows quiet = All-cons IsUndisturbed x h
+    (follows.0 ∙ quiet_tick s.fault (start + length h) (quiet (start + length h) (omega arith)))
+    (quiet_ticks s start h follows.1 (λ t l. quiet t (omega arith)))
 
 never_fails : (kind : SpanKind) (s : Setting) → IsAccepted s.cal → (x : Tick) (h : List Tick) → All IsUndisturbed (x ∷ h) →
     (moment_in kind s x.effects x.entry (moments_in kind s h)).found.start ≡ false
 never_fails Drive s accepted x h plain = unfold moment_in reads_back in refl
 never_fails Test s accepted x h plain = (tests_pass s accepted x h plain).never_fails
 
-next_passes : (s : Setting) → IsAccepted s.cal → s.fault ≡ None → (e : Entry) (h : List Entry) → (next s e h).found.start ≡ false
-next_passes s accepted none e h = ap (λ (m : Moment). m.found.start) c.moment_is
+next_passes : (s : Setting) → IsAccepted s.cal → (e : Entry) (h : List Entry) → is_before_onset s.fault (length h) ≡ true →
+    (next s e h).found.start ≡ false
+next_passes s accepted e h quiet = ap (λ (m : Moment). m.found.start) c.moment_is
     ∙ (unfold tick_after in never_fails (kind_at e.drive (moments s h)) s accepted (tick_after s e h) (ticks_before s e h) plain)
   where
     c : Continues s e h (kind_at e.drive (moments s h)) (ticks_before s e h)
     c = continues s e h
 
     plain : All IsUndisturbed (tick_after s e h ∷ ticks_before s e h)
-    plain = subst (All IsUndisturbed) c.ticks_are (quiet_ticks s none (begin_of s (e ∷ h)) (span_ticks s (e ∷ h)) (ends_in s (e ∷ h)).follows)
+    plain = subst (All IsUndisturbed) c.ticks_are (quiet_ticks s (begin_of s (e ∷ h)) (span_ticks s (e ∷ h)) (ends_in s (e ∷ h)).follows
+        (λ t l. quiet_up_to s.fault (length h) t quiet (let size = (ends_in s (e ∷ h)).size in omega (arith, l, size))))
 
-abbrev NeverFails : Row → Type 0
-NeverFails row = row.found.start ≡ false
-
-none_fails : (s : Setting) → IsAccepted s.cal → s.fault ≡ None → (h : List Entry) → All NeverFails (rows_of (moments s h))
-unfolding rows_of moments
-none_fails s accepted none [] = All-nil NeverFails
-none_fails s accepted none (e ∷ h) = All-cons NeverFails (row_of (length (moments s h)) (next_after s e (moments s h))) (rows_of (moments s h))
-    (unfold row_of in (unfold next in next_passes s accepted none e h)) (none_fails s accepted none h)
+none_fails : (s : Setting) → IsAccepted s.cal → (h : List Entry) → All (NeverFails s.fault) (rows_of (moments s h))
+unfolding rows_of row_of moments next
+none_fails s accepted [] = All-nil (NeverFails s.fault)
+none_fails s accepted (e ∷ h) = All-cons (NeverFails s.fault) (row_of (length (moments s h)) (next_after s e (moments s h))) (rows_of (moments s h))
+    (λ quiet. next_passes s accepted e h (subst (λ n. is_before_onset s.fault n ≡ true) (length-run_moments s h) quiet))
+    (none_fails s accepted h)
 
 -- ---- each drive span ----
 
@@ -149,8 +148,8 @@ module _ {E : Type 0} (b : BenchEngine E) where
       rows_are s = s.rows_are
 
   pub records_pass_tests : RecordsPassTests b
-  records_pass_tests r run none = subst (All NeverFails) (ap rows_of (sym (records_are_histories b r (length r.drive))) ∙ (unfold record_rows in refl))
-      (none_fails r.setting run.accepted none (entries_to b r (length r.drive)))
+  records_pass_tests r run = subst (All (NeverFails r.setting.fault)) (ap rows_of (sym (records_are_histories b r (length r.drive))) ∙ (unfold record_rows in refl))
+      (none_fails r.setting run.accepted (entries_to b r (length r.drive)))
 
 -- a row of a drive span is that of a plain tick, after plain ones
 record QuietLast (s : Setting) (start : ℕ) (row : Row) (before : List Row) : Type 0 where

@@ -164,7 +164,9 @@ RecordsCutFromOnset b =
 abbrev pub RecordsTestUnpowered : {E : Type 0} → BenchEngine E → Type 0
 RecordsTestUnpowered b = (r : Run) → EachTestSpan AreOff (record_rows b r)
 
--- without a fault no test fails
+-- without a fault, and before the onset of one, no test fails
+abbrev pub NeverFails : Option Fault → Row → Type 0
+NeverFails fault row = is_before_onset fault row.tick ≡ true → row.found.start ≡ false
+
 abbrev pub RecordsPassTests : {E : Type 0} → BenchEngine E → Type 0
-RecordsPassTests b =
-    (r : Run) → IsRun r → r.setting.fault ≡ None → All (λ row. row.found.start ≡ false) (record_rows b r)
+RecordsPassTests b = (r : Run) → IsRun r → All (NeverFails r.setting.fault) (record_rows b r)

@@ -61,7 +61,8 @@ pub fn records_cut_standing_excess()
 /// By the rows of the record of a run on the bench: a test span begins at each reset, else a drive span at
 /// the first tick and exactly where a test was passed at the tick before, so that a drive span lasts to the
 /// end of its power cycle; while the shut-off paths are tested the stages are off, whatever the fault; and
-/// without a fault no test fails (docs/CONCEPT.md, "Power cycles"). It does nothing when it runs.
+/// without a fault, or before its onset, no test fails (docs/CONCEPT.md, "Power cycles"). It does nothing
+/// when it runs.
 pub fn records_test_the_paths()
     ensures cycles { RecordsBeginInTurn gasoline × RecordsBeginInTurn diesel }
     ensures unpowered { RecordsTestUnpowered gasoline × RecordsTestUnpowered diesel }

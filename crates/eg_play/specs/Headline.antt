@@ -3,7 +3,7 @@
 -- It is said of one run of either engine with its power cycles; its rows stand newest first. That no image
 -- changes a protected word is said of each slice: field `outside` of `IsSlice`, which `eg_host::Host::slice`
 -- keeps. That level 1 acts by its two outputs alone is said here.
-use Rattle.std.specs.Prelude.{◌≡◌, ℕ, false, List, All, None}
+use Rattle.std.specs.Prelude.{◌≡◌, ℕ, List, All, None}
 use Rattle.eg_num.specs.Drive.{DriveRow}
 use Rattle.eg_answer.specs.Times.{reaction_of, test_ticks_of, HasLapseBound}
 use Rattle.eg_fault.specs.Faults.{IsListed}
@@ -18,7 +18,7 @@ use Rattle.eg_model.specs.Engines.{BenchEngine}
 use Rattle.eg_model.specs.Showing.{ShowsRun}
 use Rattle.eg_model.specs.PowerCycles.{SpansBeginInTurn}
 use Rattle.eg_model.specs.Records.{ReactWithin, RowsReactAtOnce, CutFromOnset, CutOneTickAfter}
-use Rattle.eg_model.specs.Records.{CutSharplyBefore, CutStandingExcess, ExcessIsShort, AreOff}
+use Rattle.eg_model.specs.Records.{CutSharplyBefore, CutStandingExcess, ExcessIsShort, AreOff, NeverFails}
 use Rattle.eg_model.specs.Findings.{FindsBeforeOff, FindsFailure, FindsFromOnset, FindsSharply, TellsFlips, NamesWhatCuts}
 use Rattle.eg_model.specs.Lapses.{IsLapse}
 use Rattle.eg_model.specs.Outputs.{with_level1, ActByOutputs}
@@ -46,9 +46,9 @@ pub record Headline {E : Type 0} (b : BenchEngine E) (s : Setting) (drive : List
       s.cal.rules.torque s.cal.rules.threshold) rows
   -- In each test span, that is from a reset until its test is passed, the stages are off.
   pub unpowered : EachTestSpan AreOff rows
-  -- Without a fault no test fails, and in each drive span the stages go off exactly one tick after the
-  -- full-efficiency excess is first confirmed.
-  pub passes : s.fault ≡ None → All (λ row. row.found.start ≡ false) rows
+  -- Without a fault, and before the onset of one, no test fails. Without a fault, in each drive span the
+  -- stages go off exactly one tick after the full-efficiency excess is first confirmed.
+  pub passes : All (NeverFails s.fault) rows
   pub cuts : s.fault ≡ None → EachDriveSpan (CutOneTickAfter s.cal.rules.torque
       s.cal.rules.kt s.cal.rules.threshold) rows
   -- Under every fault the cut is as sharp at the ticks before its onset.

@@ -9,7 +9,7 @@ ghost use Rattle.eg_model.specs.Engines.{gasoline};
 ghost use Rattle.eg_model.specs.Bench.{Run};
 ghost use Rattle.eg_model.specs.Rows.{record_rows, record_trap};
 ghost use Rattle.eg_model.specs.PowerCycles.{SpansBeginInTurn};
-ghost use Rattle.eg_model.specs.Records.{rows_to, ReactWithin, CutOneTickAfter, RowsReactAtOnce, CutStandingExcess, ExcessIsShort, AreOff};
+ghost use Rattle.eg_model.specs.Records.{rows_to, ReactWithin, CutOneTickAfter, RowsReactAtOnce, CutStandingExcess, ExcessIsShort, AreOff, NeverFails};
 ghost use Rattle.eg_model.specs.Lapses.{IsLapse};
 ghost use Rattle.eg_fault.specs.Faults.{IsNoneOrValid};
 ghost use Rattle.eg_tick.specs.Counting.{AreCounted};
@@ -79,13 +79,13 @@ pub fn run_one(
         IsLapse (option_copied fault.entry) → IfOk result (λ made.
         EachDriveSpan (ExcessIsShort calibration.now) (reverse made.rows)) }
     // A test span begins at each reset, else a drive span at the first tick and exactly where a test was
-    // passed at the tick before. In each test span the stages are off. Without a fault no start-up test
-    // fails.
+    // passed at the tick before. In each test span the stages are off. Without a fault, and before its onset,
+    // no start-up test fails.
     ensures cycles { IfOk result (λ made.
         SpansBeginInTurn (test_ticks_of calibration.now.times) (reverse made.rows)) }
     ensures unpowered { IfOk result (λ made. EachTestSpan AreOff (reverse made.rows)) }
-    ensures passes { option_copied fault.entry ≡ None → IfOk result (λ made.
-        All (λ row. row.found.start ≡ false) (reverse made.rows)) }
+    ensures passes { IfOk result (λ made.
+        All (NeverFails (option_copied fault.entry)) (reverse made.rows)) }
     // Each tick is counted, and each row is weighed; where memory ran out, those of the first of them.
     ensures counted { AreCounted (reverse (record_rows gasoline
         (run_by calibration.now image.now (option_copied fault.entry) plan.now drive.now)))

@@ -6,7 +6,7 @@ use Rattle.eg_record.specs.Spans.{EachDriveSpan, EachTestSpan}
 use Rattle.eg_model.specs.Engines.{gasoline}
 use Rattle.eg_model.specs.Bench.{Run}
 use Rattle.eg_model.specs.PowerCycles.{SpansBeginInTurn}
-use Rattle.eg_model.specs.Records.{ReactWithin, CutOneTickAfter, RowsReactAtOnce, CutStandingExcess, ExcessIsShort, AreOff}
+use Rattle.eg_model.specs.Records.{ReactWithin, CutOneTickAfter, RowsReactAtOnce, CutStandingExcess, ExcessIsShort, AreOff, NeverFails}
 use Rattle.eg_model.proofs.GasolineLaws.{gasoline_keeps, gasoline_shows_one_load}
 use Rattle.eg_model.proofs.RecordLaws.{records_react, records_react_at_once, records_cut_sharply, records_cut_standing_excess, records_have_short_excess, records_test_unpowered, records_pass_tests}
 use Rattle.eg_model.proofs.PowerCycleLaws.{records_begin_in_turn}
@@ -58,7 +58,7 @@ returns-clause-unpowered c = IfOk-weaker c.record_run.result _ _ (λ made m.
     (records_test_unpowered gasoline r)) c.record_run.ensures.made
 
 pub returns-clause-passes : goal.returns-clause-passes
-returns-clause-passes c = λ none. IfOk-weaker c.record_run.result _ _ (λ made m.
+returns-clause-passes c = IfOk-weaker c.record_run.result _ _ (λ made m.
     let r : Run = run_by c.args.calibration.now c.args.image.now (option_copied c.args.fault) c.args.plan.now c.args.drive.now in
-    subst (All (λ row. row.found.start ≡ false)) (newest_first gasoline r made.rows m.rows_are)
-    (records_pass_tests gasoline r (is_run r made.rows made.trap c.rules-rules.ensures.accepted m) none)) c.record_run.ensures.made
+    subst (All (NeverFails r.setting.fault)) (newest_first gasoline r made.rows m.rows_are)
+    (records_pass_tests gasoline r (is_run r made.rows made.trap c.rules-rules.ensures.accepted m))) c.record_run.ensures.made
