@@ -33,7 +33,7 @@ pub record IsPassed (read_back : ℕ) (row : Row) (before : List Row) : Type 0 w
   pub path1 : row.path1 ≡ false
   pub path2 : row.path2 ≡ false
 
--- no watch that is debounced is found at this row
+-- no watch but `mirror` and `start` is found at this row
 pub record IsUnfed (row : Row) : Type 0 where
   pub pedal : row.found.pedal ≡ false
   pub plate : row.found.plate ≡ false

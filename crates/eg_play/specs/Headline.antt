@@ -30,7 +30,8 @@ use Rattle.eg_campaign.specs.Plays.{EngineRun, bench_of, rows_of_run, report_of_
 pub record Headline {E : Type 0} (b : BenchEngine E) (s : Setting) (drive : List DriveRow) (rows : List Row)
     (report : List ℕ → Summary) (rows_under : List ℕ → List (List ℕ) → List Row) : Type 0 where
   -- The rows show the run: they are numbered in order, have the rows of the drive and what these permit, and
-  -- what the engine shows as it steps from row to row, with torque only while the stages are on.
+  -- what the engine shows as it steps from row to row, with torque only while the stages are on; and a path
+  -- that the fault holds closed, or keeps from conducting, is shown so.
   pub shows : ShowsRun b s drive rows
   -- At each reset a test span begins. Where the tick doesn't reset, a drive span begins at the first tick of
   -- the run and exactly where a test was passed at the tick before, and no span at any other tick. A test
