@@ -107,12 +107,19 @@ next_passes s accepted e h quiet = ap (λ (m : Moment). m.found.start) c.moment_
     plain = subst (All IsUndisturbed) c.ticks_are (quiet_ticks s (begin_of s (e ∷ h)) (span_ticks s (e ∷ h)) (ends_in s (e ∷ h)).follows
         (λ t l. quiet_up_to s.fault (length h) t quiet (let size = (ends_in s (e ∷ h)).size in omega (arith, l, size))))
 
+-- what holds of the row that any entry adds holds of all rows
+pub each_row : (P : Row → Type 0) (s : Setting) →
+    ((e : Entry) (h : List Entry) → P (row_of (length (moments s h)) (next_after s e (moments s h)))) →
+    (h : List Entry) → All P (rows_of (moments s h))
+unfolding moments rows_of
+each_row P s adds [] = All-nil P
+each_row P s adds (e ∷ h) = All-cons P (row_of (length (moments s h)) (next_after s e (moments s h))) (rows_of (moments s h))
+    (adds e h) (each_row P s adds h)
+
 none_fails : (s : Setting) → IsAccepted s.cal → (h : List Entry) → All (NeverFails s.fault) (rows_of (moments s h))
-unfolding rows_of row_of moments next
-none_fails s accepted [] = All-nil (NeverFails s.fault)
-none_fails s accepted (e ∷ h) = All-cons (NeverFails s.fault) (row_of (length (moments s h)) (next_after s e (moments s h))) (rows_of (moments s h))
-    (λ quiet. next_passes s accepted e h (subst (λ n. is_before_onset s.fault n ≡ true) (length-run_moments s h) quiet))
-    (none_fails s accepted h)
+unfolding row_of next
+none_fails s accepted = each_row (NeverFails s.fault) s (λ e h quiet.
+    next_passes s accepted e h (subst (λ n. is_before_onset s.fault n ≡ true) (length-run_moments s h) quiet))
 
 -- ---- each drive span ----
 

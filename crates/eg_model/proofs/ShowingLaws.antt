@@ -24,7 +24,7 @@ use Rattle.eg_model.specs.Rows.{row_of, rows_of, record_rows}
 use Rattle.eg_model.specs.Showing.{commands_at, engine_by, ShowEngine, RecordsShowRuns}
 use Rattle.eg_model.proofs.SpanLemmas.{commands}
 use Rattle.eg_model.proofs.RecordTicks.{length-moments_to, records_are_histories}
-use Rattle.eg_model.proofs.RecordLaws.{proper_under}
+use Rattle.eg_model.proofs.RecordLaws.{proper_under, each_row}
 use Rattle.eg_model.proofs.WholeRecord.{are_rows}
 use Rattle.eg_plant.specs.PlantParts.{PlantParts}
 
@@ -45,10 +45,8 @@ abbrev HasNoTorque : Row → Type 0
 HasNoTorque row = row.on ≡ false → row.torque ≡ 0
 
 permitted : (s : Setting) (h : List Entry) → All (Permitted s) (rows_of (moments s h))
-unfolding moments rows_of row_of next_after moment_at moment_in
-permitted s [] = All-nil (Permitted s)
-permitted s (e ∷ h) = All-cons (Permitted s) (row_of (length (moments s h)) (next_after s e (moments s h))) (rows_of (moments s h))
-    refl (permitted s h)
+unfolding row_of next_after moment_at moment_in
+permitted s = each_row (Permitted s) s (λ e h. refl)
 
 no_torque : (s : Setting) (h : List Entry) → IsProperRun s h → All HasNoTorque (rows_of (moments s h))
 unfolding moments rows_of row_of next next_after moment_at moment_in IsProperRun
@@ -85,41 +83,36 @@ open_conducts fault tick path true is = go ((effects fault tick).conducts path t
     go true more = absurd (let f : false ≡ true = sym is ∙ conducts_more fault tick path more in cc)
     go false more = refl
 
-abbrev Open1 : Setting → Row → Type 0
-Open1 s row = (effects s.fault row.tick).conducts PATH_1 false ≡ false → row.path1 ≡ false
+conducts_forced : (fault : Option Fault) (tick path : ℕ) (state is_open : Bool) →
+    (effects fault tick).conducts path state ≡ state → (effects fault tick).conducts path is_open ≡ state
+conducts_forced fault tick path true is_open is = closed_conducts fault tick path is_open is
+conducts_forced fault tick path false is_open is = open_conducts fault tick path is_open is
 
-abbrev Open2 : Setting → Row → Type 0
-Open2 s row = (effects s.fault row.tick).conducts PATH_2 false ≡ false → row.path2 ≡ false
+-- where the fault alone says whether a path conducts, its column says the same
+abbrev IsForced : ℕ → (Row → Bool) → Bool → Setting → Row → Type 0
+IsForced path column state s row = (effects s.fault row.tick).conducts path state ≡ state → column row ≡ state
 
-open1 : (s : Setting) (h : List Entry) → All (Open1 s) (rows_of (moments s h))
-unfolding moments rows_of row_of next_after moment_at moment_in path1_at
-open1 s [] = All-nil (Open1 s)
-open1 s (e ∷ h) = All-cons (Open1 s) (row_of (length (moments s h)) (next_after s e (moments s h))) (rows_of (moments s h))
-    (open_conducts s.fault (length (moments s h)) PATH_1 (latch1 (before_at e.drive (moments s h)))) (open1 s h)
+forced : (path : ℕ) (column : Row → Bool) (latch : List Moment → Bool) (state : Bool) (s : Setting) →
+    ((e : Entry) (h : List Entry) → column (row_of (length (moments s h)) (next_after s e (moments s h))) ≡
+    (effects s.fault (length (moments s h))).conducts path (latch (before_at e.drive (moments s h)))) →
+    (h : List Entry) → All (IsForced path column state s) (rows_of (moments s h))
+unfolding row_of
+forced path column latch state s reads = each_row (IsForced path column state s) s
+    (λ e h is. reads e h ∙ conducts_forced s.fault (length (moments s h)) path state (latch (before_at e.drive (moments s h))) is)
 
-open2 : (s : Setting) (h : List Entry) → All (Open2 s) (rows_of (moments s h))
-unfolding moments rows_of row_of next_after moment_at moment_in path2_at
-open2 s [] = All-nil (Open2 s)
-open2 s (e ∷ h) = All-cons (Open2 s) (row_of (length (moments s h)) (next_after s e (moments s h))) (rows_of (moments s h))
-    (open_conducts s.fault (length (moments s h)) PATH_2 (latch2 (before_at e.drive (moments s h)))) (open2 s h)
+abbrev Forced1 : Bool → Setting → Row → Type 0
+Forced1 = IsForced PATH_1 (λ row. row.path1)
 
-abbrev Closed1 : Setting → Row → Type 0
-Closed1 s row = (effects s.fault row.tick).conducts PATH_1 true ≡ true → row.path1 ≡ true
+abbrev Forced2 : Bool → Setting → Row → Type 0
+Forced2 = IsForced PATH_2 (λ row. row.path2)
 
-abbrev Closed2 : Setting → Row → Type 0
-Closed2 s row = (effects s.fault row.tick).conducts PATH_2 true ≡ true → row.path2 ≡ true
+forced1 : (state : Bool) (s : Setting) (h : List Entry) → All (Forced1 state s) (rows_of (moments s h))
+unfolding row_of next_after moment_at moment_in path1_at
+forced1 state s = forced PATH_1 (λ row. row.path1) latch1 state s (λ e h. refl)
 
-closed1 : (s : Setting) (h : List Entry) → All (Closed1 s) (rows_of (moments s h))
-unfolding moments rows_of row_of next_after moment_at moment_in path1_at
-closed1 s [] = All-nil (Closed1 s)
-closed1 s (e ∷ h) = All-cons (Closed1 s) (row_of (length (moments s h)) (next_after s e (moments s h))) (rows_of (moments s h))
-    (closed_conducts s.fault (length (moments s h)) PATH_1 (latch1 (before_at e.drive (moments s h)))) (closed1 s h)
-
-closed2 : (s : Setting) (h : List Entry) → All (Closed2 s) (rows_of (moments s h))
-unfolding moments rows_of row_of next_after moment_at moment_in path2_at
-closed2 s [] = All-nil (Closed2 s)
-closed2 s (e ∷ h) = All-cons (Closed2 s) (row_of (length (moments s h)) (next_after s e (moments s h))) (rows_of (moments s h))
-    (closed_conducts s.fault (length (moments s h)) PATH_2 (latch2 (before_at e.drive (moments s h)))) (closed2 s h)
+forced2 : (state : Bool) (s : Setting) (h : List Entry) → All (Forced2 state s) (rows_of (moments s h))
+unfolding row_of next_after moment_at moment_in path2_at
+forced2 state s = forced PATH_2 (λ row. row.path2) latch2 state s (λ e h. refl)
 
 -- the two outputs of level 1's world
 abbrev outputs : World → ℕ × ℕ
@@ -201,8 +194,8 @@ module _ {E : Type 0} {b : BenchEngine E} {Keeps : PlantParts → E → Type 0} 
     permitted = of_entries b (Permitted r.setting) r (permitted r.setting (entries_to b r (length r.drive)));
     no_torque = of_entries b HasNoTorque r (no_torque r.setting (entries_to b r (length r.drive)) (proper_under keeps r run valid (length r.drive)));
     engine = shows_engine b r;
-    closed1 = of_entries b (Closed1 r.setting) r (closed1 r.setting (entries_to b r (length r.drive)));
-    closed2 = of_entries b (Closed2 r.setting) r (closed2 r.setting (entries_to b r (length r.drive)));
-    open1 = of_entries b (Open1 r.setting) r (open1 r.setting (entries_to b r (length r.drive)));
-    open2 = of_entries b (Open2 r.setting) r (open2 r.setting (entries_to b r (length r.drive)));
+    closed1 = of_entries b (Forced1 true r.setting) r (forced1 true r.setting (entries_to b r (length r.drive)));
+    closed2 = of_entries b (Forced2 true r.setting) r (forced2 true r.setting (entries_to b r (length r.drive)));
+    open1 = of_entries b (Forced1 false r.setting) r (forced1 false r.setting (entries_to b r (length r.drive)));
+    open2 = of_entries b (Forced2 false r.setting) r (forced2 false r.setting (entries_to b r (length r.drive)));
   }
