@@ -161,7 +161,7 @@ module _ (kind : SpanKind) (s : Setting) (start : ℕ) (x : Tick) (h : List Tick
   abbrev past : List Moment
   past = moments_in kind s h
 
-  -- the number that is sent, if one is, is the expected one exactly where the model calls the answer good
+  -- the number that is sent, if one is, is the expected one exactly if the model calls the answer good
   abbrev Tells : Type 0
   Tells = (number_of (at_react d w) == number_expected s x.effects (length h)) ≡ is_good x.effects past
 

@@ -67,7 +67,7 @@ module _ (kind : SpanKind) (s : Setting) (x : Tick) (h : List Tick) where
       (sends_at x.effects s.cal.times n && x.effects.ran 7 && not (m.trip || tripped past)))
       (sym (length-moments_in kind s h))
 
-  -- an answer is sent exactly where the model has one
+  -- an answer is sent exactly if the model has one
   pub sent_same : (w : Words) → WordTellsTrip kind s w x h → is_some (answer_at d w) ≡ sent
   sent_same w told = answers d w ∙ answers_as_sent w told
 

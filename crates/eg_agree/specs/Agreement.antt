@@ -28,7 +28,7 @@ FlowStands =
 
 -- The theorem on answers. Let the calibration be an accepted one, and let there be no fault or a valid one of
 -- any class, lapses too. What is sent at tick x, after a history that begins at any tick of the run, is the
--- expected number exactly where the model calls the answer good; nothing is sent exactly where it calls it
+-- expected number exactly if the model calls the answer good; nothing is sent exactly if it calls it
 -- absent.
 abbrev pub EachAnswerHolds : Type 0
 EachAnswerHolds =

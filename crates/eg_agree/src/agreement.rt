@@ -5,7 +5,7 @@ ghost use Rattle.eg_agree.specs.Agreement.{WordsStand, FlowStands, EachAnswerHol
 /// kind, for an accepted calibration (docs/CONCEPT.md, "Level 2"). After every history, under any fault,
 /// their words stand for the history; where it is shorter than 65,536 ticks, they also tell of the program
 /// flow. Without a fault and under any valid one, lapses too, what they send after fewer than 65,535 ticks is
-/// the expected number exactly where the model calls it good: where all eight modules ran at each tick since
+/// the expected number exactly if the model calls it good: where all eight modules ran at each tick since
 /// the last answer and none is disturbed. Where they ran so and no word was flipped, the token is 0 and the
 /// flow unmarked. The word for the last tick is the last tick at which module 0 ran, or 65535.
 pub fn level_2_agrees()

@@ -1,4 +1,4 @@
--- The token is 2^k - 1 exactly where the modules 0 to k - 1 moved it, in their order.
+-- The token is 2^k - 1 exactly if the modules 0 to k - 1 moved it, in their order.
 use Rattle.std.proofs.Common.{◌≡◌, ◌≢◌, ℕ, zero, suc, ◌+◌, ◌-◌, ◌≤◌, ◌<◌, ◌^◌, Bool, true, false, nat_eq, List, [], ◌∷◌, refl, sym, ap, ◌∙◌, inl, inr, arith, add-one}
 use Rattle.std.specs.Prelude.{All, if◌then◌else◌}
 use Rattle.std.proofs.lemmas.Nat.{pow_pos, pow_below}

@@ -1,4 +1,4 @@
--- Ticks are counted in periods, each with a question; a period's verdict is right exactly where one answer
+-- Ticks are counted in periods, each with a question; a period's verdict is right exactly if one answer
 -- came in it, within the window, and it was good. Ticks are counted from the begin of the first period, and
 -- lists stand newest first.
 use Rattle.std.specs.Prelude.{ℕ, ◌+◌, ◌/◌, ◌%◌, ◌==◌, ◌≡◌, ◌≤◌, nat_le, Bool, true, false, ◌&&◌, List, [], ◌∷◌, length, map, Option, Some, None, if◌then◌else◌}
@@ -53,7 +53,7 @@ pub record HeardAnswer : Type 0 where
 unfoldable pub marked : ℕ → HeardAnswer → MarkedAnswer
 marked expected heard = record { tick = heard.tick; good = heard.number == expected }
 
--- the verdict over the answers of a period: right exactly where one answer came, in the window, and it was
+-- the verdict over the answers of a period: right exactly if one answer came, in the window, and it was
 -- good
 unfoldable pub verdict_of : TimeParts → List MarkedAnswer → Verdict
 verdict_of times [] = Wrong

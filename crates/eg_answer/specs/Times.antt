@@ -46,7 +46,8 @@ test_ticks_of t = feeds_to_confirm t.weights * t.period
 unfoldable pub periods_to_confirm : WeightParts → TimeParts → ℕ
 periods_to_confirm torque times = quotient_up (feeds_to_confirm torque) times.period
 
--- There is a bound for lapses exactly where one wrong verdict adds more than the right ones take.
+-- A bound for lapses is worked out where one wrong verdict adds more than the right ones of
+-- `periods_to_confirm` verdicts take.
 abbrev pub HasLapseBound : WeightParts → TimeParts → Type 0
 HasLapseBound torque times = (periods_to_confirm torque times - 1) * times.weights.down < times.weights.up
 

@@ -1,5 +1,5 @@
 -- Outside the headline. The token of the program flow check: in a tick the eight modules of level 2 move
--- it one after another, from 0 on. In the end it is 255 exactly where all eight moved it, in their order.
+-- it one after another, from 0 on. In the end it is 255 exactly if all eight moved it, in their order.
 use Rattle.std.specs.Prelude.{◌≡◌, ◌↔◌, ℕ, ◌+◌, ◌-◌, ◌<◌, ◌^◌, ◌==◌, List, [], ◌∷◌, All, reverse, if◌then◌else◌}
 use Rattle.eg_answer.specs.declared.modules.TheConstants.{MODULES}
 use Rattle.eg_answer.specs.Modules.{modules}
@@ -14,7 +14,7 @@ unfoldable pub token_after : List ℕ → ℕ
 token_after [] = 0
 token_after (number ∷ before) = next_token_of (token_after before) number
 
--- The law: whichever modules moved it, it is 255 exactly where they are all eight in their order.
+-- The law: whichever modules moved it, it is 255 exactly if they are all eight in their order.
 abbrev pub TokenLaw : Type 0
 TokenLaw = (numbers : List ℕ) → All (λ number. number < MODULES) numbers →
     (token_after numbers ≡ 255) ↔ (numbers ≡ reverse modules)

@@ -155,7 +155,7 @@ fn periods_to_confirm(torque: &Weights, times: &Times) -> u32
 /// The bound for lapses in ticks (docs/CONCEPT.md, "Lapses"): where level 2 as a whole doesn't run at some
 /// ticks, whichever they are, each stretch of torque excess is shorter. `torque` are the weights by which
 /// level 2 debounces the excess. Its runs to confirm fill some periods (`periods_to_confirm`), and a wrong
-/// verdict adds `up`. None exactly where the right verdicts of all but one of these periods,
+/// verdict adds `up`. None exactly if the right verdicts of all but one of these periods,
 /// `(periods - 1) * down`, are at least `up`, at equality too.
 pub fn lapse_bound(torque: &Weights, times: &Times) -> Option<u32>
     ensures { SomeIff result (HasLapseBound torque.now times.now) (lapse_bound_of torque.now times.now) }
@@ -176,7 +176,7 @@ pub fn lapse_bound(torque: &Weights, times: &Times) -> Option<u32>
 /// (docs/CONCEPT.md, "Lapses"). A missed run spoils at most two verdicts, which add `2 * up`. Where two
 /// misses lie so far apart, all verdicts between them but those two are right, and take that back. The number
 /// is the least count of whole periods in which they do, in ticks; nothing is said of misses that lie nearer.
-/// None exactly where two wrong verdicts are enough to confirm, `limit <= 2 * up`, or a right one takes
+/// None exactly if two wrong verdicts are enough to confirm, `limit <= 2 * up`, or a right one takes
 /// nothing.
 pub fn miss_spacing(times: &Times) -> Option<u32>
     ensures distance { SomeIff result (HasMissSpacing times.now) (miss_spacing_of times.now) }

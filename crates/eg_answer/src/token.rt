@@ -17,7 +17,7 @@ pub fn next_token(token: u16, number: u8) -> u16
     }
 }
 
-/// Does nothing when it runs. Its contract is a law: a token that starts at 0 ends at 255 exactly where all
+/// Does nothing when it runs. Its contract is a law: a token that starts at 0 ends at 255 exactly if all
 /// eight modules moved it, in their order (docs/CONCEPT.md, "Questions and answers").
 pub fn token_counts_modules()
     ensures { TokenLaw }

@@ -2,7 +2,7 @@
 -- and whose count of faults rose. There is one relation for each command, by cases on the outcome, inside
 -- what comes of its calibration. It speaks of what the store and the output show before the call (`store`,
 -- `out`) and after it (`later`, `now`). A fault that is met is counted, and each case says whose count stayed
--- too. So each outcome comes exactly where its case says (but where a count stands at the last value of a
+-- too. So each outcome comes exactly if its case says (but where a count stands at the last value of a
 -- u64); running out of memory alone may come at any place. Where a call reads several files, the count
 -- doesn't tell which of the reads met a fault: over a sure store `FileComes` and `TellsMissing` do, else a
 -- test.
@@ -16,7 +16,7 @@ use Rattle.eg_plan.specs.declared.run.RunPlan.{RunPlan}
 use Rattle.eg_outcome.specs.declared.outcome.Outcome.{Outcome}
 use Rattle.eg_outcome.specs.declared.outcome.Outcome.TheVariants as outcome
 use Rattle.eg_outcome.specs.declared.outcome.Role.TheVariants as role
-use Rattle.eg_outcome.specs.Outcomes.{LineEnds, Follows, IsDoneOrMemory}
+use Rattle.eg_outcome.specs.Outcomes.{LineEnds, WorkFollows, IsDoneOrMemory}
 use Rattle.eg_outcome.specs.Reads.{FileComes, ReadComes, Finds, Accepts}
 use Rattle.eg_outcome.specs.Calibrations.{CalibratedEnds, MissesCalibration, FindsCalibration, AcceptsCalibration}
 use Rattle.eg_campaign.specs.Plays.{rows_of_runs}
@@ -43,7 +43,8 @@ RowsEnd rules rows out now o = (first : Option ℕ) × IsFirst rules.torque (exc
 abbrev pub CheckWorks : Rules → List ℕ → ShownStore → ShownStore → ShownSink → ShownSink → Outcome → Type 0
 CheckWorks rules file store later out now o = (come : Result (List CheckRow) Outcome)
     × FileComes role.Check check_file file store later come
-    × Follows (λ rows end. (later.faults ≡ store.faults) × RowsEnd rules rows out now end) (now ≡ out) come o
+    × WorkFollows (λ rows end. (later.faults ≡ store.faults) × RowsEnd rules rows out now end) (now ≡ out)
+    come o
 
 abbrev pub CheckEnds : Option (List ℕ) → List ℕ → ShownStore → ShownStore → ShownSink → ShownSink → Outcome
     → Type 0
@@ -112,12 +113,12 @@ ReadsNothing None = Unit {0}
 
 -- ---- when a file is missing ----
 
--- over a sure store reading the calibration fails exactly where there is no such file
+-- over a sure store reading the calibration fails exactly if there is no such file
 abbrev pub TellsMissingCalibration : Option (List ℕ) → ShownStore → Outcome → Type 0
 TellsMissingCalibration calibration store o =
     (o ≡ outcome.ReadFault role.Calibration) ↔ MissesCalibration calibration store
 
--- Over a sure store reading the check file fails exactly where there is no such file. Where a calibration is
+-- Over a sure store reading the check file fails exactly if there is no such file. Where a calibration is
 -- read before, that has to be there and be accepted, and memory may run out first.
 abbrev pub TellsMissingCheck : Option (List ℕ) → List ℕ → ShownStore → Outcome → Type 0
 TellsMissingCheck None file store o = (o ≡ outcome.ReadFault role.Check) ↔ IsMissing store.files file

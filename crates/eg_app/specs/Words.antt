@@ -43,8 +43,8 @@ said (parsed.Asm file) = asm file.now
 said (parsed.Dis file) = dis file.now
 
 -- the bytes of the words
-abbrev pub words_of : List (String Global) → List (List ℕ)
-words_of words = map string_bytes words
+abbrev pub word_bytes : List (String Global) → List (List ℕ)
+word_bytes words = map string_bytes words
 
 -- the word at a place
 abbrev pub word : List (List ℕ) → ℕ → List ℕ

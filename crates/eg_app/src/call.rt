@@ -1,6 +1,6 @@
 // The top call.
 ghost use Rattle.std.specs.Prelude.{◌≡◌, None, Some};
-ghost use Rattle.eg_app.specs.Words.{words_of, command_of, said, KeepsLimits};
+ghost use Rattle.eg_app.specs.Words.{word_bytes, command_of, said, KeepsLimits};
 ghost use Rattle.eg_app.specs.Ends.{Ends, ReadsNothing, CountsNothing, TellsMissing, Completes};
 ghost use Rattle.eg_app.specs.Headline.{TellsHeadline};
 ghost use Rattle.eg_app.specs.Notes.{NotesOutcome, Names, IsFileName};
@@ -36,26 +36,26 @@ pub fn egasim<S: Store, K: Sink, N: Sink>(
     // The headline (docs/READING.md, "The headline, field by field"): on Done the report, the record or the
     // table that was written is that of the runs that the files say, whatever they hold, and each of these
     // runs keeps the headline; so does each run that is drawn.
-    ensures headline { result ≡ Done → TellsHeadline (command_of (words_of words.now)) (S.shows store.old)
+    ensures headline { result ≡ Done → TellsHeadline (command_of (word_bytes words.now)) (S.shows store.old)
         (K.shows out.old) (K.shows out.new) }
 
     // How it ends, what was written then and which ticks were made, and when each outcome comes.
-    ensures ends { Ends (command_of (words_of words.now)) (S.shows store.old) (S.shows store.new)
+    ensures ends { Ends (command_of (word_bytes words.now)) (S.shows store.old) (S.shows store.new)
         (K.shows out.old) (K.shows out.new) steps.old steps.new result }
-    ensures missing { TellsMissing (command_of (words_of words.now)) (S.shows store.old) result }
-    ensures completes { Completes (command_of (words_of words.now)) (S.shows store.old) (S.shows store.new)
+    ensures missing { TellsMissing (command_of (word_bytes words.now)) (S.shows store.old) result }
+    ensures completes { Completes (command_of (word_bytes words.now)) (S.shows store.old) (S.shows store.new)
         (K.shows out.old) (K.shows out.new) result }
     ensures no_memory { TellsNoMemory result }
 
     // What stays as it was.
-    ensures nothing_read { ReadsNothing (command_of (words_of words.now)) → store.new ≡ store.old }
+    ensures nothing_read { ReadsNothing (command_of (word_bytes words.now)) → store.new ≡ store.old }
     ensures files { (S.shows store.new).files ≡ (S.shows store.old).files }
     ensures nothing_put { PutsNothing result → out.new ≡ out.old }
     ensures nothing_played { PutsNothing result → steps.new ≡ steps.old }
-    ensures counts_nothing { CountsNothing (command_of (words_of words.now)) → steps.new ≡ steps.old }
+    ensures counts_nothing { CountsNothing (command_of (word_bytes words.now)) → steps.new ≡ steps.old }
 
     // The note of the outcome is put, and none after Done.
-    ensures note { NotesOutcome (command_of (words_of words.now)) (S.shows store.old)
+    ensures note { NotesOutcome (command_of (word_bytes words.now)) (S.shows store.old)
         (N.shows notes.old) (N.shows notes.new) result }
     ensures no_note { result ≡ Done → notes.new ≡ notes.old }
 {

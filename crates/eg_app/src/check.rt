@@ -57,14 +57,14 @@ fn check_by<S: Store, K: Sink>(
     ensures files { (S.shows store.new).files ≡ (S.shows store.old).files }
     ensures nothing_put { PutsNothing result → out.new ≡ out.old }
 {
-    match rows_of(alloc, file, store) {
+    match read_rows(alloc, file, store) {
         Ok(rows) => check_rows(alloc, rules, rows.as_slice(), out),
         Err(outcome) => outcome,
     }
 }
 
 /// The rows of the file of that name, or how the call ends without them.
-fn rows_of<S: Store>(
+fn read_rows<S: Store>(
     alloc: Global,
     file: &str,
     store: &mut S,

@@ -2,7 +2,7 @@
 ghost use Rattle.std.specs.Prelude.{◌≡◌, ◌≤◌, ◌+◌, [], Some, length, option_map, unwrap_or, IfSome};
 ghost use Rattle.std.specs.Option.{option_copied};
 ghost use Rattle.eg_app.specs.Notes.{calibration_name, check_name, campaign_name, translated_name, name_of, role_of, file_role, name_in_words};
-ghost use Rattle.eg_app.specs.Words.{words_of, is_name, names_calibration, is_check, is_alone, is_on_campaign, is_record, is_sweep, step_in, word, sweep, is_on_file, of_file, form_of, alone_of, is_soak, soak_form, calibrated_of, command_of, said, KeepsLimits};
+ghost use Rattle.eg_app.specs.Words.{word_bytes, is_name, names_calibration, is_check, is_alone, is_on_campaign, is_record, is_sweep, step_in, word, sweep, is_on_file, of_file, form_of, alone_of, is_soak, soak_form, calibrated_of, command_of, said, KeepsLimits};
 
 use crate::number::number_in;
 use eg_outcome::{Outcome, Refusal, Role};
@@ -66,7 +66,7 @@ pub(crate) enum Command<'a> {
 impl<'a> Command<'a> {
     /// What the words ask for, or None where they have no form of a command.
     pub(crate) fn of(words: &'a [String]) -> Option<Command<'a>>
-        ensures command { option_map said result ≡ command_of (words_of words.now) }
+        ensures command { option_map said result ≡ command_of (word_bytes words.now) }
         ensures limits { IfSome result (λ command. KeepsLimits (said command)) }
     {
         if is_soak(words) {
@@ -77,7 +77,7 @@ impl<'a> Command<'a> {
 
     /// What the words ask for, the first of which isn't `soak`.
     fn of_file(words: &'a [String]) -> Option<Command<'a>>
-        ensures command { option_map said result ≡ of_file (words_of words.now) }
+        ensures command { option_map said result ≡ of_file (word_bytes words.now) }
         ensures limits { IfSome result (λ command. KeepsLimits (said command)) }
     {
         if is_on_file("answers", words) {
@@ -100,7 +100,7 @@ impl<'a> Command<'a> {
 
     /// What the words ask for, where the first may be one that takes a calibration.
     fn of_calibrated(words: &'a [String]) -> Option<Command<'a>>
-        ensures command { option_map said result ≡ calibrated_of (words_of words.now) }
+        ensures command { option_map said result ≡ calibrated_of (word_bytes words.now) }
         ensures limits { IfSome result (λ command. KeepsLimits (said command)) }
     {
         if names_calibration(words) {
@@ -111,7 +111,7 @@ impl<'a> Command<'a> {
 
     /// What the words ask for, the first of which is `soak`.
     fn of_soak(words: &'a [String]) -> Option<Command<'a>>
-        ensures command { option_map said result ≡ soak_form (words_of words.now) }
+        ensures command { option_map said result ≡ soak_form (word_bytes words.now) }
         ensures limits { IfSome result (λ command. KeepsLimits (said command)) }
     {
         if words.len() != 3 {
@@ -132,7 +132,7 @@ impl<'a> Command<'a> {
         requires least { 1 ≤ own }
         requires most { own ≤ 3 }
         ensures command { option_map said result
-            ≡ alone_of (words_of words.now) (option_copied calibration.entry) own }
+            ≡ alone_of (word_bytes words.now) (option_copied calibration.entry) own }
         ensures limits { IfSome result (λ command. KeepsLimits (said command)) }
     {
         if is_alone("bound", words, own) {
@@ -150,7 +150,7 @@ impl<'a> Command<'a> {
         requires least { 1 ≤ own }
         requires most { own ≤ 3 }
         ensures command { option_map said result
-            ≡ form_of (words_of words.now) (option_copied calibration.entry) own }
+            ≡ form_of (word_bytes words.now) (option_copied calibration.entry) own }
         ensures limits { IfSome result (λ command. KeepsLimits (said command)) }
     {
         if is_check(words, own) {
@@ -197,8 +197,8 @@ impl<'a> Command<'a> {
         requires most { own ≤ 3 }
         requires words { own + 3 ≤ length words.now }
         ensures command { option_map said result ≡ option_map (sweep (option_copied calibration.entry)
-            (word (words_of words.now) own) (word (words_of words.now) (own + 1)))
-            (step_in (word (words_of words.now) (own + 2))) }
+            (word (word_bytes words.now) own) (word (word_bytes words.now) (own + 1)))
+            (step_in (word (word_bytes words.now) (own + 2))) }
         ensures limits { IfSome result (λ command. KeepsLimits (said command)) }
     {
         let step = number_in(words[own + 2].as_bytes(), 5, 1, 20_000)?;
@@ -311,21 +311,21 @@ fn role_of(refusal: &Refusal) -> Option<Role>
 
 /// Whether `--cal NAME` stands right after the first word.
 fn names_calibration(words: &[String]) -> bool
-    ensures { result ≡ names_calibration (words_of words.now) }
+    ensures { result ≡ names_calibration (word_bytes words.now) }
 {
     words.len() >= 3 && words[1].as_str() == "--cal" && is_name(words[2].as_str())
 }
 
 /// Whether the words are this one and the name of a file.
 fn is_on_file(command: &str, words: &[String]) -> bool
-    ensures { result ≡ is_on_file command.now (words_of words.now) }
+    ensures { result ≡ is_on_file command.now (word_bytes words.now) }
 {
     words.len() == 2 && words[0].as_str() == command && is_name(words[1].as_str())
 }
 
 /// Whether the first word is `soak`.
 fn is_soak(words: &[String]) -> bool
-    ensures { result ≡ is_soak (words_of words.now) }
+    ensures { result ≡ is_soak (word_bytes words.now) }
 {
     !words.is_empty() && words[0].as_str() == "soak"
 }
@@ -334,7 +334,7 @@ fn is_soak(words: &[String]) -> bool
 fn is_check(words: &[String], own: usize) -> bool
     requires least { 1 ≤ own }
     requires most { own ≤ 3 }
-    ensures { result ≡ is_check (words_of words.now) own }
+    ensures { result ≡ is_check (word_bytes words.now) own }
 {
     words.len() == own + 1 && words[0].as_str() == "check" && is_name(words[own].as_str())
 }
@@ -343,7 +343,7 @@ fn is_check(words: &[String], own: usize) -> bool
 fn is_alone(command: &str, words: &[String], own: usize) -> bool
     requires least { 1 ≤ own }
     requires most { own ≤ 3 }
-    ensures { result ≡ is_alone command.now (words_of words.now) own }
+    ensures { result ≡ is_alone command.now (word_bytes words.now) own }
 {
     words.len() == own && words[0].as_str() == command
 }
@@ -353,7 +353,7 @@ fn is_alone(command: &str, words: &[String], own: usize) -> bool
 fn is_on_campaign(command: &str, words: &[String], own: usize) -> bool
     requires least { 1 ≤ own }
     requires most { own ≤ 3 }
-    ensures { result ≡ is_on_campaign command.now (words_of words.now) own }
+    ensures { result ≡ is_on_campaign command.now (word_bytes words.now) own }
 {
     words.len() == own + 1 && words[0].as_str() == command && is_name(words[own].as_str())
 }
@@ -362,7 +362,7 @@ fn is_on_campaign(command: &str, words: &[String], own: usize) -> bool
 fn is_record(words: &[String], own: usize) -> bool
     requires least { 1 ≤ own }
     requires most { own ≤ 3 }
-    ensures { result ≡ is_record (words_of words.now) own }
+    ensures { result ≡ is_record (word_bytes words.now) own }
 {
     words.len() == own + 2
         && words[0].as_str() == "record"
@@ -375,7 +375,7 @@ fn is_record(words: &[String], own: usize) -> bool
 fn is_sweep(words: &[String], own: usize) -> bool
     requires least { 1 ≤ own }
     requires most { own ≤ 3 }
-    ensures { result ≡ is_sweep (words_of words.now) own }
+    ensures { result ≡ is_sweep (word_bytes words.now) own }
 {
     words.len() == own + 3
         && words[0].as_str() == "sweep"

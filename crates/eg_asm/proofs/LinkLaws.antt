@@ -7,7 +7,7 @@ use Rattle.eg_asm.specs.declared.operand.Operand.{Operand}
 use Rattle.eg_asm.specs.declared.operand.Operand.TheVariants as operand
 use Rattle.eg_asm.specs.Forms.{Form, forms, form_named}
 use Rattle.eg_asm.specs.Grammar.{Value, Register, Number, Name, Distance, Fits, Item, Nothing, Comment, Label, Instruction, IsItem}
-use Rattle.eg_asm.specs.Words.{Labels, size, word_count, labels_of, address_of, complement_of, distance_to, field_of, added, fields_of, word_with, word_of, word_at, words_from, words_of, is_sound, fault_behind, first_fault}
+use Rattle.eg_asm.specs.Words.{Labels, size, word_count, labels_of, address_of, complement_of, distance_to, field_of, added, fields_of, word_with, word_of, word_at, words_from, item_words, is_sound, fault_behind, first_fault}
 use Rattle.eg_asm.specs.Encodings.{Encoded, capped, capped_target, with_operand, with_operands, encoded, Told, told}
 use Rattle.eg_asm.specs.Encodings as tells
 use Rattle.eg_asm.specs.Kept.{numbered, instructions_from, is_repeat, repeat_behind}
@@ -335,7 +335,7 @@ same_words labels address line (item ∷ items) may = same_word labels address l
 
 -- ---- the answer ----
 
-linked_is : (items : List Item) (o : Option ℕ) → words_unless (words_of items) o ≡ linked items o
+linked_is : (items : List Item) (o : Option ℕ) → words_unless (item_words items) o ≡ linked items o
 unfolding words_unless linked
 linked_is items None = refl
 linked_is items (Some address) = refl
@@ -347,4 +347,4 @@ same_answer items may =
     let fault = same_fault (labels_of items) [] items may in
     ap (λ (words : List ℕ). words_unless words (earlier (unresolved (labels_of items) 0 (instructions_from 1 items)) (repeat_behind [] items)))
     (sym (same_words (labels_of items) 0 1 items may))
-    ∙ ap (words_unless (words_of items)) (sym fault) ∙ linked_is items (first_fault items)
+    ∙ ap (words_unless (item_words items)) (sym fault) ∙ linked_is items (first_fault items)

@@ -1,4 +1,4 @@
--- What reading a source finds, in the bytes of the source: it answers each of its answers exactly where that answer's words hold.
+-- What reading a source finds, in the bytes of the source: it answers each of its answers exactly if that answer's words hold.
 use Rattle.std.proofs.Common.{◌≡◌, ◌∙◌, sym, ap, refl, subst, ℕ, ◌+◌, ◌<◌, ◌≤◌, List, [], ◌∷◌, ◌++◌, length, map, Bool, true, false, cond, Option, Some, None, Result, Ok, Err, arith, append-nil, append_assoc}
 use Rattle.std.specs.Prelude.{◌==◌, nat_le, option_and_then}
 use Rattle.std.specs.List.{AllByRecursion, concat, flat_map}

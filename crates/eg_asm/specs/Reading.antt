@@ -19,7 +19,7 @@ use Rattle.eg_asm.specs.declared.operand.Operand.TheVariants as operand
 use Rattle.eg_asm.specs.Forms.{form_named}
 use Rattle.eg_asm.specs.Numerals.{is_name}
 use Rattle.eg_asm.specs.Grammar.{Value, Register, Number, Name, Distance, Item, Nothing, Comment, Label, Instruction}
-use Rattle.eg_asm.specs.Words.{size, words_of, first_fault}
+use Rattle.eg_asm.specs.Words.{size, item_words, first_fault}
 
 -- ---- operands ----
 
@@ -154,7 +154,7 @@ items_from words number (line ∷ lines) =
 
 -- the words of items without fault
 unfoldable pub linked : List Item → Option ℕ → Result (List ℕ) AsmFault
-linked items None = Ok (words_of items)
+linked items None = Ok (item_words items)
 linked items (Some number) = Err (fault.Label number)
 
 -- the words of what was read

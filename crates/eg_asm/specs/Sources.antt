@@ -4,7 +4,7 @@ use Rattle.eg_input.specs.declared.image.TheConstants.{MOST_WORDS}
 use Rattle.eg_asm.specs.declared.fault.AsmFault.{AsmFault}
 use Rattle.eg_asm.specs.declared.fault.AsmFault.TheVariants as fault
 use Rattle.eg_asm.specs.Grammar.{Item, IsLineOf, IsTextOf}
-use Rattle.eg_asm.specs.Words.{size, word_count, words_of, first_fault}
+use Rattle.eg_asm.specs.Words.{size, word_count, item_words, first_fault}
 
 -- the source is lines without fault, of at most 1,024 instructions, which have these words
 pub record IsSourceOf (source words : List ℕ) : Type 0 where
@@ -12,7 +12,7 @@ pub record IsSourceOf (source words : List ℕ) : Type 0 where
   pub text : IsTextOf source items
   pub most : word_count items ≤ MOST_WORDS
   pub sound : first_fault items ≡ None
-  pub words_are : words ≡ words_of items
+  pub words_are : words ≡ item_words items
 
 -- the text goes on, and its next line isn't the line of an item that may come
 pub record GoesWrong (may_come : Item → Type 0) (text : List ℕ) : Type 0 where

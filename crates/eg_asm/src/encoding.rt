@@ -45,7 +45,7 @@ impl<'a> Encoding<'a> {
                 jump: self.jump,
             }),
             Operand::Number { most } => Some(Encoding {
-                word: self.word + number(text, most)?,
+                word: self.word + number_within(text, most)?,
                 jump: self.jump,
             }),
             Operand::Target { reach } => Some(Encoding {
@@ -105,7 +105,7 @@ fn negative(magnitude: u32) -> Option<i32>
 }
 
 /// The number that a numeral writes, where it is at most `most`.
-fn number(text: &[u8], most: u16) -> Option<u32>
+fn number_within(text: &[u8], most: u16) -> Option<u32>
     ensures shown { result ≡ option_and_then (at_most most) (numeral_in text.now) }
     ensures few { IfSome result (λ n. n ≤ most) }
 {

@@ -73,7 +73,7 @@ impl Store for MemoryStore {
     ghost shows = { λ s. record { files = Some s.files; faults = s.faults; sure = false } };
 
     fn read(&mut self, name: &str, most: usize, into: &mut Vec<u8>) -> Result<(), ReadRefusal>
-        // Each read is counted. A fault is counted exactly where the read's number is listed, or there is
+        // Each read is counted. A fault is counted exactly if the read's number is listed, or there is
         // no such file.
         ensures failed { IsErrOf result Failed ↔ IsTrue (read_fails self.old name.now) }
         ensures state { self.new ≡ after_read self.old name.now }

@@ -42,7 +42,7 @@ pub trait Store {
         ensures ok { OnOk result (Reads (shows self.old).files name.now most into.old.items into.new.items) }
         ensures kept { OnErr result (BeginsWith into.old.items into.new.items) }
 
-        // Each Failed is counted, and nothing else is. Over a sure store it comes exactly where there is no
+        // Each Failed is counted, and nothing else is. Over a sure store it comes exactly if there is no
         // such file.
         ensures count { (shows self.old).faults ≤ (shows self.new).faults }
         ensures no_fault { OnOk result ((shows self.new).faults ≡ (shows self.old).faults) }

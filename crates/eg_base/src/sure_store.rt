@@ -57,7 +57,7 @@ impl Store for SureStore {
     ghost shows = { λ s. record { files = Some s.files; faults = s.faults; sure = true } };
 
     fn read(&mut self, name: &str, most: usize, into: &mut Vec<u8>) -> Result<(), ReadRefusal>
-        // One fault is counted exactly where there is no such file, and nothing else changes.
+        // One fault is counted exactly if there is no such file, and nothing else changes.
         ensures failed { IsErrOf result Failed ↔ IsNone (get self.old.files name.now) }
         ensures state { self.new ≡ after_sure_read self.old name.now }
         ensures count { self.old.faults ≤ self.new.faults }

@@ -1,4 +1,4 @@
--- A document is accepted exactly where it keeps the rules.
+-- A document is accepted exactly if it keeps the rules.
 use Rattle.std.proofs.Common.{◌≡◌, ℕ, ◌+◌, ◌-◌, ◌<◌, ◌≤◌, ◌==◌, nat_lt, nat_le, is_some, Bool, true, false, ◌&&◌, length, List, [], ◌∷◌, Option, Some, None, option_map, if◌then◌else◌, Ok, refl, sym, ap, subst, arith}
 use Rattle.std.specs.List.{AllByRecursion}
 use Rattle.std.proofs.lemmas.Bool.{and_parts}
@@ -49,7 +49,7 @@ all-none ms version each [] of_version = refl
 all-none ms version each (keys ∷ tables) of_version =
     none-or (first_fault ms keys) (keys_fault ms tables) (each-none ms version each keys of_version.0) (all-none ms version each tables of_version.1)
 
--- the key of the brake is among the keys of a version exactly where it is one of that version
+-- the key of the brake is among the keys of a version exactly if it is one of that version
 brake-if : (b : Bool) (version : ℕ) → (b ≡ true → version ≡ 2) → AllByRecursion (IsKeyOf version) (if b then PermitBrake ∷ [] else [])
 brake-if true version h = (h refl, tt)
 brake-if false version h = tt

@@ -26,7 +26,7 @@ pub record KeepsRules (ms : Members) : Type 0 where
   pub window : IsWindow (times_of ms)
   pub answers : AreAnswered (rules_of ms) (questions_of ms Question)
 
--- the law: a document is accepted exactly where it keeps the rules, and its calibration has the values under
+-- the law: a document is accepted exactly if it keeps the rules, and its calibration has the values under
 -- its keys
 abbrev pub AcceptedLaw : Type 0
 AcceptedLaw = (ms : Members) (parts : CalibrationParts) →

@@ -73,7 +73,7 @@ pub enum CalKey {
 /// Why a calibration file is refused (docs/FORMATS.md, "Calibration files").
 #[derive(Clone, Copy, PartialEq, Eq)]
 pub enum CalFault {
-    /// There was no memory for the document.
+    /// There was no memory for the document, or it weighs more than the reader takes.
     Memory,
     /// The bytes are no TOML document.
     Text,

@@ -7,7 +7,7 @@ ghost use Rattle.eg_cal.specs.Answers.{AnswersLaw, NoAnswerLaw};
 ghost use Rattle.eg_cal.specs.Rules.{AcceptedLaw};
 ghost use Rattle.eg_cal.specs.Reference.{reference_text};
 
-/// Does nothing when it runs. Its contract is a law: a document is accepted exactly where it keeps the rules
+/// Does nothing when it runs. Its contract is a law: a document is accepted exactly if it keeps the rules
 /// of docs/FORMATS.md, "Calibration files": each key is there and holds what it may, no other name is there,
 /// and the values go together. The calibration then has the values under the keys.
 pub fn accepted_files_keep_the_rules()

@@ -57,7 +57,7 @@ pub fn faulty_contacts(fault: Option<&Fault>, tick: u32, truth: [u16; 2]) -> [u1
 /// Where the throttle plate, or the rack of a diesel engine, is held at a tick, in per mille, if it is
 /// (docs/CONCEPT.md, "Faults").
 #[tactic(auto, unfolding(crate::specs::Effects::no_effects))]
-pub fn held_plate(fault: Option<&Fault>, tick: u32) -> Option<u16>
+pub fn held(fault: Option<&Fault>, tick: u32) -> Option<u16>
     ensures { result ≡ (effects (option_copied fault.entry) tick).held_plate }
 {
     let (class, after) = acting(fault, tick)?;

@@ -11,7 +11,7 @@ mod script;
 
 pub use class::{Class, Fault};
 pub use effects::{
-    conducts, disturbance, fault_of_levels, faulty_contacts, faulty_readings, flip, held_plate,
+    conducts, disturbance, fault_of_levels, faulty_contacts, faulty_readings, flip, held,
     level1_runs, module_runs, sends, wild,
 };
 pub use laws::{faults_leave_the_rest, modules_run_together, plates_are_held_within};

@@ -35,7 +35,7 @@ marked_number : (d : Doing) (w : Words) → FitsWords d.rules (row_asked d) → 
 unfolding number_of expected_number answer_number
 marked_number d w fits high = let word = expected-word d fits in ne_eqb _ _ (λ e. omega arith)
 
--- with a flow that is unmarked the number is the expected one exactly where the fold is
+-- with a flow that is unmarked the number is the expected one exactly if the fold is
 unmarked_number : (d : Doing) (w : Words) → closed_flow w ≡ 255 → (number_of w == expected_number d) ≡ (w.sign == expected_fold d)
 unfolding number_of expected_number answer_number
 unmarked_number d w e = cases (eqb_tells w.sign (expected_fold d))

@@ -70,7 +70,7 @@ whole_since words (d ∷ before) = whole_after d (words_after words before) (who
 
 -- Steady words, after `made` ticks. The token rests at 0. The flow is unmarked or marked. Module 0 ran last
 -- at one of those ticks, or at none so far. And the flow is unmarked, and module 0 ran at the very last of
--- these ticks, exactly where all eight modules ran at each tick since the last answer (`whole`).
+-- these ticks, exactly if all eight modules ran at each tick since the last answer (`whole`).
 pub record IsSteady (made : ℕ) (whole : Bool) (words : Words) : Type 0 where
   pub token : words.token ≡ 0
   pub flow : (words.flow ≡ 0x00ff) ⊎ (words.flow ≡ 0x80ff)

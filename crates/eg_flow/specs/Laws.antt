@@ -17,7 +17,7 @@ at_react d words = after_modules d REACT words
 
 -- ---- the token ----
 
--- The token, 0 before the tick, is whole as react closes exactly where all modules before react ran. So a
+-- The token, 0 before the tick, is whole as react closes exactly if all modules before react ran. So a
 -- token that went wrong at one module stays wrong until react.
 abbrev pub TokenTells : Type 0
 TokenTells = (d : Doing) (words : Words) → d.differs ≡ false → words.token ≡ 0 →
@@ -64,14 +64,14 @@ TwoFlows = (d : Doing) (words : Words) → IsFlow words.flow →
 -- ---- the fold ----
 
 -- where all eight modules run and at most one of them is disturbed, the fold is that of the row that is
--- asked exactly where none of them is disturbed, also where a trip stands
+-- asked exactly if none of them is disturbed, also where a trip stands
 abbrev pub FoldTells : Type 0
 FoldTells = (d : Doing) (words : Words) → AllRun d.ran → d.differs ≡ false → FitsWords d.rules (row_asked d) →
     AtMostOneIsDisturbed d.disturbance → ((at_react d words).sign == expected_fold d) ≡ is_undisturbed d
 
 -- ---- the number that is sent ----
 
--- the number is the expected one exactly where the flow is unmarked and the fold is that of the row
+-- the number is the expected one exactly if the flow is unmarked and the fold is that of the row
 abbrev pub NumberTells : Type 0
 NumberTells = (d : Doing) (words : Words) → FitsWords d.rules (row_asked d) → words.sign < 2 ^ 16 →
     (number_of words == expected_number d) ≡ (closed_flow words == 0x00ff && words.sign == expected_fold d)
@@ -82,7 +82,7 @@ SteadyStays = (d : Doing) (words : Words) (whole : Bool) → d.tick < 65535 → 
     AllRun d.ran ⊎ NoneRuns d.ran → IsSteady d.tick whole words →
     IsSteady (suc d.tick) (whole_after d words whole) (after_tick d words)
 
--- From steady words on, a tick at which all eight modules run has the expected number exactly where all
+-- From steady words on, a tick at which all eight modules run has the expected number exactly if all
 -- eight ran at each tick since the last answer and none is disturbed now.
 abbrev pub SteadyAnswers : Type 0
 SteadyAnswers = (d : Doing) (words : Words) (whole : Bool) → d.differs ≡ false → AllRun d.ran →

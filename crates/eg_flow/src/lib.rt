@@ -4,14 +4,14 @@
 //! A tick is the eight modules of level 2 one after another (`specs/Ticks.antt`). Where at each tick all
 //! eight run or none does, three words tell between two ticks whether all eight ran at each tick since the
 //! last answer (`specs/Flow.antt`, `IsSteady`). The number that is sent is then the expected one exactly
-//! where they did and none is disturbed now.
+//! if they did and none is disturbed now.
 #![tactic(auto)]
 
 ghost use Rattle.eg_flow.specs.Laws.{TokenTells, ReactClears, WholeTick, EmptyTick, MarkStays, TwoFlows, FoldTells};
 ghost use Rattle.eg_flow.specs.Laws.{NumberTells, SteadyStays, SteadyAnswers, GapAnswers, SteadyFromStart};
 
 /// Does nothing when it runs. Its contract is two laws of the token, which is 0 as a tick begins
-/// (docs/CONCEPT.md, "Questions and answers"). It is 255 as react closes exactly where all seven modules
+/// (docs/CONCEPT.md, "Questions and answers"). It is 255 as react closes exactly if all seven modules
 /// before react ran, so that a token that went wrong stays wrong until then. And react clears it.
 #[tactic(auto, using(crate::proofs::TickSteps::token_tells, crate::proofs::FlowSteps::react_clears))]
 pub fn tokens_tell_gaps()
@@ -32,7 +32,7 @@ pub fn flows_tell_gaps()
 {}
 
 /// Does nothing when it runs. Its contract is a law: where all eight modules run, no word differs from its
-/// complement, and at most one module is disturbed, the fold is that of the row that is asked exactly where
+/// complement, and at most one module is disturbed, the fold is that of the row that is asked exactly if
 /// none of them is disturbed, also where a trip stands (docs/CONCEPT.md, "Questions and answers").
 #[tactic(auto, using(crate::proofs::FoldSteps::fold_tells))]
 pub fn folds_tell_disturbances()
@@ -40,7 +40,7 @@ pub fn folds_tell_disturbances()
 {}
 
 /// Does nothing when it runs. Its contract is a law: the number that is sent is the expected one exactly
-/// where the flow is 255 and the fold is that of the row (docs/CONCEPT.md, "Questions and answers").
+/// if the flow is 255 and the fold is that of the row (docs/CONCEPT.md, "Questions and answers").
 #[tactic(auto, using(crate::proofs::SteadyLemmas::number_tells))]
 pub fn numbers_tell_both()
     ensures { NumberTells }
@@ -57,7 +57,7 @@ pub fn words_stay_steady()
 
 /// Does nothing when it runs. Its contract is two laws of answers (docs/CONCEPT.md, "Questions and
 /// answers"). From steady words on, a tick at which all eight modules run has the expected number exactly
-/// where all eight ran at each tick since the last answer and none is disturbed. A tick that one module
+/// if all eight ran at each tick since the last answer and none is disturbed. A tick that one module
 /// before react is left out of has another number.
 #[tactic(auto, using(crate::proofs::SteadyLemmas::steady_answers))]
 pub fn answers_tell_gaps()

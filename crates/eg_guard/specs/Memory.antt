@@ -22,7 +22,7 @@ SameOutside is_inside old new =
     (address : ℕ) → is_inside (region_of address) ≡ false → slice_index new address ≡ slice_index old address
 
 -- What a call over a guarded memory keeps, whatever it answers. Over a sure memory it is done; the memory is
--- sure exactly where it was before; and 4,096 words of 16 bits stay 4,096 words of 16 bits.
+-- sure exactly if it was before; and 4,096 words of 16 bits stay 4,096 words of 16 bits.
 pub record KeepsMemory {T E : Type 0} (old new : ShownMemory) (result : Result T E) : Type 0 where
   pub sure : IsTrue old.sure → IsOk result
   pub stays_sure : new.sure ≡ old.sure

@@ -26,7 +26,7 @@ pub trait Guarded {
     /// The words, and whether the memory is sure.
     ghost shows: { Self → ShownMemory };
 
-    /// The word at that address. Refused exactly where the memory map allows no load there.
+    /// The word at that address. Refused exactly if the memory map allows no load there.
     fn load(&self, who: Who, address: u16) -> Result<u16, Refused>
         ensures allowed { IsOk result ↔ IsTrue (Regions.access who address).load }
         ensures word { IfOk result (λ word. word ≡ slice_index (shows self.now).words address) }
@@ -38,7 +38,7 @@ pub trait Guarded {
             ((shows self.new).words ≡ slice_set (shows self.old).words address word) }
         ensures unchanged { OnErr result (shows self.new ≡ shows self.old) }
 
-        // Refused exactly where the memory map allows no store there.
+        // Refused exactly if the memory map allows no store there.
         ensures refused { IsErrOf result StoreRefused ↔ IsFalse (Regions.access who address).store }
         ensures allowed { OnOk result (IsTrue (Regions.access who address).store) }
 

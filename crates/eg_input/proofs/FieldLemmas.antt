@@ -38,7 +38,7 @@ is_found got name = option_eq (λ x y. bytes_eq x.now y.now) got (Some name)
 abbrev is_same_from : ℕ → Record → List (Bor (List ℕ)) → Bool
 is_same_from i fields names = is_same_record (drop i fields) (map (λ name. name.now) (drop i names))
 
--- the fields from a place on are the same exactly where the field at the place is, and those after it are
+-- the fields from a place on are the same exactly if the field at the place is, and those after it are
 is_same_from-step : (i : ℕ) (fields : Record) (names : List (Bor (List ℕ))) (d : Bor (List ℕ)) (got : Option (Bor (List ℕ))) → length fields ≡ length names
     → i < length names → option_map (λ s. s.now) got ≡ field_at fields i → is_same_from i fields names ≡ (is_found got (get_or names i d) && is_same_from (suc i) fields names)
 unfolding is_same_record field_at
@@ -59,7 +59,7 @@ is_same_record-other i fields names d got long below at other =
     known true c e = absurd cc
     known false c e = refl
 
--- where the field at a place is the same, the records are the same from there on exactly where they are behind it
+-- where the field at a place is the same, the records are the same from there on exactly if they are behind it
 pub is_same_record-more : (i : ℕ) (fields : Record) (names : List (Bor (List ℕ))) (d : Bor (List ℕ)) (got : Option (Bor (List ℕ))) → length fields ≡ length names
     → i < length names → option_map (λ s. s.now) got ≡ field_at fields i → not (is_found got (get_or names i d)) ≡ false
     → is_same_record (drop (i + 1) fields) (map (λ name. name.now) (drop (i + 1) names)) ≡ is_same_record (drop i fields) (map (λ name. name.now) (drop i names))

@@ -1,4 +1,4 @@
--- What `rows_of` says, in the words of the file: it answers each of its answers exactly where that answer's words hold.
+-- What `file_rows` says, in the words of the file: it answers each of its answers exactly if that answer's words hold.
 use Rattle.std.proofs.Common.{◌≡◌, ◌≢◌, ◌∙◌, sym, ap, refl, subst, ℕ, ◌+◌, ◌<◌, ◌≤◌, List, [], ◌∷◌, ◌++◌, length, take, Bool, true, false, arith, Some, Ok, Err, ◌⊎◌, inl, inr, length-append, append_assoc, drop, get_or, zero, suc}
 use Rattle.std.specs.Prelude.{Result, All, Any, Contains, IfOk, is_none, slice_get, filter_map, if◌then◌else◌, ◌↔◌}
 use Rattle.std.specs.List.{AllZip}
@@ -10,7 +10,7 @@ use Rattle.std.proofs.lemmas.Bool.{cases_lt}
 use Rattle.std.proofs.lemmas.List.{take_all, length-take, take-append-drop, get_or_default}
 use Rattle.std.proofs.lemmas.List.Folds.{Any-from_list_any, list_any-from_Any}
 use Rattle.eg_input.specs.Records.{Record, RowRule, is_same_record}
-use Rattle.eg_input.specs.Rows.{is_header, rows_below, rows_of, IsRead, IsFileOf, HasNoRowAt, IsTooLong}
+use Rattle.eg_input.specs.Rows.{is_header, rows_below, file_rows, IsRead, IsFileOf, HasNoRowAt, IsTooLong}
 use Rattle.eg_input.specs.declared.fault.TraceFault.{TraceFault}
 use Rattle.eg_input.specs.declared.fault.TraceFault.TheVariants as fault
 use Rattle.eg_input.proofs.FieldLemmas.{is_same_record-Decides}
@@ -28,10 +28,10 @@ unfolding is_header
 any-known headers header h = list_any-from_Any (is_same_record header) headers (h.0, header, h.1, h.2, (is_same_record-Decides header header).1 refl)
 
 -- a file that begins with a header is read by what stands below that
-rows_of-known : {X : Type 0} (headers : List Record) (row_of : ℕ → RowRule X) (header : Record) (below : List Record) → is_header headers header ≡ true
-    → rows_of headers row_of (header ∷ below) ≡ rows_below 20000 (row_of (length header)) below
-unfolding rows_of
-rows_of-known headers row_of header below known = rw known refl
+file_rows-known : {X : Type 0} (headers : List Record) (row_of : ℕ → RowRule X) (header : Record) (below : List Record) → is_header headers header ≡ true
+    → file_rows headers row_of (header ∷ below) ≡ rows_below 20000 (row_of (length header)) below
+unfolding file_rows
+file_rows-known headers row_of header below known = rw known refl
 
 -- what such a file is
 abbrev OfRows : {X : Type 0} → List Record → (ℕ → RowRule X) → List Record → List X → Type 0
@@ -51,8 +51,8 @@ OfEmpty headers file = Any (λ header. file ≡ header ∷ []) headers
 
 -- the answer that each kind of file gets
 header-then : {X : Type 0} (headers : List Record) (row_of : ℕ → RowRule X) (file : List Record) → OfHeader headers file
-    → rows_of headers row_of file ≡ Err fault.Header
-unfolding rows_of
+    → file_rows headers row_of file ≡ Err fault.Header
+unfolding file_rows
 header-then headers row_of [] h = refl
 header-then headers row_of (first ∷ below) h = at (is_header headers first) refl
   where
@@ -63,31 +63,31 @@ header-then headers row_of (first ∷ below) h = at (is_header headers first) re
     at false other = refl
 
 empty-then : {X : Type 0} (headers : List Record) (row_of : ℕ → RowRule X) (file : List Record) → OfEmpty headers file
-    → rows_of headers row_of file ≡ Err fault.Empty
+    → file_rows headers row_of file ≡ Err fault.Empty
 empty-then headers row_of file a =
-    rw a.4 (rows_of-known headers row_of a.1 [] (any-known headers a.1 (a.0, a.2, a.3)) ∙ below-empty 20000 (row_of (length a.1)))
+    rw a.4 (file_rows-known headers row_of a.1 [] (any-known headers a.1 (a.0, a.2, a.3)) ∙ below-empty 20000 (row_of (length a.1)))
 
 rows-then : {X : Type 0} (headers : List Record) (row_of : ℕ → RowRule X) (file : List Record) (rows : List X) → OfRows headers row_of file rows
-    → rows_of headers row_of file ≡ Ok rows
+    → file_rows headers row_of file ≡ Ok rows
 rows-then headers row_of file rows a =
     let h = a.4 in
     let written = filter_map-written (row_of (length a.1)) h.below rows h.written in
-    rw h.parts (rows_of-known headers row_of a.1 h.below (any-known headers a.1 (a.0, a.2, a.3)) ∙ below-rows 20000 (row_of (length a.1)) h.below h.some h.most written.1
+    rw h.parts (file_rows-known headers row_of a.1 h.below (any-known headers a.1 (a.0, a.2, a.3)) ∙ below-rows 20000 (row_of (length a.1)) h.below h.some h.most written.1
     ∙ ap (λ (rs : List _). Ok rs) written.0)
 
 row-then : {X : Type 0} (headers : List Record) (row_of : ℕ → RowRule X) (file : List Record) (number : ℕ) → OfRow headers row_of file number
-    → rows_of headers row_of file ≡ Err (fault.Row number)
+    → file_rows headers row_of file ≡ Err (fault.Row number)
 row-then headers row_of file number a =
     let h = a.4 in
     let room : length h.good < 20000 = (let at = h.at in let w = h.within in omega arith) in
-    rw (h.parts, h.at) (rows_of-known headers row_of a.1 (h.good ++ h.bad ∷ h.rest) (any-known headers a.1 (a.0, a.2, a.3))
+    rw (h.parts, h.at) (file_rows-known headers row_of a.1 (h.good ++ h.bad ∷ h.rest) (any-known headers a.1 (a.0, a.2, a.3))
     ∙ below-bad 20000 (row_of (length a.1)) h.good h.bad h.rest room (clean-from_writes (row_of (length a.1)) h.good h.before) h.here)
 
 long-then : {X : Type 0} (headers : List Record) (row_of : ℕ → RowRule X) (file : List Record) → OfLong headers row_of file
-    → rows_of headers row_of file ≡ Err fault.Long
+    → file_rows headers row_of file ≡ Err fault.Long
 long-then headers row_of file a =
     let h = a.4 in
-    rw h.parts (rows_of-known headers row_of a.1 h.below (any-known headers a.1 (a.0, a.2, a.3))
+    rw h.parts (file_rows-known headers row_of a.1 h.below (any-known headers a.1 (a.0, a.2, a.3))
     ∙ below-long 20000 (row_of (length a.1)) h.below h.more (clean-from_writes (row_of (length a.1)) (take 20000 h.below) h.before))
 
 -- the five kinds of file
@@ -157,7 +157,7 @@ kind headers row_of (first ∷ below) = at (is_header headers first) refl
 
 -- the rows come exactly of a file of these rows
 rows-if : {X : Type 0} (headers : List Record) (row_of : ℕ → RowRule X) (file : List Record) (rows : List X) → Kind headers row_of file
-    → rows_of headers row_of file ≡ Ok rows → OfRows headers row_of file rows
+    → file_rows headers row_of file ≡ Ok rows → OfRows headers row_of file rows
 rows-if headers row_of file rows (of_rows others h) e =
     let v = rows-then headers row_of file others h in
     let same : others ≡ rows = cc in
@@ -169,12 +169,12 @@ rows-if headers row_of file rows (of_empty h) e = let v = empty-then headers row
 rows-if headers row_of file rows (of_long h) e = let v = long-then headers row_of file h in absurd cc
 
 pub rows-law : {X : Type 0} (headers : List Record) (row_of : ℕ → RowRule X) (file : List Record) (rows : List X)
-    → (rows_of headers row_of file ≡ Ok rows) ↔ OfRows headers row_of file rows
+    → (file_rows headers row_of file ≡ Ok rows) ↔ OfRows headers row_of file rows
 rows-law headers row_of file rows = (rows-if headers row_of file rows (kind headers row_of file), rows-then headers row_of file rows)
 
 -- the fault Header comes exactly of a file that begins with none of the headers
 header-if : {X : Type 0} (headers : List Record) (row_of : ℕ → RowRule X) (file : List Record) → Kind headers row_of file
-    → rows_of headers row_of file ≡ Err fault.Header → OfHeader headers file
+    → file_rows headers row_of file ≡ Err fault.Header → OfHeader headers file
 header-if headers row_of file (of_rows rows h) e = let v = rows-then headers row_of file rows h in absurd cc
 header-if headers row_of file (of_header h) e = h
 header-if headers row_of file (of_row number h) e = let v = row-then headers row_of file number h in absurd cc
@@ -182,12 +182,12 @@ header-if headers row_of file (of_empty h) e = let v = empty-then headers row_of
 header-if headers row_of file (of_long h) e = let v = long-then headers row_of file h in absurd cc
 
 pub header-law : {X : Type 0} (headers : List Record) (row_of : ℕ → RowRule X) (file : List Record)
-    → (rows_of headers row_of file ≡ Err fault.Header) ↔ OfHeader headers file
+    → (file_rows headers row_of file ≡ Err fault.Header) ↔ OfHeader headers file
 header-law headers row_of file = (header-if headers row_of file (kind headers row_of file), header-then headers row_of file)
 
--- the fault Row comes exactly where this is the place of the first record that writes no row
+-- the fault Row comes exactly if this is the place of the first record that writes no row
 row-if : {X : Type 0} (headers : List Record) (row_of : ℕ → RowRule X) (file : List Record) (number : ℕ) → Kind headers row_of file
-    → rows_of headers row_of file ≡ Err (fault.Row number)
+    → file_rows headers row_of file ≡ Err (fault.Row number)
     → OfRow headers row_of file number
 row-if headers row_of file number (of_rows rows h) e = let v = rows-then headers row_of file rows h in absurd cc
 row-if headers row_of file number (of_header h) e = let v = header-then headers row_of file h in absurd cc
@@ -200,12 +200,12 @@ row-if headers row_of file number (of_empty h) e = let v = empty-then headers ro
 row-if headers row_of file number (of_long h) e = let v = long-then headers row_of file h in absurd cc
 
 pub row-law : {X : Type 0} (headers : List Record) (row_of : ℕ → RowRule X) (file : List Record) (number : ℕ)
-    → (rows_of headers row_of file ≡ Err (fault.Row number)) ↔ OfRow headers row_of file number
+    → (file_rows headers row_of file ≡ Err (fault.Row number)) ↔ OfRow headers row_of file number
 row-law headers row_of file number = (row-if headers row_of file number (kind headers row_of file), row-then headers row_of file number)
 
 -- the fault Empty comes exactly of a header alone
 empty-if : {X : Type 0} (headers : List Record) (row_of : ℕ → RowRule X) (file : List Record) → Kind headers row_of file
-    → rows_of headers row_of file ≡ Err fault.Empty → OfEmpty headers file
+    → file_rows headers row_of file ≡ Err fault.Empty → OfEmpty headers file
 empty-if headers row_of file (of_rows rows h) e = let v = rows-then headers row_of file rows h in absurd cc
 empty-if headers row_of file (of_header h) e = let v = header-then headers row_of file h in absurd cc
 empty-if headers row_of file (of_row number h) e = let v = row-then headers row_of file number h in absurd cc
@@ -213,12 +213,12 @@ empty-if headers row_of file (of_empty h) e = h
 empty-if headers row_of file (of_long h) e = let v = long-then headers row_of file h in absurd cc
 
 pub empty-law : {X : Type 0} (headers : List Record) (row_of : ℕ → RowRule X) (file : List Record)
-    → (rows_of headers row_of file ≡ Err fault.Empty) ↔ OfEmpty headers file
+    → (file_rows headers row_of file ≡ Err fault.Empty) ↔ OfEmpty headers file
 empty-law headers row_of file = (empty-if headers row_of file (kind headers row_of file), empty-then headers row_of file)
 
 -- the fault Long comes exactly of a file that is too long and good up to there
 long-if : {X : Type 0} (headers : List Record) (row_of : ℕ → RowRule X) (file : List Record) → Kind headers row_of file
-    → rows_of headers row_of file ≡ Err fault.Long → OfLong headers row_of file
+    → file_rows headers row_of file ≡ Err fault.Long → OfLong headers row_of file
 long-if headers row_of file (of_rows rows h) e = let v = rows-then headers row_of file rows h in absurd cc
 long-if headers row_of file (of_header h) e = let v = header-then headers row_of file h in absurd cc
 long-if headers row_of file (of_row number h) e = let v = row-then headers row_of file number h in absurd cc
@@ -226,19 +226,19 @@ long-if headers row_of file (of_empty h) e = let v = empty-then headers row_of f
 long-if headers row_of file (of_long h) e = h
 
 pub long-law : {X : Type 0} (headers : List Record) (row_of : ℕ → RowRule X) (file : List Record)
-    → (rows_of headers row_of file ≡ Err fault.Long) ↔ OfLong headers row_of file
+    → (file_rows headers row_of file ≡ Err fault.Long) ↔ OfLong headers row_of file
 long-law headers row_of file = (long-if headers row_of file (kind headers row_of file), long-then headers row_of file)
 
 -- no file gives the fault Memory
 no_memory-if : {X : Type 0} (headers : List Record) (row_of : ℕ → RowRule X) (file : List Record) → Kind headers row_of file
-    → rows_of headers row_of file ≢ Err fault.Memory
+    → file_rows headers row_of file ≢ Err fault.Memory
 no_memory-if headers row_of file (of_rows rows h) e = let v = rows-then headers row_of file rows h in absurd cc
 no_memory-if headers row_of file (of_header h) e = let v = header-then headers row_of file h in absurd cc
 no_memory-if headers row_of file (of_row number h) e = let v = row-then headers row_of file number h in absurd cc
 no_memory-if headers row_of file (of_empty h) e = let v = empty-then headers row_of file h in absurd cc
 no_memory-if headers row_of file (of_long h) e = let v = long-then headers row_of file h in absurd cc
 
-pub memory-law : {X : Type 0} (headers : List Record) (row_of : ℕ → RowRule X) (file : List Record) → rows_of headers row_of file ≢ Err fault.Memory
+pub memory-law : {X : Type 0} (headers : List Record) (row_of : ℕ → RowRule X) (file : List Record) → file_rows headers row_of file ≢ Err fault.Memory
 memory-law headers row_of file = no_memory-if headers row_of file (kind headers row_of file)
 
 -- rows of records that write only rows with a property have it
@@ -252,7 +252,7 @@ AllZip-All row_of P each (r ∷ rs) (row ∷ rows) h = All-cons P row rows (each
 -- where all rows that records write have a property, so have the rows that were read
 pub read-All : {X : Type 0} (headers : List Record) (row_of : ℕ → RowRule X) (P : X → Type 0) → ((width : ℕ) (r : Record) (row : X) → row_of width r ≡ Some row → P row)
     → (file : List Record)
-    (result : Result (Vec X Global) TraceFault) → IsRead (rows_of headers row_of file) result → IfOk result (λ rows. All P rows.items)
+    (result : Result (Vec X Global) TraceFault) → IsRead (file_rows headers row_of file) result → IfOk result (λ rows. All P rows.items)
 read-All headers row_of P each file (Ok rows) is =
     let a = (rows-law headers row_of file rows.items).0 is in
     AllZip-All (row_of (length a.1)) P (each (length a.1)) a.4.below rows.items a.4.written
@@ -260,7 +260,7 @@ read-All headers row_of P each file (Err e) is = tt
 
 -- and there are 1 to 20,000 of them
 pub read-some : {X : Type 0} (headers : List Record) (row_of : ℕ → RowRule X) (file : List Record) (result : Result (Vec X Global) TraceFault)
-    → IsRead (rows_of headers row_of file) result → IfOk result (λ rows. (1 ≤ length rows.items) × (length rows.items ≤ 20000))
+    → IsRead (file_rows headers row_of file) result → IfOk result (λ rows. (1 ≤ length rows.items) × (length rows.items ≤ 20000))
 read-some headers row_of file (Ok rows) is =
     let a = (rows-law headers row_of file rows.items).0 is in
     let h = a.4 in

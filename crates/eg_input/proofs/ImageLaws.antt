@@ -1,4 +1,4 @@
--- What `image_words` says, in the bytes of the file: it answers each of its answers exactly where that answer's words hold.
+-- What `image_words` says, in the bytes of the file: it answers each of its answers exactly if that answer's words hold.
 use Rattle.std.proofs.Common.{◌≡◌, ◌≢◌, ◌∙◌, sym, ap, refl, subst, ℕ, ◌+◌, ◌<◌, ◌≤◌, List, [], ◌∷◌, ◌++◌, length, take, drop, false, arith, Option, Some, None, Ok, Err, ◌⊎◌, inl, inr, append-nil, append_assoc, length-append}
 use Rattle.std.specs.Prelude.{All, is_none, filter_map, ◌↔◌}
 use Rattle.std.specs.List.{AllZip, concat}
@@ -198,7 +198,7 @@ words-if file words (of_long h) e = let v = long-then file h in absurd cc
 pub words-law : (file words : List ℕ) → (image_words file ≡ Ok words) ↔ IsImageOf file words
 words-law file words = (words-if file words (kind file), words-then file words)
 
--- the fault Line comes exactly where this is the place of the first line that writes no word
+-- the fault Line comes exactly if this is the place of the first line that writes no word
 line-if : (file : List ℕ) (number : ℕ) → ImageKind file → image_words file ≡ Err (fault.Line number) → HasBadLineAt file number
 line-if file number (of_words words h) e = let v = words-then file words h in absurd cc
 line-if file number (of_line other h) e =

@@ -20,7 +20,7 @@ use Rattle.std.specs.declared.vec.Vec.{Vec}
 use Rattle.std.specs.declared.alloc.Global.{Global}
 use Rattle.std.specs.Prelude.{Result}
 use Rattle.eg_input.specs.Records.{Record, RowRule, records_of, is_same_record}
-use Rattle.eg_input.specs.Rows.{IsRead, is_header, rows_below, rows_of}
+use Rattle.eg_input.specs.Rows.{IsRead, is_header, rows_below, file_rows}
 use Rattle.eg_input.specs.declared.fault.TraceFault.{TraceFault}
 use Rattle.eg_input.specs.Fields.{decimal_value, number_of, number_at, truth_of, truth_at}
 use Rattle.eg_input.specs.DriveTrace.{drive_from, drive_at, drive_of, trace_headers}
@@ -251,6 +251,6 @@ no-records = records_after-none st.StartRecord [] refl
 
 -- below the header stand the records of the rest
 pub below-header : {X : Type 0} (headers : List Record) (row_of : ℕ → RowRule X) (text : List ℕ) (width : ℕ) (rest : List ℕ) (read : Result (Vec X Global) TraceFault)
-    → BeginsWithHeader headers text width rest → IsRead (rows_below 20000 (row_of width) (records_below rest)) read → IsRead (rows_of headers row_of (records_of text)) read
-unfolding rows_of
+    → BeginsWithHeader headers text width rest → IsRead (rows_below 20000 (row_of width) (records_below rest)) read → IsRead (file_rows headers row_of (records_of text)) read
+unfolding file_rows
 below-header headers row_of text width rest read b h = rw (b.parts, b.known, b.long) h

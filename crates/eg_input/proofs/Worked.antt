@@ -6,7 +6,7 @@ use Rattle.csv.specs.Reading.{records_from, strip_bom}
 use Rattle.csv.specs.Records.{field_at}
 use Rattle.eg_num.specs.Drive.{DriveRow, driven}
 use Rattle.eg_input.specs.Records.{records_of, is_same_record}
-use Rattle.eg_input.specs.Rows.{is_header, rows_of, rows_below, rows_unless}
+use Rattle.eg_input.specs.Rows.{is_header, file_rows, rows_below, rows_unless}
 use Rattle.eg_input.specs.Fields.{decimal_value, number_of, number_at, truth_of, truth_at}
 use Rattle.eg_input.specs.DriveTrace.{trace_headers, drive_from, drive_at, drive_of, drive_rows}
 use Rattle.eg_input.specs.declared.fault.TraceFault.{TraceFault}
@@ -14,7 +14,7 @@ use Rattle.eg_input.specs.declared.fault.TraceFault.TheVariants as fault
 
 -- every definition of reading a trace
 unfoldable reading : ℕ
-unfolding next_record records_from strip_bom field_at records_of is_same_record is_header rows_of rows_below rows_unless decimal_value number_of number_at truth_of truth_at trace_headers drive_from drive_at drive_of
+unfolding next_record records_from strip_bom field_at records_of is_same_record is_header file_rows rows_below rows_unless decimal_value number_of number_at truth_of truth_at trace_headers drive_from drive_at drive_of
 reading = 0
 
 abbrev rows_in : List ℕ → Result (List DriveRow) TraceFault

@@ -6,7 +6,7 @@ use Rattle.eg_num.specs.Drive.{DriveRow, IsDrive}
 use Rattle.eg_input.specs.Records.{Record}
 use Rattle.eg_input.specs.Fields.{number_at}
 use Rattle.eg_input.specs.DriveTrace.{drive_at}
-use Rattle.eg_input.specs.Rows.{rows_of}
+use Rattle.eg_input.specs.Rows.{file_rows}
 use Rattle.eg_input.specs.declared.fault.TraceFault.{TraceFault}
 
 -- a drive row, and a torque in tenths of Nm
@@ -30,4 +30,4 @@ check_row_of fields =
 
 -- the rows of a check file, or its fault
 abbrev pub check_rows : List Record → Result (List CheckRow) TraceFault
-check_rows = rows_of (check_header ∷ []) (λ _. check_row_of)
+check_rows = file_rows (check_header ∷ []) (λ _. check_row_of)

@@ -4,7 +4,7 @@ use Rattle.std.specs.Prelude.{ℕ, ◌==◌, List, [], ◌∷◌, length, codes,
 use Rattle.eg_num.specs.Drive.{DriveRow}
 use Rattle.eg_input.specs.Records.{Record}
 use Rattle.eg_input.specs.Fields.{number_at, truth_at}
-use Rattle.eg_input.specs.Rows.{rows_of}
+use Rattle.eg_input.specs.Rows.{file_rows}
 use Rattle.eg_input.specs.declared.fault.TraceFault.{TraceFault}
 
 -- the three headers, of three lengths: a drive trace begins with one of them
@@ -34,4 +34,4 @@ drive_of width fields =
 
 -- the rows of a drive trace, or its fault
 abbrev pub drive_rows : List Record → Result (List DriveRow) TraceFault
-drive_rows = rows_of trace_headers drive_of
+drive_rows = file_rows trace_headers drive_of

@@ -45,13 +45,13 @@ words_unless most lines None =
     if nat_lt most (length lines) then Err fault.Long else Ok (filter_map word_of lines)
 
 -- what the lines of a file that may have `most` of them give; the first line has the number 1
-unfoldable pub words_of : ℕ → List Line → Result (List ℕ) ImageFault
-words_of most lines =
+unfoldable pub line_words : ℕ → List Line → Result (List ℕ) ImageFault
+line_words most lines =
     words_unless most lines (position_from (λ line. is_none (word_of line)) 1 (take most lines))
 
 -- what a file of up to 1,024 words gives
 abbrev pub image_words : List ℕ → Result (List ℕ) ImageFault
-image_words file = words_of MOST_WORDS (lines_of file)
+image_words file = line_words MOST_WORDS (lines_of file)
 
 -- what was read is what the file gives, unless memory ran out
 abbrev pub IsImageRead : Result (List ℕ) ImageFault → Result (Vec ℕ Global) ImageFault → Type 0

@@ -1,5 +1,5 @@
 -- A file of rows has one of its headers and below it 1 to 20,000 records that each write a row; of any other
--- file the first fault is told. `rows_of` says what a file is read as, whatever headers it may have and
+-- file the first fault is told. `file_rows` says what a file is read as, whatever headers it may have and
 -- whatever a record writes. `IsFileOf`, `HasNoRowAt` and `IsTooLong` say in the file's words which are
 -- accepted, and which have which fault.
 use Rattle.std.specs.Prelude.{◌≡◌, ◌⊎◌, ℕ, ◌+◌, ◌<◌, ◌≤◌, List, [], ◌∷◌, ◌++◌, length, take, Bool, All, Option, Some, None, IsSome, is_none, if◌then◌else◌, nat_lt, Result, Ok, Err, filter_map}
@@ -30,10 +30,10 @@ is_header headers r = list_any (is_same_record r) headers
 
 -- what a file gives that may begin with any of these headers: the header's number of fields tells how the
 -- records below it are read
-unfoldable pub rows_of : {X : Type 0} → List Record → (ℕ → RowRule X) → List Record →
+unfoldable pub file_rows : {X : Type 0} → List Record → (ℕ → RowRule X) → List Record →
     Result (List X) TraceFault
-rows_of headers row_of [] = Err fault.Header
-rows_of headers row_of (first ∷ below) =
+file_rows headers row_of [] = Err fault.Header
+file_rows headers row_of (first ∷ below) =
     if is_header headers first then rows_below 20000 (row_of (length first)) below else Err fault.Header
 
 -- what was read is what the file gives, unless memory ran out

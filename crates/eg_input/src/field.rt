@@ -9,7 +9,7 @@ use csv::ByteRecord;
 
 /// The number that one to five decimal digits write, where it is at most `most`.
 #[tactic(auto, unfolding(crate::specs::Fields::number_of))]
-fn number(field: &[u8], most: u16) -> Option<u16>
+fn field_number(field: &[u8], most: u16) -> Option<u16>
     ensures { result ≡ number_of most field.now }
 {
     let value = decimal_in(field, 5)?;
@@ -25,7 +25,7 @@ fn number(field: &[u8], most: u16) -> Option<u16>
 pub(crate) fn number_at(entry: &ByteRecord, i: usize, most: u16) -> Option<u16>
     ensures { result ≡ number_at (fields_of entry.now) i most }
 {
-    number(entry.get(i)?, most)
+    field_number(entry.get(i)?, most)
 }
 
 /// The truth value that a field writes.

@@ -45,8 +45,8 @@ fn word_of(line: &[u8]) -> Option<u16>
 }
 
 /// Does nothing when it runs. Its clauses are laws of what `image_words` says of an image (docs/FORMATS.md,
-/// "Images"): it gives the words exactly where the file is the lines that write them, and each fault exactly
-/// where the file has it. An image has at most 1,024 words.
+/// "Images"): it gives the words exactly if the file is the lines that write them, and each fault exactly
+/// if the file has it. An image has at most 1,024 words.
 pub fn images_are_their_lines()
     ensures words { (file : List ℕ) (words : List ℕ) → (image_words file ≡ Ok words) ↔ IsImageOf file words }
     ensures line { (file : List ℕ) (number : ℕ) →

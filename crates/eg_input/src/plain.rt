@@ -1,7 +1,7 @@
 // Plain files of rows, as nearly all are: the header's line, and lines of numbers below it.
 ghost use Rattle.std.specs.Prelude.{IfSome};
 ghost use Rattle.eg_input.specs.Records.{records_of};
-ghost use Rattle.eg_input.specs.Rows.{IsRead, rows_below, rows_of};
+ghost use Rattle.eg_input.specs.Rows.{IsRead, rows_below, file_rows};
 ghost use Rattle.eg_input.specs.Plain.{BeginsWithDrive, BeginsWithNumber, BeginsWithTruth, records_below};
 
 use crate::TraceFault;
@@ -15,7 +15,7 @@ pub(crate) fn read_plain<R: FileRow>(
     alloc: Global,
     bytes: &[u8],
 ) -> Option<Result<Vec<R>, TraceFault>>
-    ensures { IfSome result (λ read. IsRead (rows_of R.headers R.row_of (records_of bytes.now)) read) }
+    ensures { IfSome result (λ read. IsRead (file_rows R.headers R.row_of (records_of bytes.now)) read) }
 {
     let (width, below) = R::below_header(bytes)?;
     read_lines(alloc, width, below)
@@ -58,9 +58,9 @@ fn read_lines<R: FileRow>(
 pub(crate) fn drive_numbers(bytes: &[u8], ending: u8) -> Option<((u16, u16, u16), &[u8])>
     ensures { IfSome result (λ found. BeginsWithDrive ending bytes.now found.0 found.1.now) }
 {
-    let (pedal, rest) = number(bytes, 1000, b',')?;
-    let (speed, rest) = number(rest, 8000, b',')?;
-    let (raise, rest) = number(rest, 10_000, ending)?;
+    let (pedal, rest) = leading_number(bytes, 1000, b',')?;
+    let (speed, rest) = leading_number(rest, 8000, b',')?;
+    let (raise, rest) = leading_number(rest, 10_000, ending)?;
     Some(((pedal, speed, raise), rest))
 }
 
@@ -79,7 +79,7 @@ pub(crate) fn truth(bytes: &[u8], ending: u8) -> Option<(bool, &[u8])>
 /// The number that one to five digits at the front write, and what comes behind the byte that ends them. None
 /// says nothing of the bytes. It comes at least where another byte ends the digits, and where the number is
 /// above `most`. One pass reads the digits and finds their end, where `decimal_in` would need the end first.
-pub(crate) fn number(bytes: &[u8], most: u16, ending: u8) -> Option<(u16, &[u8])>
+pub(crate) fn leading_number(bytes: &[u8], most: u16, ending: u8) -> Option<(u16, &[u8])>
     ensures { IfSome result (λ found. BeginsWithNumber most ending bytes.now found.0 found.1.now) }
 {
     let mut value = 0u32;

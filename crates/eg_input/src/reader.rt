@@ -3,7 +3,7 @@ ghost use Rattle.std.specs.Prelude.{◌≡◌, ◌∷◌, [], List, length, IfOk
 ghost use Rattle.std.specs.Bool.{MatchBool};
 ghost use Rattle.csv.specs.Records.{fields_of};
 ghost use Rattle.eg_input.specs.Records.{Record, records_of};
-ghost use Rattle.eg_input.specs.Rows.{IsRead, rows_below, rows_of};
+ghost use Rattle.eg_input.specs.Rows.{IsRead, rows_below, file_rows};
 ghost use Rattle.eg_input.specs.Unread.{HasUnread};
 ghost use Rattle.eg_input.specs.declared.fault.TraceFault.TheVariants as fault;
 
@@ -18,7 +18,7 @@ pub(crate) const MOST_ROWS: u32 = 20_000;
 
 /// The rows of a file. Plain files, the usual ones, are read without csv.
 pub(crate) fn read_rows<R: FileRow>(alloc: Global, bytes: &[u8]) -> Result<Vec<R>, TraceFault>
-    ensures { IsRead (rows_of R.headers R.row_of (records_of bytes.now)) result }
+    ensures { IsRead (file_rows R.headers R.row_of (records_of bytes.now)) result }
 {
     match read_plain(alloc, bytes) {
         Some(read) => read,
@@ -28,7 +28,7 @@ pub(crate) fn read_rows<R: FileRow>(alloc: Global, bytes: &[u8]) -> Result<Vec<R
 
 /// The rows of any file.
 fn read_records<R: FileRow>(alloc: Global, bytes: &[u8]) -> Result<Vec<R>, TraceFault>
-    ensures { IsRead (rows_of R.headers R.row_of (records_of bytes.now)) result }
+    ensures { IsRead (file_rows R.headers R.row_of (records_of bytes.now)) result }
 {
     let mut reader = reader_of(alloc, bytes)?;
     let mut entry = ByteRecord::new(alloc);
@@ -70,7 +70,7 @@ fn read_file<R: FileRow>(
     entry: &mut ByteRecord,
 ) -> Result<Vec<R>, TraceFault>
     ensures { (left : List Record) → HasUnread reader.old left →
-        IsRead (rows_of R.headers R.row_of left) result }
+        IsRead (file_rows R.headers R.row_of left) result }
 {
     if !next_record(reader, entry)? {
         return Err(TraceFault::Header);

@@ -8,7 +8,7 @@ ghost use Rattle.eg_input.specs.CheckFile.{check_header, check_row_of};
 ghost use Rattle.eg_input.specs.Plain.{BeginsWithHeader, BeginsWithRow};
 
 use crate::field::{has_fields, number_at, truth_at};
-use crate::plain::{drive_numbers, number, truth};
+use crate::plain::{drive_numbers, leading_number, truth};
 use csv::ByteRecord;
 use eg_num::Drive;
 
@@ -146,7 +146,7 @@ impl FileRow for (Drive, u16) {
 
     fn from_line(bytes: &[u8], _width: usize) -> Option<((Drive, u16), &[u8])> {
         let ((pedal, speed, raise), rest) = drive_numbers(bytes, b',')?;
-        let (torque, rest) = number(rest, 65_535, b'\n')?;
+        let (torque, rest) = leading_number(rest, 65_535, b'\n')?;
         Some((
             (Drive::new(pedal, speed, raise, false, false)?, torque),
             rest,

@@ -34,8 +34,8 @@ pub fn read_trace(alloc: Global, bytes: &[u8]) -> Result<Vec<Drive>, TraceFault>
 }
 
 /// Does nothing when it runs. Its clauses are laws of what `check_rows` says of a check file
-/// (docs/FORMATS.md, "Check files and traces"): it gives the rows exactly where the file is the header and
-/// the records that write them, and each fault exactly where the file has it.
+/// (docs/FORMATS.md, "Check files and traces"): it gives the rows exactly if the file is the header and
+/// the records that write them, and each fault exactly if the file has it.
 pub fn check_files_are_their_rows()
     ensures rows { (file : List Record) (rows : List CheckRow) →
         (check_rows file ≡ Ok rows) ↔ IsFileOf check_header check_row_of file rows }
@@ -50,8 +50,8 @@ pub fn check_files_are_their_rows()
 {}
 
 /// Does nothing when it runs. Its clauses are laws of what `drive_rows` says of a drive trace
-/// (docs/FORMATS.md, "Check files and traces"): it gives the rows exactly where the file is one of the
-/// headers and, below it, the records that write them; and each fault exactly where the file has it.
+/// (docs/FORMATS.md, "Check files and traces"): it gives the rows exactly if the file is one of the
+/// headers and, below it, the records that write them; and each fault exactly if the file has it.
 pub fn traces_are_their_rows()
     ensures rows { (file : List Record) (rows : List DriveRow) → (drive_rows file ≡ Ok rows) ↔
         Any (λ header. IsFileOf header (drive_of (length header)) file rows) trace_headers }

@@ -10,7 +10,7 @@ use Rattle.eg_record.specs.Excess.{full_excess}
 use Rattle.eg_model.specs.History.{Setting, Entry, Tick, Moment, Signals}
 use Rattle.eg_model.specs.Signals.{tripped, is_limited}
 use Rattle.eg_model.specs.Detection.{fed_bits, finds, pedal_bit, plate_bit, load_bit, speed_bit, torque_bit}
-use Rattle.eg_model.specs.Paths.{latch1, latch2, path1_at, path2_at, on_at}
+use Rattle.eg_model.specs.Paths.{latch1, latch2, path1_at, path2_at, both_conduct}
 use Rattle.eg_model.specs.Moments.{moment, moments_of}
 use Rattle.eg_model.specs.Rows.{row_of}
 use Rattle.eg_model.specs.Premises.{IsProper, AreProper, Follows, is_on_after, full_excesses}
@@ -55,8 +55,8 @@ trips_alone_cut s accepted lapse start h x follows = go (tripped past) refl
     on_is : (moment s x.effects x.entry past).on ≡ (not (latch1 past) && not (latch2 past))
     on_is = moment-on s x.effects x.entry past ∙ both
       where
-        both : on_at x.effects past ≡ (not (latch1 past) && not (latch2 past))
-        both = unfold on_at path1_at path2_at in
+        both : both_conduct x.effects past ≡ (not (latch1 past) && not (latch2 past))
+        both = unfold both_conduct path1_at path2_at in
             ap₂ (λ a b. a && b) (conducts PATH_1 (latch1 past)) (conducts PATH_2 (latch2 past))
 
     go : (trip : Bool) → tripped past ≡ trip → (moment s x.effects x.entry past).on ≡ not trip
@@ -93,7 +93,7 @@ NoExcess s x h = full_excess s.cal.rules.kt s.cal.rules.threshold
     (row_of (length (moments_of s h)) (moment s x.effects x.entry (moments_of s h))) ≡ false
 
 module _ (s : Setting) (accepted : IsAccepted s.cal) (e : Entry) (h : List Tick)
-    (proper : IsProper s (on_at no_effects (moments_of s h)) e) (loads : e.shown.load_2 ≡ e.shown.load_1)
+    (proper : IsProper s (both_conduct no_effects (moments_of s h)) e) (loads : e.shown.load_2 ≡ e.shown.load_1)
     (none : NoExcess s (plain e) h) (spared : Spared s h) where
   abbrev past : List Moment
   past = moments_of s h
@@ -186,7 +186,7 @@ spares s accepted lapse start (x ∷ h) follows proper loads none =
     elim (lapse_tick s.fault lapse.lapse (start + length h)) [
       | inl quiet ↦ as_tick (λ y. Spared s (y ∷ h)) x no_effects (follows.0 ∙ quiet)
           (spared_plain s accepted x.entry h
-          (to_tick (λ y. IsProper s (on_at y.effects (moments_of s h)) y.entry) x no_effects (follows.0 ∙ quiet) proper.0)
+          (to_tick (λ y. IsProper s (both_conduct y.effects (moments_of s h)) y.entry) x no_effects (follows.0 ∙ quiet) proper.0)
           (All-head ShowsTwice x h loads)
           (to_tick (λ y. NoExcess s y h) x no_effects (follows.0 ∙ quiet) parts.0) before)
       | inr out ↦ as_tick (λ y. Spared s (y ∷ h)) x missed (follows.0 ∙ out) (spared_missed s x.entry h before)

@@ -15,7 +15,7 @@ use Rattle.eg_fault.proofs.ActingLemmas.{before_onset, from_onset}
 use Rattle.eg_fault.specs.Effects.{Effects, no_effects}
 use Rattle.eg_record.specs.Excess.{true_excess, full_excess}
 use Rattle.eg_model.specs.History.{Setting, Tick, Moment}
-use Rattle.eg_model.specs.Paths.{on_at}
+use Rattle.eg_model.specs.Paths.{both_conduct}
 use Rattle.eg_model.specs.Moments.{limit_at, moment, moment_in, moments_of}
 use Rattle.eg_model.specs.Rows.{row_of, rows_of}
 use Rattle.eg_model.specs.Premises.{IsProper, AreProper, Follows, is_on_after, true_excesses, full_excesses}
@@ -163,15 +163,15 @@ module _ (s : Setting) (accepted : IsAccepted s.cal) (can : CanExceed s.cal) (qu
 
   -- ---- the history is one in which the engine keeps its laws ----
 
-  pub quiet_proper : (x : Effects) (past : List Moment) → IsProper s (on_at x past) (giving can.drive 0 0)
+  pub quiet_proper : (x : Effects) (past : List Moment) → IsProper s (both_conduct x past) (giving can.drive 0 0)
   quiet_proper x past = record {
     drive = can.within;
     engine = record { position = omega arith; load_1 = omega arith; load_2 = omega arith };
     no_torque = λ off. refl;
   }
 
-  pub loaded_proper : (x : Effects) (past : List Moment) → on_at x past ≡ true →
-      IsProper s (on_at x past) (exceeding s.cal can.drive can.load).entry
+  pub loaded_proper : (x : Effects) (past : List Moment) → both_conduct x past ≡ true →
+      IsProper s (both_conduct x past) (exceeding s.cal can.drive can.load).entry
   loaded_proper x past on = record {
     drive = can.within;
     engine = record { position = omega arith; load_1 = omega arith; load_2 = omega arith };
@@ -195,7 +195,7 @@ module _ (s : Setting) (accepted : IsAccepted s.cal) (can : CanExceed s.cal) (qu
   quiet_all (suc n) = (quiet_proper no_effects _, quiet_all n)
 
   -- until the excess is confirmed the stages are on
-  on_until : (j : ℕ) → j < many → AreProper s (ticks j) → on_at no_effects (moments_of s (ticks j)) ≡ true
+  on_until : (j : ℕ) → j < many → AreProper s (ticks j) → both_conduct no_effects (moments_of s (ticks j)) ≡ true
   unfolding is_on_after
   on_until j less proper =
       sym (moment-on s no_effects (exceeding s.cal can.drive can.load).entry (moments_of s (ticks j)))

@@ -15,7 +15,7 @@ use Rattle.eg_fault.specs.Faults.{effects_of, is_left_out, IsValidClass, IsNoneO
 use Rattle.eg_model.specs.History.{Setting, Tick, Moment}
 use Rattle.eg_model.specs.Signals.{tripped}
 use Rattle.eg_model.specs.Answers.{is_sent, is_good, mark_at}
-use Rattle.eg_model.specs.Paths.{latch2, path1_at, path2_at, on_at}
+use Rattle.eg_model.specs.Paths.{latch2, path1_at, path2_at, both_conduct}
 use Rattle.eg_model.specs.Moments.{moments_of, limit_at}
 use Rattle.eg_model.specs.Premises.{AreProper}
 use Rattle.eg_laws.specs.LeastReaction.{CanExceed, GoesOn, ShowsWord, quiet, exceeding}
@@ -151,8 +151,8 @@ module _ (cal : CalibrationParts) (accepted : IsAccepted cal) (fit : RunsFit cal
           n < r → l < (1 + 1 + c) * period
       law l n r c period send is long early = grind arith
 
-  on : (n : ℕ) → n < reaction_of cal.times → on_at (effects_of missing_all 0) (moments_of s (whole n)) ≡ true
-  unfolding on_at path1_at path2_at effects_of no_effects
+  on : (n : ℕ) → n < reaction_of cal.times → both_conduct (effects_of missing_all 0) (moments_of s (whole n)) ≡ true
+  unfolding both_conduct path1_at path2_at effects_of no_effects
   on n early = ap₂ (λ a b. not a && not b) (latch1_shut s (whole n) (untripped n)) (shut n early)
 
   proper : (n : ℕ) → n ≤ reaction_of cal.times → AreProper s (whole n)

@@ -20,7 +20,7 @@ use Rattle.eg_fault.specs.declared.class.Class.TheVariants.{Path1Closed}
 use Rattle.eg_fault.specs.declared.class.Fault.{Fault}
 use Rattle.eg_model.specs.History.{Setting, Tick}
 use Rattle.eg_model.specs.Signals.{tripped}
-use Rattle.eg_model.specs.Paths.{latch2, path1_at, path2_at, on_at}
+use Rattle.eg_model.specs.Paths.{latch2, path1_at, path2_at, both_conduct}
 use Rattle.eg_model.specs.Moments.{effective_drive, limit_at, moments_of}
 use Rattle.eg_model.specs.Rows.{rows_of}
 use Rattle.eg_model.specs.Premises.{AreProper, Follows, is_on_after, true_excesses, IsExcessConfirmed}
@@ -245,7 +245,7 @@ module _ (cal : CalibrationParts) (accepted : IsAccepted cal) (can : CanExceed c
           (subst (λ k. HasFew s (p + 1) (after n ++ ticks k)) is (few_after j n is)) (none_opens n) early_enough
 
   on_after : (n : ℕ) → n + 2 ≤ reaction_of cal.times → is_on_after s (whole n) (quiet_after can.drive) ≡ true
-  unfolding is_on_after on_at path1_at path2_at effects_of no_effects
+  unfolding is_on_after both_conduct path1_at path2_at effects_of no_effects
   on_after n early =
       moment-on s (effects_of Path1Closed 0) (quiet_after can.drive).entry (moments_of s (whole n))
       ∙ ap not (shut_after n early)

@@ -60,7 +60,7 @@ KeepsPath2 =
     (s : Setting) → IsAccepted s.cal → IsSpacedLapse s → (start : ℕ) (h : List Tick) →
     Follows s.fault start h → tripped (moments_of s h) ≡ false → latch2 (moments_of s h) ≡ false
 
--- so a trip alone cuts: the stages are on at the tick x after h exactly where none has come by the last of h
+-- so a trip alone cuts: the stages are on at the tick x after h exactly if none has come by the last of h
 abbrev pub TripsAloneCut : Type 0
 TripsAloneCut =
     (s : Setting) → IsAccepted s.cal → IsSpacedLapse s → (start : ℕ) (h : List Tick) (x : Tick) →
@@ -94,7 +94,7 @@ pub record StaysAvailable (kt threshold start : ℕ) (rows : List Row) : Type 0 
       has_tripped (row ∷ before) ≡ false → row.found.answers ≡ false
   pub conducts : (later before : List Row) (row : Row) → rows ≡ later ++ row ∷ before →
       has_tripped before ≡ false → row.path2 ≡ true
-  -- the stages are on at each row exactly where no trip came at an earlier one
+  -- the stages are on at each row exactly if no trip came at an earlier one
   pub cut_by_trips : (later before : List Row) (row : Row) → rows ≡ later ++ row ∷ before →
       row.on ≡ not (has_tripped before)
   -- and where the full-efficiency excess comes at no row, the stages are on at each, and no trip comes

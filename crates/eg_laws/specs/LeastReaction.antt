@@ -88,8 +88,8 @@ abbrev pub GoesOn : Tick → Type 0
 GoesOn x = x.entry.drive.reset ≡ false
 
 -- The tick x comes n ticks after the last of h, at which the true excess is first confirmed; `more` are the
--- ticks between. All of them are ticks of one drive span of a run under the setting's fault, in which the
--- engine keeps its laws and tells loads that are words; and the stages are on at x.
+-- ticks between. All of them are ticks of one drive span under the setting's fault, in which level 1 has no
+-- slice, and the engine keeps its laws and tells loads that are words; and the stages are on at x.
 pub record IsStillOn (s : Setting) (h more : List Tick) (x : Tick) (n : ℕ) : Type 0 where
   pub follows : Follows s.fault 0 (x ∷ more ++ h)
   pub proper : AreProper s (x ∷ more ++ h)

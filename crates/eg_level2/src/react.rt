@@ -39,7 +39,7 @@ pub(crate) fn react<M: Guarded>(memory: &mut M, phase: Phase) -> Result<Step, No
     keep(memory, FLOW, flow_after(sends, flow))?;
     Ok(Step {
         open_path: opens,
-        answer: number(sends, flow, sign),
+        answer: sent_number(sends, flow, sign),
         found: no_watches(),
     })
 }
@@ -102,7 +102,7 @@ fn flow_after(sent: bool, flow: u16) -> u16
 }
 
 /// The number that is sent, if one is.
-fn number(sends: bool, flow: u16, sign: u16) -> Option<u32>
+fn sent_number(sends: bool, flow: u16, sign: u16) -> Option<u32>
     ensures { result ≡ (if sends then Some (flow * 65536 + sign) else None) }
 {
     if sends {

@@ -7,7 +7,7 @@ use Rattle.eg_fault.specs.Faults.{effects}
 use Rattle.eg_fault.specs.declared.class.Fault.{Fault}
 use Rattle.eg_fault.proofs.ActingLemmas.{before_onset}
 use Rattle.eg_model.specs.History.{Setting, Entry, Tick, SpanKind, drives, Moment}
-use Rattle.eg_model.specs.Paths.{on_at}
+use Rattle.eg_model.specs.Paths.{both_conduct}
 use Rattle.eg_model.specs.Moments.{moment_in, moments_in}
 use Rattle.eg_model.specs.Spans.{span_so_far, kind_at, before_at, moment_at, next_after, moments, next, ticks, span_ticks}
 use Rattle.eg_model.specs.Engines.{BenchEngine}
@@ -122,7 +122,7 @@ module _ {E : Type 0} (b : BenchEngine E) (r : Run) (none : r.setting.fault ≡ 
         drive = drive_at r t;
         slices = slices_at r t;
         shown = b.shows (stepped b s.cal.plant engine (before_at (drive_at r t) past)
-            (drives (kind_at (drive_at r t) past) && on_at x (before_at (drive_at r t) past)) x.held_plate);
+            (drives (kind_at (drive_at r t) past) && both_conduct x (before_at (drive_at r t) past)) x.held_plate);
       }) (engine-alike past before) (effects-alike s none fault t from)
 
   -- the moments before a tick are as many as it has ticks before it

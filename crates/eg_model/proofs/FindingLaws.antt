@@ -21,7 +21,7 @@ use Rattle.eg_record.specs.Detection.{is_found}
 use Rattle.eg_record.proofs.GivenLemmas.{Contains-head, Contains-tail}
 use Rattle.eg_model.specs.History.{Setting, Tick, Moment}
 use Rattle.eg_model.specs.Signals.{tripped}
-use Rattle.eg_model.specs.Paths.{latch1, latch2, path1_at, path2_at, on_at}
+use Rattle.eg_model.specs.Paths.{latch1, latch2, path1_at, path2_at, both_conduct}
 use Rattle.eg_model.specs.Moments.{moment, moments_of}
 use Rattle.eg_model.specs.Premises.{Follows, is_on_after}
 use Rattle.eg_model.specs.Reaction.{spoils_answers}
@@ -197,7 +197,7 @@ cut_by_off s x h now before off = go (latch1 past) refl (latch2 past) refl
     past = moments_of s h
 
     on_is : (x.effects.conducts PATH_1 (latch1 past) && x.effects.conducts PATH_2 (latch2 past)) ≡ false
-    on_is = sym (moment-on s x.effects x.entry past ∙ (unfold on_at path1_at path2_at in refl)) ∙ off
+    on_is = sym (moment-on s x.effects x.entry past ∙ (unfold both_conduct path1_at path2_at in refl)) ∙ off
 
     both : latch1 past ≡ false → latch2 past ≡ false →
         (x.effects.conducts PATH_1 (latch1 past) && x.effects.conducts PATH_2 (latch2 past)) ≡ true

@@ -14,7 +14,7 @@ use Rattle.eg_record.specs.Excess.{true_excess}
 use Rattle.eg_model.specs.History.{Setting, Entry, Tick, Moment}
 use Rattle.eg_model.specs.Signals.{tripped}
 use Rattle.eg_model.specs.Detection.{fed_bits, torque_bit}
-use Rattle.eg_model.specs.Paths.{latch2, path2_at, on_at}
+use Rattle.eg_model.specs.Paths.{latch2, path2_at, both_conduct}
 use Rattle.eg_model.specs.Moments.{moment, moments_of}
 use Rattle.eg_model.specs.Rows.{row_of, rows_of}
 use Rattle.eg_model.specs.Premises.{AreProper, IsProper, Follows, is_on_after, true_excesses}
@@ -182,7 +182,7 @@ latch2_on s (x ∷ more) h u = latch2-cons _ _ ∙ or_right _ _ (latch2_on s mor
 
 off_by_latch2 : (s : Setting) (x : Effects) (e : Entry) (ms : List Moment) → x.conducts PATH_2 true ≡ false →
     latch2 ms ≡ true → (moment s x e ms).on ≡ false
-unfolding on_at path2_at
+unfolding both_conduct path2_at
 off_by_latch2 s x e ms opens u =
     moment-on s x e ms ∙ and_right _ _ (ap (x.conducts PATH_2) u ∙ opens)
 
@@ -219,7 +219,7 @@ cuts_lapses s accepted bounded lapse start periods h at exceed more x follows pr
 -- ---- no stretch is longer ----
 
 -- where the stages are off there is no excess
-pub off_no_excess : (s : Setting) (x : Tick) (past : List Moment) → IsProper s (on_at x.effects past) x.entry →
+pub off_no_excess : (s : Setting) (x : Tick) (past : List Moment) → IsProper s (both_conduct x.effects past) x.entry →
     (moment s x.effects x.entry past).on ≡ false →
     exceeds s (moment s x.effects x.entry past) ≡ true → ⊥
 unfolding is_excess

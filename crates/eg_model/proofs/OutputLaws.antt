@@ -15,7 +15,7 @@ use Rattle.eg_model.specs.History.{Setting, Entry, Tick, SpanKind, Signals, Mome
 use Rattle.eg_model.specs.Signals.{tripped, is_limited, last_signals, signal, signals_at}
 use Rattle.eg_model.specs.Detection.{feeds_at, fed_bits, finds, pedal_bit, plate_bit, load_bit, speed_bit, torque_bit}
 use Rattle.eg_model.specs.Answers.{is_answer, whole_since_answer, is_sent, is_good, mark_at, with_answer, answers_in, verdict_at, verdicts_in, confirms_at}
-use Rattle.eg_model.specs.Paths.{orders_open, latch1, latch2, path1_at, path2_at, on_at}
+use Rattle.eg_model.specs.Paths.{orders_open, latch1, latch2, path1_at, path2_at, both_conduct}
 use Rattle.eg_model.specs.Moments.{readings_at, sensed_at, moment_in, moments_in}
 use Rattle.eg_model.specs.Spans.{span_so_far, span_kind, has_passed, kind_at, before_at, moment_at, next_after, moments}
 use Rattle.eg_model.specs.Outputs.{running, without_slices, tick_without_slices, without_level1, SpansDisregardLevel1, RunsDisregardLevel1}
@@ -100,7 +100,7 @@ length-bare past = length-map past without_level1
 moment-bare : (kind : SpanKind) (s : Setting) (image : List ℕ) (x : Effects) (e : Entry) (past : List Moment) →
     without_level1 (moment_in kind (running image s) x (without_slices e) (map without_level1 past))
     ≡ without_level1 (moment_in kind s x e past)
-unfolding without_level1 without_slices moment_in readings_at sensed_at signals_at signal feeds_at finds mark_at is_sent is_good verdict_at orders_open on_at
+unfolding without_level1 without_slices moment_in readings_at sensed_at signals_at signal feeds_at finds mark_at is_sent is_good verdict_at orders_open both_conduct
 moment-bare kind s image x e past =
     rw (
       length-bare past,
@@ -187,9 +187,9 @@ before-bare drive past = unfold before_at in
     go true = refl
     go false = refl
 
-on_at-bare : (x : Effects) (past : List Moment) → on_at x (map without_level1 past) ≡ on_at x past
-unfolding on_at
-on_at-bare x past = ap₂ (λ a b. a && b) (path1-bare x past) (path2-bare x past)
+both_conduct-bare : (x : Effects) (past : List Moment) → both_conduct x (map without_level1 past) ≡ both_conduct x past
+unfolding both_conduct
+both_conduct-bare x past = ap₂ (λ a b. a && b) (path1-bare x past) (path2-bare x past)
 
 -- what doesn't depend on level 1 is the same of ticks that are the same but for level 1
 pub carried : {A : Type 0} (f : List Moment → A) → ((ms : List Moment) → f (map without_level1 ms) ≡ f ms) →
@@ -209,8 +209,8 @@ module _ (past others : List Moment) (same : map without_level1 past ≡ map wit
   pub before-alike : (drive : DriveRow) → map without_level1 (before_at drive past) ≡ map without_level1 (before_at drive others)
   before-alike drive = sym (before-bare drive past) ∙ ap (before_at drive) same ∙ before-bare drive others
 
-  pub on-alike : (x : Effects) → on_at x past ≡ on_at x others
-  on-alike x = carried (on_at x) (on_at-bare x) past others same
+  pub on-alike : (x : Effects) → both_conduct x past ≡ both_conduct x others
+  on-alike x = carried (both_conduct x) (both_conduct-bare x) past others same
 
 drive_of : (e other : Entry) → without_slices e ≡ without_slices other → e.drive ≡ other.drive
 unfolding without_slices

@@ -15,7 +15,7 @@ use Rattle.eg_record.specs.Excess.{full_excess}
 use Rattle.eg_model.specs.History.{Setting, Entry, Tick, Moment}
 use Rattle.eg_model.specs.Signals.{tripped, is_limited, last_signals}
 use Rattle.eg_model.specs.Detection.{pedal_bit, plate_bit, load_bit, speed_bit, torque_bit}
-use Rattle.eg_model.specs.Paths.{on_at}
+use Rattle.eg_model.specs.Paths.{both_conduct}
 use Rattle.eg_model.specs.Moments.{effective_drive, readings_at, limit_at, moment}
 use Rattle.eg_model.specs.Rows.{row_of}
 use Rattle.eg_model.specs.Premises.{IsProper}
@@ -64,7 +64,7 @@ no_bit k = go (0 / k) (nothing k)
     go : (n : ℕ) → n ≡ 0 → (n % 2 == 1) ≡ false
     go n e = rw e refl
 
-module _ (s : Setting) (e : Entry) (past : List Moment) (proper : IsProper s (on_at no_effects past) e)
+module _ (s : Setting) (e : Entry) (past : List Moment) (proper : IsProper s (both_conduct no_effects past) e)
     (loads : e.shown.load_2 ≡ e.shown.load_1) (untripped : tripped past ≡ false)
     (unlimited : is_limited past ≡ false) where
   abbrev m : Moment

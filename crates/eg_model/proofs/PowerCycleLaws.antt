@@ -8,7 +8,7 @@ use Rattle.eg_record.specs.declared.row.Row.{Row}
 use Rattle.eg_record.specs.Spans.{this_span}
 use Rattle.eg_model.specs.History.{Setting, Entry, SpanKind, Drive, Test, drives, Moment}
 use Rattle.eg_model.specs.Detection.{finds}
-use Rattle.eg_model.specs.Paths.{is_testing, reads_back, on_at}
+use Rattle.eg_model.specs.Paths.{is_testing, reads_back, both_conduct}
 use Rattle.eg_model.specs.Moments.{moment_in}
 use Rattle.eg_model.specs.Spans.{span_so_far, has_passed, span_kind, kind_at, before_at, moment_at, next_after}
 use Rattle.eg_model.specs.Engines.{BenchEngine}
@@ -106,7 +106,7 @@ span_length-next : (s : Setting) (e : Entry) (past : List Moment) →
     length (this_span (rows_of (next_after s e past ∷ past))) ≡ suc (length (before_at e.drive past))
 span_length-next s e past = span_length (next_after s e past ∷ past) ∙ ap length (span_so_far-next s e past)
 
--- its row stands in a test span exactly where that is what its span is for
+-- its row stands in a test span exactly if that is what its span is for
 abbrev tests_by_kind : List Moment → Type 0
 tests_by_kind past = stands_in_test (rows_of past) ≡ not (drives (span_kind past))
 
@@ -149,11 +149,11 @@ runs_by_rows s e past so = by_kind (kind_at e.drive past) ∙ ap₂ (λ tests ma
     by_kind Drive = refl
     by_kind Test = later (length (before_at e.drive past)) (test_ticks_of s.cal.times)
 
--- the stages are on exactly where the engine is driven and both paths conduct
+-- the stages are on exactly if the engine is driven and both paths conduct
 powered_by_rows : (s : Setting) (e : Entry) (past : List Moment) → tests_by_kind past →
     (next_after s e past).on ≡ (not (stands_in_test (rows_of (next_after s e past ∷ past))) &&
     ((next_after s e past).path1 && (next_after s e past).path2))
-unfolding next_after moment_at moment_in on_at
+unfolding next_after moment_at moment_in both_conduct
 powered_by_rows s e past so = ap (λ driven. driven && ((next_after s e past).path1 && (next_after s e past).path2))
     (twice (drives (kind_at e.drive past)) ∙ ap not (sym (tests_by_kind-next s e past so)))
   where
@@ -161,7 +161,7 @@ powered_by_rows s e past so = ap (λ driven. driven && ((next_after s e past).pa
     twice true = refl
     twice false = refl
 
--- and a test is found to have failed exactly where it reads the paths back and one of them conducts
+-- and a test is found to have failed exactly if it reads the paths back and one of them conducts
 fails_by_rows : (s : Setting) (e : Entry) (past : List Moment) →
     (next_after s e past).found.start ≡ (((next_after s e past).testing &&
     (length (this_span (rows_of (next_after s e past ∷ past))) == test_ticks_of s.cal.times + 1)) &&

@@ -20,7 +20,7 @@ use Rattle.eg_record.specs.declared.row.Row.{Row}
 use Rattle.eg_record.specs.Excess.{full_excess}
 use Rattle.eg_record.specs.Spans.{IsDriveSpan, EachDriveSpan}
 use Rattle.eg_model.specs.History.{Setting, Entry, Tick, SpanKind, Drive, Test, drives, Moment}
-use Rattle.eg_model.specs.Paths.{reads_back, on_at}
+use Rattle.eg_model.specs.Paths.{reads_back, both_conduct}
 use Rattle.eg_model.specs.Level1.{last_world}
 use Rattle.eg_model.specs.Moments.{moment_in, moments_in, moments_of}
 use Rattle.eg_model.specs.Spans.{kind_at, before_at, moment_at, next_after, moments, next, ticks, span_ticks}
@@ -189,7 +189,7 @@ module _ {E : Type 0} {b : BenchEngine E} {Keeps : PlantParts → E → Type 0} 
 
   -- whether the stages are on at the tick with this drive row
   abbrev OnNext : Effects → DriveRow → List Moment → Bool
-  OnNext x drive past = drives (kind_at drive past) && on_at x (before_at drive past)
+  OnNext x drive past = drives (kind_at drive past) && both_conduct x (before_at drive past)
 
   -- after a step with the stages off there is no torque
   shown_off : (s : Setting) (x : Effects) (drive : DriveRow) (past : List Moment) →

@@ -21,7 +21,7 @@ use Rattle.eg_fault.specs.Classes.{IsSound}
 use Rattle.eg_model.specs.History.{Setting, Tick, Moment}
 use Rattle.eg_model.specs.Signals.{tripped, is_limited, signal}
 use Rattle.eg_model.specs.Detection.{torque_bit}
-use Rattle.eg_model.specs.Paths.{on_at}
+use Rattle.eg_model.specs.Paths.{both_conduct}
 use Rattle.eg_model.specs.Moments.{effective_drive, is_braking, sensed_at, readings_at, limit_at, moment, moments_of}
 use Rattle.eg_model.specs.Premises.{AreProper, IsProper}
 use Rattle.eg_model.proofs.TickLemmas.{Each, Runs, moment-limit, moment-pedal_signal, moment-permitted, moment-actual, moment-excess, moment-exceeds}
@@ -72,7 +72,7 @@ lower_second : (a b p : ℕ) → b ≡ 1000 - p → min a (1000 - b) ≤ p
 lower_second a b p h = omega arith
 
 -- one sound track of each pair is enough for what was sensed
-senses_safely : (s : Setting) (x : Tick) (past : List Moment) → SeesExcess x.effects → IsProper s (on_at x.effects past) x.entry →
+senses_safely : (s : Setting) (x : Tick) (past : List Moment) → SeesExcess x.effects → IsProper s (both_conduct x.effects past) x.entry →
     ErrsSafely s.cal.rules.kt (sensed_at x.effects x.entry) x.entry.drive x.entry.shown.torque
 unfolding sensed_at readings_under
 senses_safely s x past sees proper = record {
@@ -111,7 +111,7 @@ gates_safely kt torque r drive other same safe = record {
 }
 
 -- a brake that is pressed is seen, and one that is seen falsely lowers what is read
-pub errs_safely : (s : Setting) (x : Tick) (past : List Moment) → SeesExcess x.effects → IsProper s (on_at x.effects past) x.entry →
+pub errs_safely : (s : Setting) (x : Tick) (past : List Moment) → SeesExcess x.effects → IsProper s (both_conduct x.effects past) x.entry →
     ErrsSafely s.cal.rules.kt (readings_at s.cal x.effects x.entry) (effective_drive s.cal x.entry.drive) x.entry.shown.torque
 unfolding readings_at
 errs_safely s x past sees proper = go (is_braking s.cal x.effects drive) refl

@@ -22,7 +22,7 @@ use Rattle.eg_model.specs.Signals.{tripped, is_limited}
 use Rattle.eg_model.specs.Detection.{fed_bits, finds, pedal_bit, plate_bit, load_bit, speed_bit, torque_bit, feeds_at}
 use Rattle.eg_answer.specs.Modules.{modules_before_react, modules}
 use Rattle.eg_model.specs.Answers.{is_whole, is_undisturbed, is_answer, whole_since_answer, is_sent, is_good, mark_at, with_answer, answers_in, verdict_at, verdicts_in, confirms_at}
-use Rattle.eg_model.specs.Paths.{latch1, latch2, on_at, path1_at, path2_at}
+use Rattle.eg_model.specs.Paths.{latch1, latch2, both_conduct, path1_at, path2_at}
 use Rattle.eg_model.specs.Moments.{moment, moments_of}
 use Rattle.eg_model.specs.Rows.{row_of, rows_of}
 use Rattle.eg_model.specs.Premises.{IsProper, AreProper, is_on_after, full_excesses}
@@ -325,7 +325,7 @@ pub record FoundSharply (s : Setting) (x : Tick) (h : List Tick) : Type 0 where
   pub speed : (moment s x.effects x.entry (moments_of s h)).found.speed ≡ false
 
 module _ (s : Setting) (a : IsAccepted s.cal) (e : Entry) (h : List Tick)
-    (proper : IsProper s (on_at no_effects (moments_of s h)) e) (loads : e.shown.load_2 ≡ e.shown.load_1)
+    (proper : IsProper s (both_conduct no_effects (moments_of s h)) e) (loads : e.shown.load_2 ≡ e.shown.load_1)
     (calm : Calm s h) where
   abbrev past : List Moment
   past = moments_of s h
@@ -465,7 +465,7 @@ calm_until s a (x ∷ h) each proper quiet =
     let before = not_before s.cal.rules.torque _ (full_excesses s h)
     (subst (λ l. is_confirmed s.cal.rules.torque l ≡ false) (full_excesses-cons s x h) quiet) in
     as_plain (λ y. Calm s (y ∷ h)) x none
-    (step_calm s a x.entry h (to_plain (λ y. IsProper s (on_at y.effects (moments_of s h)) y.entry) x none proper.0) each.0.loads
+    (step_calm s a x.entry h (to_plain (λ y. IsProper s (both_conduct y.effects (moments_of s h)) y.entry) x none proper.0) each.0.loads
     (calm_until s a h each.1 proper.1 before)
     (to_plain (λ y. is_confirmed s.cal.rules.torque (full_excesses s (y ∷ h)) ≡ false) x none quiet))
 
@@ -497,7 +497,7 @@ trip_once_confirmed s a (x ∷ h) each proper c =
           as_plain (λ y. tripped (moment s y.effects y.entry (moments_of s h) ∷ moments_of s h)
           ≡ true) x none
           (step_trip s a x.entry h
-          (to_plain (λ y. IsProper s (on_at y.effects (moments_of s h)) y.entry) x none proper.0) each.0.loads
+          (to_plain (λ y. IsProper s (both_conduct y.effects (moments_of s h)) y.entry) x none proper.0) each.0.loads
           (calm_until s a h each.1 proper.1 now.0)
           (to_plain (λ y. is_first s.cal.rules.torque (full_excesses s (y ∷ h)) ≡ true) x none
           (subst (λ l. is_first s.cal.rules.torque l ≡ true) (sym (full_excesses-cons s x h)) now.1)))
@@ -545,7 +545,7 @@ found_sharply s a x h each proper = as_plain (λ y. FoundSharply s y h) x each.0
     go : (b : Bool) → is_confirmed s.cal.rules.torque (full_excesses s h) ≡ b → FoundSharply s (plain x.entry) h
     go true late = found_late s x.entry h (trip_once_confirmed s a h each.1 proper.1 late) late
     go false quiet = step_found s a x.entry h
-        (to_plain (λ y. IsProper s (on_at y.effects (moments_of s h)) y.entry) x each.0.effects proper.0) each.0.loads
+        (to_plain (λ y. IsProper s (both_conduct y.effects (moments_of s h)) y.entry) x each.0.effects proper.0) each.0.loads
         (calm_until s a h each.1 proper.1 quiet)
 
 -- no trip, no order
@@ -561,7 +561,7 @@ latch1_shut s (x ∷ h) u =
 
 on_law : (s : Setting) (e : Entry) (ms : List Moment) →
     (moment s no_effects e ms).on ≡ (not (latch1 ms) && not (latch2 ms))
-unfolding on_at path1_at path2_at no_effects
+unfolding both_conduct path1_at path2_at no_effects
 on_law s e ms = moment-on s no_effects e ms
 
 plain_reacts : (h : List Tick) → ArePlain h → ReactsAll h

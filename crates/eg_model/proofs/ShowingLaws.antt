@@ -15,7 +15,7 @@ use Rattle.eg_word.specs.World.{World, new_world}
 use Rattle.eg_model.specs.History.{Setting, Entry, drives, Moment}
 use Rattle.eg_model.specs.Level1.{last_world}
 use Rattle.eg_model.specs.Moments.{limit_at, moment_in}
-use Rattle.eg_model.specs.Paths.{latch1, latch2, path1_at, path2_at, on_at}
+use Rattle.eg_model.specs.Paths.{latch1, latch2, path1_at, path2_at, both_conduct}
 use Rattle.eg_model.specs.Spans.{kind_at, before_at, moment_at, next_after, moments, next}
 use Rattle.eg_model.specs.Premises.{IsProperRun}
 use Rattle.eg_model.specs.Engines.{BenchEngine, KeepsBenchLaws}
@@ -160,7 +160,7 @@ module _ {E : Type 0} (b : BenchEngine E) where
       b.shows (engine_after b r.setting (next_after r.setting (entry_at b r t (moments_to b r t)) (moments_to b r t) ∷ moments_to b r t))
   unfolding entry_at shown_at engine_after stepped next_after moment_at moment_in
   shown_is r t = ap₂ (λ (w : World) n. b.shows (b.step r.setting.cal.plant (engine_after b r.setting past) w.throttle w.ignition
-      (drives (kind_at (drive_at r t) past) && on_at (effects r.setting.fault n) (before_at (drive_at r t) past))
+      (drives (kind_at (drive_at r t) past) && both_conduct (effects r.setting.fault n) (before_at (drive_at r t) past))
       (effects r.setting.fault n).held_plate)) (sym (commands (drive_at r t) past)) (sym (length-moments_to b r t))
     where
       past : List Moment

@@ -17,7 +17,7 @@ use Rattle.eg_fault.specs.Classes.{IsRegular}
 use Rattle.eg_fault.specs.declared.paths.TheConstants.{PATH_2}
 use Rattle.eg_model.specs.History.{Setting, Tick, Moment}
 use Rattle.eg_model.specs.Answers.{is_sent, mark_at, with_answer, answers_in, verdict_at, verdicts_in, confirms_at}
-use Rattle.eg_model.specs.Paths.{latch2, path2_at, on_at}
+use Rattle.eg_model.specs.Paths.{latch2, path2_at, both_conduct}
 use Rattle.eg_model.specs.Moments.{moment, moments_of}
 use Rattle.eg_model.specs.Premises.{is_on_after}
 use Rattle.eg_model.proofs.PeriodLemmas.{at_place, period_closes, period_open, period_room, counts_from, none_counts, enough_periods, last_tick}
@@ -380,7 +380,7 @@ pub off_after_silence : (s : Setting) → AreTimes s.cal.times → 0 < s.cal.tim
     (more h : List Tick) → AreRegular (more ++ h) → NoGood s more h →
     reaction_of s.cal.times ≤ length more →
     (x : Tick) → x.effects.conducts PATH_2 true ≡ false → is_on_after s (more ++ h) x ≡ false
-unfolding on_at path2_at reaction_of closed is_on_after
+unfolding both_conduct path2_at reaction_of closed is_on_after
 off_after_silence s are up limit more h r none long x opens =
     let times = s.cal.times in
     let n = feeds_to_confirm times.weights in

@@ -8,7 +8,7 @@ use Rattle.eg_num.specs.Drive.{DriveRow}
 use Rattle.eg_fault.specs.Faults.{effects}
 use Rattle.eg_model.specs.History.{Setting, Entry, Tick, SpanKind, Drive, drives, Moment}
 use Rattle.eg_model.specs.Level1.{last_world}
-use Rattle.eg_model.specs.Paths.{on_at}
+use Rattle.eg_model.specs.Paths.{both_conduct}
 use Rattle.eg_model.specs.Moments.{moment_in, moments_in, moments_of}
 use Rattle.eg_model.specs.Spans.{span_so_far, span_kind, has_passed, kind_at, before_at, moment_at, next_after, moments, next, ticks, span_ticks}
 use Rattle.eg_model.specs.Premises.{IsProper, AreProper, IsProperRun, Follows}
@@ -261,11 +261,11 @@ module _ (s : Setting) where
       kind_is : kind_at e.drive (moments s h) ≡ Drive
       kind_is = sym c.kind_is ∙ driven
 
-      on_is : (next s e h).on ≡ on_at (effects s.fault (length h)) (moments_of s (ticks_before s e h))
+      on_is : (next s e h).on ≡ both_conduct (effects s.fault (length h)) (moments_of s (ticks_before s e h))
       on_is = ap (λ (m : Moment). m.on) (c.moment_is ∙ ap (λ kind. moment_in kind s (effects s.fault (length h)) e
           (moments_in kind s (ticks_before s e h))) kind_is) ∙ (unfold moment_in drives moments_of in refl)
 
-      now : IsProperRun s (e ∷ h) → IsProper s (on_at (effects s.fault (length h)) (moments_of s (ticks_before s e h))) e
+      now : IsProperRun s (e ∷ h) → IsProper s (both_conduct (effects s.fault (length h)) (moments_of s (ticks_before s e h))) e
       now p = subst (λ on. IsProper s on e) on_is (unfold IsProperRun in p.0)
 
       earlier : IsProperRun s (e ∷ h) → IsProperRun s h

@@ -13,7 +13,7 @@ use Rattle.eg_model.specs.History.{Setting, Entry, Tick, drives, Moment}
 use Rattle.eg_model.specs.Signals.{tripped, is_limited, last_signals, signal, signals_at}
 use Rattle.eg_model.specs.Detection.{feeds_at, fed_bits, finds, pedal_bit, plate_bit, load_bit, speed_bit, torque_bit}
 use Rattle.eg_model.specs.Answers.{is_whole, mark_at, verdict_at, confirms_at}
-use Rattle.eg_model.specs.Paths.{is_told_to_open, orders_open, path1_at, path2_at, on_at}
+use Rattle.eg_model.specs.Paths.{is_told_to_open, orders_open, path1_at, path2_at, both_conduct}
 use Rattle.eg_model.specs.Level1.{world_at}
 use Rattle.eg_model.specs.Moments.{readings_at, limit_at, moment_in, moment, moments_of}
 use Rattle.eg_model.specs.Rows.{row_of}
@@ -66,7 +66,7 @@ module _ (s : Setting) (x : Effects) (e : Entry) (past : List Moment) where
   unfolding moment moment_in drives
   moment-path2 = refl
 
-  pub moment-on : (moment s x e past).on ≡ on_at x past
+  pub moment-on : (moment s x e past).on ≡ both_conduct x past
   unfolding moment moment_in drives
   moment-on = refl
 

@@ -11,7 +11,7 @@ use Rattle.eg_fault.specs.declared.paths.TheConstants.{PATH_1}
 use Rattle.eg_model.specs.History.{Setting, Entry, Tick, Moment, Signals}
 use Rattle.eg_model.specs.Signals.{tripped}
 use Rattle.eg_model.specs.Detection.{fed_bits, torque_bit}
-use Rattle.eg_model.specs.Paths.{latch1, path1_at, on_at}
+use Rattle.eg_model.specs.Paths.{latch1, path1_at, both_conduct}
 use Rattle.eg_model.specs.Moments.{moment, moments_of}
 use Rattle.eg_model.specs.Rows.{row_of, rows_of}
 use Rattle.eg_model.specs.Premises.{true_excesses, is_on_after}
@@ -139,7 +139,7 @@ latch1_on s (x ∷ more) h u = latch1-cons _ _ ∙ or_right _ _ (latch1_on s mor
 -- where it is open, and no fault makes it conduct, the stages are off
 pub off_by_latch1 : (s : Setting) (x : Effects) (e : Entry) (past : List Moment) → x.conducts PATH_1 true ≡ false →
     latch1 past ≡ true → (moment s x e past).on ≡ false
-unfolding on_at path1_at
+unfolding both_conduct path1_at
 off_by_latch1 s x e past opens u =
     moment-on s x e past ∙ and_left _ _ (ap (x.conducts PATH_1) u ∙ opens)
 

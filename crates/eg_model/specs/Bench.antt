@@ -7,7 +7,7 @@ use Rattle.eg_plant.specs.Engine.{Shown}
 use Rattle.eg_fault.specs.Effects.{Effects}
 use Rattle.eg_fault.specs.Faults.{effects}
 use Rattle.eg_model.specs.History.{Setting, Entry, drives, Moment}
-use Rattle.eg_model.specs.Paths.{on_at}
+use Rattle.eg_model.specs.Paths.{both_conduct}
 use Rattle.eg_model.specs.Level1.{last_world}
 use Rattle.eg_model.specs.Spans.{kind_at, before_at, next_after}
 use Rattle.eg_model.specs.Engines.{BenchEngine}
@@ -31,7 +31,7 @@ engine_after b s (m ∷ past) =
 unfoldable pub shown_at : {E : Type 0} → BenchEngine E → Setting → Effects → DriveRow → List Moment → Shown
 shown_at b s x drive past =
     let before = before_at drive past in
-    let on = drives (kind_at drive past) && on_at x before in
+    let on = drives (kind_at drive past) && both_conduct x before in
     b.shows (stepped b s.cal.plant (engine_after b s past) before on x.held_plate)
 
 -- a run: its setting, the slice plan and the drive, both in the order of time

@@ -1,6 +1,6 @@
--- A debounced watch is found at the tick whose bit first brings its debouncer to the limit; it is fed where
--- debounce runs, no trip came before, and no word is flipped. The debounced watches are those of the four
--- pairs and of the torque.
+-- A debounced watch is found at the tick whose bit first brings its debouncer to the limit. Debouncers are
+-- fed at ticks at which the engine is driven, debounce runs, no trip came earlier in the span, and no word
+-- is flipped. The debounced watches are those of the four pairs and of the torque.
 use Rattle.std.specs.Prelude.{Bool, not, ◌&&◌, is_some, List, ◌∷◌, map, filter}
 use Rattle.eg_num.specs.Windows.{WeightParts, is_first}
 use Rattle.eg_answer.specs.Feeds.{pedal_feed, plate_feed, load_feed, speed_feed, torque_feed}

@@ -108,7 +108,7 @@ pub record NamesWhatCuts (fault : Option Fault) (report : Summary) : Type 0 wher
   pub unnamed : (tick : ℕ) → report.first ≡ None → report.off ≡ Some tick → opens_by_itself fault tick ≡ true
 
 -- What is found at a row of a drive span at which no fault has begun, `before` being the rows of the span
--- before it: `torque` exactly where the full-efficiency excess is first confirmed, `answers` not before that,
+-- before it: `torque` exactly if the full-efficiency excess is first confirmed, `answers` not before that,
 -- and of the other watches that a drive span can find none.
 pub record FindsExcessAlone (weights : WeightParts) (kt threshold : ℕ) (row : Row) (before : List Row)
     : Type 0 where

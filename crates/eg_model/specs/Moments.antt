@@ -13,7 +13,7 @@ use Rattle.eg_model.specs.History.{Setting, Entry, Tick, SpanKind, Drive, drives
 use Rattle.eg_model.specs.Signals.{signals_at}
 use Rattle.eg_model.specs.Detection.{pedal_bit, plate_bit, load_bit, speed_bit, torque_bit, feeds_at, finds}
 use Rattle.eg_model.specs.Answers.{is_whole, mark_at, verdict_at, confirms_at}
-use Rattle.eg_model.specs.Paths.{is_testing, reads_back, orders_open, path1_at, path2_at, on_at}
+use Rattle.eg_model.specs.Paths.{is_testing, reads_back, orders_open, path1_at, path2_at, both_conduct}
 use Rattle.eg_model.specs.Level1.{world_at}
 
 -- the drive row that counts, under this calibration: where the brake counts and the driver brakes, pedal and
@@ -78,7 +78,7 @@ moment_in kind s x e past =
       passes = read_back && not (path1 || path2);
       path1 = path1;
       path2 = path2;
-      on = drives kind && on_at x past;
+      on = drives kind && both_conduct x past;
       signals = signals;
       feeds = feeds;
       found = record {

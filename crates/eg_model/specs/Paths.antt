@@ -52,5 +52,5 @@ unfoldable pub path2_at : Effects → List Moment → Bool
 path2_at x past = x.conducts PATH_2 (latch2 past)
 
 -- whether both paths conduct: the power stages are on exactly then, while the engine is driven
-unfoldable pub on_at : Effects → List Moment → Bool
-on_at x past = path1_at x past && path2_at x past
+unfoldable pub both_conduct : Effects → List Moment → Bool
+both_conduct x past = path1_at x past && path2_at x past

@@ -1,4 +1,4 @@
--- A test span begins at each reset; else a drive span begins at the first row, and later exactly where a test
+-- A test span begins at each reset; else a drive span begins at the first row, and later exactly if a test
 -- was passed at the row before. No other span begins. So the spans of a record follow from the resets of its
 -- drive and from its start-up tests. Rows stand newest first.
 use Rattle.std.specs.Prelude.{◌≡◌, ℕ, ◌+◌, ◌==◌, nat_le, Bool, true, false, not, ◌&&◌, ◌||◌, List, [], ◌∷◌, ◌++◌, length, if◌then◌else◌}
@@ -44,10 +44,10 @@ pub record IsUnfed (row : Row) : Type 0 where
 
 -- Which span begins at a row, and what its span makes of it, `older` being the rows before it. A test span
 -- begins at each row that resets the unit. At other rows: a drive span begins at the first row of a run, and
--- at a later one exactly where a test was passed at the row before; no other span begins. In a test span a
+-- at a later one exactly if a test was passed at the row before; no other span begins. In a test span a
 -- test is running up to the row that reads the paths back, in a drive span at no row. The stages are on
--- exactly where the row stands in a drive span and both paths conduct. A test is found to have failed exactly
--- where it reads the paths back and one of them conducts. And in a test span no watch is found beside that
+-- exactly if the row stands in a drive span and both paths conduct. A test is found to have failed exactly
+-- if it reads the paths back and one of them conducts. And in a test span no watch is found beside that
 -- one but `mirror`.
 pub record BeginsInTurn (read_back : ℕ) (row : Row) (older : List Row) : Type 0 where
   pub resets : row.drive.reset ≡ true → BeginsTest row

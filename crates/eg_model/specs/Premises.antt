@@ -9,7 +9,7 @@ use Rattle.eg_fault.specs.Faults.{effects}
 use Rattle.eg_fault.specs.declared.class.Fault.{Fault}
 use Rattle.eg_record.specs.Excess.{true_excess, full_excess}
 use Rattle.eg_model.specs.History.{Setting, Entry, Tick}
-use Rattle.eg_model.specs.Paths.{on_at}
+use Rattle.eg_model.specs.Paths.{both_conduct}
 use Rattle.eg_model.specs.Moments.{moment, moments_of}
 use Rattle.eg_model.specs.Spans.{next}
 use Rattle.eg_model.specs.Rows.{rows_of}
@@ -26,7 +26,7 @@ pub record IsProper (s : Setting) (on : Bool) (e : Entry) : Type 0 where
 unfoldable pub AreProper : Setting → List Tick → Type 0
 AreProper s [] = Unit {0}
 AreProper s (x ∷ before) =
-    IsProper s (on_at x.effects (moments_of s before)) x.entry × AreProper s before
+    IsProper s (both_conduct x.effects (moments_of s before)) x.entry × AreProper s before
 
 -- and at each tick of a run
 unfoldable pub IsProperRun : Setting → List Entry → Type 0

@@ -70,7 +70,7 @@ unfoldable pub is_before_onset : Option Fault → ℕ → Bool
 is_before_onset None t = true
 is_before_onset (Some fault) t = nat_lt t fault.onset
 
--- where no fault has begun by a tick, the stages are on at that tick exactly where the full-efficiency excess
+-- where no fault has begun by a tick, the stages are on at that tick exactly if the full-efficiency excess
 -- isn't confirmed by the rows before it
 abbrev pub CutSharplyBefore : Option Fault → WeightParts → (kt threshold start : ℕ) → List Row → Type 0
 CutSharplyBefore fault weights kt threshold start rows =

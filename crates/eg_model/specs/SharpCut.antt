@@ -1,6 +1,6 @@
 -- Outside the headline. The sharp cut: while nothing is out of order outside level 1, the stages are on
 -- exactly until the tick at which the full-efficiency excess is first confirmed, that tick included. So a
--- run in which that excess is never confirmed is never cut off.
+-- drive span in which that excess is never confirmed is never cut off.
 use Rattle.std.specs.Prelude.{◌≡◌, not, List, [], ◌∷◌}
 use Rattle.eg_num.specs.Windows.{is_confirmed}
 use Rattle.eg_values.specs.Calibration.{IsAccepted}
@@ -19,7 +19,7 @@ ArePlain [] = Unit {0}
 ArePlain (x ∷ before) = IsPlain x × ArePlain before
 
 -- The law. Let h be plain, and let what comes in at its ticks be proper (`AreProper`); let nothing be out of
--- order at the tick x after h. Then the stages are on at x exactly where the full-efficiency excess isn't
+-- order at the tick x after h. Then the stages are on at x exactly if the full-efficiency excess isn't
 -- confirmed by the last tick of h.
 abbrev pub CutsSharply : Type 0
 CutsSharply =

@@ -3,7 +3,7 @@
 -- resets the unit; with a reset it begins with a test span, in which the two shut-off paths are tested and
 -- the stages are off. Where the test fails, the test span lasts to the next reset. A run whose first row
 -- doesn't reset begins with a drive span. In each span all is as at the start of a run but for the engine,
--- which goes on.
+-- the fault, the slice plan and the trap that is told, which go on.
 use Rattle.std.specs.Prelude.{Bool, false, ◌||◌, List, [], ◌∷◌, take, length, if◌then◌else◌}
 use Rattle.eg_num.specs.Drive.{DriveRow}
 use Rattle.eg_fault.specs.Effects.{Effects}

@@ -18,7 +18,7 @@ pub fn records_name_what_cuts()
 /// Found in time (docs/CONCEPT.md, "Why the unit reacts"): in each drive span that lasts so long, where a
 /// module of level 2 is skipped or disturbed, or both levels halt, a watch that cuts is found before R
 /// ticks have passed from the onset, or from the span's begin if that is later, whatever the torque; and at
-/// each tick, of drive and test spans, the watch `mirror` is found exactly where a word of level 2 is
+/// each tick, of drive and test spans, the watch `mirror` is found exactly if a word of level 2 is
 /// flipped. It does nothing when it runs.
 pub fn records_find_in_time()
     ensures onset { RecordsFindFromOnset gasoline × RecordsFindFromOnset diesel }

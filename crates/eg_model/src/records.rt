@@ -59,7 +59,7 @@ pub fn records_cut_standing_excess()
 {}
 
 /// By the rows of the record of a run on the bench: a test span begins at each reset, else a drive span at
-/// the first tick and exactly where a test was passed at the tick before, so that a drive span lasts to the
+/// the first tick and exactly if a test was passed at the tick before, so that a drive span lasts to the
 /// end of its power cycle; while the shut-off paths are tested the stages are off, whatever the fault; and
 /// without a fault, or before its onset, no test fails (docs/CONCEPT.md, "Power cycles"). It does nothing
 /// when it runs.

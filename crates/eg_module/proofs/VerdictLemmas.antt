@@ -30,7 +30,7 @@ HasGiven-close m verdict verdicts positive given = record {
   counter = StandsFor-cons m.times.weights m.value (is_wrong verdict) (map is_wrong verdicts) positive given.counter;
 }
 
--- the counter is at its limit exactly where the wrong verdicts are confirmed
+-- the counter is at its limit exactly if the wrong verdicts are confirmed
 pub HasGiven-confirmed : (m : MonitorParts) (verdicts : List Verdict) → 1 ≤ m.times.weights.limit → HasGiven m verdicts →
     (m.value == m.times.weights.limit) ≡ is_confirmed m.times.weights (map is_wrong verdicts)
 HasGiven-confirmed m verdicts positive given = StandsFor-confirmed m.times.weights m.value (map is_wrong verdicts) positive given.counter
@@ -79,7 +79,7 @@ verdicts_fit m tick keeps now small =
     law : (number period tick : ℕ) → number * period ≤ tick → 2 ≤ period → tick < 2 ^ 32 → number + 1 < 2 ^ 32
     law number period tick h long small = let twice : number * 2 ≤ number * period = mul-le-mul_left number long in omega arith
 
--- over one answer the verdict is right exactly where it is,
+-- over one answer the verdict is right exactly if it is,
 pub verdict_over-one : (times : TimeParts) (expected : ℕ) (heard : List Heard) (d : Heard) (right : Bool) → length heard ≡ 1 →
     right ≡ (is_in_window times (slice_index_or heard 0 d).tick && ((slice_index_or heard 0 d).number == expected)) →
     verdict_over times expected (newest_first heard) ≡ if right then Right else Wrong
@@ -101,7 +101,7 @@ verdict_over-many times expected heard many =
     verdict_of-many times (map (marked expected) (newest_first heard))
     (λ one. many (sym (length-newest_first heard) ∙ sym (length-map (newest_first heard) (marked expected)) ∙ one))
 
--- so in words: a verdict is right exactly where one answer came, in the window, and it was the expected number
+-- so in words: a verdict is right exactly if one answer came, in the window, and it was the expected number
 chosen_right : (b : Bool) → (if b then Right else Wrong) ≡ Right → b ≡ true
 chosen_right true e = refl
 chosen_right false e = cc

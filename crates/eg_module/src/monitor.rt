@@ -22,7 +22,8 @@ struct Heard {
     number: u32,
 }
 
-/// The high word of a number that is expected: the token that all eight modules of level 2 have moved.
+/// The high word of a number that is expected: a flow that shows that all eight modules of level 2 ran at
+/// each tick since the last answer.
 const WHOLE_TOKEN: u32 = 0x00ff_0000;
 
 /// The monitoring module (docs/CONCEPT.md, "Questions and answers"). It counts the verdicts that it has
@@ -137,7 +138,7 @@ impl Monitor {
         requires { self.old.verdicts ≡ period_of self.old.times tick }
         ensures verdict { SomeIff result (IsTrue (is_last_tick self.old.times tick))
             (verdict_over self.old.times (expected_at self.old tick) self.old.heard) }
-        // In words: right exactly where one answer came, in the window, and it was the expected number.
+        // In words: right exactly if one answer came, in the window, and it was the expected number.
         ensures right { IfSome result (λ verdict. (verdict ≡ Verdict.Right)
             ↔ IsAnswered self.old.times (expected_at self.old tick) self.old.heard) }
         ensures closed { IfSome result (λ verdict. self.new ≡ record self.old {

@@ -78,7 +78,7 @@ greatest-good w bits =
     let rest = greatest_of-good w (windows bits) in
     omega arith
 
--- some window weighs at least n exactly where the greatest weight does
+-- some window weighs at least n exactly if the greatest weight does
 some_weighs : (w : WeightParts) (n : ℕ) (uss : List (List Bool)) → 1 ≤ n → list_any (λ us. nat_le n (weight w us)) uss ≡ nat_le n (greatest_of (map (weight w) uss))
 unfolding greatest_of
 some_weighs w n [] positive = sym (lt-leb _ _ positive)
@@ -92,7 +92,7 @@ pub list_any-windows : (w : WeightParts) (n : ℕ) (bits : List Bool) → 1 ≤ 
 unfolding greatest
 list_any-windows w n bits positive = some_weighs w n (windows bits) positive
 
--- a list is reached exactly where its greatest weight is at least the limit
+-- a list is reached exactly if its greatest weight is at least the limit
 pub is_reached-greatest : (w : WeightParts) (bits : List Bool) → 1 ≤ w.limit → is_reached w bits ≡ nat_le w.limit (greatest w bits)
 unfolding is_reached
 is_reached-greatest w bits positive = list_any-windows w w.limit bits positive
@@ -137,7 +137,7 @@ counted_within w bits positive = elim (cases_Bool (is_confirmed w bits)) [
   | inr unconfirmed ↦ (let low = counted_below w bits positive unconfirmed in omega arith)
 ]
 
--- the number is the limit exactly where the list is confirmed
+-- the number is the limit exactly if the list is confirmed
 pub counted-is_limit : (w : WeightParts) (bits : List Bool) → 1 ≤ w.limit → (counted w bits == w.limit) ≡ is_confirmed w bits
 counted-is_limit w bits positive = elim (cases_Bool (is_confirmed w bits)) [
   | inl confirmed ↦ eq-eqb _ _ (counted-confirmed w bits confirmed) ∙ sym confirmed
@@ -157,7 +157,7 @@ fed-good : (w : WeightParts) (n : ℕ) → n < w.limit → fed w n false ≡ n -
 unfolding fed
 fed-good w n low = ap (λ full. if full then w.limit else n - w.down) (ne_eqb n w.limit (omega arith))
 
--- a list that wasn't confirmed before is confirmed now exactly where its greatest weight is at least the limit
+-- a list that wasn't confirmed before is confirmed now exactly if its greatest weight is at least the limit
 is_confirmed-greatest : (w : WeightParts) (b : Bool) (bits : List Bool) → 1 ≤ w.limit → is_confirmed w bits ≡ false →
     is_confirmed w (b ∷ bits) ≡ nat_le w.limit (greatest w (b ∷ bits))
 unfolding is_confirmed
@@ -196,11 +196,11 @@ counted-cons w b bits positive = elim (cases_Bool (is_confirmed w bits)) [
 pub StandsFor-cons : (w : WeightParts) (value : ℕ) (b : Bool) (bits : List Bool) → 1 ≤ w.limit → StandsFor w value bits → StandsFor w (fed w value b) (b ∷ bits)
 StandsFor-cons w value b bits positive stands = ap (λ n. fed w n b) stands ∙ sym (counted-cons w b bits positive)
 
--- a number that stands for a list is the limit exactly where the list is confirmed
+-- a number that stands for a list is the limit exactly if the list is confirmed
 pub StandsFor-confirmed : (w : WeightParts) (value : ℕ) (bits : List Bool) → 1 ≤ w.limit → StandsFor w value bits → (value == w.limit) ≡ is_confirmed w bits
 StandsFor-confirmed w value bits positive stands = ap (λ n. n == w.limit) stands ∙ counted-is_limit w bits positive
 
--- the last feed is the first at which it is reached exactly where the number comes to the limit with it
+-- the last feed is the first at which it is reached exactly if the number comes to the limit with it
 pub is_first-counted : (w : WeightParts) (b : Bool) (bits : List Bool) → 1 ≤ w.limit →
     is_first w (b ∷ bits) ≡ (nat_lt (counted w bits) w.limit && (counted w (b ∷ bits) == w.limit))
 is_first-counted w b bits positive = is_first-cons w b bits ∙ comes (is_confirmed w (b ∷ bits)) (is_confirmed w bits) (counted w bits) (counted w (b ∷ bits)) w.limit
@@ -209,7 +209,7 @@ is_first-counted w b bits positive = is_first-cons w b bits ∙ comes (is_confir
     comes : (now before : Bool) (n n' l : ℕ) → n ≤ l → (n == l) ≡ before → (n' == l) ≡ now → (now && not before) ≡ (nat_lt n l && (n' == l))
     comes now before n n' l within is_before is_now = grind (arith, nat_tests)
 
--- a number that stands for the list comes to the limit exactly where the last feed is the first at which it is reached
+-- a number that stands for the list comes to the limit exactly if the last feed is the first at which it is reached
 pub StandsFor-first : (w : WeightParts) (value : ℕ) (b : Bool) (bits : List Bool) → 1 ≤ w.limit → StandsFor w value bits →
     is_first w (b ∷ bits) ≡ (nat_lt value w.limit && (fed w value b == w.limit))
 StandsFor-first w value b bits positive stands =

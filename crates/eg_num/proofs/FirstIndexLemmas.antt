@@ -1,4 +1,4 @@
--- The first place at which a list is reached: there is one exactly where the list is confirmed, and it stays as the list goes on.
+-- The first place at which a list is reached: there is one exactly if the list is confirmed, and it stays as the list goes on.
 use Rattle.std.proofs.Common.{◌≡◌, ℕ, suc, ◌<◌, inl, inr, Bool, true, false, not, ◌||◌, ◌&&◌, List, [], ◌∷◌, ◌++◌, length, refl, sym, ap, ◌∙◌, arith}
 use Rattle.std.proofs.lemmas.Bool.{cases_Bool, or_left, or_right, false≢true, true≢false}
 use Rattle.std.proofs.lemmas.Option.{none-some, same_Some}
@@ -49,7 +49,7 @@ is_first_from w b bits now before = is_first-cons w b bits ∙ both _ _ now befo
     both true false e f = refl
     both false false e f = e
 
--- there is a first place exactly where the list is confirmed
+-- there is a first place exactly if the list is confirmed
 pub is_some-first_index : (w : WeightParts) (bits : List Bool) → is_some (first_index w bits) ≡ is_confirmed w bits
 unfolding first_index is_first is_confirmed
 is_some-first_index w [] = refl

@@ -139,7 +139,7 @@ front-suc bits n within = ap (λ m. reverse (take m bits)) (sym (add-one n)) ∙
 up_to-front : (bits : List Bool) (t : ℕ) → t < length bits → up_to t bits ≡ get_or bits t false ∷ reverse (take t bits)
 up_to-front bits t within = ap reverse (take_more bits t false within) ∙ reverse-append (take t bits) (get_or bits t false ∷ [])
 
--- the first n feeds are confirmed exactly where some place below n is reached
+-- the first n feeds are confirmed exactly if some place below n is reached
 place_from_confirmed : (w : WeightParts) (bits : List Bool) (n : ℕ) → 1 ≤ w.limit → n ≤ length bits → is_confirmed w (reverse (take n bits)) ≡ true →
     (s : ℕ) × (s < n) × IsReachedAt w bits s
 unfolding is_confirmed

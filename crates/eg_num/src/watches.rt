@@ -1,7 +1,8 @@
 // The watches of the unit.
 
 /// Which watches are found at a tick (docs/CONCEPT.md, "The record of a run"). All but `mirror` and `start`
-/// have a debouncer, and are found at the tick at which its limit is first reached in the span.
+/// have a debouncer, and are found at the tick at which its limit is first reached in a drive span. (In a
+/// test span wrong answers may reach their limit too, and `answers` isn't found.)
 #[derive(Clone, Copy)]
 pub struct Watches {
     /// A word of level 2 differs from its complement.

@@ -7,7 +7,7 @@ use Rattle.eg_values.specs.Calibration.{CalibrationParts}
 use Rattle.eg_values.specs.Reference.{reference_parts}
 use Rattle.eg_cal.specs.Calibration.{calibration_of}
 use Rattle.eg_cal.specs.declared.key.CalFault.{CalFault}
-use Rattle.eg_outcome.specs.Outcomes.{Follows}
+use Rattle.eg_outcome.specs.Outcomes.{WorkFollows}
 use Rattle.eg_outcome.specs.Reads.{refused, sized, FileComes, Finds, Accepts}
 use Rattle.eg_outcome.specs.declared.outcome.Outcome.{Outcome}
 use Rattle.eg_outcome.specs.declared.outcome.Refusal.{Refusal}
@@ -38,7 +38,7 @@ CalibrationComes None store later come = come ≡ Ok reference_parts
 abbrev pub CalibratedEnds : Option (List ℕ) → ShownStore → ShownStore → (nothing : Type 0)
     → (CalibrationParts → Outcome → Type 0) → Outcome → Type 0
 CalibratedEnds calibration store later nothing work o = (come : Result CalibrationParts Outcome)
-    × CalibrationComes calibration store later come × Follows work nothing come o
+    × CalibrationComes calibration store later come × WorkFollows work nothing come o
 
 -- ---- when it is there, and when it is accepted ----
 

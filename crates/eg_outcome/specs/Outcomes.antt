@@ -21,10 +21,10 @@ LineEnds line out now outcome.Memory = AppendsPrefix out now line × (now.faults
 LineEnds line out now _ = ⊥
 
 -- Something came, and the work follows with it; or the call ends without it, and nothing was done.
-abbrev pub Follows : {X : Type 0} → (X → Outcome → Type 0) → (nothing : Type 0) → Result X Outcome → Outcome
-    → Type 0
-Follows work nothing (Ok x) o = work x o
-Follows work nothing (Err end) o = (o ≡ end) × nothing
+abbrev pub WorkFollows :
+    {X : Type 0} → (X → Outcome → Type 0) → (nothing : Type 0) → Result X Outcome → Outcome → Type 0
+WorkFollows work nothing (Ok x) o = work x o
+WorkFollows work nothing (Err end) o = (o ≡ end) × nothing
 
 -- Something came, and more comes of it; or nothing more comes.
 abbrev pub Then :

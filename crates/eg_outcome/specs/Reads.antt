@@ -50,7 +50,7 @@ FileComes file says name store later (Err end) =
 
 -- ---- what a call that reads tells and leaves ----
 
--- What comes of the file of this name; over a sure store it can't be read exactly where there is no such
+-- What comes of the file of this name; over a sure store it can't be read exactly if there is no such
 -- file; and no refusal tells that memory ran out.
 pub record ReadsFile {X : Type 0} (file : Role) (says : List ℕ → Result X Refusal) (name : List ℕ)
     (store later : ShownStore) (come : Result X Outcome) : Type 0 where

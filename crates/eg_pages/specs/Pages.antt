@@ -21,5 +21,5 @@ abbrev pub pages_of : {A : Type 0} → List (Rc (List ℕ) A) → List (List ℕ
 pages_of shared = map rc_value shared
 
 -- the words of a memory: those of its pages, one page after another
-abbrev pub words_of : {A : Type 0} → List (Rc (List ℕ) A) → List ℕ
-words_of shared = concat (pages_of shared)
+abbrev pub page_words : {A : Type 0} → List (Rc (List ℕ) A) → List ℕ
+page_words shared = concat (pages_of shared)

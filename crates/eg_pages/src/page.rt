@@ -1,6 +1,6 @@
 // Pages of words, which several memories may share.
 ghost use Rattle.std.specs.Prelude.{◌≡◌, ◌<◌, replicate, slice_index, slice_set, IfOk, OnOk, OnErr};
-ghost use Rattle.eg_pages.specs.Pages.{ArePages, pages_of, words_of};
+ghost use Rattle.eg_pages.specs.Pages.{ArePages, pages_of, page_words};
 
 use eg_base::NoMemory;
 use eg_guard::WORDS;
@@ -21,7 +21,7 @@ pub(crate) type SharedPages = [SharedPage; PAGES as usize];
 
 /// Pages of which every word is 0. (They are one page, shared.)
 pub(crate) fn zero_pages(alloc: Global) -> Result<SharedPages, NoMemory>
-    ensures words { IfOk result (λ pages. words_of pages ≡ replicate WORDS 0) }
+    ensures words { IfOk result (λ pages. page_words pages ≡ replicate WORDS 0) }
     ensures are_pages { IfOk result (λ pages. ArePages (pages_of pages)) }
 {
     let page = Rc::new(alloc, [0; PAGE_WORDS as usize])?;
@@ -44,7 +44,7 @@ pub(crate) fn share(pages: &SharedPages) -> Result<SharedPages, NoMemory>
 pub(crate) fn word_at(pages: &SharedPages, address: u16) -> u16
     requires are_pages { ArePages (pages_of pages.now) }
     requires within { address < WORDS }
-    ensures { result ≡ slice_index (words_of pages.now) address }
+    ensures { result ≡ slice_index (page_words pages.now) address }
 {
     let page = &pages[usize::from(address / PAGE_WORDS)];
     page[usize::from(address % PAGE_WORDS)]
@@ -53,7 +53,7 @@ pub(crate) fn word_at(pages: &SharedPages, address: u16) -> u16
 /// The words of the pages in one array, one page after another.
 pub(crate) fn joined(pages: &SharedPages) -> [u16; WORDS as usize]
     requires { ArePages (pages_of pages.now) }
-    ensures { result ≡ words_of pages.now }
+    ensures { result ≡ page_words pages.now }
 {
     let size = usize::from(PAGE_WORDS);
     let mut words = [0; WORDS as usize];
@@ -75,8 +75,8 @@ pub(crate) fn put_at(
 ) -> Result<(), NoMemory>
     requires are_pages { ArePages (pages_of pages.old) }
     requires within { address < WORDS }
-    ensures put { OnOk result (words_of pages.new ≡ slice_set (words_of pages.old) address word) }
-    ensures unchanged { OnErr result (words_of pages.new ≡ words_of pages.old) }
+    ensures put { OnOk result (page_words pages.new ≡ slice_set (page_words pages.old) address word) }
+    ensures unchanged { OnErr result (page_words pages.new ≡ page_words pages.old) }
     ensures are_pages { ArePages (pages_of pages.new) }
 {
     let page = &mut pages[usize::from(address / PAGE_WORDS)];

@@ -21,11 +21,11 @@ pub struct PagedMemory {
 
 impl Model for PagedMemory {
     ghost use Rattle.std.specs.Prelude.{ℕ, List};
-    ghost use Rattle.eg_pages.specs.Pages.{ArePages, pages_of, words_of};
+    ghost use Rattle.eg_pages.specs.Pages.{ArePages, pages_of, page_words};
 
     ghost Value = { List ℕ };
 
-    ghost view = { λ m. words_of m.pages };
+    ghost view = { λ m. page_words m.pages };
 
     ghost invariant = { λ m. ArePages (pages_of m.pages) };
 }

@@ -16,7 +16,7 @@ use Rattle.eg_plan.specs.declared.key.CampaignFault.TheVariants.{Key}
 use Rattle.eg_plan.specs.Keys.{◌holds◌, run_name, file_name, slice_rows, number, optional, shift, words, ticks, truths, text_of}
 use Rattle.eg_plan.specs.Checks.{key_refusal}
 use Rattle.eg_toml.specs.Refusals.{unless_some}
-use Rattle.eg_plan.specs.Contents.{is_plain, is_in_name, is_run_name, is_file_name, when, text_at, is_budget, slice_row, slices_in, usual_slices, read_or, slices_at, optional_at, is_shift, shift_in, shift_at, words_at, ticks_in, ticks_at, truths_in, truths_at, bytes_of, rows_of, number_of, shift_of, numbers_of, truths_of}
+use Rattle.eg_plan.specs.Contents.{is_plain, is_in_name, is_run_name, is_file_name, when, text_at, is_budget, slice_row, slices_in, usual_slices, read_or, slices_at, optional_at, is_shift, shift_in, shift_at, words_at, ticks_in, ticks_at, truths_in, truths_at, bytes_of, number_rows, number_of, shift_of, numbers_of, truths_of}
 use Rattle.eg_plan.specs.Rules.{IsLetter, IsDigit, IsInName, IsRunName, IsFileName, IsSliceRow, IsSlicePlan}
 use Rattle.eg_toml.proofs.RisingLemmas.{true-rising}
 
@@ -157,7 +157,7 @@ read_or-some : {X : Type 0} (P : X → Type 0) (usual : X) (read : Data → Opti
 read_or-some P usual read None x p each e = let same : usual ≡ x = cc in subst P same p
 read_or-some P usual read (Some d) x p each e = each d x e
 
-pub slices-held : (n : ℕ) (k : RunKey) (ms : Members) → key_refusal n (k holds slice_rows) ms ≡ None → IsSlicePlan (rows_of (k holds slice_rows) ms)
+pub slices-held : (n : ℕ) (k : RunKey) (ms : Members) → key_refusal n (k holds slice_rows) ms ≡ None → IsSlicePlan (number_rows (k holds slice_rows) ms)
 slices-held n k ms e =
     held IsSlicePlan (Key n k) (slices_at (text_of k) ms) [] (λ rows is. read_or-some IsSlicePlan usual_slices slices_in (get_member (text_of k) ms) rows usual-held rows-held is) e
 

@@ -135,8 +135,8 @@ rows_as slice_rows key ms = unwrap_or (slices_at key ms) []
 rows_as _ key ms = []
 
 -- rows of slices
-abbrev pub rows_of : KeyRule → Members → List (List ℕ)
-rows_of rule ms = rows_as rule.content (text_of rule.key) ms
+abbrev pub number_rows : KeyRule → Members → List (List ℕ)
+number_rows rule ms = rows_as rule.content (text_of rule.key) ms
 
 abbrev engine_as : Content → List ℕ → Members → EngineKind
 engine_as engine_name key ms = unwrap_or (engine_at key ms) Gasoline

@@ -12,7 +12,7 @@ use Rattle.eg_plan.specs.declared.key.CampaignFault.TheVariants as fault
 use Rattle.eg_plan.specs.declared.run.RunPlan.{RunPlan}
 use Rattle.eg_plan.specs.Keys.{text_of, name, trace, image, slices, engine, run_keys}
 use Rattle.eg_toml.specs.Refusals.{first_of, unless_true}
-use Rattle.eg_plan.specs.Contents.{bytes_of, rows_of, engine_of}
+use Rattle.eg_plan.specs.Contents.{bytes_of, number_rows, engine_of}
 use Rattle.eg_plan.specs.Checks.{keys_refusal}
 use Rattle.eg_plan.specs.Faults.{fault_refusal, fault_of, has_own_names}
 
@@ -80,7 +80,7 @@ run_of ms = record {
   name = bytes_of name ms;
   trace = bytes_of trace ms;
   image = bytes_of image ms;
-  plan = rows_of slices ms;
+  plan = number_rows slices ms;
   engine = engine_of engine ms;
   fault = option_map fault_of (fault_table ms);
 }

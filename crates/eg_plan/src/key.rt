@@ -61,7 +61,7 @@ pub enum RunKey {
 /// order; 0 is the file as a whole.
 #[derive(Clone, Copy, PartialEq, Eq)]
 pub enum CampaignFault {
-    /// There was no memory for the runs.
+    /// There was no memory for the document or its runs, or the document weighs more than the reader takes.
     Memory,
     /// The bytes are no TOML document.
     Text,

@@ -14,7 +14,7 @@ use Rattle.eg_tick.specs.Weights.{TickCount}
 use Rattle.eg_plan.specs.declared.run.RunPlan.{RunPlan}
 use Rattle.eg_campaign.specs.declared.play.RunInput.{RunInput}
 use Rattle.eg_outcome.specs.Files.{AreRead}
-use Rattle.eg_outcome.specs.Outcomes.{LineEnds, Follows, Then}
+use Rattle.eg_outcome.specs.Outcomes.{LineEnds, WorkFollows, Then}
 use Rattle.eg_outcome.specs.Reads.{FileComes, ReadComes}
 use Rattle.eg_outcome.specs.Calibrations.{CalibratedEnds}
 use Rattle.eg_outcome.specs.declared.outcome.Outcome.{Outcome}
@@ -82,7 +82,7 @@ abbrev pub RunsEnd : Telling → CalibrationParts → List RunPlan → ShownStor
     → ShownSink → TickCount → TickCount → Outcome → Type 0
 RunsEnd telling cal plans store later out now was is o = (come : Result (List RunInput) Outcome)
     × InputsCome store later 1 0 plans come
-    × Follows (λ inputs end. TellingEnds telling cal inputs store later out now was is end)
+    × WorkFollows (λ inputs end. TellingEnds telling cal inputs store later out now was is end)
     (NothingPlayed out now was is) come o
 
 -- ---- `record [--cal NAME] CAMPAIGN RUN` ----
@@ -138,7 +138,7 @@ SweepEnds cal step input store later out now was is o = (later.faults ≡ store.
 abbrev pub CampaignEnds : List ℕ → ShownStore → ShownStore → (nothing : Type 0)
     → (List RunPlan → Outcome → Type 0) → Outcome → Type 0
 CampaignEnds campaign store later nothing work o = (come : Result (List RunPlan) Outcome)
-    × FileComes role.Campaign campaign_file campaign store later come × Follows work nothing come o
+    × FileComes role.Campaign campaign_file campaign store later come × WorkFollows work nothing come o
 
 -- the first run of this name, with its number, where n is the number of the first run of the list
 abbrev pub run_named : List ℕ → ℕ → List RunPlan → Option (ℕ × RunPlan)
@@ -162,7 +162,7 @@ NamedComes campaign name store later come = (plans : Result (List RunPlan) Outco
 abbrev pub NamedEnds : (campaign name : List ℕ) → ShownStore → ShownStore → (nothing : Type 0)
     → (RunInput → Outcome → Type 0) → Outcome → Type 0
 NamedEnds campaign name store later nothing work o = (come : Result RunInput Outcome)
-    × NamedComes campaign name store later come × Follows work nothing come o
+    × NamedComes campaign name store later come × WorkFollows work nothing come o
 
 -- ---- each command ----
 
@@ -244,7 +244,7 @@ IsNotOfRun (outcome.Refused (refusal.Trace n fault)) = ⊥
 IsNotOfRun (outcome.Refused (refusal.Image n fault)) = ⊥
 IsNotOfRun _ = Unit {0}
 
--- there is a name exactly where there is a role and it is of a run
+-- there is a name exactly if there is a role and it is of a run
 abbrev pub IsNamedIfOfRun : Option Role → Option (List ℕ) → Type 0
 IsNamedIfOfRun (Some (role.Trace n)) name = IsSome name
 IsNamedIfOfRun (Some (role.Image n)) name = IsSome name

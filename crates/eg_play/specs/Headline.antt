@@ -34,9 +34,9 @@ pub record Headline {E : Type 0} (b : BenchEngine E) (s : Setting) (drive : List
   -- that the fault holds closed, or keeps from conducting, is shown so.
   pub shows : ShowsRun b s drive rows
   -- At each reset a test span begins. Where the tick doesn't reset, a drive span begins at the first tick of
-  -- the run and exactly where a test was passed at the tick before, and no span at any other tick. A test
-  -- runs up to the tick that reads the paths back, and in no drive span; it fails exactly where a path then
-  -- conducts. The stages are on exactly where the engine is driven and both paths conduct, and in a test span
+  -- the run and exactly if a test was passed at the tick before, and no span at any other tick. A test
+  -- runs up to the tick that reads the paths back, and in no drive span; it fails exactly if a path then
+  -- conducts. The stages are on exactly if the engine is driven and both paths conduct, and in a test span
   -- only `start` and `mirror` are found.
   pub cycles : SpansBeginInTurn (test_ticks_of s.cal.times) rows
   -- With no fault or a listed one, in each drive span the power stages are off from R ticks after a confirmed

@@ -3,7 +3,8 @@ ghost use Rattle.std.specs.Prelude.{◌≡◌};
 ghost use Rattle.eg_record.specs.Reactions.{combined, greater, is_settled, less};
 
 /// What is told of the reactions of a run once its rows are gone (docs/CONCEPT.md, "`table`"). Spans are the
-/// stretches of ticks in which the engine is driven, and the start-up tests.
+/// stretches of ticks in which the engine is driven, and the test spans: one whose test fails goes on to the
+/// next reset, or to the end of the run.
 #[derive(Clone, Copy)]
 pub struct Reactions {
     /// The longest of the reactions of its spans, in ticks, or None where no span has one. A span in which an

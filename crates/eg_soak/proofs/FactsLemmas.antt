@@ -9,7 +9,7 @@ use Rattle.eg_model.specs.Bench.{Run}
 use Rattle.eg_model.specs.Rows.{record_trap}
 use Rattle.eg_tick.specs.Facts.{record_facts}
 use Rattle.eg_soak.specs.Soak.{on_gasoline}
-use Rattle.eg_soak.specs.Facts.{facts_in, facts_of}
+use Rattle.eg_soak.specs.Facts.{facts_in, drawn_facts}
 
 pub any_fault : (fault : Option Fault) → IfSome fault IsValid → IsNoneOrValid fault
 unfolding IsNoneOrValid
@@ -18,6 +18,6 @@ any_fault (Some fault) valid = valid
 
 -- what counts of a run by the facts of its record
 pub facts_told : (r : Run) (facts : Facts) (is_trapped : Bool) → facts ≡ record_facts gasoline r → is_trapped ≡ is_some (record_trap gasoline r) →
-    facts_in facts is_trapped ≡ facts_of (on_gasoline r)
-unfolding facts_of
+    facts_in facts is_trapped ≡ drawn_facts (on_gasoline r)
+unfolding drawn_facts
 facts_told r facts is_trapped are is = ap₂ facts_in are is

@@ -10,7 +10,7 @@ use Rattle.eg_tick.proofs.CountLemmas.{counts_more, long}
 use Rattle.eg_draw.specs.declared.runs.DrawnRun.{DrawnRun}
 use Rattle.eg_draw.specs.Runs.{drawn_run, state_after}
 use Rattle.eg_draw.proofs.ProperLemmas.{drawn_proper}
-use Rattle.eg_soak.specs.Facts.{facts_of}
+use Rattle.eg_soak.specs.Facts.{drawn_facts}
 use Rattle.eg_soak.specs.Soak.{run_drawn, drawn_runs}
 
 -- the state in which run n is drawn, the first being 0
@@ -39,9 +39,9 @@ state-next n x state now is next = next ∙ ap state_after is ∙ sym (state-mor
 
 -- what counts of one run more, and what is counted with it
 pub facts-next : (n x state : ℕ) (drawn : DrawnRun) → state ≡ state_of n x → drawn ≡ drawn_run state →
-    map facts_of (drawn_runs (n + 1) x) ≡ map facts_of (drawn_runs n x) ++ facts_of (run_drawn drawn) ∷ []
-facts-next n x state drawn at is = ap (map facts_of) (runs-next n x state drawn at is)
-    ∙ map-append facts_of (drawn_runs n x) (run_drawn drawn ∷ [])
+    map drawn_facts (drawn_runs (n + 1) x) ≡ map drawn_facts (drawn_runs n x) ++ drawn_facts (run_drawn drawn) ∷ []
+facts-next n x state drawn at is = ap (map drawn_facts) (runs-next n x state drawn at is)
+    ∙ map-append drawn_facts (drawn_runs n x) (run_drawn drawn ∷ [])
 
 pub counts-next : (from old new : TickCount) (n x state : ℕ) (drawn : DrawnRun) → state ≡ state_of n x → drawn ≡ drawn_run state →
     old ≡ count_with from (rows_of_runs (drawn_runs n x)) → new ≡ count_with old (rows_in_time (run_drawn drawn)) →

@@ -8,7 +8,7 @@ use Rattle.eg_record.specs.declared.row.Row.{Row}
 use Rattle.eg_record.specs.declared.watch.Watch.{Watch}
 use Rattle.eg_record.specs.declared.watch.Watch.TheVariants.{Mirror, Pedal, Plate, Load, Speed, Torque, Answers, Start}
 use Rattle.eg_record.specs.Detection.{is_found, is_watch, rank, first_detection}
-use Rattle.eg_record.specs.Facts.{facts_of as facts_of_rows}
+use Rattle.eg_record.specs.Facts.{facts_of}
 use Rattle.eg_record.proofs.LawLemmas.{first_detection-never}
 use Rattle.eg_draw.specs.Draws.{after}
 use Rattle.eg_draw.specs.Runs.{stretch_row, stretches, trace_of, drawn_run, state_after}
@@ -16,7 +16,7 @@ use Rattle.eg_model.specs.Engines.{gasoline}
 use Rattle.eg_model.specs.Rows.{record_rows}
 use Rattle.eg_model.proofs.SpanRuns.{finds_no_start}
 use Rattle.eg_tick.specs.Facts.{record_facts}
-use Rattle.eg_soak.specs.Facts.{is_first, facts_in, facts_of}
+use Rattle.eg_soak.specs.Facts.{is_first, facts_in, drawn_facts}
 use Rattle.eg_soak.specs.Soak.{run_drawn, drawn_runs}
 use Rattle.eg_soak.proofs.SumLemmas.{NeverStart}
 
@@ -61,12 +61,12 @@ other_first : (rows : List Row) → All (λ row. row.found.start ≡ false) rows
 unfolding is_found
 other_first rows none = other_than_start (first_detection rows) (first_detection-never rows Start none)
 
-run-other_first : (x : ℕ) → is_first Start (facts_of (run_drawn (drawn_run x))) ≡ false
-unfolding is_first facts_of facts_in record_facts facts_of_rows
+run-other_first : (x : ℕ) → is_first Start (drawn_facts (run_drawn (drawn_run x))) ≡ false
+unfolding is_first drawn_facts facts_in record_facts facts_of
 run-other_first x = other_first (record_rows gasoline (run_drawn (drawn_run x)).run) (finds_no_start gasoline (run_drawn (drawn_run x)).run (drive-no_reset x))
 
-pub drawn_never_start : (n x : ℕ) → NeverStart (map facts_of (drawn_runs n x))
+pub drawn_never_start : (n x : ℕ) → NeverStart (map drawn_facts (drawn_runs n x))
 unfolding drawn_runs
 drawn_never_start zero x = All-nil (λ facts. is_first Start facts ≡ false)
-drawn_never_start (suc n) x = All-cons (λ facts. is_first Start facts ≡ false) (facts_of (run_drawn (drawn_run x))) (map facts_of (drawn_runs n (state_after x)))
+drawn_never_start (suc n) x = All-cons (λ facts. is_first Start facts ≡ false) (drawn_facts (run_drawn (drawn_run x))) (map drawn_facts (drawn_runs n (state_after x)))
     (run-other_first x) (drawn_never_start n (state_after x))

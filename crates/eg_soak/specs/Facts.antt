@@ -21,8 +21,8 @@ facts_in facts is_trapped = record {
 }
 
 -- what counts of a run
-unfoldable pub facts_of : EngineRun → DrawnFacts
-facts_of r =
+unfoldable pub drawn_facts : EngineRun → DrawnFacts
+drawn_facts r =
     let b = bench_of r.engine in facts_in (record_facts b r.run) (is_some (record_trap b r.run))
 
 -- this watch is the first that was detected

@@ -14,7 +14,7 @@ use Rattle.eg_draw.specs.declared.runs.DrawnRun.{DrawnRun}
 use Rattle.eg_draw.specs.Runs.{drawn_run, state_after}
 use Rattle.eg_soak.specs.declared.facts.DrawnFacts.{DrawnFacts}
 use Rattle.eg_soak.specs.declared.summary.SoakSummary.{SoakSummary}
-use Rattle.eg_soak.specs.Facts.{facts_of, is_first}
+use Rattle.eg_soak.specs.Facts.{drawn_facts, is_first}
 
 -- a run of the gasoline engine
 abbrev pub on_gasoline : Run → EngineRun
@@ -49,4 +49,4 @@ summary_of all = record {
 
 -- the summary of runs
 unfoldable pub soak_of : List EngineRun → SoakSummary
-soak_of runs = summary_of (map facts_of runs)
+soak_of runs = summary_of (map drawn_facts runs)

@@ -4,7 +4,7 @@ ghost use Rattle.eg_values.specs.Reference.{reference_parts};
 ghost use Rattle.eg_draw.specs.Runs.{IsDrawn};
 ghost use Rattle.eg_tick.specs.Counting.{count_with};
 ghost use Rattle.eg_campaign.specs.Plays.{rows_in_time};
-ghost use Rattle.eg_soak.specs.Facts.{facts_in, facts_of, is_first};
+ghost use Rattle.eg_soak.specs.Facts.{facts_in, drawn_facts, is_first};
 ghost use Rattle.eg_soak.specs.Soak.{run_drawn};
 
 use eg_draw::DrawnRun;
@@ -54,7 +54,7 @@ impl DrawnFacts {
 pub(crate) fn play(calibration: &Calibration, drawn: &DrawnRun, steps: &mut Ticks) -> DrawnFacts
     requires calibration { calibration.now ≡ reference_parts }
     requires drawn { IsDrawn drawn.now }
-    ensures facts { result ≡ facts_of (run_drawn drawn.now) }
+    ensures facts { result ≡ drawn_facts (run_drawn drawn.now) }
     ensures counted { steps.new ≡ count_with steps.old (rows_in_time (run_drawn drawn.now)) }
 {
     let plan = usual_slices();

@@ -3,7 +3,7 @@ ghost use Rattle.std.specs.Prelude.{◌≡◌, ℕ, ◌+◌, ◌≤◌, ◌*◌,
 ghost use Rattle.std.specs.List.{sum};
 ghost use Rattle.eg_tick.specs.Counting.{count_with, AreCounted};
 ghost use Rattle.eg_campaign.specs.Plays.{rows_of_runs};
-ghost use Rattle.eg_soak.specs.Facts.{facts_of};
+ghost use Rattle.eg_soak.specs.Facts.{drawn_facts};
 ghost use Rattle.eg_soak.specs.Soak.{drawn_runs, soak_of};
 
 use crate::SoakSummary;
@@ -44,7 +44,7 @@ fn play_all(
     steps: &mut Ticks,
 ) -> Result<Vec<DrawnFacts>, NoMemory>
     requires { runs ≤ 500 }
-    ensures facts { IfOk result (λ all. all.items ≡ map facts_of (drawn_runs runs seed)) }
+    ensures facts { IfOk result (λ all. all.items ≡ map drawn_facts (drawn_runs runs seed)) }
     ensures length { IfOk result (λ all. length all.items ≡ runs) }
     ensures counted { OnOk result
         (steps.new ≡ count_with steps.old (rows_of_runs (drawn_runs runs seed))) }

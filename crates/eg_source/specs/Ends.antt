@@ -8,7 +8,7 @@ use Rattle.eg_asm.specs.declared.fault.AsmFault.TheVariants as fault
 use Rattle.eg_asm.specs.Reading.{assembled}
 use Rattle.eg_asm.specs.Listings.{source_text, image_text}
 use Rattle.eg_outcome.specs.Images.{image_file}
-use Rattle.eg_outcome.specs.Outcomes.{LineEnds, Follows}
+use Rattle.eg_outcome.specs.Outcomes.{LineEnds, WorkFollows}
 use Rattle.eg_outcome.specs.Reads.{refused, sized, FileComes}
 use Rattle.eg_outcome.specs.declared.outcome.Outcome.{Outcome}
 use Rattle.eg_outcome.specs.declared.outcome.Outcome.TheVariants as outcome
@@ -41,7 +41,7 @@ abbrev pub WordsEnd : Role → (says : List ℕ → Result (List ℕ) Refusal) �
     → ShownStore → ShownStore → ShownSink → ShownSink → Outcome → Type 0
 WordsEnd file says text name store later out now o = (come : Result (List ℕ) Outcome)
     × FileComes file says name store later come
-    × Follows (λ words end. (later.faults ≡ store.faults) × LineEnds (text words) out now end)
+    × WorkFollows (λ words end. (later.faults ≡ store.faults) × LineEnds (text words) out now end)
     (now ≡ out) come o
 
 -- `asm FILE`: the image of a source

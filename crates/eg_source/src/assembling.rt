@@ -18,21 +18,21 @@ use std::alloc::Global;
 pub fn asm<S: Store, K: Sink>(alloc: Global, file: &str, store: &mut S, out: &mut K) -> Outcome
     ensures ends { AsmEnds file.now (S.shows store.old) (S.shows store.new)
         (K.shows out.old) (K.shows out.new) result }
-    // Over a sure store a fault of reading is told exactly where there is no such file.
+    // Over a sure store a fault of reading is told exactly if there is no such file.
     ensures missing { IsTrue (S.shows store.old).sure →
         ((result ≡ ReadFault role.Source) ↔ IsMissing (S.shows store.old).files file.now) }
     ensures no_memory { TellsNoMemory result }
     ensures files { (S.shows store.new).files ≡ (S.shows store.old).files }
     ensures nothing_put { PutsNothing result → out.new ≡ out.old }
 {
-    match words_of(alloc, file, store) {
+    match source_words(alloc, file, store) {
         Ok(words) => put_image(alloc, words.as_slice(), out),
         Err(outcome) => outcome,
     }
 }
 
 /// The words of the source of that name, or how the call ends without them.
-fn words_of<S: Store>(alloc: Global, file: &str, store: &mut S) -> Result<Items<u16>, Outcome>
+fn source_words<S: Store>(alloc: Global, file: &str, store: &mut S) -> Result<Items<u16>, Outcome>
     ensures reads { ReadsFile role.Source source_file file.now
         (S.shows store.old) (S.shows store.new) result }
     ensures keeps { KeepsFiles (S.shows store.old) (S.shows store.new) result }

@@ -12,7 +12,7 @@ use Rattle.eg_record.specs.declared.facts.Facts.{Facts}
 use Rattle.eg_record.specs.Facts.{reaction_in}
 use Rattle.eg_sweep.specs.declared.row.SweepRow.{SweepRow}
 use Rattle.eg_sweep.specs.Grid.{swept_classes, swept_faults}
-use Rattle.eg_sweep.specs.Table.{class_index, facts_under, row_of, rows_of, table_of, greatest_listed}
+use Rattle.eg_sweep.specs.Table.{class_index, facts_under, row_of, class_rows, table_of, greatest_listed}
 use Rattle.eg_sweep.specs.Laws.{ReactsIn, IsBounded}
 use Rattle.eg_sweep.proofs.GreatestLemmas.{greatest-within}
 use Rattle.eg_sweep.proofs.ListedLemmas.{swept_listed}
@@ -64,8 +64,8 @@ Within : ℕ → SweepRow → Type 0
 Within bound row = IfSome row.reaction (λ n. n ≤ bound)
 
 -- the rows before the last are those of the classes before the last
-earlier_rows : (runs : List (Fault × Facts)) → take 13 (rows_of runs) ≡ map (λ class. row_of (facts_under class runs)) (take 13 swept_classes)
-unfolding rows_of swept_classes
+earlier_rows : (runs : List (Fault × Facts)) → take 13 (class_rows runs) ≡ map (λ class. row_of (facts_under class runs)) (take 13 swept_classes)
+unfolding class_rows swept_classes
 earlier_rows runs = refl
 
 earlier_classes : All (λ class. class_index class < 13) (take 13 swept_classes)
@@ -73,7 +73,7 @@ unfolding swept_classes class_index
 earlier_classes = search (arith, All-cons, All-nil) depth 40
 
 rows-within : (bound : ℕ) (runs : List (Fault × Facts)) →
-    All (λ run. is_lapse run.0.class ≡ false → ReactsIn bound run.1) runs → All (Within bound) (take 13 (rows_of runs))
+    All (λ run. is_lapse run.0.class ≡ false → ReactsIn bound run.1) runs → All (Within bound) (take 13 (class_rows runs))
 unfolding Within
 rows-within bound runs each = subst (All (λ row. IfSome row.reaction (λ n. n ≤ bound))) (sym (earlier_rows runs))
     (All-map (λ row. IfSome row.reaction (λ n. n ≤ bound)) (λ class. row_of (facts_under class runs)) (take 13 swept_classes)
@@ -93,5 +93,5 @@ table_bounded ticks step bound facts most some react =
     let rows = rows-within bound runs each in
     record {
       each = rows;
-      greatest = greatest-within (λ row. row.reaction) (take 13 (rows_of runs)) bound rows;
+      greatest = greatest-within (λ row. row.reaction) (take 13 (class_rows runs)) bound rows;
     }

@@ -9,7 +9,7 @@ use Rattle.std.proofs.lemmas.List.Elements.{All-nil, All-cons, All-head, All-tai
 use Rattle.std.proofs.lemmas.Bool.{ltb-true, ltb-false}
 use Rattle.std.proofs.lemmas.List.{append-nil}
 use Rattle.std.proofs.lemmas.List.Sums.{fold-append}
-use Rattle.eg_sweep.specs.Table.{greatest}
+use Rattle.eg_sweep.specs.Table.{greatest_number}
 
 -- ---- one number more ----
 
@@ -19,8 +19,8 @@ greater None other = other
 greater (Some n) None = Some n
 greater (Some n) (Some m) = Some (max n m)
 
-greatest-append : (ns : List ℕ) (n : ℕ) → greatest (ns ++ n ∷ []) ≡ greater (greatest ns) (Some n)
-unfolding greatest greater
+greatest-append : (ns : List ℕ) (n : ℕ) → greatest_number (ns ++ n ∷ []) ≡ greater (greatest_number ns) (Some n)
+unfolding greatest_number greater
 greatest-append [] n = refl
 greatest-append (m ∷ ns) n = ap Some (fold-append max m ns (n ∷ []))
 
@@ -30,15 +30,15 @@ greater-none None = refl
 greater-none (Some n) = refl
 
 pub greatest-more : {X : Type 0} (tells : X → Option ℕ) (xs : List X) (x : X) →
-    greatest (filter_map tells (xs ++ x ∷ [])) ≡ greater (greatest (filter_map tells xs)) (tells x)
-greatest-more tells xs x = ap greatest (filter_map-append tells xs (x ∷ [])) ∙ last (tells x) (filter_map tells xs)
+    greatest_number (filter_map tells (xs ++ x ∷ [])) ≡ greater (greatest_number (filter_map tells xs)) (tells x)
+greatest-more tells xs x = ap greatest_number (filter_map-append tells xs (x ∷ [])) ∙ last (tells x) (filter_map tells xs)
   where
-    last : (o : Option ℕ) (ns : List ℕ) → greatest (ns ++ filter_map (λ (m : Option ℕ). m) (o ∷ [])) ≡ greater (greatest ns) o
-    last None ns = ap greatest (append-nil ns) ∙ sym (greater-none (greatest ns))
+    last : (o : Option ℕ) (ns : List ℕ) → greatest_number (ns ++ filter_map (λ (m : Option ℕ). m) (o ∷ [])) ≡ greater (greatest_number ns) o
+    last None ns = ap greatest_number (append-nil ns) ∙ sym (greater-none (greatest_number ns))
     last (Some n) ns = greatest-append ns n
 
-pub greatest-none : greatest [] ≡ None
-unfolding greatest
+pub greatest-none : greatest_number [] ≡ None
+unfolding greatest_number
 greatest-none = refl
 
 -- it is what the greater of two Options is, where None comes before each number
@@ -65,8 +65,8 @@ fold-most (m ∷ ns) n bound here most =
     greater_most : m ≤ bound → max n m ≤ bound
     greater_most other = omega (arith, here, other)
 
-greatest-most : (ns : List ℕ) (bound : ℕ) → All (λ n. n ≤ bound) ns → IfSome (greatest ns) (λ n. n ≤ bound)
-unfolding greatest
+greatest-most : (ns : List ℕ) (bound : ℕ) → All (λ n. n ≤ bound) ns → IfSome (greatest_number ns) (λ n. n ≤ bound)
+unfolding greatest_number
 greatest-most [] bound most = tt
 greatest-most (n ∷ ns) bound most = fold-most ns n bound (All-head (λ n. n ≤ bound) n ns most) (All-tail (λ n. n ≤ bound) n ns most)
 
@@ -83,5 +83,5 @@ told-most tells (x ∷ xs) bound most = one (tells x) (All-head (λ x. IfSome (t
 
 -- where what each tells is at most the bound, so is the greatest
 pub greatest-within : {X : Type 0} (tells : X → Option ℕ) (xs : List X) (bound : ℕ) →
-    All (λ x. IfSome (tells x) (λ n. n ≤ bound)) xs → IfSome (greatest (filter_map tells xs)) (λ n. n ≤ bound)
+    All (λ x. IfSome (tells x) (λ n. n ≤ bound)) xs → IfSome (greatest_number (filter_map tells xs)) (λ n. n ≤ bound)
 greatest-within tells xs bound most = greatest-most (filter_map tells xs) bound (told-most tells xs bound most)

@@ -14,7 +14,7 @@ use Rattle.eg_sweep.specs.Grid.{swept_classes, onset_count, onsets, faults_of, s
 
 -- ---- the onsets ----
 
--- where a run of t ticks is q steps of s ticks and r ticks more, a multiple of s lies within it exactly where its place is below the count of onsets
+-- where a run of t ticks is q steps of s ticks and r ticks more, a multiple of s lies within it exactly if its place is below the count of onsets
 place-within : (q r s i t : ℕ) → 1 ≤ s → s * q + r ≡ t → i < q + min 1 r → i * s < t
 place-within q zero s i t some whole below = let h : s * (i + 1) ≤ s * q = mul-le-mul_left s (omega arith) in omega (arith, h)
 place-within q (suc r) s i t some whole below = let h : s * i ≤ s * q = mul-le-mul_left s (omega arith) in omega (arith, h)

@@ -10,7 +10,7 @@ use Rattle.eg_record.specs.declared.watch.Watch.TheVariants.{Mirror, Pedal, Plat
 use Rattle.eg_record.specs.Detection.{watches, rank, is_watch}
 use Rattle.eg_record.specs.Facts.{reaction_in}
 use Rattle.eg_sweep.specs.declared.row.SweepRow.{SweepRow}
-use Rattle.eg_sweep.specs.Table.{is_found_first, greatest, row_of}
+use Rattle.eg_sweep.specs.Table.{is_found_first, greatest_number, row_of}
 use Rattle.eg_sweep.proofs.GreatestLemmas.{greater, greatest-more}
 
 -- ---- one run more ----
@@ -41,7 +41,7 @@ row_with runs first reaction = record {
   runs = length runs + 1;
   none = counted (is_none first) (none_in runs);
   by_watch = map (λ watch. counted (is_watch watch (option_map (λ detection. detection.0) first)) (first_in runs watch)) watches;
-  reaction = greater (greatest (filter_map reaction_in runs)) reaction;
+  reaction = greater (greatest_number (filter_map reaction_in runs)) reaction;
 }
 
 row-more : (runs : List Facts) (facts : Facts) → row_of (runs ++ facts ∷ []) ≡ row_with runs facts.first (reaction_in facts)

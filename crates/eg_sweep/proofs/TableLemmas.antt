@@ -14,7 +14,7 @@ use Rattle.eg_record.specs.declared.watch.Watch.TheVariants.{Mirror, Pedal, Plat
 use Rattle.eg_record.specs.Detection.{watches, rank, is_watch}
 use Rattle.eg_sweep.specs.declared.row.SweepRow.{SweepRow}
 use Rattle.eg_sweep.specs.Grid.{swept_classes}
-use Rattle.eg_sweep.specs.Table.{class_index, facts_under, is_found_first, row_of, rows_of}
+use Rattle.eg_sweep.specs.Table.{class_index, facts_under, is_found_first, row_of, class_rows}
 
 -- ---- one run more ----
 
@@ -45,44 +45,44 @@ facts_under-more class runs run = ap (map told) (filter-append of_class runs (ru
 grown_rows : Fault × Facts → List (Fault × Facts) → List SweepRow
 grown_rows run runs = map (λ class. row_of (grown class run (facts_under class runs))) swept_classes
 
-rows-grown : (runs : List (Fault × Facts)) (run : Fault × Facts) → rows_of (runs ++ run ∷ []) ≡ grown_rows run runs
-unfolding rows_of grown_rows
+rows-grown : (runs : List (Fault × Facts)) (run : Fault × Facts) → class_rows (runs ++ run ∷ []) ≡ grown_rows run runs
+unfolding class_rows grown_rows
 rows-grown runs run = λ i. map (λ class. row_of (facts_under-more class runs run i)) swept_classes
 
 grown-set : (class : Class) (onset : ℕ) (facts : Facts) (runs : List (Fault × Facts)) →
     grown_rows (record { onset = onset; class = class }, facts) runs
-    ≡ set (rows_of runs) (class_index class) (row_of (facts_under class runs ++ facts ∷ []))
-unfolding grown_rows grown rows_of swept_classes class_index facts_under
+    ≡ set (class_rows runs) (class_index class) (row_of (facts_under class runs ++ facts ∷ []))
+unfolding grown_rows grown class_rows swept_classes class_index facts_under
 grown-set (Script track values) onset facts runs = refl
 grown-set _ onset facts runs = refl
 
 rows-more : (runs : List (Fault × Facts)) (fault : Fault) (facts : Facts) →
-    rows_of (runs ++ (fault, facts) ∷ []) ≡ set (rows_of runs) (class_index fault.class) (row_of (facts_under fault.class runs ++ facts ∷ []))
+    class_rows (runs ++ (fault, facts) ∷ []) ≡ set (class_rows runs) (class_index fault.class) (row_of (facts_under fault.class runs ++ facts ∷ []))
 rows-more runs fault facts = rows-grown runs (fault, facts) ∙ grown-set fault.class fault.onset facts runs
 
 -- the row of a class
 row-at : (class : Class) (runs : List (Fault × Facts)) (d : SweepRow) →
-    get_or (rows_of runs) (class_index class) d ≡ row_of (facts_under class runs)
-unfolding rows_of swept_classes class_index facts_under
+    get_or (class_rows runs) (class_index class) d ≡ row_of (facts_under class runs)
+unfolding class_rows swept_classes class_index facts_under
 row-at (Script track values) runs d = refl
 row-at _ runs d = refl
 
 pub row_at : (rows : List SweepRow) (place : ℕ) (fault : Fault) (runs : List (Fault × Facts)) (d : SweepRow) →
-    rows ≡ rows_of runs → place ≡ class_index fault.class → get_or rows place d ≡ row_of (facts_under fault.class runs)
+    rows ≡ class_rows runs → place ≡ class_index fault.class → get_or rows place d ≡ row_of (facts_under fault.class runs)
 row_at rows place fault runs d are is = ap₂ (λ rows place. get_or rows place d) are is ∙ row-at fault.class runs d
 
 -- the row of a fault's class, with one run more in it
 pub rows-set : (rows : List SweepRow) (place : ℕ) (fault : Fault) (runs : List (Fault × Facts)) (facts : Facts) (row : SweepRow) →
-    rows ≡ rows_of runs → place ≡ class_index fault.class → row ≡ row_of (facts_under fault.class runs ++ facts ∷ []) → set rows place row ≡ rows_of (runs ++ (fault, facts) ∷ [])
+    rows ≡ class_rows runs → place ≡ class_index fault.class → row ≡ row_of (facts_under fault.class runs ++ facts ∷ []) → set rows place row ≡ class_rows (runs ++ (fault, facts) ∷ [])
 rows-set rows place fault runs facts row are is row_is = ap₂ (λ rows place. set rows place row) are is
-    ∙ ap (set (rows_of runs) (class_index fault.class)) row_is ∙ sym (rows-more runs fault facts)
+    ∙ ap (set (class_rows runs) (class_index fault.class)) row_is ∙ sym (rows-more runs fault facts)
 
 -- the rows of no runs
-pub rows-none : (row : SweepRow) → row ≡ row_of [] → replicate 14 row ≡ rows_of []
+pub rows-none : (row : SweepRow) → row ≡ row_of [] → replicate 14 row ≡ class_rows []
 rows-none row is = ap (replicate 14) is ∙ none
   where
-    none : replicate 14 (row_of []) ≡ rows_of []
-    none = unfold rows_of facts_under swept_classes in refl
+    none : replicate 14 (row_of []) ≡ class_rows []
+    none = unfold class_rows facts_under swept_classes in refl
 
 -- ---- sums ----
 
@@ -134,8 +134,8 @@ each_in_one (run ∷ runs) =
     let before = each_in_one runs in
     omega (arith, more, one, before)
 
-pub runs-sum : (runs : List (Fault × Facts)) → sum_by (λ row. row.runs) (rows_of runs) ≡ length runs
-unfolding rows_of row_of
+pub runs-sum : (runs : List (Fault × Facts)) → sum_by (λ row. row.runs) (class_rows runs) ≡ length runs
+unfolding class_rows row_of
 runs-sum runs = sum_by-map (λ row. row.runs) (λ class. row_of (facts_under class runs)) swept_classes
     ∙ (λ i. sum_by (λ class. length-facts_under class runs i) swept_classes) ∙ each_in_one runs
 
@@ -169,7 +169,7 @@ unfolding row_of
 row-sum facts = ap (λ n. count_by (λ facts. is_none facts.first) facts + n)
     (sum-map (λ watch. count_by (is_found_first watch) facts) watches) ∙ each_once facts
 
-pub rows-sums : (runs : List (Fault × Facts)) → All (λ row. row.none + sum row.by_watch ≡ row.runs) (rows_of runs)
-unfolding rows_of
+pub rows-sums : (runs : List (Fault × Facts)) → All (λ row. row.none + sum row.by_watch ≡ row.runs) (class_rows runs)
+unfolding class_rows
 rows-sums runs = All-map (λ row. row.none + sum row.by_watch ≡ row.runs) (λ class. row_of (facts_under class runs)) swept_classes
     (λ k d below. row-sum (facts_under (get_or swept_classes k d) runs))

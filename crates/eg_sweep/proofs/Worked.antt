@@ -12,12 +12,12 @@ use Rattle.eg_record.specs.Detection.{is_watch, rank}
 use Rattle.eg_record.specs.Facts.{off_from, reaction_in}
 use Rattle.eg_record.specs.Texts.{watch_name}
 use Rattle.eg_sweep.specs.Grid.{swept_classes, onset_count, onsets, faults_of, swept_faults, is_too_large}
-use Rattle.eg_sweep.specs.Table.{class_index, facts_under, is_found_first, greatest, row_of, rows_of, table_of, greatest_listed}
+use Rattle.eg_sweep.specs.Table.{class_index, facts_under, is_found_first, greatest_number, row_of, class_rows, table_of, greatest_listed}
 use Rattle.eg_sweep.specs.Texts.{class_name, class_names, reaction_text, watch_text, watches_text, sweep_line, sweep_end, sweep_lines, sweep_text_of}
 
 -- every definition that these need
 unfoldable sweeping : ℕ
-unfolding swept_classes onset_count onsets faults_of swept_faults is_too_large class_index facts_under is_found_first greatest row_of rows_of table_of greatest_listed
+unfolding swept_classes onset_count onsets faults_of swept_faults is_too_large class_index facts_under is_found_first greatest_number row_of class_rows table_of greatest_listed
     class_name class_names reaction_text watch_text watches_text sweep_line sweep_end sweep_lines sweep_text_of is_watch rank off_from reaction_in watch_name digits
 sweeping = 0
 
@@ -77,7 +77,7 @@ longest_run = (refl, refl)
 abbrev told : (first : Option (Watch × ℕ)) → (confirmed last_on : Option ℕ) → Facts
 told first confirmed last_on = record { first = first; off = None; last_on = last_on; confirmed = confirmed; ticks = 60 }
 
-greatest_numbers : (greatest [] ≡ None) × (greatest (0 ∷ []) ≡ Some 0) × (greatest (3 ∷ 7 ∷ 5 ∷ []) ≡ Some 7) × (greatest (7 ∷ 5 ∷ []) ≡ Some 7)
+greatest_numbers : (greatest_number [] ≡ None) × (greatest_number (0 ∷ []) ≡ Some 0) × (greatest_number (3 ∷ 7 ∷ 5 ∷ []) ≡ Some 7) × (greatest_number (7 ∷ 5 ∷ []) ≡ Some 7)
 unfolding sweeping
 greatest_numbers = (refl, refl, refl, refl)
 

@@ -44,9 +44,9 @@ unfoldable pub is_found_first : Watch → Facts → Bool
 is_found_first watch facts = is_watch watch (option_map (λ detection. detection.0) facts.first)
 
 -- the greatest of some numbers, if there are any
-unfoldable pub greatest : List ℕ → Option ℕ
-greatest [] = None
-greatest (n ∷ others) = Some (fold max n others)
+unfoldable pub greatest_number : List ℕ → Option ℕ
+greatest_number [] = None
+greatest_number (n ∷ others) = Some (fold max n others)
 
 -- the row of runs with these facts
 unfoldable pub row_of : List Facts → SweepRow
@@ -54,19 +54,19 @@ row_of runs = record {
   runs = length runs;
   none = count_by (λ facts. is_none facts.first) runs;
   by_watch = map (λ watch. count_by (is_found_first watch) runs) watches;
-  reaction = greatest (filter_map reaction_in runs);
+  reaction = greatest_number (filter_map reaction_in runs);
 }
 
 -- ---- the table ----
 
 -- the rows of the fourteen classes
-unfoldable pub rows_of : List (Fault × Facts) → List SweepRow
-rows_of runs = map (λ class. row_of (facts_under class runs)) swept_classes
+unfoldable pub class_rows : List (Fault × Facts) → List SweepRow
+class_rows runs = map (λ class. row_of (facts_under class runs)) swept_classes
 
 -- the rows of runs under these faults that have these facts
 unfoldable pub table_of : List Fault → List Facts → List SweepRow
-table_of faults facts = rows_of (zip faults facts)
+table_of faults facts = class_rows (zip faults facts)
 
 -- the greatest reaction under listed faults: that of the thirteen rows before the last, which is of lapses
 unfoldable pub greatest_listed : List SweepRow → Option ℕ
-greatest_listed rows = greatest (filter_map (λ row. row.reaction) (take 13 rows))
+greatest_listed rows = greatest_number (filter_map (λ row. row.reaction) (take 13 rows))

@@ -29,7 +29,7 @@ impl From<NoMemory> for SweepFault {
 
 /// The faults of a sweep over a run of `ticks` ticks, at most 20,000: one of each class, in the order of
 /// `Class`, at each onset. The onsets are 0, `step`, twice `step` and so on below `ticks` (docs/CONCEPT.md,
-/// "`sweep`"). It is refused as Grid exactly where these are more than 1,000 runs, or more than 1,000,000
+/// "`sweep`"). It is refused as Grid exactly if these are more than 1,000 runs, or more than 1,000,000
 /// ticks in all; else Memory is its one refusal.
 pub fn sweep_faults(alloc: Global, ticks: u32, step: u32) -> Result<Vec<Fault>, SweepFault>
     requires ticks { ticks ≤ 20000 }

@@ -21,7 +21,7 @@ impl SweepRow {
     ghost use Rattle.eg_sweep.specs.Table.{row_of};
 
     /// The row of no runs.
-    #[tactic(auto, unfolding(crate::specs::Table::row_of, crate::specs::Table::greatest))]
+    #[tactic(auto, unfolding(crate::specs::Table::row_of, crate::specs::Table::greatest_number))]
     pub(crate) fn new() -> SweepRow
         ensures { result ≡ row_of [] }
     {

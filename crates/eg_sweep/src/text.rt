@@ -1,7 +1,7 @@
 // The text of the table of a sweep.
 ghost use Rattle.std.specs.Prelude.{◌≡◌, ◌++◌, IfOk, OnOk, string_bytes};
 ghost use Rattle.std.specs.List.{filter_map};
-ghost use Rattle.eg_sweep.specs.Table.{greatest, greatest_listed};
+ghost use Rattle.eg_sweep.specs.Table.{greatest_number, greatest_listed};
 ghost use Rattle.eg_sweep.specs.Texts.{class_name, reaction_text, sweep_end, sweep_line, sweep_text_of, watches_text};
 
 use crate::SweepRow;
@@ -101,12 +101,12 @@ fn greatest_listed(rows: &[SweepRow; 14]) -> Option<u32>
     ensures { result ≡ greatest_listed rows.now }
 {
     let all = rows.as_slice();
-    greatest(&all[..LISTED])
+    greatest_reaction(&all[..LISTED])
 }
 
 /// The greatest reaction of these rows, in ticks.
-fn greatest(rows: &[SweepRow]) -> Option<u32>
-    ensures { result ≡ greatest (filter_map (λ row. row.reaction) rows.now) }
+fn greatest_reaction(rows: &[SweepRow]) -> Option<u32>
+    ensures { result ≡ greatest_number (filter_map (λ row. row.reaction) rows.now) }
 {
     let mut most = None;
     for row in rows {

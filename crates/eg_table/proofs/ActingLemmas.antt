@@ -91,7 +91,7 @@ comes_never every n tick late =
     let never : nat_lt tick n ≡ false = grind (arith, nat_tests) in
     never ∙ sym (ap (λ b. b && ((every == 0) || nat_lt tick every)) never) ∙ comes-is every n tick
 
--- level 2 is left out at some tick exactly where a number of the list does so
+-- level 2 is left out at some tick exactly if a number of the list does so
 pub left_out-is : (every n : ℕ) (after : List ℕ) →
     list_any (λ tick. list_any (is_left_out (tick ∷ []) every) (range_with_len 0 n)) after
     ≡ list_any (is_left_out after every) (range_with_len 0 n)

@@ -1,4 +1,4 @@
--- What a fault does at a tick isn't nothing exactly where the definition says that it has an effect.
+-- What a fault does at a tick isn't nothing exactly if the definition says that it has an effect.
 use Rattle.std.proofs.Common.{◌≡◌, ◌≢◌, ◌∙◌, ℕ, suc, ◌+◌, ◌-◌, ◌==◌, inl, inr, Bool, true, false, not, ◌&&◌, Some, None, refl, sym, ap, arith}
 use Rattle.std.specs.Prelude.{ℤ, pos, negsuc, Option, is_some, min, if◌then◌else◌}
 use Rattle.std.specs.Int.Bits.{xor_zero_l}

@@ -23,13 +23,13 @@ DoesSomething fault ticks = (tick : ℕ) × (tick < ticks) × (effects (Some fau
 abbrev pub DoesNothing : Fault → (ticks : ℕ) → Type 0
 DoesNothing fault ticks = (tick : ℕ) → tick < ticks → effects (Some fault) tick ≡ no_effects
 
--- so a valid fault has acted exactly where it does something at some tick of the run
+-- so a valid fault has acted exactly if it does something at some tick of the run
 abbrev pub ActedLaw : Type 0
 ActedLaw =
     (fault : Fault) → IsValid fault → (ticks : ℕ) →
     (has_acted (Some fault) ticks ≡ Some true) ↔ DoesSomething fault ticks
 
--- and it hasn't acted exactly where it does nothing at any tick of the run
+-- and it hasn't acted exactly if it does nothing at any tick of the run
 abbrev pub UnactedLaw : Type 0
 UnactedLaw =
     (fault : Fault) → IsValid fault → (ticks : ℕ) →

@@ -3,7 +3,7 @@ ghost use Rattle.eg_table.specs.Laws.{OthersDoNothing, EffectsDoSomething, Acted
 
 /// Does nothing when it runs. Its contract has the laws of `acted` (docs/CONCEPT.md, "`table`"): at a tick at
 /// which a class has no effect nothing is out of order, and at one at which a valid class has one something
-/// is; so a valid fault has acted exactly where something is out of order by it at some tick of the run. (A
+/// is; so a valid fault has acted exactly if something is out of order by it at some tick of the run. (A
 /// `timing` fault at the usual send tick counts too, though it changes nothing.)
 pub fn acting_is_doing_something()
     ensures nothing { OthersDoNothing }

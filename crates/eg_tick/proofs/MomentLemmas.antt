@@ -4,7 +4,7 @@ use Rattle.std.specs.Prelude.{◌==◌}
 use Rattle.eg_fault.specs.Effects.{Effects}
 use Rattle.eg_model.specs.History.{Setting, Entry, SpanKind, drives, Moment}
 use Rattle.eg_model.specs.Answers.{verdict_at, confirms_at}
-use Rattle.eg_model.specs.Paths.{is_testing, reads_back, path1_at, path2_at, on_at}
+use Rattle.eg_model.specs.Paths.{is_testing, reads_back, path1_at, path2_at, both_conduct}
 use Rattle.eg_model.specs.Level1.{world_at}
 use Rattle.eg_model.specs.Moments.{readings_at, limit_at, moment_in}
 
@@ -32,7 +32,7 @@ module _ (kind : SpanKind) (s : Setting) (x : Effects) (e : Entry) (past : List 
   unfolding moment_in
   moment_in-path2 = refl
 
-  pub moment_in-on : m.on ≡ (drives kind && on_at x past)
+  pub moment_in-on : m.on ≡ (drives kind && both_conduct x past)
   unfolding moment_in
   moment_in-on = refl
 

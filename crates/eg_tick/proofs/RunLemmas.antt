@@ -17,7 +17,7 @@ use Rattle.eg_word.specs.declared.registers.Trap.{Trap}
 use Rattle.eg_word.specs.World.{World}
 use Rattle.eg_record.specs.declared.row.Row.{Row}
 use Rattle.eg_model.specs.History.{Setting, Entry, drives, Moment}
-use Rattle.eg_model.specs.Paths.{on_at}
+use Rattle.eg_model.specs.Paths.{both_conduct}
 use Rattle.eg_model.specs.Level1.{last_world}
 use Rattle.eg_model.specs.Moments.{moment_in}
 use Rattle.eg_model.specs.Spans.{kind_at, before_at, moment_at, next_after, moments, next}
@@ -70,7 +70,7 @@ module _ {S E : Type 0} (b : BenchEngine S) (come_to : ComeTo S E) (r : Run) (t 
   world = last_world (before_at drive past)
 
   on : Bool
-  on = drives (kind_at drive past) && on_at (effects s.fault t) (before_at drive past)
+  on = drives (kind_at drive past) && both_conduct (effects s.fault t) (before_at drive past)
 
   held : Option ℕ
   held = (effects s.fault t).held_plate
@@ -93,8 +93,8 @@ module _ {S E : Type 0} (b : BenchEngine S) (come_to : ComeTo S E) (r : Run) (t 
 
     on-same : (next s (entry_of drive slices new.kept.shown) h).on ≡ on
     unfolding on next next_after moment_at moment_in entry_of
-    on-same = ap (λ p. drives (kind_at drive p) && on_at (effects s.fault (length p)) (before_at drive p)) (sym past-is)
-        ∙ ap (λ n. drives (kind_at drive past) && on_at (effects s.fault n) (before_at drive past)) length-past
+    on-same = ap (λ p. drives (kind_at drive p) && both_conduct (effects s.fault (length p)) (before_at drive p)) (sym past-is)
+        ∙ ap (λ n. drives (kind_at drive past) && both_conduct (effects s.fault n) (before_at drive past)) length-past
 
     -- the engine after a step from the state of the bench
     after_step : World → Bool → Option ℕ → E
@@ -123,17 +123,17 @@ module _ {S E : Type 0} (b : BenchEngine S) (come_to : ComeTo S E) (r : Run) (t 
     next_engine : (d : DriveRow) → drive_at r t ≡ d →
         engine_after b s (next_after s e past ∷ past)
         ≡ b.step s.cal.plant (engine_after b s past) (last_world (before_at d past)).throttle (last_world (before_at d past)).ignition
-        (drives (kind_at d past) && on_at (effects s.fault t) (before_at d past)) (effects s.fault t).held_plate
+        (drives (kind_at d past) && both_conduct (effects s.fault t) (before_at d past)) (effects s.fault t).held_plate
     unfolding engine_after stepped next_after moment_at moment_in e entry_at
     next_engine d is =
         ap (λ (w : World). b.step s.cal.plant (engine_after b s past) w.throttle w.ignition (next_after s e past).on
         (effects s.fault (length past)).held_plate) (commands (drive_at r t) past)
         ∙ ap (λ n. b.step s.cal.plant (engine_after b s past) (last_world (before_at (drive_at r t) past)).throttle
         (last_world (before_at (drive_at r t) past)).ignition
-        (drives (kind_at (drive_at r t) past) && on_at (effects s.fault n) (before_at (drive_at r t) past)) (effects s.fault n).held_plate)
+        (drives (kind_at (drive_at r t) past) && both_conduct (effects s.fault n) (before_at (drive_at r t) past)) (effects s.fault n).held_plate)
         length-past
         ∙ ap (λ row. b.step s.cal.plant (engine_after b s past) (last_world (before_at row past)).throttle
-        (last_world (before_at row past)).ignition (drives (kind_at row past) && on_at (effects s.fault t) (before_at row past)) (effects s.fault t).held_plate) is
+        (last_world (before_at row past)).ignition (drives (kind_at row past) && both_conduct (effects s.fault t) (before_at row past)) (effects s.fault t).held_plate) is
 
     engine-next : after_step world on held ≡ come_to r.setting.cal.plant (engine_after b r.setting (moments_to b r (suc t)))
     unfolding s plant past state after_step world on held e moments_to

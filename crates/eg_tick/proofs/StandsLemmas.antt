@@ -13,7 +13,7 @@ use Rattle.eg_level2.specs.declared.step.Step.{Step}
 use Rattle.eg_record.specs.declared.row.Row.{Row}
 use Rattle.eg_model.specs.History.{Setting, Entry, Tick, SpanKind, Drive, Test, drives, Moment}
 use Rattle.eg_model.specs.Signals.{last_signals}
-use Rattle.eg_model.specs.Paths.{is_testing, reads_back, latch1, latch2, path1_at, path2_at, on_at}
+use Rattle.eg_model.specs.Paths.{is_testing, reads_back, latch1, latch2, path1_at, path2_at, both_conduct}
 use Rattle.eg_model.specs.Level1.{last_world}
 use Rattle.eg_model.specs.Premises.{IsProperRun}
 use Rattle.eg_model.specs.Moments.{limit_at, moments_in}
@@ -100,8 +100,8 @@ module _ (kind : SpanKind) (s : Setting) (x : Tick) (h : List Tick) (old : Kept)
   unfolding path2_at
   led2 = leads.path2 ∙ ap (x.effects.conducts 2) holds.latches.path2 ∙ sym (moment_in-path2 kind s x.effects x.entry ticks-past)
 
-  led-both : (paths.path1 && paths.path2) ≡ on_at x.effects ticks-past
-  unfolding on_at
+  led-both : (paths.path1 && paths.path2) ≡ both_conduct x.effects ticks-past
+  unfolding both_conduct
   led-both = ap₂ (λ a b. a && b) (led1 ∙ moment_in-path1 kind s x.effects x.entry ticks-past) (led2 ∙ moment_in-path2 kind s x.effects x.entry ticks-past)
 
   led-on : paths.on ≡ (moment_after kind s x h).on

@@ -62,7 +62,7 @@ was_wild h = list_any (λ x. is_some x.effects.wild) h
 
 -- In a monitoring module that was never wild the verdicts are as many as the periods that are over, and the
 -- answers that it holds are those that were sent in the period that isn't over yet, each at its tick, and
--- each with the expected number exactly where it is good.
+-- each with the expected number exactly if it is good.
 pub record IsOrderly (kind : SpanKind) (s : Setting) (monitor : MonitorParts)
     (h : List Tick) : Type 0 where
   pub period : monitor.verdicts ≡ period_of s.cal.times (length h)

@@ -1,6 +1,6 @@
 -- A row weighs its tick, charge, five signals and two outputs together, and the count of ticks keeps how many
--- were made and what their rows weigh, modulo 2^64. So the weights tell whether ticks that are counted were
--- made.
+-- were made and what their rows weigh, modulo 2^64. That ticks which are counted were made follows from
+-- another thing: only a controller that makes a tick can raise the count.
 use Rattle.std.specs.Prelude.{ℕ, ◌+◌}
 use Rattle.std.specs.List.{sum}
 use Rattle.eg_record.specs.declared.row.Row.{Row}

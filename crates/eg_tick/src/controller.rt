@@ -21,7 +21,7 @@ use crate::row::{Beginning, effective, limit, look_up, row};
 use crate::span::{Span, enter};
 use crate::working::{Level1, Task, work};
 use eg_base::NoMemory;
-use eg_fault::{Fault, held_plate};
+use eg_fault::{Fault, held};
 use eg_guard::Guarded;
 use eg_host::Host;
 use eg_level2::Level2;
@@ -260,7 +260,7 @@ impl<E: Engine + Drop, M: Guarded + Drop> Controller<E, M> {
             span_tick: self.span.next_tick(self.test_ticks),
             paths: Paths::at(fault, tick, &self.span),
         };
-        let held_plate = held_plate(fault, tick);
+        let held_plate = held(fault, tick);
         step_engine(&mut self.engine, &self.memory, begins.paths.on, held_plate);
         let asked = question(&self.span.monitor, questions, fault, tick, local);
         let task = Task {

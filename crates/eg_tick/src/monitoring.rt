@@ -85,7 +85,7 @@ pub(crate) fn judge(
         → Tells result (moment_after kind s x h) }
     ensures opens { result.opens ≡ (effects (option_copied fault.entry) tick).opens }
 {
-    let mark = mark(number(questions, asked), answer);
+    let mark = mark(expected_number(questions, asked), answer);
     let before = monitor.confirmed();
     let verdict = verdict(monitor, fault, tick, local, answer);
     Judgement {
@@ -98,7 +98,7 @@ pub(crate) fn judge(
 
 /// The number that is expected as the answer to a question.
 #[tactic(auto, unfolding(eg_answer::specs::Answers::answer_number))]
-fn number(questions: &Questions, asked: u16) -> u32
+fn expected_number(questions: &Questions, asked: u16) -> u32
     requires { asked < length questions.now }
     ensures { result ≡ answer_number (question_at questions.now asked).answer }
 {

@@ -78,7 +78,7 @@ pub fn run_one(
     ensures short { HasLapseBound calibration.now.rules.torque calibration.now.times →
         IsLapse (option_copied fault.entry) → IfOk result (λ made.
         EachDriveSpan (ExcessIsShort calibration.now) (reverse made.rows)) }
-    // A test span begins at each reset, else a drive span at the first tick and exactly where a test was
+    // A test span begins at each reset, else a drive span at the first tick and exactly if a test was
     // passed at the tick before. In each test span the stages are off. Without a fault, and before its onset,
     // no start-up test fails.
     ensures cycles { IfOk result (λ made.

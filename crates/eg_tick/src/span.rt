@@ -193,8 +193,8 @@ pub(crate) fn enter<M: Guarded>(
     Ok(())
 }
 
-/// Begins a span, in which all is as at the start of a run but for the engine, which goes on
-/// (docs/CONCEPT.md, "Power cycles"). The code stays, since nobody changes it.
+/// Begins a span, in which all is as at the start of a run but for the engine, the fault, the slice plan and
+/// the trap that is told, which go on (docs/CONCEPT.md, "Power cycles"). The code stays: nobody changes it.
 #[inline(never)]
 fn begin<M: Guarded>(
     span: &mut Span,

@@ -18,7 +18,7 @@ pub enum DocumentFault {
 }
 
 /// The document that a file's bytes are (docs/FORMATS.md, "Calibration files"). Text is answered exactly
-/// where the bytes are no document, unless memory runs out, which may happen for any bytes.
+/// if the bytes are no document, unless memory runs out, which may happen for any bytes.
 pub fn read_document(alloc: Global, bytes: &[u8]) -> Result<Table, DocumentFault>
     ensures read { IfOk result (λ t. document_of bytes.now ≡ Some (table_view t)) }
     ensures refused { result ≡ Err fault.Text → document_of bytes.now ≡ None }

@@ -10,7 +10,7 @@ use Rattle.eg_values.specs.Calibration.{CalibrationParts}
 use Rattle.eg_cal.specs.Answers.{answers_of}
 use Rattle.eg_cal.specs.declared.key.CalFault.{CalFault}
 use Rattle.eg_outcome.specs.Calibrations.{CalibratedEnds}
-use Rattle.eg_outcome.specs.Outcomes.{LineEnds, Follows}
+use Rattle.eg_outcome.specs.Outcomes.{LineEnds, WorkFollows}
 use Rattle.eg_outcome.specs.Reads.{refused, sized, FileComes}
 use Rattle.eg_outcome.specs.declared.outcome.Outcome.{Outcome}
 use Rattle.eg_outcome.specs.declared.outcome.Refusal.{Refusal}
@@ -59,5 +59,5 @@ answers_file = sized role.Calibration answers_or_refusal
 abbrev pub AnswersEnd : List ℕ → ShownStore → ShownStore → ShownSink → ShownSink → Outcome → Type 0
 AnswersEnd name store later out now o = (come : Result (List Question) Outcome)
     × FileComes role.Calibration answers_file name store later come
-    × Follows (λ asked end. (later.faults ≡ store.faults) × LineEnds (answers_text asked) out now end)
+    × WorkFollows (λ asked end. (later.faults ≡ store.faults) × LineEnds (answers_text asked) out now end)
     (now ≡ out) come o

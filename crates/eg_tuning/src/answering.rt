@@ -21,7 +21,7 @@ use std::alloc::{AllocError, Global};
 pub fn answers<S: Store, K: Sink>(alloc: Global, file: &str, store: &mut S, out: &mut K) -> Outcome
     ensures ends { AnswersEnd file.now (S.shows store.old) (S.shows store.new) (K.shows out.old)
         (K.shows out.new) result }
-    // Over a sure store a fault of reading is told exactly where there is no such file.
+    // Over a sure store a fault of reading is told exactly if there is no such file.
     ensures missing { IsTrue (S.shows store.old).sure →
         ((result ≡ ReadFault role.Calibration) ↔ IsMissing (S.shows store.old).files file.now) }
     ensures no_memory { TellsNoMemory result }

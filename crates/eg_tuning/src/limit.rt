@@ -12,14 +12,15 @@ pub struct Limits {
     pub reaction: u32,
     /// The bound for lapses, in ticks, if there is one.
     pub lapse: Option<u32>,
-    /// How many wrong verdicts in a row open path 2.
+    /// How many wrong verdicts in a row open path 2, from an empty counter.
     pub verdicts: u32,
-    /// How many ticks of excess in a row confirm it, where level 2 runs at each.
+    /// How many ticks of excess in a row confirm it, where level 2 runs at each, from an empty counter.
     pub excess: u32,
     /// The tick of its span at which a start-up test reads the shut-off paths back.
     pub test: u32,
-    /// How far apart, in ticks, missed runs of level 2 have to lie so that wrong answers never cut before a
-    /// watch trips: the least number of whole periods that is proved to be enough, if there is one.
+    /// Missed runs of level 2 that lie so many ticks apart never make wrong answers cut before a watch trips.
+    /// It is the least number of whole periods that is proved to be enough, if there is one; fewer ticks may
+    /// be enough.
     pub spacing: Option<u32>,
 }
 

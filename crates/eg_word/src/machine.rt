@@ -47,7 +47,7 @@ pub fn step_on<M: Guarded>(
     requires program { ForSome (option_copied program) (IsProgramOf (M.shows memory.old).words) }
     ensures step { IsOneStep registers.old registers.new (M.shows memory.old) (M.shows memory.new) result }
 
-    // The machine runs on exactly where the answer is true.
+    // The machine runs on exactly if the answer is true.
     ensures runs { IfOk result (λ runs. IsTrue runs → registers.new.state ≡ Running) }
     ensures ends { IfOk result (λ runs. IsFalse runs → registers.new.state ≢ Running) }
 {

@@ -22,7 +22,7 @@ returns-clause-words g c =
 
 pub returns-clause-answer : goal.returns-clause-answer
 returns-clause-answer g c =
-    answered _ _ _ _ _ _ c.number.ensures c.answers_now-sends.ensures c.closed_flow-flow.ensures c.word-sign.ensures
+    answered _ _ _ _ _ _ c.sent_number.ensures c.answers_now-sends.ensures c.closed_flow-flow.ensures c.word-sign.ensures
 
 pub returns-in_err-begin_token-clause-words : goal.returns-in_err-begin_token-clause-words
 returns-in_err-begin_token-clause-words g c = IfOk-from_err c.from_residual.result _ c.from_residual.ensures.0

@@ -8,7 +8,7 @@ use Rattle.eg_tick.specs.Run.{run_by}
 use Rattle.eg_tick.specs.Counting.{count_with}
 use Rattle.eg_campaign.specs.Plays.{EngineRun, rows_in_time}
 use Rattle.eg_campaign.proofs.PlayLemmas.{same_run}
-use Rattle.eg_soak.specs.Facts.{facts_of}
+use Rattle.eg_soak.specs.Facts.{drawn_facts}
 use Rattle.eg_soak.specs.Soak.{on_gasoline, run_drawn}
 use Rattle.eg_tick.proofs.CountLemmas.{counts_record}
 use Rattle.eg_soak.proofs.FactsLemmas.{any_fault, facts_told}
@@ -30,7 +30,7 @@ pub returns-clause-facts : goal.returns-clause-facts
 unfolding record_facts
 returns-clause-facts c = c.of.ensures
     ∙ facts_told (played c).run _ _ c.run_facts-trap.ensures.facts (c.is_some.ensures ∙ ap is_some c.run_facts-trap.ensures.trap)
-    ∙ ap facts_of (is_drawn c)
+    ∙ ap drawn_facts (is_drawn c)
 
 pub returns-clause-counted : goal.returns-clause-counted
 unfolding rows_in_time

@@ -4,7 +4,7 @@ use Rattle.std.proofs.lemmas.List.{length-map}
 use Rattle.eg_base.proofs.ResultLemmas.{at_err}
 use Rattle.eg_campaign.specs.Plays.{rows_of_runs}
 use Rattle.eg_tick.proofs.CountLemmas.{counts_none}
-use Rattle.eg_soak.specs.Facts.{facts_of}
+use Rattle.eg_soak.specs.Facts.{drawn_facts}
 use Rattle.eg_soak.specs.Soak.{drawn_runs}
 use Rattle.eg_soak.proofs.RunsLemmas.{state_of, state-next, facts-next, counts-next, runs-length}
 use Rattle.eg_soak.proofs.playing.play_all.Goals as goal
@@ -51,5 +51,5 @@ returns-clause-length c =
     let least : c.args.runs ≤ c.loop-done._done = c.loop-done-test.false in
     let most : c.loop-done._done ≤ c.args.runs = c.loop-done.auto._done-end in
     let all : c.loop-done._done ≡ c.args.runs = omega (arith, least, most) in
-    ap length c.loop-done.invariant.told ∙ length-map (drawn_runs c.loop-done._done c.args.seed) facts_of
+    ap length c.loop-done.invariant.told ∙ length-map (drawn_runs c.loop-done._done c.args.seed) drawn_facts
     ∙ runs-length c.loop-done._done c.args.seed ∙ all

@@ -1,7 +1,7 @@
 use Rattle.std.proofs.Common.{◌≡◌, map}
 use Rattle.eg_tick.specs.Counting.{count_with}
 use Rattle.eg_campaign.specs.Plays.{rows_of_runs}
-use Rattle.eg_soak.specs.Facts.{facts_of}
+use Rattle.eg_soak.specs.Facts.{drawn_facts}
 use Rattle.eg_soak.specs.Soak.{drawn_runs}
 use Rattle.eg_soak.proofs.RunsLemmas.{state_of}
 use Rattle.eg_soak.proofs.playing.play_all.Given as goal
@@ -10,6 +10,6 @@ use Rattle.eg_soak.proofs.playing.play_all.Given as goal
 abbrev pub invariant-loop-done : goal.invariant-loop-done
 invariant-loop-done l = record {
   state : l.generator ≡ state_of l._done l.fn.seed;
-  told : l.all.items ≡ map facts_of (drawn_runs l._done l.fn.seed);
+  told : l.all.items ≡ map drawn_facts (drawn_runs l._done l.fn.seed);
   counts : l.steps ≡ count_with l.fn.steps (rows_of_runs (drawn_runs l._done l.fn.seed));
 }

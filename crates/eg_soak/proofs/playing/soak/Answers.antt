@@ -2,7 +2,7 @@ use Rattle.std.proofs.Common.{◌≡◌, ◌∙◌, sym, ap, subst, ◌+◌, len
 use Rattle.std.specs.List.{sum}
 use Rattle.eg_campaign.specs.Plays.{rows_of_runs}
 use Rattle.eg_tick.proofs.CountLemmas.{counted_err, out_behind}
-use Rattle.eg_soak.specs.Facts.{facts_of}
+use Rattle.eg_soak.specs.Facts.{drawn_facts}
 use Rattle.eg_soak.specs.Soak.{drawn_runs}
 use Rattle.eg_soak.specs.declared.summary.SoakSummary.{SoakSummary}
 use Rattle.eg_soak.proofs.RunsLemmas.{runs-ticks, runs-front}
@@ -28,7 +28,7 @@ returns-clause-runs c = ap (λ (s : SoakSummary). s.runs) c.of.ensures ∙ runs_
 
 pub returns-clause-sums : goal.returns-clause-sums
 returns-clause-sums c =
-    let facts : c.deref.result.now ≡ map facts_of (drawn_runs c.args.runs c.args.seed) = c.deref.ensures.value ∙ c.in_ok-all.ensures.facts in
+    let facts : c.deref.result.now ≡ map drawn_facts (drawn_runs c.args.runs c.args.seed) = c.deref.ensures.value ∙ c.in_ok-all.ensures.facts in
     ap (λ (s : SoakSummary). s.none + sum s.by_watch) c.of.ensures
     ∙ sums_up c.deref.result.now (subst NeverStart (sym facts) (drawn_never_start c.args.runs c.args.seed))
     ∙ ap length c.deref.ensures.value ∙ c.in_ok-all.ensures.length

@@ -5,7 +5,7 @@ use Rattle.std.specs.Slice.Iter.{iter_rest}
 use Rattle.std.proofs.lemmas.List.{append-nil}
 use Rattle.std.proofs.lemmas.Slice.Zip.{length-zip}
 use Rattle.eg_sweep.specs.declared.row.SweepRow.{SweepRow}
-use Rattle.eg_sweep.specs.Table.{facts_under, rows_of, table_of}
+use Rattle.eg_sweep.specs.Table.{facts_under, class_rows, table_of}
 use Rattle.eg_sweep.proofs.PairLemmas.{zip-next, zip-end}
 use Rattle.eg_sweep.proofs.TableLemmas.{rows-none, rows-set, row_at, fewer_under, runs-sum, rows-sums}
 use Rattle.eg_sweep.proofs.table.tabulate.Goals as goal
@@ -51,11 +51,11 @@ loop-fault-preserved c =
     )
 
 -- at the end the runs are all
-abbrev are_all : (c : In-None) → c.loop-fault.rows ≡ rows_of (zip c.args.faults.now c.args.facts.now)
+abbrev are_all : (c : In-None) → c.loop-fault.rows ≡ class_rows (zip c.args.faults.now c.args.facts.now)
 are_all c =
     let (runs, are, all) = c.loop-fault.invariant in
     let none = zip-end _ _ (elim c.in-None.ensures.steps [ inl first ↦ inl first.1.0 | inr second ↦ inr second.1.0 ]) in
-    are ∙ ap rows_of (sym (append-nil runs) ∙ ap (λ left. runs ++ left) (sym none) ∙ all)
+    are ∙ ap class_rows (sym (append-nil runs) ∙ ap (λ left. runs ++ left) (sym none) ∙ all)
 
 pub returns-clause-rows : goal.returns-clause-rows
 unfolding table_of

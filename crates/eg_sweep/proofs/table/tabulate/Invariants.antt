@@ -4,10 +4,10 @@ use Rattle.std.specs.Iterator.Adapters.{zip_first, zip_second}
 use Rattle.std.specs.Slice.Iter.{iter_rest}
 use Rattle.eg_fault.specs.declared.class.Fault.{Fault}
 use Rattle.eg_record.specs.declared.facts.Facts.{Facts}
-use Rattle.eg_sweep.specs.Table.{rows_of}
+use Rattle.eg_sweep.specs.Table.{class_rows}
 use Rattle.eg_sweep.proofs.table.tabulate.Given as goal
 
 -- the rows are those of some runs, and with the runs that are left behind them these are all
 abbrev pub invariant-loop-fault : goal.invariant-loop-fault
-invariant-loop-fault l = (runs : List (Fault × Facts)) × (l.rows ≡ rows_of runs)
+invariant-loop-fault l = (runs : List (Fault × Facts)) × (l.rows ≡ class_rows runs)
     × (runs ++ zip (iter_rest (zip_first l.fault-iterator)) (iter_rest (zip_second l.fault-iterator)) ≡ zip l.faults l.facts)

@@ -43,7 +43,7 @@ next_tick-requires g c =
 pub step_engine-requires : goal.step_engine-requires
 step_engine-requires g c x is =
     held-within c.self.inside.fault c.self.inside.ticks x c.self.invariant.keeps.fault
-    (subst (λ f. (effects f c.self.inside.ticks).held_plate ≡ Some x) c.as_ref-fault.ensures.value (sym c.held_plate-held_plate.ensures ∙ is))
+    (subst (λ f. (effects f c.self.inside.ticks).held_plate ≡ Some x) c.as_ref-fault.ensures.value (sym c.held-held_plate.ensures ∙ is))
 
 pub overflow_cast-task : goal.overflow_cast-task
 overflow_cast-task g c =
@@ -200,8 +200,8 @@ steps : (g : Over) (c : goal.After-row g) → g.E.Engine.steps c.args.self.now.e
 steps g c =
     let words = (g.M.Guarded.shows c.enter.new.memory).words in
     let engine : c.self.inside.engine ≡ c.args.self.now.engine = ap (λ v. v.engine) c.self.view_is in
-    let held : c.held_plate-held_plate.result ≡ (effects c.self.inside.fault c.self.inside.ticks).held_plate =
-    c.held_plate-held_plate.ensures ∙ ap (λ f. (effects f c.self.inside.ticks).held_plate) c.as_ref-fault.ensures.value in
+    let held : c.held-held_plate.result ≡ (effects c.self.inside.fault c.self.inside.ticks).held_plate =
+    c.held-held_plate.ensures ∙ ap (λ f. (effects f c.self.inside.ticks).held_plate) c.as_ref-fault.ensures.value in
     subst (λ e. g.E.Engine.steps e (slice_index words 2064) (slice_index words 2065) c.at.result.on (effects c.self.inside.fault c.self.inside.ticks).held_plate
     c.step_engine.new.engine) engine
     (subst (λ o. g.E.Engine.steps c.self.inside.engine (slice_index words 2064) (slice_index words 2065) c.at.result.on o c.step_engine.new.engine) held
@@ -248,9 +248,9 @@ returns-clause-keeps g c = still g c
 pub returns-in_err-step-clause-same_or_stepped : goal.returns-in_err-step-clause-same_or_stepped
 returns-in_err-step-clause-same_or_stepped g c s h stands =
     stepped _ g.E.Engine.steps s c.args.drive.now c.args.slices.now _ h c.args.self.now.kept _ c.enter.new.span c.enter.new.level1.host.registers
-    (g.M.Guarded.shows c.enter.new.memory) _ c.at.result _ c.held_plate-held_plate.result _ _ c.step_engine.new.engine (ap (λ v. v.kept) c.self.view_is)
+    (g.M.Guarded.shows c.enter.new.memory) _ c.at.result _ c.held-held_plate.result _ _ c.step_engine.new.engine (ap (λ v. v.kept) c.self.view_is)
     c.as_ref-fault.ensures.value (ap (λ v. v.engine) c.self.view_is) stands c.reset.ensures.reset c.in_ok-enter.ensures.holds c.at.ensures.path1 c.at.ensures.path2
-    c.at.ensures.on c.held_plate-held_plate.ensures c.step_engine.ensures.steps
+    c.at.ensures.on c.held-held_plate.ensures c.step_engine.ensures.steps
 
 pub returns-in_err-enter-clause-stands : goal.returns-in_err-enter-clause-stands
 returns-in_err-enter-clause-stands g c s h is = IfOk-from_err c.from_residual.result _ c.from_residual.ensures.0

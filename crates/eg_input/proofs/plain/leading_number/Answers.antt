@@ -4,7 +4,7 @@ use Rattle.std.proofs.lemmas.List.{take_all, length-drop}
 use Rattle.std.specs.Char.{is_ascii_digit}
 use Rattle.eg_input.specs.Fields.{decimal_value}
 use Rattle.eg_input.proofs.PlainLemmas.{decimal_value-more, digits-more, number-ends}
-use Rattle.eg_input.proofs.plain.number.Goals as goal
+use Rattle.eg_input.proofs.plain.leading_number.Goals as goal
 
 pub loop-count-init : goal.loop-count-init
 unfolding decimal_value

@@ -2,9 +2,9 @@ use Rattle.std.proofs.Common.{◌≡◌, ◌∙◌, sym, ap, ◌+◌, None, List
 use Rattle.std.specs.List.{filter_map}
 use Rattle.std.proofs.Math.Seq.{take-suc}
 use Rattle.eg_sweep.specs.declared.row.SweepRow.{SweepRow}
-use Rattle.eg_sweep.specs.Table.{greatest}
+use Rattle.eg_sweep.specs.Table.{greatest_number}
 use Rattle.eg_sweep.proofs.GreatestLemmas.{greater, greater-max, greatest-more, greatest-none}
-use Rattle.eg_sweep.proofs.text.greatest.Goals as goal
+use Rattle.eg_sweep.proofs.text.greatest_reaction.Goals as goal
 
 pub loop-row-init : goal.loop-row-init
 loop-row-init c = sym greatest-none
@@ -17,4 +17,4 @@ loop-row-preserved c =
     let before = take i c.args.rows.now in
     let more : take (i + 1) c.args.rows.now ≡ before ++ row ∷ [] = ap (λ n. take n c.args.rows.now) (add-one i) ∙ take-suc c.args.rows.now i absent c.loop-row-test.true in
     c.max-most.ensures ∙ greater-max c.loop-row.most row.reaction ∙ ap (λ most. greater most row.reaction) c.loop-row.invariant
-    ∙ sym (ap (λ (rows : List SweepRow). greatest (filter_map (λ (row : SweepRow). row.reaction) rows)) more ∙ greatest-more (λ (row : SweepRow). row.reaction) before row)
+    ∙ sym (ap (λ (rows : List SweepRow). greatest_number (filter_map (λ (row : SweepRow). row.reaction) rows)) more ∙ greatest-more (λ (row : SweepRow). row.reaction) before row)

@@ -2,7 +2,7 @@ use Rattle.std.proofs.Common.{◌≡◌, ◌^◌, ◌<◌, ◌≤◌, take, leng
 use Rattle.std.specs.Char.{is_ascii_digit}
 use Rattle.std.specs.List.{list_all}
 use Rattle.eg_input.specs.Fields.{decimal_value}
-use Rattle.eg_input.proofs.plain.number.Given as goal
+use Rattle.eg_input.proofs.plain.leading_number.Given as goal
 
 -- the digits before
 abbrev pub invariant-loop-count : goal.invariant-loop-count
