@@ -5,7 +5,6 @@ use Rattle.std.specs.Char.{is_ascii_digit, is_ascii_lowercase}
 use Rattle.std.specs.List.{AllZip, list_all, before_first, join_with_byte}
 use Rattle.std.proofs.lemmas.Bool.Decides.{nat_tests}
 use Rattle.std.proofs.lemmas.List.Elements.{All-nil, All-cons}
-use Rattle.std.proofs.lemmas.List.Folds.{list_all-append}
 use Rattle.std.proofs.lemmas.List.Splits.{join_with_byte-slice_split, length-slice_split}
 use Rattle.eg_asm.specs.declared.operand.Operand.{Operand}
 use Rattle.eg_asm.specs.declared.operand.Operand.TheVariants as operand
@@ -32,9 +31,6 @@ weaker p q more (b ∷ bs) h = at (p b) refl h (weaker p q more bs)
     at : (t : Bool) → p b ≡ t → (t && list_all p bs) ≡ true → (list_all p bs ≡ true → list_all q bs ≡ true) → list_all q (b ∷ bs) ≡ true
     at true here h rest = rw (more b here, rest h) refl
     at false here h rest = absurd cc
-
-plain-append : (xs ys : List ℕ) → list_all is_plain xs ≡ true → list_all is_plain ys ≡ true → list_all is_plain (xs ++ ys) ≡ true
-plain-append xs ys x y = list_all-append is_plain xs ys ∙ rw (x, y) refl
 
 letter_plain : (b : ℕ) → is_ascii_lowercase b ≡ true → is_plain b ≡ true
 letter_plain b h = rw h refl

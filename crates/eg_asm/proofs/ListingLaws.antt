@@ -9,7 +9,7 @@ use Rattle.eg_asm.specs.declared.operand.Operand.{Operand}
 use Rattle.eg_asm.specs.declared.operand.Operand.TheVariants as operand
 use Rattle.eg_asm.specs.Forms.{Form, forms, word_form, form_named}
 use Rattle.eg_asm.specs.Grammar.{Register, Number, Fits, Item, IsItem, line_of}
-use Rattle.eg_asm.specs.Words.{Labels, size, word_count, labels_from, labels_of, field_of, fields_of, word_with, word_of, word_at, words_from, is_sound, fault_behind}
+use Rattle.eg_asm.specs.Words.{Labels, size, word_count, labels_of, field_of, fields_of, word_with, word_of, word_at, words_from, is_sound, fault_behind}
 use Rattle.eg_asm.specs.Listings.{value_in, values_in, is_of, form_of, item_of, source_text}
 use Rattle.eg_asm.specs.declared.fault.AsmFault.{AsmFault}
 use Rattle.eg_asm.specs.Sources.{IsSourceOf, Assembles}
@@ -106,11 +106,6 @@ count-of : (words : List ℕ) → word_count (map item_of words) ≡ length word
 unfolding word_count size item_of
 count-of [] = refl
 count-of (word ∷ words) = omega (arith, count-of words)
-
-no-labels : (place : ℕ) (words : List ℕ) → labels_from place (map item_of words) ≡ []
-unfolding labels_from size item_of
-no-labels place [] = refl
-no-labels place (word ∷ words) = no-labels (place + 1) words
 
 words-of : (labels : Labels) (place : ℕ) (words : List ℕ) → AreWords words → words_from labels place (map item_of words) ≡ words
 unfolding words_from

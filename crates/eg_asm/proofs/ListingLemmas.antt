@@ -40,14 +40,6 @@ field-listed labels place word (operand.Target reach) = refl
 
 -- ---- operands, one after the other ----
 
--- the operands of a form are few, and each is usable
-pub usable-few : (operands : List Operand) → are_usable operands ≡ true → length operands ≤ 3
-usable-few operands h = at (nat_le (length operands) 3) (list_all is_usable operands) refl h
-  where
-    at : (a b : Bool) → nat_le (length operands) 3 ≡ a → (a && b) ≡ true → length operands ≤ 3
-    at true b few h = grind (arith, nat_tests)
-    at false b few h = absurd cc
-
 pub usable-at : (operands : List Operand) (i : ℕ) (d : Operand) → are_usable operands ≡ true → i < length operands → is_usable (get_or operands i d) ≡ true
 usable-at operands i d h room = at (nat_le (length operands) 3) (list_all is_usable operands) refl h
   where

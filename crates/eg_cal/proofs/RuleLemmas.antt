@@ -114,9 +114,6 @@ every_key ms version e Unknown h = refl
 flat : (a b : ℕ) → nat_lt a b ≡ false → b ≤ a
 flat a b h = grind (arith, nat_tests)
 
-not_below : (a b : ℕ) → b ≤ a → nat_lt a b ≡ false
-not_below a b h = grind (arith, nat_tests)
-
 is_some-none : (o : Option ℕ) → is_some o ≡ false → o ≡ None
 is_some-none None e = refl
 is_some-none (Some i) e = absurd (cc)

@@ -1,11 +1,9 @@
 -- What the values of a calibration are refused for together.
-use Rattle.std.proofs.Common.{◌≡◌, ◌⊎◌, inl, inr, ℕ, zero, suc, ◌+◌, ◌-◌, ◌<◌, ◌≤◌, ◌==◌, nat_lt, nat_le, not, is_some, Bool, true, false, length, List, Option, Some, None, if◌then◌else◌, ◌&&◌, refl, sym, ap, ◌∙◌, subst, arith}
-use Rattle.std.proofs.lemmas.Bool.{and_parts}
+use Rattle.std.proofs.Common.{◌≡◌, ◌⊎◌, inl, inr, ℕ, zero, suc, ◌+◌, ◌-◌, ◌<◌, ◌≤◌, ◌==◌, nat_lt, not, is_some, Bool, true, false, length, List, Option, Some, None, if◌then◌else◌, refl, sym, ap, ◌∙◌, subst, arith}
 use Rattle.std.proofs.lemmas.List.Elements.{All-from_get_or, All-get_or}
 use Rattle.std.proofs.lemmas.Bool.Decides.{nat_tests}
 use Rattle.eg_num.specs.Interpolation.{Grid, cell}
 use Rattle.eg_torque.specs.Permit.{FallsAt, IsFirstFall, DoesNotFall}
-use Rattle.eg_answer.specs.Times.{TimeParts, AreTimes}
 use Rattle.eg_answer.specs.Questions.{no_question}
 use Rattle.eg_answer.specs.declared.rules.Rules.{Rules}
 use Rattle.eg_answer.specs.declared.questions.Question.{Question}
@@ -14,8 +12,8 @@ use Rattle.eg_values.specs.declared.calibration.Apart.TheVariants.{Answer}
 use Rattle.eg_values.specs.Calibration.{CalibrationParts, HasRightAnswer, AreAnswered, IsFirstWrong, IsApart}
 use Rattle.eg_cal.specs.declared.key.CalFault.TheVariants as fault
 use Rattle.eg_toml.proofs.RisingLemmas.{lt-true, true-lt}
-use Rattle.eg_cal.proofs.AxisLemmas.{le-true, true-le, not-true}
-use Rattle.eg_cal.specs.Calibration.{first_from, falls, falling_row, is_window, window_fault, is_wrong, wrong_answer}
+use Rattle.eg_cal.proofs.AxisLemmas.{not-true}
+use Rattle.eg_cal.specs.Calibration.{first_from, falls, falling_row, is_wrong, wrong_answer}
 
 -- ---- a search for the first number that passes
 
@@ -106,18 +104,6 @@ falling_row-none g rises =
     falls-false g k from (omega arith) (λ at. no_fall g rises (k - 1) k (omega arith) at.row at.column at.within at.below))
 
 -- ---- the answer window
-
--- times that go together have no fault
-pub window-none : (t : TimeParts) → AreTimes t → window_fault t ≡ None
-window-none t are = rw (le-true _ _ are.from_first, le-true _ _ are.to_last, lt-true _ _ are.inside) refl
-
--- times with a period of 2 to 100 ticks that don't go together have one
-pub window-some : (t : TimeParts) → 2 ≤ t.period → t.period ≤ 100 → (AreTimes t → ⊥) → window_fault t ≡ Some fault.Window
-window-some t shortest longest fails =
-    rw (not-true (is_window t) (λ passed.
-    let (inner, inside) = and_parts (nat_le t.first t.send && nat_le t.send t.last) (nat_lt t.last t.period) passed in
-    let (from, to) = and_parts (nat_le t.first t.send) (nat_le t.send t.last) inner in
-    fails (record { shortest = shortest; longest = longest; from_first = true-le _ _ from; to_last = true-le _ _ to; inside = true-lt _ _ inside }))) refl
 
 -- ---- wrong answers
 

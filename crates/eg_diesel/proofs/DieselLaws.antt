@@ -43,12 +43,6 @@ kept_after plant d kept command ignition on held within =
 pub kept-laws : (plant : PlantParts) (d : Diesel) → IsKept plant d → KeepsLaws plant.kt (shown_of d)
 kept-laws plant d kept = record { position = kept.rack; load_1 = kept.torque; load_2 = kept.torque }
 
--- after a step with the stages off nothing is injected
-pub diesel_step-shut : (plant : PlantParts) (d : Diesel) (command ignition : ℕ) (held : Option ℕ) →
-    (diesel_step plant d command ignition false held).quantity ≡ 0
-unfolding diesel_step quantity_of
-diesel_step-shut plant d command ignition held = refl
-
 -- and there is no torque
 pub diesel_step-off : (plant : PlantParts) (d : Diesel) (command ignition : ℕ) (held : Option ℕ) →
     (shown_of (diesel_step plant d command ignition false held)).torque ≡ 0

@@ -31,9 +31,6 @@ one_of-most : (n x : ℕ) → 0 < n → one_of n x ≤ n
 unfolding one_of
 one_of-most n x some = omega arith
 
-below : (n d : ℕ) → 0 < n → d % n < n
-below n d some = omega arith
-
 is_mask : (x : ℕ) → IsMask (drawn_mask x)
 unfolding drawn_mask
 is_mask x = (one_of-least 65535 x, one_of-most 65535 x (lit< tt))

@@ -5,7 +5,7 @@ use Rattle.std.specs.Bool.{MatchBool}
 use Rattle.std.specs.declared.vec.Vec.{Vec}
 use Rattle.std.specs.declared.alloc.Global.{Global}
 use Rattle.std.proofs.lemmas.Bool.Decides.{nat_tests}
-use Rattle.std.proofs.lemmas.List.Elements.{All-nil, All-push, filter_map-append}
+use Rattle.std.proofs.lemmas.List.Elements.{All-push, filter_map-append}
 use Rattle.std.proofs.Math.Seq.{take-append_seam}
 use Rattle.std.proofs.lemmas.Slice.Zip.{AllZip-long}
 use Rattle.eg_input.specs.Records.{Record, RowRule}
@@ -21,10 +21,6 @@ pub record Seen {A X : Type 0} (row_of : A → Option X) (left rest : List A) (r
   pub clean : All (λ r. is_none (row_of r) ≡ false) seen
   pub rows_are : rows ≡ filter_map row_of seen
   pub counted : length seen ≡ count
-
--- at first nothing was seen
-pub seen-none : {A X : Type 0} (row_of : A → Option X) (left : List A) → Seen row_of left left [] 0
-seen-none row_of left = record { seen = []; parts = refl; clean = All-nil _; rows_are = refl; counted = refl }
 
 -- a record that writes a row was seen
 pub seen-more : {A X : Type 0} (row_of : A → Option X) (left rest : List A) (r : A) (rows : List X) (count : ℕ) (row : X)

@@ -183,6 +183,4 @@ pub counters-ok : {T E : Type 0} (result : Result T E) (f g1 g2 g3 g4 h : â„• â†
 counters-ok (Ok x) f g1 g2 g3 g4 h feeds eh e4 e3 e2 e1 = counters_by f g1 g2 g3 g4 h feeds eh e4 e3 e2 e1
 counters-ok (Err x) f g1 g2 g3 g4 h feeds eh e4 e3 e2 e1 = eh
 
-pub ruleset counter_laws = (counters-ok)
-
 pub ruleset debounce_laws = (unfed_step, unfed_finding)

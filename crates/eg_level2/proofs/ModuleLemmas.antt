@@ -207,11 +207,4 @@ pub began-ok : {T E : Type 0} (result : Result T E) (f h : ℕ → ℕ) (values 
 began-ok (Ok x) f h values ev e = began f h values ev e
 began-ok (Err x) f h values ev e = e
 
--- what each module's body follows from
-pub ruleset check_laws = (gone_on-ok, gave_up-ok)
-
 pub ruleset signal_laws = (pedal_by, permitted_by, actual_by, excess_by, pairs_by)
-
-pub ruleset write_laws = (signalled-ok)
-
-pub ruleset react_laws = (reacted, answered)

@@ -13,8 +13,7 @@ use Rattle.eg_model.specs.History.{Setting, Entry, Tick, drives, Moment}
 use Rattle.eg_model.specs.Signals.{tripped, is_limited, last_signals, signal, signals_at}
 use Rattle.eg_model.specs.Detection.{feeds_at, fed_bits, finds, pedal_bit, plate_bit, load_bit, speed_bit, torque_bit}
 use Rattle.eg_model.specs.Answers.{is_whole, mark_at, verdict_at, confirms_at}
-use Rattle.eg_model.specs.Paths.{is_told_to_open, orders_open, path1_at, path2_at, both_conduct}
-use Rattle.eg_model.specs.Level1.{world_at}
+use Rattle.eg_model.specs.Paths.{is_told_to_open, orders_open, path2_at, both_conduct}
 use Rattle.eg_model.specs.Moments.{readings_at, limit_at, moment_in, moment, moments_of}
 use Rattle.eg_model.specs.Rows.{row_of}
 
@@ -46,21 +45,9 @@ module _ (s : Setting) (x : Effects) (e : Entry) (past : List Moment) where
   unfolding moment moment_in drives
   moment-tick = refl
 
-  pub moment-entry : (moment s x e past).entry ≡ e
-  unfolding moment moment_in drives
-  moment-entry = refl
-
-  pub moment-reads : (moment s x e past).reads ≡ readings_at s.cal x e
-  unfolding moment moment_in drives
-  moment-reads = refl
-
   pub moment-limit : (moment s x e past).limit ≡ limit_at s.cal e.drive
   unfolding moment moment_in drives
   moment-limit = refl
-
-  pub moment-path1 : (moment s x e past).path1 ≡ path1_at x past
-  unfolding moment moment_in drives
-  moment-path1 = refl
 
   pub moment-path2 : (moment s x e past).path2 ≡ path2_at x past
   unfolding moment moment_in drives
@@ -69,10 +56,6 @@ module _ (s : Setting) (x : Effects) (e : Entry) (past : List Moment) where
   pub moment-on : (moment s x e past).on ≡ both_conduct x past
   unfolding moment moment_in drives
   moment-on = refl
-
-  pub moment-signals : (moment s x e past).signals ≡ signals_at s.cal.rules x (readings_at s.cal x e) past
-  unfolding moment moment_in drives
-  moment-signals = refl
 
   pub moment-pedal_signal : (moment s x e past).signals.pedal
       ≡ signal x past PEDAL (last_signals past).pedal (used_pedal (readings_at s.cal x e).pedal (is_limited past))
@@ -169,11 +152,6 @@ module _ (s : Setting) (x : Effects) (e : Entry) (past : List Moment) where
   pub moment-opens : (moment s x e past).opens ≡ x.opens
   unfolding moment moment_in drives
   moment-opens = refl
-
-  pub moment-world : (moment s x e past).world
-      ≡ world_at s.image x e.slices (readings_at s.cal x e) (moment s x e past).signals past
-  unfolding moment moment_in drives
-  moment-world = refl
 
   -- ---- what follows ----
 

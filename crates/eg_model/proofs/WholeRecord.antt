@@ -1,7 +1,7 @@
 -- A whole record: its rows, newest first and in the order of time, and the drive that it was made of.
 use Rattle.std.proofs.Common.{◌≡◌, ◌∙◌, sym, ap, ap₂, subst, ℕ, zero, suc, ◌+◌, ◌<◌, ◌⊎◌, inl, inr, List, [], ◌∷◌, ◌++◌, All, length, arith}
 use Rattle.std.specs.Prelude.{reverse, slice_index_or}
-use Rattle.std.proofs.lemmas.List.{length-reverse, reverse-append, reverse-reverse}
+use Rattle.std.proofs.lemmas.List.{reverse-append, reverse-reverse}
 use Rattle.std.proofs.lemmas.List.Elements.{All-cons, All-nil}
 use Rattle.eg_num.specs.Drive.{DriveRow, IsDrive}
 use Rattle.eg_record.specs.declared.row.Row.{Row}
@@ -26,20 +26,10 @@ module _ {E : Type 0} (b : BenchEngine E) where
   pub are_rows : (r : Run) → AreRows (record_rows b r)
   are_rows r = subst AreRows (sym (record_rows-is b r)) (records_are_rows b r (length r.drive)).0
 
-  length-record_rows : (r : Run) → length (record_rows b r) ≡ length r.drive
-  length-record_rows r = ap length (record_rows-is b r) ∙ (records_are_rows b r (length r.drive)).1
-
   -- ---- the rows in the order of time ----
 
   pub newest_first : (r : Run) (rows : List Row) → rows ≡ reverse (record_rows b r) → record_rows b r ≡ reverse rows
   newest_first r rows are = sym (ap reverse are ∙ reverse-reverse (record_rows b r))
-
-  pub are_rows_in_time : (r : Run) (rows : List Row) → rows ≡ reverse (record_rows b r) → AreRows (reverse rows)
-  are_rows_in_time r rows are = subst AreRows (newest_first r rows are) (are_rows r)
-
-  -- a run has as many rows as its drive
-  pub length-rows : (r : Run) (rows : List Row) → rows ≡ reverse (record_rows b r) → length rows ≡ length r.drive
-  length-rows r rows are = ap length are ∙ length-reverse (record_rows b r) ∙ length-record_rows r
 
   pub rows-none : (r : Run) → [] ≡ reverse (rows_to b r 0)
   rows-none r = ap reverse (sym (no_rows b r))

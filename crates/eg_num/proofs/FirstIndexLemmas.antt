@@ -1,6 +1,6 @@
 -- The first place at which a list is reached: there is one exactly if the list is confirmed, and it stays as the list goes on.
-use Rattle.std.proofs.Common.{◌≡◌, ℕ, suc, ◌<◌, inl, inr, Bool, true, false, not, ◌||◌, ◌&&◌, List, [], ◌∷◌, ◌++◌, length, refl, sym, ap, ◌∙◌, arith}
-use Rattle.std.proofs.lemmas.Bool.{cases_Bool, or_left, or_right, false≢true, true≢false}
+use Rattle.std.proofs.Common.{◌≡◌, ℕ, suc, ◌<◌, Bool, true, false, not, ◌||◌, ◌&&◌, List, [], ◌∷◌, ◌++◌, length, refl, sym, ap, ◌∙◌, arith}
+use Rattle.std.proofs.lemmas.Bool.{or_left, or_right, false≢true, true≢false}
 use Rattle.std.proofs.lemmas.Option.{none-some, same_Some}
 use Rattle.std.specs.Prelude.{if◌then◌else◌, Option, Some, is_some}
 use Rattle.eg_num.specs.Windows.{WeightParts, is_reached, is_confirmed, is_first, first_index}
@@ -14,11 +14,6 @@ is_reached_confirmed w b bits reached = or_left _ _ reached
 pub is_confirmed-cons : (w : WeightParts) (b : Bool) (bits : List Bool) → is_confirmed w bits ≡ true → is_confirmed w (b ∷ bits) ≡ true
 unfolding is_confirmed
 is_confirmed-cons w b bits confirmed = or_right _ _ confirmed
-
--- a list stays confirmed as it goes on
-pub is_confirmed-append : (w : WeightParts) (more bits : List Bool) → is_confirmed w bits ≡ true → is_confirmed w (more ++ bits) ≡ true
-is_confirmed-append w [] bits confirmed = confirmed
-is_confirmed-append w (b ∷ more) bits confirmed = is_confirmed-cons w b (more ++ bits) (is_confirmed-append w more bits confirmed)
 
 -- the last feed is the first where the list is confirmed now and wasn't before
 pub is_first-cons : (w : WeightParts) (b : Bool) (bits : List Bool) → is_first w (b ∷ bits) ≡ (is_confirmed w (b ∷ bits) && not (is_confirmed w bits))
@@ -102,10 +97,3 @@ first_index_within w (b ∷ bits) t place = within (is_first w (b ∷ bits)) (le
     within : (here : Bool) (n : ℕ) (before : Option ℕ) → (before ≡ Some t → t < n) → (if here then Some n else before) ≡ Some t → t < suc n
     within true n before low e = let same = same_Some n t e in omega arith
     within false n before low e = let earlier = low e in omega arith
-
--- where the first place is that of the last feed, the last feed is the first at which it is reached
-pub is_first_at : (w : WeightParts) (b : Bool) (bits : List Bool) → first_index w (b ∷ bits) ≡ Some (length bits) → is_first w (b ∷ bits) ≡ true
-is_first_at w b bits place = elim (cases_Bool (is_first w (b ∷ bits))) [
-  | inl first ↦ first
-  | inr other ↦ absurd (let before = first_index_within w bits (length bits) (sym (first_index-other w b bits other) ∙ place) in omega arith)
-]

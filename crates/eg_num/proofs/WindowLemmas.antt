@@ -15,16 +15,6 @@ pub data Below : List Bool → List Bool → Type 0 where
   below_none : Below [] []
   below_more : {b c : Bool} {bs cs : List Bool} → (b ≡ true → c ≡ true) → Below bs cs → Below (b ∷ bs) (c ∷ cs)
 
--- a list is below itself
-pub Below-same : (bits : List Bool) → Below bits bits
-Below-same [] = below_none
-Below-same (b ∷ bits) = below_more (λ e. e) (Below-same bits)
-
--- a bit of each element is below another that follows from it
-pub Below-map : {X : Type 0} (p q : X → Bool) → ((x : X) → p x ≡ true → q x ≡ true) → (xs : List X) → Below (map p xs) (map q xs)
-Below-map p q follows [] = below_none
-Below-map p q follows (x ∷ xs) = below_more (follows x) (Below-map p q follows xs)
-
 -- the higher list has no fewer bad feeds
 pub bad-Below : {bs cs : List Bool} → Below bs cs → count_by (λ bad. bad) bs ≤ count_by (λ bad. bad) cs
 bad-Below below_none = omega arith

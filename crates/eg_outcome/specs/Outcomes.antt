@@ -55,11 +55,6 @@ PutsNothing (outcome.ReadFault _) = Unit {0}
 PutsNothing (outcome.Refused _) = Unit {0}
 PutsNothing _ = ⊥
 
--- the outcome is a fault of reading
-abbrev pub IsReadFault : Outcome → Type 0
-IsReadFault (outcome.ReadFault _) = Unit {0}
-IsReadFault _ = ⊥
-
 -- ---- what every call tells ----
 
 -- A text is put: how that ends, and that nothing else can come of it; and the output stays sure where it is,

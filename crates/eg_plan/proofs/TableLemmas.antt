@@ -1,11 +1,11 @@
 -- Items that are tables.
-use Rattle.std.proofs.Common.{◌≡◌, ℕ, ◌<◌, ◌&&◌, Bool, true, false, length, get_or, List, [], ◌∷◌, Option, Some, None, is_some, refl, ap, sym, ◌∙◌}
+use Rattle.std.proofs.Common.{◌≡◌, ℕ, ◌<◌, ◌&&◌, Bool, true, false, length, get_or, List, [], ◌∷◌, refl, ap, sym, ◌∙◌}
 use Rattle.std.specs.List.{list_all}
 use Rattle.std.proofs.lemmas.List.Folds.{list_all_at}
 use Rattle.toml.specs.declared.value.Value.{Value}
-use Rattle.toml.specs.Data.{Data, Members, as_table}
+use Rattle.toml.specs.Data.{Data}
 use Rattle.toml.specs.View.{view, items_view}
-use Rattle.eg_plan.specs.Runs.{all_items, is_table}
+use Rattle.eg_plan.specs.Runs.{all_items}
 
 pub all_items-view : (passes : Data → Bool) (vs : List Value) → list_all (λ v. passes (view v)) vs ≡ all_items passes (items_view vs)
 all_items-view passes [] = refl
@@ -23,11 +23,3 @@ all_items-at passes vs i v below here all = at (passes (view v)) refl
         let wrong = list_all_at (λ w. passes (view w)) vs i v below fails in
         let both : false ≡ true = sym wrong ∙ all_items-view passes vs ∙ all in
         absurd cc
-
-some-table : (o : Option Members) → is_some o ≡ true → o ≡ None → ⊥
-some-table None e none = absurd (cc)
-some-table (Some ms) e none = absurd (cc)
-
--- an item of tables is one
-pub table-at : (vs : List Value) (i : ℕ) (v : Value) → i < length vs → v ≡ get_or vs i v → all_items is_table (items_view vs) ≡ true → as_table (view v) ≡ None → ⊥
-table-at vs i v below here all none = some-table (as_table (view v)) (all_items-at is_table vs i v below here all) none

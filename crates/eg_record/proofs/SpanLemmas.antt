@@ -1,12 +1,12 @@
 -- The spans of a run by its rows: the span of the last row, parts of a span, and rows that are all of one span.
-use Rattle.std.proofs.Common.{◌≡◌, ◌∙◌, ◌++◌, ◌∷◌, [], inl, inr, List, ℕ, Bool, true, false, length, refl, sym, ap, subst, append_assoc}
+use Rattle.std.proofs.Common.{◌≡◌, ◌∙◌, ◌++◌, ◌∷◌, [], inl, inr, List, Bool, true, false, refl, sym, ap, append_assoc}
 use Rattle.std.specs.Prelude.{if◌then◌else◌}
 use Rattle.std.specs.List.{All}
 use Rattle.std.proofs.lemmas.Bool.{cases_Bool}
-use Rattle.std.proofs.lemmas.List.{append-nil, append_cancel_left}
+use Rattle.std.proofs.lemmas.List.{append-nil}
 use Rattle.std.proofs.lemmas.List.Elements.{All-nil, All-cons, All-head, All-tail}
 use Rattle.eg_record.specs.declared.row.Row.{Row}
-use Rattle.eg_record.specs.Spans.{this_span, IsSpan, IsDriveSpan, IsTestSpan, EachDriveSpan, EachTestSpan}
+use Rattle.eg_record.specs.Spans.{this_span, IsSpan, IsDriveSpan, IsTestSpan}
 
 -- ---- the span of the last row ----
 
@@ -43,16 +43,6 @@ this_span-span span older is =
 pub this_span-whole : (rows : List Row) → IsSpan rows → this_span rows ≡ rows
 this_span-whole rows is = ap this_span (sym (append-nil rows)) ∙ this_span-span rows [] is
 
--- what stands before the span of the last row
-pub this_span-rest : (rows : List Row) → (older : List Row) × (rows ≡ this_span rows ++ older)
-unfolding this_span
-this_span-rest [] = ([], refl)
-this_span-rest (row ∷ before) = rest row.fresh (this_span-rest before)
-  where
-    rest : (b : Bool) → (older : List Row) × (before ≡ this_span before ++ older) → (older : List Row) × (row ∷ before ≡ row ∷ (if b then [] else this_span before) ++ older)
-    rest true before_it = (before, refl)
-    rest false (older, same) = (older, ap (λ rows. row ∷ rows) same)
-
 -- ---- spans and their parts ----
 
 -- a span has a row
@@ -76,41 +66,8 @@ span-goes_on row span goes_on is = record {
   goes_on = All-cons (λ r. r.fresh ≡ false) row is.later goes_on is.goes_on;
 }
 
--- where the earliest row is fresh, the span of the last row is a span
-pub this_span-is_span : (newer : List Row) (first : Row) → first.fresh ≡ true → IsSpan (this_span (newer ++ first ∷ []))
-this_span-is_span [] first begins = subst IsSpan (sym (this_span-fresh first [] begins)) (span-begins first begins)
-this_span-is_span (row ∷ newer) first begins = elim (cases_Bool row.fresh) [
-  | inl fresh ↦ subst IsSpan (sym (this_span-fresh row (newer ++ first ∷ []) fresh)) (span-begins row fresh)
-  | inr goes_on ↦ subst IsSpan (sym (this_span-goes_on row (newer ++ first ∷ []) goes_on))
-      (span-goes_on row (this_span (newer ++ first ∷ [])) goes_on (this_span-is_span newer first begins))
-]
-
 tail : (r s : Row) (xs ys : List Row) → r ∷ xs ≡ s ∷ ys → xs ≡ ys
 tail r s xs ys same = cc
-
--- The part of a span up to an earlier row is a span with the same first row: what holds of the first row of the
--- one holds of that of the other.
-pub span-part : (P : Row → Type 0) (newer : List Row) (row : Row) (before : List Row) → (span : IsSpan (newer ++ (row ∷ before))) → P span.first →
-    (part : IsSpan (row ∷ before)) × P part.first
-span-part P newer row before span holds = upto newer span.later span.is span.goes_on
-  where
-    upto : (newer later : List Row) → newer ++ (row ∷ before) ≡ later ++ span.first ∷ [] → All (λ r. r.fresh ≡ false) later → (part : IsSpan (row ∷ before)) × P part.first
-    upto [] later same goes_on = (record { later = later; first = span.first; is = same; begins = span.begins; goes_on = goes_on }, holds)
-    upto (r ∷ []) [] same goes_on = absurd cc
-    upto (r ∷ s ∷ newer) [] same goes_on = absurd cc
-    upto (r ∷ newer) (s ∷ later) same goes_on =
-        upto newer later (tail r s (newer ++ (row ∷ before)) (later ++ span.first ∷ []) same) (All-tail (λ x. x.fresh ≡ false) s later goes_on)
-
--- so a part of a drive span is a drive span, and a part of a test span a test span
-pub drive_span-part : (newer : List Row) (row : Row) (before : List Row) → IsDriveSpan (newer ++ (row ∷ before)) → IsDriveSpan (row ∷ before)
-drive_span-part newer row before drive =
-    let part = span-part (λ first. first.testing ≡ false) newer row before drive.span drive.drives in
-    record { span = part.0; drives = part.1 }
-
-pub test_span-part : (newer : List Row) (row : Row) (before : List Row) → IsTestSpan (newer ++ (row ∷ before)) → IsTestSpan (row ∷ before)
-test_span-part newer row before test =
-    let part = span-part (λ first. first.testing ≡ true) newer row before test.span test.tests in
-    record { span = part.0; tests = part.1 }
 
 -- a drive span and a test span begin and go on as any span
 pub drive_span-begins : (row : Row) → row.fresh ≡ true → row.testing ≡ false → IsDriveSpan (row ∷ [])
@@ -129,49 +86,9 @@ pub test_span-goes_on : (row : Row) (span : List Row) → row.fresh ≡ false �
 unfolding span-goes_on
 test_span-goes_on row span goes_on test = record { span = span-goes_on row span goes_on test.span; tests = test.tests }
 
--- the first row of a span is the last of the list, so that the list tells which it is
-pub span-first : (later : List Row) (first : Row) (span : IsSpan (later ++ first ∷ [])) → span.first ≡ first
-span-first later first span = same later span.later span.is
-  where
-    same : (xs ys : List Row) → xs ++ first ∷ [] ≡ ys ++ span.first ∷ [] → span.first ≡ first
-    same [] [] e = cc
-    same [] (y ∷ []) e = absurd cc
-    same [] (y ∷ z ∷ ys) e = absurd cc
-    same (x ∷ []) [] e = absurd cc
-    same (x ∷ z ∷ xs) [] e = absurd cc
-    same (x ∷ xs) (y ∷ ys) e = same xs ys (tail x y (xs ++ first ∷ []) (ys ++ span.first ∷ []) e)
-
 -- ---- each span of a run ----
 
--- It is enough that P holds of the span of each row, as it stands at the row. `older` is what stands before it.
-pub each_drive_span : (P : ℕ → List Row → Type 0) (rows : List Row) →
-    ((newer upto older : List Row) → rows ≡ newer ++ upto → upto ≡ this_span upto ++ older → IsDriveSpan (this_span upto) → P (length older) (this_span upto)) →
-    EachDriveSpan P rows
-each_drive_span P rows holds newer span older split drive =
-    let same = this_span-span span older drive.span in
-    subst (P (length older)) same (holds newer (span ++ older) older split (ap (λ rs. rs ++ older) (sym same)) (subst IsDriveSpan (sym same) drive))
-
-pub each_test_span : (P : ℕ → List Row → Type 0) (rows : List Row) →
-    ((newer upto older : List Row) → rows ≡ newer ++ upto → upto ≡ this_span upto ++ older → IsTestSpan (this_span upto) → P (length older) (this_span upto)) →
-    EachTestSpan P rows
-each_test_span P rows holds newer span older split test =
-    let same = this_span-span span older test.span in
-    subst (P (length older)) same (holds newer (span ++ older) older split (ap (λ rs. rs ++ older) (sym same)) (subst IsTestSpan (sym same) test))
-
 -- ---- rows that are all of one span ----
-
--- that is so where none but the earliest is fresh
-pub one_span : (later : List Row) (first : Row) → All (λ row. row.fresh ≡ false) later → this_span (later ++ first ∷ []) ≡ later ++ first ∷ []
-one_span [] first goes_on = alone
-  where
-    alone : this_span (first ∷ []) ≡ first ∷ []
-    alone = elim (cases_Bool first.fresh) [
-      | inl fresh ↦ this_span-fresh first [] fresh
-      | inr other ↦ this_span-goes_on first [] other ∙ ap (λ rows. first ∷ rows) this_span-nil
-    ]
-one_span (row ∷ later) first goes_on =
-    this_span-goes_on row (later ++ first ∷ []) (All-head (λ r. r.fresh ≡ false) row later goes_on)
-    ∙ ap (λ rows. row ∷ rows) (one_span later first (All-tail (λ r. r.fresh ≡ false) row later goes_on))
 
 -- and then of the rows up to any earlier one too
 one_span-tail : (row : Row) (rows : List Row) → this_span (row ∷ rows) ≡ row ∷ rows → this_span rows ≡ rows
@@ -184,34 +101,3 @@ one_span-tail row rows same = elim (cases_Bool row.fresh) [
 pub one_span-part : (newer rows : List Row) → this_span (newer ++ rows) ≡ newer ++ rows → this_span rows ≡ rows
 one_span-part [] rows same = same
 one_span-part (row ∷ newer) rows same = one_span-part newer rows (one_span-tail row (newer ++ rows) same)
-
--- nothing stands before a span among them
-pub one_span-alone : (newer span older : List Row) → this_span (newer ++ (span ++ older)) ≡ newer ++ (span ++ older) → IsSpan span → older ≡ []
-one_span-alone newer span older same is =
-    append_cancel_left span older [] (sym (one_span-part newer (span ++ older) same) ∙ this_span-span span older is ∙ sym (append-nil span))
-
--- so P holds of each span if it holds of each part of these rows up to some row
-pub each_drive_span-one : (P : ℕ → List Row → Type 0) (rows : List Row) → this_span rows ≡ rows →
-    ((newer part : List Row) → rows ≡ newer ++ part → IsDriveSpan part → P 0 part) → EachDriveSpan P rows
-each_drive_span-one P rows one holds newer span older split drive =
-    let nothing = one_span-alone newer span older (subst (λ rs. this_span rs ≡ rs) split one) drive.span in
-    let part : rows ≡ newer ++ span = split ∙ ap (λ rs. newer ++ (span ++ rs)) nothing ∙ ap (λ rs. newer ++ rs) (append-nil span) in
-    subst (λ rs. P (length rs) span) (sym nothing) (holds newer span part drive)
-
-pub each_test_span-one : (P : ℕ → List Row → Type 0) (rows : List Row) → this_span rows ≡ rows →
-    ((newer part : List Row) → rows ≡ newer ++ part → IsTestSpan part → P 0 part) → EachTestSpan P rows
-each_test_span-one P rows one holds newer span older split test =
-    let nothing = one_span-alone newer span older (subst (λ rs. this_span rs ≡ rs) split one) test.span in
-    let part : rows ≡ newer ++ span = split ∙ ap (λ rs. newer ++ (span ++ rs)) nothing ∙ ap (λ rs. newer ++ rs) (append-nil span) in
-    subst (λ rs. P (length rs) span) (sym nothing) (holds newer span part test)
-
--- and the other way, where they are a drive span or a test span
-pub drive_span-each : (P : ℕ → List Row → Type 0) (newer : List Row) (row : Row) (before : List Row) →
-    EachDriveSpan P (newer ++ (row ∷ before)) → IsDriveSpan (newer ++ (row ∷ before)) → P 0 (row ∷ before)
-drive_span-each P newer row before each drive =
-    each newer (row ∷ before) [] (ap (λ rs. newer ++ rs) (sym (append-nil (row ∷ before)))) (drive_span-part newer row before drive)
-
-pub test_span-each : (P : ℕ → List Row → Type 0) (newer : List Row) (row : Row) (before : List Row) →
-    EachTestSpan P (newer ++ (row ∷ before)) → IsTestSpan (newer ++ (row ∷ before)) → P 0 (row ∷ before)
-test_span-each P newer row before each test =
-    each newer (row ∷ before) [] (ap (λ rs. newer ++ rs) (sym (append-nil (row ∷ before)))) (test_span-part newer row before test)

@@ -257,10 +257,6 @@ module _ (old new : Kept) (drive : DriveRow) (budgets : List ℕ) (made : Level2
   unfolding tick_after
   effects-now = ap (effects old.fault) enter.count
 
-  entry-now : x.entry ≡ e
-  unfolding tick_after
-  entry-now = refl
-
   readings-now : task.readings ≡ readings_at s.cal x.effects x.entry
   unfolding tick_after entry_of
   readings-now = advance.readings e refl refl ∙ ap (λ t. readings_at old.cal (effects old.fault t) e) enter.count

@@ -293,10 +293,6 @@ module _ (s : Setting) (e : Entry) (h : List Entry) (old new : Kept) (paths : Pa
   unfolding tick_after
   moment-is = goes.moment_is
 
-  entry-is : x.entry ≡ e
-  unfolding tick_after
-  entry-is = refl
-
   engine-next : HoldsEngine s new.kt new.shown (e ∷ h)
   unfolding IsProperRun IsShown tick_after
   engine-next = record {

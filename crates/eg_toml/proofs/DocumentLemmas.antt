@@ -11,10 +11,6 @@ use Rattle.eg_toml.specs.Documents.{document_of}
 pub document-some : (bytes : List ℕ) (ms : Members) → is_too_heavy bytes ≡ false → IsUtf8 bytes → parse_document bytes ≡ Some ms → document_of bytes ≡ Some ms
 document-some bytes ms light utf8 parsed = rw (light, is_utf8-from_IsUtf8 bytes utf8) parsed
 
--- bytes that weigh too much
-pub document-heavy : (bytes : List ℕ) → is_too_heavy bytes ≡ true → document_of bytes ≡ None
-document-heavy bytes heavy = rw (heavy) refl
-
 -- bytes that are no text, or a text that is no document
 pub document-none : (bytes : List ℕ) → (IsUtf8 bytes → parse_document bytes ≡ None) → document_of bytes ≡ None
 document-none bytes refused = either (is_too_heavy bytes) _ (cases (is_utf8 bytes) (λ e. refused (IsUtf8-from_is_utf8 bytes e)))

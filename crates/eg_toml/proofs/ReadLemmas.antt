@@ -33,17 +33,6 @@ pub all_read-step : {X : Type 0} (read : Data → Option (List X)) (vs : List Va
 all_read-step read vs i v start found new h here is so_far =
     so_far ∙ ap (with_found found) (all_read-drop read vs i v h here ∙ ap (λ o. append_read o (all_read read (items_view (drop (i + 1) vs)))) is) ∙ with_found-more found new _
 
-none_of : {X : Type 0} (start : List X) (whole : Option (List X)) → with_found start whole ≡ None → whole ≡ None
-none_of start None e = refl
-none_of start (Some xs) e = absurd (cc)
-
-pub all_read-stop : {X : Type 0} (read : Data → Option (List X)) (vs : List Value) (i : ℕ) (v : Value) (start found : List X) → i < length vs → v ≡ get_or vs i v
-    → read (view v) ≡ None
-    → with_found start (all_read read (items_view vs)) ≡ with_found found (all_read read (items_view (drop i vs)))
-    → all_read read (items_view vs) ≡ None
-all_read-stop read vs i v start found h here is so_far =
-    none_of start _ (so_far ∙ ap (with_found found) (all_read-drop read vs i v h here ∙ ap (λ o. append_read o (all_read read (items_view (drop (i + 1) vs)))) is))
-
 pub items_in-view : (least most : ℕ) (d : Data) (vs : List Value) → Some (items_view vs) ≡ as_array d
     → items_in least most d ≡ (if nat_le least (length vs) && nat_le (length vs) most then Some (items_view vs) else None)
 items_in-view least most d vs e = rw (← e, count-view vs)

@@ -147,20 +147,6 @@ shows-outside view old new same are shows = record {
   results = λ k within. same (2080 + k) (ap is_level1_own (results-is (2080 + k) (omega arith) (omega arith))) ∙ shows.results k within;
 }
 
--- what a memory of 4,096 words shows
-pub view_of : List ℕ → View
-view_of words = record { image = slice_range words 0 1024; ports = slice_range words 2048 2058; results = slice_range words 2080 2085 }
-
--- every memory of 4,096 words shows some view
-pub shows-view_of : (words : List ℕ) → AreWords words → Shows words (view_of words)
-unfolding view_of
-shows-view_of words are = record {
-  are_words = are;
-  image = λ k within. sym (get_or-take 1024 words k 0 within);
-  ports = λ k within. sym (get_or-take 10 _ k 0 within ∙ get_or-drop 2048 words k 0);
-  results = λ k within. sym (get_or-take 5 _ k 0 within ∙ get_or-drop 2080 words k 0);
-}
-
 idle_in : (state : State) (view : View) (world : World) → world.registers.state ≡ state → (state ≡ Running → ⊥)
     → after_step world (step_in state (sight view world) world.registers) ≡ world
 unfolding after_step after_store step_in
