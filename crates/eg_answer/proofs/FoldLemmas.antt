@@ -8,7 +8,7 @@ use Rattle.std.proofs.lemmas.List.Elements.{All-head, All-tail}
 use Rattle.eg_answer.specs.Folds.{mixed, fold_of, FoldLaw}
 
 -- a word of 16 bits
-abbrev Word : ℕ → Type 0
+abbrev pub Word : ℕ → Type 0
 Word n = n < 65536
 
 -- a word moved by three places, as a sum of its two parts

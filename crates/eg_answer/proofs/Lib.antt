@@ -1,4 +1,5 @@
 pub mod FoldLemmas
+pub mod ResultWords
 pub mod TokenLemmas
 mod Worked
 pub mod QuotientLemmas

@@ -4,7 +4,7 @@ use Rattle.std.proofs.lemmas.Bool.{cases_lt}
 use Rattle.std.proofs.lemmas.Bool.Decides.{nat_tests}
 use Rattle.eg_guard.specs.declared.regions.Who.{Who}
 use Rattle.eg_guard.specs.declared.regions.Who.TheVariants.{Level1, Level2, Board}
-use Rattle.eg_guard.specs.declared.regions.Region.TheVariants.{Code, Data, InPorts, OutPorts, Results, None}
+use Rattle.eg_guard.specs.declared.regions.Region.TheVariants.{Code, Data, InPorts, OutPorts, Results, Protected, None}
 use Rattle.eg_guard.specs.Regions.{region_of, nothing, allows, access}
 
 -- past the last word there is no region
@@ -73,6 +73,10 @@ in_ports-is address from to = grind (arith, nat_tests)
 pub results-is : (address : ℕ) → 2080 ≤ address → address < 2085 → region_of address ≡ Results
 unfolding region_of
 results-is address from to = grind (arith, nat_tests)
+
+pub protected-is : (address : ℕ) → 2096 ≤ address → address < 2123 → region_of address ≡ Protected
+unfolding region_of
+protected-is address from to = grind (arith, nat_tests)
 
 pub data-is : (address : ℕ) → 1024 ≤ address → address < 2048 → region_of address ≡ Data
 unfolding region_of

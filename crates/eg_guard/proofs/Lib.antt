@@ -1,3 +1,4 @@
 pub mod AccessLemmas
 pub mod WordsLemmas
+pub mod KeepsLemmas
 pub mod Worked

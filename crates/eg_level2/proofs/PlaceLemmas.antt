@@ -2,12 +2,12 @@
 use Rattle.std.proofs.Common.{◌≡◌, ◌≢◌, ◌∙◌, refl, sym, ap, ℕ, ◌+◌, ◌-◌, ◌≤◌, ◌<◌, ◌⊎◌, inl, inr, true, IsTrue, List, length, slice_index, slice_set, arith}
 use Rattle.std.specs.Prelude.{Result, Ok, Err, OnOk, OnErr, if◌then◌else◌}
 use Rattle.std.proofs.lemmas.Bool.{lt-ltb, le-ltb, cases_lt, eq-eqb, ne_eqb}
-use Rattle.std.proofs.lemmas.Bool.Decides.{eqb_tells, nat_tests}
+use Rattle.std.proofs.lemmas.Bool.Decides.{eqb_tells}
 use Rattle.std.proofs.lemmas.List.{length-set, get_or-set_same, get_or-set_other}
 use Rattle.eg_guard.specs.declared.regions.Who.TheVariants.{Level2}
-use Rattle.eg_guard.specs.declared.regions.Region.TheVariants.{Results, Protected}
 use Rattle.eg_guard.specs.Regions.{both, allows, access, region_of}
 use Rattle.eg_guard.specs.Memory.{AreWords}
+use Rattle.eg_guard.proofs.AccessLemmas.{results-is, protected-is}
 use Rattle.eg_level2.specs.Words.{address_of, word_at, ChangeLaw, is_level2_own}
 use Rattle.eg_level2.specs.Stores.{put, outside}
 
@@ -22,29 +22,20 @@ address_is number = elim (cases_lt number 5) [
     shifted : 5 ≤ number → 2096 + (number - 5) ≡ 2091 + number
     shifted high = omega arith
 
--- the places of results and of the protected region
-results_is : (address : ℕ) → 2080 ≤ address → address < 2085 → region_of address ≡ Results
-unfolding region_of
-results_is address from to = grind (arith, nat_tests)
-
-protected_is : (address : ℕ) → 2096 ≤ address → address < 2123 → region_of address ≡ Protected
-unfolding region_of
-protected_is address from to = grind (arith, nat_tests)
-
 -- each place is level 2's own
 address_own : (number : ℕ) → number < 32 → is_level2_own (region_of (address_of number)) ≡ true
 unfolding is_level2_own
 address_own number within = elim (address_is number) [
-  | inl low ↦ let is = low.1 in let below = low.0 in ap is_level2_own (results_is (address_of number) (omega arith) (omega arith))
-  | inr high ↦ let is = high.1 in let from = high.0 in ap is_level2_own (protected_is (address_of number) (omega arith) (omega arith))
+  | inl low ↦ let is = low.1 in let below = low.0 in ap is_level2_own (results-is (address_of number) (omega arith) (omega arith))
+  | inr high ↦ let is = high.1 in let from = high.0 in ap is_level2_own (protected-is (address_of number) (omega arith) (omega arith))
 ]
 
 -- and level 2 may load and store there
 address_access : (number : ℕ) → number < 32 → access Level2 (address_of number) ≡ both
 unfolding access allows
 address_access number within = elim (address_is number) [
-  | inl low ↦ let is = low.1 in let below = low.0 in ap (λ region. allows region Level2) (results_is (address_of number) (omega arith) (omega arith))
-  | inr high ↦ let is = high.1 in let from = high.0 in ap (λ region. allows region Level2) (protected_is (address_of number) (omega arith) (omega arith))
+  | inl low ↦ let is = low.1 in let below = low.0 in ap (λ region. allows region Level2) (results-is (address_of number) (omega arith) (omega arith))
+  | inr high ↦ let is = high.1 in let from = high.0 in ap (λ region. allows region Level2) (protected-is (address_of number) (omega arith) (omega arith))
 ]
 
 pub address_load : (number address : ℕ) → address ≡ address_of number → number < 32 → IsTrue (access Level2 address).load

@@ -1,9 +1,9 @@
 -- Outside the headline. What stores make of level 2's words, by their numbers, and what they leave alone.
 -- What is stored is said by the definitions of the modules (`Modules.antt`), which have the words by their
 -- names, as public contracts do.
-use Rattle.std.specs.Prelude.{◌≡◌, ℕ, zero, suc, ◌+◌, ◌-◌, Bool, true, ◌==◌, if◌then◌else◌, List, [], ◌∷◌, take, slice_index, Result, IsTrue, IsOk, OnOk}
+use Rattle.std.specs.Prelude.{◌≡◌, ℕ, zero, suc, ◌+◌, ◌-◌, Bool, true, ◌==◌, if◌then◌else◌, List, [], ◌∷◌, take, slice_index, Result, OnOk}
 use Rattle.eg_guard.specs.Regions.{region_of}
-use Rattle.eg_guard.specs.Memory.{ShownMemory, AreWords}
+use Rattle.eg_guard.specs.Memory.{ShownMemory, KeepsMemory}
 use Rattle.eg_num.specs.declared.watches.Watches.{Watches}
 use Rattle.eg_num.specs.Windows.{WeightParts}
 use Rattle.eg_num.specs.Counting.{fed}
@@ -120,15 +120,9 @@ counters_kept feeds word = after_stores (counting feeds []) word
 unfoldable pub outside : List ℕ → ℕ → ℕ
 outside memory address = if is_level2_own (region_of address) then 0 else slice_index memory address
 
--- What each store of level 2 leaves as it was, whatever it answers: the words outside level 2's own regions,
--- and whether the memory is sure. Over a sure memory it is done.
-pub record Leaves {T E : Type 0} (old new : ShownMemory) (result : Result T E) : Type 0 where
-  pub outside : outside new.words ≡ outside old.words
-  pub stays_sure : new.sure ≡ old.sure
-  pub are_words : AreWords old.words → AreWords new.words
-  pub sure : IsTrue old.sure → IsOk result
-
--- What each of level 2's calls keeps: what a store leaves, and where it is done mirrored words stay so.
+-- What each of level 2's calls keeps, whatever it answers: the words outside level 2's own regions, what each
+-- call keeps of a guarded memory, and where it is done that mirrored words are mirrored.
 pub record Keeps {T E : Type 0} (old new : ShownMemory) (result : Result T E) : Type 0 where
-  pub leaves : Leaves old new result
+  pub outside : outside new.words ≡ outside old.words
+  pub memory : KeepsMemory old new result
   pub mirrored : AreMirrored old.words → OnOk result (AreMirrored new.words)

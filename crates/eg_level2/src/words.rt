@@ -1,8 +1,9 @@
 // Level 2's words in the guarded memory: each is stored with its complement.
 ghost use Rattle.std.specs.Prelude.{◌≡◌, ◌↔◌, ◌<◌, [], IsTrue, OnOk, OnErr};
+ghost use Rattle.eg_guard.specs.Memory.{KeepsMemory};
 ghost use Rattle.eg_answer.specs.declared.words.TheConstants.{MIRRORED_WORDS, STORED_WORDS};
 ghost use Rattle.eg_level2.specs.Words.{address_of, word_at, AreMirrored, is_set};
-ghost use Rattle.eg_level2.specs.Stores.{Keeps, Leaves, AreFirst, put, keep, keep_where, kept_from, both, both_where, both_from};
+ghost use Rattle.eg_level2.specs.Stores.{Keeps, AreFirst, put, keep, keep_where, kept_from, both, both_where, both_from, outside};
 
 use eg_answer::MIRRORED_WORDS;
 use eg_base::NoMemory;
@@ -88,7 +89,8 @@ fn put<M: Guarded>(memory: &mut M, number: u16, value: u16) -> Result<(), NoMemo
         ≡ put number value (word_at (M.shows memory.old).words)) }
     ensures stopped { OnErr result (word_at (M.shows memory.new).words
         ≡ word_at (M.shows memory.old).words) }
-    ensures leaves { Leaves (M.shows memory.old) (M.shows memory.new) result }
+    ensures outside { outside (M.shows memory.new).words ≡ outside (M.shows memory.old).words }
+    ensures memory { KeepsMemory (M.shows memory.old) (M.shows memory.new) result }
 {
     match memory.store(Who::Level2, word_address(number), value) {
         Ok(()) => Ok(()),

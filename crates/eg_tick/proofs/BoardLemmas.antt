@@ -10,7 +10,7 @@ use Rattle.eg_guard.specs.Regions.{both, allows, access, region_of}
 use Rattle.eg_guard.specs.Memory.{AreWords, SameOutside}
 use Rattle.eg_guard.specs.declared.regions.Region.{Region}
 use Rattle.eg_guard.specs.declared.regions.Region.TheVariants.{Code, Data, InPorts, OutPorts, Results, Protected, Link, None as NoRegion}
-use Rattle.eg_guard.proofs.AccessLemmas.{code-is, data-is, data-span, in_ports-is, out_ports-is, out_ports-span, results-is}
+use Rattle.eg_guard.proofs.AccessLemmas.{code-is, data-is, data-span, in_ports-is, out_ports-is, out_ports-span, results-is, protected-is}
 use Rattle.eg_guard.proofs.WordsLemmas.{zeros_are_words}
 use Rattle.eg_word.specs.Memory.{is_level1_own}
 use Rattle.eg_word.specs.World.{world_of, new_registers, new_world}
@@ -20,7 +20,6 @@ use Rattle.eg_level2.specs.Words.{address_of, word_at, AreMirrored, is_level2_ow
 use Rattle.eg_level2.specs.Inputs.{readings_of, asked_of}
 use Rattle.eg_level2.proofs.PlaceLemmas.{address_is, change_law}
 use Rattle.eg_tick.specs.Board.{IsWritten, is_board_own, by_tracks, ten_ports}
-use Rattle.eg_tick.proofs.FrameLemmas.{protected-is}
 
 -- ---- where it may store ----
 

@@ -1,12 +1,11 @@
 -- What stays in the memory while somebody else stores: the regions of level 1, of level 2 and of the board lie
 -- apart.
 use Rattle.std.proofs.Common.{◌≡◌, ◌∙◌, refl, sym, ap, subst, inl, inr, ℕ, ◌+◌, ◌≤◌, ◌<◌, Bool, true, false, List, slice_index, arith}
-use Rattle.std.proofs.lemmas.Bool.Decides.{nat_tests}
 use Rattle.eg_guard.specs.declared.regions.Region.{Region}
 use Rattle.eg_guard.specs.declared.regions.Region.TheVariants.{Code, Data, InPorts, OutPorts, Results, Protected, Link, None as NoRegion}
 use Rattle.eg_guard.specs.Regions.{region_of}
 use Rattle.eg_guard.specs.Memory.{AreWords, SameOutside}
-use Rattle.eg_guard.proofs.AccessLemmas.{code-is, in_ports-is, results-is}
+use Rattle.eg_guard.proofs.AccessLemmas.{code-is, in_ports-is, results-is, protected-is}
 use Rattle.std.specs.Prelude.{Result, Ok, Err, OnOk}
 use Rattle.eg_answer.specs.declared.rules.Rules.{Rules}
 use Rattle.eg_word.specs.declared.instruction.Instruction.{Instruction}
@@ -22,10 +21,6 @@ use Rattle.eg_tick.specs.Board.{is_board_own}
 use Rattle.eg_tick.specs.Midway.{Work, IsSet, IsReady}
 
 -- ---- where things stand ----
-
-pub protected-is : (address : ℕ) → 2096 ≤ address → address < 2123 → region_of address ≡ Protected
-unfolding region_of
-protected-is address from to = grind (arith, nat_tests)
 
 -- regions of somebody else than level 2
 pub record LeavesWords (is_own : Region → Bool) : Type 0 where

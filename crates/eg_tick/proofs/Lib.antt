@@ -1,5 +1,4 @@
 pub mod MomentLemmas
-pub mod KeepsLemmas
 pub mod FrameLemmas
 pub mod MidwayLemmas
 pub mod TickLemmas

@@ -18,9 +18,9 @@ loop-number-preserved g c =
       stored = kept_from-more c.args.words.now _ _ _ c.loop-number.number _ e c.in_ok-keep.ensures.stored c.loop-number.invariant.stored;
       stopped = λ new first. c.loop-number.invariant.stopped new (goes_from c.args.words.now c.loop-number.number _ _ _ new within e c.in_ok-keep.ensures.stored first);
       mirrored = mirror-more _ _ c.loop-number.number _ (omega arith) fits c.in_ok-keep.ensures.stored c.loop-number.invariant.mirrored;
-      outside = c.keep.ensures.keeps.leaves.outside ∙ c.loop-number.invariant.outside;
-      sure = c.keep.ensures.keeps.leaves.stays_sure ∙ c.loop-number.invariant.sure;
-      are_words = λ are. c.keep.ensures.keeps.leaves.are_words (c.loop-number.invariant.are_words are);
+      outside = c.keep.ensures.keeps.outside ∙ c.loop-number.invariant.outside;
+      sure = c.keep.ensures.keeps.memory.stays_sure ∙ c.loop-number.invariant.sure;
+      are_words = λ are. c.keep.ensures.keeps.memory.are_words (c.loop-number.invariant.are_words are);
     }
 
 pub returns-in_err-keep-clause-stopped : goal.returns-in_err-keep-clause-stopped

@@ -2,7 +2,7 @@ use Rattle.std.proofs.lemmas.Result.{on_err_weaker, on_ok_weaker, IfOk-from_err}
 use Rattle.eg_base.proofs.ResultLemmas.{at_err}
 use Rattle.eg_tick.proofs.BoardLemmas.{cleared-world, cleared-outside}
 use Rattle.eg_tick.proofs.MadeLemmas.{clears-data, clears-outputs}
-use Rattle.eg_tick.proofs.KeepsLemmas.{keeps_then, keeps_refused}
+use Rattle.eg_guard.proofs.KeepsLemmas.{keeps_then, keeps_refused}
 use Rattle.eg_tick.proofs.board.clear.Goals as goal
 
 pub returns-clause-world : goal.returns-clause-world

@@ -2,7 +2,7 @@ use Rattle.std.proofs.lemmas.Result.{on_ok_weaker, on_err_weaker, IfOk-from_err}
 use Rattle.eg_base.proofs.ResultLemmas.{at_err}
 use Rattle.eg_tick.proofs.BoardLemmas.{shown_readings, shown_asked, shown_outside}
 use Rattle.eg_tick.proofs.MadeLemmas.{shows-readings, shows-asked}
-use Rattle.eg_tick.proofs.KeepsLemmas.{keeps_then, keeps_refused}
+use Rattle.eg_guard.proofs.KeepsLemmas.{keeps_then, keeps_refused}
 use Rattle.eg_tick.proofs.board.show.Goals as goal
 
 pub returns-clause-readings : goal.returns-clause-readings

@@ -3,7 +3,7 @@ use Rattle.std.proofs.lemmas.Result.{IfOk-from_err}
 use Rattle.eg_fault.specs.Faults.{effects}
 use Rattle.eg_tick.specs.Midway.{IsDue}
 use Rattle.eg_tick.proofs.StepLemmas.{steps-begin, steps-more, steps-all}
-use Rattle.eg_tick.proofs.KeepsLemmas.{keeps_then, keeps_done, keeps_refused}
+use Rattle.eg_guard.proofs.KeepsLemmas.{keeps_then, keeps_done, keeps_refused}
 use Rattle.eg_tick.proofs.levels.run_turns.Goals as goal
 
 pub returns-clause-step : goal.returns-clause-step

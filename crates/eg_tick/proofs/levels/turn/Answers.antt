@@ -1,5 +1,5 @@
 use Rattle.std.proofs.lemmas.Result.{IfOk-from_err}
-use Rattle.eg_tick.proofs.KeepsLemmas.{keeps_then, keeps_refused}
+use Rattle.eg_guard.proofs.KeepsLemmas.{keeps_then, keeps_refused}
 use Rattle.eg_tick.proofs.levels.turn.Goals as goal
 
 pub returns-in_err-slice-clause-midway : goal.returns-in_err-slice-clause-midway

@@ -2,7 +2,7 @@ use Rattle.std.proofs.lemmas.Result.{IfOk-weaker, IfOk-from_err}
 use Rattle.eg_tick.specs.Midway.{work_at}
 use Rattle.eg_tick.proofs.FrameLemmas.{ready-board}
 use Rattle.eg_tick.proofs.WorkLemmas.{due, midway, served, stepped, on_ok_both}
-use Rattle.eg_tick.proofs.KeepsLemmas.{keeps_then, keeps_refused}
+use Rattle.eg_guard.proofs.KeepsLemmas.{keeps_then, keeps_refused}
 use Rattle.eg_tick.proofs.working.show_and_run.Goals as goal
 
 pub run_levels-requires-clause-ready : goal.run_levels-requires-clause-ready

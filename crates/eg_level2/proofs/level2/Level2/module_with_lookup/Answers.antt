@@ -29,10 +29,10 @@ returns-then-number-eq-CHECK g c = record {
   set_told = λ are is. on_err_weaker c.check.result (λ first. told-set _ c.args.number _ _ c.requires.number is
       (checks-stores c.args.self.now _ c.args.tick c.args.phase c.args.disturbance _ _ _ _ _ c.if-number-eq-CHECK.true (seed-kept _ _ _ c.test.ensures) first))
       (c.check.ensures.stopped are);
-  outside = λ address other. same_outside _ _ address c.check.ensures.keeps.leaves.outside other;
-  sure = c.check.ensures.keeps.leaves.sure;
-  stays_sure = c.check.ensures.keeps.leaves.stays_sure;
-  are_words = c.check.ensures.keeps.leaves.are_words;
+  outside = λ address other. same_outside _ _ address c.check.ensures.keeps.outside other;
+  sure = c.check.ensures.keeps.memory.sure;
+  stays_sure = c.check.ensures.keeps.memory.stays_sure;
+  are_words = c.check.ensures.keeps.memory.are_words;
 }
 
 pub returns : goal.returns
@@ -56,8 +56,8 @@ returns g c =
       given_up_stopped = λ differs. absurd (differs are);
       told = λ tells. on_err_weaker c.run.result (λ first. told-run _ c.args.number _ _ c.requires.number are tells first) (c.run.ensures.stopped c.args.tick);
       set_told = λ before is. on_err_weaker c.run.result (λ first. told-set _ c.args.number _ _ c.requires.number is first) (c.run.ensures.stopped c.args.tick);
-      outside = λ address other. same_outside _ _ address c.run.ensures.keeps.leaves.outside other;
-      sure = c.run.ensures.keeps.leaves.sure;
-      stays_sure = c.run.ensures.keeps.leaves.stays_sure;
-      are_words = c.run.ensures.keeps.leaves.are_words;
+      outside = λ address other. same_outside _ _ address c.run.ensures.keeps.outside other;
+      sure = c.run.ensures.keeps.memory.sure;
+      stays_sure = c.run.ensures.keeps.memory.stays_sure;
+      are_words = c.run.ensures.keeps.memory.are_words;
     }

@@ -21,7 +21,7 @@ keeps_done a b x y first = record {
   are_words = first.are_words;
 }
 
-clash : false ≡ true → ⊥
+pub clash : false ≡ true → ⊥
 clash is = cc
 
 -- whatever the call answers that ends early
