@@ -1,6 +1,7 @@
 pub mod PlaceLemmas
 pub mod StoreLemmas
 pub mod KeepsLemmas
+pub mod SignalLemmas
 pub mod OrderLemmas
 pub mod PortLemmas
 pub mod ModuleLemmas

@@ -1,23 +1,21 @@
 -- What the stores of a module make of the words by their names.
-use Rattle.std.proofs.Common.{◌≡◌, ◌∙◌, refl, sym, ap, ap₂, subst, List, [], ℕ, ◌+◌, ◌-◌, ◌*◌, ◌%◌, Bool, true, false, arith}
+use Rattle.std.proofs.Common.{◌≡◌, ◌∙◌, refl, sym, ap, ap₂, subst, List, [], ℕ, ◌+◌, ◌-◌, ◌*◌, ◌%◌, Bool, arith}
 use Rattle.std.specs.Prelude.{Result, Ok, Err, OnOk, if◌then◌else◌, ◌==◌, min, max, bit_xor, slice_index, Option, Some, None}
 use Rattle.eg_num.specs.Interpolation.{grid_at}
 use Rattle.eg_torque.specs.Permit.{permitted}
-use Rattle.eg_sensor.specs.Readings.{used_pedal, checked_raise}
+use Rattle.eg_sensor.specs.Readings.{checked_raise}
 use Rattle.eg_sensor.specs.declared.readings.Readings.{Readings}
-use Rattle.eg_answer.specs.Formulas.{permitted_torque, estimated_torque, excess_number, disagreeing_pairs}
+use Rattle.eg_answer.specs.Formulas.{permitted_torque}
 use Rattle.eg_answer.specs.Folds.{mixed}
-use Rattle.eg_answer.specs.Answers.{pedal_result, permitted_result, estimate_result, excess_result, pairs_result}
 use Rattle.eg_answer.specs.Token.{next_token_of}
 use Rattle.eg_answer.specs.declared.rules.Rules.{Rules}
-use Rattle.eg_answer.specs.declared.rules.TestRow.{TestRow}
 use Rattle.eg_level2.specs.declared.phase.Phase.{Phase}
 use Rattle.eg_level2.specs.declared.lookup.Lookup.{Lookup}
 use Rattle.eg_level2.specs.Inputs.{IsLookup}
-use Rattle.eg_level2.specs.Words.{Words, named, is_set, in_order, start}
-use Rattle.eg_level2.specs.Modules.{marked, check_step, given_up, written, signed, pedal_step, permitted_step, actual_step, excess_step, pairs_step, closed_flow, answers_now, number_of, answer_of, react_step}
+use Rattle.eg_level2.specs.Words.{named, is_set, in_order, start}
+use Rattle.eg_level2.specs.Modules.{marked, check_step, given_up, written, signed, closed_flow, answers_now, number_of, answer_of, react_step}
 use Rattle.eg_level2.specs.Stores.{Store, put, keep, kept_from, store, both, after_stores, AreFirst, signalling, signalled}
-use Rattle.eg_level2.specs.Order.{check_stores, signal_stores, react_stores}
+use Rattle.eg_level2.specs.Order.{check_stores, react_stores}
 
 -- ---- module 0 ----
 
@@ -55,60 +53,6 @@ unfolding named written signed signalling
 signalling-is f h number signal test d place value t token s sign w trip ep ev etrip ew etoken et esign es first =
     subst (λ (l : List Store). AreFirst l f h) (rw (ep, ev, etrip, ew, etoken, et, esign, es) refl) first
 
-pub pedal_by : (f h : ℕ → ℕ) (read readings : Readings) (row : TestRow) (d signal test w : ℕ) (limp : Bool) → h ≡ signalled 1 signal test d f
-    → read ≡ readings → signal ≡ used_pedal read.pedal limp → limp ≡ is_set w → w ≡ f 10 → test ≡ pedal_result row
-    → named h ≡ pedal_step readings row d (named f)
-unfolding named signalled signalling after_stores both store keep put pedal_step written signed
-pedal_by f h read readings row d signal test w limp eh er es el ew et = rw (eh, es, el, ew, et, er) refl
-
--- a signal that is 0 where a trip stands is written as any other, since 0 is written there
-unless_tripped : (trip : Bool) (signal d : ℕ) →
-    (if trip then 0 else bit_xor (if trip then 0 else signal) d) ≡ (if trip then 0 else bit_xor signal d)
-unless_tripped true signal d = refl
-unless_tripped false signal d = refl
-
-signalled_unless : (f : ℕ → ℕ) (number signal value test d : ℕ) → value ≡ (if is_set (f 11) then 0 else signal)
-    → signalled number value test d f ≡ signalled number signal test d f
-unfolding named written signed signalled signalling after_stores both store keep
-signalled_unless f number signal value test d ev =
-    ap (λ v. keep 15 (bit_xor (mixed (f 15) test) d) (keep 12 (next_token_of (f 12) number) (keep (number - 1) v f)))
-    (ap (λ v. if is_set (f 11) then 0 else bit_xor v d) ev ∙ unless_tripped (is_set (f 11)) signal d)
-
-permitted_from : (f h : ℕ → ℕ) (rules : Rules) (read readings : Readings) (row : TestRow) (d signal test pedal : ℕ) → h ≡ signalled 2 signal test d f
-    → read ≡ readings → signal ≡ permitted_torque rules read pedal → pedal ≡ f 0 → test ≡ permitted_result rules row
-    → named h ≡ permitted_step rules readings row d (named f)
-unfolding named signalled signalling after_stores both store keep put permitted_step written signed
-permitted_from f h rules read readings row d signal test pedal eh er es ep et = rw (eh, es, ep, et, er) refl
-
-pub permitted_by : (f h : ℕ → ℕ) (rules : Rules) (read readings : Readings) (row : TestRow) (d value test pedal w : ℕ) (trip : Bool)
-    → h ≡ signalled 2 value test d f → read ≡ readings → value ≡ (if trip then 0 else permitted_torque rules read pedal)
-    → trip ≡ is_set w → w ≡ f 11 → pedal ≡ f 0 → test ≡ permitted_result rules row
-    → named h ≡ permitted_step rules readings row d (named f)
-permitted_by f h rules read readings row d value test pedal w trip eh er ev etrip ew ep et =
-    permitted_from f h rules read readings row d (permitted_torque rules read pedal) test pedal
-    (eh ∙ signalled_unless f 2 (permitted_torque rules read pedal) value test d unless) er refl ep et
-  where
-    unless : value ≡ (if is_set (f 11) then 0 else permitted_torque rules read pedal)
-    unless = ev ∙ ap (λ b. if b then 0 else permitted_torque rules read pedal) (etrip ∙ ap is_set ew)
-
-pub actual_by : (f h : ℕ → ℕ) (rules : Rules) (read readings : Readings) (row : TestRow) (d signal test : ℕ) → h ≡ signalled 3 signal test d f
-    → read ≡ readings → signal ≡ estimated_torque rules read → test ≡ estimate_result rules row
-    → named h ≡ actual_step rules readings row d (named f)
-unfolding named signalled signalling after_stores both store keep put actual_step written signed
-actual_by f h rules read readings row d signal test eh er es et = rw (eh, es, et, er) refl
-
-pub excess_by : (f h : ℕ → ℕ) (rules : Rules) (row : TestRow) (d signal test actual allowed : ℕ) → h ≡ signalled 4 signal test d f
-    → signal ≡ excess_number rules allowed actual → actual ≡ f 2 → allowed ≡ f 1 → test ≡ excess_result rules row
-    → named h ≡ excess_step rules row d (named f)
-unfolding named signalled signalling after_stores both store keep put excess_step written signed
-excess_by f h rules row d signal test actual allowed eh es ea ep et = rw (eh, es, ea, ep, et) refl
-
-pub pairs_by : (f h : ℕ → ℕ) (rules : Rules) (read readings : Readings) (row : TestRow) (d signal test : ℕ) → h ≡ signalled 5 signal test d f
-    → read ≡ readings → signal ≡ disagreeing_pairs rules read → test ≡ pairs_result rules row
-    → named h ≡ pairs_step rules readings row d (named f)
-unfolding named signalled signalling after_stores both store keep put pairs_step written signed
-pairs_by f h rules read readings row d signal test eh er es et = rw (eh, es, et, er) refl
-
 -- the permitted torque where both speeds are the one that was looked up
 looked_up-value : (rules : Rules) (lookup : Lookup) (pedal a b raise : ℕ) → IsLookup rules lookup → a ≡ b → lookup.pedal ≡ pedal → lookup.speed ≡ a →
     max lookup.torque raise ≡ permitted rules.permit pedal a b raise
@@ -130,32 +74,6 @@ looked_up-at rules lookup read pedal raise is same at_pedal at_speed checked =
     ∙ ap (permitted rules.permit pedal (slice_index read.speed 0) (slice_index read.speed 1)) checked
 
 pub ruleset looked_up = (looked_up-at)
-
--- the stores of a module of number 1 to 5, by the words after it
-pub first-stores : (f h : ℕ → ℕ) (signal test d : ℕ) (after : Words) → named (signalled 1 signal test d f) ≡ after
-    → AreFirst (signalling 1 signal test d f) f h → AreFirst (signal_stores 0 after) f h
-unfolding named written signed signalled signalling signal_stores in_order after_stores both store put
-first-stores f h signal test d after e first = subst (λ (w : Words). AreFirst (signal_stores 0 w) f h) e first
-
-pub second-stores : (f h : ℕ → ℕ) (signal test d : ℕ) (after : Words) → named (signalled 2 signal test d f) ≡ after
-    → AreFirst (signalling 2 signal test d f) f h → AreFirst (signal_stores 1 after) f h
-unfolding named written signed signalled signalling signal_stores in_order after_stores both store put
-second-stores f h signal test d after e first = subst (λ (w : Words). AreFirst (signal_stores 1 w) f h) e first
-
-pub third-stores : (f h : ℕ → ℕ) (signal test d : ℕ) (after : Words) → named (signalled 3 signal test d f) ≡ after
-    → AreFirst (signalling 3 signal test d f) f h → AreFirst (signal_stores 2 after) f h
-unfolding named written signed signalled signalling signal_stores in_order after_stores both store put
-third-stores f h signal test d after e first = subst (λ (w : Words). AreFirst (signal_stores 2 w) f h) e first
-
-pub fourth-stores : (f h : ℕ → ℕ) (signal test d : ℕ) (after : Words) → named (signalled 4 signal test d f) ≡ after
-    → AreFirst (signalling 4 signal test d f) f h → AreFirst (signal_stores 3 after) f h
-unfolding named written signed signalled signalling signal_stores in_order after_stores both store put
-fourth-stores f h signal test d after e first = subst (λ (w : Words). AreFirst (signal_stores 3 w) f h) e first
-
-pub fifth-stores : (f h : ℕ → ℕ) (signal test d : ℕ) (after : Words) → named (signalled 5 signal test d f) ≡ after
-    → AreFirst (signalling 5 signal test d f) f h → AreFirst (signal_stores 4 after) f h
-unfolding named written signed signalled signalling signal_stores in_order after_stores both store put
-fifth-stores f h signal test d after e first = subst (λ (w : Words). AreFirst (signal_stores 4 w) f h) e first
 
 -- ---- module 7 ----
 
@@ -206,5 +124,3 @@ pub began-ok : {T E : Type 0} (result : Result T E) (f h : ℕ → ℕ) (values 
     → OnOk result (h ≡ kept_from values 16 f) → OnOk result (named h ≡ start)
 began-ok (Ok x) f h values ev e = began f h values ev e
 began-ok (Err x) f h values ev e = e
-
-pub ruleset signal_laws = (pedal_by, permitted_by, actual_by, excess_by, pairs_by)

@@ -286,13 +286,6 @@ pub checks-stores : (parts : Level2Parts) (memory : List ℕ) (tick : ℕ) (phas
 unfolding stores_of module_step inputs_of
 checks-stores parts memory tick phase d n seed words f h en es first = rw (en, sym es) first
 
-pub signals-stores : (inputs : Inputs) (n k : ℕ) (words after : Words) (f h : ℕ → ℕ) → n ≡ k → (k == 0) ≡ false → (k == 6) ≡ false → (k == 7) ≡ false
-    → after ≡ module_step inputs n words → AreFirst (signal_stores (k - 1) after) f h → AreFirst (stores_of inputs n words) f h
-unfolding stores_of
-signals-stores inputs n k words after f h en zeroth sixth seventh e first =
-    subst (λ (l : List Store). AreFirst l f h) (ap (signal_stores (k - 1)) e ∙ ap (λ j. signal_stores (j - 1) (module_step inputs n words)) (sym en)
-    ∙ sym (rw (ap (λ j. j == 0) en ∙ zeroth, ap (λ j. j == 6) en ∙ sixth, ap (λ j. j == 7) en ∙ seventh) refl)) first
-
 pub debounces-stores : (parts : Level2Parts) (memory : List ℕ) (tick : ℕ) (phase : Phase) (d n : ℕ) (rules : Rules) (words : Words) (f h : ℕ → ℕ) → n ≡ 6 → rules ≡ parts.rules
     → AreFirst (debounce_stores (feeds_now phase words) (debounced rules phase words) (debounce_step rules phase words)) f h
     → AreFirst (stores_of (inputs_of parts memory tick phase d) n words) f h

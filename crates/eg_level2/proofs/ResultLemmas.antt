@@ -1,6 +1,5 @@
 -- The results of the test rows, which are kept.
 use Rattle.std.proofs.Common.{◌≡◌, ◌∙◌, sym, ap, ap₂, ℕ, suc, ◌+◌, ◌%◌, ◌<◌, ◌≤◌, List, [], ◌∷◌, ◌++◌, map, take, length, get_or, arith}
-use Rattle.std.specs.Prelude.{slice_index}
 use Rattle.std.proofs.Math.Nat.{mod-lt}
 use Rattle.std.proofs.Math.Seq.{take-suc, take-length}
 use Rattle.std.proofs.lemmas.List.{length-map, map-append, get_or-map}
@@ -8,7 +7,6 @@ use Rattle.eg_answer.specs.declared.rules.Rules.{Rules}
 use Rattle.eg_answer.specs.declared.rules.TestRow.{TestRow}
 use Rattle.eg_answer.specs.declared.questions.Question.{Question}
 use Rattle.eg_answer.specs.Questions.{no_question, question_at}
-use Rattle.eg_answer.specs.Answers.{pedal_result, permitted_result, estimate_result, excess_result, pairs_result, results_of}
 use Rattle.eg_level2.specs.declared.results.RowResults.{RowResults}
 use Rattle.eg_level2.specs.Inputs.{results_by, row_of}
 
@@ -45,23 +43,3 @@ asked-kept rules questions all asked n d are some count =
 pub seed-kept : (rules : Rules) (row : TestRow) (test : RowResults) → test ≡ results_by rules row → test.seed ≡ row.seed
 unfolding results_by
 seed-kept rules row test e = ap (λ (t : RowResults). t.seed) e
-
-pub pedal-kept : (rules : Rules) (row : TestRow) (test : RowResults) → test ≡ results_by rules row → slice_index test.results 0 ≡ pedal_result row
-unfolding results_by results_of
-pedal-kept rules row test e = ap (λ (t : RowResults). slice_index t.results 0) e
-
-pub permitted-kept : (given rules : Rules) (row : TestRow) (test : RowResults) → given ≡ rules → test ≡ results_by rules row → slice_index test.results 1 ≡ permitted_result given row
-unfolding results_by results_of
-permitted-kept given rules row test same e = ap (λ (t : RowResults). slice_index t.results 1) e ∙ ap (λ (r : Rules). permitted_result r row) (sym same)
-
-pub estimate-kept : (given rules : Rules) (row : TestRow) (test : RowResults) → given ≡ rules → test ≡ results_by rules row → slice_index test.results 2 ≡ estimate_result given row
-unfolding results_by results_of
-estimate-kept given rules row test same e = ap (λ (t : RowResults). slice_index t.results 2) e ∙ ap (λ (r : Rules). estimate_result r row) (sym same)
-
-pub excess-kept : (given rules : Rules) (row : TestRow) (test : RowResults) → given ≡ rules → test ≡ results_by rules row → slice_index test.results 3 ≡ excess_result given row
-unfolding results_by results_of
-excess-kept given rules row test same e = ap (λ (t : RowResults). slice_index t.results 3) e ∙ ap (λ (r : Rules). excess_result r row) (sym same)
-
-pub pairs-kept : (given rules : Rules) (row : TestRow) (test : RowResults) → given ≡ rules → test ≡ results_by rules row → slice_index test.results 4 ≡ pairs_result given row
-unfolding results_by results_of
-pairs-kept given rules row test same e = ap (λ (t : RowResults). slice_index t.results 4) e ∙ ap (λ (r : Rules). pairs_result r row) (sym same)

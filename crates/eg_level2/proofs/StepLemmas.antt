@@ -1,15 +1,15 @@
 -- A module by its number: the step of each number, and what every step keeps.
 use Rattle.std.proofs.Common.{◌≡◌, ◌∙◌, refl, sym, ap, ℕ, ◌+◌, ◌-◌, ◌≤◌, Bool, true, false, IsTrue, List, arith, ◌↔◌}
+use Rattle.std.proofs.lemmas.Bool.{eqb-true}
 use Rattle.std.specs.Prelude.{min, if◌then◌else◌, ◌==◌, Option, None, Result, Ok, Err, IfOk}
 use Rattle.eg_answer.specs.declared.rules.Rules.{Rules}
-use Rattle.eg_answer.specs.declared.rules.TestRow.{TestRow}
 use Rattle.eg_level2.specs.declared.phase.Phase.{Phase}
 use Rattle.eg_level2.specs.declared.step.Step.{Step}
 use Rattle.eg_num.specs.Windows.{WeightParts}
 use Rattle.eg_num.specs.Counting.{fed}
 use Rattle.eg_num.specs.declared.watches.Watches.{Watches}
 use Rattle.eg_level2.specs.Words.{Words, start, AreMirrored, AreWithin}
-use Rattle.eg_level2.specs.Inputs.{Level2Parts, Inputs, readings_of, asked_of, inputs_of, row_of}
+use Rattle.eg_level2.specs.Inputs.{Level2Parts, Inputs, asked_of, inputs_of, row_of}
 use Rattle.eg_level2.specs.Modules.{feeds_now, opens_now, check_step, given_up, pedal_bit, plate_bit, load_bit, speed_bit, torque_bit, counted, pedal_step, permitted_step, actual_step, excess_step, pairs_step, debounced, debounce_step, answer_of, react_step, module_step, answer_after, order_after, no_watches, found_by, step_of, finding, quiet_step}
 
 pub if_ok_all : {T E : Type 0} (result : Result T E) {P Q R S : T → Type 0} → ((x : T) → P x → Q x → R x → S x)
@@ -27,34 +27,6 @@ pub checks : (parts : Level2Parts) (memory : List ℕ) (tick : ℕ) (phase : Pha
 unfolding module_step inputs_of
 checks parts memory tick phase d n seed words en es = rw (en, es) refl
 
-pub pedals : (parts : Level2Parts) (memory : List ℕ) (tick : ℕ) (phase : Phase) (d n : ℕ) (row : TestRow) (words : Words) → n ≡ 1
-    → row ≡ row_of parts.questions (asked_of memory) → pedal_step (readings_of memory) row d words ≡ module_step (inputs_of parts memory tick phase d) n words
-unfolding module_step inputs_of
-pedals parts memory tick phase d n row words en er = rw (en, er) refl
-
-pub permits : (parts : Level2Parts) (memory : List ℕ) (tick : ℕ) (phase : Phase) (d n : ℕ) (rules : Rules) (row : TestRow) (words : Words) → n ≡ 2
-    → rules ≡ parts.rules → row ≡ row_of parts.questions (asked_of memory)
-    → permitted_step rules (readings_of memory) row d words ≡ module_step (inputs_of parts memory tick phase d) n words
-unfolding module_step inputs_of
-permits parts memory tick phase d n rules row words en eu er = rw (en, er, eu) refl
-
-pub actuals : (parts : Level2Parts) (memory : List ℕ) (tick : ℕ) (phase : Phase) (d n : ℕ) (rules : Rules) (row : TestRow) (words : Words) → n ≡ 3
-    → rules ≡ parts.rules → row ≡ row_of parts.questions (asked_of memory)
-    → actual_step rules (readings_of memory) row d words ≡ module_step (inputs_of parts memory tick phase d) n words
-unfolding module_step inputs_of
-actuals parts memory tick phase d n rules row words en eu er = rw (en, er, eu) refl
-
-pub excesses : (parts : Level2Parts) (memory : List ℕ) (tick : ℕ) (phase : Phase) (d n : ℕ) (rules : Rules) (row : TestRow) (words : Words) → n ≡ 4
-    → rules ≡ parts.rules → row ≡ row_of parts.questions (asked_of memory) → excess_step rules row d words ≡ module_step (inputs_of parts memory tick phase d) n words
-unfolding module_step inputs_of
-excesses parts memory tick phase d n rules row words en eu er = rw (en, er, eu) refl
-
-pub pairings : (parts : Level2Parts) (memory : List ℕ) (tick : ℕ) (phase : Phase) (d n : ℕ) (rules : Rules) (row : TestRow) (words : Words) → n ≡ 5
-    → rules ≡ parts.rules → row ≡ row_of parts.questions (asked_of memory)
-    → pairs_step rules (readings_of memory) row d words ≡ module_step (inputs_of parts memory tick phase d) n words
-unfolding module_step inputs_of
-pairings parts memory tick phase d n rules row words en eu er = rw (en, er, eu) refl
-
 pub debounces : (parts : Level2Parts) (memory : List ℕ) (tick : ℕ) (phase : Phase) (d n : ℕ) (rules : Rules) (words : Words) → n ≡ 6 → rules ≡ parts.rules
     → debounce_step rules phase words ≡ module_step (inputs_of parts memory tick phase d) n words
 unfolding module_step inputs_of
@@ -68,10 +40,14 @@ reacts parts memory tick phase d n words en = rw en refl
 -- ---- what a run answers ----
 
 -- a module other than the last two
-pub quiet : (inputs : Inputs) (n k : ℕ) (words : Words) → n ≡ k → (k == 6) ≡ false → (k == 7) ≡ false
-    → quiet_step ≡ step_of inputs n words
+pub quiet : (inputs : Inputs) (n : ℕ) (words : Words) → n ≤ 5 → quiet_step ≡ step_of inputs n words
 unfolding step_of order_after answer_after found_by
-quiet inputs n k words e six seven = rw (e, six, seven) refl
+quiet inputs n words to = by (n == 6) (n == 7) refl refl
+  where
+    by : (six seven : Bool) → (n == 6) ≡ six → (n == 7) ≡ seven → quiet_step ≡ step_of inputs n words
+    by false false sixth seventh = rw (sixth, seventh) refl
+    by true seven sixth seventh = absurd (let is = eqb-true n 6 sixth in omega arith)
+    by six true sixth seventh = absurd (let is = eqb-true n 7 seventh in omega arith)
 
 pub debounces-step : (parts : Level2Parts) (memory : List ℕ) (tick : ℕ) (phase : Phase) (d n : ℕ) (rules : Rules) (words : Words) → n ≡ 6 → rules ≡ parts.rules
     → finding (debounced rules phase words) ≡ step_of (inputs_of parts memory tick phase d) n words

@@ -7,13 +7,17 @@ use Rattle.eg_guard.specs.Memory.{ShownMemory, KeepsMemory}
 use Rattle.eg_num.specs.declared.watches.Watches.{Watches}
 use Rattle.eg_num.specs.Windows.{WeightParts}
 use Rattle.eg_num.specs.Counting.{fed}
+use Rattle.eg_sensor.specs.Readings.{used_pedal}
+use Rattle.eg_sensor.specs.declared.readings.Readings.{Readings}
+use Rattle.eg_answer.specs.declared.modules.TheConstants.{PEDAL, PERMITTED, ACTUAL, EXCESS}
+use Rattle.eg_answer.specs.Formulas.{permitted_torque, estimated_torque, excess_number, disagreeing_pairs}
 use Rattle.eg_answer.specs.Token.{next_token_of}
 use Rattle.eg_answer.specs.declared.rules.Rules.{Rules}
 use Rattle.eg_answer.specs.declared.words.TheConstants.{MIRRORED_WORDS}
 use Rattle.eg_level2.specs.declared.words.TheConstants.{PEDAL_COUNTER, PLATE_COUNTER, LOAD_COUNTER, SPEED_COUNTER, TORQUE_COUNTER, TOKEN, SIGN}
 use Rattle.eg_level2.specs.declared.debounce.Fed.{Fed}
 use Rattle.eg_level2.specs.declared.debounce.Feeds.{Feeds}
-use Rattle.eg_level2.specs.Words.{Words, named, is_level2_own, AreMirrored}
+use Rattle.eg_level2.specs.Words.{Words, named, is_set, is_level2_own, AreMirrored}
 use Rattle.eg_level2.specs.Modules.{written, signed, pedal_bit, plate_bit, load_bit, speed_bit, torque_bit, is_found, no_watches}
 
 -- a store of one word
@@ -67,6 +71,17 @@ both_from number [] = []
 both_from number (value ∷ values) = both number value (both_from (number + 1) values)
 
 -- ---- what the modules store ----
+
+-- The signal that a module of number 1 to 5 works out. The permitted torque isn't looked up where a trip
+-- stands, since 0 is written then.
+unfoldable pub signal_of : Rules → Readings → ℕ → Words → ℕ
+signal_of rules readings number words =
+    if number == PEDAL then used_pedal readings.pedal (is_set words.limp)
+    else if number == PERMITTED
+    then (if is_set words.trip then 0 else permitted_torque rules readings words.pedal)
+    else if number == ACTUAL then estimated_torque rules readings
+    else if number == EXCESS then excess_number rules words.permitted words.actual
+    else disagreeing_pairs rules readings
 
 -- a module of number 1 to 5: its signal, the token and the fold
 unfoldable pub signalling : ℕ → ℕ → ℕ → ℕ → (ℕ → ℕ) → List Store

@@ -1,6 +1,6 @@
 // Level 2 as a whole: its eight modules by their numbers, and its reset.
 ghost use Rattle.std.specs.Prelude.{◌≡◌, ℕ, ◌%◌, ◌<◌, ◌≤◌, length, IsTrue, IsOk, OnOk, OnErr, IfOk};
-ghost use Rattle.eg_answer.specs.declared.modules.TheConstants.{CHECK, MODULES};
+ghost use Rattle.eg_answer.specs.declared.modules.TheConstants.{CHECK, MODULES, PAIRS};
 ghost use Rattle.eg_guard.specs.Memory.{AreWords, SameOutside};
 ghost use Rattle.eg_level2.specs.Words.{ChangeLaw, word_at, words_of, AreMirrored, AreWithin, is_level2_own, start};
 ghost use Rattle.eg_level2.specs.Inputs.{AreParts, IsLookup, inputs_of, asked_of, results_by, row_of};
@@ -14,7 +14,7 @@ use crate::debounce::debounce;
 use crate::ports::asked;
 use crate::react::react;
 use crate::results::{RowResults, results_of_all};
-use crate::signals::{actual, excess, pairs, pedal, permitted};
+use crate::signals::{signal, write};
 use crate::words::{WHOLE_FLOW, keep_all};
 use crate::{Lookup, Phase, Step};
 use arrayvec::ArrayVec;
@@ -193,16 +193,43 @@ impl Level2 {
             (words_of (M.shows memory.old).words)) }
         ensures keeps { Keeps (M.shows memory.old) (M.shows memory.new) result }
     {
-        let results = self.test(memory).results;
-        match number {
-            eg_answer::PEDAL => pedal(memory, results[0], disturbance),
-            eg_answer::PERMITTED => permitted(memory, &self.rules, lookup, results[1], disturbance),
-            eg_answer::ACTUAL => actual(memory, &self.rules, results[2], disturbance),
-            eg_answer::EXCESS => excess(memory, &self.rules, results[3], disturbance),
-            eg_answer::PAIRS => pairs(memory, &self.rules, results[4], disturbance),
-            eg_answer::DEBOUNCE => debounce(memory, &self.rules, phase),
-            _ => react(memory, phase),
+        if number <= eg_answer::PAIRS {
+            return self.run_signal(number, memory, disturbance, lookup);
         }
+        if number == eg_answer::DEBOUNCE {
+            return debounce(memory, &self.rules, phase);
+        }
+        react(memory, phase)
+    }
+
+    /// Runs a module of number 1 to 5, one with a signal.
+    #[inline(always)]
+    fn run_signal<M: Guarded>(
+        &self,
+        number: u8,
+        memory: &mut M,
+        disturbance: u16,
+        lookup: &Lookup,
+    ) -> Result<Step, NoMemory>
+        requires first { CHECK < number }
+        requires last { number ≤ PAIRS }
+        requires lookup { IsLookup self.now.rules lookup.now }
+        ensures words { (tick : ℕ) (phase : Phase) → OnOk result (words_of (M.shows memory.new).words
+            ≡ module_step (inputs_of self.now (M.shows memory.old).words tick phase disturbance) number
+            (words_of (M.shows memory.old).words)) }
+        ensures stopped { (tick : ℕ) (phase : Phase) → OnErr result (AreFirst
+            (stores_of (inputs_of self.now (M.shows memory.old).words tick phase disturbance) number
+            (words_of (M.shows memory.old).words))
+            (word_at (M.shows memory.old).words) (word_at (M.shows memory.new).words)) }
+        ensures step { (tick : ℕ) (phase : Phase) → IfOk result (λ step. step
+            ≡ step_of (inputs_of self.now (M.shows memory.old).words tick phase disturbance) number
+            (words_of (M.shows memory.old).words)) }
+        ensures keeps { Keeps (M.shows memory.old) (M.shows memory.new) result }
+    {
+        let signal = signal(number, memory, &self.rules, lookup);
+        let test = self.test(memory).results[usize::from(number) - 1];
+        write(memory, number, signal, test, disturbance)?;
+        Ok(Step::quiet())
     }
 
     /// The results of the test row of the question whose number stands at the link.
