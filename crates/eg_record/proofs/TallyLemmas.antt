@@ -13,11 +13,12 @@ use Rattle.eg_record.specs.Spans.{this_span}
 use Rattle.eg_record.specs.Detection.{first_detection}
 use Rattle.eg_record.specs.Excess.{true_excess, is_excess_confirmed, first_confirmed}
 use Rattle.eg_record.specs.Stages.{first_off, last_on}
-use Rattle.eg_record.specs.Facts.{facts_of, facts_with, summary_with}
+use Rattle.eg_record.specs.Facts.{facts_of, summary_with}
 use Rattle.eg_record.specs.Summaries.{summary_of}
 use Rattle.eg_record.specs.declared.reactions.Reactions.{Reactions}
 use Rattle.eg_record.specs.declared.span_tally.SpanTally.{SpanTally}
-use Rattle.eg_record.specs.Reactions.{combined, reactions_of, spans_with, span_reactions}
+use Rattle.eg_record.specs.Reactions.{combined, reactions_of}
+use Rattle.eg_record.specs.RowMore.{facts_with, spans_with, span_reactions}
 use Rattle.eg_record.specs.Tallies.{TallyParts, AreSpansOf, IsTallyOf}
 use Rattle.eg_record.proofs.ExcessLemmas.{begins, fed_stands, fed_answers}
 use Rattle.eg_record.proofs.ReactionLemmas.{told-all, spans_with-is}

@@ -1,15 +1,14 @@
 -- The facts of a run are its first detection, first tick off, last tick on, first confirmed true excess, and
 -- how many ticks it has. They are what is told of its rows once they are gone.
-use Rattle.std.specs.Prelude.{ℕ, ◌+◌, ◌-◌, Bool, nat_lt, List, length, Option, Some, None, option_map, if◌then◌else◌}
-use Rattle.std.specs.Option.{option_or}
+use Rattle.std.specs.Prelude.{ℕ, ◌+◌, ◌-◌, nat_lt, List, length, Option, Some, None, option_map, if◌then◌else◌}
 use Rattle.eg_num.specs.Windows.{WeightParts}
 use Rattle.eg_word.specs.declared.registers.Trap.{Trap}
 use Rattle.eg_record.specs.declared.row.Row.{Row}
 use Rattle.eg_record.specs.declared.facts.Facts.{Facts}
 use Rattle.eg_record.specs.declared.summary.Summary.{Summary}
-use Rattle.eg_record.specs.Detection.{detected_at, first_detection}
+use Rattle.eg_record.specs.Detection.{first_detection}
 use Rattle.eg_record.specs.Excess.{first_confirmed}
-use Rattle.eg_record.specs.Stages.{off_at, first_off, last_on}
+use Rattle.eg_record.specs.Stages.{first_off, last_on}
 
 -- the facts of these rows, where the true excess uses these weights and this threshold
 unfoldable pub facts_of : WeightParts → (threshold : ℕ) → List Row → Facts
@@ -46,14 +45,4 @@ summary_with name facts trap bound = record {
   trap = trap;
   confirmed = facts.confirmed;
   bound = bound;
-}
-
--- what facts become by one row more, at which the true excess is confirmed or isn't
-unfoldable pub facts_with : Row → (confirmed : Bool) → Facts → Facts
-facts_with row confirmed facts = record {
-  first = option_or facts.first (detected_at row);
-  off = option_or facts.off (off_at row);
-  last_on = if row.on then Some row.tick else facts.last_on;
-  confirmed = option_or facts.confirmed (if confirmed then Some row.tick else None);
-  ticks = facts.ticks + 1;
 }

@@ -6,7 +6,6 @@ use Rattle.std.specs.Option.{option_or}
 use Rattle.eg_num.specs.Windows.{WeightParts, is_confirmed}
 use Rattle.eg_record.specs.declared.row.Row.{Row}
 use Rattle.eg_record.specs.declared.reactions.Reactions.{Reactions}
-use Rattle.eg_record.specs.declared.span_tally.SpanTally.{SpanTally}
 use Rattle.eg_record.specs.Spans.{spans_of}
 use Rattle.eg_record.specs.Stages.{last_on}
 use Rattle.eg_record.specs.Excess.{true_excess}
@@ -87,32 +86,3 @@ settled_by bound (Some ticks) = nat_le bound ticks
 -- confirmed, so that the run shows whether a reaction takes more than `bound` ticks.
 unfoldable pub is_settled : (bound : ℕ) → Reactions → Bool
 is_settled bound reactions = settled_by bound reactions.followed
-
--- ---- one row more ----
-
--- what is told of the span that is going on, where it ends before this tick
-unfoldable pub span_reactions : (end : ℕ) → SpanTally → Reactions
-span_reactions end spans = record {
-  longest = reaction_by spans.last_on spans.confirmed end;
-  followed = option_map (λ c. end - (c + 1)) spans.confirmed;
-}
-
--- the span that is going on ends before this tick, and another begins
-unfoldable pub ended_at : (end : ℕ) → SpanTally → SpanTally
-ended_at end spans = record {
-  last_on = None;
-  confirmed = None;
-  ended = combined (span_reactions end spans) spans.ended;
-}
-
--- one row more of the span that is going on, at which the true excess is confirmed or isn't
-unfoldable pub gone_on : Row → (confirmed : Bool) → SpanTally → SpanTally
-gone_on row confirmed spans = record spans {
-  last_on = if row.on then Some row.tick else spans.last_on;
-  confirmed = option_or spans.confirmed (if confirmed then Some row.tick else None);
-}
-
--- what is kept of the spans becomes this by one row more
-unfoldable pub spans_with : Row → (confirmed : Bool) → SpanTally → SpanTally
-spans_with row confirmed spans =
-    gone_on row confirmed (if row.fresh then ended_at row.tick spans else spans)

@@ -4,7 +4,8 @@ ghost use Rattle.std.specs.Option.{option_or};
 ghost use Rattle.eg_num.specs.Windows.{WeightParts};
 ghost use Rattle.eg_record.specs.Detection.{detected_at};
 ghost use Rattle.eg_record.specs.Stages.{off_at};
-ghost use Rattle.eg_record.specs.Facts.{facts_of, facts_with, reaction_by, reaction_in, summary_with};
+ghost use Rattle.eg_record.specs.Facts.{facts_of, reaction_by, reaction_in, summary_with};
+ghost use Rattle.eg_record.specs.RowMore.{facts_with};
 ghost use Rattle.eg_record.specs.Summaries.{summary_of};
 
 use crate::detection::is_off;
@@ -81,7 +82,7 @@ impl Facts {
     }
 
     /// One row more, at which the true excess is confirmed or isn't.
-    #[tactic(auto, unfolding(crate::specs::Facts::facts_with, crate::specs::Stages::off_at))]
+    #[tactic(auto, unfolding(crate::specs::RowMore::facts_with, crate::specs::Stages::off_at))]
     pub(crate) fn add(&mut self, row: &Row, is_confirmed: bool)
         requires { self.old.ticks < 20000 }
         ensures { self.new ≡ facts_with row.now is_confirmed self.old }

@@ -1,7 +1,7 @@
 use Rattle.std.proofs.Common.{◌∙◌, ◌+◌, ◌∷◌, List, sym, ap, subst}
 use Rattle.eg_record.specs.declared.row.Row.{Row}
 use Rattle.eg_record.specs.declared.facts.Facts.{Facts}
-use Rattle.eg_record.specs.Facts.{facts_with}
+use Rattle.eg_record.specs.RowMore.{facts_with}
 use Rattle.eg_record.specs.Tallies.{TallyParts, IsTallyOf}
 use Rattle.eg_record.proofs.TallyLemmas.{IsFed, fed_tally}
 use Rattle.eg_record.proofs.tally.Tally.feed.Goals as goal
