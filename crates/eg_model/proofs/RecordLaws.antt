@@ -1,6 +1,6 @@
 -- The laws for the record of a run on the bench, span by span, for any engine that brings what every engine
 -- owes.
-use Rattle.std.proofs.Common.{◌≡◌, ℕ, zero, suc, ◌+◌, ◌≤◌, ◌<◌, Bool, true, false, not, ◌&&◌, List, [], ◌∷◌, ◌++◌, All, map, take, length, refl, sym, ap, ap₂, ◌∙◌, arith, Option, Some, None, subst}
+use Rattle.std.proofs.Common.{◌≡◌, ℕ, zero, suc, ◌+◌, ◌≤◌, ◌<◌, Bool, true, false, not, ◌&&◌, ◌||◌, List, [], ◌∷◌, ◌++◌, All, map, take, length, refl, sym, ap, ap₂, ◌∙◌, arith, Option, Some, None, subst}
 use Rattle.std.specs.Prelude.{slice_index_or}
 use Rattle.std.proofs.lemmas.List.Elements.{All-head, All-tail, All-cons, All-nil}
 use Rattle.std.proofs.lemmas.Bool.{ltb-true, lt-ltb}
@@ -22,18 +22,20 @@ use Rattle.eg_record.specs.Spans.{IsDriveSpan, EachDriveSpan}
 use Rattle.eg_model.specs.History.{Setting, Entry, Tick, SpanKind, Drive, Test, drives, Moment}
 use Rattle.eg_model.specs.Paths.{reads_back, both_conduct}
 use Rattle.eg_model.specs.Level1.{last_world}
-use Rattle.eg_model.specs.Moments.{moment_in, moments_in, moments_of}
-use Rattle.eg_model.specs.Spans.{kind_at, before_at, moment_at, next_after, moments, next, ticks, span_ticks}
-use Rattle.eg_model.specs.Engines.{BenchEngine, KeepsBenchLaws, ShowsOneLoad}
+use Rattle.eg_model.specs.Moments.{moment, moment_in, moments_in, moments_of}
+use Rattle.eg_model.specs.Spans.{has_passed, kind_at, before_at, moment_at, next_after, moments, next, ticks, span_ticks}
+use Rattle.eg_model.specs.Engines.{BenchEngine, KeepsBenchLaws, IsOneLoad, ShowsOneLoad}
 use Rattle.eg_model.specs.Bench.{Run, no_drive, stepped, engine_after, shown_at, drive_at, entry_at, moments_to, entries_to}
 use Rattle.eg_model.specs.Rows.{row_of, rows_of, record_rows}
-use Rattle.eg_model.specs.Premises.{IsProper, AreProper, IsProperRun, Follows}
+use Rattle.eg_model.specs.Premises.{IsProper, AreProper, IsProperRun, Follows, is_on_after, full_excesses}
 use Rattle.eg_model.specs.SharpCut.{ArePlain}
 use Rattle.eg_model.specs.StartUp.{IsUndisturbed}
+use Rattle.eg_model.specs.SpanHistories.{SpanIsHistory}
 use Rattle.eg_model.specs.Findings.{FindsExcessAlone, RecordsFindSharply}
 use Rattle.eg_model.specs.Records.{IsRun, NeverFails, is_before_onset, ReactWithin, RowsReactAtOnce, CutOneTickAfter, CutStandingExcess, ExcessIsShort, CutFromOnset, RecordsReact, RecordsReactAtOnce, RecordsCutSharply, RecordsCutSharplyBefore, RecordsCutStandingExcess, RecordsHaveShortExcess, RecordsCutFromOnset, RecordsTestUnpowered, RecordsPassTests}
 use Rattle.eg_model.proofs.StartUpLaws.{tests_pass}
-use Rattle.eg_model.proofs.SpanLemmas.{length-run_moments, tick_after, ticks_before, Continues, continues, begin_of, ends_in, proper_drive}
+use Rattle.eg_model.proofs.SharpCutLaw.{cuts_sharply}
+use Rattle.eg_model.proofs.SpanLemmas.{length-run_moments, kind-goes_on, tick_after, ticks_before, ticks_before-begins, ticks_before-goes_on, continues, spans_are_histories, proper_drive}
 use Rattle.eg_model.proofs.SpanRows.{rows_after, SpanRows, RowAfter, row_tick, rows_off, bits_after, full_unnumbered}
 use Rattle.eg_model.proofs.SpanLaws.{react_within, react_at_once, cut_lapses, short_lapses, cut_from_onset, sharp_after, found_after, cut_one_tick_after}
 use Rattle.eg_model.proofs.RecordTicks.{length-moments_to, records_are_histories}
@@ -80,7 +82,32 @@ All-take P zero xs all = All-nil P
 All-take P (suc n) [] all = All-nil P
 All-take P (suc n) (x ∷ xs) all = All-cons P x (take n xs) (All-head P x xs all) (All-take P n xs (All-tail P x xs all))
 
--- ---- before the onset of a fault no test fails ----
+-- ---- one load ----
+
+abbrev HasOneLoad : Tick → Type 0
+HasOneLoad x = IsOneLoad x.entry.shown
+
+-- the ticks of a run show what came in, and so do those of the span that it ends in
+loads_of_ticks : (s : Setting) (h : List Entry) → All (λ e. IsOneLoad e.shown) h → All HasOneLoad (ticks s h)
+unfolding ticks
+loads_of_ticks s [] loads = All-nil HasOneLoad
+loads_of_ticks s (e ∷ h) loads = All-cons HasOneLoad (record { effects = effects s.fault (length h); entry = e }) (ticks s h)
+    (All-head (λ e. IsOneLoad e.shown) e h loads) (loads_of_ticks s h (All-tail (λ e. IsOneLoad e.shown) e h loads))
+
+loads_of_span : (s : Setting) (h : List Entry) → All (λ e. IsOneLoad e.shown) h → All HasOneLoad (span_ticks s h)
+unfolding span_ticks
+loads_of_span s h loads = All-take HasOneLoad _ (ticks s h) (loads_of_ticks s h loads)
+
+-- such ticks, at which nothing is out of order
+plain_of : (h : List Tick) → All IsUndisturbed h → All HasOneLoad h → ArePlain h
+unfolding ArePlain
+plain_of [] quiet loads = tt
+plain_of (x ∷ h) quiet loads = (
+  record { effects = All-head IsUndisturbed x h quiet; loads = All-head HasOneLoad x h loads },
+  plain_of h (All-tail IsUndisturbed x h quiet) (All-tail HasOneLoad x h loads),
+)
+
+-- ---- before the onset of a fault no test fails, and the cut is sharp ----
 
 quiet_ticks : (s : Setting) (start : ℕ) (h : List Tick) → Follows s.fault start h →
     ((t : ℕ) → t < start + length h → is_before_onset s.fault t ≡ true) → All IsUndisturbed h
@@ -95,17 +122,54 @@ never_fails : (kind : SpanKind) (s : Setting) → IsAccepted s.cal → (x : Tick
 never_fails Drive s accepted x h plain = unfold moment_in reads_back in refl
 never_fails Test s accepted x h plain = (tests_pass s accepted x h plain).never_fails
 
-next_passes : (s : Setting) → IsAccepted s.cal → (e : Entry) (h : List Entry) → is_before_onset s.fault (length h) ≡ true →
-    (next s e h).found.start ≡ false
-next_passes s accepted e h quiet = ap (λ (m : Moment). m.found.start) c.moment_is
-    ∙ (unfold tick_after in never_fails (kind_at e.drive (moments s h)) s accepted (tick_after s e h) (ticks_before s e h) plain)
-  where
-    c : Continues s e h (kind_at e.drive (moments s h)) (ticks_before s e h)
-    c = continues s e h
+module _ (s : Setting) (accepted : IsAccepted s.cal) (e : Entry) (h : List Entry)
+    (quiet : is_before_onset s.fault (length h) ≡ true) where
+  -- nothing is out of order in the span of the next tick, up to that tick
+  quiet_span : All IsUndisturbed (tick_after s e h ∷ ticks_before s e h)
+  quiet_span = subst (All IsUndisturbed) (continues s e h).ticks_are (quiet_ticks s span.begin (span_ticks s (e ∷ h)) span.follows
+      (λ t l. quiet_up_to s.fault (length h) t quiet (let size = span.size in omega (arith, l, size))))
+    where
+      span : SpanIsHistory s (e ∷ h)
+      span = spans_are_histories s (e ∷ h)
 
-    plain : All IsUndisturbed (tick_after s e h ∷ ticks_before s e h)
-    plain = subst (All IsUndisturbed) c.ticks_are (quiet_ticks s (begin_of s (e ∷ h)) (span_ticks s (e ∷ h)) (ends_in s (e ∷ h)).follows
-        (λ t l. quiet_up_to s.fault (length h) t quiet (let size = (ends_in s (e ∷ h)).size in omega (arith, l, size))))
+  pub next_passes : (next s e h).found.start ≡ false
+  next_passes = ap (λ (m : Moment). m.found.start) (continues s e h).moment_is
+      ∙ (unfold tick_after in never_fails (kind_at e.drive (moments s h)) s accepted (tick_after s e h) (ticks_before s e h) quiet_span)
+
+-- what holds of no tick, and of the span that goes on, holds of the ticks of its span before the next tick
+before_next : (P : List Tick → Type 0) (s : Setting) (e : Entry) (h : List Entry) → P [] →
+    ((e.drive.reset || has_passed (moments s h)) ≡ false → P (span_ticks s h)) → P (ticks_before s e h)
+before_next P s e h none on = go (e.drive.reset || has_passed (moments s h)) refl
+  where
+    go : (b : Bool) → (e.drive.reset || has_passed (moments s h)) ≡ b → P (ticks_before s e h)
+    go true begins = subst P (sym (ticks_before-begins s e h begins)) none
+    go false goes_on = subst P (sym (ticks_before-goes_on s e h goes_on)) (on goes_on)
+
+-- the sharp cut at the next tick of a run, where it stands in a drive span
+module _ (s : Setting) (accepted : IsAccepted s.cal) (e : Entry) (h : List Entry) (driven : kind_at e.drive (moments s h) ≡ Drive)
+    (loads : All (λ e. IsOneLoad e.shown) h) (proper : IsProperRun s h) (quiet : is_before_onset s.fault (length h) ≡ true) where
+  abbrev before : List Tick
+  before = ticks_before s e h
+
+  abbrev at_tick : SpanKind → Moment
+  at_tick kind = moment_in kind s (effects s.fault (length h)) e (moments_in kind s before)
+
+  plain_before : ArePlain before
+  plain_before = plain_of before (All-tail IsUndisturbed (tick_after s e h) before (quiet_span s accepted e h quiet))
+      (before_next (All HasOneLoad) s e h (All-nil HasOneLoad) (λ on. loads_of_span s h loads))
+
+  proper_before : AreProper s before
+  proper_before = before_next (AreProper s) s e h (unfold AreProper in tt)
+      (λ on. proper_drive s h proper (sym (kind-goes_on e.drive (moments s h) on) ∙ driven))
+
+  pub next_cuts_sharply : (next s e h).on ≡ not (is_confirmed s.cal.rules.torque
+      (map (full_excess s.cal.rules.kt s.cal.rules.threshold) (rows_of (before_at e.drive (moments s h)))))
+  unfolding is_on_after full_excesses moment moments_of tick_after
+  next_cuts_sharply = ap (λ (m : Moment). m.on) ((continues s e h).moment_is ∙ ap at_tick driven)
+      ∙ cuts_sharply s accepted before plain_before proper_before (tick_after s e h)
+      (All-head IsUndisturbed (tick_after s e h) before (quiet_span s accepted e h quiet))
+      ∙ ap (λ past. not (is_confirmed s.cal.rules.torque (map (full_excess s.cal.rules.kt s.cal.rules.threshold) (rows_of past))))
+      (sym ((continues s e h).before_are ∙ ap (λ kind. moments_in kind s before) driven))
 
 -- what holds of the row that any entry adds holds of all rows
 pub each_row : (P : Row → Type 0) (s : Setting) →
@@ -284,35 +348,20 @@ module _ {E : Type 0} {b : BenchEngine E} {Keeps : PlantParts → E → Type 0} 
   -- ---- the sharp cut ----
 
   module _ (once : ShowsOneLoad b) where
-    -- the ticks of a span, each with one load, at none of which a fault has begun
-    plain_ticks : (r : Run) (start : ℕ) (h : List Tick) → Follows r.setting.fault start h → All (λ x. x.entry.shown.load_2 ≡ x.entry.shown.load_1) h →
-        ((t : ℕ) → t < start + length h → is_before_onset r.setting.fault t ≡ true) → ArePlain h
-    unfolding ArePlain Follows
-    plain_ticks r start [] follows loads quiet = tt
-    plain_ticks r start (x ∷ h) follows loads quiet = (
-      record {
-        effects = follows.0 ∙ quiet_tick r.setting.fault (start + length h) (quiet (start + length h) (omega arith));
-        loads = All-head (λ x. x.entry.shown.load_2 ≡ x.entry.shown.load_1) x h loads;
-      },
-      plain_ticks r start h follows.1 (All-tail (λ x. x.entry.shown.load_2 ≡ x.entry.shown.load_1) x h loads)
-          (λ t l. quiet t (omega arith)),
-    )
+    loads_to : (r : Run) (n : ℕ) → All (λ e. IsOneLoad e.shown) (entries_to b r n)
+    unfolding entries_to
+    loads_to r zero = All-nil (λ e. IsOneLoad e.shown)
+    loads_to r (suc t) = All-cons (λ e. IsOneLoad e.shown) (entry_at b r t (moments_to b r t)) (entries_to b r t)
+        (unfold entry_at shown_at in once.loads _) (loads_to r t)
 
-    loads_to : (r : Run) (n : ℕ) → All (λ x. x.entry.shown.load_2 ≡ x.entry.shown.load_1) (ticks r.setting (entries_to b r n))
-    unfolding ticks entries_to
-    loads_to r zero = All-nil (λ x. x.entry.shown.load_2 ≡ x.entry.shown.load_1)
-    loads_to r (suc t) = All-cons (λ x. x.entry.shown.load_2 ≡ x.entry.shown.load_1)
-        (record { effects = effects r.setting.fault (length (entries_to b r t)); entry = entry_at b r t (moments_to b r t) })
-        (ticks r.setting (entries_to b r t)) (unfold entry_at shown_at in once.loads _) (loads_to r t)
-
-    pub loads_in : (r : Run) (count : ℕ) → All (λ x. x.entry.shown.load_2 ≡ x.entry.shown.load_1) (SpanTo b r count)
-    unfolding span_ticks
-    loads_in r count = All-take (λ x. x.entry.shown.load_2 ≡ x.entry.shown.load_1) _ (ticks r.setting (entries_to b r count)) (loads_to r count)
+    pub loads_in : (r : Run) (count : ℕ) → All HasOneLoad (SpanTo b r count)
+    loads_in r count = loads_of_span r.setting (entries_to b r count) (loads_to r count)
 
     plain_span : (r : Run) (start count : ℕ) (span : List Row) → SpanIn b r start count Drive span →
         ((t : ℕ) → t < count → is_before_onset r.setting.fault t ≡ true) → ArePlain (SpanTo b r count)
-    plain_span r start count span is quiet = plain_ticks r start (SpanTo b r count) is.follows (loads_in r count)
-        (λ t l. quiet t (let size = is.size in omega (arith, l, size)))
+    plain_span r start count span is quiet = plain_of (SpanTo b r count)
+        (quiet_ticks r.setting start (SpanTo b r count) is.follows (λ t l. quiet t (let size = is.size in omega (arith, l, size))))
+        (loads_in r count)
 
     proper_quiet : (r : Run) → IsRun r → (start count : ℕ) (span : List Row) → SpanIn b r start count Drive span →
         ((t : ℕ) → t < count → is_before_onset r.setting.fault t ≡ true) → AreProper r.setting (SpanTo b r count)

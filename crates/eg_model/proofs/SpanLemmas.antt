@@ -12,6 +12,7 @@ use Rattle.eg_model.specs.Paths.{both_conduct}
 use Rattle.eg_model.specs.Moments.{moment_in, moments_in, moments_of}
 use Rattle.eg_model.specs.Spans.{span_so_far, span_kind, has_passed, kind_at, before_at, moment_at, next_after, moments, next, ticks, span_ticks}
 use Rattle.eg_model.specs.Premises.{IsProper, AreProper, IsProperRun, Follows}
+use Rattle.eg_model.specs.SpanHistories.{SpansAreHistories}
 
 -- ---- how many there are ----
 
@@ -128,15 +129,6 @@ ticks_before-are s e h = go (e.drive.reset || has_passed (moments s h)) refl
 
 -- ---- a span of a run is a history ----
 
--- What is true of the span that the run h ends in: what it is for, the tick of the run at which it begins, and
--- its ticks. Its moments are those of a history that stands by itself.
-pub record EndsIn (s : Setting) (h : List Entry) (kind : SpanKind) (begin : ℕ) (span : List Tick) : Type 0 where
-  pub kind_is : span_kind (moments s h) ≡ kind
-  pub ticks_are : span_ticks s h ≡ span
-  pub moments_are : span_so_far (moments s h) ≡ moments_in kind s span
-  pub follows : Follows s.fault begin span
-  pub size : begin + length span ≡ length h
-
 -- What one entry more does: its tick is the next of the span that goes on, or the first of a span that begins
 -- with it.
 pub record Continues (s : Setting) (e : Entry) (h : List Entry) (kind : SpanKind) (before : List Tick) : Type 0 where
@@ -226,29 +218,6 @@ module _ (s : Setting) where
   follows_at h begin e = follows_from h (length (span_so_far (moments s h))) begin
       (ap (λ n. begin + n) (sym (length-span_ticks s h)) ∙ (unfold span_ticks in e))
 
-  -- where the span that a run ends in begins
-  pub begin_of : List Entry → ℕ
-  begin_of h = length h - length (span_ticks s h)
-
-  pub ends_in : (h : List Entry) → EndsIn s h (span_kind (moments s h)) (begin_of h) (span_ticks s h)
-  ends_in h = record {
-    kind_is = refl;
-    ticks_are = refl;
-    moments_are = by_ticks h;
-    follows = follows_at h (begin_of h) size;
-    size = size;
-  }
-    where
-      sum : (n a : ℕ) → a ≤ n → (n - a) + a ≡ n
-      sum n a l = omega arith
-
-      within : length (span_ticks s h) ≤ length h
-      within = let a = length-span_ticks s h in let b = length-span (moments s h) in let c = length-run_moments s h in
-          omega (arith, a, b, c)
-
-      size : begin_of h + length (span_ticks s h) ≡ length h
-      size = unfold begin_of in sum (length h) (length (span_ticks s h)) within
-
   -- ---- where the engine is driven, what comes in is proper ----
 
   pub proper_drive : (h : List Entry) → IsProperRun s h → span_kind (moments s h) ≡ Drive → AreProper s (span_ticks s h)
@@ -283,3 +252,28 @@ module _ (s : Setting) where
         where
           same : ticks_before s e h ≡ span_ticks s h
           same = unfold ticks_before in rw goes_on refl
+
+-- ---- the law ----
+
+-- where the span that a run ends in begins
+begin_of : Setting → List Entry → ℕ
+begin_of s h = length h - length (span_ticks s h)
+
+pub spans_are_histories : SpansAreHistories
+spans_are_histories s h = record {
+  moments_are = by_ticks s h;
+  begin = begin_of s h;
+  size = size;
+  follows = follows_at s h (begin_of s h) size;
+  proper = proper_drive s h;
+}
+  where
+    sum : (n a : ℕ) → a ≤ n → (n - a) + a ≡ n
+    sum n a l = omega arith
+
+    within : length (span_ticks s h) ≤ length h
+    within = let a = length-span_ticks s h in let b = length-span (moments s h) in let c = length-run_moments s h in
+        omega (arith, a, b, c)
+
+    size : begin_of s h + length (span_ticks s h) ≡ length h
+    size = unfold begin_of in sum (length h) (length (span_ticks s h)) within

@@ -42,6 +42,10 @@ pub record KeepsBenchLaws {E : Type 0} (b : BenchEngine E) (Keeps : PlantParts �
   pub off : (plant : PlantParts) (e : E) → Keeps plant e → (throttle ignition : ℕ) (held : Option ℕ) →
       (b.shows (b.step plant e throttle ignition false held)).torque ≡ 0
 
--- what the sharp cut asks besides: the two loads that the engine shows are always the same
+-- the two loads that an engine shows are the same
+abbrev pub IsOneLoad : Shown → Type 0
+IsOneLoad shown = shown.load_2 ≡ shown.load_1
+
+-- what the sharp cut asks besides: the engine always shows one load twice
 pub record ShowsOneLoad {E : Type 0} (b : BenchEngine E) : Type 0 where
-  pub loads : (e : E) → (b.shows e).load_2 ≡ (b.shows e).load_1
+  pub loads : (e : E) → IsOneLoad (b.shows e)

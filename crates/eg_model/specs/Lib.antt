@@ -18,6 +18,7 @@ pub mod Findings
 pub mod Branching
 pub mod Outputs
 pub mod PowerCycles
+pub mod SpanHistories
 pub mod StartUp
 pub mod Lapses
 pub mod InTime

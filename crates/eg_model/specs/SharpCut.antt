@@ -7,11 +7,12 @@ use Rattle.eg_values.specs.Calibration.{IsAccepted}
 use Rattle.eg_fault.specs.Effects.{no_effects}
 use Rattle.eg_model.specs.History.{Setting, Tick}
 use Rattle.eg_model.specs.Premises.{AreProper, is_on_after, full_excesses}
+use Rattle.eg_model.specs.Engines.{IsOneLoad}
 
 -- nothing is out of order at a tick, and the engine shows one load twice
 pub record IsPlain (x : Tick) : Type 0 where
   pub effects : x.effects ≡ no_effects
-  pub loads : x.entry.shown.load_2 ≡ x.entry.shown.load_1
+  pub loads : IsOneLoad x.entry.shown
 
 -- each tick of a history is plain
 unfoldable pub ArePlain : List Tick → Type 0

@@ -12,6 +12,7 @@ mod outputs;
 mod reaction;
 mod records;
 mod sharp_cut;
+mod spans;
 mod start_up;
 
 pub use branching::runs_branch;
@@ -29,4 +30,5 @@ pub use records::{
     records_cut_standing_excess, records_react, records_test_the_paths, spans_react_in_time,
 };
 pub use sharp_cut::cuts_sharply;
+pub use spans::spans_are_histories;
 pub use start_up::{runs_without_reset_are_one_span, tests_pass};

@@ -25,7 +25,8 @@ use Rattle.eg_model.specs.Level1.{last_world}
 use Rattle.eg_model.specs.Moments.{readings_at, limit_at, moments_in}
 use Rattle.eg_model.specs.Spans.{span_kind, kind_at, moments, next, span_ticks}
 use Rattle.eg_model.specs.Premises.{Follows}
-use Rattle.eg_model.proofs.SpanLemmas.{tick_after, ticks_before, Continues, continues, begin_of, EndsIn, ends_in}
+use Rattle.eg_model.specs.SpanHistories.{SpanIsHistory}
+use Rattle.eg_model.proofs.SpanLemmas.{tick_after, ticks_before, Continues, continues, spans_are_histories}
 use Rattle.eg_agree.specs.Doings.{phase_at}
 use Rattle.eg_model.specs.Rows.{trap_in, row_of}
 use Rattle.eg_agree.specs.Replies.{moment_after}
@@ -82,16 +83,16 @@ module _ (s : Setting) (e : Entry) (h : List Entry) (c : Kept) (enter : Enters s
   goes : Continues s e h kind before
   goes = continues s e h
 
-  ends : EndsIn s (e ∷ h) (span_kind (moments s (e ∷ h))) (begin_of s (e ∷ h)) (span_ticks s (e ∷ h))
-  ends = ends_in s (e ∷ h)
+  ends : SpanIsHistory s (e ∷ h)
+  ends = spans_are_histories s (e ∷ h)
 
   -- where the span of the tick begins
   pub begin : ℕ
-  begin = begin_of s (e ∷ h)
+  begin = ends.begin
 
   pub follows-now : Follows s.fault begin (tick_after s e h ∷ before)
   unfolding begin
-  follows-now = subst (Follows s.fault (begin_of s (e ∷ h))) goes.ticks_are ends.follows
+  follows-now = subst (Follows s.fault ends.begin) goes.ticks_are ends.follows
 
   pub placed : begin + length before ≡ length h
   unfolding begin

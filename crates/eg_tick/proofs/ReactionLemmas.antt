@@ -13,12 +13,15 @@ use Rattle.eg_model.specs.Premises.{AreProper, IsProperRun, Follows, is_on_after
 use Rattle.eg_model.specs.Reaction.{OffFrom, is_at_once}
 use Rattle.eg_model.specs.Spans.{span_kind, has_passed, kind_at, before_at, moments, next, span_ticks}
 use Rattle.eg_model.specs.Rows.{row_of}
+use Rattle.eg_model.specs.SpanHistories.{SpanIsHistory}
+use Rattle.eg_model.specs.Records.{NeverFails, is_before_onset}
 use Rattle.eg_model.proofs.ReactionLaw.{reacts_in_time, reacts_at_once_law}
 use Rattle.eg_model.proofs.LapseLaw.{cuts_lapses, lapses_are_short}
-use Rattle.eg_model.proofs.SpanLemmas.{length-moments_in, kind-goes_on, ticks_before-begins, ticks_before-goes_on, tick_after, ticks_before, Continues, continues, begin_of, EndsIn, ends_in, proper_drive}
+use Rattle.eg_model.proofs.SpanLemmas.{length-moments_in, kind-goes_on, ticks_before-begins, ticks_before-goes_on, tick_after, ticks_before, Continues, continues, spans_are_histories}
+use Rattle.eg_model.proofs.RecordLaws.{next_passes, next_cuts_sharply}
 use Rattle.eg_tick.specs.Kept.{Kept}
 use Rattle.eg_tick.specs.Stands.{Stands}
-use Rattle.eg_tick.specs.Advancing.{entry_of, RowIsUnpowered, DrivesOn, RowReactsInTime, RowReactsAtOnce, RowCutsStandingExcess, HistoryHasShortExcess}
+use Rattle.eg_tick.specs.Advancing.{entry_of, RowIsUnpowered, RowCutsSharply, DrivesOn, RowReactsInTime, RowReactsAtOnce, RowCutsStandingExcess, HistoryHasShortExcess}
 use Rattle.eg_tick.proofs.MomentLemmas.{moment_in-fresh}
 
 -- ---- the next row of a run ----
@@ -56,12 +59,12 @@ module _ (s : Setting) (e : Entry) (h : List Entry) where
 
   module _ (more before : List Tick) (driven : span_kind (moments s h) ≡ Drive) (are : span_ticks s h ≡ more ++ before)
       (later : (row_of (length h) (next s e h)).fresh ≡ false) where
-    ends : EndsIn s h (span_kind (moments s h)) (begin_of s h) (span_ticks s h)
-    ends = ends_in s h
+    ends : SpanIsHistory s h
+    ends = spans_are_histories s h
 
     -- where the span begins
     pub start : ℕ
-    start = begin_of s h
+    start = ends.begin
 
     ticks_are : ticks_before s e h ≡ more ++ before
     ticks_are = ticks_before-goes_on s e h (goes_on later) ∙ are
@@ -73,17 +76,17 @@ module _ (s : Setting) (e : Entry) (h : List Entry) where
     unfolding Follows tick_after start
     follows = (
       ap (effects s.fault) (sym (let size = ends.size in let long = ap length are in number (length (span_ticks s h)) (length (more ++ before)) long size)),
-      subst (Follows s.fault (begin_of s h)) are ends.follows,
+      subst (Follows s.fault ends.begin) are ends.follows,
     )
       where
-        number : (a b : ℕ) → a ≡ b → begin_of s h + a ≡ length h → begin_of s h + b ≡ length h
+        number : (a b : ℕ) → a ≡ b → ends.begin + a ≡ length h → ends.begin + b ≡ length h
         number a b same size = omega (arith, same, size)
 
     -- the number of the tick after `before`
     pub number_is : start + length before ≡ length h - length more
     unfolding start
-    number_is = law (length more) (length before) (length h) (begin_of s h)
-        (ap (λ n. begin_of s h + n) (sym (ap length are ∙ length-append more before)) ∙ ends.size)
+    number_is = law (length more) (length before) (length h) ends.begin
+        (ap (λ n. ends.begin + n) (sym (ap length are ∙ length-append more before)) ∙ ends.size)
       where
         law : (a b n begin : ℕ) → begin + (a + b) ≡ n → begin + b ≡ n - a
         law a b n begin size = omega (arith, size)
@@ -102,7 +105,7 @@ module _ (s : Setting) (e : Entry) (h : List Entry) where
     pub off_row : (after : ℕ) → IsProperRun s h → OffFrom s start before after → after ≤ length more + 1 →
         (row_of (length h) (next s e h)).on ≡ false
     off_row after proper off late = is_on
-        ∙ off more (tick_after s e h) follows (subst (AreProper s) are (proper_drive s h proper driven)) late
+        ∙ off more (tick_after s e h) follows (subst (AreProper s) are (ends.proper proper driven)) late
 
 -- ---- what a row owes ----
 
@@ -110,6 +113,19 @@ module _ (s : Setting) (c : Kept) (drive : DriveRow) (slices : List ℕ) (shown 
     (told : (h : List Entry) → Stands s c h → row ≡ row_of (length h) (next s (entry_of drive slices shown) h)) where
   abbrev e : Entry
   e = entry_of drive slices shown
+
+  -- at its tick no fault has begun
+  quiet : (h : List Entry) → Stands s c h → is_before_onset s.fault row.tick ≡ true → is_before_onset s.fault (length h) ≡ true
+  quiet h stands early = subst (λ n. is_before_onset s.fault n ≡ true) (ap (λ (r : Row). r.tick) (told h stands) ∙ (unfold row_of in refl)) early
+
+  pub passes : (h : List Entry) → Stands s c h → NeverFails s.fault row
+  passes h stands early = ap (λ (r : Row). r.found.start) (told h stands)
+      ∙ (unfold row_of in next_passes s (subst IsAccepted stands.cal accepted) e h (quiet h stands early))
+
+  pub sharp : RowCutsSharply s c drive row
+  unfolding entry_of
+  sharp h stands driven loads early = ap (λ (r : Row). r.on) (told h stands)
+      ∙ (unfold row_of in next_cuts_sharply s (subst IsAccepted stands.cal accepted) e h driven loads stands.engine.proper (quiet h stands early))
 
   pub unpowered : RowIsUnpowered s c drive row
   unfolding entry_of
@@ -142,5 +158,8 @@ module _ (s : Setting) (c : Kept) (drive : DriveRow) (slices : List ℕ) (shown 
 
 pub short : (s : Setting) (c : Kept) → IsAccepted c.cal → HistoryHasShortExcess s c
 short s c accepted h stands driven bounded lapse n exceeds =
-    lapses_are_short s (subst IsAccepted stands.cal accepted) bounded lapse (begin_of s h) (span_ticks s h) (ends_in s h).follows
-    (proper_drive s h stands.engine.proper driven) n exceeds
+    lapses_are_short s (subst IsAccepted stands.cal accepted) bounded lapse span.begin (span_ticks s h) span.follows
+    (span.proper stands.engine.proper driven) n exceeds
+  where
+    span : SpanIsHistory s h
+    span = spans_are_histories s h

@@ -1,7 +1,8 @@
 -- Outside the headline. A tick of a controller, from a history that it stands for to the history with one
 -- entry more; and what its row owes to the laws of a run.
-use Rattle.std.specs.Prelude.{◌≡◌, ℕ, ◌+◌, ◌-◌, ◌*◌, ◌≤◌, ◌<◌, ◌⊎◌, Bool, true, false, List, ◌++◌, length, Option}
+use Rattle.std.specs.Prelude.{◌≡◌, ℕ, ◌+◌, ◌-◌, ◌*◌, ◌≤◌, ◌<◌, ◌⊎◌, Bool, true, false, not, List, ◌++◌, All, map, length, Option}
 use Rattle.eg_num.specs.Drive.{DriveRow}
+use Rattle.eg_num.specs.Windows.{is_confirmed}
 use Rattle.eg_plant.specs.Engine.{Shown}
 use Rattle.eg_answer.specs.Times.{reaction_of, HasLapseBound, lapse_periods, lapse_bound_of}
 use Rattle.eg_fault.specs.Effects.{Effects}
@@ -10,12 +11,16 @@ use Rattle.eg_word.specs.declared.registers.Trap.{Trap}
 use Rattle.eg_word.specs.declared.registers.State.TheVariants.{Trapped}
 use Rattle.eg_word.specs.World.{World}
 use Rattle.eg_record.specs.declared.row.Row.{Row}
+use Rattle.eg_record.specs.Excess.{full_excess}
 use Rattle.eg_model.specs.History.{Setting, Entry, Tick, Drive, Test}
 use Rattle.eg_model.specs.Level1.{last_world}
 use Rattle.eg_model.specs.Premises.{IsExcessConfirmed}
 use Rattle.eg_model.specs.Reaction.{is_at_once}
 use Rattle.eg_model.specs.Lapses.{IsLapse, Exceeds}
 use Rattle.eg_model.specs.Spans.{span_kind, kind_at, before_at, moments, next, span_ticks}
+use Rattle.eg_model.specs.Rows.{rows_of}
+use Rattle.eg_model.specs.Engines.{IsOneLoad}
+use Rattle.eg_model.specs.Records.{is_before_onset}
 use Rattle.eg_tick.specs.Kept.{Kept}
 use Rattle.eg_tick.specs.Stands.{Stands}
 
@@ -57,6 +62,16 @@ pub record HoldsOutputs (world : World) (row : Row) : Type 0 where
 abbrev pub RowIsUnpowered : Setting → Kept → DriveRow → Row → Type 0
 RowIsUnpowered s c drive row =
     (h : List Entry) → Stands s c h → kind_at drive (moments s h) ≡ Test → row.on ≡ false
+
+-- The sharp cut, over an engine that showed one load twice at each tick so far. At a row of a drive span at
+-- which no fault has begun, the stages are on exactly if the full-efficiency excess isn't confirmed by the
+-- ticks of the span before it.
+abbrev pub RowCutsSharply : Setting → Kept → DriveRow → Row → Type 0
+RowCutsSharply s c drive row =
+    (h : List Entry) → Stands s c h → kind_at drive (moments s h) ≡ Drive →
+    All (λ e. IsOneLoad e.shown) h → is_before_onset s.fault row.tick ≡ true →
+    row.on ≡ not (is_confirmed s.cal.rules.torque
+    (map (full_excess s.cal.rules.kt s.cal.rules.threshold) (rows_of (before_at drive (moments s h)))))
 
 -- The controller c stood for the history h before the tick of this row, which goes on with a drive span:
 -- these are the ticks of it so far.

@@ -6,10 +6,11 @@ ghost use Rattle.eg_guard.specs.declared.regions.TheConstants.{DATA as CODE_END,
 ghost use Rattle.eg_model.specs.History.{Setting, Entry};
 ghost use Rattle.eg_model.specs.Spans.{moments, next};
 ghost use Rattle.eg_model.specs.Rows.{row_of, trap_in, first_trap};
+ghost use Rattle.eg_model.specs.Records.{NeverFails};
 ghost use Rattle.eg_fault.specs.Faults.{IsNoneOrValid};
 ghost use Rattle.eg_tick.specs.Stands.{Stands, IsController};
 ghost use Rattle.eg_tick.specs.Entering.{StaysOrBegins};
-ghost use Rattle.eg_tick.specs.Advancing.{effects_after, entry_of, world_before, StaysOrSteps, IsTrapped, HoldsOutputs, RowIsUnpowered, RowReactsInTime, RowReactsAtOnce, RowCutsStandingExcess, HistoryHasShortExcess};
+ghost use Rattle.eg_tick.specs.Advancing.{effects_after, entry_of, world_before, StaysOrSteps, IsTrapped, HoldsOutputs, RowIsUnpowered, RowCutsSharply, RowReactsInTime, RowReactsAtOnce, RowCutsStandingExcess, HistoryHasShortExcess};
 ghost use Rattle.eg_tick.specs.Weights.{weight_of};
 
 use crate::Slices;
@@ -172,6 +173,10 @@ impl<E: Engine + Drop, M: Guarded + Drop> Controller<E, M> {
         ensures trapped { (s : Setting) (h : List Entry) → Stands s self.old.kept h
             → IsTrapped (world_before s drive.now h)
             → IfOk result (HoldsOutputs (world_before s drive.now h)) }
+        // Without a fault, and before the onset of one, no test of the paths fails, and the cut is sharp.
+        ensures passes { (s : Setting) (h : List Entry) → Stands s self.old.kept h
+            → IfOk result (NeverFails s.fault) }
+        ensures sharp { (s : Setting) → IfOk result (RowCutsSharply s self.old.kept drive.now) }
         // The stages are off while the paths are tested. While the engine is driven they are off in time
         // after a confirmed torque excess, and under a lapse excess that stands is cut.
         ensures unpowered { (s : Setting) → IfOk result (RowIsUnpowered s self.old.kept drive.now) }

@@ -4,12 +4,18 @@ use Rattle.eg_base.proofs.ResultLemmas.{at_err}
 use Rattle.eg_values.specs.Calibration.{IsAccepted}
 use Rattle.eg_tick.specs.Advancing.{entry_of}
 use Rattle.eg_tick.proofs.TrapLemmas.{outputs-hold}
-use Rattle.eg_tick.proofs.ReactionLemmas.{unpowered, reacts, at_once, cuts, short}
+use Rattle.eg_tick.proofs.ReactionLemmas.{passes, sharp, unpowered, reacts, at_once, cuts, short}
 use Rattle.eg_tick.proofs.controller.Controller.tick.Given.{Over}
 use Rattle.eg_tick.proofs.controller.Controller.tick.Goals as goal
 
 accepted : (g : Over) (c : goal.After-add g) → IsAccepted c.args.self.now.kept.cal
 accepted g c = subst IsAccepted c.advance.ensures.cal c.advance.ensures.keeps.accepted
+
+pub returns-clause-passes : goal.returns-clause-passes
+returns-clause-passes g c s h is = passes s c.args.self.now.kept _ _ _ (accepted g c) c.in_ok-row.row (c.in_ok-row.ensures.row s) h is
+
+pub returns-clause-sharp : goal.returns-clause-sharp
+returns-clause-sharp g c s = sharp s c.args.self.now.kept _ _ _ (accepted g c) c.in_ok-row.row (c.in_ok-row.ensures.row s)
 
 pub returns-clause-unpowered : goal.returns-clause-unpowered
 returns-clause-unpowered g c s = unpowered s c.args.self.now.kept _ _ _ (accepted g c) c.in_ok-row.row (c.in_ok-row.ensures.row s)
@@ -42,6 +48,12 @@ returns-in_err-row-clause-engine g c s h is = IfOk-from_err c.from_residual.resu
 
 pub returns-in_err-row-clause-trapped : goal.returns-in_err-row-clause-trapped
 returns-in_err-row-clause-trapped g c s h is was = IfOk-from_err c.from_residual.result _ c.from_residual.ensures.0
+
+pub returns-in_err-row-clause-passes : goal.returns-in_err-row-clause-passes
+returns-in_err-row-clause-passes g c s h is = IfOk-from_err c.from_residual.result _ c.from_residual.ensures.0
+
+pub returns-in_err-row-clause-sharp : goal.returns-in_err-row-clause-sharp
+returns-in_err-row-clause-sharp g c s = IfOk-from_err c.from_residual.result _ c.from_residual.ensures.0
 
 pub returns-in_err-row-clause-unpowered : goal.returns-in_err-row-clause-unpowered
 returns-in_err-row-clause-unpowered g c s = IfOk-from_err c.from_residual.result _ c.from_residual.ensures.0
