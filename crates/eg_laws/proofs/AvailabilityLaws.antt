@@ -15,7 +15,8 @@ use Rattle.eg_model.specs.Moments.{moment, moments_of}
 use Rattle.eg_model.specs.Rows.{row_of}
 use Rattle.eg_model.specs.Premises.{IsProper, AreProper, Follows, is_on_after, full_excesses}
 use Rattle.eg_model.specs.Lapses.{IsLapse}
-use Rattle.eg_laws.specs.Availability.{IsSpacedLapse, ShowsTwice, KeepsPath2, TripsAloneCut, NoTripComes}
+use Rattle.eg_model.specs.Engines.{IsOneLoad}
+use Rattle.eg_laws.specs.Availability.{IsSpacedLapse, KeepsPath2, TripsAloneCut, NoTripComes}
 use Rattle.eg_model.proofs.TickLemmas.{moment-path2, moment-on, moment-trip, moment-mirror, moment-pedal, moment-plate, moment-load, moment-speed, moment-torque_found, moment-feeds, tripped-cons}
 use Rattle.eg_model.proofs.PlainTick.{plain, plain_runs, torque_bit-is, pedal_bit-is, plate_bit-is, load_bit-is, speed_bit-is}
 use Rattle.eg_model.proofs.SharpCutLaw.{AllGood, none-cons, unfound_now, unlimited-cons, latch1_shut, full_excesses-cons}
@@ -27,23 +28,23 @@ use Rattle.eg_laws.proofs.MissVerdicts.{recovering}
 -- ---- a trip alone cuts ----
 
 pub keeps_path_2 : KeepsPath2
-keeps_path_2 s accepted lapse start h follows untripped = (recovering s accepted lapse start h follows untripped).closed
+keeps_path_2 s accepted start h lapse follows untripped = (recovering s accepted start h lapse follows untripped).closed
 
 runs_or_none : (s : Setting) → IsLapse s.fault → (start : ℕ) (h : List Tick) → Follows s.fault start h → AllOrNoneEach h
 runs_or_none s lapse start h follows = of_history AllOrNone s.fault start h follows (λ t low high. lapse_all_or_none s.fault lapse t)
 
-pub path_2_conducts : (s : Setting) → IsAccepted s.cal → IsSpacedLapse s → (start : ℕ) (h : List Tick) (x : Tick) →
+pub path_2_conducts : (s : Setting) → IsAccepted s.cal → (start : ℕ) (h : List Tick) (x : Tick) → IsSpacedLapse s start (start + length h) →
     Follows s.fault start (x ∷ h) → tripped (moments_of s h) ≡ false → (moment s x.effects x.entry (moments_of s h)).path2 ≡ true
 unfolding Follows
-path_2_conducts s accepted lapse start h x follows untripped = moment-path2 s x.effects x.entry (moments_of s h) ∙ shut
+path_2_conducts s accepted start h x lapse follows untripped = moment-path2 s x.effects x.entry (moments_of s h) ∙ shut
   where
     shut : path2_at x.effects (moments_of s h) ≡ true
-    shut = unfold path2_at in ap (x.effects.conducts PATH_2) (keeps_path_2 s accepted lapse start h follows.1 untripped)
+    shut = unfold path2_at in ap (x.effects.conducts PATH_2) (keeps_path_2 s accepted start h lapse follows.1 untripped)
         ∙ ap (λ (g : Effects). g.conducts PATH_2 false) follows.0 ∙ lapse_conducts s.fault lapse.lapse (start + length h) PATH_2 false
 
 pub trips_alone_cut : TripsAloneCut
 unfolding is_on_after Follows
-trips_alone_cut s accepted lapse start h x follows = go (tripped past) refl
+trips_alone_cut s accepted start h x lapse follows = go (tripped past) refl
   where
     past : List Moment
     past = moments_of s h
@@ -61,7 +62,7 @@ trips_alone_cut s accepted lapse start h x follows = go (tripped past) refl
 
     go : (trip : Bool) → tripped past ≡ trip → (moment s x.effects x.entry past).on ≡ not trip
     go true u = on_is ∙ and_left _ _ (ap not (trip_opens s h (runs_or_none s lapse.lapse start h follows.1) u))
-    go false u = on_is ∙ and_from _ _ (ap not (latch1_shut s h u)) (ap not (keeps_path_2 s accepted lapse start h follows.1 u))
+    go false u = on_is ∙ and_from _ _ (ap not (latch1_shut s h u)) (ap not (keeps_path_2 s accepted start h lapse follows.1 u))
 
 -- ---- where the full-efficiency excess comes at no tick ----
 
@@ -93,7 +94,7 @@ NoExcess s x h = full_excess s.cal.rules.kt s.cal.rules.threshold
     (row_of (length (moments_of s h)) (moment s x.effects x.entry (moments_of s h))) ≡ false
 
 module _ (s : Setting) (accepted : IsAccepted s.cal) (e : Entry) (h : List Tick)
-    (proper : IsProper s (both_conduct no_effects (moments_of s h)) e) (loads : e.shown.load_2 ≡ e.shown.load_1)
+    (proper : IsProper s (both_conduct no_effects (moments_of s h)) e) (loads : IsOneLoad e.shown)
     (none : NoExcess s (plain e) h) (spared : Spared s h) where
   abbrev past : List Moment
   past = moments_of s h
@@ -176,18 +177,18 @@ no_excesses : (s : Setting) (x : Tick) (h : List Tick) → list_any (λ excess. 
     NoExcess s x h × (list_any (λ excess. excess) (full_excesses s h) ≡ false)
 no_excesses s x h none = or_parts _ _ (ap (list_any (λ excess. excess)) (sym (full_excesses-cons s x h)) ∙ none)
 
-spares : (s : Setting) → IsAccepted s.cal → IsSpacedLapse s → (start : ℕ) (h : List Tick) → Follows s.fault start h →
-    AreProper s h → All ShowsTwice h → list_any (λ excess. excess) (full_excesses s h) ≡ false → Spared s h
+spares : (s : Setting) → IsAccepted s.cal → IsLapse s.fault → (start : ℕ) (h : List Tick) → Follows s.fault start h →
+    AreProper s h → All (λ x. IsOneLoad x.entry.shown) h → list_any (λ excess. excess) (full_excesses s h) ≡ false → Spared s h
 unfolding Follows AreProper
 spares s accepted lapse start [] follows proper loads none = spared_at_first s
 spares s accepted lapse start (x ∷ h) follows proper loads none =
     let parts = no_excesses s x h none in
-    let before = spares s accepted lapse start h follows.1 proper.1 (All-tail ShowsTwice x h loads) parts.1 in
-    elim (lapse_tick s.fault lapse.lapse (start + length h)) [
+    let before = spares s accepted lapse start h follows.1 proper.1 (All-tail (λ x. IsOneLoad x.entry.shown) x h loads) parts.1 in
+    elim (lapse_tick s.fault lapse (start + length h)) [
       | inl quiet ↦ as_tick (λ y. Spared s (y ∷ h)) x no_effects (follows.0 ∙ quiet)
           (spared_plain s accepted x.entry h
           (to_tick (λ y. IsProper s (both_conduct y.effects (moments_of s h)) y.entry) x no_effects (follows.0 ∙ quiet) proper.0)
-          (All-head ShowsTwice x h loads)
+          (All-head (λ x. IsOneLoad x.entry.shown) x h loads)
           (to_tick (λ y. NoExcess s y h) x no_effects (follows.0 ∙ quiet) parts.0) before)
       | inr out ↦ as_tick (λ y. Spared s (y ∷ h)) x missed (follows.0 ∙ out) (spared_missed s x.entry h before)
     ]

@@ -1,5 +1,5 @@
 -- Misses that are far apart never cut: by the rows of a history, and of the record of a run on the bench.
-use Rattle.std.proofs.Common.{◌≡◌, ℕ, Bool, true, false, not, ◌||◌, List, [], ◌∷◌, ◌++◌, All, map, refl, sym, ap, ap₂, ◌∙◌, subst}
+use Rattle.std.proofs.Common.{◌≡◌, ℕ, suc, ◌+◌, ◌≤◌, length, length-append, arith, Bool, true, false, not, ◌||◌, List, [], ◌∷◌, ◌++◌, All, map, refl, sym, ap, ap₂, ◌∙◌, subst}
 use Rattle.std.specs.List.{list_any}
 use Rattle.std.proofs.lemmas.List.Elements.{All-head, All-tail}
 use Rattle.std.proofs.lemmas.Bool.{or_from, or_parts}
@@ -13,13 +13,14 @@ use Rattle.eg_model.specs.Paths.{latch2}
 use Rattle.eg_model.specs.Moments.{moment, moments_of}
 use Rattle.eg_model.specs.Rows.{row_of}
 use Rattle.eg_model.specs.Premises.{AreProper, Follows, full_excesses}
-use Rattle.eg_model.specs.Engines.{BenchEngine, KeepsBenchLaws, ShowsOneLoad}
-use Rattle.eg_laws.specs.Availability.{IsSpacedLapse, ShowsTwice, trips, has_tripped, StaysAvailable, RecordsStayAvailable}
-use Rattle.eg_model.proofs.TickLemmas.{moment-trip, moment-answers, tripped-cons, untripped_before}
+use Rattle.eg_model.specs.Engines.{BenchEngine, KeepsBenchLaws, IsOneLoad, ShowsOneLoad}
+use Rattle.eg_laws.specs.Availability.{IsSpacedLapse, trips, has_tripped, StaysAvailable, AvailableIfSpaced, RecordsStayAvailable}
+use Rattle.eg_model.proofs.TickLemmas.{length-moments, moment-trip, moment-answers, tripped-cons, untripped_before}
 use Rattle.eg_model.proofs.Silence.{latch2-cons}
-use Rattle.eg_model.proofs.SpanRows.{follows-end, rows_after, SpanRows, RowAfter, row_on, all_rows, LastTick, last_tick, bits_after, full_unnumbered}
+use Rattle.eg_model.proofs.SpanRows.{follows-end, rows_after, length-rows_after, SpanRows, RowAfter, row_on, all_rows, LastTick, last_tick, bits_after, full_unnumbered}
 use Rattle.eg_model.proofs.RecordSpans.{SpanTo}
 use Rattle.eg_model.proofs.RecordLaws.{each_drive, proper_span, loads_in}
+use Rattle.eg_laws.proofs.MissVerdicts.{spaced_up_to}
 use Rattle.eg_laws.proofs.AvailabilityLaws.{keeps_path_2, path_2_conducts, trips_alone_cut, no_trip_comes}
 
 -- ---- by the rows of a history ----
@@ -50,8 +51,27 @@ none_set bit [] all = refl
 none_set bit (row ∷ rows) all = or_from _ _ (All-head (λ r. bit r ≡ false) row rows all)
     (none_set bit rows (All-tail (λ r. bit r ≡ false) row rows all))
 
-module _ (s : Setting) (start : ℕ) (h : List Tick) (accepted : IsAccepted s.cal) (lapse : IsSpacedLapse s)
+length-rows : (s : Setting) (start : ℕ) (h : List Tick) → length (SpanRows s start h) ≡ length h
+unfolding moments_of
+length-rows s start h = length-rows_after start (moments_of s h) ∙ length-moments s h
+
+module _ (s : Setting) (start : ℕ) (h : List Tick) (accepted : IsAccepted s.cal) (lapse : IsSpacedLapse s start (start + length h))
     (follows : Follows s.fault start h) where
+  -- the misses are as far apart at the earliest ticks of it
+  spaced_in : (before : List Tick) → length before ≤ length h → IsSpacedLapse s start (start + length before)
+  spaced_in before l = spaced_up_to s start (start + length h) (start + length before) (omega (arith, l)) lapse
+
+  at_within : (later before : List Row) (row : Row) → SpanRows s start h ≡ later ++ row ∷ before → (at : LastTick s start row before) →
+      suc (length at.past) ≤ length h
+  at_within later before row e at = omega (
+    arith,
+    ap length e,
+    length-append later (row ∷ before),
+    ap length at.before_are,
+    length-rows s start h,
+    length-rows s start at.past,
+  )
+
   answered_rows : (later before : List Row) (row : Row) → SpanRows s start h ≡ later ++ row ∷ before →
       has_tripped (row ∷ before) ≡ false → row.found.answers ≡ false
   unfolding moments_of
@@ -73,7 +93,7 @@ module _ (s : Setting) (start : ℕ) (h : List Tick) (accepted : IsAccepted s.ca
       untripped = sym (tripped_rows s start (at.tick ∷ at.past)) ∙ ap has_tripped rows_are ∙ none
 
       closed : latch2 (now ∷ past) ≡ false
-      closed = keeps_path_2 s accepted lapse start (at.tick ∷ at.past) at.follows untripped
+      closed = keeps_path_2 s accepted start (at.tick ∷ at.past) (spaced_in (at.tick ∷ at.past) (at_within later before row e at)) at.follows untripped
 
       unfound : (RowAfter s start at.tick at.past).found.answers ≡ false
       unfound = unfold row_of in moment-answers s at.tick.effects at.tick.entry past
@@ -90,31 +110,33 @@ module _ (s : Setting) (start : ℕ) (h : List Tick) (accepted : IsAccepted s.ca
       untripped = sym (tripped_rows s start at.past) ∙ ap has_tripped (sym at.before_are) ∙ none
 
       path_2 : (RowAfter s start at.tick at.past).path2 ≡ true
-      path_2 = unfold row_of in path_2_conducts s accepted lapse start at.past at.tick at.follows untripped
+      path_2 = unfold row_of in path_2_conducts s accepted start at.past at.tick
+          (spaced_in at.past (omega (arith, at_within later before row e at))) at.follows untripped
 
   cut_rows : (later before : List Row) (row : Row) → SpanRows s start h ≡ later ++ row ∷ before → row.on ≡ not (has_tripped before)
   cut_rows later before row e = ap (λ (r : Row). r.on) at.row_is ∙ row_on s start at.tick at.past
-      ∙ trips_alone_cut s accepted lapse start at.past at.tick at.follows
+      ∙ trips_alone_cut s accepted start at.past at.tick (spaced_in at.past (omega (arith, at_within later before row e at))) at.follows
       ∙ ap not (sym (ap has_tripped at.before_are ∙ tripped_rows s start at.past))
     where
       at : LastTick s start row before
       at = last_tick s start h follows later before row e
 
-  stay_available : AreProper s h → All ShowsTwice h → StaysAvailable s.cal.rules.kt s.cal.rules.threshold start (SpanRows s start h)
+  stay_available : AreProper s h → All (λ x. IsOneLoad x.entry.shown) h → StaysAvailable s.cal.rules.kt s.cal.rules.threshold (SpanRows s start h)
   stay_available proper loads = record { answered = answered_rows; conducts = conducts_rows; cut_by_trips = cut_rows; stays_on = stays_on }
     where
       bit : Row → Bool
       bit = full_excess s.cal.rules.kt s.cal.rules.threshold
 
       untripped : All (λ row. bit row ≡ false) (SpanRows s start h) → tripped (moments_of s h) ≡ false
-      untripped none = no_trip_comes s accepted lapse start h follows proper loads
+      untripped none = no_trip_comes s accepted lapse.lapse start h follows proper loads
           (unfold full_excesses in subst (λ bits. list_any (λ b. b) bits ≡ false)
           (bits_after bit (full_unnumbered s.cal.rules.kt s.cal.rules.threshold) s start h) (none_set bit (SpanRows s start h) none))
 
       on_at_each : tripped (moments_of s h) ≡ false → (newer : List Tick) (x : Tick) (before : List Tick) → h ≡ newer ++ x ∷ before →
           (RowAfter s start x before).on ≡ true
       on_at_each quiet newer x before whole = row_on s start x before
-          ∙ trips_alone_cut s accepted lapse start before x (follows-end s.fault start newer (x ∷ before) (subst (Follows s.fault start) whole follows))
+          ∙ trips_alone_cut s accepted start before x (spaced_in before (omega (arith, ap length whole, length-append newer (x ∷ before))))
+          (follows-end s.fault start newer (x ∷ before) (subst (Follows s.fault start) whole follows))
           ∙ ap not (earlier (untripped_end s newer (x ∷ before) (subst (λ g. tripped (moments_of s g) ≡ false) whole quiet)))
         where
           earlier : tripped (moments_of s (x ∷ before)) ≡ false → tripped (moments_of s before) ≡ false
@@ -131,7 +153,7 @@ module _ (s : Setting) (start : ℕ) (h : List Tick) (accepted : IsAccepted s.ca
 
 pub records_stay_available : {E : Type 0} {b : BenchEngine E} {Keeps : PlantParts → E → Type 0} → KeepsBenchLaws b Keeps → ShowsOneLoad b →
     RecordsStayAvailable b
-records_stay_available {b = b} keeps once r run valid lapse =
-    each_drive b (StaysAvailable r.setting.cal.rules.kt r.setting.cal.rules.threshold) r (λ start count span is.
-    stay_available r.setting start (SpanTo b r count) run.accepted lapse is.follows
+records_stay_available {b = b} keeps once r run valid = each_drive b (AvailableIfSpaced r.setting) r (λ start count span is lapse.
+    stay_available r.setting start (SpanTo b r count) run.accepted
+    (subst (λ n. IsSpacedLapse r.setting start (start + n)) (length-rows r.setting start (SpanTo b r count)) lapse) is.follows
     (proper_span keeps r run valid start count span is) (loads_in keeps once r count))

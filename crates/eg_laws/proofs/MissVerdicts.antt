@@ -298,15 +298,15 @@ periods_apart m t q n period most some room at apart =
     less : (a q period n : ℕ) → a * period ≤ q * period + n → n < period → a ≤ q
     less a q period n l room = grind arith
 
-module _ (s : Setting) (are : AreTimes s.cal.times) (lapse : IsSpacedLapse s) (start : ℕ) (e : Entry) (h : List Tick)
-    (r : Recovering s start h) (counts : misses_tick s.fault (start + length h) ≡ true) where
+module _ (s : Setting) (are : AreTimes s.cal.times) (start : ℕ) (e : Entry) (h : List Tick)
+    (lapse : IsSpacedLapse s start (start + suc (length h))) (r : Recovering s start h) (counts : misses_tick s.fault (start + length h) ≡ true) where
   apart : Miss s start r.settled (length h) → r.settled + periods_between_misses s.cal.times ≤ r.q + 2
   unfolding miss_spacing_of
   apart miss = later (periods_apart miss.tick (length h) r.q r.n s.cal.times.period (periods_between_misses s.cal.times)
       (period_least s.cal.times are) r.room r.at far)
     where
       far : miss.tick + periods_between_misses s.cal.times * s.cal.times.period ≤ length h
-      far = let l = lapse.spaced (start + miss.tick) (start + length h) miss.counts counts (let e = miss.earlier in omega (arith, e)) in
+      far = let l = lapse.spaced (start + miss.tick) (start + length h) (omega arith) (omega arith) miss.counts counts (let e = miss.earlier in omega (arith, e)) in
           omega (arith, l)
 
       later : miss.tick / s.cal.times.period + periods_between_misses s.cal.times ≤ r.q →
@@ -355,15 +355,15 @@ recovers_at_first s are start = record {
   closed = refl;
 }
 
-recovers_more : (s : Setting) → IsAccepted s.cal → IsSpacedLapse s → (start : ℕ) (x : Tick) (h : List Tick) →
-    x.effects ≡ effects s.fault (start + length h) → tripped (moments_of s h) ≡ false →
+recovers_more : (s : Setting) → IsAccepted s.cal → (start : ℕ) (x : Tick) (h : List Tick) →
+    IsSpacedLapse s start (start + suc (length h)) → x.effects ≡ effects s.fault (start + length h) → tripped (moments_of s h) ≡ false →
     (moment s x.effects x.entry (moments_of s h)).trip ≡ false → Recovering s start h → Recovering s start (x ∷ h)
-recovers_more s accepted lapse start x h is untripped calm r = elim (lapse_tick s.fault lapse.lapse (start + length h)) [
+recovers_more s accepted start x h lapse is untripped calm r = elim (lapse_tick s.fault lapse.lapse (start + length h)) [
   | inl none ↦ goes_on r.settled (as_tick (λ y. Goes s start y h r.q r.n r.settled) x no_effects (is ∙ none)
       (plain_goes s accepted.times start x.entry h r untripped
       (to_tick (λ y. (moment s y.effects y.entry (moments_of s h)).trip ≡ false) x no_effects (is ∙ none) calm)))
   | inr out ↦ goes_on (r.q + 2) (as_tick (λ y. Goes s start y h r.q r.n (r.q + 2)) x missed (is ∙ out)
-      (missed_goes s accepted.times lapse start x.entry h r (counts_as_missed s.fault (start + length h) out)))
+      (missed_goes s accepted.times start x.entry h lapse r (counts_as_missed s.fault (start + length h) out)))
 ]
   where
     goes_on : (settled : ℕ) → Goes s start x h r.q r.n settled → Recovering s start (x ∷ h)
@@ -373,11 +373,19 @@ calm_now : (m : Moment) (past : List Moment) → tripped (m ∷ past) ≡ false 
 unfolding tripped
 calm_now m past u = (or_parts m.trip (tripped past) u).0
 
-pub recovering : (s : Setting) → IsAccepted s.cal → IsSpacedLapse s → (start : ℕ) (h : List Tick) → Follows s.fault start h →
-    tripped (moments_of s h) ≡ false → Recovering s start h
+-- the misses are as far apart up to an earlier tick
+pub spaced_up_to : (s : Setting) (start end earlier : ℕ) → earlier ≤ end → IsSpacedLapse s start end → IsSpacedLapse s start earlier
+spaced_up_to s start end earlier l lapse = record {
+  has = lapse.has;
+  lapse = lapse.lapse;
+  spaced = λ first second from before. lapse.spaced first second from (omega arith);
+}
+
+pub recovering : (s : Setting) → IsAccepted s.cal → (start : ℕ) (h : List Tick) → IsSpacedLapse s start (start + length h) →
+    Follows s.fault start h → tripped (moments_of s h) ≡ false → Recovering s start h
 unfolding Follows moments_of
-recovering s accepted lapse start [] follows untripped = recovers_at_first s accepted.times start
-recovering s accepted lapse start (x ∷ h) follows untripped =
+recovering s accepted start [] lapse follows untripped = recovers_at_first s accepted.times start
+recovering s accepted start (x ∷ h) lapse follows untripped =
     let before = untripped_before (moment s x.effects x.entry (moments_of s h)) (moments_of s h) untripped in
-    recovers_more s accepted lapse start x h follows.0 before (calm_now _ (moments_of s h) untripped)
-    (recovering s accepted lapse start h follows.1 before)
+    recovers_more s accepted start x h lapse follows.0 before (calm_now _ (moments_of s h) untripped)
+    (recovering s accepted start h (spaced_up_to s start (start + suc (length h)) (start + length h) (omega arith) lapse) follows.1 before)

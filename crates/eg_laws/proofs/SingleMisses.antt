@@ -76,9 +76,9 @@ every_turn onset after n first second a b less =
     place tick c = c.place ∙ ap (λ b. if b then tick - onset else (tick - onset) % suc n) (ne_eqb (suc n) 0 (λ e. omega (arith, e)))
 
 pub single_misses_are_spaced : SingleMissesAreSpaced
-single_misses_are_spaced onset after zero distance far first second one two less =
+single_misses_are_spaced onset after zero distance start end far first second from before one two less =
     absurd (once onset after first second (comes onset after 0 first one) (comes onset after 0 second two) less)
-single_misses_are_spaced onset after (suc n) distance (inl none) first second one two less = absurd (omega (arith, none))
-single_misses_are_spaced onset after (suc n) distance (inr fits) first second one two less =
+single_misses_are_spaced onset after (suc n) distance start end (inl none) first second from before one two less = absurd (omega (arith, none))
+single_misses_are_spaced onset after (suc n) distance start end (inr fits) first second from before one two less =
     let apart = every_turn onset after n first second (comes onset after (suc n) first one) (comes onset after (suc n) second two) less in
     omega (arith, apart, fits)

@@ -4,7 +4,7 @@
 -- period is bad; and where it misses the send tick itself, no answer comes in that period, and the next
 -- answer is bad. (After a trip no answer is sent, so that wrong answers are confirmed then.) Rows stand
 -- newest first.
-use Rattle.std.specs.Prelude.{◌≡◌, ◌⊎◌, ℕ, ◌+◌, ◌≤◌, ◌<◌, Bool, true, false, not, List, [], ◌∷◌, ◌++◌, All, Option, Some}
+use Rattle.std.specs.Prelude.{◌≡◌, ◌⊎◌, ℕ, ◌+◌, ◌≤◌, ◌<◌, Bool, true, false, not, List, [], ◌∷◌, ◌++◌, All, length, Option, Some}
 use Rattle.std.specs.List.{list_any}
 use Rattle.eg_num.specs.declared.watches.Watches.{Watches}
 use Rattle.eg_answer.specs.Times.{HasMissSpacing, miss_spacing_of}
@@ -22,7 +22,7 @@ use Rattle.eg_model.specs.Paths.{latch2}
 use Rattle.eg_model.specs.Moments.{moments_of, some_trips}
 use Rattle.eg_model.specs.Premises.{AreProper, Follows, is_on_after, full_excesses}
 use Rattle.eg_model.specs.Lapses.{IsLapse}
-use Rattle.eg_model.specs.Engines.{BenchEngine}
+use Rattle.eg_model.specs.Engines.{BenchEngine, IsOneLoad}
 use Rattle.eg_model.specs.Bench.{Run}
 use Rattle.eg_model.specs.Rows.{record_rows}
 use Rattle.eg_model.specs.Records.{IsRun}
@@ -33,48 +33,48 @@ use Rattle.eg_model.specs.Records.{IsRun}
 unfoldable pub misses_tick : Option Fault → ℕ → Bool
 misses_tick fault tick = not (is_whole (effects fault tick))
 
--- any two ticks that level 2 misses lie at least `distance` ticks apart
-abbrev pub MissesAreSpaced : Option Fault → (distance : ℕ) → Type 0
-MissesAreSpaced fault distance =
-    (first second : ℕ) → misses_tick fault first ≡ true → misses_tick fault second ≡ true → first < second →
-    first + distance ≤ second
+-- of the ticks of a run from `start` on and before `end`, any two that level 2 misses lie at least `distance`
+-- ticks apart
+abbrev pub MissesAreSpaced : Option Fault → (distance start end : ℕ) → Type 0
+MissesAreSpaced fault distance start end =
+    (first second : ℕ) → start ≤ first → second < end → misses_tick fault first ≡ true →
+    misses_tick fault second ≡ true → first < second → first + distance ≤ second
 
 -- this holds where one tick alone is left out, and where one is left out every `distance` ticks or more
 abbrev pub SingleMissesAreSpaced : Type 0
 SingleMissesAreSpaced =
-    (onset after every distance : ℕ) → (every ≡ 0) ⊎ (distance ≤ every) →
-    MissesAreSpaced (Some (record { onset = onset; class = Lapse (after ∷ []) every })) distance
+    (onset after every distance start end : ℕ) → (every ≡ 0) ⊎ (distance ≤ every) →
+    MissesAreSpaced (Some (record { onset = onset; class = Lapse (after ∷ []) every })) distance start end
 
--- the fault is a lapse whose misses lie so far apart that wrong answers never cut before a trip, by a
--- calibration that has such a distance
-pub record IsSpacedLapse (s : Setting) : Type 0 where
+-- The fault is a lapse, and by the calibration its misses from tick `start` on and before tick `end` lie so
+-- far apart that wrong answers don't cut before a trip. Of its misses at other ticks nothing is asked.
+pub record IsSpacedLapse (s : Setting) (start end : ℕ) : Type 0 where
   pub has : HasMissSpacing s.cal.times
   pub lapse : IsLapse s.fault
-  pub spaced : MissesAreSpaced s.fault (miss_spacing_of s.cal.times)
+  pub spaced : MissesAreSpaced s.fault (miss_spacing_of s.cal.times) start end
 
--- ---- the laws, for a history of such a setting that begins at any tick of the run ----
+-- ---- the laws, for a history that begins at any tick of a run, by the misses at its own ticks ----
 
 -- as long as no trip has come wrong answers aren't confirmed, nor is path 2 ordered open
 abbrev pub KeepsPath2 : Type 0
 KeepsPath2 =
-    (s : Setting) → IsAccepted s.cal → IsSpacedLapse s → (start : ℕ) (h : List Tick) →
-    Follows s.fault start h → tripped (moments_of s h) ≡ false → latch2 (moments_of s h) ≡ false
+    (s : Setting) → IsAccepted s.cal → (start : ℕ) (h : List Tick) →
+    IsSpacedLapse s start (start + length h) → Follows s.fault start h →
+    tripped (moments_of s h) ≡ false → latch2 (moments_of s h) ≡ false
 
 -- so a trip alone cuts: the stages are on at the tick x after h exactly if none has come by the last of h
 abbrev pub TripsAloneCut : Type 0
 TripsAloneCut =
-    (s : Setting) → IsAccepted s.cal → IsSpacedLapse s → (start : ℕ) (h : List Tick) (x : Tick) →
-    Follows s.fault start (x ∷ h) → is_on_after s h x ≡ not (tripped (moments_of s h))
+    (s : Setting) → IsAccepted s.cal → (start : ℕ) (h : List Tick) (x : Tick) →
+    IsSpacedLapse s start (start + length h) → Follows s.fault start (x ∷ h) →
+    is_on_after s h x ≡ not (tripped (moments_of s h))
 
--- the engine shows one load twice at a tick
-abbrev pub ShowsTwice : Tick → Type 0
-ShowsTwice x = x.entry.shown.load_2 ≡ x.entry.shown.load_1
-
--- and no trip comes where the full-efficiency excess comes at no tick
+-- and under any lapse no trip comes where the full-efficiency excess comes at no tick, and the engine shows
+-- one load twice at each
 abbrev pub NoTripComes : Type 0
 NoTripComes =
-    (s : Setting) → IsAccepted s.cal → IsSpacedLapse s → (start : ℕ) (h : List Tick) →
-    Follows s.fault start h → AreProper s h → All ShowsTwice h →
+    (s : Setting) → IsAccepted s.cal → IsLapse s.fault → (start : ℕ) (h : List Tick) →
+    Follows s.fault start h → AreProper s h → All (λ x. IsOneLoad x.entry.shown) h →
     list_any (λ excess. excess) (full_excesses s h) ≡ false → tripped (moments_of s h) ≡ false
 
 -- ---- the rows of a drive span, or of its part up to any tick ----
@@ -88,7 +88,7 @@ unfoldable pub has_tripped : List Row → Bool
 has_tripped rows = list_any (λ row. trips row.found) rows
 
 -- What stays on under such a lapse, by the rows of a drive span.
-pub record StaysAvailable (kt threshold start : ℕ) (rows : List Row) : Type 0 where
+pub record StaysAvailable (kt threshold : ℕ) (rows : List Row) : Type 0 where
   -- as long as no trip has come, wrong answers aren't found, and path 2 conducts
   pub answered : (later before : List Row) (row : Row) → rows ≡ later ++ row ∷ before →
       has_tripped (row ∷ before) ≡ false → row.found.answers ≡ false
@@ -101,10 +101,16 @@ pub record StaysAvailable (kt threshold start : ℕ) (rows : List Row) : Type 0 
   pub stays_on : All (λ row. full_excess kt threshold row ≡ false) rows →
       All (λ row. row.on ≡ true) rows × (has_tripped rows ≡ false)
 
+-- this is so if the misses at the ticks of these rows are spaced
+abbrev pub AvailableIfSpaced : Setting → (start : ℕ) → List Row → Type 0
+AvailableIfSpaced s start rows =
+    IsSpacedLapse s start (start + length rows) →
+    StaysAvailable s.cal.rules.kt s.cal.rules.threshold rows
+
 -- ---- of every record ----
 
--- under a lapse whose misses are spaced: in each drive span wrong answers never cut before a trip
+-- in each drive span at whose ticks the misses of a lapse are spaced wrong answers don't cut before a trip
 abbrev pub RecordsStayAvailable : {E : Type 0} → BenchEngine E → Type 0
 RecordsStayAvailable b =
-    (r : Run) → IsRun r → IsNoneOrValid r.setting.fault → IsSpacedLapse r.setting →
-    EachDriveSpan (StaysAvailable r.setting.cal.rules.kt r.setting.cal.rules.threshold) (record_rows b r)
+    (r : Run) → IsRun r → IsNoneOrValid r.setting.fault →
+    EachDriveSpan (AvailableIfSpaced r.setting) (record_rows b r)

@@ -22,7 +22,7 @@ use Rattle.eg_model.specs.Records.{CutSharplyBefore, CutStandingExcess, ExcessIs
 use Rattle.eg_model.specs.Findings.{FindsBeforeOff, FindsFailure, FindsFromOnset, FindsSharply, TellsFlips, NamesWhatCuts}
 use Rattle.eg_model.specs.Lapses.{IsLapse}
 use Rattle.eg_model.specs.Outputs.{with_level1, ActByOutputs}
-use Rattle.eg_laws.specs.Availability.{IsSpacedLapse, StaysAvailable}
+use Rattle.eg_laws.specs.Availability.{AvailableIfSpaced}
 use Rattle.eg_campaign.specs.Plays.{EngineRun, bench_of, rows_of_run, report_of_run}
 
 -- What the headline says of the record of a run, by its engine, its setting, its drive, its rows, its report
@@ -78,11 +78,10 @@ pub record Headline {E : Type 0} (b : BenchEngine E) (s : Setting) (drive : List
       EachDriveSpan (CutStandingExcess s.cal) rows
   pub short : HasLapseBound s.cal.rules.torque s.cal.times → IsLapse s.fault →
       EachDriveSpan (ExcessIsShort s.cal) rows
-  -- Availability: under lapses whose misses lie far enough apart wrong answers never cut before a trip. In
-  -- each drive span, as long as no watch has tripped, wrong answers aren't found; so the stages are off only
-  -- after a trip, and where no full-efficiency excess comes they are on at each tick.
-  pub stays_available : IsSpacedLapse s →
-      EachDriveSpan (StaysAvailable s.cal.rules.kt s.cal.rules.threshold) rows
+  -- Availability: in each drive span in which the misses of a lapse lie far enough apart wrong answers never
+  -- cut before a trip. As long as no watch has tripped, wrong answers aren't found; so the stages are off
+  -- only after a trip, and where no full-efficiency excess comes they are on at each tick.
+  pub stays_available : EachDriveSpan (AvailableIfSpaced s) rows
   -- The report, whatever name it gives the run, names the first detecting watch and its tick, the first tick
   -- at which the stages are off while no test is running, the first one by which a true excess is confirmed,
   -- and R; and it bears that name.

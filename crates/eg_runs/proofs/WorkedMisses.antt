@@ -31,11 +31,12 @@ unfolding whole_model
 near-verdicts = refl
 
 -- at the ticks 3, 38, 73, ..: two of five
-pub far_apart : IsSpacedLapse (missed_run 35).setting
+pub far_apart : IsSpacedLapse (missed_run 35).setting 0 77
 far_apart = record {
   has = record { two_are_few = omega arith; some_taken = omega arith };
   lapse = record { onset = 3; after = 0 ∷ []; every = 35; is = refl };
-  spaced = subst (MissesAreSpaced (missed_from 3 35)) (sym spacing) (single_misses_are_spaced 3 0 35 35 (inr (omega arith)));
+  spaced = subst (λ distance. MissesAreSpaced (missed_from 3 35) distance 0 77) (sym spacing)
+      (single_misses_are_spaced 3 0 35 35 0 77 (inr (omega arith)));
 }
 
 pub far : report_on (missed_run 35) ≡ reported_with 24 None None

@@ -28,7 +28,7 @@ pub fn a_run_with_lapses_is_cut()
 pub fn near_misses_cut_and_far_ones_do_not()
     ensures spacing { miss_spacing_of (sevens 9).times ≡ 35 }
     ensures near { report_on (missed_run 28) ≡ reported_with 24 (Some (Answers, 69)) (Some 70) }
-    ensures far_apart { IsSpacedLapse (missed_run 35).setting }
+    ensures far_apart { IsSpacedLapse (missed_run 35).setting 0 77 }
     ensures far { report_on (missed_run 35) ≡ reported_with 24 None None }
     ensures none { ¬ HasMissSpacing (sevens 6).times }
     ensures single { report_on single_miss ≡ reported_with 17 (Some (Answers, 13)) (Some 14) }
