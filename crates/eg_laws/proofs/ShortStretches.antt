@@ -1,9 +1,10 @@
 -- Under lapses an answer at which a stretch of excess is as long as the runs that confirm it isn't good, so
 -- where these runs fit into a period the stretch is soon over.
-use Rattle.std.proofs.Common.{◌≡◌, ◌≢◌, ℕ, zero, suc, ◌+◌, ◌-◌, ◌*◌, ◌/◌, ◌%◌, ◌≤◌, ◌<◌, Bool, true, false, List, [], ◌∷◌, ◌++◌, length, refl, sym, ap, ◌∙◌, subst, arith, inl, inr, ◌⊎◌, length-append}
+use Rattle.std.proofs.Common.{◌≡◌, ◌≢◌, ℕ, zero, suc, ◌+◌, ◌-◌, ◌*◌, ◌/◌, ◌%◌, ◌≤◌, ◌<◌, Bool, true, false, List, [], ◌∷◌, ◌++◌, length, refl, sym, ap, ap₂, ◌∙◌, subst, arith, inl, inr, ◌⊎◌, length-append}
 use Rattle.std.specs.Prelude.{if◌then◌else◌, ◌==◌}
 use Rattle.std.proofs.lemmas.Bool.{ne_eqb, and_parts}
-use Rattle.eg_answer.specs.Times.{TimeParts, feeds_to_confirm, reaction_of}
+use Rattle.eg_num.specs.Arithmetic.{quotient_up}
+use Rattle.eg_answer.specs.Times.{TimeParts, feeds_to_confirm, reaction_of, periods_to_confirm, worth_of, rounds_to_confirm, lapse_periods}
 use Rattle.eg_answer.specs.declared.marks.AnswerMark.TheVariants.{Absent, Good}
 use Rattle.eg_values.specs.Calibration.{CalibrationParts, IsAccepted}
 use Rattle.eg_fault.specs.declared.paths.TheConstants.{PATH_2}
@@ -16,10 +17,11 @@ use Rattle.eg_model.specs.Rows.{row_of, rows_of}
 use Rattle.eg_record.specs.Excess.{true_excess}
 use Rattle.eg_model.specs.Premises.{AreProper, Follows, is_on_after, true_excesses}
 use Rattle.eg_model.specs.Lapses.{IsLapse, Exceeds}
-use Rattle.eg_laws.specs.LeastLapse.{RunsFit, least_lapse_bound, StretchesAreShorter}
+use Rattle.eg_laws.specs.LeastLapse.{RunsFit, least_lapse_bound, StretchesAreShorter, NoneStandsSoLong}
 use Rattle.eg_model.proofs.TickLemmas.{Each, Each-map, length-moments, moment-mark, moment-whole, untripped_before}
 use Rattle.eg_model.proofs.TripLemmas.{off_by_latch1}
-use Rattle.eg_model.proofs.Silence.{AreRegular, TrueRun, NoGood, sent_at_place, run_confirms, off_after_silence}
+use Rattle.eg_model.proofs.PeriodLemmas.{quotient}
+use Rattle.eg_model.proofs.Silence.{AreRegular, TrueRun, NoGood, send_within, sent_at_place, run_confirms, off_after_silence}
 use Rattle.eg_model.proofs.LapseRuns.{AllOrNone, AllOrNoneEach, lapse_all_or_none, trip_opens, trip_from_fed, runs_in, runs_in-cons, AllExceed, runs_find}
 use Rattle.eg_model.proofs.LapseAnswers.{is_good_mark, absent_off_place, whole_before, whole_where_good}
 use Rattle.eg_model.proofs.LapseWeights.{all_of_fewer, rounded_up}
@@ -220,3 +222,49 @@ stretches_are_shorter cal accepted fit s is lapse start h follows proper m excee
   | inr long ↦ absurd (too_long s (subst IsAccepted (sym is) accepted) (subst RunsFit (sym is) fit) lapse start h follows proper m exceed
       (subst (λ c. least_lapse_bound c ≤ m) (sym is) long))
 ]
+
+-- ---- where the runs that confirm come to an end with a send tick ----
+
+one_period : (n p : ℕ) → 0 < n → n ≤ p → quotient_up n p ≡ 1
+one_period n p some l = quotient p 1 (n - 1) (n + (p - 1)) (omega (arith, some, l)) (omega (arith, some, l))
+
+-- the whole periods are then as long as the least bound, or longer
+whole_periods : (cal : CalibrationParts) → IsAccepted cal → feeds_to_confirm cal.rules.torque ≤ cal.times.send + 1 → RunsFit cal →
+    least_lapse_bound cal ≤ lapse_periods cal.rules.torque cal.times * cal.times.period
+unfolding least_lapse_bound reaction_of
+whole_periods cal accepted few fit = long (feeds_to_confirm cal.times.weights) cal.times.period cal.times.send
+    (feeds_to_confirm cal.rules.torque) (lapse_periods cal.rules.torque cal.times) periods (send_within cal.times accepted.times) few
+  where
+    one : periods_to_confirm cal.rules.torque cal.times ≡ 1
+    one = unfold periods_to_confirm in one_period (feeds_to_confirm cal.rules.torque) cal.times.period
+        (unfold feeds_to_confirm in quotient_positive cal.rules.torque.limit cal.rules.torque.up
+        (let a = accepted.torque.3 in omega arith) (let a = accepted.torque.0 in omega arith)) fit
+
+    up : ℕ
+    up = cal.times.weights.up
+
+    down : ℕ
+    down = cal.times.weights.down
+
+    rounds : rounds_to_confirm cal.rules.torque cal.times ≡ feeds_to_confirm cal.times.weights
+    rounds = unfold rounds_to_confirm worth_of feeds_to_confirm in
+        ap (λ c. quotient_up cal.times.weights.limit (up - (c - 1) * down)) one ∙ ap (quotient_up cal.times.weights.limit) whole
+      where
+        whole : up - (1 - 1) * down ≡ up
+        whole = omega arith
+
+    periods : lapse_periods cal.rules.torque cal.times ≡ feeds_to_confirm cal.times.weights * 1 + 1
+    periods = unfold lapse_periods in ap₂ (λ r c. r * c + 1) rounds one
+
+    long : (n p send d l : ℕ) → l ≡ n * 1 + 1 → send < p → d ≤ send + 1 → (n + 1) * p - send - 1 + d ≤ l * p
+    long n p send d l is inside few =
+        let same : l * p ≡ (n + 1) * p = ap (λ k. k * p) (omega (arith, is)) in
+        let least : p ≤ (n + 1) * p = grind arith in
+        omega (arith, same, least, inside, few)
+
+pub none_stands_so_long : NoneStandsSoLong
+none_stands_so_long cal accepted few s is lapse start h follows proper m exceed =
+    omega (arith, stretches_are_shorter cal accepted fit s is lapse start h follows proper m exceed, whole_periods cal accepted few fit)
+  where
+    fit : RunsFit cal
+    fit = let inside = send_within cal.times accepted.times in omega (arith, inside, few)

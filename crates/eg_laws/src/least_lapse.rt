@@ -3,14 +3,16 @@ ghost use Rattle.std.specs.Prelude.{◌≡◌, true, false, [], ◌∷◌, ◌++
 ghost use Rattle.eg_values.specs.Reference.{reference_rules, reference_parts};
 ghost use Rattle.eg_record.specs.Excess.{true_excess};
 ghost use Rattle.eg_model.specs.Rows.{rows_of};
-ghost use Rattle.eg_laws.specs.LeastLapse.{least_lapse_bound, StretchesAreShorter, ExcessLastsSoLong, LapseBoundIsLeast};
+ghost use Rattle.eg_laws.specs.LeastLapse.{least_lapse_bound, StretchesAreShorter, NoneStandsSoLong, ExcessLastsSoLong, LapseBoundIsLeast};
 ghost use Rattle.eg_laws.specs.Examples.{longest_excess};
 
 /// The least bound under lapses, where the D runs of level 2 that confirm an excess fit into one period
 /// (docs/CONCEPT.md, "Lapses"): each stretch of true excess is shorter than R + D ticks, and where an excess
-/// can be confirmed at all, some stretch lasts R + D - 1 ticks. It does nothing when it runs.
+/// can be confirmed at all, some stretch lasts R + D - 1 ticks. So where D is at most `send` + 1, no excess
+/// stands for `lapse_periods` whole periods. It does nothing when it runs.
 pub fn lapse_bound_is_least()
     ensures shorter { StretchesAreShorter }
+    ensures below { NoneStandsSoLong }
     ensures lasts { ExcessLastsSoLong }
     ensures least { LapseBoundIsLeast }
 {}

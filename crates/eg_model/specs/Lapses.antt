@@ -27,6 +27,9 @@ pub record Exceeds (s : Setting) (n : ℕ) (h : List Tick) : Type 0 where
 -- The law of whole periods. Let the calibration be an accepted one with a bound for lapses, and the fault a
 -- lapse; let h be a history that ends with the last tick of a period, and let there be true excess at each
 -- tick of its last `lapse_periods` periods. Then the stages are off at each tick after h.
+-- (No run has such an h where the runs of level 2 that confirm an excess are at most as many as the ticks of
+-- a period up to its send tick, as with the reference calibration: `NoneStandsSoLong` of `eg_laws`. There
+-- this law says nothing, and the law of stretches, below, does.)
 abbrev pub CutsStandingExcess : Type 0
 CutsStandingExcess =
     (s : Setting) → IsAccepted s.cal → HasLapseBound s.cal.rules.torque s.cal.times → IsLapse s.fault →

@@ -85,6 +85,7 @@ pub record ExceedLast (threshold n : ℕ) (rows : List Row) : Type 0 where
 
 -- Excess that stands is cut: wherever a period ends and there was true excess at each tick of the last
 -- `lapse_periods` periods, the stages are off from the next tick on.
+-- (`CutsStandingExcess` of `Lapses` says by which calibrations no excess stands so long.)
 abbrev pub CutStandingExcess : CalibrationParts → (start : ℕ) → List Row → Type 0
 CutStandingExcess cal start rows =
     (later before : List Row) (periods : ℕ) → rows ≡ later ++ before →

@@ -73,7 +73,8 @@ pub record Headline {E : Type 0} (b : BenchEngine E) (s : Setting) (drive : List
   -- of level 2 is flipped, and at no other.
   pub finds_from_onset : EachDriveSpan (FindsFromOnset s.fault (reaction_of s.cal.times)) rows
   pub tells_flips : TellsFlips s.fault rows
-  -- Under lapses excess that stands is cut, and each stretch is below the bound, where there is a bound.
+  -- Under lapses excess that stands is cut, and each stretch is below the bound, where there is a bound. (By
+  -- some calibrations, such as the reference, none stands so long; there the second alone says something.)
   pub lapses : HasLapseBound s.cal.rules.torque s.cal.times → IsLapse s.fault →
       EachDriveSpan (CutStandingExcess s.cal) rows
   pub short : HasLapseBound s.cal.rules.torque s.cal.times → IsLapse s.fault →

@@ -1,11 +1,15 @@
--- A run under lapses, computed from the definitions.
-use Rattle.std.proofs.Common.{◌≡◌, true, false, [], ◌∷◌, ◌++◌, map, filter, replicate, Some, None, refl}
-use Rattle.eg_answer.specs.Times.{feeds_to_confirm, periods_to_confirm, worth_of, rounds_to_confirm, lapse_periods, lapse_bound_of}
+-- Runs under lapses, computed from the definitions.
+use Rattle.std.proofs.Common.{◌≡◌, ◌-◌, ◌*◌, ◌<◌, true, false, [], ◌∷◌, ◌++◌, map, filter, replicate, take, length, Some, None, refl, sym, subst, arith}
+use Rattle.std.specs.List.{list_all}
+use Rattle.eg_answer.specs.Times.{HasLapseBound, feeds_to_confirm, periods_to_confirm, worth_of, rounds_to_confirm, lapse_periods, lapse_bound_of}
 use Rattle.eg_answer.specs.declared.marks.Verdict.TheVariants.{Wrong}
 use Rattle.eg_record.specs.declared.watch.Watch.TheVariants.{Answers}
+use Rattle.eg_record.specs.Excess.{true_excess}
 use Rattle.eg_values.specs.Reference.{reference_parts}
 use Rattle.eg_model.specs.Examples.{answers_of, verdicts_of, stages_of, moments_in_time, report_on, reported}
-use Rattle.eg_runs.specs.WorkedLapses.{lapsing_run, excesses_of}
+use Rattle.eg_model.specs.Engines.{gasoline}
+use Rattle.eg_model.specs.Records.{rows_to, ExceedLast}
+use Rattle.eg_runs.specs.WorkedLapses.{lapsing_run, slow_parts, standing_run, excesses_of}
 use Rattle.eg_model.proofs.WholeModel.{whole_model}
 
 pub lapsing : report_on lapsing_run ≡ reported (Some (Answers, 29)) (Some 30) None (Some 9)
@@ -47,3 +51,32 @@ reference-periods = refl
 pub reference-bound : lapse_bound_of reference_parts.rules.torque reference_parts.times ≡ 50
 unfolding feeds_to_confirm periods_to_confirm worth_of rounds_to_confirm lapse_periods lapse_bound_of
 reference-bound = refl
+
+-- ---- excess that stands ----
+
+pub standing-bound : HasLapseBound slow_parts.rules.torque slow_parts.times
+standing-bound = subst (λ c. (c - 1) * slow_parts.times.weights.down < slow_parts.times.weights.up) (sym one) (omega arith)
+  where
+    one : periods_to_confirm slow_parts.rules.torque slow_parts.times ≡ 1
+    one = unfold periods_to_confirm feeds_to_confirm in refl
+
+pub standing-periods : lapse_periods slow_parts.rules.torque slow_parts.times ≡ 4
+unfolding feeds_to_confirm periods_to_confirm worth_of rounds_to_confirm lapse_periods
+standing-periods = refl
+
+-- at each of the ticks 10 to 49
+standing-each : list_all (λ excess. excess) (take 40 (map (true_excess 200) (rows_to gasoline standing_run 50))) ≡ true
+unfolding whole_model rows_to
+standing-each = refl
+
+standing-rows : length (rows_to gasoline standing_run 50) ≡ 50
+unfolding whole_model rows_to
+standing-rows = refl
+
+pub standing-excess : ExceedLast 200 (lapse_periods slow_parts.rules.torque slow_parts.times * 10) (rows_to gasoline standing_run 50)
+standing-excess = subst (λ n. ExceedLast 200 (n * 10) (rows_to gasoline standing_run 50)) (sym standing-periods)
+    (record { within = omega (arith, standing-rows); each = standing-each })
+
+pub standing-stages : stages_of standing_run ≡ replicate 50 true ++ replicate 3 false
+unfolding whole_model
+standing-stages = refl

@@ -1,11 +1,13 @@
 // Runs under lapses, worked out from the definitions.
-ghost use Rattle.std.specs.Prelude.{◌≡◌, [], ◌∷◌, ◌++◌, map, replicate, true, false, Some, None};
-ghost use Rattle.eg_answer.specs.Times.{lapse_bound_of, HasMissSpacing, miss_spacing_of};
+ghost use Rattle.std.specs.Prelude.{◌≡◌, ◌*◌, [], ◌∷◌, ◌++◌, map, replicate, true, false, Some, None};
+ghost use Rattle.eg_answer.specs.Times.{HasLapseBound, lapse_periods, lapse_bound_of, HasMissSpacing, miss_spacing_of};
 ghost use Rattle.eg_values.specs.Reference.{reference_parts};
 ghost use Rattle.eg_record.specs.declared.watch.Watch.TheVariants.{Answers, Torque};
 ghost use Rattle.eg_record.specs.Excess.{full_excess};
+ghost use Rattle.eg_model.specs.Engines.{gasoline};
+ghost use Rattle.eg_model.specs.Records.{rows_to, ExceedLast};
 ghost use Rattle.eg_model.specs.Examples.{rows_in_time, report_on, reported, answers_of, stages_of};
-ghost use Rattle.eg_runs.specs.WorkedLapses.{lapsing_run, excesses_of};
+ghost use Rattle.eg_runs.specs.WorkedLapses.{lapsing_run, slow_parts, standing_run, excesses_of};
 ghost use Rattle.eg_laws.specs.Availability.{IsSpacedLapse};
 ghost use Rattle.eg_runs.specs.WorkedMisses.{missed_from, sevens, missed_run, single_miss, gap_run, reported_with};
 
@@ -18,6 +20,19 @@ pub fn a_run_with_lapses_is_cut()
     ensures answers { answers_of lapsing_run ≡ [] }
     ensures stages { stages_of lapsing_run ≡ replicate 30 true ++ replicate 30 false }
     ensures bound { lapse_bound_of reference_parts.rules.torque reference_parts.times ≡ 50 }
+{}
+
+/// Excess that stands for `lapse_periods` whole periods, and is then cut (docs/CONCEPT.md, "Lapses"): by a
+/// calibration with which 10 runs of level 2 confirm an excess, and a period has 6 ticks up to its send tick.
+/// There is true excess from tick 7 on. Level 2 runs up to tick 15, one tick too few to find it; its answer
+/// of tick 15 is still good, the verdicts from tick 29 on are wrong, and the stages are off from tick 50 on.
+/// It does nothing when it runs.
+pub fn standing_excess_run()
+    ensures bound { HasLapseBound slow_parts.rules.torque slow_parts.times }
+    ensures periods { lapse_periods slow_parts.rules.torque slow_parts.times ≡ 4 }
+    ensures stands { ExceedLast 200 (lapse_periods slow_parts.rules.torque slow_parts.times * 10)
+        (rows_to gasoline standing_run 50) }
+    ensures stages { stages_of standing_run ≡ replicate 50 true ++ replicate 3 false }
 {}
 
 /// Misses that cut and misses that don't, by one calibration with a question every 7 ticks: a wrong verdict

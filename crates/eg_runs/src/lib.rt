@@ -29,6 +29,7 @@ pub use faulty_runs::{
 };
 pub use lapses::{
     a_run_with_lapses_is_cut, missed_gap_is_cut, near_misses_cut_and_far_ones_do_not,
+    standing_excess_run,
 };
 pub use outputs::{full_in_two_ways, outputs_act_a_tick_later};
 pub use power_cycles::{

@@ -103,6 +103,7 @@ RowReactsAtOnce s c row =
 
 -- Under a lapse, excess that stands is cut: where `before` ends with the last tick of a period, and there was
 -- true excess at each tick of its last `lapse_periods` periods, the stages are off at the row.
+-- (`CutsStandingExcess` of `eg_model` says by which calibrations no excess stands so long.)
 abbrev pub RowCutsStandingExcess : Setting → Kept → Row → Type 0
 RowCutsStandingExcess s c row =
     (h : List Entry) (more before : List Tick) (periods : ℕ) → DrivesOn s c row h (more ++ before) →
