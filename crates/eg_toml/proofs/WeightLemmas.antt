@@ -58,10 +58,11 @@ last-within most [] h = none most
 last-within most (x ∷ xs) h = h (length (x ∷ xs) - 1) no_counts (omega arith)
 
 opened-counts : (most : ℕ) (w : Weighed) → CountsUpTo most w → CountsUpTo most (opened w)
-opened-counts most w h =
-    either (CountsUpTo most) (nat_lt (length w.around) deepest) _ _
-    (none most, All-append (UpTo most) w.around (w.counts ∷ []) h.1 (All-cons (UpTo most) w.counts [] h.0 (All-nil (UpTo most))))
-    (none most, h.1)
+opened-counts most w h = (
+  none most,
+  either (All (UpTo most)) (nat_lt (length w.around) deepest) _ w.around
+      (All-append (UpTo most) w.around (w.counts ∷ []) h.1 (All-cons (UpTo most) w.counts [] h.0 (All-nil (UpTo most)))) h.1,
+)
 
 lists-counts : (most c : ℕ) (w : Weighed) → CountsUpTo most w → CountsUpTo most (with_lists w c)
 lists-counts most c w h =
@@ -92,9 +93,7 @@ sign-least least c w h = omega arith
 
 lists-least : (least c : ℕ) (w : Weighed) → Least least w → Least least (with_lists w c)
 lists-least least c w h =
-    either (Least least) (is_opening w.due c) (opened w) _
-    (either (Least least) (nat_lt (length w.around) deepest) _ _ h (omega arith))
-    (either (Least least) (is_closing c) (closed w) w h h)
+    either (Least least) (is_opening w.due c) (opened w) _ h (either (Least least) (is_closing c) (closed w) w h h)
 
 least_on : (least c : ℕ) (w : Weighed) → Least least w → Least least (weighed_on w c)
 least_on least c w h =

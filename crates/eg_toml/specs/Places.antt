@@ -1,5 +1,5 @@
--- Each byte of a document stands in a comment, in a text of one of the four kinds, or outside of these, as it
--- and the bytes before it tell.
+-- Outside the headline. Each byte of a document stands in a comment, in a text of one of the four kinds, or
+-- outside of these, as it and the bytes before it tell.
 use Rattle.std.specs.Prelude.{ℕ, ◌+◌, Bool, true, false, not, ◌&&◌, ◌||◌, ◌==◌, nat_le, if◌then◌else◌}
 use Rattle.std.specs.Str.{byte}
 use Rattle.eg_toml.specs.declared.places.Place.{Place}

@@ -1,6 +1,5 @@
--- A document weighs about as many bytes as `toml` takes for its tree, and is too heavy to be read where that
--- is more than `heaviest`. What stands in comments and in texts weighs nothing. More than `deepest` lists and
--- inline tables in one another weigh too much.
+-- Outside the headline. A document weighs about as many bytes as `toml` takes for its tree, and is too heavy
+-- to be read where that is more than `heaviest`. What stands in comments and in texts weighs nothing.
 use Rattle.std.specs.Prelude.{ℕ, ◌+◌, ◌-◌, ◌*◌, Bool, true, false, not, ◌&&◌, ◌||◌, ◌==◌, nat_le, nat_lt, if◌then◌else◌, List, [], ◌∷◌, ◌++◌, length, take, slice_index_or, fold, bit_and}
 use Rattle.std.specs.Str.{byte}
 use Rattle.eg_toml.specs.declared.places.Place.{Place}
@@ -140,12 +139,13 @@ with_sign w c =
 abbrev pub no_counts : Counts
 no_counts = record { values = 0; names = 0 }
 
--- A list or an inline table is opened. As many may be open as `toml` reads; one more weighs too much.
+-- what stands around what is opened, kept as deep as `toml` reads
+abbrev pub kept_around : Weighed → List Counts
+kept_around w = if nat_lt (length w.around) deepest then w.around ++ w.counts ∷ [] else w.around
+
+-- a list or an inline table is opened
 abbrev pub opened : Weighed → Weighed
-opened w =
-    if nat_lt (length w.around) deepest
-    then record w { counts = no_counts; around = w.around ++ w.counts ∷ [] }
-    else record w { counts = no_counts; weight = w.weight + (heaviest + 1) }
+opened w = record w { counts = no_counts; around = kept_around w }
 
 -- a list or an inline table is closed, and the counts of the one around it go on
 abbrev pub closed : Weighed → Weighed

@@ -162,7 +162,6 @@ impl Scale {
 
     /// Opens or closes a list or an inline table, where the byte does.
     fn put_bracket(&mut self, byte: u8)
-        requires { self.old.weight < 2 ^ 81 }
         ensures { self.new ≡ spec.with_lists self.old byte }
     {
         if self.due.is_opening(byte) {
@@ -172,13 +171,11 @@ impl Scale {
         }
     }
 
+    /// Opens a list or an inline table. What stands around it is kept as deep as `toml` reads.
     fn open(&mut self)
-        requires { self.old.weight < 2 ^ 81 }
         ensures { self.new ≡ spec.opened self.old }
     {
-        if self.around.try_push(self.counts).is_err() {
-            self.weight += HEAVIEST + 1;
-        }
+        let _ = self.around.try_push(self.counts);
         self.counts = NO_COUNTS;
     }
 }

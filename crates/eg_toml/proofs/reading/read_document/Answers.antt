@@ -1,9 +1,9 @@
-use Rattle.std.proofs.Common.{◌≡◌, false, true, sym}
+use Rattle.std.proofs.Common.{◌≡◌, false, true}
 use Rattle.eg_toml.proofs.DocumentLemmas.{document-some, document-none}
 use Rattle.eg_toml.proofs.reading.read_document.Goals as goal
 
 pub returns-in-Ok-clause-read : goal.returns-in-Ok-clause-read
-returns-in-Ok-clause-read c = document-some _ _ (sym c.if-is_too_heavy.ensures) c.in-Ok.ensures.ok.0 c.in-Ok.ensures.ok.1
+returns-in-Ok-clause-read c = document-some _ _ c.in-Ok.ensures.ok.0 c.in-Ok.ensures.ok.1
 
 pub returns-in-Err-2-clause-refused : goal.returns-in-Err-2-clause-refused
 returns-in-Err-2-clause-refused c text =
