@@ -12,6 +12,7 @@ use Rattle.eg_toml.specs.Names.{all_names, is_among}
 use Rattle.eg_toml.specs.Refusals.{or_else, unless, unless_some}
 use Rattle.eg_toml.proofs.RefusalLemmas.{or-none, none-or, unless-ok}
 use Rattle.eg_toml.proofs.RangeLemmas.{bind-some}
+use Rattle.eg_toml.proofs.HeldLemmas.{unless_some-none, items_in-is, items-held, natural_in-pos}
 use Rattle.eg_answer.specs.Answers.{expected_of}
 use Rattle.eg_answer.specs.declared.rules.Rules.{Rules}
 use Rattle.eg_answer.specs.declared.rules.TestRow.{TestRow}
@@ -30,7 +31,6 @@ use Rattle.eg_cal.specs.Calibration.{unanswered_refusal_of, refusal_of, unknown_
 use Rattle.eg_cal.specs.Held.{IsKeyOf}
 use Rattle.eg_cal.specs.Answers.{answered, answered_in, with_member, with_answer, items_with, questions_with, with_answers, AnswersLaw}
 use Rattle.eg_cal.proofs.TogetherLemmas.{answered-none}
-use Rattle.eg_cal.proofs.HeldLemmas.{unless_some-none, items_in-is, items-held, natural_in-pos}
 use Rattle.eg_cal.proofs.FoldLemmas.{right-word}
 use Rattle.eg_cal.proofs.RuleLemmas.{every_key, all-none, of_version}
 

@@ -1,18 +1,11 @@
 -- Axes that rise, and those that don't.
-use Rattle.std.proofs.Common.{◌≡◌, ℕ, ◌≤◌, nat_le, Bool, true, false, length, List, [], Option, Some, None, unwrap_or, refl, arith}
-use Rattle.std.proofs.lemmas.Bool.Decides.{nat_tests}
+use Rattle.std.proofs.Common.{◌≡◌, ℕ, ◌≤◌, Bool, true, false, length, List, [], Option, Some, None, unwrap_or, refl}
 use Rattle.eg_num.specs.Interpolation.{IsAxis}
 use Rattle.eg_cal.specs.declared.key.CalKey.{CalKey}
 use Rattle.eg_cal.specs.declared.key.CalFault.TheVariants as fault
 use Rattle.eg_toml.specs.Arrays.{is_rising}
 use Rattle.eg_toml.proofs.RisingLemmas.{rising-true, true-rising}
 use Rattle.eg_cal.specs.Checks.{axis_fault}
-
-pub le-true : (x y : ℕ) → x ≤ y → nat_le x y ≡ true
-le-true x y h = grind (arith, nat_tests)
-
-pub true-le : (x y : ℕ) → nat_le x y ≡ true → x ≤ y
-true-le x y h = grind (arith, nat_tests)
 
 -- points that are an axis have no fault
 pub axis-accepted : (key : CalKey) (o : Option (List ℕ)) (points axis : List ℕ) → Some points ≡ o → IsAxis points → axis ≡ points → (axis_fault key o ≡ None) × (axis ≡ unwrap_or o [])

@@ -18,7 +18,7 @@ use Rattle.eg_cal.specs.Checks.{fault_at, first_fault, keys_fault}
 use Rattle.eg_cal.specs.Calibration.{falls, falling_row, is_window, rising_fault, window_fault, answer_fault, parts_fault, unknown_fault, unanswered_refusal_of, refusal_of, permit_of, times_of, parts_of}
 use Rattle.eg_cal.specs.Held.{IsKeyOf}
 use Rattle.eg_cal.specs.Rules.{IsWindow, KeepsRules, AcceptedLaw}
-use Rattle.eg_cal.proofs.HeldLemmas.{content-held, held-content}
+use Rattle.eg_cal.proofs.HeldLemmas.{content-held}
 use Rattle.eg_cal.proofs.TogetherLemmas.{none-first_from, falling_row-none, wrong_answer-none, answered-none}
 
 -- ---- keys
@@ -153,7 +153,7 @@ keeps ms e =
     let (names, parts) = or-none (unknown_fault ms) (parts_fault (parts_of ms)) rest in
     let (rising, window) = or-none (rising_fault (permit_of ms)) (window_fault (times_of ms)) parts in
     record {
-      keys = λ key of. content-held (content_of key) ms key (every_key ms (version_of ms) keys key of);
+      keys = λ key of. (content-held (content_of key) ms key).0 (every_key ms (version_of ms) keys key of);
       names = if-none _ _ names;
       rises = rises-from _ (map-none _ _ rising);
       window = window-from _ (if-none _ _ window);
@@ -162,7 +162,7 @@ keeps ms e =
 
 no_refusal : (ms : Members) → KeepsRules ms → refusal_of ms ≡ None
 no_refusal ms k =
-    none-or _ _ (none-or _ _ (all-none ms (version_of ms) (λ key of. held-content (content_of key) ms key (k.keys key of)) (all_keys (version_of ms)) (of_version (version_of ms))) (none-or _ _ (rw (k.names) refl)
+    none-or _ _ (none-or _ _ (all-none ms (version_of ms) (λ key of. (content-held (content_of key) ms key).1 (k.keys key of)) (all_keys (version_of ms)) (of_version (version_of ms))) (none-or _ _ (rw (k.names) refl)
     (none-or _ _ (ap (option_map fault.Rising) (falling_row-none _ k.rises)) (rw (window-true _ k.window) refl))))
     (ap (option_map fault.Answer) (answered-none _ _ k.answers))
 

@@ -1,6 +1,7 @@
 pub mod ReadLemmas
 pub mod DocumentLemmas
 pub mod RangeLemmas
+pub mod HeldLemmas
 pub mod RisingLemmas
 pub mod RefusalLemmas
 pub mod WeightLemmas

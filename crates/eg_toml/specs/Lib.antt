@@ -6,3 +6,4 @@ pub mod Values
 pub mod Arrays
 pub mod Names
 pub mod Refusals
+pub mod Held
