@@ -1,48 +1,87 @@
--- What stands under the keys of a file without a refusal.
-use Rattle.std.proofs.Common.{◌≡◌, ◌⊎◌, inl, inr, ℕ, ℤ, pos, negsuc, suc, ◌≤◌, ◌==◌, ◌&&◌, ◌||◌, nat_le, not, Bool, true, false, length, List, [], ◌∷◌, All, Option, Some, None, option_map, unwrap_or, if◌then◌else◌, subst, refl, ap, arith}
-use Rattle.std.specs.List.{list_all}
-use Rattle.std.specs.List.Sorted.{IsStrictlyIncreasing}
-use Rattle.std.proofs.lemmas.Bool.{and_parts}
+-- A key has no refusal exactly if it holds what it may.
+use Rattle.std.proofs.Common.{◌≡◌, ◌↔◌, ◌⊎◌, inl, inr, ℕ, ℤ, pos, negsuc, ◌+◌, ◌≤◌, ◌==◌, ◌&&◌, ◌||◌, nat_le, not, Bool, true, false, length, List, [], ◌∷◌, All, bytes_eq, codes, Option, Some, None, unwrap_or, if◌then◌else◌, subst, refl, sym, ap, ◌∙◌, arith}
+use Rattle.std.specs.Bool.{⊤}
+use Rattle.std.specs.List.{list_all, sum}
+use Rattle.std.proofs.lemmas.Bool.{and_parts, and_from, le-leb, leb-true}
 use Rattle.std.proofs.lemmas.Bool.Decides.{nat_tests}
-use Rattle.std.proofs.lemmas.List.Elements.{All-nil, All-cons}
-use Rattle.toml.specs.Data.{Data, Members, Items, no_items, item, get_member, as_str, as_integer, as_bool, as_array}
-use Rattle.eg_toml.specs.Values.{number_in, number_at, ◌>>=◌}
-use Rattle.eg_toml.specs.Arrays.{count, append_read, all_read, one, items_in, array_in, numbers_in, is_rising}
-use Rattle.eg_toml.proofs.RangeLemmas.{bind-some, if-some, number_in-within, array_in-All, numbers_in-within}
-use Rattle.eg_fault.specs.Faults.{AreFew, IsOffset}
-use Rattle.eg_plan.specs.declared.key.RunKey.{RunKey}
-use Rattle.eg_plan.specs.declared.key.CampaignFault.{CampaignFault}
-use Rattle.eg_plan.specs.declared.key.CampaignFault.TheVariants.{Key}
-use Rattle.eg_plan.specs.Keys.{◌holds◌, run_name, file_name, slice_rows, number, optional, shift, words, ticks, truths, text_of}
-use Rattle.eg_plan.specs.Checks.{key_refusal}
+use Rattle.std.proofs.lemmas.List.Elements.{All-nil, All-cons, All-head, All-tail, All-weaker}
+use Rattle.std.proofs.lemmas.List.Sums.{AllPass-from_list_all, list_all-from_AllPass, sum_by-cons}
+use Rattle.std.proofs.lemmas.Slice.Eq.{bytes_eq-Decides}
+use Rattle.toml.specs.Data.{Data, string, integer, boolean, Members, get_member, as_str}
+use Rattle.eg_toml.specs.Values.{◌>>=◌}
+use Rattle.eg_toml.specs.Arrays.{is_rising}
 use Rattle.eg_toml.specs.Refusals.{unless_some}
-use Rattle.eg_plan.specs.Contents.{is_plain, is_in_name, is_run_name, is_file_name, when, text_at, is_budget, slice_row, slices_in, usual_slices, read_or, slices_at, optional_at, is_shift, shift_in, shift_at, words_at, ticks_in, ticks_at, truths_in, truths_at, bytes_of, number_rows, number_of, shift_of, numbers_of, truths_of}
+use Rattle.eg_toml.specs.Held.{IsWritten, MayBeWritten, natural, array_of, AreMany}
+use Rattle.eg_toml.proofs.RangeLemmas.{bind-some, if-some}
+use Rattle.eg_toml.proofs.RisingLemmas.{true-rising, rising-true}
+use Rattle.eg_toml.proofs.HeldLemmas.{IsExact, not_refused, kept, text-exact, integer-exact, truth-exact, number-exact, number-up, array-exact, numbers-exact}
+use Rattle.eg_fault.specs.Faults.{IsOffset}
+use Rattle.eg_plan.specs.declared.engine.EngineKind.{EngineKind}
+use Rattle.eg_plan.specs.declared.engine.EngineKind.TheVariants.{Gasoline, Diesel}
+use Rattle.eg_plan.specs.declared.key.CampaignFault.{CampaignFault}
+use Rattle.eg_plan.specs.Keys.{Content, run_name, file_name, slice_rows, engine_name, number, optional, shift, words, ticks, truths}
+use Rattle.eg_plan.specs.Checks.{content_refusal}
+use Rattle.eg_plan.specs.Contents.{is_plain, is_in_name, is_run_name, is_file_name, when, text_at, is_budget, slice_row, slices_in, usual_slices, read_or, engine_named, engine_in, is_shift, shift_in, ticks_in, truths_in}
 use Rattle.eg_plan.specs.Rules.{IsLetter, IsDigit, IsInName, IsRunName, IsFileName, IsSliceRow, IsSlicePlan}
-use Rattle.eg_toml.proofs.RisingLemmas.{true-rising}
+use Rattle.eg_plan.specs.Accepted.{engine_word, AreTicks, Holds}
 
--- where a key has no refusal, its value is what was read
-pub held : {X : Type 0} (P : X → Type 0) (f : CampaignFault) (o : Option X) (d : X) → ((x : X) → o ≡ Some x → P x) → unless_some f o ≡ None → P (unwrap_or o d)
-held P f None d each e = absurd (cc)
-held P f (Some x) d each e = each x refl
+-- ---- a test behind a reader, and a reader of what may be absent
+
+pub when-exact : {X : Type 0} {read : Data → Option X} {form : X → Data} {rule : X → Type 0} (exact : IsExact read form rule) (passes : X → Bool) (stricter : X → Type 0)
+    → ((x : X) → rule x → passes x ≡ true → stricter x) → ((x : X) → stricter x → rule x × (passes x ≡ true)) → IsExact (λ d. read d >>= when passes) form stricter
+when-exact {X = X} {read = read} {form = form} exact passes stricter to back = record {
+  is = λ d x e. let found = bind-some (read d) (when passes) x e in exact.is d found.0 found.1.0 ∙ ap form (if-some (passes found.0) found.0 x found.1.1).1;
+  keeps = λ d x e.
+      let found = bind-some (read d) (when passes) x e in
+      let passed = if-some (passes found.0) found.0 x found.1.1 in
+      subst stricter passed.1 (to found.0 (exact.keeps d found.0 found.1.0) passed.0);
+  reads = λ x h. let (rule, passed) = back x h in ap (λ o. o >>= when passes) (exact.reads x rule) ∙ rw passed refl;
+}
+
+may-held : {X : Type 0} {read : Data → Option X} {form : X → Data} {rule : X → Type 0} (exact : IsExact read form rule) (usual : X) (f : CampaignFault) (o : Option Data)
+    → (unless_some f (read_or usual read o) ≡ None) ↔ MayBeWritten form rule o
+may-held exact usual f None = (λ e. inl refl, λ h. refl)
+may-held {read = read} {form = form} {rule = rule} exact usual f (Some d) = (λ e. inr ((not_refused exact f (Some d)).0 e), back)
+  where
+    back : MayBeWritten form rule (Some d) → unless_some f (read d) ≡ None
+    back (inl e) = absurd (cc)
+    back (inr h) = (not_refused exact f (Some d)).1 h
+
+pub may-kept : {X : Type 0} {read : Data → Option X} {form : X → Data} {rule : X → Type 0} (exact : IsExact read form rule) (usual other : X) (o : Option Data)
+    → rule usual → MayBeWritten form rule o → rule (unwrap_or (read_or usual read o) other)
+may-kept exact usual other None keeps h = keeps
+may-kept exact usual other (Some d) keeps (inl e) = absurd (cc)
+may-kept exact usual other (Some d) keeps (inr h) = kept exact (Some d) other h
 
 -- ---- names
-
-le-true : (a b : ℕ) → nat_le a b ≡ true → a ≤ b
-le-true a b e = grind (arith, nat_tests)
 
 either : (a b : Bool) → (a || b) ≡ true → (a ≡ true) ⊎ (b ≡ true)
 either true b e = inl refl
 either false b e = inr e
 
+or-left : (a b : Bool) → a ≡ true → (a || b) ≡ true
+or-left a b e = rw e refl
+
+or-right : (a b : Bool) → b ≡ true → (a || b) ≡ true
+or-right true b e = refl
+or-right false b e = e
+
 plain : (c : ℕ) → is_plain c ≡ true → IsLetter c ⊎ IsDigit c
 plain c e = of (either (nat_le 97 c && nat_le c 122) (nat_le 48 c && nat_le c 57) e)
   where
     of : ((nat_le 97 c && nat_le c 122) ≡ true) ⊎ ((nat_le 48 c && nat_le c 57) ≡ true) → IsLetter c ⊎ IsDigit c
-    of (inl h) = let p = and_parts (nat_le 97 c) (nat_le c 122) h in inl (le-true 97 c p.0, le-true c 122 p.1)
-    of (inr h) = let p = and_parts (nat_le 48 c) (nat_le c 57) h in inr (le-true 48 c p.0, le-true c 57 p.1)
+    of (inl h) = let p = and_parts (nat_le 97 c) (nat_le c 122) h in inl (leb-true 97 c p.0, leb-true c 122 p.1)
+    of (inr h) = let p = and_parts (nat_le 48 c) (nat_le c 57) h in inr (leb-true 48 c p.0, leb-true c 57 p.1)
+
+plain-true : (c : ℕ) → IsLetter c ⊎ IsDigit c → is_plain c ≡ true
+plain-true c (inl h) = or-left _ _ (and_from _ _ (le-leb 97 c h.0) (le-leb c 122 h.1))
+plain-true c (inr h) = or-right _ _ (and_from _ _ (le-leb 48 c h.0) (le-leb c 57 h.1))
 
 equal : (a b : ℕ) → (a == b) ≡ true → a ≡ b
 equal a b e = grind (arith, nat_tests)
+
+equal-true : (a b : ℕ) → a ≡ b → (a == b) ≡ true
+equal-true a b e = grind (arith, nat_tests)
 
 in_name : (c : ℕ) → is_in_name c ≡ true → IsInName c
 in_name c e = of (either (is_plain c) (c == 45) e)
@@ -51,158 +90,164 @@ in_name c e = of (either (is_plain c) (c == 45) e)
     of (inl h) = inl (plain c h)
     of (inr h) = inr (equal c 45 h)
 
-all-in_name : (cs : List ℕ) → list_all is_in_name cs ≡ true → All IsInName cs
-all-in_name [] e = All-nil IsInName
-all-in_name (c ∷ cs) e =
-    let p = and_parts (is_in_name c) (list_all is_in_name cs) e in
-    All-cons IsInName c cs (in_name c p.0) (all-in_name cs p.1)
+in_name-true : (c : ℕ) → IsInName c → is_in_name c ≡ true
+in_name-true c (inl h) = or-left _ _ (plain-true c h)
+in_name-true c (inr e) = or-right _ _ (equal-true c 45 e)
 
 no_dash : (c : ℕ) → IsLetter c ⊎ IsDigit c → c ≡ 45 → ⊥
 no_dash c (inl h) e = let (a, b) = h in omega arith
 no_dash c (inr h) e = let (a, b) = h in omega arith
+
+first-true : (c : ℕ) → IsInName c → (c ≡ 45 → ⊥) → is_plain c ≡ true
+first-true c (inl h) other = plain-true c h
+first-true c (inr e) other = absurd (other e)
 
 name-passed : (text : List ℕ) → is_run_name text ≡ true → IsRunName text
 name-passed [] e = absurd (cc)
 name-passed (c ∷ cs) e =
     let outer = and_parts (is_plain c && list_all is_in_name cs) (nat_le (length cs) 31) e in
     let inner = and_parts (is_plain c) (list_all is_in_name cs) outer.0 in
-    let few : length cs ≤ 31 = le-true _ _ outer.1 in
+    let few : length cs ≤ 31 = leb-true _ _ outer.1 in
+    let rest = All-weaker (λ c. is_in_name c ≡ true) IsInName in_name cs (AllPass-from_list_all is_in_name cs inner.1) in
     record {
       least = omega arith;
       most = omega arith;
-      characters = All-cons IsInName c cs (inl (plain c inner.0)) (all-in_name cs inner.1);
+      characters = All-cons IsInName c cs (inl (plain c inner.0)) rest;
       begins = no_dash c (plain c inner.0);
     }
 
+name-true : (text : List ℕ) → IsRunName text → is_run_name text ≡ true
+name-true [] h = let least = h.least in absurd (omega arith)
+name-true (c ∷ cs) h =
+    let most = h.most in
+    let few : length cs ≤ 31 = omega arith in
+    let rest = All-weaker IsInName (λ c. is_in_name c ≡ true) in_name-true cs (All-tail IsInName c cs h.characters) in
+    let first = first-true c (All-head IsInName c cs h.characters) h.begins in
+    and_from _ _ (and_from _ _ first (list_all-from_AllPass is_in_name cs rest)) (le-leb _ _ few)
+
 other : (a b : ℕ) → not (a == b) ≡ true → a ≡ b → ⊥
 other a b e same = grind (arith, nat_tests)
+
+other-true : (a b : ℕ) → (a ≡ b → ⊥) → not (a == b) ≡ true
+other-true a b h = of (a == b) refl
+  where
+    of : (t : Bool) → (a == b) ≡ t → not t ≡ true
+    of true e = absurd (h (equal a b e))
+    of false e = refl
 
 file-passed : (text : List ℕ) → is_file_name text ≡ true → IsFileName text
 file-passed [] e = absurd (cc)
 file-passed (c ∷ cs) e =
     let p = and_parts (not (c == 45)) (nat_le (length cs) 199) e in
-    let few : length cs ≤ 199 = le-true _ _ p.1 in
+    let few : length cs ≤ 199 = leb-true _ _ p.1 in
     record { least = omega arith; most = omega arith; begins = other c 45 p.0 }
 
--- what passes a test as it is read
-when-some : {X : Type 0} (P : X → Type 0) (passes : X → Bool) (o : Option X) (y : X) → ((x : X) → o ≡ Some x → passes x ≡ true → P x) → (o >>= when passes) ≡ Some y → P y
-when-some P passes o y each e =
-    let found = bind-some o (when passes) y e in
-    let passed = if-some (passes found.0) found.0 y found.1.1 in
-    subst P passed.1 (each found.0 found.1.0 passed.0)
+file-true : (text : List ℕ) → IsFileName text → is_file_name text ≡ true
+file-true [] h = let least = h.least in absurd (omega arith)
+file-true (c ∷ cs) h =
+    let most = h.most in
+    let few : length cs ≤ 199 = omega arith in
+    and_from _ _ (other-true c 45 h.begins) (le-leb _ _ few)
 
-text-held : (P : List ℕ → Type 0) (passes : List ℕ → Bool) (f : CampaignFault) (key : List ℕ) (ms : Members) → ((text : List ℕ) → passes text ≡ true → P text)
-    → unless_some f (text_at passes key ms) ≡ None → P (unwrap_or (text_at passes key ms) [])
-text-held P passes f key ms each e =
-    held P f (text_at passes key ms) [] (λ text is. when-some P passes (get_member key ms >>= as_str) text (λ x _ passed. each x passed) is) e
+name-exact : IsExact (λ d. as_str d >>= when is_run_name) string IsRunName
+name-exact = when-exact text-exact is_run_name IsRunName (λ text t passed. name-passed text passed) (λ text h. (tt, name-true text h))
 
-pub run_name-held : (n : ℕ) (k : RunKey) (ms : Members) → key_refusal n (k holds run_name) ms ≡ None → IsRunName (bytes_of (k holds run_name) ms)
-run_name-held n k ms e = text-held IsRunName is_run_name (Key n k) (text_of k) ms name-passed e
+file-exact : IsExact (λ d. as_str d >>= when is_file_name) string IsFileName
+file-exact = when-exact text-exact is_file_name IsFileName (λ text t passed. file-passed text passed) (λ text h. (tt, file-true text h))
 
-pub file_name-held : (n : ℕ) (k : RunKey) (ms : Members) → key_refusal n (k holds file_name) ms ≡ None → IsFileName (bytes_of (k holds file_name) ms)
-file_name-held n k ms e = text-held IsFileName is_file_name (Key n k) (text_of k) ms file-passed e
+-- two steps are one
+in-turn : (o : Option Data) (passes : List ℕ → Bool) → (o >>= as_str >>= when passes) ≡ (o >>= (λ d. as_str d >>= when passes))
+in-turn None passes = refl
+in-turn (Some d) passes = refl
 
--- ---- arrays
+text-held : {rule : List ℕ → Type 0} (passes : List ℕ → Bool) (exact : IsExact (λ d. as_str d >>= when passes) string rule) (f : CampaignFault) (key : List ℕ) (ms : Members)
+    → (unless_some f (text_at passes key ms) ≡ None) ↔ IsWritten string rule (get_member key ms)
+text-held passes exact f key ms =
+    let same = ap (unless_some f) (in-turn (get_member key ms) passes) in
+    let held = not_refused exact f (get_member key ms) in
+    (λ e. held.0 (sym same ∙ e), λ h. same ∙ held.1 h)
 
-append-one : {X : Type 0} (o : Option X) (rest : Option (List X)) (xs : List X) (n : ℕ) → ((ys : List X) → rest ≡ Some ys → length ys ≡ n)
-    → append_read (option_map (λ x. x ∷ []) o) rest ≡ Some xs → length xs ≡ suc n
-append-one None rest xs n each e = absurd (cc)
-append-one (Some x) None xs n each e = absurd (cc)
-append-one (Some x) (Some ys) xs n each e = let same : x ∷ ys ≡ xs = cc in rw (← same) (ap suc (each ys refl))
+text-kept : {rule : List ℕ → Type 0} (passes : List ℕ → Bool) (exact : IsExact (λ d. as_str d >>= when passes) string rule) (key : List ℕ) (ms : Members)
+    → IsWritten string rule (get_member key ms) → rule (unwrap_or (text_at passes key ms) [])
+text-kept {rule = rule} passes exact key ms h =
+    subst rule (ap (λ o. unwrap_or o []) (sym (in-turn (get_member key ms) passes))) (kept exact (get_member key ms) [] h)
 
-all_read-count : {X : Type 0} (read : Data → Option X) (ds : Items) (xs : List X) → all_read (one read) ds ≡ Some xs → length xs ≡ count ds
-all_read-count read no_items xs e = let same : [] ≡ xs = cc in rw (← same) refl
-all_read-count read (item d ds) xs e = append-one (read d) (all_read (one read) ds) xs (count ds) (all_read-count read ds) e
+pub name-kept : (key : List ℕ) (ms : Members) → Holds run_name (get_member key ms) → IsRunName (unwrap_or (text_at is_run_name key ms) [])
+name-kept key ms h = text-kept is_run_name name-exact key ms h
 
-pub array-count : {X : Type 0} (least most : ℕ) (read : Data → Option X) (d : Data) (xs : List X) → array_in least most (one read) d ≡ Some xs
-    → (least ≤ length xs) × (length xs ≤ most)
-array-count least most read d xs e =
-    let found = bind-some (items_in least most d) (all_read (one read)) xs e in
-    let array = bind-some (as_array d) (λ ds. if nat_le least (count ds) && nat_le (count ds) most then Some ds else None) found.0 found.1.0 in
-    let passed = if-some (nat_le least (count array.0) && nat_le (count array.0) most) array.0 found.0 array.1.1 in
-    let range = and_parts (nat_le least (count array.0)) (nat_le (count array.0) most) passed.0 in
-    let many : length xs ≡ count found.0 = all_read-count read found.0 xs found.1.1 in
-    let same : count array.0 ≡ count found.0 = ap count passed.1 in
-    let low : least ≤ count array.0 = le-true _ _ range.0 in
-    let high : count array.0 ≤ most = le-true _ _ range.1 in
-    (omega arith, omega arith)
+pub file-kept : (key : List ℕ) (ms : Members) → Holds file_name (get_member key ms) → IsFileName (unwrap_or (text_at is_file_name key ms) [])
+file-kept key ms h = text-kept is_file_name file-exact key ms h
 
-one-all : {X : Type 0} (P : X → Type 0) (o : Option X) (xs : List X) → ((x : X) → o ≡ Some x → P x) → option_map (λ x. x ∷ []) o ≡ Some xs → All P xs
-one-all P None xs each e = absurd (cc)
-one-all P (Some x) xs each e = let same : x ∷ [] ≡ xs = cc in rw (← same) (All-cons P x [] (each x refl) (All-nil P))
+-- ---- slices and engines
 
--- ---- slices
+none-above : (high : ℕ) (xs : List ℕ) → sum xs ≤ high → All (λ n. n ≤ high) xs
+none-above high [] h = All-nil (λ n. n ≤ high)
+none-above high (x ∷ xs) h =
+    let both : sum (x ∷ xs) ≡ x + sum xs = sum_by-cons (λ n. n) x xs in
+    All-cons (λ n. n ≤ high) x xs (omega arith) (none-above high xs (omega arith))
 
-row-held : (d : Data) (row : List ℕ) → slice_row d ≡ Some row → IsSliceRow row
-row-held d row e = when-some IsSliceRow is_budget (numbers_in 9 9 1000 d) row (λ xs is passed. nine xs (array-count 9 9 (number_in 0 1000) d xs is) passed) e
+row-exact : IsExact slice_row (array_of natural) IsSliceRow
+row-exact = when-exact (numbers-exact 9 9 1000) is_budget IsSliceRow (λ row many passed. let from = many.from in let to = many.to in (omega arith, leb-true _ _ passed))
+    (λ row h. let nine = h.0 in (record { from = omega arith; to = omega arith; each = none-above 1000 row h.1 }, le-leb _ _ h.1))
+
+pub slices-exact : IsExact slices_in (array_of (array_of natural)) IsSlicePlan
+slices-exact = array-exact row-exact 1 64
+
+pub usual-kept : IsSlicePlan usual_slices
+usual-kept = record { from = omega arith; to = omega arith; each = All-cons IsSliceRow _ [] (refl, omega arith) (All-nil IsSliceRow) }
+
+named-is : (text : List ℕ) (engine : EngineKind) → engine_named text ≡ Some engine → string text ≡ engine_word engine
+named-is text engine e = of (bytes_eq text (codes "gasoline")) (bytes_eq text (codes "diesel")) refl refl e
   where
-    nine : (xs : List ℕ) → (9 ≤ length xs) × (length xs ≤ 9) → is_budget xs ≡ true → IsSliceRow xs
-    nine xs range passed = let (a, b) = range in (omega arith, le-true _ _ passed)
+    of : (a b : Bool) → bytes_eq text (codes "gasoline") ≡ a → bytes_eq text (codes "diesel") ≡ b
+        → (if a then Some Gasoline else if b then Some Diesel else None) ≡ Some engine → string text ≡ engine_word engine
+    of true b is other e = let same : Gasoline ≡ engine = cc in ap string ((bytes_eq-Decides text (codes "gasoline")).0 is) ∙ ap engine_word same
+    of false true other is e = let same : Diesel ≡ engine = cc in ap string ((bytes_eq-Decides text (codes "diesel")).0 is) ∙ ap engine_word same
+    of false false other more e = absurd (cc)
 
-rows-held : (d : Data) (rows : List (List ℕ)) → slices_in d ≡ Some rows → IsSlicePlan rows
-rows-held d rows e =
-    let many = array-count 1 64 slice_row d rows e in
-    record {
-      least = many.0;
-      most = many.1;
-      each = array_in-All IsSliceRow 1 64 (one slice_row) (λ v ys is. one-all IsSliceRow (slice_row v) ys (row-held v) is) d rows e;
-    }
-
-usual-held : IsSlicePlan usual_slices
-usual-held = record { least = omega arith; most = omega arith; each = All-cons IsSliceRow _ [] (refl, omega arith) (All-nil IsSliceRow) }
-
--- what is read, or what holds where there is nothing
-read_or-some : {X : Type 0} (P : X → Type 0) (usual : X) (read : Data → Option X) (o : Option Data) (x : X) → P usual
-    → ((d : Data) (y : X) → read d ≡ Some y → P y) → read_or usual read o ≡ Some x → P x
-read_or-some P usual read None x p each e = let same : usual ≡ x = cc in subst P same p
-read_or-some P usual read (Some d) x p each e = each d x e
-
-pub slices-held : (n : ℕ) (k : RunKey) (ms : Members) → key_refusal n (k holds slice_rows) ms ≡ None → IsSlicePlan (number_rows (k holds slice_rows) ms)
-slices-held n k ms e =
-    held IsSlicePlan (Key n k) (slices_at (text_of k) ms) [] (λ rows is. read_or-some IsSlicePlan usual_slices slices_in (get_member (text_of k) ms) rows usual-held rows-held is) e
+engine-exact : IsExact engine_in engine_word (λ engine. ⊤)
+engine-exact = record {
+  is = λ d engine e.
+      let found = bind-some (as_str d) engine_named engine e in
+      text-exact.is d found.0 found.1.0 ∙ named-is found.0 engine found.1.1;
+  keeps = λ d engine e. tt;
+  reads = read;
+}
+  where
+    read : (engine : EngineKind) → ⊤ → engine_in (engine_word engine) ≡ Some engine
+    read Gasoline h = refl
+    read Diesel h = refl
 
 -- ---- numbers and truth values of a fault
 
-pub number-held : (low high n : ℕ) (k : RunKey) (ms : Members) → key_refusal n (k holds number low high) ms ≡ None
-    → (low ≤ number_of (k holds number low high) ms) × (number_of (k holds number low high) ms ≤ high)
-number-held low high n k ms e =
-    held (λ n. (low ≤ n) × (n ≤ high)) (Key n k) (number_at low high (text_of k) ms) 0
-    (λ m is. let found = bind-some (get_member (text_of k) ms) (number_in low high) m is in number_in-within low high found.0 m found.1.1) e
-
-pub optional-held : (high n : ℕ) (k : RunKey) (ms : Members) → key_refusal n (k holds optional high) ms ≡ None → number_of (k holds optional high) ms ≤ high
-optional-held high n k ms e =
-    held (λ m. m ≤ high) (Key n k) (optional_at high (text_of k) ms) 0
-    (λ m is. read_or-some (λ m. m ≤ high) 0 (number_in 0 high) (get_member (text_of k) ms) m (omega arith) (λ d y read. (number_in-within 0 high d y read).1) is) e
-
 shift-valid : (z : ℤ) → is_shift z ≡ true → IsOffset z
-shift-valid (pos n) e = let p = and_parts (nat_le 1 n) (nat_le n 65535) e in (le-true _ _ p.0, le-true _ _ p.1)
-shift-valid (negsuc n) e = let most : n ≤ 65534 = le-true _ _ e in (omega arith, omega arith)
+shift-valid (pos n) e = let p = and_parts (nat_le 1 n) (nat_le n 65535) e in (leb-true _ _ p.0, leb-true _ _ p.1)
+shift-valid (negsuc n) e = let most : n ≤ 65534 = leb-true _ _ e in (omega arith, omega arith)
 
-pub shift-held : (n : ℕ) (k : RunKey) (ms : Members) → key_refusal n (k holds shift) ms ≡ None → IsOffset (shift_of (k holds shift) ms)
-shift-held n k ms e =
-    held IsOffset (Key n k) (shift_at (text_of k) ms) (pos 0)
-    (λ z is. let found = bind-some (get_member (text_of k) ms) shift_in z is in when-some IsOffset is_shift (as_integer found.0) z (λ x _ passed. shift-valid x passed) found.1.1) e
+shift-true : (z : ℤ) → IsOffset z → is_shift z ≡ true
+shift-true (pos n) h = and_from _ _ (le-leb 1 n h.0) (le-leb n 65535 h.1)
+shift-true (negsuc n) h = let most = h.1 in le-leb n 65534 (omega arith)
 
--- 1 to 64 words
-abbrev pub AreScript : List ℕ → Type 0
-AreScript xs = AreFew (length xs) × All (λ n. n ≤ 65535) xs
+pub shift-exact : IsExact shift_in integer IsOffset
+shift-exact = when-exact integer-exact is_shift IsOffset (λ z t passed. shift-valid z passed) (λ z h. (tt, shift-true z h))
 
-pub words-held : (n : ℕ) (k : RunKey) (ms : Members) → key_refusal n (k holds words) ms ≡ None → AreScript (numbers_of (k holds words) ms)
-words-held n k ms e =
-    held AreScript (Key n k) (words_at (text_of k) ms) [] (λ xs is. let found = bind-some (get_member (text_of k) ms) (numbers_in 1 64 65535) xs is in
-    (array-count 1 64 (number_in 0 65535) found.0 xs found.1.1, numbers_in-within 1 64 65535 found.0 xs found.1.1)) e
+pub ticks-exact : IsExact ticks_in (array_of natural) AreTicks
+ticks-exact = when-exact (numbers-exact 1 64 19999) is_rising AreTicks (λ ns many passed. (many, true-rising ns passed)) (λ ns h. (h.0, rising-true ns h.1))
 
--- 1 to 64 ticks that rise
-abbrev pub AreTicks : List ℕ → Type 0
-AreTicks xs = AreFew (length xs) × All (λ n. n ≤ 19999) xs × IsStrictlyIncreasing xs
+pub truths-exact : IsExact truths_in (array_of boolean) (AreMany 1 64 (λ truth. ⊤))
+truths-exact = array-exact truth-exact 1 64
 
-pub ticks-held : (n : ℕ) (k : RunKey) (ms : Members) → key_refusal n (k holds ticks) ms ≡ None → AreTicks (numbers_of (k holds ticks) ms)
-ticks-held n k ms e =
-    held AreTicks (Key n k) (ticks_at (text_of k) ms) [] (λ xs is. let found = bind-some (get_member (text_of k) ms) ticks_in xs is in
-    when-some AreTicks is_rising (numbers_in 1 64 19999 found.0) xs (λ ys read passed.
-    (array-count 1 64 (number_in 0 19999) found.0 ys read, numbers_in-within 1 64 19999 found.0 ys read, true-rising ys passed)) found.1.1) e
+-- ---- contents
 
-pub truths-held : (n : ℕ) (k : RunKey) (ms : Members) → key_refusal n (k holds truths) ms ≡ None → AreFew (length (truths_of (k holds truths) ms))
-truths-held n k ms e =
-    held (λ xs. AreFew (length xs)) (Key n k) (truths_at (text_of k) ms) []
-    (λ xs is. let found = bind-some (get_member (text_of k) ms) truths_in xs is in array-count 1 64 as_bool found.0 xs found.1.1) e
+-- a key has no refusal exactly if it holds its content
+pub content-held : (f : CampaignFault) (content : Content) (key : List ℕ) (ms : Members) → (content_refusal f content key ms ≡ None) ↔ Holds content (get_member key ms)
+content-held f run_name key ms = text-held is_run_name name-exact f key ms
+content-held f file_name key ms = text-held is_file_name file-exact f key ms
+content-held f slice_rows key ms = may-held slices-exact usual_slices f (get_member key ms)
+content-held f engine_name key ms = may-held engine-exact Gasoline f (get_member key ms)
+content-held f (number low high) key ms = not_refused (number-exact low high) f (get_member key ms)
+content-held f (optional high) key ms = may-held (number-up high) 0 f (get_member key ms)
+content-held f shift key ms = not_refused shift-exact f (get_member key ms)
+content-held f words key ms = not_refused (numbers-exact 1 64 65535) f (get_member key ms)
+content-held f ticks key ms = not_refused ticks-exact f (get_member key ms)
+content-held f truths key ms = not_refused truths-exact f (get_member key ms)

@@ -15,7 +15,7 @@ use Rattle.eg_plan.specs.Classes.{class_in, own_keys}
 use Rattle.eg_plan.specs.Faults.{class_at, fault_refusal}
 use Rattle.eg_plan.specs.Runs.{are_tables, is_one_at_most, array_refusal, fault_table, table_refusal, is_all_known, run_of, has_name, run_refusal}
 use Rattle.eg_plan.specs.Campaign.{members_in, runs_refusal, run_items, are_runs, is_top_known, refusal_of}
-use Rattle.eg_plan.specs.Rules.{NoTicksLaw}
+use Rattle.eg_plan.specs.Accepted.{NoTicksLaw}
 
 -- a refusal for ticks
 abbrev pub is_ticks : CampaignFault → Bool

@@ -8,5 +8,6 @@ pub mod Runs
 pub mod Campaign
 pub mod Ticks
 pub mod Rules
+pub mod Accepted
 pub use Rattle.eg_toml.specs.Documents
 pub use Rattle.eg_toml.specs.Refusals as TomlRefusals

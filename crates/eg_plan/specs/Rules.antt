@@ -1,11 +1,9 @@
--- Outside the headline. What every accepted campaign keeps, in plain rules.
-use Rattle.std.specs.Prelude.{◌≡◌, ◌⊎◌, ◌≤◌, ℕ, List, length, All, slice_index, Option, Ok, Err}
+-- Outside the headline. What the runs of every accepted campaign keep, in plain rules.
+use Rattle.std.specs.Prelude.{◌≡◌, ◌⊎◌, ◌≤◌, ℕ, List, length, All, slice_index}
 use Rattle.std.specs.List.{sum, AllPairs}
-use Rattle.toml.specs.Data.{Members}
+use Rattle.eg_toml.specs.Held.{AreMany}
 use Rattle.eg_fault.specs.Faults.{IsNoneOrValid}
-use Rattle.eg_plan.specs.declared.key.CampaignFault.TheVariants.{Ticks}
 use Rattle.eg_plan.specs.declared.run.RunPlan.{RunPlan}
-use Rattle.eg_plan.specs.Campaign.{campaign_of}
 
 -- a to z
 abbrev pub IsLetter : ℕ → Type 0
@@ -37,10 +35,8 @@ abbrev pub IsSliceRow : List ℕ → Type 0
 IsSliceRow row = (length row ≡ 9) × (sum row ≤ 1000)
 
 -- 1 to 64 such rows
-pub record IsSlicePlan (rows : List (List ℕ)) : Type 0 where
-  pub least : 1 ≤ length rows
-  pub most : length rows ≤ 64
-  pub each : All IsSliceRow rows
+abbrev pub IsSlicePlan : List (List ℕ) → Type 0
+IsSlicePlan rows = AreMany 1 64 IsSliceRow rows
 
 -- a run that may be made: its names and its slices keep the rules, and its fault, if any, is a valid one
 pub record IsRunPlan (run : RunPlan) : Type 0 where
@@ -56,12 +52,3 @@ pub record AreRuns (runs : List RunPlan) : Type 0 where
   pub most : length runs ≤ 1000
   pub each : All IsRunPlan runs
   pub names : AllPairs (λ earlier later. ¬ (earlier.name ≡ later.name)) runs
-
--- the law: what is accepted keeps these rules
-abbrev pub AcceptedLaw : Type 0
-AcceptedLaw =
-    (document : Option Members) (runs : List RunPlan) → campaign_of document ≡ Ok runs → AreRuns runs
-
--- and ticks are no reason to refuse a campaign file, since it doesn't say how many a run has
-abbrev pub NoTicksLaw : Type 0
-NoTicksLaw = (document : Option Members) (n : ℕ) → ¬ (campaign_of document ≡ Err (Ticks n))
