@@ -21,7 +21,7 @@ pub use eg_num::{Drive, Watches};
 pub use facts::Facts;
 pub use reactions::Reactions;
 pub use row::Row;
-pub use row_line::{push_row, record_header, row_text};
+pub use row_line::{ROW_ROOM, push_row, record_header, row_text};
 pub use run_facts::RunFacts;
 pub use summary::{Summary, summarize};
 pub use summary_line::{report_end_text, summary_text, trap_name};

@@ -21,19 +21,22 @@ pub fn record_header() -> &'static str
      used,permitted,actual,excess,pairs,throttle,ignition,found,answer,verdict\n"
 }
 
-/// Room for a line: 15 numbers of at most ten digits and three truth values, each with a comma behind it, the
-/// names of all watches, the answer and the verdict.
-const ROOM: usize = 256;
+/// How many bytes are room enough for the line of a row: 15 numbers of at most ten digits and three truth
+/// values, each with a comma behind it, the names of all watches, the answer and the verdict.
+pub const ROW_ROOM: usize = 256;
 
 /// Appends the line of a row, with its LF, to a text (docs/FORMATS.md, "The record"). NoMemory is its one
 /// refusal: the text has no room for the line, and memory for more ran out. Then the text stays as it was.
+/// A text with room for `ROW_ROOM` bytes more has room for the line of any row.
 pub fn push_row(text: &mut Vec<u8>, row: &Row) -> Result<(), NoMemory>
     ensures line { OnOk result (text.new.items ≡ text.old.items ++ row_line row.now) }
-    ensures is_text { OnOk result (IsUtf8 (row_line row.now)) }
+    ensures is_text { IsUtf8 (row_line row.now) }
+    ensures fits { length (row_line row.now) ≤ ROW_ROOM }
     ensures room { vec_len text.old + length (row_line row.now) ≤ vec_capacity text.old → IsOk result }
+    ensures keeps_room { vec_capacity text.old ≤ vec_capacity text.new }
     ensures kept { OnErr result (text.new.items ≡ text.old.items) }
 {
-    let mut line = [0; ROOM];
+    let mut line = [0; ROW_ROOM];
     let start = put_line(row, &mut line);
     text.extend_from_slice(&line[start..])?;
     Ok(())
@@ -53,12 +56,12 @@ pub fn row_text(alloc: Global, row: &Row) -> Result<String, NoMemory>
 
 /// Puts the line of a row to the end of an array, and tells where it starts. Columns are put from the last to
 /// the first, since the digits of a number are found so.
-fn put_line(row: &Row, line: &mut [u8; ROOM]) -> usize
+fn put_line(row: &Row, line: &mut [u8; ROW_ROOM]) -> usize
     ensures put { drop result line.new ≡ row_line row.now }
     ensures ascii { AreAscii (value_columns row.now) }
-    ensures start { result ≤ ROOM }
+    ensures start { result ≤ ROW_ROOM }
 {
-    let start = put_events(row, line, ROOM);
+    let start = put_events(row, line, ROW_ROOM);
     put_columns(row, line, start)
 }
 

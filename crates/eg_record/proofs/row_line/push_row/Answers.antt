@@ -10,3 +10,6 @@ returns-clause-line c =
 
 pub returns-clause-is_text : goal.returns-clause-is_text
 returns-clause-is_text c = line_is_text c.args.row.now c.put_line-start.ensures.ascii
+
+pub returns-in_err-extend_from_slice-clause-is_text : goal.returns-in_err-extend_from_slice-clause-is_text
+returns-in_err-extend_from_slice-clause-is_text c = line_is_text c.args.row.now c.put_line-start.ensures.ascii
