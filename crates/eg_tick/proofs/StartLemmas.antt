@@ -1,5 +1,5 @@
 -- A span as it begins, and a new controller, which stands for the history without a tick.
-use Rattle.std.proofs.Common.{◌≡◌, ◌∙◌, refl, sym, ap, subst, inl, inr, ℕ, ◌+◌, ◌≤◌, ◌<◌, true, false, List, [], map, length, replicate, slice_index, None, arith}
+use Rattle.std.proofs.Common.{◌≡◌, ◌∙◌, refl, sym, ap, subst, inl, inr, ℕ, ◌+◌, ◌≤◌, ◌<◌, Bool, true, false, List, [], map, length, replicate, slice_index, None, arith}
 use Rattle.std.proofs.Math.Seq.{take-nil}
 use Rattle.std.proofs.lemmas.Bool.{cases_lt}
 use Rattle.std.proofs.lemmas.List.{get_or_past, get_or-replicate}
@@ -27,10 +27,11 @@ use Rattle.eg_model.specs.Rows.{first_trap}
 use Rattle.eg_agree.specs.Standing.{KeepsWords}
 use Rattle.eg_agree.specs.Replies.{words_over}
 use Rattle.eg_agree.proofs.HistoryLemmas.{start_law}
-use Rattle.eg_module.specs.Monitoring.{MonitorParts, HasGiven}
+use Rattle.eg_module.specs.Monitoring.{HasGiven}
 use Rattle.eg_tick.specs.Kept.{Kept}
 use Rattle.eg_tick.specs.Stands.{kind_of, HoldsSpan, IsShown, Stands}
 use Rattle.eg_tick.specs.declared.span.Span.{Span}
+use Rattle.eg_tick.specs.Entering.{begun}
 use Rattle.eg_tick.specs.Midway.{IsReady}
 use Rattle.eg_agree.specs.Agreement.{last_check}
 use Rattle.eg_tick.specs.Board.{IsWritten}
@@ -105,28 +106,28 @@ new_span s span m memory is = record {
 -- ---- a span that begins in a run ----
 
 -- from the calls by which it begins: level 1's data and outputs are cleared, and level 2's words are put to their start
-pub begun_span : (kind : SpanKind) (s : Setting) (old span : Span) (h : List Tick) (m n : Registers) (before cleared memory : List ℕ) →
+pub begun_span : (kind : SpanKind) (s : Setting) (tests : Bool) (old span : Span) (h : List Tick) (m n : Registers) (before cleared memory : List ℕ) →
     HoldsSpan kind s old m before h → AreWords cleared → AreWords memory → SameOutside is_level1_own before cleared →
     world_of new_registers cleared ≡ new_world → SameOutside is_level2_own cleared memory → AreMirrored memory → words_of memory ≡ start →
-    n ≡ new_registers → span.local ≡ 0 → span.open1 ≡ false → span.open2 ≡ false →
-    span.monitor ≡ record old.monitor { verdicts = 0; heard = []; value = 0 } → HasGiven span.monitor [] →
-    span.monitor.verdicts ≡ period_of span.monitor.times 0 → HoldsSpan (kind_of span.tests) s span n memory []
-begun_span kind s old span h m n before cleared memory holds are are_new clears world resets mirrored words fresh none open1 open2 restarted given period =
-    new_span s span n memory (record {
-      local = none;
+    n ≡ new_registers → span ≡ begun tests old → HasGiven span.monitor [] → span.monitor.verdicts ≡ period_of span.monitor.times 0 →
+    HoldsSpan (kind_of tests) s span n memory []
+unfolding begun
+begun_span kind s tests old span h m n before cleared memory holds are are_new clears world resets mirrored words fresh begins given period =
+    subst (λ (t : Bool). HoldsSpan (kind_of t) s span n memory []) (ap (λ (p : Span). p.tests) begins) (new_span s span n memory (record {
+      local = ap (λ (p : Span). p.local) begins;
       code = λ k within. code-stays is_level2_own level2_leaves cleared memory resets k within
           ∙ code-stays is_level1_own level1_leaves before cleared clears k within ∙ holds.level1.code k within;
       world = ap (λ r. world_of r memory) fresh ∙ world-stays new_registers cleared memory are are_new resets ∙ world;
       mirrored = mirrored;
       words = words;
-      open1 = open1;
-      open2 = open2;
-      times = ap (λ (parts : MonitorParts). parts.times) restarted ∙ holds.monitor.times;
-      questions = ap (λ (parts : MonitorParts). parts.questions) restarted ∙ holds.monitor.questions;
+      open1 = ap (λ (p : Span). p.open1) begins;
+      open2 = ap (λ (p : Span). p.open2) begins;
+      times = ap (λ (p : Span). p.monitor.times) begins ∙ holds.monitor.times;
+      questions = ap (λ (p : Span). p.monitor.questions) begins ∙ holds.monitor.questions;
       given = given;
       period = period;
-      heard = ap (λ (parts : MonitorParts). parts.heard) restarted;
-    })
+      heard = ap (λ (p : Span). p.monitor.heard) begins;
+    }))
 
 -- the memory stays ready
 pub begun_ready : (rules : Rules) (program : List Instruction) (before cleared memory : List ℕ) → SameOutside is_level1_own before cleared →

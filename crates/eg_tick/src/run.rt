@@ -4,6 +4,7 @@ ghost use Rattle.std.specs.Option.{option_copied};
 ghost use Rattle.eg_guard.specs.declared.regions.TheConstants.{DATA as CODE_END};
 ghost use Rattle.eg_answer.specs.Times.{HasLapseBound, reaction_of, test_ticks_of};
 ghost use Rattle.eg_fault.specs.Faults.{IsListed};
+ghost use Rattle.eg_record.specs.Rows.{AreRows};
 ghost use Rattle.eg_record.specs.Spans.{EachDriveSpan, EachTestSpan};
 ghost use Rattle.eg_model.specs.Engines.{gasoline};
 ghost use Rattle.eg_model.specs.Bench.{Run};
@@ -58,6 +59,8 @@ pub fn run_one(
         (run_by calibration.now image.now (option_copied fault.entry) plan.now drive.now))) }
     ensures trap { IfOk result (λ made. made.trap ≡ record_trap gasoline
         (run_by calibration.now image.now (option_copied fault.entry) plan.now drive.now)) }
+    // Its ticks are numbered from 0 on, so that `eg_record::summarize` takes its rows.
+    ensures numbered { IfOk result (λ made. AreRows (reverse made.rows)) }
     // The reaction theorem: in each drive span the stages are off in time after a confirmed torque excess,
     // and under most faults at once.
     ensures reacts { IsListed (option_copied fault.entry) → IfOk result (λ made.

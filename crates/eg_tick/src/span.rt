@@ -77,6 +77,23 @@ impl Span {
         }
     }
 
+    /// A span begins in its place, with the same monitoring module: it has no tick, and no latch is open.
+    fn start(&mut self, tests: bool)
+        ensures { self.new ≡ record self.old {
+          tests = tests;
+          passed = false;
+          local = 0;
+          open1 = false;
+          open2 = false;
+        } }
+    {
+        self.tests = tests;
+        self.passed = false;
+        self.local = 0;
+        self.open1 = false;
+        self.open2 = false;
+    }
+
     /// The place of its next tick, where a start-up test reads the paths back at its tick `test_ticks`.
     pub(crate) fn next_tick(&self, test_ticks: u32) -> SpanTick
         requires { self.now.local < 20000 }
@@ -217,11 +234,7 @@ fn begin<M: Guarded>(
     clear(memory)?;
     level2.reset(memory)?;
     level1.host = Host::new();
+    span.start(tests);
     span.monitor.restart();
-    span.tests = tests;
-    span.passed = false;
-    span.local = 0;
-    span.open1 = false;
-    span.open2 = false;
     Ok(())
 }

@@ -1,7 +1,8 @@
-use Rattle.std.proofs.Common.{◌≡◌, All, false, subst}
+use Rattle.std.proofs.Common.{All, subst}
 use Rattle.std.specs.Option.{option_copied}
 use Rattle.std.proofs.lemmas.Result.{IfOk-weaker}
 use Rattle.eg_answer.specs.Times.{reaction_of, test_ticks_of}
+use Rattle.eg_record.specs.Rows.{AreRows}
 use Rattle.eg_record.specs.Spans.{EachDriveSpan, EachTestSpan}
 use Rattle.eg_model.specs.Engines.{gasoline}
 use Rattle.eg_model.specs.Bench.{Run}
@@ -10,10 +11,15 @@ use Rattle.eg_model.specs.Records.{ReactWithin, CutOneTickAfter, RowsReactAtOnce
 use Rattle.eg_model.proofs.GasolineLaws.{gasoline_keeps, gasoline_shows_one_load}
 use Rattle.eg_model.proofs.RecordLaws.{records_react, records_react_at_once, records_cut_sharply, records_cut_standing_excess, records_have_short_excess, records_test_unpowered, records_pass_tests}
 use Rattle.eg_model.proofs.PowerCycleLaws.{records_begin_in_turn}
-use Rattle.eg_model.proofs.WholeRecord.{newest_first}
+use Rattle.eg_model.proofs.WholeRecord.{newest_first, are_rows}
 use Rattle.eg_tick.specs.Run.{run_by}
 use Rattle.eg_tick.proofs.RunLaws.{is_run}
 use Rattle.eg_tick.proofs.run.run_one.Goals as goal
+
+pub returns-clause-numbered : goal.returns-clause-numbered
+returns-clause-numbered c = IfOk-weaker c.record_run.result _ _ (λ made m.
+    let r : Run = run_by c.args.calibration.now c.args.image.now (option_copied c.args.fault) c.args.plan.now c.args.drive.now in
+    subst AreRows (newest_first gasoline r made.rows m.rows_are) (are_rows gasoline r)) c.record_run.ensures.made
 
 pub returns-clause-reacts : goal.returns-clause-reacts
 returns-clause-reacts c = λ listed. IfOk-weaker c.record_run.result _ _ (λ made m.
