@@ -28,11 +28,10 @@ use Rattle.eg_tick.proofs.BranchLemmas.{branch_of}
 use Rattle.eg_tick.proofs.BranchedRuns.{branch_at}
 use Rattle.eg_campaign.specs.declared.checkpoints.Played.{Played}
 use Rattle.eg_campaign.specs.declared.checkpoints.Shared.{Shared}
-use Rattle.eg_campaign.specs.declared.checkpoints.TheConstants.{CHECKPOINT_TICKS}
 use Rattle.eg_campaign.specs.declared.play.RunInput.{RunInput}
 use Rattle.eg_tick.specs.Counting.{count_with}
 use Rattle.eg_campaign.specs.Plays.{run_with}
-use Rattle.eg_campaign.specs.Groups.{faultless, checkpoint, own_under}
+use Rattle.eg_campaign.specs.Groups.{faultless, checkpoint_ticks, checkpoint, own_under}
 use Rattle.eg_campaign.specs.Checkpoints.{run_under, PlaysInput, HasPlayed, rows_between, HasMade, AreCheckpoints, IsSharedBy}
 use Rattle.eg_tick.proofs.CountLemmas.{front-take, counts_reverse}
 
@@ -110,14 +109,14 @@ module _ {S E : Type 0} (b : BenchEngine S) (come_to : ComeTo S E) (r : Run) whe
   -- those that a run under a fault makes
   pub under-is : (fault : Fault) → fault.onset < length r.drive →
       own_under (Some fault) (length r.drive) (reverse (record_rows b r))
-      ≡ reverse (rows_between b r (fault.onset / CHECKPOINT_TICKS * CHECKPOINT_TICKS) (length r.drive))
+      ≡ reverse (rows_between b r (fault.onset / checkpoint_ticks * checkpoint_ticks) (length r.drive))
   unfolding own_under checkpoint
   under-is fault within =
-      ap (λ t. if t then drop (fault.onset / CHECKPOINT_TICKS * CHECKPOINT_TICKS) (reverse (record_rows b r)) else []) (lt-ltb fault.onset (length r.drive) within)
-      ∙ ap (λ l. drop (fault.onset / CHECKPOINT_TICKS * CHECKPOINT_TICKS) (reverse l)) (record_rows-is b r)
-      ∙ between-in_time (fault.onset / CHECKPOINT_TICKS * CHECKPOINT_TICKS) (length r.drive) (before fault.onset (length r.drive) within)
+      ap (λ t. if t then drop (fault.onset / checkpoint_ticks * checkpoint_ticks) (reverse (record_rows b r)) else []) (lt-ltb fault.onset (length r.drive) within)
+      ∙ ap (λ l. drop (fault.onset / checkpoint_ticks * checkpoint_ticks) (reverse l)) (record_rows-is b r)
+      ∙ between-in_time (fault.onset / checkpoint_ticks * checkpoint_ticks) (length r.drive) (before fault.onset (length r.drive) within)
     where
-      before : (onset ticks : ℕ) → onset < ticks → onset / CHECKPOINT_TICKS * CHECKPOINT_TICKS ≤ ticks
+      before : (onset ticks : ℕ) → onset < ticks → onset / checkpoint_ticks * checkpoint_ticks ≤ ticks
       before onset ticks within = omega arith
 
   -- ---- what was played ----
@@ -179,18 +178,18 @@ module _ {S E : Type 0} (b : BenchEngine S) (come_to : ComeTo S E) (r : Run) whe
     each = λ k below d. absurd (omega (arith, below));
   })
 
-  pub kept_more : {M : Type 0} (t : ℕ) (kept after : List (Played E M)) (one : Played E M) → after ≡ kept ++ one ∷ [] → t % CHECKPOINT_TICKS ≡ 0 →
+  pub kept_more : {M : Type 0} (t : ℕ) (kept after : List (Played E M)) (one : Played E M) → after ≡ kept ++ one ∷ [] → t % checkpoint_ticks ≡ 0 →
       HasPlayed b come_to r t one → AreCheckpoints b come_to r t kept → AreCheckpoints b come_to r (t + 1) after
   kept_more t kept after one pushed whole played are =
       let long : length (kept ++ one ∷ []) ≡ length kept + 1 = length-append kept (one ∷ []) in
-      let here : t ≡ length kept * CHECKPOINT_TICKS = place t (length kept) whole are.enough are.no_more in
+      let here : t ≡ length kept * checkpoint_ticks = place t (length kept) whole are.enough are.no_more in
       subst (AreCheckpoints b come_to r (t + 1)) (sym pushed) (record {
         enough = omega (arith, long, here);
         no_more = omega (arith, long, here);
-        each = each-more (λ k. HasPlayed b come_to r (k * CHECKPOINT_TICKS)) kept one are.each (subst (λ n. HasPlayed b come_to r n one) here played);
+        each = each-more (λ k. HasPlayed b come_to r (k * checkpoint_ticks)) kept one are.each (subst (λ n. HasPlayed b come_to r n one) here played);
       })
     where
-      place : (t n : ℕ) → t % CHECKPOINT_TICKS ≡ 0 → t ≤ n * CHECKPOINT_TICKS → n * CHECKPOINT_TICKS < t + CHECKPOINT_TICKS → t ≡ n * CHECKPOINT_TICKS
+      place : (t n : ℕ) → t % checkpoint_ticks ≡ 0 → t ≤ n * checkpoint_ticks → n * checkpoint_ticks < t + checkpoint_ticks → t ≡ n * checkpoint_ticks
       place t n whole enough no_more = omega arith
 
 -- ---- branches ----
@@ -222,23 +221,23 @@ module _ {S E : Type 0} (b : BenchEngine S) (come_to : ComeTo S E) (r : Run) whe
 module _ {S E : Type 0} (b : BenchEngine S) (come_to : ComeTo S E) (cal : CalibrationParts) (input : RunInput) (fault : Fault)
     (is : input.plan.fault ≡ Some fault) (within : fault.onset < length input.drive) where
   pub played_under : (shared : Shared E) → IsSharedBy b come_to (run_with cal (faultless input)).run shared →
-      (copy : Fault) → copy ≡ fault → {N : Type 0} (from : Played E (List ℕ)) (branch : Played E N) → from ≡ slice_index_or shared.checkpoints.items (fault.onset / CHECKPOINT_TICKS) from →
+      (copy : Fault) → copy ≡ fault → {N : Type 0} (from : Played E (List ℕ)) (branch : Played E N) → from ≡ slice_index_or shared.checkpoints.items (fault.onset / checkpoint_ticks) from →
       ((r : Run) (t : ℕ) → HasPlayed b come_to r t from → HasPlayed b come_to (run_under (Some copy) r) t branch) →
-      HasPlayed b come_to (run_with cal input).run (fault.onset / CHECKPOINT_TICKS * CHECKPOINT_TICKS) branch
+      HasPlayed b come_to (run_with cal input).run (fault.onset / checkpoint_ticks * checkpoint_ticks) branch
   played_under shared kept copy same from branch at branched =
-      let place : ℕ = fault.onset / CHECKPOINT_TICKS in
-      subst (λ f. HasPlayed b come_to (run_by cal input.image f input.plan.plan input.drive) (place * CHECKPOINT_TICKS) branch)
+      let place : ℕ = fault.onset / checkpoint_ticks in
+      subst (λ f. HasPlayed b come_to (run_by cal input.image f input.plan.plan input.drive) (place * checkpoint_ticks) branch)
       (ap (λ f. Some f) same ∙ sym is)
-      (branched (run_with cal (faultless input)).run (place * CHECKPOINT_TICKS)
-      (subst (HasPlayed b come_to (run_with cal (faultless input)).run (place * CHECKPOINT_TICKS)) (sym at)
+      (branched (run_with cal (faultless input)).run (place * checkpoint_ticks)
+      (subst (HasPlayed b come_to (run_with cal (faultless input)).run (place * checkpoint_ticks)) (sym at)
       (kept.checkpoints.each place (below fault.onset (length input.drive) (length shared.checkpoints.items) within kept.checkpoints.enough) from)))
     where
-      below : (onset ticks n : ℕ) → onset < ticks → ticks ≤ n * CHECKPOINT_TICKS → onset / CHECKPOINT_TICKS < n
+      below : (onset ticks n : ℕ) → onset < ticks → ticks ≤ n * checkpoint_ticks → onset / checkpoint_ticks < n
       below onset ticks n within enough = omega arith
 
   -- the rows that are made for it
   pub rows-are : (rows : List Row) → rows ≡ reverse (record_rows b (run_with cal input).run) →
-      own_under input.plan.fault (length input.drive) rows ≡ reverse (rows_between b (run_with cal input).run (fault.onset / CHECKPOINT_TICKS * CHECKPOINT_TICKS) (length input.drive))
+      own_under input.plan.fault (length input.drive) rows ≡ reverse (rows_between b (run_with cal input).run (fault.onset / checkpoint_ticks * checkpoint_ticks) (length input.drive))
   rows-are rows made = ap (own_under input.plan.fault (length input.drive)) made
       ∙ ap (λ f. own_under f (length input.drive) (reverse (record_rows b (run_with cal input).run))) is
       ∙ under-is b come_to (run_with cal input).run fault within

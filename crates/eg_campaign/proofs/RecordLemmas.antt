@@ -126,6 +126,14 @@ module _ {S : Type 0} (b : BenchEngine S) (r : Run) where
       least : (n : ℕ) → 0 ≤ n
       least n = omega arith
 
+  -- before the header: nothing was written
+  pub stopped_before_header : (out : ShownSink) (was : TickCount) → was.count < 2 ^ 64 → was.weights < 2 ^ 64 → IsStopped (reverse (record_rows b r)) out out was was
+  stopped_before_header out was = stopped_at_header out out was record_header refl ([], record_header, refl, nothing out.written)
+    where
+      nothing : (written : Option (List ℕ)) → written ≡ option_map (λ old. old ++ []) written
+      nothing None = refl
+      nothing (Some old) = ap (λ new. Some new) (sym (append-nil old))
+
   -- the text of a record, cut within the line of a tick
   cut : (t : ℕ) (some rest : List ℕ) → t < length r.drive → row_line (row_at b r t) ≡ some ++ rest →
       (back : List ℕ) × (text_of (reverse (record_rows b r)) ≡ (text_of (reverse (rows_to b r t)) ++ some) ++ back)

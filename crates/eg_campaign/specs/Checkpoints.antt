@@ -15,11 +15,10 @@ use Rattle.eg_tick.specs.Run.{IsAt}
 use Rattle.eg_tick.specs.Facts.{IsToldOf}
 use Rattle.eg_campaign.specs.declared.checkpoints.Played.{Played}
 use Rattle.eg_campaign.specs.declared.checkpoints.Shared.{Shared}
-use Rattle.eg_campaign.specs.declared.checkpoints.TheConstants.{CHECKPOINT_TICKS}
 use Rattle.eg_campaign.specs.declared.play.RunInput.{RunInput}
 use Rattle.eg_campaign.specs.Plays.{run_with}
 use Rattle.eg_tick.specs.Counting.{count_with}
-use Rattle.eg_campaign.specs.Groups.{faultless}
+use Rattle.eg_campaign.specs.Groups.{faultless, checkpoint_ticks}
 
 -- ---- what was played of a run ----
 
@@ -59,10 +58,10 @@ pub record HasMade {S E M : Type 0} (b : BenchEngine S) (come_to : ComeTo S E) (
 -- What is kept of the first n ticks of a run: what was played at tick 0, and at each hundredth tick below n.
 pub record AreCheckpoints {S E M : Type 0} (b : BenchEngine S) (come_to : ComeTo S E) (r : Run) (n : ℕ)
     (kept : List (Played E M)) : Type 0 where
-  pub enough : n ≤ length kept * CHECKPOINT_TICKS
-  pub no_more : length kept * CHECKPOINT_TICKS < n + CHECKPOINT_TICKS
+  pub enough : n ≤ length kept * checkpoint_ticks
+  pub no_more : length kept * checkpoint_ticks < n + checkpoint_ticks
   pub each : (k : ℕ) → k < length kept → (d : Played E M) →
-      HasPlayed b come_to r (k * CHECKPOINT_TICKS) (slice_index_or kept k d)
+      HasPlayed b come_to r (k * checkpoint_ticks) (slice_index_or kept k d)
 
 -- what is shared of a run: its checkpoints, and what is told of it
 pub record IsSharedBy {S E : Type 0} (b : BenchEngine S) (come_to : ComeTo S E) (r : Run)

@@ -18,7 +18,6 @@ use Rattle.eg_tick.specs.Facts.{record_facts, told_of}
 use Rattle.eg_plan.specs.declared.engine.EngineKind.{EngineKind}
 use Rattle.eg_plan.specs.declared.engine.EngineKind.TheVariants as kind
 use Rattle.eg_campaign.specs.declared.play.RunInput.{RunInput}
-use Rattle.eg_campaign.specs.declared.checkpoints.TheConstants.{CHECKPOINT_TICKS}
 use Rattle.eg_campaign.specs.Plays.{bench_of, run_with, rows_in_time}
 
 -- ---- groups ----
@@ -68,9 +67,13 @@ groups_of inputs = map (group_of inputs) (firsts_after [] inputs)
 abbrev pub faultless : RunInput → RunInput
 faultless x = record x { plan = record x.plan { fault = None } }
 
--- the last tick up to this one at which a run without a fault is kept
+-- how many ticks lie between two ticks at which a run without a fault is kept
+abbrev pub checkpoint_ticks : ℕ
+checkpoint_ticks = 100
+
+-- the last tick up to this one at which it is kept
 unfoldable pub checkpoint : ℕ → ℕ
-checkpoint t = t / CHECKPOINT_TICKS * CHECKPOINT_TICKS
+checkpoint t = t / checkpoint_ticks * checkpoint_ticks
 
 -- The rows that are made for a run whose group has more, out of its rows in the order of time: from the last
 -- checkpoint on that isn't after its onset; none where it has no fault, or one that begins after the run.

@@ -9,7 +9,7 @@ ghost use Rattle.eg_tick.specs.Weights.{TickCount};
 ghost use Rattle.eg_tick.specs.Facts.{IsToldOf};
 ghost use Rattle.eg_tick.specs.Counting.{count_with, AreCounted};
 ghost use Rattle.eg_campaign.specs.Plays.{IsPlayable, run_with};
-ghost use Rattle.eg_campaign.specs.Groups.{faultless, own_on};
+ghost use Rattle.eg_campaign.specs.Groups.{faultless, checkpoint_ticks, own_on};
 ghost use Rattle.eg_campaign.specs.Checkpoints.{run_under, PlaysInput, HasPlayed, HasMade, AreCheckpoints, IsSharedFor};
 
 use crate::RunInput;
@@ -121,7 +121,7 @@ fn keep_copy<E: BenchedEngine + CopyEngine>(
     played: &Checkpoint<E>,
 ) -> Result<(), NoMemory>
     requires { played.now.controller.kept.fault ≡ None }
-    ensures { (r : Run) (t : ℕ) → t % CHECKPOINT_TICKS ≡ 0 → HasPlayed E.bench E.come_to r t played.now →
+    ensures { (r : Run) (t : ℕ) → t % checkpoint_ticks ≡ 0 → HasPlayed E.bench E.come_to r t played.now →
         AreCheckpoints E.bench E.come_to r t kept.old.items →
         OnOk result (AreCheckpoints E.bench E.come_to r (t + 1) kept.new.items) }
 {

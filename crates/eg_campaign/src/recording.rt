@@ -1,6 +1,7 @@
 // The record of a run, written as its ticks are made.
-ghost use Rattle.std.specs.Prelude.{◌≡◌, reverse, OnOk, OnErr, IsErrOf};
+ghost use Rattle.std.specs.Prelude.{◌≡◌, ◌≤◌, reverse, vec_capacity, OnOk, OnErr, IsErrOf, IsTrue};
 ghost use Rattle.eg_base.specs.Outside.{Rose, Appends, AppendsPrefix};
+ghost use Rattle.eg_record.specs.declared.row_line.TheConstants.{ROW_ROOM};
 ghost use Rattle.eg_record.specs.Texts.{row_line};
 ghost use Rattle.eg_model.specs.Rows.{record_rows};
 ghost use Rattle.eg_tick.specs.Counting.{count_with};
@@ -14,7 +15,7 @@ use eg_base::{PutRefusal, Sink};
 use eg_diesel::DieselEngine;
 use eg_plan::EngineKind;
 use eg_plant::GasolineEngine;
-use eg_record::{Row, push_row, record_header};
+use eg_record::{ROW_ROOM, Row, push_row, record_header};
 use eg_tick::{BenchedEngine, Ticks, bench_controller, bench_row};
 use eg_values::Calibration;
 use std::alloc::Global;
@@ -30,8 +31,8 @@ pub enum RecordStop {
 
 /// Plays a run, and puts its record to an output: the header, and the line of each row as its tick is made
 /// (docs/FORMATS.md, "The record"; docs/CONCEPT.md, "The record of a run"). One buffer holds each line in
-/// turn, so that a row takes no memory of its own. No clause says that each line is one put: a test shows it.
-/// The ticks are counted in `steps`.
+/// turn, and its room is taken before the header is put: a row takes no memory of its own. No clause says
+/// that each line is one put: a test shows it. The ticks are counted in `steps`.
 pub fn record_into<K: Sink>(
     alloc: Global,
     calibration: &Calibration,
@@ -52,6 +53,10 @@ pub fn record_into<K: Sink>(
     // Put comes only where a fault of writing is counted, and Memory only where none is.
     ensures cause { IsErrOf result Put → Rose (K.shows out.old).faults (K.shows out.new).faults }
     ensures memory { IsErrOf result Memory → (K.shows out.new).faults ≡ (K.shows out.old).faults }
+    // Over a sure output memory runs out only before the header: nothing is written, and no tick is made.
+    ensures unwritten { IsTrue (K.shows out.old).sure → IsErrOf result Memory
+        → K.shows out.new ≡ K.shows out.old }
+    ensures no_tick { IsTrue (K.shows out.old).sure → IsErrOf result Memory → steps.new ≡ steps.old }
     ensures stays_sure { (K.shows out.new).sure ≡ (K.shows out.old).sure }
 {
     match input.plan.engine {
@@ -85,15 +90,20 @@ fn record_on<E: BenchedEngine, K: Sink>(
         (K.shows out.old) (K.shows out.new) steps.old steps.new) }
     ensures cause { IsErrOf result Put → Rose (K.shows out.old).faults (K.shows out.new).faults }
     ensures memory { IsErrOf result Memory → (K.shows out.new).faults ≡ (K.shows out.old).faults }
+    ensures unwritten { IsTrue (K.shows out.old).sure → IsErrOf result Memory
+        → K.shows out.new ≡ K.shows out.old }
+    ensures no_tick { IsTrue (K.shows out.old).sure → IsErrOf result Memory → steps.new ≡ steps.old }
     ensures stays_sure { (K.shows out.new).sure ≡ (K.shows out.old).sure }
 {
     // Called for its clause alone: both numbers are a u64.
     let _numbers = (steps.count(), steps.sum());
     let (image, drive) = (input.image.as_slice(), input.drive.as_slice());
     let (plan, fault) = (&input.plan.plan, input.plan.fault.as_ref());
+    let Ok(mut line) = Vec::with_capacity(alloc, ROW_ROOM) else {
+        return Err(RecordStop::Memory);
+    };
     put_whole(record_header().as_bytes(), out)?;
     let mut controller = bench_controller::<E>(calibration, image, fault);
-    let mut line = Vec::new(alloc);
     for tick in 0..drive.len() {
         let row = bench_row(&mut controller, plan, &drive[tick], tick as u32, steps);
         put_row(&mut line, &row, out)?;
@@ -101,13 +111,17 @@ fn record_on<E: BenchedEngine, K: Sink>(
     Ok(())
 }
 
-/// Puts the line of a row. The line is made in this buffer, whatever it held before.
+/// Puts the line of a row. The line is made in this buffer, whatever it held before. Over a sure output
+/// nothing takes memory where the buffer has room for it.
 fn put_row<K: Sink>(line: &mut Vec<u8>, row: &Row, out: &mut K) -> Result<(), RecordStop>
     ensures ok { OnOk result (Appends (K.shows out.old) (K.shows out.new) (row_line row.now)) }
     ensures prefix { OnErr result (AppendsPrefix (K.shows out.old) (K.shows out.new) (row_line row.now)) }
     ensures no_fault { OnOk result ((K.shows out.new).faults ≡ (K.shows out.old).faults) }
     ensures cause { IsErrOf result Put → Rose (K.shows out.old).faults (K.shows out.new).faults }
     ensures memory { IsErrOf result Memory → (K.shows out.new).faults ≡ (K.shows out.old).faults }
+    ensures sure { IsTrue (K.shows out.old).sure → ROW_ROOM ≤ vec_capacity line.old
+        → ¬ IsErrOf result Memory }
+    ensures keeps_room { vec_capacity line.old ≤ vec_capacity line.new }
     ensures stays_sure { (K.shows out.new).sure ≡ (K.shows out.old).sure }
 {
     line.clear();
@@ -124,6 +138,7 @@ fn put_whole<K: Sink>(bytes: &[u8], out: &mut K) -> Result<(), RecordStop>
     ensures no_fault { OnOk result ((K.shows out.new).faults ≡ (K.shows out.old).faults) }
     ensures cause { IsErrOf result Put → Rose (K.shows out.old).faults (K.shows out.new).faults }
     ensures memory { IsErrOf result Memory → (K.shows out.new).faults ≡ (K.shows out.old).faults }
+    ensures sure { IsTrue (K.shows out.old).sure → ¬ IsErrOf result Memory }
     ensures stays_sure { (K.shows out.new).sure ≡ (K.shows out.old).sure }
 {
     match out.put(bytes) {

@@ -7,8 +7,7 @@ use Rattle.eg_values.specs.Calibration.{CalibrationParts}
 use Rattle.eg_tick.proofs.BranchedRuns.{told_under}
 use Rattle.eg_tick.specs.Counting.{count_with}
 use Rattle.eg_campaign.specs.Plays.{run_with}
-use Rattle.eg_campaign.specs.declared.checkpoints.TheConstants.{CHECKPOINT_TICKS}
-use Rattle.eg_campaign.specs.Groups.{faultless, own_under}
+use Rattle.eg_campaign.specs.Groups.{faultless, checkpoint_ticks, own_under}
 use Rattle.eg_campaign.specs.Checkpoints.{HasMade, IsSharedFor}
 use Rattle.eg_campaign.proofs.CheckpointLemmas.{counted_none, never_begins, makes_none, made_in_time, played_under, rows-are}
 use Rattle.eg_campaign.proofs.checkpoints.play_from.Given.{Over}
@@ -48,7 +47,7 @@ within g c = subst (λ d. c.in-Some.fault.onset < length d) c.as_slice.ensures c
 -- the run was played from the checkpoint on
 made : (g : Over) (c : goal.After-drop-played g) (cal : CalibrationParts) →
     IsSharedFor g.E.BenchedEngine.bench g.E.BenchedEngine.come_to cal c.args.input.now c.args.shared.now →
-    HasMade g.E.BenchedEngine.bench g.E.BenchedEngine.come_to (run_with cal c.args.input.now).run (c.in-Some.fault.onset / CHECKPOINT_TICKS * CHECKPOINT_TICKS)
+    HasMade g.E.BenchedEngine.bench g.E.BenchedEngine.come_to (run_with cal c.args.input.now).run (c.in-Some.fault.onset / checkpoint_ticks * checkpoint_ticks)
     (length c.args.input.now.drive) c.play_on.new.played c.args.steps.now c.play_on.new.steps
 made g c cal shared = c.play_on.ensures (run_with cal c.args.input.now).run (record { plan = refl; drive = refl })
     (played_under g.E.BenchedEngine.bench g.E.BenchedEngine.come_to cal c.args.input.now c.in-Some.fault c.in-Some.is (within g c) c.args.shared.now shared
@@ -61,6 +60,6 @@ pub returns-clause-counted : goal.returns-clause-counted
 returns-clause-counted g c = λ cal shared.
     let x = c.args.input.now in
     let r : Run = (run_with cal x).run in
-    made_in_time g.E.BenchedEngine.bench g.E.BenchedEngine.come_to r (c.in-Some.fault.onset / CHECKPOINT_TICKS * CHECKPOINT_TICKS) (length x.drive)
+    made_in_time g.E.BenchedEngine.bench g.E.BenchedEngine.come_to r (c.in-Some.fault.onset / checkpoint_ticks * checkpoint_ticks) (length x.drive)
     c.play_on.new.played c.args.steps.now c.play_on.new.steps (made g c cal shared) ∙ ap (count_with c.args.steps.now)
     (sym (rows-are g.E.BenchedEngine.bench g.E.BenchedEngine.come_to cal x c.in-Some.fault c.in-Some.is (within g c) (reverse (record_rows g.E.BenchedEngine.bench r)) refl))

@@ -1,11 +1,15 @@
-use Rattle.std.proofs.Common.{◌≡◌, ◌∙◌, refl, sym, subst, ◌<◌, length, arith}
+use Rattle.std.proofs.Common.{◌≡◌, ◌∙◌, refl, sym, ap, subst, ◌<◌, length, Err, arith}
+use Rattle.std.specs.Prelude.{IsTrue, IsErrOf}
+use Rattle.std.proofs.lemmas.Result.{err_from_is_err_and}
 use Rattle.eg_model.specs.Bench.{Run, drive_at}
 use Rattle.eg_tick.specs.Run.{IsAt}
 use Rattle.eg_base.proofs.ResultLemmas.{at_err}
 use Rattle.eg_tick.proofs.RunLemmas.{drive-at}
 use Rattle.eg_campaign.specs.Plays.{run_with}
 use Rattle.eg_campaign.proofs.PlayLemmas.{same_run}
-use Rattle.eg_campaign.proofs.RecordLemmas.{has_header, has_more, all_written, all_counted, stopped_at_header, stopped_at_line}
+use Rattle.eg_campaign.proofs.RecordLemmas.{has_header, has_more, all_written, all_counted, stopped_before_header, stopped_at_header, stopped_at_line}
+use Rattle.eg_campaign.specs.declared.recording.RecordStop.TheVariants.{Memory}
+use Rattle.eg_campaign.proofs.recording.record_on.Given.{Over}
 use Rattle.eg_campaign.proofs.recording.record_on.Goals as goal
 
 pub returns-in_err-put_whole-clause-stopped : goal.returns-in_err-put_whole-clause-stopped
@@ -18,6 +22,12 @@ returns-in_err-put_whole-clause-stopped g c =
     (let e = c.count.ensures in let l = c.count.type_inv in subst (λ n. n < 18446744073709551616) e l)
     (let e = c.sum.ensures in let l = c.sum.type_inv in subst (λ n. n < 18446744073709551616) e l))
 
+pub returns-in_default-clause-stopped : goal.returns-in_default-clause-stopped
+returns-in_default-clause-stopped g c =
+    stopped_before_header g.E.BenchedEngine.bench (run_with c.args.calibration.now c.args.input.now).run (g.K.Sink.shows c.args.out.now) c.args.steps.now
+    (let e = c.count.ensures in let l = c.count.type_inv in subst (λ n. n < 18446744073709551616) e l)
+    (let e = c.sum.ensures in let l = c.sum.type_inv in subst (λ n. n < 18446744073709551616) e l)
+
 pub loop-tick-init : goal.loop-tick-init
 loop-tick-init g c =
     let shows = g.K.Sink.shows in
@@ -25,6 +35,7 @@ loop-tick-init g c =
     record {
       ticks = c.bench_controller-controller.ensures.ticks;
       sure = c.bench_controller-controller.ensures.sure;
+      room = omega (arith, c.in-Ok.ensures.exact);
       at = subst (λ (r : Run). IsAt bench g.E.BenchedEngine.come_to r 0 c.bench_controller-controller.result)
           (same_run _ _ _ _ _ _ _ _ _ _ refl c.as_slice-image.ensures c.as_ref-fault.ensures.value refl refl)
           (c.bench_controller-controller.ensures.at c.args.input.now.plan.plan c.args.input.now.drive);
@@ -47,6 +58,20 @@ returns-in_err-put_row-clause-stopped g c =
     c.args.steps.now c.loop-tick.steps c.bench_row-row.new.steps c.bench_row-row.result within (c.bench_row-row.ensures.row r refl drive c.loop-tick.invariant.at)
     c.loop-tick.invariant.written c.in_err-put_row.ensures.prefix c.bench_row-row.ensures.count c.bench_row-row.ensures.weight)
 
+-- a row takes no memory over a sure output, since the buffer has room for its line
+has_room : (g : Over) (c : goal.After-drop-line-in_err-put_row g) → IsTrue (g.K.Sink.shows c.args.out.now).sure →
+    IsErrOf c.from_residual-in_err-put_row.result Memory → ⊥
+has_room g c sure is =
+    let (refusal, told, same) = err_from_is_err_and c.from_residual-in_err-put_row.result c.from_residual-in_err-put_row.ensures.1 in
+    c.in_err-put_row.ensures.sure (subst IsTrue (sym c.loop-tick.invariant.written.sure) sure) c.loop-tick.invariant.room
+    (ap (λ e. Err e) (sym same) ∙ sym told ∙ is)
+
+pub returns-in_err-put_row-clause-unwritten : goal.returns-in_err-put_row-clause-unwritten
+returns-in_err-put_row-clause-unwritten g c = λ sure is. absurd (has_room g c sure is)
+
+pub returns-in_err-put_row-clause-no_tick : goal.returns-in_err-put_row-clause-no_tick
+returns-in_err-put_row-clause-no_tick g c = λ sure is. absurd (has_room g c sure is)
+
 pub loop-tick-preserved : goal.loop-tick-preserved
 loop-tick-preserved g c =
     let shows = g.K.Sink.shows in
@@ -57,6 +82,7 @@ loop-tick-preserved g c =
     record {
       ticks = c.bench_row-row.ensures.ticks;
       sure = c.bench_row-row.ensures.stays_sure;
+      room = omega (arith, c.loop-tick.invariant.room, c.put_row.ensures.keeps_room);
       at = c.bench_row-row.ensures.at r refl drive c.loop-tick.invariant.at;
       written = has_more bench r c.loop-tick.tick (shows c.args.out.now) (shows c.loop-tick.out) (shows c.put_row.new.out) c.args.steps.now c.loop-tick.steps c.bench_row-row.new.steps
           c.bench_row-row.result (c.bench_row-row.ensures.row r refl drive c.loop-tick.invariant.at) c.loop-tick.invariant.written
