@@ -1,86 +1,114 @@
 -- When the work is done, from how a command ends.
-use Rattle.std.proofs.Common.{List, ℕ, Option, Some, None, sym, subst}
-use Rattle.std.specs.Prelude.{Result, Ok, Err}
-use Rattle.eg_base.specs.Outside.{ShownStore, ShownSink, Rose}
+use Rattle.std.proofs.Common.{◌≡◌, ◌∙◌, List, ℕ, Bool, true, false, Option, Some, None, refl, sym, subst}
+use Rattle.std.specs.Prelude.{Ok, Err, if◌then◌else◌}
+use Rattle.eg_base.specs.Outside.{ShownStore, ShownSink}
 use Rattle.eg_answer.specs.declared.rules.Rules.{Rules}
-use Rattle.eg_tick.specs.Weights.{TickCount}
+use Rattle.eg_outcome.specs.Changes.{Change}
 use Rattle.eg_outcome.specs.declared.outcome.Outcome.{Outcome}
-use Rattle.eg_outcome.specs.declared.outcome.Refusal.{Refusal}
+use Rattle.eg_outcome.specs.declared.outcome.Outcome.TheVariants.{Done, Memory, Refused}
+use Rattle.eg_outcome.specs.declared.outcome.Refusal.TheVariants as refusal
 use Rattle.eg_outcome.specs.declared.outcome.Role.{Role}
 use Rattle.eg_outcome.specs.declared.outcome.Role.TheVariants as role
 use Rattle.eg_outcome.specs.Images.{image_file}
-use Rattle.eg_asm.specs.Listings.{source_text, image_text}
-use Rattle.eg_source.specs.Ends.{WordsEnd, source_file, read_alone}
+use Rattle.eg_asm.specs.Sources.{Assembles}
+use Rattle.eg_asm.proofs.SourceLaws.{assembled-then}
+use Rattle.eg_source.specs.Ends.{SourceComes, SourceFileComes, AcceptsSource, DisEnds, AsmEnds, read_alone}
 use Rattle.eg_tuning.specs.Ends.{AnswersEnd, answers_file}
 use Rattle.eg_outcome.specs.Outcomes.{IsDoneOrMemory}
-use Rattle.eg_outcome.specs.Reads.{Finds, Accepts}
+use Rattle.eg_outcome.specs.Reads.{whole, Finds, Accepts}
+use Rattle.eg_outcome.specs.Files.{is_too_long}
 use Rattle.eg_outcome.specs.Calibrations.{calibration_file, CalibrationComes, FindsCalibration, AcceptsCalibration}
 use Rattle.eg_app.specs.Words.{Command, check, bound, limits, run, record_run, sweep, soak, answers, asm, dis}
 use Rattle.eg_app.specs.Check.{check_file}
-use Rattle.eg_app.specs.Ends.{CheckWorks, Ends, Completes}
+use Rattle.eg_app.specs.Ends.{CheckWorks, Ends, Completes, WritesWell}
+use Rattle.eg_play.specs.Ends.{Call}
 use Rattle.eg_app.proofs.FileLemmas.{file_done, line_done}
-use Rattle.eg_app.proofs.PlayLemmas.{run_done, record_done, sweep_done}
+use Rattle.eg_app.proofs.PlayLemmas.{same_error, run_done, record_done, sweep_done}
 
 -- where a calibration is found and accepted, a call ends only where memory runs out
-calibration_done : (calibration : Option (List ℕ)) (store later : ShownStore) (end : Outcome)
-    → CalibrationComes calibration store later (Err end)
-    → FindsCalibration calibration store later → AcceptsCalibration calibration store → IsDoneOrMemory end
-calibration_done None store later end comes finds accepts = absurd cc
-calibration_done (Some name) store later end comes finds accepts =
-    file_done role.Calibration calibration_file name store later end comes finds accepts
+calibration_done : (calibration : Option (List ℕ)) (store : Change ShownStore) (end : Outcome) → CalibrationComes calibration store (Err end)
+    → FindsCalibration calibration store → AcceptsCalibration calibration store.before → IsDoneOrMemory end
+calibration_done None store end comes finds accepts = absurd cc
+calibration_done (Some name) store end comes finds accepts = file_done role.Calibration calibration_file name store end comes finds accepts
 
 -- a check file that is found and accepted is worked off
-check_done : (rules : Rules) (file : List ℕ) (store later : ShownStore) (out now : ShownSink) (o : Outcome)
-    → CheckWorks rules file store later out now o
-    → Finds file store later → Accepts check_file file store → ¬ Rose out.faults now.faults → IsDoneOrMemory o
-check_done rules file store later out now o (Ok rows, comes, (same, (first, is, line))) finds accepts still = line_done _ out now o line still
-check_done rules file store later out now o (Err end, comes, (is, same)) finds accepts still =
-    subst IsDoneOrMemory (sym is) (file_done role.Check check_file file store later end comes finds accepts)
+check_done : (rules : Rules) (file : List ℕ) (store : Change ShownStore) (out : Change ShownSink) (o : Outcome) → CheckWorks rules file store out o
+    → Finds file store → Accepts check_file file store.before → WritesWell out → IsDoneOrMemory o
+check_done rules file store out o (Ok rows, comes, (same, (first, is, line))) finds accepts still = line_done _ out o line still
+check_done rules file store out o (Err end, comes, (is, same)) finds accepts still =
+    subst IsDoneOrMemory (sym is) (file_done role.Check check_file file store end comes finds accepts)
 
--- a source or an image that is found and accepted is written
-words_done : (file : Role) (says : List ℕ → Result (List ℕ) Refusal) (text : List ℕ → List ℕ) (name : List ℕ) (store later : ShownStore)
-    (out now : ShownSink) (o : Outcome) → WordsEnd file says text name store later out now o
-    → Finds name store later → Accepts says name store → ¬ Rose out.faults now.faults → IsDoneOrMemory o
-words_done file says text name store later out now o (Ok words, comes, (same, line)) finds accepts still = line_done _ out now o line still
-words_done file says text name store later out now o (Err end, comes, (is, same)) finds accepts still =
-    subst IsDoneOrMemory (sym is) (file_done file says name store later end comes finds accepts)
+-- a source that is accepted isn't refused
+source_done : (bytes : List ℕ) (end : Outcome) → SourceComes bytes (Err end) → (words : List ℕ) → Assembles bytes (Ok words) → IsDoneOrMemory end
+source_done bytes Done comes words accepts = tt
+source_done bytes Memory comes words accepts = tt
+source_done bytes (Refused (refusal.Source why)) comes words accepts =
+    absurd (let same = sym (assembled-then bytes (Err why) comes) ∙ assembled-then bytes (Ok words) accepts in cc)
+source_done bytes _ comes words accepts = absurd comes
+
+-- the bytes that come are those that were read
+whole_is : (file : Role) (read bytes : List ℕ) → whole file read ≡ Ok bytes → read ≡ bytes
+whole_is file read bytes same = go (is_too_long read) same
+  where
+    go : (long : Bool) → (if long then Err (refusal.Size file) else Ok read) ≡ Ok bytes → read ≡ bytes
+    go true e = absurd cc
+    go false e = cc
+
+source_file_done : (name : List ℕ) (store : Change ShownStore) (end : Outcome) → SourceFileComes name store (Err end)
+    → Finds name store → AcceptsSource name store.before → IsDoneOrMemory end
+source_file_done name store end (Ok bytes, (read, is_read, same), (none, comes)) finds accepts =
+    let (words, assembles) = accepts.1 read is_read in
+    source_done bytes end comes words (subst (λ (b : List ℕ). Assembles b (Ok words)) (whole_is role.Source read bytes same) assembles)
+source_file_done name store end (Err e, comes, come) finds accepts =
+    subst IsDoneOrMemory (same_error (Err end) end e refl come) (file_done role.Source (whole role.Source) name store e comes finds accepts.0)
+
+-- a source that is found and accepted is written as an image
+asm_done : (name : List ℕ) (store : Change ShownStore) (out : Change ShownSink) (o : Outcome) → AsmEnds name store out o
+    → Finds name store → AcceptsSource name store.before → WritesWell out → IsDoneOrMemory o
+asm_done name store out o (Ok words, comes, (same, line)) finds accepts still = line_done _ out o line still
+asm_done name store out o (Err end, comes, (is, same)) finds accepts still =
+    subst IsDoneOrMemory (sym is) (source_file_done name store end comes finds accepts)
+
+-- an image that is found and accepted is written as a source
+dis_done : (name : List ℕ) (store : Change ShownStore) (out : Change ShownSink) (o : Outcome) → DisEnds name store out o
+    → Finds name store → Accepts (image_file 0) name store.before → WritesWell out → IsDoneOrMemory o
+dis_done name store out o (Ok words, comes, (same, line)) finds accepts still = line_done _ out o line still
+dis_done name store out o (Err end, comes, (is, same)) finds accepts still =
+    subst IsDoneOrMemory (sym is) (file_done read_alone (image_file 0) name store end comes finds accepts)
 
 -- the answers of a file that is found and accepted are written
-answers_done : (name : List ℕ) (store later : ShownStore) (out now : ShownSink) (o : Outcome) → AnswersEnd name store later out now o
-    → Finds name store later → Accepts answers_file name store → ¬ Rose out.faults now.faults → IsDoneOrMemory o
-answers_done name store later out now o (Ok asked, comes, (same, line)) finds accepts still = line_done _ out now o line still
-answers_done name store later out now o (Err end, comes, (is, same)) finds accepts still =
-    subst IsDoneOrMemory (sym is) (file_done role.Calibration answers_file name store later end comes finds accepts)
+answers_done : (name : List ℕ) (store : Change ShownStore) (out : Change ShownSink) (o : Outcome) → AnswersEnd name store out o
+    → Finds name store → Accepts answers_file name store.before → WritesWell out → IsDoneOrMemory o
+answers_done name store out o (Ok asked, comes, (same, line)) finds accepts still = line_done _ out o line still
+answers_done name store out o (Err end, comes, (is, same)) finds accepts still =
+    subst IsDoneOrMemory (sym is) (file_done role.Calibration answers_file name store end comes finds accepts)
 
 -- a call that ends so completes its work
-pub completes : (command : Option Command) (store later : ShownStore) (out now : ShownSink) (was then : TickCount) (o : Outcome)
-    → Ends command store later out now was then o → Completes command store later out now o
-completes None store later out now was then o ends = tt
-completes (Some (soak seed runs)) store later out now was then o plays = λ still. line_done _ out now o plays.written still
-completes (Some (check calibration file)) store later out now was then o (Ok parts, comes, works) = λ finds accepts finds_check accepts_check still.
-    check_done parts.rules file store later out now o works finds_check accepts_check still
-completes (Some (check calibration file)) store later out now was then o (Err end, comes, (is, same)) = λ finds accepts finds_check accepts_check still.
-    subst IsDoneOrMemory (sym is) (calibration_done calibration store later end comes finds accepts)
-completes (Some (bound calibration)) store later out now was then o (Ok parts, comes, (same, told, are, line)) = λ finds accepts still.
-    line_done _ out now o line still
-completes (Some (bound calibration)) store later out now was then o (Err end, comes, (is, same)) = λ finds accepts still.
-    subst IsDoneOrMemory (sym is) (calibration_done calibration store later end comes finds accepts)
-completes (Some (limits calibration)) store later out now was then o (Ok parts, comes, (same, told, are, line)) = λ finds accepts still.
-    line_done _ out now o line still
-completes (Some (limits calibration)) store later out now was then o (Err end, comes, (is, same)) = λ finds accepts still.
-    subst IsDoneOrMemory (sym is) (calibration_done calibration store later end comes finds accepts)
-completes (Some (answers file)) store later out now was then o ends = λ finds accepts still. answers_done file store later out now o ends finds accepts still
-completes (Some (run telling calibration campaign)) store later out now was then o (Err end, comes, (is, same)) = λ finds accepts found accepted files still.
-    subst IsDoneOrMemory (sym is) (calibration_done calibration store later end comes finds accepts)
-completes (Some (run telling calibration campaign)) store later out now was then o (Ok parts, comes, works) = λ finds accepts found accepted files still.
-    run_done telling parts campaign store later out now was then o works found accepted files still
-completes (Some (record_run calibration campaign name)) store later out now was then o (Err end, comes, (is, same)) = λ finds accepts found accepted files still.
-    subst IsDoneOrMemory (sym is) (calibration_done calibration store later end comes finds accepts)
-completes (Some (record_run calibration campaign name)) store later out now was then o (Ok parts, comes, works) = λ finds accepts found accepted files still.
-    record_done parts campaign name store later out now was then o works found accepted files still
-completes (Some (sweep calibration campaign name step)) store later out now was then o (Err end, comes, (is, same)) = λ finds accepts found accepted files still.
-    subst IsDoneOrMemory (sym is) (calibration_done calibration store later end comes finds accepts)
-completes (Some (sweep calibration campaign name step)) store later out now was then o (Ok parts, comes, works) = λ finds accepts found accepted files still.
-    sweep_done parts campaign name step store later out now was then o works found accepted files still
-completes (Some (asm file)) store later out now was then o ends = λ finds accepts still. words_done role.Source source_file image_text file store later out now o ends finds accepts still
-completes (Some (dis file)) store later out now was then o ends = λ finds accepts still. words_done read_alone (image_file 0) source_text file store later out now o ends finds accepts still
+pub completes : (command : Option Command) (call : Call) (o : Outcome) → Ends command call o → Completes command call.store call.out o
+completes None call o ends = tt
+completes (Some (soak seed runs)) call o plays = λ still. line_done _ call.out o plays.written still
+completes (Some (check calibration file)) call o (Ok parts, comes, works) = λ finds accepts finds_check accepts_check still.
+    check_done parts.rules file call.store call.out o works finds_check accepts_check still
+completes (Some (check calibration file)) call o (Err end, comes, (is, same)) = λ finds accepts finds_check accepts_check still.
+    subst IsDoneOrMemory (sym is) (calibration_done calibration call.store end comes finds accepts)
+completes (Some (bound calibration)) call o (Ok parts, comes, (same, (told, are, line))) = λ finds accepts still. line_done _ call.out o line still
+completes (Some (bound calibration)) call o (Err end, comes, (is, same)) = λ finds accepts still.
+    subst IsDoneOrMemory (sym is) (calibration_done calibration call.store end comes finds accepts)
+completes (Some (limits calibration)) call o (Ok parts, comes, (same, (told, are, line))) = λ finds accepts still. line_done _ call.out o line still
+completes (Some (limits calibration)) call o (Err end, comes, (is, same)) = λ finds accepts still.
+    subst IsDoneOrMemory (sym is) (calibration_done calibration call.store end comes finds accepts)
+completes (Some (answers file)) call o ends = λ finds accepts still. answers_done file call.store call.out o ends finds accepts still
+completes (Some (run telling calibration campaign)) call o (Err end, comes, (is, same)) = λ finds accepts found accepted files still.
+    subst IsDoneOrMemory (sym is) (calibration_done calibration call.store end comes finds accepts)
+completes (Some (run telling calibration campaign)) call o (Ok parts, comes, works) = λ finds accepts found accepted files still.
+    run_done telling parts campaign call o works found accepted files still
+completes (Some (record_run calibration campaign name)) call o (Err end, comes, (is, same)) = λ finds accepts found accepted files still.
+    subst IsDoneOrMemory (sym is) (calibration_done calibration call.store end comes finds accepts)
+completes (Some (record_run calibration campaign name)) call o (Ok parts, comes, works) = λ finds accepts found accepted files still.
+    record_done parts campaign name call o works found accepted files still
+completes (Some (sweep calibration campaign name step)) call o (Err end, comes, (is, same)) = λ finds accepts found accepted files still.
+    subst IsDoneOrMemory (sym is) (calibration_done calibration call.store end comes finds accepts)
+completes (Some (sweep calibration campaign name step)) call o (Ok parts, comes, works) = λ finds accepts found accepted files still.
+    sweep_done parts campaign name step call o works found accepted files still
+completes (Some (asm file)) call o ends = λ finds accepts still. asm_done file call.store call.out o ends finds accepts still
+completes (Some (dis file)) call o ends = λ finds accepts still. dis_done file call.store call.out o ends finds accepts still

@@ -1,11 +1,9 @@
 -- Each command ends Done, with its whole text written, or with another outcome, whose case says what was put
 -- and whose count of faults rose. There is one relation for each command, by cases on the outcome, inside
--- what comes of its calibration. It speaks of what the store and the output show before the call (`store`,
--- `out`) and after it (`later`, `now`). A fault that is met is counted, and each case says whose count stayed
--- too. So each outcome comes exactly if its case says (but where a count stands at the last value of a
--- u64); running out of memory alone may come at any place. Where a call reads several files, the count
--- doesn't tell which of the reads met a fault: over a sure store `FileComes` and `TellsMissing` do, else a
--- test.
+-- what comes of its calibration. A fault that is met is counted, and each case says whose count stayed too.
+-- So each outcome comes exactly if its case says (but where a count stands at the last value of a u64);
+-- running out of memory alone may come at any place. Where a call reads several files, the count doesn't tell
+-- which of the reads met a fault: over a sure store `FileComes` and `TellsMissing` do, else a test.
 use Rattle.std.specs.Prelude.{◌≡◌, ◌⊎◌, ◌↔◌, ℕ, List, Option, Some, None, Result, Ok, IsTrue}
 use Rattle.eg_num.specs.Places.{IsFirst}
 use Rattle.eg_base.specs.Outside.{ShownStore, ShownSink, Rose, IsMissing}
@@ -16,17 +14,18 @@ use Rattle.eg_plan.specs.declared.run.RunPlan.{RunPlan}
 use Rattle.eg_outcome.specs.declared.outcome.Outcome.{Outcome}
 use Rattle.eg_outcome.specs.declared.outcome.Outcome.TheVariants as outcome
 use Rattle.eg_outcome.specs.declared.outcome.Role.TheVariants as role
+use Rattle.eg_outcome.specs.Changes.{Change, Stays, MeetsNoFault}
 use Rattle.eg_outcome.specs.Outcomes.{LineEnds, WorkFollows, IsDoneOrMemory}
 use Rattle.eg_outcome.specs.Reads.{FileComes, ReadComes, Finds, Accepts}
 use Rattle.eg_outcome.specs.Calibrations.{CalibratedEnds, MissesCalibration, FindsCalibration, AcceptsCalibration}
 use Rattle.eg_campaign.specs.Plays.{rows_of_runs}
 use Rattle.eg_play.specs.Files.{campaign_file}
 use Rattle.eg_play.specs.Inputs.{FindsRuns, AcceptsRuns}
-use Rattle.eg_play.specs.Ends.{Plays, CampaignCommandEnds, RecordCommandEnds, SweepCommandEnds, AcceptsNamed, AcceptsGrid, run_named}
+use Rattle.eg_play.specs.Ends.{Call, Plays, CampaignCommandEnds, RecordCommandEnds, SweepCommandEnds, AcceptsNamed, AcceptsGrid, run_named}
 use Rattle.eg_soak.specs.Soak.{drawn_runs, soak_of}
 use Rattle.eg_soak.specs.Texts.{soak_text}
 use Rattle.eg_outcome.specs.Images.{image_file}
-use Rattle.eg_source.specs.Ends.{AsmEnds, DisEnds, source_file, read_alone}
+use Rattle.eg_source.specs.Ends.{AsmEnds, DisEnds, AcceptsSource, read_alone}
 use Rattle.eg_tuning.specs.Ends.{BoundEnds, LimitsEnd, AnswersEnd, answers_file}
 use Rattle.eg_app.specs.Words.{Command, check, bound, limits, run, record_run, sweep, soak, answers, asm, dis}
 use Rattle.eg_app.specs.Check.{excesses, check_line, check_file}
@@ -34,52 +33,46 @@ use Rattle.eg_app.specs.Check.{excesses, check_line, check_file}
 -- ---- `check [--cal NAME] FILE` ----
 
 -- once the rows are known: the line tells the first tick by which the excess is confirmed
-abbrev pub RowsEnd : Rules → List CheckRow → ShownSink → ShownSink → Outcome → Type 0
-RowsEnd rules rows out now o = (first : Option ℕ) × IsFirst rules.torque (excesses rules rows) first
-    × LineEnds (check_line first) out now o
+abbrev pub RowsEnd : Rules → List CheckRow → Change ShownSink → Outcome → Type 0
+RowsEnd rules rows out o = (first : Option ℕ) × IsFirst rules.torque (excesses rules rows) first
+    × LineEnds (check_line first) out o
 
 -- by these rules: the rows of the file come, and their line is written, and no fault of reading was met; or
 -- nothing is put
-abbrev pub CheckWorks : Rules → List ℕ → ShownStore → ShownStore → ShownSink → ShownSink → Outcome → Type 0
-CheckWorks rules file store later out now o = (come : Result (List CheckRow) Outcome)
-    × FileComes role.Check check_file file store later come
-    × WorkFollows (λ rows end. (later.faults ≡ store.faults) × RowsEnd rules rows out now end) (now ≡ out)
-    come o
+abbrev pub CheckWorks : Rules → List ℕ → Change ShownStore → Change ShownSink → Outcome → Type 0
+CheckWorks rules file store out o = (come : Result (List CheckRow) Outcome)
+    × FileComes role.Check check_file file store come
+    × WorkFollows (λ rows end. MeetsNoFault store × RowsEnd rules rows out end) (Stays out) come o
 
-abbrev pub CheckEnds : Option (List ℕ) → List ℕ → ShownStore → ShownStore → ShownSink → ShownSink → Outcome
-    → Type 0
-CheckEnds calibration file store later out now o = CalibratedEnds calibration store later (now ≡ out)
-    (λ parts. CheckWorks parts.rules file store later out now) o
+abbrev pub CheckEnds : Option (List ℕ) → List ℕ → Change ShownStore → Change ShownSink → Outcome → Type 0
+CheckEnds calibration file store out o =
+    CalibratedEnds calibration store (Stays out) (λ parts. CheckWorks parts.rules file store out) o
 
 -- ---- `soak SEED RUNS` ----
 
 -- the runs that are drawn from the seed were played, and the summary on them was written: on Done all of it
-abbrev pub SoakEnds : (seed runs : ℕ) → ShownSink → ShownSink → TickCount → TickCount → Outcome → Type 0
-SoakEnds seed runs out now was is o =
+abbrev pub SoakEnds : (seed runs : ℕ) → Change ShownSink → Change TickCount → Outcome → Type 0
+SoakEnds seed runs out ticks o =
     Plays (soak_text (soak_of (drawn_runs runs seed))) (drawn_runs runs seed)
-    (rows_of_runs (drawn_runs runs seed)) out now was is o
+    (rows_of_runs (drawn_runs runs seed)) out ticks o
 
 -- ---- each call ----
 
--- By what the words ask for; where they ask for nothing, the outcome is Usage and nothing is put. `was` and
--- `is` are the count of ticks before the call and after it.
-abbrev pub Ends : Option Command → ShownStore → ShownStore → ShownSink → ShownSink → TickCount → TickCount
-    → Outcome → Type 0
-Ends (Some (check calibration file)) store later out now was is o =
-    CheckEnds calibration file store later out now o
-Ends (Some (bound calibration)) store later out now was is o = BoundEnds calibration store later out now o
-Ends (Some (limits calibration)) store later out now was is o = LimitsEnd calibration store later out now o
-Ends (Some (run telling calibration campaign)) store later out now was is o =
-    CampaignCommandEnds telling calibration campaign store later out now was is o
-Ends (Some (record_run calibration campaign name)) store later out now was is o =
-    RecordCommandEnds calibration campaign name store later out now was is o
-Ends (Some (sweep calibration campaign name step)) store later out now was is o =
-    SweepCommandEnds calibration campaign name step store later out now was is o
-Ends (Some (soak seed runs)) store later out now was is o = SoakEnds seed runs out now was is o
-Ends (Some (answers file)) store later out now was is o = AnswersEnd file store later out now o
-Ends (Some (asm file)) store later out now was is o = AsmEnds file store later out now o
-Ends (Some (dis file)) store later out now was is o = DisEnds file store later out now o
-Ends None store later out now was is o = (o ≡ outcome.Usage) × (now ≡ out)
+-- by what the words ask for; where they ask for nothing, the outcome is Usage and nothing is put
+abbrev pub Ends : Option Command → Call → Outcome → Type 0
+Ends (Some (check calibration file)) call o = CheckEnds calibration file call.store call.out o
+Ends (Some (bound calibration)) call o = BoundEnds calibration call.store call.out o
+Ends (Some (limits calibration)) call o = LimitsEnd calibration call.store call.out o
+Ends (Some (run telling calibration campaign)) call o =
+    CampaignCommandEnds telling calibration campaign call o
+Ends (Some (record_run calibration campaign name)) call o = RecordCommandEnds calibration campaign name call o
+Ends (Some (sweep calibration campaign name step)) call o =
+    SweepCommandEnds calibration campaign name step call o
+Ends (Some (soak seed runs)) call o = SoakEnds seed runs call.out call.ticks o
+Ends (Some (answers file)) call o = AnswersEnd file call.store call.out o
+Ends (Some (asm file)) call o = AsmEnds file call.store call.out o
+Ends (Some (dis file)) call o = DisEnds file call.store call.out o
+Ends None call o = (o ≡ outcome.Usage) × Stays call.out
 
 -- the command makes no tick
 abbrev pub CountsNothing : Option Command → Type 0
@@ -159,42 +152,45 @@ TellsMissing None store o = Unit {0}
 
 -- ---- when the work is done ----
 
+-- no fault of writing is counted
+abbrev pub WritesWell : Change ShownSink → Type 0
+WritesWell out = ¬ Rose out.before.faults out.after.faults
+
 -- Where the words ask for something, each file is found and accepted, and no fault of writing is counted, the
 -- work is done, unless memory runs out.
-abbrev pub Completes : Option Command → ShownStore → ShownStore → ShownSink → ShownSink → Outcome → Type 0
-Completes (Some (check calibration file)) store later out now o =
-    FindsCalibration calibration store later → AcceptsCalibration calibration store →
-    Finds file store later → Accepts check_file file store → ¬ Rose out.faults now.faults → IsDoneOrMemory o
-Completes (Some (bound calibration)) store later out now o =
-    FindsCalibration calibration store later → AcceptsCalibration calibration store →
-    ¬ Rose out.faults now.faults → IsDoneOrMemory o
-Completes (Some (limits calibration)) store later out now o =
-    FindsCalibration calibration store later → AcceptsCalibration calibration store →
-    ¬ Rose out.faults now.faults → IsDoneOrMemory o
-Completes (Some (run telling calibration campaign)) store later out now o =
-    FindsCalibration calibration store later → AcceptsCalibration calibration store →
-    Finds campaign store later → Accepts campaign_file campaign store →
-    ((plans : List RunPlan) → ReadComes campaign_file campaign store (Ok plans)
-    → FindsRuns store later plans × AcceptsRuns store 1 0 plans) →
-    ¬ Rose out.faults now.faults → IsDoneOrMemory o
-Completes (Some (record_run calibration campaign name)) store later out now o =
-    FindsCalibration calibration store later → AcceptsCalibration calibration store →
-    Finds campaign store later → Accepts campaign_file campaign store →
-    ((plans : List RunPlan) → ReadComes campaign_file campaign store (Ok plans)
-    → AcceptsNamed store later (run_named name 1 plans)) →
-    ¬ Rose out.faults now.faults → IsDoneOrMemory o
-Completes (Some (sweep calibration campaign name step)) store later out now o =
-    FindsCalibration calibration store later → AcceptsCalibration calibration store →
-    Finds campaign store later → Accepts campaign_file campaign store →
-    ((plans : List RunPlan) → ReadComes campaign_file campaign store (Ok plans)
-    → AcceptsNamed store later (run_named name 1 plans) × AcceptsGrid step store (run_named name 1 plans)) →
-    ¬ Rose out.faults now.faults → IsDoneOrMemory o
-Completes (Some (soak seed runs)) store later out now o = ¬ Rose out.faults now.faults → IsDoneOrMemory o
-Completes (Some (answers file)) store later out now o =
-    Finds file store later → Accepts answers_file file store → ¬ Rose out.faults now.faults → IsDoneOrMemory o
-Completes (Some (asm file)) store later out now o =
-    Finds file store later → Accepts source_file file store → ¬ Rose out.faults now.faults → IsDoneOrMemory o
-Completes (Some (dis file)) store later out now o =
-    Finds file store later → Accepts (image_file 0) file store → ¬ Rose out.faults now.faults →
-    IsDoneOrMemory o
-Completes None store later out now o = Unit {0}
+abbrev pub Completes : Option Command → Change ShownStore → Change ShownSink → Outcome → Type 0
+Completes (Some (check calibration file)) store out o =
+    FindsCalibration calibration store → AcceptsCalibration calibration store.before →
+    Finds file store → Accepts check_file file store.before → WritesWell out → IsDoneOrMemory o
+Completes (Some (bound calibration)) store out o =
+    FindsCalibration calibration store → AcceptsCalibration calibration store.before →
+    WritesWell out → IsDoneOrMemory o
+Completes (Some (limits calibration)) store out o =
+    FindsCalibration calibration store → AcceptsCalibration calibration store.before →
+    WritesWell out → IsDoneOrMemory o
+Completes (Some (run telling calibration campaign)) store out o =
+    FindsCalibration calibration store → AcceptsCalibration calibration store.before →
+    Finds campaign store → Accepts campaign_file campaign store.before →
+    ((plans : List RunPlan) → ReadComes campaign_file campaign store.before (Ok plans)
+    → FindsRuns store plans × AcceptsRuns store.before 1 0 plans) →
+    WritesWell out → IsDoneOrMemory o
+Completes (Some (record_run calibration campaign name)) store out o =
+    FindsCalibration calibration store → AcceptsCalibration calibration store.before →
+    Finds campaign store → Accepts campaign_file campaign store.before →
+    ((plans : List RunPlan) → ReadComes campaign_file campaign store.before (Ok plans)
+    → AcceptsNamed store (run_named name 1 plans)) →
+    WritesWell out → IsDoneOrMemory o
+Completes (Some (sweep calibration campaign name step)) store out o =
+    FindsCalibration calibration store → AcceptsCalibration calibration store.before →
+    Finds campaign store → Accepts campaign_file campaign store.before →
+    ((plans : List RunPlan) → ReadComes campaign_file campaign store.before (Ok plans)
+    → AcceptsNamed store (run_named name 1 plans) × AcceptsGrid step store.before (run_named name 1 plans)) →
+    WritesWell out → IsDoneOrMemory o
+Completes (Some (soak seed runs)) store out o = WritesWell out → IsDoneOrMemory o
+Completes (Some (answers file)) store out o =
+    Finds file store → Accepts answers_file file store.before → WritesWell out → IsDoneOrMemory o
+Completes (Some (asm file)) store out o =
+    Finds file store → AcceptsSource file store.before → WritesWell out → IsDoneOrMemory o
+Completes (Some (dis file)) store out o =
+    Finds file store → Accepts (image_file 0) file store.before → WritesWell out → IsDoneOrMemory o
+Completes None store out o = Unit {0}

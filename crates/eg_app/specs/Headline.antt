@@ -9,6 +9,7 @@ use Rattle.eg_campaign.specs.Plays.{run_with}
 use Rattle.eg_campaign.specs.Texts.{record_text}
 use Rattle.eg_plan.specs.declared.run.RunPlan.{RunPlan}
 use Rattle.eg_campaign.specs.declared.play.RunInput.{RunInput}
+use Rattle.eg_outcome.specs.Changes.{Change}
 use Rattle.eg_outcome.specs.Reads.{ReadComes}
 use Rattle.eg_outcome.specs.Calibrations.{calibration_file}
 use Rattle.eg_outcome.specs.Images.{image_file}
@@ -44,14 +45,14 @@ AreInputs store n _ _ = ⊥
 -- Of the runs of a campaign: the files say what the runs are, the report or the table of these runs was
 -- written, each of them keeps the headline, and what `table` tells of the reactions of each is in time.
 pub record TellsRuns (telling : Telling) (calibration : Option (List ℕ)) (campaign : List ℕ)
-    (store : ShownStore) (out now : ShownSink) : Type 0 where
+    (store : ShownStore) (out : Change ShownSink) : Type 0 where
   pub cal : CalibrationParts
   pub plans : List RunPlan
   pub inputs : List RunInput
   pub uses : Uses calibration store cal
   pub campaign_says : ReadComes campaign_file campaign store (Ok plans)
   pub files_say : AreInputs store 1 plans inputs
-  pub written : Appends out now (runs_text telling cal inputs)
+  pub written : Appends out.before out.after (runs_text telling cal inputs)
   pub headline : All KeepsHeadline (map (run_with cal) inputs)
   pub in_time : All (TellsInTime cal) inputs
 
@@ -66,39 +67,39 @@ pub record IsNamedInput (campaign name : List ℕ) (store : ShownStore) (input :
 
 -- Of the run of that name: its record was written, and keeps the headline.
 pub record TellsRecord (calibration : Option (List ℕ)) (campaign name : List ℕ) (store : ShownStore)
-    (out now : ShownSink) : Type 0 where
+    (out : Change ShownSink) : Type 0 where
   pub cal : CalibrationParts
   pub input : RunInput
   pub uses : Uses calibration store cal
   pub files_say : IsNamedInput campaign name store input
-  pub written : Appends out now (record_text cal input)
+  pub written : Appends out.before out.after (record_text cal input)
   pub headline : KeepsHeadline (run_with cal input)
 
 -- Of the run of that name, without its resets, under a fault of each class at each `step`th tick: the table
 -- of these runs was written, each of them keeps the headline, and under each class but lapses the greatest
 -- reaction is at most the worst-case reaction.
 pub record TellsSweep (calibration : Option (List ℕ)) (campaign name : List ℕ) (step : ℕ)
-    (store : ShownStore) (out now : ShownSink) : Type 0 where
+    (store : ShownStore) (out : Change ShownSink) : Type 0 where
   pub cal : CalibrationParts
   pub input : RunInput
   pub uses : Uses calibration store cal
   pub files_say : IsNamedInput campaign name store input
-  pub written : Appends out now (swept_text cal step input)
+  pub written : Appends out.before out.after (swept_text cal step input)
   pub headline : All KeepsHeadline (map (run_with cal) (runs_over step input))
   pub in_time : IsBounded (reaction_of cal.times) (table_over cal step input)
 
 -- Of the `count` runs that are drawn from a seed: their summary was written, and each keeps the headline.
-pub record TellsSoak (seed count : ℕ) (out now : ShownSink) : Type 0 where
-  pub written : Appends out now (soak_text (soak_of (drawn_runs count seed)))
+pub record TellsSoak (seed count : ℕ) (out : Change ShownSink) : Type 0 where
+  pub written : Appends out.before out.after (soak_text (soak_of (drawn_runs count seed)))
   pub headline : All KeepsHeadline (drawn_runs count seed)
 
 -- What a command that plays runs has told where its outcome is Done; of any other command nothing is said.
-abbrev pub TellsHeadline : Option Command → ShownStore → ShownSink → ShownSink → Type 0
-TellsHeadline (Some (run telling calibration campaign)) store out now =
-    TellsRuns telling calibration campaign store out now
-TellsHeadline (Some (record_run calibration campaign name)) store out now =
-    TellsRecord calibration campaign name store out now
-TellsHeadline (Some (sweep calibration campaign name step)) store out now =
-    TellsSweep calibration campaign name step store out now
-TellsHeadline (Some (soak seed runs)) store out now = TellsSoak seed runs out now
-TellsHeadline _ store out now = Unit {0}
+abbrev pub TellsHeadline : Option Command → ShownStore → Change ShownSink → Type 0
+TellsHeadline (Some (run telling calibration campaign)) store out =
+    TellsRuns telling calibration campaign store out
+TellsHeadline (Some (record_run calibration campaign name)) store out =
+    TellsRecord calibration campaign name store out
+TellsHeadline (Some (sweep calibration campaign name step)) store out =
+    TellsSweep calibration campaign name step store out
+TellsHeadline (Some (soak seed runs)) store out = TellsSoak seed runs out
+TellsHeadline _ store out = Unit {0}

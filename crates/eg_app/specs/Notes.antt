@@ -13,6 +13,7 @@ use Rattle.eg_cal.specs.Keys.{text_of}
 use Rattle.eg_plan.specs.declared.key.CampaignFault.{CampaignFault}
 use Rattle.eg_plan.specs.declared.key.CampaignFault.TheVariants as campaign_fault
 use Rattle.eg_plan.specs.Keys.{text_of as run_key_text}
+use Rattle.eg_outcome.specs.Changes.{Change}
 use Rattle.eg_outcome.specs.declared.outcome.Outcome.{Outcome}
 use Rattle.eg_outcome.specs.declared.outcome.Outcome.TheVariants as outcome
 use Rattle.eg_outcome.specs.declared.outcome.Refusal.{Refusal}
@@ -185,11 +186,12 @@ note_of outcome.Memory file = codes "no memory\n"
 
 -- the line or a prefix of it was put, and the whole line where the output is sure and counts no fault in the
 -- call
-pub record PutsNote (notes now : ShownSink) (line : List ℕ) : Type 0 where
-  pub prefix : AppendsPrefix notes now line
-  pub whole : IsTrue notes.sure → ¬ Rose notes.faults now.faults → Appends notes now line
+pub record PutsNote (notes : Change ShownSink) (line : List ℕ) : Type 0 where
+  pub prefix : AppendsPrefix notes.before notes.after line
+  pub whole : IsTrue notes.before.sure → ¬ Rose notes.before.faults notes.after.faults →
+      Appends notes.before notes.after line
 
 -- the line of an outcome was put so, with the name of the file that it speaks of
-abbrev pub NotesOutcome : Option Command → ShownStore → ShownSink → ShownSink → Outcome → Type 0
-NotesOutcome command store notes now o =
-    (name : List ℕ) × IsFileName command store o name × PutsNote notes now (note_of o name)
+abbrev pub NotesOutcome : Option Command → ShownStore → Change ShownSink → Outcome → Type 0
+NotesOutcome command store notes o =
+    (name : List ℕ) × IsFileName command store o name × PutsNote notes (note_of o name)

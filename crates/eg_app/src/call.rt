@@ -5,8 +5,10 @@ ghost use Rattle.eg_app.specs.Ends.{Ends, ReadsNothing, CountsNothing, TellsMiss
 ghost use Rattle.eg_app.specs.Headline.{TellsHeadline};
 ghost use Rattle.eg_app.specs.Notes.{NotesOutcome, Names, IsFileName};
 ghost use Rattle.eg_base.specs.Outside.{ShownStore};
+ghost use Rattle.eg_outcome.specs.Changes.{change, change_of};
 ghost use Rattle.eg_outcome.specs.Outcomes.{EndsOrderly, TellsNoMemory, PutsNothing};
 ghost use Rattle.eg_outcome.specs.declared.outcome.Outcome.TheVariants.{Done};
+ghost use Rattle.eg_play.specs.Ends.{call};
 
 use crate::check::check;
 use crate::command::Command;
@@ -37,14 +39,14 @@ pub fn egasim<S: Store, K: Sink, N: Sink>(
     // table that was written is that of the runs that the files say, whatever they hold, and each of these
     // runs keeps the headline; so does each run that is drawn.
     ensures headline { result ≡ Done → TellsHeadline (command_of (word_bytes words.now)) (S.shows store.old)
-        (K.shows out.old) (K.shows out.new) }
+        (change_of K.shows out.old out.new) }
 
     // How it ends, what was written then and which ticks were made, and when each outcome comes.
-    ensures ends { Ends (command_of (word_bytes words.now)) (S.shows store.old) (S.shows store.new)
-        (K.shows out.old) (K.shows out.new) steps.old steps.new result }
+    ensures ends { Ends (command_of (word_bytes words.now)) (call (change_of S.shows store.old store.new)
+        (change_of K.shows out.old out.new) (change steps.old steps.new)) result }
     ensures missing { TellsMissing (command_of (word_bytes words.now)) (S.shows store.old) result }
-    ensures completes { Completes (command_of (word_bytes words.now)) (S.shows store.old) (S.shows store.new)
-        (K.shows out.old) (K.shows out.new) result }
+    ensures completes { Completes (command_of (word_bytes words.now)) (change_of S.shows store.old store.new)
+        (change_of K.shows out.old out.new) result }
     ensures no_memory { TellsNoMemory result }
 
     // What stays as it was.
@@ -56,7 +58,7 @@ pub fn egasim<S: Store, K: Sink, N: Sink>(
 
     // The note of the outcome is put, and none after Done.
     ensures note { NotesOutcome (command_of (word_bytes words.now)) (S.shows store.old)
-        (N.shows notes.old) (N.shows notes.new) result }
+        (change_of N.shows notes.old notes.new) result }
     ensures no_note { result ≡ Done → notes.new ≡ notes.old }
 {
     let Some(command) = Command::of(words) else {
@@ -89,17 +91,17 @@ fn run<S: Store, K: Sink>(
     steps: &mut Ticks,
 ) -> End
     requires limits { KeepsLimits (said command) }
-    ensures ends { Ends (Some (said command.entry)) (S.shows store.old) (S.shows store.new)
-        (K.shows out.old) (K.shows out.new) steps.old steps.new result.outcome }
+    ensures ends { Ends (Some (said command.entry)) (call (change_of S.shows store.old store.new)
+        (change_of K.shows out.old out.new) (change steps.old steps.new)) result.outcome }
     ensures headline { result.outcome ≡ Done → TellsHeadline (Some (said command.entry)) (S.shows store.old)
-        (K.shows out.old) (K.shows out.new) }
+        (change_of K.shows out.old out.new) }
     ensures names { Names (said command.entry) (S.shows store.old) result.outcome result.file }
     ensures missing { TellsMissing (Some (said command.entry)) (S.shows store.old) result.outcome }
-    ensures completes { Completes (Some (said command.entry)) (S.shows store.old) (S.shows store.new)
-        (K.shows out.old) (K.shows out.new) result.outcome }
+    ensures completes { Completes (Some (said command.entry)) (change_of S.shows store.old store.new)
+        (change_of K.shows out.old out.new) result.outcome }
     ensures nothing_read { ReadsNothing (Some (said command.entry)) → store.new ≡ store.old }
-    ensures orderly { EndsOrderly (S.shows store.old) (S.shows store.new) out.old out.new
-        steps.old steps.new result.outcome }
+    ensures orderly { EndsOrderly (change_of S.shows store.old store.new) (change out.old out.new)
+        (change steps.old steps.new) result.outcome }
     ensures counts_nothing { CountsNothing (Some (said command.entry)) → steps.new ≡ steps.old }
 {
     work(alloc, command, store, out, steps)
@@ -115,13 +117,13 @@ fn work<S: Store, K: Sink>(
     steps: &mut Ticks,
 ) -> End
     requires limits { KeepsLimits (said command) }
-    ensures ends { Ends (Some (said command.entry)) (S.shows store.old) (S.shows store.new)
-        (K.shows out.old) (K.shows out.new) steps.old steps.new result.outcome }
+    ensures ends { Ends (Some (said command.entry)) (call (change_of S.shows store.old store.new)
+        (change_of K.shows out.old out.new) (change steps.old steps.new)) result.outcome }
     ensures names { Names (said command.entry) (S.shows store.old) result.outcome result.file }
     ensures missing { TellsMissing (Some (said command.entry)) (S.shows store.old) result.outcome }
     ensures nothing_read { ReadsNothing (Some (said command.entry)) → store.new ≡ store.old }
-    ensures orderly { EndsOrderly (S.shows store.old) (S.shows store.new) out.old out.new
-        steps.old steps.new result.outcome }
+    ensures orderly { EndsOrderly (change_of S.shows store.old store.new) (change out.old out.new)
+        (change steps.old steps.new) result.outcome }
     ensures counts_nothing { CountsNothing (Some (said command.entry)) → steps.new ≡ steps.old }
 {
     match command {

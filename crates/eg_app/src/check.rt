@@ -5,6 +5,7 @@ ghost use Rattle.eg_base.specs.Outside.{IsMissing};
 ghost use Rattle.eg_app.specs.Words.{check};
 ghost use Rattle.eg_app.specs.Check.{check_file, check_or_refusal, check_line};
 ghost use Rattle.eg_app.specs.Ends.{RowsEnd, CheckWorks, CheckEnds, TellsMissing};
+ghost use Rattle.eg_outcome.specs.Changes.{change_of};
 ghost use Rattle.eg_outcome.specs.Reads.{KeepsFiles, ReadsFile, Says};
 ghost use Rattle.eg_outcome.specs.Outcomes.{LineEnds, TellsNoMemory, PutsNothing};
 ghost use Rattle.eg_outcome.specs.declared.outcome.Outcome.TheVariants.{ReadFault};
@@ -28,7 +29,7 @@ pub(crate) fn check<S: Store, K: Sink>(
     out: &mut K,
 ) -> Outcome
     ensures ends { CheckEnds (option_copied calibration.entry) file.now
-        (S.shows store.old) (S.shows store.new) (K.shows out.old) (K.shows out.new) result }
+        (change_of S.shows store.old store.new) (change_of K.shows out.old out.new) result }
     ensures missing { TellsMissing (Some (check (option_copied calibration.entry) file.now))
         (S.shows store.old) result }
     ensures no_memory { TellsNoMemory result }
@@ -49,8 +50,8 @@ fn check_by<S: Store, K: Sink>(
     store: &mut S,
     out: &mut K,
 ) -> Outcome
-    ensures works { CheckWorks rules.now file.now (S.shows store.old) (S.shows store.new)
-        (K.shows out.old) (K.shows out.new) result }
+    ensures works { CheckWorks rules.now file.now (change_of S.shows store.old store.new)
+        (change_of K.shows out.old out.new) result }
     ensures missing { IsTrue (S.shows store.old).sure →
         ((result ≡ ReadFault role.Check) ↔ IsMissing (S.shows store.old).files file.now) }
     ensures no_memory { TellsNoMemory result }
@@ -69,8 +70,8 @@ fn read_rows<S: Store>(
     file: &str,
     store: &mut S,
 ) -> Result<Items<(Drive, u16)>, Outcome>
-    ensures reads { ReadsFile role.Check check_file file.now (S.shows store.old) (S.shows store.new) result }
-    ensures keeps { KeepsFiles (S.shows store.old) (S.shows store.new) result }
+    ensures reads { ReadsFile role.Check check_file file.now (change_of S.shows store.old store.new) result }
+    ensures keeps { KeepsFiles (change_of S.shows store.old store.new) result }
 {
     match file_bytes(alloc, Role::Check, file, store) {
         Ok(bytes) => rows_in(alloc, bytes.as_slice()),
@@ -91,7 +92,7 @@ fn rows_in(alloc: Global, bytes: &[u8]) -> Result<Items<(Drive, u16)>, Outcome>
 
 /// Finds the first tick by which the excess of these rows is confirmed, and writes its line.
 fn check_rows<K: Sink>(alloc: Global, rules: &Rules, rows: &[(Drive, u16)], out: &mut K) -> Outcome
-    ensures ends { RowsEnd rules.now rows.now (K.shows out.old) (K.shows out.new) result }
+    ensures ends { RowsEnd rules.now rows.now (change_of K.shows out.old out.new) result }
     ensures put { PutsNothing result → ⊥ }
 {
     let first = first_confirmed(rules, rows);
@@ -100,7 +101,7 @@ fn check_rows<K: Sink>(alloc: Global, rules: &Rules, rows: &[(Drive, u16)], out:
 
 /// Writes the line that tells the first tick by which the excess is confirmed.
 fn put_first<K: Sink>(alloc: Global, first: Option<usize>, out: &mut K) -> Outcome
-    ensures ends { LineEnds (check_line first) (K.shows out.old) (K.shows out.new) result }
+    ensures ends { LineEnds (check_line first) (change_of K.shows out.old out.new) result }
     ensures put { PutsNothing result → ⊥ }
 {
     let Ok(line) = line_of(alloc, first) else {

@@ -2,6 +2,7 @@
 ghost use Rattle.std.specs.Prelude.{◌≡◌, ◌++◌, List, map, codes, decimal};
 ghost use Rattle.std.specs.List.{concat};
 ghost use Rattle.eg_app.specs.Notes.{PutsNote, note_of, refusal_note, calibration_note, trace_note, image_note, source_note, campaign_note};
+ghost use Rattle.eg_outcome.specs.Changes.{change_of};
 ghost use Rattle.eg_outcome.specs.declared.outcome.Outcome.TheVariants.{Done};
 
 use eg_asm::AsmFault;
@@ -15,7 +16,7 @@ use itoa::Buffer;
 /// Puts the line that notes this outcome, for a file of this name (docs/FORMATS.md, "Notes"). It is put in
 /// pieces, up to the first that is refused, and takes no memory.
 pub(crate) fn note<N: Sink>(outcome: &Outcome, file: &str, notes: &mut N)
-    ensures note { PutsNote (N.shows notes.old) (N.shows notes.new) (note_of outcome.now file.now) }
+    ensures note { PutsNote (change_of N.shows notes.old notes.new) (note_of outcome.now file.now) }
     ensures done { outcome.now ≡ Done → notes.new ≡ notes.old }
 {
     let file = file.as_bytes();
@@ -30,7 +31,7 @@ pub(crate) fn note<N: Sink>(outcome: &Outcome, file: &str, notes: &mut N)
 }
 
 fn note_refusal<N: Sink>(refusal: &Refusal, file: &[u8], notes: &mut N)
-    ensures { PutsNote (N.shows notes.old) (N.shows notes.new) (refusal_note refusal.now file.now) }
+    ensures { PutsNote (change_of N.shows notes.old notes.new) (refusal_note refusal.now file.now) }
 {
     match refusal {
         Refusal::Size { .. } => note_that(file, b": longer than 4194304 bytes\n", notes),
@@ -46,7 +47,7 @@ fn note_refusal<N: Sink>(refusal: &Refusal, file: &[u8], notes: &mut N)
 }
 
 fn note_calibration<N: Sink>(fault: &CalFault, file: &[u8], notes: &mut N)
-    ensures { PutsNote (N.shows notes.old) (N.shows notes.new) (file.now ++ calibration_note fault.now) }
+    ensures { PutsNote (change_of N.shows notes.old notes.new) (file.now ++ calibration_note fault.now) }
 {
     match fault {
         CalFault::Memory => note_that(file, b": no memory\n", notes),
@@ -72,7 +73,7 @@ fn note_calibration<N: Sink>(fault: &CalFault, file: &[u8], notes: &mut N)
 }
 
 fn note_trace<N: Sink>(fault: &TraceFault, file: &[u8], notes: &mut N)
-    ensures { PutsNote (N.shows notes.old) (N.shows notes.new) (file.now ++ trace_note fault.now) }
+    ensures { PutsNote (change_of N.shows notes.old notes.new) (file.now ++ trace_note fault.now) }
 {
     match fault {
         TraceFault::Memory => note_that(file, b": no memory\n", notes),
@@ -84,7 +85,7 @@ fn note_trace<N: Sink>(fault: &TraceFault, file: &[u8], notes: &mut N)
 }
 
 fn note_image<N: Sink>(fault: &ImageFault, file: &[u8], notes: &mut N)
-    ensures { PutsNote (N.shows notes.old) (N.shows notes.new) (file.now ++ image_note fault.now) }
+    ensures { PutsNote (change_of N.shows notes.old notes.new) (file.now ++ image_note fault.now) }
 {
     match fault {
         ImageFault::Memory => note_that(file, b": no memory\n", notes),
@@ -94,7 +95,7 @@ fn note_image<N: Sink>(fault: &ImageFault, file: &[u8], notes: &mut N)
 }
 
 fn note_source<N: Sink>(fault: &AsmFault, file: &[u8], notes: &mut N)
-    ensures { PutsNote (N.shows notes.old) (N.shows notes.new) (file.now ++ source_note fault.now) }
+    ensures { PutsNote (change_of N.shows notes.old notes.new) (file.now ++ source_note fault.now) }
 {
     match fault {
         AsmFault::Memory => note_that(file, b": no memory\n", notes),
@@ -105,7 +106,7 @@ fn note_source<N: Sink>(fault: &AsmFault, file: &[u8], notes: &mut N)
 }
 
 fn note_campaign<N: Sink>(fault: &CampaignFault, file: &[u8], notes: &mut N)
-    ensures { PutsNote (N.shows notes.old) (N.shows notes.new) (file.now ++ campaign_note fault.now) }
+    ensures { PutsNote (change_of N.shows notes.old notes.new) (file.now ++ campaign_note fault.now) }
 {
     match fault {
         CampaignFault::Memory => note_that(file, b": no memory\n", notes),
@@ -120,7 +121,7 @@ fn note_campaign<N: Sink>(fault: &CampaignFault, file: &[u8], notes: &mut N)
 
 /// Puts the line that tells a key of a run of the campaign.
 fn note_key<N: Sink>(file: &[u8], run: u32, key: &[u8], notes: &mut N)
-    ensures { PutsNote (N.shows notes.old) (N.shows notes.new)
+    ensures { PutsNote (change_of N.shows notes.old notes.new)
         (file.now ++ (codes ": run " ++ decimal run ++ codes " key " ++ key.now ++ codes "\n")) }
 {
     let mut buffer = Buffer::new();
@@ -130,7 +131,7 @@ fn note_key<N: Sink>(file: &[u8], run: u32, key: &[u8], notes: &mut N)
 
 /// Puts the line that says this of a run of the campaign.
 fn note_run<N: Sink>(file: &[u8], run: u32, says: &[u8], notes: &mut N)
-    ensures { PutsNote (N.shows notes.old) (N.shows notes.new)
+    ensures { PutsNote (change_of N.shows notes.old notes.new)
         (file.now ++ (codes ": run " ++ decimal run ++ says.now)) }
 {
     note_number(file, b": run ", run, says, notes);
@@ -138,7 +139,7 @@ fn note_run<N: Sink>(file: &[u8], run: u32, says: &[u8], notes: &mut N)
 
 /// Puts the line that tells a number of the file, between these texts.
 fn note_number<N: Sink>(file: &[u8], before: &[u8], number: u32, behind: &[u8], notes: &mut N)
-    ensures { PutsNote (N.shows notes.old) (N.shows notes.new)
+    ensures { PutsNote (change_of N.shows notes.old notes.new)
         (file.now ++ (before.now ++ decimal number ++ behind.now)) }
 {
     let mut buffer = Buffer::new();
@@ -153,7 +154,7 @@ fn note_number<N: Sink>(file: &[u8], before: &[u8], number: u32, behind: &[u8], 
 
 /// Puts the line that tells a text of the file, between these texts.
 fn note_text<N: Sink>(file: &[u8], before: &[u8], text: &[u8], behind: &[u8], notes: &mut N)
-    ensures { PutsNote (N.shows notes.old) (N.shows notes.new)
+    ensures { PutsNote (change_of N.shows notes.old notes.new)
         (file.now ++ (before.now ++ text.now ++ behind.now)) }
 {
     put_pieces(notes, &[file, before, text, behind]);
@@ -161,14 +162,14 @@ fn note_text<N: Sink>(file: &[u8], before: &[u8], text: &[u8], behind: &[u8], no
 
 /// Puts the line that says this of the file.
 fn note_that<N: Sink>(file: &[u8], says: &[u8], notes: &mut N)
-    ensures { PutsNote (N.shows notes.old) (N.shows notes.new) (file.now ++ says.now) }
+    ensures { PutsNote (change_of N.shows notes.old notes.new) (file.now ++ says.now) }
 {
     put_pieces(notes, &[file, says]);
 }
 
 /// Puts these pieces, up to the first that is refused.
 fn put_pieces<N: Sink>(notes: &mut N, pieces: &[&[u8]])
-    ensures { PutsNote (N.shows notes.old) (N.shows notes.new)
+    ensures { PutsNote (change_of N.shows notes.old notes.new)
         (concat (map (λ piece. piece.now) pieces.now)) }
 {
     for piece in pieces {

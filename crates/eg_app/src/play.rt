@@ -2,8 +2,9 @@
 // told.
 ghost use Rattle.std.specs.Prelude.{◌≤◌, Some};
 ghost use Rattle.std.specs.Option.{option_copied};
+ghost use Rattle.eg_outcome.specs.Changes.{change, change_of};
 ghost use Rattle.eg_outcome.specs.Outcomes.{EndsOrderly};
-ghost use Rattle.eg_play.specs.Ends.{CampaignCommandEnds, RecordCommandEnds, SweepCommandEnds, NamesFile, role_in};
+ghost use Rattle.eg_play.specs.Ends.{call, CampaignCommandEnds, RecordCommandEnds, SweepCommandEnds, NamesFile, role_in};
 ghost use Rattle.eg_app.specs.Words.{run, record_run, sweep};
 ghost use Rattle.eg_app.specs.Ends.{TellsMissing};
 
@@ -24,13 +25,13 @@ pub(crate) fn play_campaign<S: Store, K: Sink>(
     steps: &mut Ticks,
 ) -> End
     ensures ends { CampaignCommandEnds telling (option_copied calibration.entry) campaign.now
-        (S.shows store.old) (S.shows store.new) (K.shows out.old) (K.shows out.new) steps.old steps.new
-        result.outcome }
+        (call (change_of S.shows store.old store.new)
+        (change_of K.shows out.old out.new) (change steps.old steps.new)) result.outcome }
     ensures named { NamesFile campaign.now (S.shows store.old) (role_in result.outcome) result.file }
     ensures missing { TellsMissing (Some (run telling (option_copied calibration.entry) campaign.now))
         (S.shows store.old) result.outcome }
-    ensures orderly { EndsOrderly (S.shows store.old) (S.shows store.new) out.old out.new
-        steps.old steps.new result.outcome }
+    ensures orderly { EndsOrderly (change_of S.shows store.old store.new) (change out.old out.new)
+        (change steps.old steps.new) result.outcome }
 {
     run(alloc, telling, calibration, campaign, store, out, steps)
 }
@@ -46,13 +47,13 @@ pub(crate) fn play_run<S: Store, K: Sink>(
     steps: &mut Ticks,
 ) -> End
     ensures ends { RecordCommandEnds (option_copied calibration.entry) campaign.now name.now
-        (S.shows store.old) (S.shows store.new) (K.shows out.old) (K.shows out.new) steps.old steps.new
-        result.outcome }
+        (call (change_of S.shows store.old store.new)
+        (change_of K.shows out.old out.new) (change steps.old steps.new)) result.outcome }
     ensures named { NamesFile campaign.now (S.shows store.old) (role_in result.outcome) result.file }
     ensures missing { TellsMissing (Some (record_run (option_copied calibration.entry) campaign.now name.now))
         (S.shows store.old) result.outcome }
-    ensures orderly { EndsOrderly (S.shows store.old) (S.shows store.new) out.old out.new
-        steps.old steps.new result.outcome }
+    ensures orderly { EndsOrderly (change_of S.shows store.old store.new) (change out.old out.new)
+        (change steps.old steps.new) result.outcome }
 {
     record(alloc, calibration, campaign, name, store, out, steps)
 }
@@ -71,13 +72,13 @@ pub(crate) fn play_sweep<S: Store, K: Sink>(
     requires least { 1 ≤ step }
     requires most { step ≤ 20000 }
     ensures ends { SweepCommandEnds (option_copied calibration.entry) campaign.now name.now step
-        (S.shows store.old) (S.shows store.new) (K.shows out.old) (K.shows out.new) steps.old steps.new
-        result.outcome }
+        (call (change_of S.shows store.old store.new)
+        (change_of K.shows out.old out.new) (change steps.old steps.new)) result.outcome }
     ensures named { NamesFile campaign.now (S.shows store.old) (role_in result.outcome) result.file }
     ensures missing { TellsMissing (Some (sweep (option_copied calibration.entry) campaign.now name.now step))
         (S.shows store.old) result.outcome }
-    ensures orderly { EndsOrderly (S.shows store.old) (S.shows store.new) out.old out.new
-        steps.old steps.new result.outcome }
+    ensures orderly { EndsOrderly (change_of S.shows store.old store.new) (change out.old out.new)
+        (change steps.old steps.new) result.outcome }
 {
     sweep(alloc, calibration, campaign, name, step, store, out, steps)
 }

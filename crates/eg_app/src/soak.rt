@@ -1,5 +1,6 @@
 // `soak SEED RUNS`: the summary of runs that are drawn from a number.
 ghost use Rattle.std.specs.Prelude.{◌≤◌};
+ghost use Rattle.eg_outcome.specs.Changes.{change, change_of};
 ghost use Rattle.eg_outcome.specs.Outcomes.{PutsNothing};
 ghost use Rattle.eg_app.specs.Ends.{SoakEnds};
 
@@ -21,7 +22,8 @@ pub(crate) fn play_drawn<K: Sink>(
 ) -> Outcome
     requires least { 1 ≤ runs }
     requires most { runs ≤ 500 }
-    ensures ends { SoakEnds seed runs (K.shows out.old) (K.shows out.new) steps.old steps.new result }
+    ensures ends { SoakEnds seed runs (change_of K.shows out.old out.new)
+        (change steps.old steps.new) result }
     ensures put { PutsNothing result → ⊥ }
 {
     // Called for its clause alone: the reference calibration is an accepted one.

@@ -1,6 +1,5 @@
--- A source gives the words of its lines, or is refused for the first line that isn't of the grammar or has no
--- room, or else for a label. It is read line by line, which undoes what the grammar writes. That it does so
--- is a law (`sources_have_one_answer`); Sources.antt says what a source is.
+-- Outside the headline. A source is read line by line, which undoes what the grammar writes: that it does so
+-- is a law (`sources_have_one_answer`). Sources.antt says what a source is.
 use Rattle.std.specs.Prelude.{◌≡◌, ◌⊎◌, ℕ, ◌+◌, ◌-◌, ◌==◌, ℤ, pos, negsuc, if◌then◌else◌, nat_lt, nat_le, Bool, ◌&&◌, ◌||◌, List, [], ◌∷◌, length, drop, take, slice_index, codes, Option, Some, None, option_map, option_and_then, Result, Ok, Err}
 use Rattle.std.specs.Char.{is_ascii_digit}
 use Rattle.std.specs.Int.{is_in_range}

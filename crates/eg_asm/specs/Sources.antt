@@ -1,4 +1,5 @@
--- Outside the headline. What a source is: by its bytes alone, which words it gives, and which refusal.
+-- A source is lines of the grammar, of at most 1,024 instructions, and gives their words; or it is refused
+-- for the first line that may not come, or else for a label.
 use Rattle.std.specs.Prelude.{◌≡◌, ◌≢◌, ℕ, ◌+◌, ◌<◌, ◌≤◌, List, [], ◌++◌, length, Some, None, Result, Ok, Err}
 use Rattle.eg_input.specs.declared.image.TheConstants.{MOST_WORDS}
 use Rattle.eg_asm.specs.declared.fault.AsmFault.{AsmFault}

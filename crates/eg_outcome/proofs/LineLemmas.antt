@@ -8,6 +8,7 @@ use Rattle.std.specs.Prelude.{◌==◌}
 use Rattle.std.proofs.lemmas.List.{nil_from_length}
 use Rattle.std.proofs.lemmas.Bool.{eqb-true}
 use Rattle.eg_base.specs.Outside.{ShownSink, Rose, Appends}
+use Rattle.eg_outcome.specs.Changes.{change}
 use Rattle.eg_outcome.specs.Outcomes.{LineEnds}
 use Rattle.eg_outcome.specs.declared.outcome.Outcome.{Outcome}
 use Rattle.eg_outcome.specs.declared.outcome.Outcome.TheVariants as outcome
@@ -37,7 +38,7 @@ concat-at f xs i x below is = concat-cut f xs i x below
 
 -- a line is refused after whole ones: a prefix of all lines was put
 pub LineEnds-within : (before mid now : ShownSink) (whole line rest : List ℕ) (o : Outcome) → (o ≡ outcome.Done → ⊥) →
-    Appends before mid whole → mid.faults ≡ before.faults → LineEnds line mid now o → LineEnds ((whole ++ line) ++ rest) before now o
+    Appends before mid whole → mid.faults ≡ before.faults → LineEnds line (change mid now) o → LineEnds ((whole ++ line) ++ rest) (change before now) o
 LineEnds-within before mid now whole line rest outcome.Done refused put same ends = absurd (refused refl)
 LineEnds-within before mid now whole line rest outcome.WriteFault refused put same ends =
     (AppendsPrefix-append before mid now whole line rest put ends.0, subst (λ n. Rose n now.faults) same ends.1)
@@ -55,7 +56,7 @@ pub record HasPut {X : Type 0} (text : X → List ℕ) (lines : List X) (count :
 -- the next one is put too,
 pub HasPut-more : {X : Type 0} (text : X → List ℕ) (lines : List X) (i : ℕ) (line : X) (before mid now : ShownSink) →
     i < length lines → line ≡ get_or lines i line → HasPut text lines i before mid →
-    LineEnds (text line) mid now outcome.Done → HasPut text lines (i + 1) before now
+    LineEnds (text line) (change mid now) outcome.Done → HasPut text lines (i + 1) before now
 HasPut-more text lines i line before mid now below is so_far ends = record {
   put = rw (concat-front text lines i line below is)
       (Appends-append before mid now (concat (map text (take i lines))) (text line) so_far.put ends.0);
@@ -65,9 +66,9 @@ HasPut-more text lines i line before mid now below is so_far ends = record {
 -- or it is refused: a prefix of all lines was put
 pub HasPut-refused : {X : Type 0} (text : X → List ℕ) (lines : List X) (i : ℕ) (line : X) (before mid now : ShownSink) (o : Outcome) →
     i < length lines → line ≡ get_or lines i line → HasPut text lines i before mid →
-    (o ≡ outcome.Done → ⊥) → LineEnds (text line) mid now o → LineEnds (concat (map text lines)) before now o
+    (o ≡ outcome.Done → ⊥) → LineEnds (text line) (change mid now) o → LineEnds (concat (map text lines)) (change before now) o
 HasPut-refused text lines i line before mid now o below is so_far refused ends =
-    subst (λ all. LineEnds all before now o) (sym (concat-at text lines i line below is))
+    subst (λ all. LineEnds all (change before now) o) (sym (concat-at text lines i line below is))
     (LineEnds-within before mid now (concat (map text (take i lines))) (text line) (concat (map text (drop (suc i) lines))) o
     refused so_far.put so_far.faults ends)
 
@@ -86,7 +87,7 @@ HasPutFront-nothing text rest shown is = record { front = []; parts = sym is; pu
 
 -- the next line is put too,
 pub HasPutFront-more : (text rest line after : List ℕ) (before mid now : ShownSink) → HasPutFront text rest before mid →
-    rest ≡ line ++ after → LineEnds line mid now outcome.Done → HasPutFront text after before now
+    rest ≡ line ++ after → LineEnds line (change mid now) outcome.Done → HasPutFront text after before now
 HasPutFront-more text rest line after before mid now so_far is ends = record {
   front = so_far.front ++ line;
   parts = so_far.parts ∙ ap (λ l. so_far.front ++ l) is ∙ sym (append_assoc so_far.front line after);
@@ -96,14 +97,14 @@ HasPutFront-more text rest line after before mid now so_far is ends = record {
 
 -- or it is refused,
 pub HasPutFront-refused : (text rest line after : List ℕ) (before mid now : ShownSink) (o : Outcome) → HasPutFront text rest before mid →
-    rest ≡ line ++ after → (o ≡ outcome.Done → ⊥) → LineEnds line mid now o → LineEnds text before now o
+    rest ≡ line ++ after → (o ≡ outcome.Done → ⊥) → LineEnds line (change mid now) o → LineEnds text (change before now) o
 HasPutFront-refused text rest line after before mid now o so_far is refused ends =
-    subst (λ all. LineEnds all before now o) (sym (so_far.parts ∙ ap (λ l. so_far.front ++ l) is ∙ sym (append_assoc so_far.front line after)))
+    subst (λ all. LineEnds all (change before now) o) (sym (so_far.parts ∙ ap (λ l. so_far.front ++ l) is ∙ sym (append_assoc so_far.front line after)))
     (LineEnds-within before mid now so_far.front line after o refused so_far.put so_far.faults ends)
 
 -- or none is left
 pub HasPutFront-whole : (text rest : List ℕ) (before now : ShownSink) → HasPutFront text rest before now → rest ≡ [] →
-    LineEnds text before now outcome.Done
+    LineEnds text (change before now) outcome.Done
 HasPutFront-whole text rest before now so_far none =
     (subst (Appends before now) (sym (so_far.parts ∙ ap (λ l. so_far.front ++ l) none ∙ append-nil so_far.front)) so_far.put, so_far.faults)
 

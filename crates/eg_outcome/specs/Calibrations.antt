@@ -7,9 +7,12 @@ use Rattle.eg_values.specs.Calibration.{CalibrationParts}
 use Rattle.eg_values.specs.Reference.{reference_parts}
 use Rattle.eg_cal.specs.Calibration.{calibration_of}
 use Rattle.eg_cal.specs.declared.key.CalFault.{CalFault}
+use Rattle.eg_cal.specs.declared.key.CalFault.TheVariants as cal_fault
+use Rattle.eg_outcome.specs.Changes.{Change}
 use Rattle.eg_outcome.specs.Outcomes.{WorkFollows}
 use Rattle.eg_outcome.specs.Reads.{refused, sized, FileComes, Finds, Accepts}
 use Rattle.eg_outcome.specs.declared.outcome.Outcome.{Outcome}
+use Rattle.eg_outcome.specs.declared.outcome.Outcome.TheVariants as outcome
 use Rattle.eg_outcome.specs.declared.outcome.Refusal.{Refusal}
 use Rattle.eg_outcome.specs.declared.outcome.Refusal.TheVariants as refusal
 use Rattle.eg_outcome.specs.declared.outcome.Role.TheVariants as role
@@ -22,23 +25,27 @@ calibration_said bytes = calibration_of (document_of bytes)
 abbrev pub calibration_or_refusal : List ℕ → Result CalibrationParts Refusal
 calibration_or_refusal bytes = refused refusal.Calibration (calibration_said bytes)
 
+-- how a call ends with a fault of a calibration file: running out of memory is no refusal
+abbrev pub calibration_end : CalFault → Outcome
+calibration_end cal_fault.Memory = outcome.Memory
+calibration_end fault = outcome.Refused (refusal.Calibration fault)
+
 -- the calibration of a file, or its first refusal
 abbrev pub calibration_file : List ℕ → Result CalibrationParts Refusal
 calibration_file = sized role.Calibration calibration_or_refusal
 
 -- What comes of the calibration that a command uses: its parts, or how the call ends without one. Where no
 -- file is named it is the reference calibration.
-abbrev pub CalibrationComes : Option (List ℕ) → ShownStore → ShownStore → Result CalibrationParts Outcome
-    → Type 0
-CalibrationComes (Some name) store later come =
-    FileComes role.Calibration calibration_file name store later come
-CalibrationComes None store later come = come ≡ Ok reference_parts
+abbrev pub CalibrationComes :
+    Option (List ℕ) → Change ShownStore → Result CalibrationParts Outcome → Type 0
+CalibrationComes (Some name) store come = FileComes role.Calibration calibration_file name store come
+CalibrationComes None store come = come ≡ Ok reference_parts
 
 -- something comes of the calibration, and the work follows
-abbrev pub CalibratedEnds : Option (List ℕ) → ShownStore → ShownStore → (nothing : Type 0)
+abbrev pub CalibratedEnds : Option (List ℕ) → Change ShownStore → (nothing : Type 0)
     → (CalibrationParts → Outcome → Type 0) → Outcome → Type 0
-CalibratedEnds calibration store later nothing work o = (come : Result CalibrationParts Outcome)
-    × CalibrationComes calibration store later come × WorkFollows work nothing come o
+CalibratedEnds calibration store nothing work o = (come : Result CalibrationParts Outcome)
+    × CalibrationComes calibration store come × WorkFollows work nothing come o
 
 -- ---- when it is there, and when it is accepted ----
 
@@ -48,9 +55,9 @@ MissesCalibration (Some name) store = IsMissing store.files name
 MissesCalibration None store = ⊥
 
 -- the file behind `--cal` is found
-abbrev pub FindsCalibration : Option (List ℕ) → ShownStore → ShownStore → Type 0
-FindsCalibration (Some name) store later = Finds name store later
-FindsCalibration None store later = Unit {0}
+abbrev pub FindsCalibration : Option (List ℕ) → Change ShownStore → Type 0
+FindsCalibration (Some name) store = Finds name store
+FindsCalibration None store = Unit {0}
 
 -- whatever a read of the file behind `--cal` may give is accepted
 abbrev pub AcceptsCalibration : Option (List ℕ) → ShownStore → Type 0

@@ -3,6 +3,7 @@
 -- something comes.
 use Rattle.std.specs.Prelude.{◌≡◌, ◌≢◌, ℕ, List, IsTrue, Result, Ok, Err}
 use Rattle.eg_base.specs.Outside.{ShownStore, ShownSink, Rose, Appends, AppendsPrefix}
+use Rattle.eg_outcome.specs.Changes.{Change, Stays}
 use Rattle.eg_input.specs.declared.fault.TraceFault.TheVariants as trace_fault
 use Rattle.eg_input.specs.declared.fault.ImageFault.TheVariants as image_fault
 use Rattle.eg_asm.specs.declared.fault.AsmFault.TheVariants as asm_fault
@@ -14,11 +15,13 @@ use Rattle.eg_outcome.specs.declared.outcome.Refusal.TheVariants as refusal
 
 -- Once the text is known: all of it was written and no fault of writing was met, or a prefix of it was, and
 -- then a fault was met or memory ran out. No fault of writing is told as the outcome Memory.
-abbrev pub LineEnds : List ℕ → ShownSink → ShownSink → Outcome → Type 0
-LineEnds line out now outcome.Done = Appends out now line × (now.faults ≡ out.faults)
-LineEnds line out now outcome.WriteFault = AppendsPrefix out now line × Rose out.faults now.faults
-LineEnds line out now outcome.Memory = AppendsPrefix out now line × (now.faults ≡ out.faults)
-LineEnds line out now _ = ⊥
+abbrev pub LineEnds : List ℕ → Change ShownSink → Outcome → Type 0
+LineEnds line out outcome.Done = Appends out.before out.after line × (out.after.faults ≡ out.before.faults)
+LineEnds line out outcome.WriteFault =
+    AppendsPrefix out.before out.after line × Rose out.before.faults out.after.faults
+LineEnds line out outcome.Memory =
+    AppendsPrefix out.before out.after line × (out.after.faults ≡ out.before.faults)
+LineEnds line out _ = ⊥
 
 -- Something came, and the work follows with it; or the call ends without it, and nothing was done.
 abbrev pub WorkFollows :
@@ -59,17 +62,17 @@ PutsNothing _ = ⊥
 
 -- A text is put: how that ends, and that nothing else can come of it; and the output stays sure where it is,
 -- so that memory doesn't run out.
-pub record PutsText (text : List ℕ) (out now : ShownSink) (o : Outcome) : Type 0 where
-  pub ends : LineEnds text out now o
+pub record PutsText (text : List ℕ) (out : Change ShownSink) (o : Outcome) : Type 0 where
+  pub ends : LineEnds text out o
   pub put : PutsNothing o → ⊥
-  pub sure : IsTrue out.sure → o ≢ outcome.Memory
-  pub stays_sure : now.sure ≡ out.sure
+  pub sure : IsTrue out.before.sure → o ≢ outcome.Memory
+  pub stays_sure : out.after.sure ≡ out.before.sure
 
 -- However a command that plays runs ends: no refusal tells that memory ran out, and no file changes; and
 -- where nothing is put, output and count of ticks are as they were.
-pub record EndsOrderly {K T : Type 0} (store later : ShownStore) (out now : K) (was is : T) (o : Outcome) :
-    Type 0 where
+pub record EndsOrderly {K T : Type 0} (store : Change ShownStore) (out : Change K) (ticks : Change T)
+    (o : Outcome) : Type 0 where
   pub no_memory : TellsNoMemory o
-  pub files : later.files ≡ store.files
-  pub nothing_put : PutsNothing o → now ≡ out
-  pub nothing_played : PutsNothing o → is ≡ was
+  pub files : store.after.files ≡ store.before.files
+  pub nothing_put : PutsNothing o → Stays out
+  pub nothing_played : PutsNothing o → Stays ticks

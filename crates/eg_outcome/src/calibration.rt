@@ -3,8 +3,9 @@ ghost use Rattle.std.specs.Prelude.{◌≡◌, ◌↔◌, Err, IfErr, IsTrue, No
 ghost use Rattle.std.specs.Option.{option_copied};
 ghost use Rattle.eg_toml.specs.Refusals.{IsRead};
 ghost use Rattle.eg_cal.specs.declared.key.CalFault.TheVariants.{Memory};
-ghost use Rattle.eg_outcome.specs.Reads.{KeepsFiles, ReadsFile, Says};
-ghost use Rattle.eg_outcome.specs.Calibrations.{calibration_said, calibration_or_refusal, calibration_file, CalibrationComes, MissesCalibration};
+ghost use Rattle.eg_outcome.specs.Changes.{change_of};
+ghost use Rattle.eg_outcome.specs.Reads.{KeepsFiles, ReadsFile, Says, refused};
+ghost use Rattle.eg_outcome.specs.Calibrations.{calibration_end, calibration_said, calibration_or_refusal, calibration_file, CalibrationComes, MissesCalibration};
 ghost use Rattle.eg_outcome.specs.Outcomes.{TellsNoMemory};
 ghost use Rattle.eg_outcome.specs.declared.outcome.Outcome.TheVariants.{ReadFault};
 ghost use Rattle.eg_outcome.specs.declared.outcome.Role.TheVariants as role;
@@ -23,14 +24,14 @@ pub fn calibration_for<S: Store>(
     store: &mut S,
 ) -> Result<Calibration, Outcome>
     ensures comes { CalibrationComes (option_copied file.entry)
-        (S.shows store.old) (S.shows store.new) result }
+        (change_of S.shows store.old store.new) result }
     ensures missing { IsTrue (S.shows store.old).sure → ((result ≡ Err (ReadFault role.Calibration))
         ↔ MissesCalibration (option_copied file.entry) (S.shows store.old)) }
     ensures no_memory { IfErr result TellsNoMemory }
 
     // What stays as it was.
     ensures unread { option_copied file.entry ≡ None → store.new ≡ store.old }
-    ensures keeps { KeepsFiles (S.shows store.old) (S.shows store.new) result }
+    ensures keeps { KeepsFiles (change_of S.shows store.old store.new) result }
 {
     match file {
         Some(file) => calibration_of(alloc, file, store),
@@ -45,8 +46,8 @@ fn calibration_of<S: Store>(
     store: &mut S,
 ) -> Result<Calibration, Outcome>
     ensures reads { ReadsFile role.Calibration calibration_file file.now
-        (S.shows store.old) (S.shows store.new) result }
-    ensures keeps { KeepsFiles (S.shows store.old) (S.shows store.new) result }
+        (change_of S.shows store.old store.new) result }
+    ensures keeps { KeepsFiles (change_of S.shows store.old store.new) result }
 {
     match file_bytes(alloc, Role::Calibration, file, store) {
         Ok(bytes) => calibration_in(alloc, bytes.as_slice()),
@@ -58,8 +59,16 @@ fn calibration_of<S: Store>(
 fn calibration_in(alloc: Global, bytes: &[u8]) -> Result<Calibration, Outcome>
     ensures { Says calibration_or_refusal bytes.now result }
 {
-    match calibration_said(alloc, bytes) {
-        Ok(calibration) => Ok(calibration),
+    hand_on(calibration_said(alloc, bytes))
+}
+
+/// What a reader of a calibration file says, with a fault as how the call ends: Memory comes only where the
+/// reader says so (docs/FORMATS.md, "Outcomes").
+pub fn hand_on<T>(said: Result<T, CalFault>) -> Result<T, Outcome>
+    ensures { result ≡ refused calibration_end said }
+{
+    match said {
+        Ok(value) => Ok(value),
         Err(CalFault::Memory) => Err(Outcome::Memory),
         Err(fault) => Err(Outcome::Refused(Refusal::Calibration(fault))),
     }

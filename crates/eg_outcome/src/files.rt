@@ -1,5 +1,6 @@
 // One file of a command: the bytes that it has.
 ghost use Rattle.std.specs.Prelude.{◌≡◌};
+ghost use Rattle.eg_outcome.specs.Changes.{change_of};
 ghost use Rattle.eg_outcome.specs.Files.{is_too_long};
 ghost use Rattle.eg_outcome.specs.Reads.{KeepsFiles, ReadsFile, Says, whole};
 
@@ -18,8 +19,8 @@ pub fn file_bytes<S: Store>(
     name: &str,
     store: &mut S,
 ) -> Result<Items<u8>, Outcome>
-    ensures reads { ReadsFile role (whole role) name.now (S.shows store.old) (S.shows store.new) result }
-    ensures keeps { KeepsFiles (S.shows store.old) (S.shows store.new) result }
+    ensures reads { ReadsFile role (whole role) name.now (change_of S.shows store.old store.new) result }
+    ensures keeps { KeepsFiles (change_of S.shows store.old store.new) result }
 {
     let mut bytes = Vec::new(alloc);
     match store.read(name, MOST_BYTES + 1, &mut bytes) {

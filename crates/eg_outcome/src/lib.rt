@@ -10,7 +10,7 @@ mod image;
 mod line;
 mod outcome;
 
-pub use calibration::calibration_for;
+pub use calibration::{calibration_for, hand_on};
 pub use files::file_bytes;
 pub use image::image_in;
 pub use line::{put_line, put_lines, put_text};

@@ -1,6 +1,7 @@
 // The lines that a command writes.
 ghost use Rattle.std.specs.Prelude.{◌≡◌, ◌++◌, ◌≤◌, length, map, string_bytes};
 ghost use Rattle.std.specs.List.{concat};
+ghost use Rattle.eg_outcome.specs.Changes.{change_of};
 ghost use Rattle.eg_outcome.specs.Outcomes.{PutsText};
 
 use crate::Outcome;
@@ -9,7 +10,7 @@ use eg_base::{PutRefusal, Sink};
 /// Puts one line of a command to its output, in one piece (docs/FORMATS.md, "Outcomes"): WriteFault where the
 /// output counts a fault, Memory where memory runs out. The line has its LF.
 pub fn put_line<K: Sink>(line: &[u8], out: &mut K) -> Outcome
-    ensures { PutsText line.now (K.shows out.old) (K.shows out.new) result }
+    ensures { PutsText line.now (change_of K.shows out.old out.new) result }
 {
     match out.put(line) {
         Ok(()) => Outcome::Done,
@@ -21,7 +22,7 @@ pub fn put_line<K: Sink>(line: &[u8], out: &mut K) -> Outcome
 /// Puts the lines of a command to its output, one after another, up to the first that is refused
 /// (docs/FORMATS.md, "Outcomes").
 pub fn put_lines<K: Sink>(lines: &[String], out: &mut K) -> Outcome
-    ensures { PutsText (concat (map string_bytes lines.now)) (K.shows out.old) (K.shows out.new) result }
+    ensures { PutsText (concat (map string_bytes lines.now)) (change_of K.shows out.old out.new) result }
 {
     for line in lines {
         match put_line(line.as_bytes(), out) {
@@ -35,7 +36,7 @@ pub fn put_lines<K: Sink>(lines: &[String], out: &mut K) -> Outcome
 /// Puts a text to the output of a command, each of its lines in one piece, one after another up to the first
 /// that is refused (docs/FORMATS.md, "Outcomes").
 pub fn put_text<K: Sink>(text: &[u8], out: &mut K) -> Outcome
-    ensures { PutsText text.now (K.shows out.old) (K.shows out.new) result }
+    ensures { PutsText text.now (change_of K.shows out.old out.new) result }
 {
     let mut rest = text;
     while !rest.is_empty() {

@@ -12,6 +12,7 @@ use Rattle.eg_outcome.specs.declared.outcome.Outcome.TheVariants as outcome
 use Rattle.eg_outcome.specs.declared.outcome.Refusal.{Refusal}
 use Rattle.eg_outcome.specs.declared.outcome.Role.{Role}
 use Rattle.eg_outcome.specs.declared.outcome.Role.TheVariants as role
+use Rattle.eg_outcome.specs.Changes.{Change, change, MeetsNoFault}
 use Rattle.eg_play.specs.Inputs.{InputComes, ImageComes, TicksCome, InputsCome, too_many}
 use Rattle.eg_play.specs.Ends.{name_for, name_by, IsOf}
 
@@ -32,11 +33,11 @@ unfolding behind
 behind-push made input (Ok inputs) = ap (λ all. Ok all) (sym (append_assoc made (input ∷ []) inputs))
 behind-push made input (Err end) = refl
 
-module _ (store later : ShownStore) where
+module _ (store : Change ShownStore) where
   -- the first run, and then the rest
   one_more : (n sum : ℕ) (plan : RunPlan) (plans : List RunPlan) (input : RunInput) (come : Result (List RunInput) Outcome)
-      → InputComes (too_many sum n) store later n plan (Ok input) → InputsCome store later (n + 1) (sum + length input.drive) plans come
-      → InputsCome store later n sum (plan ∷ plans) (behind (input ∷ []) come)
+      → InputComes (too_many sum n) store n plan (Ok input) → InputsCome store (n + 1) (sum + length input.drive) plans come
+      → InputsCome store n sum (plan ∷ plans) (behind (input ∷ []) come)
   unfolding behind
   one_more n sum plan plans input (Ok inputs) first rest = (Ok input, first, (Ok inputs, rest, refl))
   one_more n sum plan plans input (Err end) first rest = (Ok input, first, (Err end, rest, refl))
@@ -44,42 +45,42 @@ module _ (store later : ShownStore) where
   -- Whatever comes of the runs from number n on, comes of all of them behind what was made of those before.
   pub Goes : ℕ → ℕ → List RunPlan → List RunInput → Type 0
   Goes n sum before made =
-      (rest : List RunPlan) (come : Result (List RunInput) Outcome) → InputsCome store later n sum rest come
-      → InputsCome store later 1 0 (before ++ rest) (behind made come)
+      (rest : List RunPlan) (come : Result (List RunInput) Outcome) → InputsCome store n sum rest come
+      → InputsCome store 1 0 (before ++ rest) (behind made come)
 
   pub goes-first : Goes 1 0 [] []
   unfolding Goes
-  goes-first rest come comes = subst (InputsCome store later 1 0 rest) (sym (behind-nil come)) comes
+  goes-first rest come comes = subst (InputsCome store 1 0 rest) (sym (behind-nil come)) comes
 
   pub goes-on : (n sum : ℕ) (before : List RunPlan) (made : List RunInput) (plan : RunPlan) (input : RunInput)
-      → InputComes (too_many sum n) store later n plan (Ok input) → Goes n sum before made
+      → InputComes (too_many sum n) store n plan (Ok input) → Goes n sum before made
       → Goes (n + 1) (sum + length input.drive) (before ++ plan ∷ []) (made ++ input ∷ [])
   unfolding Goes
   goes-on n sum before made plan input first goes rest come comes =
-      subst (λ plans. InputsCome store later 1 0 plans (behind (made ++ input ∷ []) come)) (sym (append_assoc before (plan ∷ []) rest))
-      (subst (InputsCome store later 1 0 (before ++ plan ∷ rest)) (behind-push made input come)
+      subst (λ plans. InputsCome store 1 0 plans (behind (made ++ input ∷ []) come)) (sym (append_assoc before (plan ∷ []) rest))
+      (subst (InputsCome store 1 0 (before ++ plan ∷ rest)) (behind-push made input come)
       (goes (plan ∷ rest) (behind (input ∷ []) come) (one_more n sum plan rest input come first comes)))
 
   -- the call ends at a run
   pub goes-end : (n sum : ℕ) (before : List RunPlan) (made : List RunInput) (plan : RunPlan) (rest plans : List RunPlan) (end : Outcome)
-      → plans ≡ before ++ plan ∷ rest → InputComes (too_many sum n) store later n plan (Err end) → Goes n sum before made
-      → InputsCome store later 1 0 plans (Err end)
+      → plans ≡ before ++ plan ∷ rest → InputComes (too_many sum n) store n plan (Err end) → Goes n sum before made
+      → InputsCome store 1 0 plans (Err end)
   unfolding Goes behind
   goes-end n sum before made plan rest plans end parts first goes =
-      subst (λ all. InputsCome store later 1 0 all (Err end)) (sym parts) (goes (plan ∷ rest) (Err end) (Err end, first, refl))
+      subst (λ all. InputsCome store 1 0 all (Err end)) (sym parts) (goes (plan ∷ rest) (Err end) (Err end, first, refl))
 
   -- memory may run out at any run, where no fault of reading was met
   pub goes-memory : (n sum : ℕ) (before : List RunPlan) (made : List RunInput) (plan : RunPlan) (rest plans : List RunPlan)
-      → plans ≡ before ++ plan ∷ rest → later.faults ≡ store.faults → Goes n sum before made → InputsCome store later 1 0 plans (Err outcome.Memory)
+      → plans ≡ before ++ plan ∷ rest → MeetsNoFault store → Goes n sum before made → InputsCome store 1 0 plans (Err outcome.Memory)
   goes-memory n sum before made plan rest plans parts same goes =
       goes-end n sum before made plan rest plans outcome.Memory parts (Err outcome.Memory, same, refl) goes
 
   -- all runs were read
-  pub goes-all : (n sum : ℕ) (plans : List RunPlan) (made : List RunInput) → Goes n sum plans made → InputsCome store later 1 0 plans (Ok made)
+  pub goes-all : (n sum : ℕ) (plans : List RunPlan) (made : List RunInput) → Goes n sum plans made → InputsCome store 1 0 plans (Ok made)
   unfolding Goes behind
   goes-all n sum plans made goes =
-      subst (λ all. InputsCome store later 1 0 all (Ok made)) (append-nil plans)
-      (subst (λ inputs. InputsCome store later 1 0 (plans ++ []) (Ok inputs)) (append-nil made) (goes [] (Ok []) refl))
+      subst (λ all. InputsCome store 1 0 all (Ok made)) (append-nil plans)
+      (subst (λ inputs. InputsCome store 1 0 (plans ++ []) (Ok inputs)) (append-nil made) (goes [] (Ok []) refl))
 
 -- ---- the name of a file ----
 
@@ -130,19 +131,19 @@ nothing-left (plan ∷ items) count is none = absurd (let some : suc (length ite
 ok-err : {X : Type 0} (x : X) (end : Outcome) → ¬ (Ok x ≡ Err end)
 ok-err x end same = cc
 
-image-later : (store before later : ShownStore) (n : ℕ) (plan : RunPlan) (drive : List DriveRow) (input : RunInput)
-    → ImageComes store before n plan drive (Ok input) → ImageComes store later n plan drive (Ok input)
-image-later store before later n plan drive input (Ok words, comes, made) = (Ok words, comes, made)
-image-later store before later n plan drive input (Err end, comes, made) = absurd (ok-err input end made)
+image-later : (store mid later : ShownStore) (n : ℕ) (plan : RunPlan) (drive : List DriveRow) (input : RunInput)
+    → ImageComes (change store mid) n plan drive (Ok input) → ImageComes (change store later) n plan drive (Ok input)
+image-later store mid later n plan drive input (Ok words, comes, made) = (Ok words, comes, made)
+image-later store mid later n plan drive input (Err end, comes, made) = absurd (ok-err input end made)
 
-ticks-later : (refusal : Option Refusal) (store before later : ShownStore) (n : ℕ) (plan : RunPlan) (drive : List DriveRow) (input : RunInput)
-    → TicksCome refusal store before n plan drive (Ok input) → TicksCome refusal store later n plan drive (Ok input)
-ticks-later (Some r) store before later n plan drive input (made, same) = absurd (ok-err input (outcome.Refused r) made)
-ticks-later None store before later n plan drive input comes = image-later store before later n plan drive input comes
+ticks-later : (refusal : Option Refusal) (store mid later : ShownStore) (n : ℕ) (plan : RunPlan) (drive : List DriveRow) (input : RunInput)
+    → TicksCome refusal (change store mid) n plan drive (Ok input) → TicksCome refusal (change store later) n plan drive (Ok input)
+ticks-later (Some r) store mid later n plan drive input (made, same) = absurd (ok-err input (outcome.Refused r) made)
+ticks-later None store mid later n plan drive input comes = image-later store mid later n plan drive input comes
 
 -- what was read doesn't depend on what the store shows after it
-pub any-later : (refuses : ℕ → Option Refusal) (store before later : ShownStore) (n : ℕ) (plan : RunPlan) (input : RunInput)
-    → InputComes refuses store before n plan (Ok input) → InputComes refuses store later n plan (Ok input)
-any-later refuses store before later n plan input (Ok drive, comes, made) =
-    (Ok drive, comes, ticks-later (refuses (length drive)) store before later n plan drive input made)
-any-later refuses store before later n plan input (Err end, comes, made) = absurd (ok-err input end made)
+pub any-later : (refuses : ℕ → Option Refusal) (store mid later : ShownStore) (n : ℕ) (plan : RunPlan) (input : RunInput)
+    → InputComes refuses (change store mid) n plan (Ok input) → InputComes refuses (change store later) n plan (Ok input)
+any-later refuses store mid later n plan input (Ok drive, comes, made) =
+    (Ok drive, comes, ticks-later (refuses (length drive)) store mid later n plan drive input made)
+any-later refuses store mid later n plan input (Err end, comes, made) = absurd (ok-err input end made)

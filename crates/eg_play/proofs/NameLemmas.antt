@@ -6,6 +6,7 @@ use Rattle.eg_fault.specs.Faults.{IsNoneOrValid}
 use Rattle.eg_plan.specs.Rules.{AreRuns}
 use Rattle.eg_plan.specs.declared.run.RunPlan.{RunPlan}
 use Rattle.eg_campaign.specs.declared.play.RunInput.{RunInput}
+use Rattle.eg_outcome.specs.Changes.{Change}
 use Rattle.eg_outcome.specs.Reads.{refused, whole, BytesCome, ReadComes, FileComes}
 use Rattle.eg_outcome.specs.Images.{image_or_refusal}
 use Rattle.eg_input.specs.Images.{image_words}
@@ -30,9 +31,9 @@ too_long file bytes r refuses = go (is_too_long bytes) refuses
     go true e = cc
     go false e = absurd cc
 
-module _ (file : Role) (name : List ℕ) (store later : ShownStore) where
+module _ (file : Role) (name : List ℕ) (store : Change ShownStore) where
   -- a file of a run that can't be read, or is too long, is told as one of this run
-  pub of_run : (n : ℕ) (end : Outcome) → IsOf n (Some file) → FileComes file (whole file) name store later (Err end) → IsOf n (role_in end)
+  pub of_run : (n : ℕ) (end : Outcome) → IsOf n (Some file) → FileComes file (whole file) name store (Err end) → IsOf n (role_in end)
   of_run n (outcome.ReadFault role) of (is, rose, missing) = subst (λ r. IsOf n (Some r)) (sym is) of
   of_run n (outcome.Refused r) of (same, (bytes, read, refuses)) = subst (λ why. IsOf n (role_in (outcome.Refused why))) (sym (too_long file bytes r refuses)) of
   of_run n outcome.Memory of comes = tt
@@ -42,7 +43,7 @@ module _ (file : Role) (name : List ℕ) (store later : ShownStore) where
 
   -- a file that isn't of a run is told as none
   pub not_of_run : (end : Outcome) → IsNotOfRun (outcome.ReadFault file) → IsNotOfRun (outcome.Refused (refusal.Size file)) →
-      FileComes file (whole file) name store later (Err end) → IsNotOfRun end
+      FileComes file (whole file) name store (Err end) → IsNotOfRun end
   not_of_run (outcome.ReadFault role) unread long (is, rose, missing) = subst (λ r. IsNotOfRun (outcome.ReadFault r)) (sym is) unread
   not_of_run (outcome.Refused r) unread long (same, (bytes, read, refuses)) = subst (λ why. IsNotOfRun (outcome.Refused why)) (sym (too_long file bytes r refuses)) long
   not_of_run outcome.Memory unread long comes = tt

@@ -7,6 +7,7 @@ use Rattle.eg_record.specs.declared.row.Row.{Row}
 use Rattle.eg_record.specs.Texts.{summary_line, report_end}
 use Rattle.eg_record.specs.declared.summary.Summary.{Summary}
 use Rattle.eg_tick.specs.Weights.{TickCount}
+use Rattle.eg_outcome.specs.Changes.{Change, change, Stays}
 use Rattle.eg_outcome.specs.Outcomes.{LineEnds}
 use Rattle.eg_outcome.specs.declared.outcome.Outcome.{Outcome}
 use Rattle.eg_outcome.specs.declared.outcome.Outcome.TheVariants as outcome
@@ -44,72 +45,75 @@ table_is cal inputs = refl
 -- ---- what was put and counted ----
 
 -- all runs were counted, however the call ends
-ticked : (rows : List Row) (was is : TickCount) (o : Outcome) → is ≡ count_with was rows → AreTicked rows was is o
-ticked rows was is outcome.Memory e = out_at_end was is rows e
-ticked rows was is outcome.Done e = e
-ticked rows was is outcome.WriteFault e = e
-ticked rows was is outcome.Usage e = e
-ticked rows was is (outcome.ReadFault file) e = e
-ticked rows was is (outcome.Refused why) e = e
+ticked : (rows : List Row) (ticks : Change TickCount) (o : Outcome) → ticks.after ≡ count_with ticks.before rows → AreTicked rows ticks o
+ticked rows ticks outcome.Memory e = out_at_end ticks.before ticks.after rows e
+ticked rows ticks outcome.Done e = e
+ticked rows ticks outcome.WriteFault e = e
+ticked rows ticks outcome.Usage e = e
+ticked rows ticks (outcome.ReadFault file) e = e
+ticked rows ticks (outcome.Refused why) e = e
 
 -- memory ran out before anything was put
-pub no_memory : (text : List ℕ) (runs : List EngineRun) (rows : List Row) (out : ShownSink) (was is : TickCount) → RanOutAmong rows was is →
-    All KeepsHeadline runs → Plays text runs rows out out was is outcome.Memory
-no_memory text runs rows out was is counted headline = record {
+pub no_memory : (text : List ℕ) (runs : List EngineRun) (rows : List Row) (out : ShownSink) (ticks : Change TickCount) → RanOutAmong rows ticks.before ticks.after →
+    All KeepsHeadline runs → Plays text runs rows (change out out) ticks outcome.Memory
+no_memory text runs rows out ticks counted headline = record {
   written = (([], text, refl, Appends-nil out), refl);
   ticked = counted;
   headline = headline;
 }
 
 -- the runs were played, and memory ran out before anything was put
-pub no_lines : (text : List ℕ) (runs : List EngineRun) (rows : List Row) (out : ShownSink) (was is : TickCount) → is ≡ count_with was rows →
-    All KeepsHeadline runs → Plays text runs rows out out was is outcome.Memory
-no_lines text runs rows out was is counted headline = record {
+pub no_lines : (text : List ℕ) (runs : List EngineRun) (rows : List Row) (out : ShownSink) (ticks : Change TickCount) → ticks.after ≡ count_with ticks.before rows →
+    All KeepsHeadline runs → Plays text runs rows (change out out) ticks outcome.Memory
+no_lines text runs rows out ticks counted headline = record {
   written = (([], text, refl, Appends-nil out), refl);
-  ticked = ticked rows was is outcome.Memory counted;
+  ticked = ticked rows ticks outcome.Memory counted;
   headline = headline;
 }
 
 -- they were played, and their lines were put
-pub put : (text : List ℕ) (runs : List EngineRun) (rows : List Row) (out now : ShownSink) (was is : TickCount) (o : Outcome) → is ≡ count_with was rows →
-    LineEnds text out now o → All KeepsHeadline runs → Plays text runs rows out now was is o
-put text runs rows out now was is o counted ends headline = record {
+pub put : (text : List ℕ) (runs : List EngineRun) (rows : List Row) (out : Change ShownSink) (ticks : Change TickCount) (o : Outcome) →
+    ticks.after ≡ count_with ticks.before rows → LineEnds text out o → All KeepsHeadline runs → Plays text runs rows out ticks o
+put text runs rows out ticks o counted ends headline = record {
   written = ends;
-  ticked = ticked rows was is o counted;
+  ticked = ticked rows ticks o counted;
   headline = headline;
 }
 
 -- ---- a record ----
 
 -- all of it was put, and all ticks were counted
-pub recorded : (cal : CalibrationParts) (input : RunInput) (out now : ShownSink) (was is : TickCount) → Appends out now (record_text cal input) →
-    now.faults ≡ out.faults → is ≡ count_with was (rows_in_time (run_with cal input)) → KeepsHeadline (run_with cal input) → Records cal input out now was is outcome.Done
-recorded cal input out now was is put same counted headline = record {
+pub recorded : (cal : CalibrationParts) (input : RunInput) (out : Change ShownSink) (ticks : Change TickCount) → Appends out.before out.after (record_text cal input) →
+    out.after.faults ≡ out.before.faults → ticks.after ≡ count_with ticks.before (rows_in_time (run_with cal input)) → KeepsHeadline (run_with cal input) →
+    Records cal input out ticks outcome.Done
+recorded cal input out ticks put same counted headline = record {
   written = (put, same);
   ticked = counted;
   headline = headline;
 }
 
 -- it was stopped, so that a front of it was put
-stopped_front : (cal : CalibrationParts) (input : RunInput) (out now : ShownSink) (was is : TickCount) → IsStopped (rows_in_time (run_with cal input)) out now was is →
-    AppendsPrefix out now (record_text cal input)
+stopped_front : (cal : CalibrationParts) (input : RunInput) (out : Change ShownSink) (ticks : Change TickCount) →
+    IsStopped (rows_in_time (run_with cal input)) out.before out.after ticks.before ticks.after → AppendsPrefix out.before out.after (record_text cal input)
 unfolding record_text
-stopped_front cal input out now was is stopped = (stopped.front, stopped.rest, stopped.parts, stopped.appended)
+stopped_front cal input out ticks stopped = (stopped.front, stopped.rest, stopped.parts, stopped.appended)
 
 -- by a fault of writing,
-pub put_failed : (cal : CalibrationParts) (input : RunInput) (out now : ShownSink) (was is : TickCount) → IsStopped (rows_in_time (run_with cal input)) out now was is →
-    Rose out.faults now.faults → KeepsHeadline (run_with cal input) → Records cal input out now was is outcome.WriteFault
-put_failed cal input out now was is stopped rose headline = record {
-  written = (stopped_front cal input out now was is stopped, rose);
+pub put_failed : (cal : CalibrationParts) (input : RunInput) (out : Change ShownSink) (ticks : Change TickCount) →
+    IsStopped (rows_in_time (run_with cal input)) out.before out.after ticks.before ticks.after → Rose out.before.faults out.after.faults →
+    KeepsHeadline (run_with cal input) → Records cal input out ticks outcome.WriteFault
+put_failed cal input out ticks stopped rose headline = record {
+  written = (stopped_front cal input out ticks stopped, rose);
   ticked = stopped;
   headline = headline;
 }
 
 -- or since memory ran out
-pub ran_out : (cal : CalibrationParts) (input : RunInput) (out now : ShownSink) (was is : TickCount) → IsStopped (rows_in_time (run_with cal input)) out now was is →
-    now.faults ≡ out.faults → KeepsHeadline (run_with cal input) → Records cal input out now was is outcome.Memory
-ran_out cal input out now was is stopped same headline = record {
-  written = (stopped_front cal input out now was is stopped, same);
+pub ran_out : (cal : CalibrationParts) (input : RunInput) (out : Change ShownSink) (ticks : Change TickCount) →
+    IsStopped (rows_in_time (run_with cal input)) out.before out.after ticks.before ticks.after → out.after.faults ≡ out.before.faults →
+    KeepsHeadline (run_with cal input) → Records cal input out ticks outcome.Memory
+ran_out cal input out ticks stopped same headline = record {
+  written = (stopped_front cal input out ticks stopped, same);
   ticked = stopped;
   headline = headline;
 }

@@ -33,6 +33,7 @@ use Rattle.eg_outcome.specs.declared.outcome.Outcome.{Outcome}
 use Rattle.eg_outcome.specs.declared.outcome.Outcome.TheVariants as outcome
 use Rattle.eg_sweep.specs.Grid.{is_too_large}
 use Rattle.eg_sweep.specs.Texts.{sweep_text_of}
+use Rattle.eg_outcome.specs.Changes.{Change, change}
 use Rattle.eg_play.specs.Ends.{GridEnds, Plays, Sweeps}
 use Rattle.eg_play.specs.Sweeping.{without_reset, swept, faults_over, runs_over, table_over, swept_text}
 use Rattle.eg_play.proofs.HeadlineLemmas.{keep_headline}
@@ -118,18 +119,18 @@ grid_is false nothing work o small did = did
 
 -- the runs were played, or memory ran out
 pub swept-ends : (cal : CalibrationParts) → IsAccepted cal → (step : ℕ) → 1 ≤ step → (input : RunInput) → IsPlayable input →
-    (out now : ShownSink) (was is : TickCount) (nothing : Type 0) (o : Outcome) → is_too_large (length input.drive) step ≡ false →
+    (out : Change ShownSink) (ticks : Change TickCount) (nothing : Type 0) (o : Outcome) → is_too_large (length input.drive) step ≡ false →
     (faults : List Fault) (inputs : List RunInput) → faults ≡ swept_faults (length input.drive) step → inputs ≡ map (swept input) faults →
-    Plays (sweep_text_of (table_of faults (map (facts_by cal) inputs))) (map (run_with cal) inputs) (rows_made cal inputs) out now was is o →
-    GridEnds (is_too_large (length input.drive) step) nothing (Sweeps cal step input out now was is o) o
+    Plays (sweep_text_of (table_of faults (map (facts_by cal) inputs))) (map (run_with cal) inputs) (rows_made cal inputs) out ticks o →
+    GridEnds (is_too_large (length input.drive) step) nothing (Sweeps cal step input out ticks o) o
 unfolding swept_text table_over runs_over faults_over
-swept-ends cal accepted step some input playable out now was is nothing o small faults inputs faults_are inputs_are plays =
-    grid_is (is_too_large (length input.drive) step) nothing (Sweeps cal step input out now was is o) o small (record {
-      plays = subst (λ rows. Plays (swept_text cal step input) (map (run_with cal) (runs_over step input)) rows out now was is o)
+swept-ends cal accepted step some input playable out ticks nothing o small faults inputs faults_are inputs_are plays =
+    grid_is (is_too_large (length input.drive) step) nothing (Sweeps cal step input out ticks o) o small (record {
+      plays = subst (λ rows. Plays (swept_text cal step input) (map (run_with cal) (runs_over step input)) rows out ticks o)
           (one_group cal input (swept_faults (length input.drive) step))
           (subst (λ (fs : List Fault). Plays (sweep_text_of (table_of fs (map (facts_by cal) (map (swept input) fs)))) (map (run_with cal) (map (swept input) fs))
-          (rows_made cal (map (swept input) fs)) out now was is o) faults_are
-          (subst (λ (xs : List RunInput). Plays (sweep_text_of (table_of faults (map (facts_by cal) xs))) (map (run_with cal) xs) (rows_made cal xs) out now was is o)
+          (rows_made cal (map (swept input) fs)) out ticks o) faults_are
+          (subst (λ (xs : List RunInput). Plays (sweep_text_of (table_of faults (map (facts_by cal) xs))) (map (run_with cal) xs) (rows_made cal xs) out ticks o)
           inputs_are plays));
       in_time = in_time cal accepted step some input playable;
     })
@@ -138,11 +139,11 @@ swept-ends cal accepted step some input playable out now was is nothing o small 
 pub not-swept : (cal : CalibrationParts) → IsAccepted cal → (step : ℕ) → 1 ≤ step → (input : RunInput) → IsPlayable input →
     (faults : List Fault) → All IsValid faults → faults ≡ swept_faults (length input.drive) step →
     (out : ShownSink) (was : TickCount) (nothing : Type 0) → was.count < 2 ^ 64 → was.weights < 2 ^ 64 → is_too_large (length input.drive) step ≡ false →
-    GridEnds (is_too_large (length input.drive) step) nothing (Sweeps cal step input out out was was outcome.Memory) outcome.Memory
+    GridEnds (is_too_large (length input.drive) step) nothing (Sweeps cal step input (change out out) (change was was) outcome.Memory) outcome.Memory
 not-swept cal accepted step some input playable faults valid are out was nothing count weights small =
     let inputs = map (swept input) faults in
-    swept-ends cal accepted step some input playable out out was was nothing outcome.Memory small faults inputs are refl
-    (no_memory (sweep_text_of (table_of faults (map (facts_by cal) inputs))) (map (run_with cal) inputs) (rows_made cal inputs) out was was
+    swept-ends cal accepted step some input playable (change out out) (change was was) nothing outcome.Memory small faults inputs are refl
+    (no_memory (sweep_text_of (table_of faults (map (facts_by cal) inputs))) (map (run_with cal) inputs) (rows_made cal inputs) out (change was was)
     (out_before was (rows_made cal inputs) count weights) (keep_headline cal accepted inputs (all-playable input faults playable valid)))
 
 -- a grid that isn't told as too large isn't

@@ -1,7 +1,6 @@
 -- On Done `run`, `table`, `record` and `sweep` have written their whole text on runs that keep the headline;
 -- after a refusal or a failed read they put nothing. This is said by cases on the outcome, nested from the
--- outside in, as of `check` and `bound`. `store`, `out` and `was` are what the store, the output and the
--- count of ticks show before the call, `later`, `now` and `is` what they show after it.
+-- outside in, as of `check` and `bound`.
 use Rattle.std.specs.Prelude.{◌≡◌, ℕ, Bool, true, false, ◌+◌, ◌-◌, length, List, [], ◌∷◌, map, All, Option, Some, None, option_map, Result, Ok, Err, IsSome, slice_get, bytes_eq, if◌then◌else◌}
 use Rattle.eg_base.specs.Outside.{ShownStore, ShownSink}
 use Rattle.eg_num.specs.Drive.{DriveRow}
@@ -13,6 +12,7 @@ use Rattle.eg_record.specs.declared.row.Row.{Row}
 use Rattle.eg_tick.specs.Weights.{TickCount}
 use Rattle.eg_plan.specs.declared.run.RunPlan.{RunPlan}
 use Rattle.eg_campaign.specs.declared.play.RunInput.{RunInput}
+use Rattle.eg_outcome.specs.Changes.{Change, Stays, MeetsNoFault}
 use Rattle.eg_outcome.specs.Files.{AreRead}
 use Rattle.eg_outcome.specs.Outcomes.{LineEnds, WorkFollows, Then}
 use Rattle.eg_outcome.specs.Reads.{FileComes, ReadComes}
@@ -36,25 +36,34 @@ use Rattle.eg_play.specs.declared.telling.Telling.{Telling}
 use Rattle.eg_play.specs.Texts.{runs_text}
 use Rattle.eg_play.specs.Sweeping.{runs_over, table_over, swept_text}
 
+-- what a call that plays runs changes: its store, its output and its count of ticks
+pub record Call : Type 0 where
+  pub store : Change ShownStore
+  pub out : Change ShownSink
+  pub ticks : Change TickCount
+
+abbrev pub call : Change ShownStore → Change ShownSink → Change TickCount → Call
+call store out ticks = record { store = store; out = out; ticks = ticks }
+
 -- ---- runs are played ----
 
 -- The ticks of these rows were made and counted, with the weights of the rows. Where memory ran out, only the
 -- first of them were; the last of these may be counted without the weight of its row.
-abbrev pub AreTicked : List Row → TickCount → TickCount → Outcome → Type 0
-AreTicked rows was is outcome.Memory = RanOutAmong rows was is
-AreTicked rows was is o = is ≡ count_with was rows
+abbrev pub AreTicked : List Row → Change TickCount → Outcome → Type 0
+AreTicked rows ticks outcome.Memory = RanOutAmong rows ticks.before ticks.after
+AreTicked rows ticks o = ticks.after ≡ count_with ticks.before rows
 
 -- These runs were played and these rows made for them, and this text on the runs was written: on Done all of
 -- it. The record of each run keeps the headline.
-pub record Plays (text : List ℕ) (runs : List EngineRun) (rows : List Row) (out now : ShownSink)
-    (was is : TickCount) (o : Outcome) : Type 0 where
-  pub written : LineEnds text out now o
-  pub ticked : AreTicked rows was is o
+pub record Plays (text : List ℕ) (runs : List EngineRun) (rows : List Row) (out : Change ShownSink)
+    (ticks : Change TickCount) (o : Outcome) : Type 0 where
+  pub written : LineEnds text out o
+  pub ticked : AreTicked rows ticks o
   pub headline : All KeepsHeadline runs
 
 -- nothing was put, and no tick was made
-abbrev pub NothingPlayed : ShownSink → ShownSink → TickCount → TickCount → Type 0
-NothingPlayed out now was is = (now ≡ out) × (is ≡ was)
+abbrev pub NothingPlayed : Change ShownSink → Change TickCount → Type 0
+NothingPlayed out ticks = Stays out × Stays ticks
 
 -- ---- `run [--cal NAME] CAMPAIGN` and `table [--cal NAME] CAMPAIGN` ----
 
@@ -65,59 +74,55 @@ TellsInTime cal input =
 
 -- The runs of a campaign were played, and told in this way: on Done the whole text was written. What `table`
 -- tells of their reactions is in time, whichever way they are told.
-pub record Tells (telling : Telling) (cal : CalibrationParts) (inputs : List RunInput) (out now : ShownSink)
-    (was is : TickCount) (o : Outcome) : Type 0 where
+pub record Tells (telling : Telling) (cal : CalibrationParts) (inputs : List RunInput)
+    (out : Change ShownSink) (ticks : Change TickCount) (o : Outcome) : Type 0 where
   pub plays : Plays (runs_text telling cal inputs) (map (run_with cal) inputs) (rows_made cal inputs)
-      out now was is o
+      out ticks o
   pub in_time : All (TellsInTime cal) inputs
 
 -- the inputs of all runs are known, and no fault of reading was met: they are told
-abbrev pub TellingEnds : Telling → CalibrationParts → List RunInput → ShownStore → ShownStore → ShownSink
-    → ShownSink → TickCount → TickCount → Outcome → Type 0
-TellingEnds telling cal inputs store later out now was is o = (later.faults ≡ store.faults)
-    × Tells telling cal inputs out now was is o
+abbrev pub TellingEnds : Telling → CalibrationParts → List RunInput → Call → Outcome → Type 0
+TellingEnds telling cal inputs call o =
+    MeetsNoFault call.store × Tells telling cal inputs call.out call.ticks o
 
 -- the runs of the campaign are known: their files are read in order
-abbrev pub RunsEnd : Telling → CalibrationParts → List RunPlan → ShownStore → ShownStore → ShownSink
-    → ShownSink → TickCount → TickCount → Outcome → Type 0
-RunsEnd telling cal plans store later out now was is o = (come : Result (List RunInput) Outcome)
-    × InputsCome store later 1 0 plans come
-    × WorkFollows (λ inputs end. TellingEnds telling cal inputs store later out now was is end)
-    (NothingPlayed out now was is) come o
+abbrev pub RunsEnd : Telling → CalibrationParts → List RunPlan → Call → Outcome → Type 0
+RunsEnd telling cal plans call o = (come : Result (List RunInput) Outcome)
+    × InputsCome call.store 1 0 plans come
+    × WorkFollows (λ inputs. TellingEnds telling cal inputs call) (NothingPlayed call.out call.ticks) come o
 
 -- ---- `record [--cal NAME] CAMPAIGN RUN` ----
 
 -- The ticks of a record are made and counted as its lines are written: on Done all of them; else those up to
 -- the line at which it was stopped.
-abbrev pub AreTickedInTurn : CalibrationParts → RunInput → ShownSink → ShownSink → TickCount → TickCount
-    → Outcome → Type 0
-AreTickedInTurn cal input out now was is outcome.Done =
-    is ≡ count_with was (rows_in_time (run_with cal input))
-AreTickedInTurn cal input out now was is o = IsStopped (rows_in_time (run_with cal input)) out now was is
+abbrev pub AreTickedInTurn :
+    CalibrationParts → RunInput → Change ShownSink → Change TickCount → Outcome → Type 0
+AreTickedInTurn cal input out ticks outcome.Done =
+    ticks.after ≡ count_with ticks.before (rows_in_time (run_with cal input))
+AreTickedInTurn cal input out ticks o =
+    IsStopped (rows_in_time (run_with cal input)) out.before out.after ticks.before ticks.after
 
 -- A run was played, and its record was written as its ticks were made: on Done all of it. The record keeps
 -- the headline.
-pub record Records (cal : CalibrationParts) (input : RunInput) (out now : ShownSink) (was is : TickCount)
-    (o : Outcome) : Type 0 where
-  pub written : LineEnds (record_text cal input) out now o
-  pub ticked : AreTickedInTurn cal input out now was is o
+pub record Records (cal : CalibrationParts) (input : RunInput) (out : Change ShownSink)
+    (ticks : Change TickCount) (o : Outcome) : Type 0 where
+  pub written : LineEnds (record_text cal input) out o
+  pub ticked : AreTickedInTurn cal input out ticks o
   pub headline : KeepsHeadline (run_with cal input)
 
 -- the input of the run is known, and no fault of reading was met: its record is written
-abbrev pub RecordEnds : CalibrationParts → RunInput → ShownStore → ShownStore → ShownSink → ShownSink
-    → TickCount → TickCount → Outcome → Type 0
-RecordEnds cal input store later out now was is o = (later.faults ≡ store.faults)
-    × Records cal input out now was is o
+abbrev pub RecordEnds : CalibrationParts → RunInput → Call → Outcome → Type 0
+RecordEnds cal input call o = MeetsNoFault call.store × Records cal input call.out call.ticks o
 
 -- ---- `sweep [--cal NAME] CAMPAIGN RUN STEP` ----
 
 -- The runs of a sweep were played, as one group, and their table was written: on Done all of it. The record
 -- of each keeps the headline; and under each class but lapses, and so in the last line, the greatest
 -- reaction is at most the worst-case reaction.
-pub record Sweeps (cal : CalibrationParts) (step : ℕ) (input : RunInput) (out now : ShownSink)
-    (was is : TickCount) (o : Outcome) : Type 0 where
+pub record Sweeps (cal : CalibrationParts) (step : ℕ) (input : RunInput) (out : Change ShownSink)
+    (ticks : Change TickCount) (o : Outcome) : Type 0 where
   pub plays : Plays (swept_text cal step input) (map (run_with cal) (runs_over step input))
-      (rows_of_group cal (runs_over step input)) out now was is o
+      (rows_of_group cal (runs_over step input)) out ticks o
   pub in_time : IsBounded (reaction_of cal.times) (table_over cal step input)
 
 -- a grid is refused where it is too large, and else the work is done
@@ -126,19 +131,18 @@ GridEnds true nothing work o = (o ≡ outcome.Refused refusal.Grid) × nothing
 GridEnds false nothing work o = work
 
 -- the input of the run is known, and no fault of reading was met
-abbrev pub SweepEnds : CalibrationParts → (step : ℕ) → RunInput → ShownStore → ShownStore → ShownSink
-    → ShownSink → TickCount → TickCount → Outcome → Type 0
-SweepEnds cal step input store later out now was is o = (later.faults ≡ store.faults)
-    × GridEnds (is_too_large (length input.drive) step) (NothingPlayed out now was is)
-    (Sweeps cal step input out now was is o) o
+abbrev pub SweepEnds : CalibrationParts → (step : ℕ) → RunInput → Call → Outcome → Type 0
+SweepEnds cal step input call o = MeetsNoFault call.store
+    × GridEnds (is_too_large (length input.drive) step) (NothingPlayed call.out call.ticks)
+    (Sweeps cal step input call.out call.ticks o) o
 
 -- ---- which runs are played ----
 
 -- the campaign is read, and the work follows with its runs
-abbrev pub CampaignEnds : List ℕ → ShownStore → ShownStore → (nothing : Type 0)
-    → (List RunPlan → Outcome → Type 0) → Outcome → Type 0
-CampaignEnds campaign store later nothing work o = (come : Result (List RunPlan) Outcome)
-    × FileComes role.Campaign campaign_file campaign store later come × WorkFollows work nothing come o
+abbrev pub CampaignEnds : List ℕ → (List RunPlan → Call → Outcome → Type 0) → Call → Outcome → Type 0
+CampaignEnds campaign work call o = (come : Result (List RunPlan) Outcome)
+    × FileComes role.Campaign campaign_file campaign call.store come
+    × WorkFollows (λ plans. work plans call) (NothingPlayed call.out call.ticks) come o
 
 -- the first run of this name, with its number, where n is the number of the first run of the list
 abbrev pub run_named : List ℕ → ℕ → List RunPlan → Option (ℕ × RunPlan)
@@ -147,53 +151,50 @@ run_named name n (plan ∷ plans) =
     if bytes_eq plan.name name then Some (n, plan) else run_named name (n + 1) plans
 
 -- there is no run of that name, or its files are read; no count of ticks is refused here
-abbrev pub FoundComes : Option (ℕ × RunPlan) → ShownStore → ShownStore → Result RunInput Outcome → Type 0
-FoundComes None store later come =
-    (come ≡ Err (outcome.Refused refusal.NoRun)) × (later.faults ≡ store.faults)
-FoundComes (Some found) store later come = InputComes (λ count. None) store later found.0 found.1 come
+abbrev pub FoundComes : Option (ℕ × RunPlan) → Change ShownStore → Result RunInput Outcome → Type 0
+FoundComes None store come = (come ≡ Err (outcome.Refused refusal.NoRun)) × MeetsNoFault store
+FoundComes (Some found) store come = InputComes (λ count. None) store found.0 found.1 come
 
 -- the campaign is read, and then the files of its run of that name
-abbrev pub NamedComes : (campaign name : List ℕ) → ShownStore → ShownStore → Result RunInput Outcome → Type 0
-NamedComes campaign name store later come = (plans : Result (List RunPlan) Outcome)
-    × FileComes role.Campaign campaign_file campaign store later plans
-    × Then (λ found made. FoundComes (run_named name 1 found) store later made) plans come
+abbrev pub NamedComes : (campaign name : List ℕ) → Change ShownStore → Result RunInput Outcome → Type 0
+NamedComes campaign name store come = (plans : Result (List RunPlan) Outcome)
+    × FileComes role.Campaign campaign_file campaign store plans
+    × Then (λ found made. FoundComes (run_named name 1 found) store made) plans come
 
 -- the input of the run of that name comes, and the work follows with it
-abbrev pub NamedEnds : (campaign name : List ℕ) → ShownStore → ShownStore → (nothing : Type 0)
-    → (RunInput → Outcome → Type 0) → Outcome → Type 0
-NamedEnds campaign name store later nothing work o = (come : Result RunInput Outcome)
-    × NamedComes campaign name store later come × WorkFollows work nothing come o
+abbrev pub NamedEnds :
+    (campaign name : List ℕ) → (RunInput → Call → Outcome → Type 0) → Call → Outcome → Type 0
+NamedEnds campaign name work call o = (come : Result RunInput Outcome)
+    × NamedComes campaign name call.store come
+    × WorkFollows (λ input. work input call) (NothingPlayed call.out call.ticks) come o
 
 -- ---- each command ----
 
-abbrev pub CampaignCommandEnds : Telling → Option (List ℕ) → List ℕ → ShownStore → ShownStore → ShownSink
-    → ShownSink → TickCount → TickCount → Outcome → Type 0
-CampaignCommandEnds telling calibration campaign store later out now was is o =
-    CalibratedEnds calibration store later (NothingPlayed out now was is)
-    (λ cal. CampaignEnds campaign store later (NothingPlayed out now was is)
-    (λ plans. RunsEnd telling cal plans store later out now was is)) o
+-- the calibration comes, and what the command does by it follows
+abbrev pub CommandEnds :
+    Option (List ℕ) → (CalibrationParts → Call → Outcome → Type 0) → Call → Outcome → Type 0
+CommandEnds calibration work call o =
+    CalibratedEnds calibration call.store (NothingPlayed call.out call.ticks) (λ cal. work cal call) o
 
-abbrev pub RecordCommandEnds : Option (List ℕ) → List ℕ → List ℕ → ShownStore → ShownStore → ShownSink
-    → ShownSink → TickCount → TickCount → Outcome → Type 0
-RecordCommandEnds calibration campaign name store later out now was is o =
-    CalibratedEnds calibration store later (NothingPlayed out now was is)
-    (λ cal. NamedEnds campaign name store later (NothingPlayed out now was is)
-    (λ input. RecordEnds cal input store later out now was is)) o
+abbrev pub CampaignCommandEnds : Telling → Option (List ℕ) → List ℕ → Call → Outcome → Type 0
+CampaignCommandEnds telling calibration campaign =
+    CommandEnds calibration (λ cal. CampaignEnds campaign (RunsEnd telling cal))
 
-abbrev pub SweepCommandEnds : Option (List ℕ) → List ℕ → List ℕ → (step : ℕ) → ShownStore → ShownStore
-    → ShownSink → ShownSink → TickCount → TickCount → Outcome → Type 0
-SweepCommandEnds calibration campaign name step store later out now was is o =
-    CalibratedEnds calibration store later (NothingPlayed out now was is)
-    (λ cal. NamedEnds campaign name store later (NothingPlayed out now was is)
-    (λ input. SweepEnds cal step input store later out now was is)) o
+abbrev pub RecordCommandEnds : Option (List ℕ) → List ℕ → List ℕ → Call → Outcome → Type 0
+RecordCommandEnds calibration campaign name =
+    CommandEnds calibration (λ cal. NamedEnds campaign name (RecordEnds cal))
+
+abbrev pub SweepCommandEnds : Option (List ℕ) → List ℕ → List ℕ → (step : ℕ) → Call → Outcome → Type 0
+SweepCommandEnds calibration campaign name step =
+    CommandEnds calibration (λ cal. NamedEnds campaign name (SweepEnds cal step))
 
 -- ---- when the work is done ----
 
 -- the run is there, its files are found, and whatever reads of them may give is accepted
-abbrev pub AcceptsNamed : ShownStore → ShownStore → Option (ℕ × RunPlan) → Type 0
-AcceptsNamed store later None = ⊥
-AcceptsNamed store later (Some found) =
-    FindsInput store later found.1 × AcceptsInput (λ count. None) store found.0 found.1
+abbrev pub AcceptsNamed : Change ShownStore → Option (ℕ × RunPlan) → Type 0
+AcceptsNamed store None = ⊥
+AcceptsNamed store (Some found) =
+    FindsInput store found.1 × AcceptsInput (λ count. None) store.before found.0 found.1
 
 -- whatever the trace of this run may say, the grid over it isn't too large
 abbrev pub AcceptsGrid : (step : ℕ) → ShownStore → Option (ℕ × RunPlan) → Type 0

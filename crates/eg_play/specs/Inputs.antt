@@ -7,6 +7,7 @@ use Rattle.eg_plan.specs.Ticks.{sum_with}
 use Rattle.eg_plan.specs.declared.key.CampaignFault.{CampaignFault}
 use Rattle.eg_plan.specs.declared.run.RunPlan.{RunPlan}
 use Rattle.eg_campaign.specs.declared.play.RunInput.{RunInput}
+use Rattle.eg_outcome.specs.Changes.{Change, MeetsNoFault}
 use Rattle.eg_outcome.specs.Outcomes.{Then}
 use Rattle.eg_outcome.specs.Reads.{FileComes, ReadComes, Finds, Accepts}
 use Rattle.eg_outcome.specs.declared.outcome.Outcome.{Outcome}
@@ -25,25 +26,24 @@ input_of plan drive words = record { plan = plan; drive = drive; image = words }
 
 -- the image of run n is read, where its drive is known
 abbrev pub ImageComes :
-    ShownStore → ShownStore → ℕ → RunPlan → List DriveRow → Result RunInput Outcome → Type 0
-ImageComes store later n plan drive come = (image : Result (List ℕ) Outcome)
-    × FileComes (role.Image n) (image_file n) plan.image store later image
+    Change ShownStore → ℕ → RunPlan → List DriveRow → Result RunInput Outcome → Type 0
+ImageComes store n plan drive come = (image : Result (List ℕ) Outcome)
+    × FileComes (role.Image n) (image_file n) plan.image store image
     × Then (λ words made. made ≡ Ok (input_of plan drive words)) image come
 
 -- where the count of its ticks is refused, the call ends before the image is read
-abbrev pub TicksCome : Option Refusal → ShownStore → ShownStore → ℕ → RunPlan → List DriveRow
+abbrev pub TicksCome : Option Refusal → Change ShownStore → ℕ → RunPlan → List DriveRow
     → Result RunInput Outcome → Type 0
-TicksCome (Some r) store later n plan drive come =
-    (come ≡ Err (outcome.Refused r)) × (later.faults ≡ store.faults)
-TicksCome None store later n plan drive come = ImageComes store later n plan drive come
+TicksCome (Some r) store n plan drive come = (come ≡ Err (outcome.Refused r)) × MeetsNoFault store
+TicksCome None store n plan drive come = ImageComes store n plan drive come
 
 -- What comes of the files of run n: first its trace, then its image. `refuses` tells which counts of ticks
 -- are refused.
-abbrev pub InputComes : (ℕ → Option Refusal) → ShownStore → ShownStore → ℕ → RunPlan → Result RunInput Outcome
-    → Type 0
-InputComes refuses store later n plan come = (trace : Result (List DriveRow) Outcome)
-    × FileComes (role.Trace n) (trace_file n) plan.trace store later trace
-    × Then (λ drive made. TicksCome (refuses (length drive)) store later n plan drive made) trace come
+abbrev pub InputComes :
+    (ℕ → Option Refusal) → Change ShownStore → ℕ → RunPlan → Result RunInput Outcome → Type 0
+InputComes refuses store n plan come = (trace : Result (List DriveRow) Outcome)
+    × FileComes (role.Trace n) (trace_file n) plan.trace store trace
+    × Then (λ drive made. TicksCome (refuses (length drive)) store n plan drive made) trace come
 
 -- ---- all runs of a campaign ----
 
@@ -67,19 +67,19 @@ outcomes (Err end) = Err end.outcome
 
 -- What comes of the files of the runs from run n on, in their order, where the runs before have `sum` ticks.
 abbrev pub InputsCome :
-    ShownStore → ShownStore → ℕ → ℕ → List RunPlan → Result (List RunInput) Outcome → Type 0
-InputsCome store later n sum [] come = come ≡ Ok []
-InputsCome store later n sum (plan ∷ plans) come = (first : Result RunInput Outcome)
-    × InputComes (too_many sum n) store later n plan first
+    Change ShownStore → ℕ → ℕ → List RunPlan → Result (List RunInput) Outcome → Type 0
+InputsCome store n sum [] come = come ≡ Ok []
+InputsCome store n sum (plan ∷ plans) come = (first : Result RunInput Outcome)
+    × InputComes (too_many sum n) store n plan first
     × Then (λ input made. (rest : Result (List RunInput) Outcome)
-    × InputsCome store later (n + 1) (sum + length input.drive) plans rest
+    × InputsCome store (n + 1) (sum + length input.drive) plans rest
     × Then (λ inputs all. all ≡ Ok (input ∷ inputs)) rest made) first come
 
 -- ---- when they are there, and when they are accepted ----
 
 -- the files of a run are found
-abbrev pub FindsInput : ShownStore → ShownStore → RunPlan → Type 0
-FindsInput store later plan = Finds plan.trace store later × Finds plan.image store later
+abbrev pub FindsInput : Change ShownStore → RunPlan → Type 0
+FindsInput store plan = Finds plan.trace store × Finds plan.image store
 
 -- whatever reads of the files of run n may give is accepted, and so is each count of ticks
 abbrev pub AcceptsInput : (ℕ → Option Refusal) → ShownStore → ℕ → RunPlan → Type 0
@@ -88,9 +88,9 @@ AcceptsInput refuses store n plan = Accepts (trace_file n) plan.trace store
     → ReadComes (trace_file n) plan.trace store (Ok drive) → refuses (length drive) ≡ None)
 
 -- the files of all runs are found
-abbrev pub FindsRuns : ShownStore → ShownStore → List RunPlan → Type 0
-FindsRuns store later [] = Unit {0}
-FindsRuns store later (plan ∷ plans) = FindsInput store later plan × FindsRuns store later plans
+abbrev pub FindsRuns : Change ShownStore → List RunPlan → Type 0
+FindsRuns store [] = Unit {0}
+FindsRuns store (plan ∷ plans) = FindsInput store plan × FindsRuns store plans
 
 -- the same is accepted of all runs from run n on, in their order, where the runs before have `sum` ticks
 abbrev pub AcceptsRuns : ShownStore → ℕ → ℕ → List RunPlan → Type 0

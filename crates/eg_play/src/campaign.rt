@@ -3,6 +3,7 @@ ghost use Rattle.std.specs.Prelude.{IfErr, IfOk};
 ghost use Rattle.eg_toml.specs.Refusals.{IsRead, seen};
 ghost use Rattle.eg_plan.specs.declared.key.CampaignFault.TheVariants.{Memory};
 ghost use Rattle.eg_plan.specs.Rules.{AreRuns};
+ghost use Rattle.eg_outcome.specs.Changes.{change_of};
 ghost use Rattle.eg_outcome.specs.Reads.{KeepsFiles, ReadsFile, Says};
 ghost use Rattle.eg_outcome.specs.declared.outcome.Role.TheVariants as role;
 ghost use Rattle.eg_play.specs.Files.{campaign_said, campaign_or_refusal, campaign_file};
@@ -20,8 +21,8 @@ pub(crate) fn campaign_for<S: Store>(
     store: &mut S,
 ) -> Result<Items<RunPlan>, Outcome>
     ensures reads { ReadsFile role.Campaign campaign_file file.now
-        (S.shows store.old) (S.shows store.new) result }
-    ensures keeps { KeepsFiles (S.shows store.old) (S.shows store.new) result }
+        (change_of S.shows store.old store.new) result }
+    ensures keeps { KeepsFiles (change_of S.shows store.old store.new) result }
     ensures rules { IfOk result AreRuns }
     ensures of_campaign { IfErr result IsNotOfRun }
 {

@@ -5,6 +5,7 @@ ghost use Rattle.eg_num.specs.Drive.{IsDrive};
 ghost use Rattle.eg_fault.specs.Faults.{IsNoneOrValid};
 ghost use Rattle.eg_campaign.specs.Plays.{IsPlayable};
 ghost use Rattle.eg_input.specs.declared.image.TheConstants.{MOST_WORDS};
+ghost use Rattle.eg_outcome.specs.Changes.{change_of};
 ghost use Rattle.eg_outcome.specs.Reads.{KeepsFiles, ReadsFile, Says};
 ghost use Rattle.eg_outcome.specs.Outcomes.{TellsNoMemory};
 ghost use Rattle.eg_outcome.specs.declared.outcome.Outcome.TheVariants.{Refused};
@@ -35,14 +36,14 @@ pub(crate) fn input_for<S: Store>(
 ) -> Result<RunInput, End>
     requires sum { ForSome sum (λ n. n ≤ 1000000) }
     requires fault { IsNoneOrValid plan.fault }
-    ensures comes { InputComes (refusing sum run) (S.shows store.old) (S.shows store.new) run plan
+    ensures comes { InputComes (refusing sum run) (change_of S.shows store.old store.new) run plan
         (outcomes result) }
     ensures playable { IfOk result IsPlayable }
     ensures sum { IfOk result (λ input. ForSome sum (λ n. n + length input.drive ≤ 1000000)) }
     ensures named { IfErr result (λ end. (end.file ≡ name_by plan (role_in end.outcome))
         × IsOf run (role_in end.outcome)) }
     ensures no_memory { IfErr result (λ end. TellsNoMemory end.outcome) }
-    ensures keeps { KeepsFiles (S.shows store.old) (S.shows store.new) result }
+    ensures keeps { KeepsFiles (change_of S.shows store.old store.new) result }
 {
     let drive = match drive_for(alloc, run, plan.trace.as_str(), store) {
         Ok(drive) => drive,
@@ -62,14 +63,14 @@ fn with_image<S: Store>(
     drive: Items<Drive>,
     store: &mut S,
 ) -> Result<RunInput, End>
-    ensures comes { ImageComes (S.shows store.old) (S.shows store.new) run plan drive (outcomes result) }
+    ensures comes { ImageComes (change_of S.shows store.old store.new) run plan drive (outcomes result) }
     ensures plan { IfOk result (λ input. input.plan ≡ plan) }
     ensures drive { IfOk result (λ input. input.drive ≡ drive) }
     ensures image { IfOk result (λ input. length input.image ≤ MOST_WORDS) }
     ensures named { IfErr result (λ end. (end.file ≡ name_by plan (role_in end.outcome))
         × IsOf run (role_in end.outcome)) }
     ensures no_memory { IfErr result (λ end. TellsNoMemory end.outcome) }
-    ensures keeps { KeepsFiles (S.shows store.old) (S.shows store.new) result }
+    ensures keeps { KeepsFiles (change_of S.shows store.old store.new) result }
 {
     match image_for(alloc, run, plan.image.as_str(), store) {
         Ok(image) => Ok(RunInput { plan, drive, image }),
@@ -130,8 +131,8 @@ fn drive_for<S: Store>(
     store: &mut S,
 ) -> Result<Items<Drive>, Outcome>
     ensures reads { ReadsFile (role.Trace run) (trace_file run) file.now
-        (S.shows store.old) (S.shows store.new) result }
-    ensures keeps { KeepsFiles (S.shows store.old) (S.shows store.new) result }
+        (change_of S.shows store.old store.new) result }
+    ensures keeps { KeepsFiles (change_of S.shows store.old store.new) result }
     ensures drive { IfOk result (λ drive. (1 ≤ length drive) × (length drive ≤ 20000) × All IsDrive drive) }
     ensures role { IfErr result (λ outcome. IsOf run (role_in outcome)) }
 {
@@ -162,8 +163,8 @@ fn image_for<S: Store>(
     store: &mut S,
 ) -> Result<Items<u16>, Outcome>
     ensures reads { ReadsFile (role.Image run) (image_file run) file.now
-        (S.shows store.old) (S.shows store.new) result }
-    ensures keeps { KeepsFiles (S.shows store.old) (S.shows store.new) result }
+        (change_of S.shows store.old store.new) result }
+    ensures keeps { KeepsFiles (change_of S.shows store.old store.new) result }
     ensures image { IfOk result (λ image. length image ≤ MOST_WORDS) }
     ensures role { IfErr result (λ outcome. IsOf run (role_in outcome)) }
 {

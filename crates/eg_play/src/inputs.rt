@@ -2,6 +2,7 @@
 ghost use Rattle.std.specs.Prelude.{◌≡◌, ◌≤◌, ◌++◌, ◌∷◌, [], All, None, length, IfErr, IfOk, OnOk};
 ghost use Rattle.eg_fault.specs.Faults.{IsNoneOrValid};
 ghost use Rattle.eg_campaign.specs.Plays.{IsPlayable};
+ghost use Rattle.eg_outcome.specs.Changes.{change_of};
 ghost use Rattle.eg_outcome.specs.Outcomes.{TellsNoMemory};
 ghost use Rattle.eg_outcome.specs.Reads.{KeepsFiles};
 ghost use Rattle.eg_outcome.specs.declared.outcome.Outcome.TheVariants.{Memory};
@@ -24,12 +25,12 @@ pub(crate) fn inputs_for<S: Store>(
 ) -> Result<Items<RunInput>, End>
     requires faults { All (λ plan. IsNoneOrValid plan.fault) plans }
     requires most { length plans ≤ 1000 }
-    ensures comes { InputsCome (S.shows store.old) (S.shows store.new) 1 0 plans (outcomes result) }
+    ensures comes { InputsCome (change_of S.shows store.old store.new) 1 0 plans (outcomes result) }
     ensures playable { IfOk result (λ inputs. All IsPlayable inputs) }
     ensures named { IfErr result (λ end. end.file ≡ name_for plans (role_in end.outcome)) }
     ensures some { IfErr result (λ end. IsNamedIfOfRun (role_in end.outcome) end.file) }
     ensures no_memory { IfErr result (λ end. TellsNoMemory end.outcome) }
-    ensures keeps { KeepsFiles (S.shows store.old) (S.shows store.new) result }
+    ensures keeps { KeepsFiles (change_of S.shows store.old store.new) result }
 {
     let mut inputs = Vec::new(alloc);
     let mut sum = 0;

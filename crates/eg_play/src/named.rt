@@ -3,6 +3,7 @@ ghost use Rattle.std.specs.Prelude.{◌≡◌, IsTrue, IfErr, IfOk, Err, bytes_e
 ghost use Rattle.eg_base.specs.Outside.{IsMissing};
 ghost use Rattle.eg_plan.specs.Rules.{AreRuns};
 ghost use Rattle.eg_campaign.specs.Plays.{IsPlayable};
+ghost use Rattle.eg_outcome.specs.Changes.{change_of};
 ghost use Rattle.eg_outcome.specs.Outcomes.{TellsNoMemory};
 ghost use Rattle.eg_outcome.specs.Reads.{KeepsFiles};
 ghost use Rattle.eg_outcome.specs.declared.outcome.Outcome.TheVariants.{ReadFault};
@@ -27,7 +28,7 @@ pub(crate) fn input_named<S: Store>(
     name: &str,
     store: &mut S,
 ) -> Result<RunInput, End>
-    ensures comes { NamedComes campaign.now name.now (S.shows store.old) (S.shows store.new)
+    ensures comes { NamedComes campaign.now name.now (change_of S.shows store.old store.new)
         (outcomes result) }
     ensures playable { IfOk result IsPlayable }
     ensures named { IfErr result (λ end.
@@ -35,7 +36,7 @@ pub(crate) fn input_named<S: Store>(
     ensures missing { IsTrue (S.shows store.old).sure → IsMissing (S.shows store.old).files campaign.now
         → outcomes result ≡ Err (ReadFault role.Campaign) }
     ensures no_memory { IfErr result (λ end. TellsNoMemory end.outcome) }
-    ensures keeps { KeepsFiles (S.shows store.old) (S.shows store.new) result }
+    ensures keeps { KeepsFiles (change_of S.shows store.old store.new) result }
 {
     match campaign_for(alloc, campaign, store) {
         Ok(plans) => input_among(alloc, plans, name, store),
@@ -51,13 +52,13 @@ fn input_among<S: Store>(
     store: &mut S,
 ) -> Result<RunInput, End>
     requires rules { AreRuns plans }
-    ensures comes { FoundComes (run_named name.now 1 plans) (S.shows store.old) (S.shows store.new)
+    ensures comes { FoundComes (run_named name.now 1 plans) (change_of S.shows store.old store.new)
         (outcomes result) }
     ensures playable { IfOk result IsPlayable }
     ensures named { IfErr result (λ end. end.file ≡ name_for plans (role_in end.outcome)) }
     ensures some { IfErr result (λ end. IsNamedIfOfRun (role_in end.outcome) end.file) }
     ensures no_memory { IfErr result (λ end. TellsNoMemory end.outcome) }
-    ensures keeps { KeepsFiles (S.shows store.old) (S.shows store.new) result }
+    ensures keeps { KeepsFiles (change_of S.shows store.old store.new) result }
 {
     let mut run = 1;
     for plan in plans.into_vec() {

@@ -2,11 +2,12 @@
 ghost use Rattle.std.specs.Prelude.{◌≡◌, IsTrue, None};
 ghost use Rattle.std.specs.Option.{option_copied};
 ghost use Rattle.eg_base.specs.Outside.{IsMissing};
+ghost use Rattle.eg_outcome.specs.Changes.{change, change_of};
 ghost use Rattle.eg_outcome.specs.Calibrations.{MissesCalibration};
 ghost use Rattle.eg_outcome.specs.Outcomes.{EndsOrderly};
 ghost use Rattle.eg_outcome.specs.declared.outcome.Outcome.TheVariants.{ReadFault};
 ghost use Rattle.eg_outcome.specs.declared.outcome.Role.TheVariants as role;
-ghost use Rattle.eg_play.specs.Ends.{NothingPlayed, NamedEnds, RecordEnds, RecordCommandEnds, NamesFile, role_in};
+ghost use Rattle.eg_play.specs.Ends.{call, NamedEnds, RecordEnds, RecordCommandEnds, NamesFile, role_in};
 
 use crate::End;
 use crate::named::input_named;
@@ -30,8 +31,8 @@ pub fn record<S: Store, K: Sink>(
     steps: &mut Ticks,
 ) -> End
     ensures ends { RecordCommandEnds (option_copied calibration.entry) campaign.now name.now
-        (S.shows store.old) (S.shows store.new) (K.shows out.old) (K.shows out.new)
-        steps.old steps.new result.outcome }
+        (call (change_of S.shows store.old store.new)
+        (change_of K.shows out.old out.new) (change steps.old steps.new)) result.outcome }
     ensures named { NamesFile campaign.now (S.shows store.old) (role_in result.outcome) result.file }
     // Over a sure store a missing calibration is told, and so is a missing campaign that is read first.
     ensures missing { IsTrue (S.shows store.old).sure
@@ -39,8 +40,8 @@ pub fn record<S: Store, K: Sink>(
         → result.outcome ≡ ReadFault role.Calibration }
     ensures missing_campaign { IsTrue (S.shows store.old).sure → option_copied calibration.entry ≡ None
         → IsMissing (S.shows store.old).files campaign.now → result.outcome ≡ ReadFault role.Campaign }
-    ensures orderly { EndsOrderly (S.shows store.old) (S.shows store.new) out.old out.new
-        steps.old steps.new result.outcome }
+    ensures orderly { EndsOrderly (change_of S.shows store.old store.new) (change out.old out.new)
+        (change steps.old steps.new) result.outcome }
 {
     match calibration_for(alloc, calibration, store) {
         Ok(calibration) => record_by(alloc, &calibration, campaign, name, store, out, steps),
@@ -58,15 +59,14 @@ fn record_by<S: Store, K: Sink>(
     out: &mut K,
     steps: &mut Ticks,
 ) -> End
-    ensures ends { NamedEnds campaign.now name.now (S.shows store.old) (S.shows store.new)
-        (NothingPlayed (K.shows out.old) (K.shows out.new) steps.old steps.new)
-        (λ input. RecordEnds calibration.now input (S.shows store.old) (S.shows store.new)
-        (K.shows out.old) (K.shows out.new) steps.old steps.new) result.outcome }
+    ensures ends { NamedEnds campaign.now name.now (RecordEnds calibration.now)
+        (call (change_of S.shows store.old store.new)
+        (change_of K.shows out.old out.new) (change steps.old steps.new)) result.outcome }
     ensures missing_campaign { IsTrue (S.shows store.old).sure
         → IsMissing (S.shows store.old).files campaign.now → result.outcome ≡ ReadFault role.Campaign }
     ensures named { NamesFile campaign.now (S.shows store.old) (role_in result.outcome) result.file }
-    ensures orderly { EndsOrderly (S.shows store.old) (S.shows store.new) out.old out.new
-        steps.old steps.new result.outcome }
+    ensures orderly { EndsOrderly (change_of S.shows store.old store.new) (change out.old out.new)
+        (change steps.old steps.new) result.outcome }
 {
     match input_named(alloc, campaign, name, store) {
         Ok(input) => End::of(put_record(alloc, calibration, &input, out, steps)),

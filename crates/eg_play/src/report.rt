@@ -2,6 +2,7 @@
 ghost use Rattle.std.specs.Prelude.{All, map};
 ghost use Rattle.eg_campaign.specs.Groups.{rows_made};
 ghost use Rattle.eg_campaign.specs.Plays.{IsPlayable, run_with};
+ghost use Rattle.eg_outcome.specs.Changes.{change, change_of};
 ghost use Rattle.eg_outcome.specs.Outcomes.{PutsNothing};
 ghost use Rattle.eg_play.specs.Texts.{report_text};
 ghost use Rattle.eg_play.specs.Ends.{Plays, Records, Tells};
@@ -28,7 +29,7 @@ pub(crate) fn put_told<K: Sink>(
 ) -> Outcome
     requires { All IsPlayable inputs.now }
     ensures tells { Tells telling calibration.now inputs.now
-        (K.shows out.old) (K.shows out.new) steps.old steps.new result }
+        (change_of K.shows out.old out.new) (change steps.old steps.new) result }
     ensures put { PutsNothing result → ⊥ }
 {
     // Called for its clause alone: the calibration is an accepted one.
@@ -51,7 +52,7 @@ fn put_report<K: Sink>(
     requires { All IsPlayable inputs.now }
     ensures plays { Plays (report_text calibration.now inputs.now)
         (map (run_with calibration.now) inputs.now) (rows_made calibration.now inputs.now)
-        (K.shows out.old) (K.shows out.new) steps.old steps.new result }
+        (change_of K.shows out.old out.new) (change steps.old steps.new) result }
     ensures put { PutsNothing result → ⊥ }
 {
     // Called for its clause alone: the calibration is an accepted one.
@@ -76,7 +77,7 @@ pub(crate) fn put_record<K: Sink>(
 ) -> Outcome
     requires { IsPlayable input.now }
     ensures records { Records calibration.now input.now
-        (K.shows out.old) (K.shows out.new) steps.old steps.new result }
+        (change_of K.shows out.old out.new) (change steps.old steps.new) result }
     ensures put { PutsNothing result → ⊥ }
 {
     // Called for its clause alone: the calibration is an accepted one.

@@ -2,6 +2,7 @@
 ghost use Rattle.std.specs.Prelude.{◌≡◌, All, map, IfOk};
 ghost use Rattle.eg_campaign.specs.Groups.{rows_made};
 ghost use Rattle.eg_campaign.specs.Plays.{IsPlayable, run_with};
+ghost use Rattle.eg_outcome.specs.Changes.{change, change_of};
 ghost use Rattle.eg_outcome.specs.Outcomes.{PutsNothing};
 ghost use Rattle.eg_play.specs.Texts.{table_text, table_by};
 ghost use Rattle.eg_play.specs.Ends.{Plays};
@@ -28,7 +29,7 @@ pub(crate) fn put_run_table<K: Sink>(
     requires { All IsPlayable inputs.now }
     ensures plays { Plays (table_text calibration.now inputs.now)
         (map (run_with calibration.now) inputs.now) (rows_made calibration.now inputs.now)
-        (K.shows out.old) (K.shows out.new) steps.old steps.new result }
+        (change_of K.shows out.old out.new) (change steps.old steps.new) result }
     ensures put { PutsNothing result → ⊥ }
 {
     // Called for its clause alone: the calibration is an accepted one.

@@ -3,11 +3,12 @@ ghost use Rattle.std.specs.Prelude.{◌≡◌, IsTrue, None};
 ghost use Rattle.std.specs.Option.{option_copied};
 ghost use Rattle.eg_base.specs.Outside.{IsMissing};
 ghost use Rattle.eg_plan.specs.Rules.{AreRuns};
+ghost use Rattle.eg_outcome.specs.Changes.{change, change_of};
 ghost use Rattle.eg_outcome.specs.Calibrations.{MissesCalibration};
 ghost use Rattle.eg_outcome.specs.Outcomes.{EndsOrderly};
 ghost use Rattle.eg_outcome.specs.declared.outcome.Outcome.TheVariants.{ReadFault};
 ghost use Rattle.eg_outcome.specs.declared.outcome.Role.TheVariants as role;
-ghost use Rattle.eg_play.specs.Ends.{NothingPlayed, RunsEnd, CampaignEnds, CampaignCommandEnds, NamesFile, role_in, name_for, IsNamedIfOfRun};
+ghost use Rattle.eg_play.specs.Ends.{call, RunsEnd, CampaignEnds, CampaignCommandEnds, NamesFile, role_in, name_for, IsNamedIfOfRun};
 
 use crate::campaign::campaign_for;
 use crate::inputs::inputs_for;
@@ -33,8 +34,8 @@ pub fn run<S: Store, K: Sink>(
     steps: &mut Ticks,
 ) -> End
     ensures ends { CampaignCommandEnds telling (option_copied calibration.entry) campaign.now
-        (S.shows store.old) (S.shows store.new) (K.shows out.old) (K.shows out.new) steps.old steps.new
-        result.outcome }
+        (call (change_of S.shows store.old store.new)
+        (change_of K.shows out.old out.new) (change steps.old steps.new)) result.outcome }
     ensures named { NamesFile campaign.now (S.shows store.old) (role_in result.outcome) result.file }
     // Over a sure store a missing calibration is told, and so is a missing campaign that is read first.
     ensures missing { IsTrue (S.shows store.old).sure
@@ -42,8 +43,8 @@ pub fn run<S: Store, K: Sink>(
         → result.outcome ≡ ReadFault role.Calibration }
     ensures missing_campaign { IsTrue (S.shows store.old).sure → option_copied calibration.entry ≡ None
         → IsMissing (S.shows store.old).files campaign.now → result.outcome ≡ ReadFault role.Campaign }
-    ensures orderly { EndsOrderly (S.shows store.old) (S.shows store.new) out.old out.new
-        steps.old steps.new result.outcome }
+    ensures orderly { EndsOrderly (change_of S.shows store.old store.new) (change out.old out.new)
+        (change steps.old steps.new) result.outcome }
 {
     match calibration_for(alloc, calibration, store) {
         Ok(calibration) => run_by(alloc, telling, &calibration, campaign, store, out, steps),
@@ -61,15 +62,14 @@ fn run_by<S: Store, K: Sink>(
     out: &mut K,
     steps: &mut Ticks,
 ) -> End
-    ensures ends { CampaignEnds campaign.now (S.shows store.old) (S.shows store.new)
-        (NothingPlayed (K.shows out.old) (K.shows out.new) steps.old steps.new)
-        (λ plans. RunsEnd telling calibration.now plans (S.shows store.old) (S.shows store.new)
-        (K.shows out.old) (K.shows out.new) steps.old steps.new) result.outcome }
+    ensures ends { CampaignEnds campaign.now (RunsEnd telling calibration.now)
+        (call (change_of S.shows store.old store.new)
+        (change_of K.shows out.old out.new) (change steps.old steps.new)) result.outcome }
     ensures missing_campaign { IsTrue (S.shows store.old).sure
         → IsMissing (S.shows store.old).files campaign.now → result.outcome ≡ ReadFault role.Campaign }
     ensures named { NamesFile campaign.now (S.shows store.old) (role_in result.outcome) result.file }
-    ensures orderly { EndsOrderly (S.shows store.old) (S.shows store.new) out.old out.new
-        steps.old steps.new result.outcome }
+    ensures orderly { EndsOrderly (change_of S.shows store.old store.new) (change out.old out.new)
+        (change steps.old steps.new) result.outcome }
 {
     match campaign_for(alloc, campaign, store) {
         Ok(plans) => run_plans(alloc, telling, calibration, plans, store, out, steps),
@@ -88,12 +88,12 @@ fn run_plans<S: Store, K: Sink>(
     steps: &mut Ticks,
 ) -> End
     requires rules { AreRuns plans }
-    ensures ends { RunsEnd telling calibration.now plans (S.shows store.old) (S.shows store.new)
-        (K.shows out.old) (K.shows out.new) steps.old steps.new result.outcome }
+    ensures ends { RunsEnd telling calibration.now plans (call (change_of S.shows store.old store.new)
+        (change_of K.shows out.old out.new) (change steps.old steps.new)) result.outcome }
     ensures named { result.file ≡ name_for plans (role_in result.outcome) }
     ensures some { IsNamedIfOfRun (role_in result.outcome) result.file }
-    ensures orderly { EndsOrderly (S.shows store.old) (S.shows store.new) out.old out.new
-        steps.old steps.new result.outcome }
+    ensures orderly { EndsOrderly (change_of S.shows store.old store.new) (change out.old out.new)
+        (change steps.old steps.new) result.outcome }
 {
     match inputs_for(alloc, plans, store) {
         Ok(inputs) => End::of(put_told(alloc, telling, calibration, inputs.as_slice(), out, steps)),

@@ -5,6 +5,7 @@ ghost use Rattle.eg_campaign.specs.Plays.{IsPlayable, run_with};
 ghost use Rattle.eg_sweep.specs.Grid.{is_too_large};
 ghost use Rattle.eg_sweep.specs.Table.{table_of};
 ghost use Rattle.eg_sweep.specs.Texts.{sweep_text_of};
+ghost use Rattle.eg_outcome.specs.Changes.{change, change_of};
 ghost use Rattle.eg_outcome.specs.Outcomes.{PutsNothing, TellsNoMemory};
 ghost use Rattle.eg_play.specs.Ends.{NothingPlayed, GridEnds, Plays, Sweeps};
 
@@ -31,9 +32,9 @@ pub(crate) fn put_table<K: Sink>(
     requires playable { IsPlayable input.now }
     requires step { 1 ≤ step }
     ensures ends { GridEnds (is_too_large (length input.now.drive) step)
-        (NothingPlayed (K.shows out.old) (K.shows out.new) steps.old steps.new)
-        (Sweeps calibration.now step input.now (K.shows out.old) (K.shows out.new) steps.old steps.new result)
-        result }
+        (NothingPlayed (change_of K.shows out.old out.new) (change steps.old steps.new))
+        (Sweeps calibration.now step input.now (change_of K.shows out.old out.new)
+        (change steps.old steps.new) result) result }
     ensures no_memory { TellsNoMemory result }
     ensures nothing_put { PutsNothing result → out.new ≡ out.old }
     ensures nothing_played { PutsNothing result → steps.new ≡ steps.old }
@@ -66,7 +67,7 @@ fn put_rows<K: Sink>(
     requires most { length faults.now ≤ 1000 }
     ensures plays { Plays (sweep_text_of (table_of faults.now (map (facts_by calibration.now) inputs.now)))
         (map (run_with calibration.now) inputs.now) (rows_made calibration.now inputs.now)
-        (K.shows out.old) (K.shows out.new) steps.old steps.new result }
+        (change_of K.shows out.old out.new) (change steps.old steps.new) result }
     ensures put { PutsNothing result → ⊥ }
 {
     // Called for its clause alone: the calibration is an accepted one.

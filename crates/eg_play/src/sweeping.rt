@@ -2,11 +2,12 @@
 ghost use Rattle.std.specs.Prelude.{◌≡◌, ◌≤◌, IsTrue, None};
 ghost use Rattle.std.specs.Option.{option_copied};
 ghost use Rattle.eg_base.specs.Outside.{IsMissing};
+ghost use Rattle.eg_outcome.specs.Changes.{change, change_of};
 ghost use Rattle.eg_outcome.specs.Calibrations.{MissesCalibration};
 ghost use Rattle.eg_outcome.specs.Outcomes.{EndsOrderly};
 ghost use Rattle.eg_outcome.specs.declared.outcome.Outcome.TheVariants.{ReadFault};
 ghost use Rattle.eg_outcome.specs.declared.outcome.Role.TheVariants as role;
-ghost use Rattle.eg_play.specs.Ends.{NothingPlayed, NamedEnds, SweepEnds, SweepCommandEnds, NamesFile, role_in};
+ghost use Rattle.eg_play.specs.Ends.{call, NamedEnds, SweepEnds, SweepCommandEnds, NamesFile, role_in};
 
 use crate::End;
 use crate::named::input_named;
@@ -34,8 +35,8 @@ pub fn sweep<S: Store, K: Sink>(
     requires least { 1 ≤ step }
     requires most { step ≤ 20000 }
     ensures ends { SweepCommandEnds (option_copied calibration.entry) campaign.now name.now step
-        (S.shows store.old) (S.shows store.new) (K.shows out.old) (K.shows out.new)
-        steps.old steps.new result.outcome }
+        (call (change_of S.shows store.old store.new)
+        (change_of K.shows out.old out.new) (change steps.old steps.new)) result.outcome }
     ensures named { NamesFile campaign.now (S.shows store.old) (role_in result.outcome) result.file }
     // Over a sure store a missing calibration is told, and so is a missing campaign that is read first.
     ensures missing { IsTrue (S.shows store.old).sure
@@ -43,8 +44,8 @@ pub fn sweep<S: Store, K: Sink>(
         → result.outcome ≡ ReadFault role.Calibration }
     ensures missing_campaign { IsTrue (S.shows store.old).sure → option_copied calibration.entry ≡ None
         → IsMissing (S.shows store.old).files campaign.now → result.outcome ≡ ReadFault role.Campaign }
-    ensures orderly { EndsOrderly (S.shows store.old) (S.shows store.new) out.old out.new
-        steps.old steps.new result.outcome }
+    ensures orderly { EndsOrderly (change_of S.shows store.old store.new) (change out.old out.new)
+        (change steps.old steps.new) result.outcome }
 {
     match calibration_for(alloc, calibration, store) {
         Ok(calibration) => sweep_by(alloc, &calibration, campaign, name, step, store, out, steps),
@@ -65,15 +66,14 @@ fn sweep_by<S: Store, K: Sink>(
 ) -> End
     requires least { 1 ≤ step }
     requires most { step ≤ 20000 }
-    ensures ends { NamedEnds campaign.now name.now (S.shows store.old) (S.shows store.new)
-        (NothingPlayed (K.shows out.old) (K.shows out.new) steps.old steps.new)
-        (λ input. SweepEnds calibration.now step input (S.shows store.old) (S.shows store.new)
-        (K.shows out.old) (K.shows out.new) steps.old steps.new) result.outcome }
+    ensures ends { NamedEnds campaign.now name.now (SweepEnds calibration.now step)
+        (call (change_of S.shows store.old store.new)
+        (change_of K.shows out.old out.new) (change steps.old steps.new)) result.outcome }
     ensures missing_campaign { IsTrue (S.shows store.old).sure
         → IsMissing (S.shows store.old).files campaign.now → result.outcome ≡ ReadFault role.Campaign }
     ensures named { NamesFile campaign.now (S.shows store.old) (role_in result.outcome) result.file }
-    ensures orderly { EndsOrderly (S.shows store.old) (S.shows store.new) out.old out.new
-        steps.old steps.new result.outcome }
+    ensures orderly { EndsOrderly (change_of S.shows store.old store.new) (change out.old out.new)
+        (change steps.old steps.new) result.outcome }
 {
     match input_named(alloc, campaign, name, store) {
         Ok(input) => End::of(put_table(alloc, calibration, &input, step, out, steps)),

@@ -1,12 +1,13 @@
 // `asm FILE`: the image of a source.
-ghost use Rattle.std.specs.Prelude.{◌≡◌, ◌↔◌, ◌≤◌, length, IsTrue};
+ghost use Rattle.std.specs.Prelude.{◌≡◌, ◌↔◌, ◌≤◌, length, Err, IfErr, IsTrue};
 ghost use Rattle.eg_base.specs.Outside.{IsMissing};
 ghost use Rattle.eg_asm.specs.Listings.{image_text};
+ghost use Rattle.eg_outcome.specs.Changes.{change_of};
 ghost use Rattle.eg_outcome.specs.Outcomes.{LineEnds, TellsNoMemory, PutsNothing};
-ghost use Rattle.eg_outcome.specs.Reads.{KeepsFiles, ReadsFile, Says};
+ghost use Rattle.eg_outcome.specs.Reads.{KeepsFiles};
 ghost use Rattle.eg_outcome.specs.declared.outcome.Outcome.TheVariants.{ReadFault};
 ghost use Rattle.eg_outcome.specs.declared.outcome.Role.TheVariants as role;
-ghost use Rattle.eg_source.specs.Ends.{AsmEnds, source_or_refusal, source_file, source_end};
+ghost use Rattle.eg_source.specs.Ends.{AsmEnds, SourceComes, SourceFileComes, source_end};
 
 use eg_asm::{AsmFault, assemble, image_text};
 use eg_base::{Items, Sink, Store};
@@ -16,8 +17,8 @@ use std::alloc::Global;
 /// Does the work of `asm FILE` (docs/FORMATS.md, "Commands"): reads a source, and writes its image, a line
 /// for each word. The note of a refusal is left to the caller.
 pub fn asm<S: Store, K: Sink>(alloc: Global, file: &str, store: &mut S, out: &mut K) -> Outcome
-    ensures ends { AsmEnds file.now (S.shows store.old) (S.shows store.new)
-        (K.shows out.old) (K.shows out.new) result }
+    ensures ends { AsmEnds file.now (change_of S.shows store.old store.new)
+        (change_of K.shows out.old out.new) result }
     // Over a sure store a fault of reading is told exactly if there is no such file.
     ensures missing { IsTrue (S.shows store.old).sure →
         ((result ≡ ReadFault role.Source) ↔ IsMissing (S.shows store.old).files file.now) }
@@ -33,9 +34,11 @@ pub fn asm<S: Store, K: Sink>(alloc: Global, file: &str, store: &mut S, out: &mu
 
 /// The words of the source of that name, or how the call ends without them.
 fn source_words<S: Store>(alloc: Global, file: &str, store: &mut S) -> Result<Items<u16>, Outcome>
-    ensures reads { ReadsFile role.Source source_file file.now
-        (S.shows store.old) (S.shows store.new) result }
-    ensures keeps { KeepsFiles (S.shows store.old) (S.shows store.new) result }
+    ensures comes { SourceFileComes file.now (change_of S.shows store.old store.new) result }
+    ensures missing { IsTrue (S.shows store.old).sure →
+        ((result ≡ Err (ReadFault role.Source)) ↔ IsMissing (S.shows store.old).files file.now) }
+    ensures no_memory { IfErr result TellsNoMemory }
+    ensures keeps { KeepsFiles (change_of S.shows store.old store.new) result }
 {
     match file_bytes(alloc, Role::Source, file, store) {
         Ok(bytes) => words_in(alloc, bytes.as_slice()),
@@ -46,7 +49,8 @@ fn source_words<S: Store>(alloc: Global, file: &str, store: &mut S) -> Result<It
 /// The words that these bytes of a source say, or how the call ends without them.
 fn words_in(alloc: Global, bytes: &[u8]) -> Result<Items<u16>, Outcome>
     requires { length bytes.now ≤ 4194304 }
-    ensures { Says source_or_refusal bytes.now result }
+    ensures comes { SourceComes bytes.now result }
+    ensures no_memory { IfErr result TellsNoMemory }
 {
     match assemble(alloc, bytes) {
         Ok(words) => Ok(Items::new(words)),
@@ -66,7 +70,7 @@ fn end_of(fault: AsmFault) -> Outcome
 
 /// Puts the image of these words.
 fn put_image<K: Sink>(alloc: Global, words: &[u16], out: &mut K) -> Outcome
-    ensures ends { LineEnds (image_text words.now) (K.shows out.old) (K.shows out.new) result }
+    ensures ends { LineEnds (image_text words.now) (change_of K.shows out.old out.new) result }
     ensures put { PutsNothing result → ⊥ }
 {
     let Ok(text) = image_text(alloc, words) else {

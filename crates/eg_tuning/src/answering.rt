@@ -1,9 +1,10 @@
 // `answers FILE`: the right answers to the questions of a calibration file.
-ghost use Rattle.std.specs.Prelude.{◌≡◌, ◌↔◌, ◌++◌, IfOk, IsTrue, OnOk, string_bytes};
+ghost use Rattle.std.specs.Prelude.{◌≡◌, ◌↔◌, ◌++◌, IfOk, IsOk, IsTrue, OnOk, string_bytes};
 ghost use Rattle.eg_base.specs.Outside.{IsMissing};
 ghost use Rattle.eg_toml.specs.Refusals.{IsRead};
 ghost use Rattle.eg_cal.specs.declared.key.CalFault.TheVariants.{Memory};
-ghost use Rattle.eg_outcome.specs.Outcomes.{LineEnds, TellsNoMemory, PutsNothing};
+ghost use Rattle.eg_outcome.specs.Changes.{change_of};
+ghost use Rattle.eg_outcome.specs.Outcomes.{LineEnds, WorkFollows, TellsNoMemory, PutsNothing};
 ghost use Rattle.eg_outcome.specs.Reads.{KeepsFiles, ReadsFile, Says};
 ghost use Rattle.eg_outcome.specs.declared.outcome.Outcome.TheVariants.{ReadFault};
 ghost use Rattle.eg_outcome.specs.declared.outcome.Role.TheVariants as role;
@@ -13,14 +14,14 @@ ghost use Rattle.eg_tuning.specs.Texts.{answer_line, answers_text};
 use eg_answer::Questions;
 use eg_base::{NoMemory, Sink, Store};
 use eg_cal::{CalFault, read_answers};
-use eg_outcome::{Outcome, Refusal, Role, file_bytes, put_text};
+use eg_outcome::{Outcome, Role, file_bytes, hand_on, put_text};
 use std::alloc::{AllocError, Global};
 
 /// Does `answers FILE`, but for its note (docs/FORMATS.md, "Commands"): reads a calibration file, whatever
 /// its answers, and writes the right answer to each question, a line for each.
 pub fn answers<S: Store, K: Sink>(alloc: Global, file: &str, store: &mut S, out: &mut K) -> Outcome
-    ensures ends { AnswersEnd file.now (S.shows store.old) (S.shows store.new) (K.shows out.old)
-        (K.shows out.new) result }
+    ensures ends { AnswersEnd file.now (change_of S.shows store.old store.new)
+        (change_of K.shows out.old out.new) result }
     // Over a sure store a fault of reading is told exactly if there is no such file.
     ensures missing { IsTrue (S.shows store.old).sure →
         ((result ≡ ReadFault role.Calibration) ↔ IsMissing (S.shows store.old).files file.now) }
@@ -28,9 +29,19 @@ pub fn answers<S: Store, K: Sink>(alloc: Global, file: &str, store: &mut S, out:
     ensures files { (S.shows store.new).files ≡ (S.shows store.old).files }
     ensures nothing_put { PutsNothing result → out.new ≡ out.old }
 {
-    match questions_of(alloc, file, store) {
+    let come = questions_of(alloc, file, store);
+    put_come(alloc, come, out)
+}
+
+/// Puts a line for each question, where questions came; without them the call ends as it does then.
+fn put_come<K: Sink>(alloc: Global, come: Result<Questions, Outcome>, out: &mut K) -> Outcome
+    ensures ends { WorkFollows (λ asked. LineEnds (answers_text asked) (change_of K.shows out.old out.new))
+        (out.new ≡ out.old) come result }
+    ensures put { IsOk come → PutsNothing result → ⊥ }
+{
+    match come {
         Ok(questions) => put_answers(alloc, &questions, out),
-        Err(outcome) => outcome,
+        Err(end) => end,
     }
 }
 
@@ -38,8 +49,8 @@ pub fn answers<S: Store, K: Sink>(alloc: Global, file: &str, store: &mut S, out:
 /// without them.
 fn questions_of<S: Store>(alloc: Global, file: &str, store: &mut S) -> Result<Questions, Outcome>
     ensures reads { ReadsFile role.Calibration answers_file file.now
-        (S.shows store.old) (S.shows store.new) result }
-    ensures keeps { KeepsFiles (S.shows store.old) (S.shows store.new) result }
+        (change_of S.shows store.old store.new) result }
+    ensures keeps { KeepsFiles (change_of S.shows store.old store.new) result }
 {
     match file_bytes(alloc, Role::Calibration, file, store) {
         Ok(bytes) => questions_in(alloc, bytes.as_slice()),
@@ -52,11 +63,7 @@ fn questions_of<S: Store>(alloc: Global, file: &str, store: &mut S) -> Result<Qu
 fn questions_in(alloc: Global, bytes: &[u8]) -> Result<Questions, Outcome>
     ensures { Says answers_or_refusal bytes.now result }
 {
-    match answers_said(alloc, bytes) {
-        Ok(questions) => Ok(questions),
-        Err(CalFault::Memory) => Err(Outcome::Memory),
-        Err(fault) => Err(Outcome::Refused(Refusal::Calibration(fault))),
-    }
+    hand_on(answers_said(alloc, bytes))
 }
 
 /// The questions that these bytes say, each with the right answer, or why the bytes are refused.
@@ -69,7 +76,7 @@ fn answers_said(alloc: Global, bytes: &[u8]) -> Result<Questions, CalFault>
 
 /// Puts a line for each question.
 fn put_answers<K: Sink>(alloc: Global, questions: &Questions, out: &mut K) -> Outcome
-    ensures ends { LineEnds (answers_text questions.now) (K.shows out.old) (K.shows out.new) result }
+    ensures ends { LineEnds (answers_text questions.now) (change_of K.shows out.old out.new) result }
     ensures put { PutsNothing result → ⊥ }
 {
     let Ok(text) = answers_text(alloc, questions) else {

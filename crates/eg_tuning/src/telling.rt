@@ -1,16 +1,18 @@
 // `bound [--cal NAME]` and `limits [--cal NAME]`: what a calibration comes to.
-ghost use Rattle.std.specs.Prelude.{◌≡◌, ◌↔◌, ◌++◌, ℕ, List, None, IfOk, IsTrue, OnOk, codes, string_bytes};
+ghost use Rattle.std.specs.Prelude.{◌≡◌, ◌↔◌, ◌++◌, ℕ, List, None, IfOk, IsOk, IsTrue, OnOk, codes, string_bytes};
 ghost use Rattle.std.specs.Option.{option_copied};
 ghost use Rattle.eg_outcome.specs.Calibrations.{MissesCalibration};
-ghost use Rattle.eg_outcome.specs.Outcomes.{LineEnds, TellsNoMemory, PutsNothing};
+ghost use Rattle.eg_outcome.specs.Changes.{change_of};
+ghost use Rattle.eg_outcome.specs.Outcomes.{LineEnds, WorkFollows, TellsNoMemory, PutsNothing};
 ghost use Rattle.eg_outcome.specs.declared.outcome.Outcome.TheVariants.{ReadFault};
 ghost use Rattle.eg_outcome.specs.declared.outcome.Role.TheVariants as role;
-ghost use Rattle.eg_tuning.specs.Ends.{BoundEnds, LimitsEnd};
+ghost use Rattle.eg_tuning.specs.Ends.{BoundEnds, LimitsEnd, TellsLimits};
 ghost use Rattle.eg_tuning.specs.Texts.{bound_text, limits_text, number_or_none};
 
 use crate::{Limits, limits_of};
 use eg_base::{NoMemory, Sink, Store};
 use eg_outcome::{Outcome, calibration_for, put_text};
+use eg_values::Calibration;
 use std::alloc::{AllocError, Global};
 
 /// Does `bound [--cal NAME]`, but for its note (docs/FORMATS.md, "Commands"): writes the worst-case reaction
@@ -21,8 +23,8 @@ pub fn bound<S: Store, K: Sink>(
     store: &mut S,
     out: &mut K,
 ) -> Outcome
-    ensures ends { BoundEnds (option_copied calibration.entry) (S.shows store.old) (S.shows store.new)
-        (K.shows out.old) (K.shows out.new) result }
+    ensures ends { BoundEnds (option_copied calibration.entry) (change_of S.shows store.old store.new)
+        (change_of K.shows out.old out.new) result }
     ensures missing { IsTrue (S.shows store.old).sure → ((result ≡ ReadFault role.Calibration)
         ↔ MissesCalibration (option_copied calibration.entry) (S.shows store.old)) }
     ensures no_memory { TellsNoMemory result }
@@ -30,10 +32,8 @@ pub fn bound<S: Store, K: Sink>(
     ensures files { (S.shows store.new).files ≡ (S.shows store.old).files }
     ensures nothing_put { PutsNothing result → out.new ≡ out.old }
 {
-    match calibration_for(alloc, calibration, store) {
-        Ok(calibration) => put_made(bound_text(alloc, &limits_of(&calibration)), out),
-        Err(outcome) => outcome,
-    }
+    let come = calibration_for(alloc, calibration, store);
+    put_bound(alloc, come, out)
 }
 
 /// Does `limits [--cal NAME]`, but for its note (docs/FORMATS.md, "Commands"): writes all that a calibration
@@ -44,8 +44,8 @@ pub fn limits<S: Store, K: Sink>(
     store: &mut S,
     out: &mut K,
 ) -> Outcome
-    ensures ends { LimitsEnd (option_copied calibration.entry) (S.shows store.old) (S.shows store.new)
-        (K.shows out.old) (K.shows out.new) result }
+    ensures ends { LimitsEnd (option_copied calibration.entry) (change_of S.shows store.old store.new)
+        (change_of K.shows out.old out.new) result }
     ensures missing { IsTrue (S.shows store.old).sure → ((result ≡ ReadFault role.Calibration)
         ↔ MissesCalibration (option_copied calibration.entry) (S.shows store.old)) }
     ensures no_memory { TellsNoMemory result }
@@ -53,16 +53,38 @@ pub fn limits<S: Store, K: Sink>(
     ensures files { (S.shows store.new).files ≡ (S.shows store.old).files }
     ensures nothing_put { PutsNothing result → out.new ≡ out.old }
 {
-    match calibration_for(alloc, calibration, store) {
+    let come = calibration_for(alloc, calibration, store);
+    put_limits(alloc, come, out)
+}
+
+/// Puts the lines of `bound`, where a calibration came; without one the call ends as it does then.
+fn put_bound<K: Sink>(alloc: Global, come: Result<Calibration, Outcome>, out: &mut K) -> Outcome
+    ensures ends { WorkFollows (λ cal. TellsLimits bound_text cal (change_of K.shows out.old out.new))
+        (out.new ≡ out.old) come result }
+    ensures put { IsOk come → PutsNothing result → ⊥ }
+{
+    match come {
+        Ok(calibration) => put_made(bound_text(alloc, &limits_of(&calibration)), out),
+        Err(end) => end,
+    }
+}
+
+/// Puts the lines of `limits`, where a calibration came; without one the call ends as it does then.
+fn put_limits<K: Sink>(alloc: Global, come: Result<Calibration, Outcome>, out: &mut K) -> Outcome
+    ensures ends { WorkFollows (λ cal. TellsLimits limits_text cal (change_of K.shows out.old out.new))
+        (out.new ≡ out.old) come result }
+    ensures put { IsOk come → PutsNothing result → ⊥ }
+{
+    match come {
         Ok(calibration) => put_made(limits_text(alloc, &limits_of(&calibration)), out),
-        Err(outcome) => outcome,
+        Err(end) => end,
     }
 }
 
 /// Puts these lines, or answers Memory where memory ran out while they were made.
 fn put_made<K: Sink>(made: Result<String, NoMemory>, out: &mut K) -> Outcome
     ensures ends { (lines : List ℕ) → IfOk made (λ text. string_bytes text ≡ lines) →
-        LineEnds lines (K.shows out.old) (K.shows out.new) result }
+        LineEnds lines (change_of K.shows out.old out.new) result }
     ensures put { PutsNothing result → ⊥ }
 {
     match made {

@@ -3,6 +3,7 @@ use Rattle.std.specs.Prelude.{string_bytes}
 use Rattle.std.specs.List.{concat}
 use Rattle.eg_values.specs.Calibration.{IsAccepted}
 use Rattle.eg_values.specs.Reference.{reference_parts}
+use Rattle.eg_outcome.specs.Changes.{change, change_of}
 use Rattle.eg_outcome.specs.Outcomes.{LineEnds}
 use Rattle.eg_play.proofs.PlayLemmas.{no_memory, no_lines, put}
 use Rattle.eg_soak.specs.Soak.{drawn_runs, soak_of}
@@ -14,23 +15,23 @@ pub returns-in_default-clause-ends : goal.returns-in_default-clause-ends
 returns-in_default-clause-ends g c =
     let a = c.args in
     let accepted : IsAccepted reference_parts = subst IsAccepted c.reference-calibration.ensures.parts c.reference-calibration.ensures.accepted in
-    no_memory _ _ _ (g.K.Sink.shows a.out.now) a.steps.now c.soak.new.steps c.in_default.ensures.counted (drawn_keep_headline accepted a.runs a.seed)
+    no_memory _ _ _ (g.K.Sink.shows a.out.now) (change a.steps.now c.soak.new.steps) c.in_default.ensures.counted (drawn_keep_headline accepted a.runs a.seed)
 
 pub returns-in_default-soak_lines-clause-ends : goal.returns-in_default-soak_lines-clause-ends
 returns-in_default-soak_lines-clause-ends g c =
     let a = c.args in
     let accepted : IsAccepted reference_parts = subst IsAccepted c.reference-calibration.ensures.parts c.reference-calibration.ensures.accepted in
-    no_lines _ _ _ (g.K.Sink.shows a.out.now) a.steps.now c.soak.new.steps c.in-Ok.ensures.counted (drawn_keep_headline accepted a.runs a.seed)
+    no_lines _ _ _ (g.K.Sink.shows a.out.now) (change a.steps.now c.soak.new.steps) c.in-Ok.ensures.counted (drawn_keep_headline accepted a.runs a.seed)
 
 pub returns-clause-ends : goal.returns-clause-ends
 returns-clause-ends g c =
     let a = c.args in
-    let shows = g.K.Sink.shows in
+    let out = change_of g.K.Sink.shows a.out.now c.put_lines.new.out in
     let accepted : IsAccepted reference_parts = subst IsAccepted c.reference-calibration.ensures.parts c.reference-calibration.ensures.accepted in
     let text : concat (map string_bytes c.deref.result.now) ≡ soak_text (soak_of (drawn_runs a.runs a.seed)) =
     ap (λ lines. concat (map string_bytes lines)) c.deref.ensures.value ∙ ap concat c.in-Ok-soak_lines.ensures
     ∙ text_of c.in-Ok.summary ∙ ap soak_text c.in-Ok.ensures.summary in
-    put _ _ _ (shows a.out.now) (shows c.put_lines.new.out) a.steps.now c.soak.new.steps c.put_lines.result
+    put _ _ _ out (change a.steps.now c.soak.new.steps) c.put_lines.result
     c.in-Ok.ensures.counted
-    (subst (λ t. LineEnds t (shows a.out.now) (shows c.put_lines.new.out) c.put_lines.result) text c.put_lines.ensures.ends)
+    (subst (λ t. LineEnds t out c.put_lines.result) text c.put_lines.ensures.ends)
     (drawn_keep_headline accepted a.runs a.seed)

@@ -1,6 +1,7 @@
 use Rattle.std.proofs.Common.{◌≡◌, ◌∙◌, refl, sym, ap, subst, ◌+◌, ◌≤◌, ◌++◌, ◌∷◌, [], length, append_assoc, append-nil, All, arith}
 use Rattle.eg_base.specs.Outside.{ShownStore}
 use Rattle.eg_campaign.specs.Plays.{IsPlayable}
+use Rattle.eg_outcome.specs.Changes.{change}
 use Rattle.eg_play.specs.Inputs.{InputComes, InputsCome, too_many}
 use Rattle.std.proofs.Common.{Ok, Err}
 use Rattle.eg_play.specs.Ends.{IsNamedIfOfRun}
@@ -15,7 +16,9 @@ loop-plan-init g c = record {
   sum = omega arith;
   shown = refl;
   playable = λ k d within. absurd (let none = ap length c.new-inputs.ensures.items in omega (arith, within, none));
-  goes = λ later. subst (Goes (g.S.Store.shows c.args.store.now) later 1 0 []) (sym c.new-inputs.ensures.items) (goes-first (g.S.Store.shows c.args.store.now) later);
+  goes = λ later.
+      subst (Goes (change (g.S.Store.shows c.args.store.now) later) 1 0 []) (sym c.new-inputs.ensures.items)
+      (goes-first (change (g.S.Store.shows c.args.store.now) later));
 }
 
 pub input_for-requires-clause-sum : goal.input_for-requires-clause-sum
@@ -25,9 +28,9 @@ pub returns-in-Err-clause-comes : goal.returns-in-Err-clause-comes
 returns-in-Err-clause-comes g c =
     let store = g.S.Store.shows c.args.store.now in
     let later = g.S.Store.shows c.input_for.new.store in
-    goes-end store later c.loop-plan.run c.loop-plan.sum c.loop-plan.yielded c.loop-plan.inputs.items c.in-Some.plan c.next.new.self.rest.items c.args.plans
+    goes-end (change store later) c.loop-plan.run c.loop-plan.sum c.loop-plan.yielded c.loop-plan.inputs.items c.in-Some.plan c.next.new.self.rest.items c.args.plans
     c.in-Err.end.outcome (one-behind _ c.loop-plan.yielded _ _ _ c.loop-plan.invariant.parts c.in-Some.ensures.steps.0)
-    (subst (λ shown. InputComes (too_many c.loop-plan.sum c.loop-plan.run) shown later c.loop-plan.run c.in-Some.plan (Err c.in-Err.end.outcome))
+    (subst (λ shown. InputComes (too_many c.loop-plan.sum c.loop-plan.run) (change shown later) c.loop-plan.run c.in-Some.plan (Err c.in-Err.end.outcome))
     c.loop-plan.invariant.shown c.in-Err.ensures.comes) (c.loop-plan.invariant.goes later)
 
 pub returns-in-Err-clause-named : goal.returns-in-Err-clause-named
@@ -40,13 +43,15 @@ pub returns-in-Err-push-clause-comes : goal.returns-in-Err-push-clause-comes
 returns-in-Err-push-clause-comes g c =
     let store = g.S.Store.shows c.args.store.now in
     let later = g.S.Store.shows c.input_for.new.store in
-    subst (λ o. InputsCome store later 1 0 c.args.plans (Err o)) (sym c.in-Err-push.ensures.memory)
-    (goes-memory store later c.loop-plan.run c.loop-plan.sum c.loop-plan.yielded c.loop-plan.inputs.items c.in-Some.plan c.next.new.self.rest.items c.args.plans
+    subst (λ o. InputsCome (change store later) 1 0 c.args.plans (Err o)) (sym c.in-Err-push.ensures.memory)
+    (goes-memory (change store later) c.loop-plan.run c.loop-plan.sum c.loop-plan.yielded c.loop-plan.inputs.items c.in-Some.plan c.next.new.self.rest.items c.args.plans
     (one-behind _ c.loop-plan.yielded _ _ _ c.loop-plan.invariant.parts c.in-Some.ensures.steps.0)
     (ap (λ (shown : ShownStore). shown.faults) (c.in-Ok.ensures.keeps.shown refl ∙ c.loop-plan.invariant.shown)) (c.loop-plan.invariant.goes later))
 
 pub loop-plan-preserved : goal.loop-plan-preserved
 loop-plan-preserved g c =
+    let store = g.S.Store.shows c.args.store.now in
+    let mid = g.S.Store.shows c.input_for.new.store in
     let drive : c.as_slice.result.now ≡ c.in-Ok.input.drive = c.as_slice.ensures in
     record {
       parts = one-behind _ c.loop-plan.yielded _ _ _ c.loop-plan.invariant.parts c.in-Some.ensures.steps.0
@@ -56,13 +61,13 @@ loop-plan-preserved g c =
       shown = c.in-Ok.ensures.keeps.shown refl ∙ c.loop-plan.invariant.shown;
       playable = subst (All IsPlayable) (sym c.in-Ok-push.ensures.pushed) (all-behind c.loop-plan.inputs.items c.in-Ok.input c.loop-plan.invariant.playable c.in-Ok.ensures.playable);
       goes = λ later.
-          subst (Goes (g.S.Store.shows c.args.store.now) later (c.loop-plan.run + 1) (c.loop-plan.sum + length c.as_slice.result.now) (c.loop-plan.yielded ++ c.in-Some.plan ∷ []))
+          subst (Goes (change store later) (c.loop-plan.run + 1) (c.loop-plan.sum + length c.as_slice.result.now) (c.loop-plan.yielded ++ c.in-Some.plan ∷ []))
           (sym c.in-Ok-push.ensures.pushed)
-          (subst (λ rows. Goes (g.S.Store.shows c.args.store.now) later (c.loop-plan.run + 1) (c.loop-plan.sum + length rows) (c.loop-plan.yielded ++ c.in-Some.plan ∷ [])
+          (subst (λ rows. Goes (change store later) (c.loop-plan.run + 1) (c.loop-plan.sum + length rows) (c.loop-plan.yielded ++ c.in-Some.plan ∷ [])
           (c.loop-plan.inputs.items ++ c.in-Ok.input ∷ [])) (sym drive)
-          (goes-on (g.S.Store.shows c.args.store.now) later c.loop-plan.run c.loop-plan.sum c.loop-plan.yielded c.loop-plan.inputs.items c.in-Some.plan c.in-Ok.input
-          (any-later (too_many c.loop-plan.sum c.loop-plan.run) (g.S.Store.shows c.args.store.now) (g.S.Store.shows c.input_for.new.store) later c.loop-plan.run c.in-Some.plan c.in-Ok.input
-          (subst (λ shown. InputComes (too_many c.loop-plan.sum c.loop-plan.run) shown (g.S.Store.shows c.input_for.new.store) c.loop-plan.run c.in-Some.plan (Ok c.in-Ok.input))
+          (goes-on (change store later) c.loop-plan.run c.loop-plan.sum c.loop-plan.yielded c.loop-plan.inputs.items c.in-Some.plan c.in-Ok.input
+          (any-later (too_many c.loop-plan.sum c.loop-plan.run) store mid later c.loop-plan.run c.in-Some.plan c.in-Ok.input
+          (subst (λ shown. InputComes (too_many c.loop-plan.sum c.loop-plan.run) (change shown mid) c.loop-plan.run c.in-Some.plan (Ok c.in-Ok.input))
           c.loop-plan.invariant.shown c.in-Ok.ensures.comes))
           (c.loop-plan.invariant.goes later)));
     }
@@ -74,9 +79,9 @@ returns-clause-comes g c =
     let all : c.args.plans ≡ c.loop-plan.yielded = c.loop-plan.invariant.parts
     ∙ ap (λ rest. c.loop-plan.yielded ++ rest) (nothing-left c.loop-plan.plan-iterator.rest.items _ c.loop-plan.plan-iterator.rest.ok.0 c.in-None.ensures.steps.0)
     ∙ append-nil c.loop-plan.yielded in
-    subst (λ made. InputsCome store later 1 0 c.args.plans (Ok made)) (sym c.new.ensures)
-    (subst (λ plans. InputsCome store later 1 0 plans (Ok c.loop-plan.inputs.items)) (sym all)
-    (goes-all store later c.loop-plan.run c.loop-plan.sum c.loop-plan.yielded c.loop-plan.inputs.items (c.loop-plan.invariant.goes later)))
+    subst (λ made. InputsCome (change store later) 1 0 c.args.plans (Ok made)) (sym c.new.ensures)
+    (subst (λ plans. InputsCome (change store later) 1 0 plans (Ok c.loop-plan.inputs.items)) (sym all)
+    (goes-all (change store later) c.loop-plan.run c.loop-plan.sum c.loop-plan.yielded c.loop-plan.inputs.items (c.loop-plan.invariant.goes later)))
 
 pub returns-in-Err-clause-some : goal.returns-in-Err-clause-some
 returns-in-Err-clause-some g c = subst (IsNamedIfOfRun _) (sym c.in-Err.ensures.named.0) (by_plan c.in-Some.plan _)

@@ -1,6 +1,7 @@
 use Rattle.std.proofs.Common.{◌≡◌, All, ◌+◌, ◌≤◌, ◌++◌, length}
 use Rattle.eg_base.specs.Outside.{ShownStore}
 use Rattle.eg_campaign.specs.Plays.{IsPlayable}
+use Rattle.eg_outcome.specs.Changes.{change}
 use Rattle.eg_play.proofs.InputsLemmas.{Goes}
 use Rattle.eg_play.proofs.inputs.inputs_for.Given as goal
 
@@ -12,5 +13,5 @@ invariant-loop-plan g l = record {
   sum : l.sum ≤ 1000000;
   shown : g.S.Store.shows l.store ≡ g.S.Store.shows l.fn.store;
   playable : All IsPlayable l.inputs.items;
-  goes : (later : ShownStore) → Goes (g.S.Store.shows l.fn.store) later l.run l.sum l.yielded l.inputs.items;
+  goes : (later : ShownStore) → Goes (change (g.S.Store.shows l.fn.store) later) l.run l.sum l.yielded l.inputs.items;
 }

@@ -1,4 +1,5 @@
 use Rattle.std.proofs.Common.{◌≡◌, ◌∙◌, sym, ap, subst, Some}
+use Rattle.eg_outcome.specs.Changes.{change_of}
 use Rattle.eg_play.specs.Inputs.{outcomes}
 use Rattle.eg_play.specs.Ends.{FoundComes, run_named}
 use Rattle.eg_play.proofs.InputsLemmas.{one-behind}
@@ -10,8 +11,8 @@ returns-then-has_name-clause-comes g c =
     let found : run_named c.args.name.now 1 c.args.plans ≡ Some (c.loop-plan.run, c.in-Some.plan) =
     c.loop-plan.invariant.left ∙ ap (run_named c.args.name.now c.loop-plan.run) c.in-Some.ensures.steps.0
     ∙ found-now c.args.name.now c.loop-plan.run c.in-Some.plan c.next.new.self.rest.items (sym c.has_name.ensures ∙ c.if-has_name.true) in
-    subst (λ one. FoundComes one (g.S.Store.shows c.args.store.now) (g.S.Store.shows c.input_for.new.store) (outcomes c.input_for.result)) (sym found)
-    (subst (λ store. FoundComes (Some (c.loop-plan.run, c.in-Some.plan)) (g.S.Store.shows store) (g.S.Store.shows c.input_for.new.store) (outcomes c.input_for.result))
+    subst (λ one. FoundComes one (change_of g.S.Store.shows c.args.store.now c.input_for.new.store) (outcomes c.input_for.result)) (sym found)
+    (subst (λ store. FoundComes (Some (c.loop-plan.run, c.in-Some.plan)) (change_of g.S.Store.shows store c.input_for.new.store) (outcomes c.input_for.result))
     c.loop-plan.invariant.store c.input_for.ensures.comes)
 
 pub returns-then-has_name-clause-named : goal.returns-then-has_name-clause-named

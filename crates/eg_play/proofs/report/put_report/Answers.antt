@@ -1,6 +1,7 @@
 use Rattle.std.proofs.Common.{◌≡◌, ◌∙◌, ap, subst, map}
 use Rattle.std.specs.Prelude.{string_bytes}
 use Rattle.std.specs.List.{concat}
+use Rattle.eg_outcome.specs.Changes.{change, change_of}
 use Rattle.eg_outcome.specs.Outcomes.{LineEnds}
 use Rattle.eg_play.specs.Texts.{report_text}
 use Rattle.eg_play.proofs.HeadlineLemmas.{keep_headline}
@@ -10,22 +11,22 @@ use Rattle.eg_play.proofs.report.put_report.Goals as goal
 pub returns-in_default-clause-plays : goal.returns-in_default-clause-plays
 returns-in_default-clause-plays g c =
     let a = c.args in
-    no_memory _ _ _ (g.K.Sink.shows a.out.now) a.steps.now c.run_all.new.steps c.in_default.ensures.counted
+    no_memory _ _ _ (g.K.Sink.shows a.out.now) (change a.steps.now c.run_all.new.steps) c.in_default.ensures.counted
     (keep_headline a.calibration.now c.rules-rules.ensures.accepted a.inputs.now c.requires)
 
 pub returns-in_default-report_lines-clause-plays : goal.returns-in_default-report_lines-clause-plays
 returns-in_default-report_lines-clause-plays g c =
     let a = c.args in
-    no_lines _ _ _ (g.K.Sink.shows a.out.now) a.steps.now c.run_all.new.steps c.in-Ok.ensures.counted
+    no_lines _ _ _ (g.K.Sink.shows a.out.now) (change a.steps.now c.run_all.new.steps) c.in-Ok.ensures.counted
     (keep_headline a.calibration.now c.rules-rules.ensures.accepted a.inputs.now c.requires)
 
 pub returns-clause-plays : goal.returns-clause-plays
 returns-clause-plays g c =
     let a = c.args in
-    let shows = g.K.Sink.shows in
+    let out = change_of g.K.Sink.shows a.out.now c.put_lines.new.out in
     let text : concat (map string_bytes c.deref-2.result.now) ≡ report_text a.calibration.now a.inputs.now =
     ap (λ lines. concat (map string_bytes lines)) c.deref-2.ensures.value ∙ c.in-Ok-report_lines.ensures
     ∙ report_is a.calibration.now a.inputs.now c.deref.result.now (c.deref.ensures.value ∙ c.in-Ok.ensures.summaries) in
-    put _ _ _ (shows a.out.now) (shows c.put_lines.new.out) a.steps.now c.run_all.new.steps c.put_lines.result c.in-Ok.ensures.counted
-    (subst (λ t. LineEnds t (shows a.out.now) (shows c.put_lines.new.out) c.put_lines.result) text c.put_lines.ensures.ends)
+    put _ _ _ out (change a.steps.now c.run_all.new.steps) c.put_lines.result c.in-Ok.ensures.counted
+    (subst (λ t. LineEnds t out c.put_lines.result) text c.put_lines.ensures.ends)
     (keep_headline a.calibration.now c.rules-rules.ensures.accepted a.inputs.now c.requires)

@@ -1,5 +1,6 @@
 use Rattle.std.proofs.Common.{◌≡◌, ◌∙◌, ap, ap₂, subst}
 use Rattle.eg_answer.specs.Times.{reaction_of}
+use Rattle.eg_outcome.specs.Changes.{change, change_of}
 use Rattle.eg_outcome.specs.Outcomes.{LineEnds}
 use Rattle.eg_play.specs.Texts.{table_by, table_text}
 use Rattle.eg_play.proofs.HeadlineLemmas.{keep_headline}
@@ -9,23 +10,23 @@ use Rattle.eg_play.proofs.run_table.put_run_table.Goals as goal
 pub returns-in_default-clause-plays : goal.returns-in_default-clause-plays
 returns-in_default-clause-plays g c =
     let a = c.args in
-    no_memory _ _ _ (g.K.Sink.shows a.out.now) a.steps.now c.told_all.new.steps c.in_default.ensures.counted
+    no_memory _ _ _ (g.K.Sink.shows a.out.now) (change a.steps.now c.told_all.new.steps) c.in_default.ensures.counted
     (keep_headline a.calibration.now c.rules-rules.ensures.accepted a.inputs.now c.requires)
 
 pub returns-in_default-table_text-clause-plays : goal.returns-in_default-table_text-clause-plays
 returns-in_default-table_text-clause-plays g c =
     let a = c.args in
-    no_lines _ _ _ (g.K.Sink.shows a.out.now) a.steps.now c.told_all.new.steps c.in-Ok.ensures.counted
+    no_lines _ _ _ (g.K.Sink.shows a.out.now) (change a.steps.now c.told_all.new.steps) c.in-Ok.ensures.counted
     (keep_headline a.calibration.now c.rules-rules.ensures.accepted a.inputs.now c.requires)
 
 pub returns-clause-plays : goal.returns-clause-plays
 returns-clause-plays g c =
     let a = c.args in
-    let shows = g.K.Sink.shows in
+    let out = change_of g.K.Sink.shows a.out.now c.put_text.new.out in
     let text : c.deref-2.result.now ≡ table_text a.calibration.now a.inputs.now =
     c.deref-2.ensures.value ∙ c.in-Ok-table_text.ensures
     ∙ ap₂ (λ bound told. table_by bound a.inputs.now told) (c.reaction-bound.ensures ∙ ap reaction_of c.times.ensures.times) (c.deref.ensures.value ∙ c.in-Ok.ensures.told)
     ∙ table_is a.calibration.now a.inputs.now in
-    put _ _ _ (shows a.out.now) (shows c.put_text.new.out) a.steps.now c.told_all.new.steps c.put_text.result c.in-Ok.ensures.counted
-    (subst (λ t. LineEnds t (shows a.out.now) (shows c.put_text.new.out) c.put_text.result) text c.put_text.ensures.ends)
+    put _ _ _ out (change a.steps.now c.told_all.new.steps) c.put_text.result c.in-Ok.ensures.counted
+    (subst (λ t. LineEnds t out c.put_text.result) text c.put_text.ensures.ends)
     (keep_headline a.calibration.now c.rules-rules.ensures.accepted a.inputs.now c.requires)

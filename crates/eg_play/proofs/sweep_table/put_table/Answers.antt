@@ -4,6 +4,7 @@ use Rattle.eg_sweep.specs.Grid.{is_too_large, swept_faults}
 use Rattle.eg_sweep.proofs.ListedLemmas.{swept_valid}
 use Rattle.eg_fault.specs.Faults.{IsValid}
 use Rattle.eg_campaign.specs.Plays.{IsPlayable}
+use Rattle.eg_outcome.specs.Changes.{change, change_of}
 use Rattle.eg_play.specs.Sweeping.{swept}
 use Rattle.eg_play.proofs.SweepLemmas.{all-playable, swept-ends, not-swept, small_grid, not_memory, not_faults}
 use Rattle.eg_play.proofs.sweep_table.put_table.Goals as goal
@@ -39,7 +40,7 @@ returns-clause-ends g c =
     let a = c.args in
     let input = a.input.now in
     swept-ends a.calibration.now c.rules-rules.ensures.accepted a.step c.requires.step input c.requires.playable
-    (g.K.Sink.shows a.out.now) (g.K.Sink.shows c.put_rows.new.out) a.steps.now c.put_rows.new.steps _ c.put_rows.result
+    (change_of g.K.Sink.shows a.out.now c.put_rows.new.out) (change a.steps.now c.put_rows.new.steps) _ c.put_rows.result
     (ap (λ drive. is_too_large (length drive) a.step) (sym c.as_slice.ensures) ∙ small_grid _ _ c.in-Ok.ensures.grid (not_faults _ c.in-Ok.faults refl))
     c.deref-2.result.now c.deref-3.result.now
     (c.deref-2.ensures.value ∙ c.in-Ok.ensures.faults ∙ ap (λ drive. swept_faults (length drive) a.step) c.as_slice.ensures)
