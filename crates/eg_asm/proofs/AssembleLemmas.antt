@@ -10,7 +10,7 @@ use Rattle.eg_asm.specs.declared.source.Source.{Source}
 use Rattle.eg_asm.specs.Grammar.{Item}
 use Rattle.eg_asm.specs.Words.{Labels, labels_of}
 use Rattle.eg_asm.specs.Encodings.{Encoded}
-use Rattle.eg_asm.specs.Kept.{Holds, placed_shown, instructions_from, repeat_behind}
+use Rattle.eg_asm.specs.Kept.{HoldsItems, placed_shown, instructions_from, repeat_behind}
 use Rattle.eg_asm.specs.Linking.{linked_kept, HasLabels}
 use Rattle.eg_asm.specs.Sources.{Assembles}
 use Rattle.eg_asm.specs.Reading.{items_from, linked, words_read, assembled, IsAssembled}
@@ -28,7 +28,7 @@ read-fault source e is =
 
 -- what is linked is the answer
 pub linked-answer : (bytes : List ℕ) (source : Source) (items : List Item) (result : Result (Vec ℕ Global) AsmFault)
-    → items_from 0 1 (lines_of bytes) ≡ Ok items → Holds source items
+    → items_from 0 1 (lines_of bytes) ≡ Ok items → HoldsItems source items
     → ((labels : Labels) → HasLabels source.labels labels
     → IsAssembled (linked_kept labels (map placed_shown source.instructions.items) source.repeated) result) → IsAssembled (assembled bytes) result
 unfolding assembled words_read

@@ -9,7 +9,7 @@ use Rattle.eg_asm.specs.declared.source.Source.{Source}
 use Rattle.eg_asm.specs.Grammar.{Item, Nothing, Comment, Label, Instruction, IsItem}
 use Rattle.eg_asm.specs.Words.{size, word_count}
 use Rattle.eg_asm.specs.Encodings.{Told, told}
-use Rattle.eg_asm.specs.Kept.{HasForm, Holds, ReadsMore, StopsAt}
+use Rattle.eg_asm.specs.Kept.{HasForm, HoldsItems, ReadsMore, StopsAt}
 use Rattle.eg_asm.specs.Reading.{item_in, item_behind, refusal, item_before, items_from}
 use Rattle.eg_asm.proofs.LineLaws.{said-form}
 use Rattle.eg_asm.proofs.CutLaws.{lines_of-cut}
@@ -37,14 +37,14 @@ behind-has_form words line item is = said-has_form line item (behind-back words 
 -- The lines up to a rest were read: they said these items, and this is kept of them.
 pub record IsRead (bytes rest : List ℕ) (source : Source) (place : ℕ) : Type 0 where
   pub items : List Item
-  pub holds : Holds source items
+  pub holds : HoldsItems source items
   pub count : place ≡ length items
   pub few : word_count items ≤ 1024
   pub told : onto items (items_from (word_count items) (length items + 1) (lines_of rest)) ≡ items_from 0 1 (lines_of bytes)
   pub room : place + length rest ≤ length bytes
 
 -- nothing is read yet
-pub read-start : (bytes rest : List ℕ) (source : Source) → rest ≡ bytes → Holds source [] → IsRead bytes rest source 0
+pub read-start : (bytes rest : List ℕ) (source : Source) → rest ≡ bytes → HoldsItems source [] → IsRead bytes rest source 0
 unfolding word_count
 read-start bytes rest source same holds = record {
   items = [];
@@ -105,7 +105,7 @@ read-stops bytes rest line after source place e cut stops r =
     sym r.told ∙ rw (cut, h.0, h.1, same) refl
 
 -- no line is left
-pub read-end : (bytes rest : List ℕ) (source : Source) (place : ℕ) → rest ≡ [] → IsRead bytes rest source place → (items : List Item) × (items_from 0 1 (lines_of bytes) ≡ Ok items) × Holds source items
+pub read-end : (bytes rest : List ℕ) (source : Source) (place : ℕ) → rest ≡ [] → IsRead bytes rest source place → (items : List Item) × (items_from 0 1 (lines_of bytes) ≡ Ok items) × HoldsItems source items
 unfolding items_from
 read-end bytes rest source place none r =
     let end : lines_of rest ≡ [] = ap lines_of none ∙ lines_of-nothing in

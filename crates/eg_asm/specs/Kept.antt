@@ -57,8 +57,8 @@ abbrev pub placed_shown : Placed → ℕ × Encoded
 placed_shown placed = (placed.line, instruction_shown placed.instruction)
 
 -- the source holds what is kept of these items
-abbrev pub Holds : Source → List Item → Type 0
-Holds source items =
+abbrev pub HoldsItems : Source → List Item → Type 0
+HoldsItems source items =
     Keeps (λ (name : Bor (List ℕ)). name.now) items (map placed_shown source.instructions.items)
     (get (λ x y. slice_cmp nat_cmp x.now y.now) source.labels) source.repeated
 
@@ -67,17 +67,17 @@ Holds source items =
 abbrev pub Adds : ℕ → Told → Source → Source → Type 0
 Adds line tells old new =
     (items : List Item) (item : Item) → HasForm item → told item ≡ tells → line ≡ length items + 1
-    → Holds old items → Holds new (items ++ item ∷ [])
+    → HoldsItems old items → HoldsItems new (items ++ item ∷ [])
 
 -- Where the old source holds what is kept of some items, the new one holds what is kept of these and of the
 -- item that the line of this number says.
 abbrev pub ReadsMore : ℕ → List ℕ → Source → Source → Type 0
 ReadsMore number line old new =
-    (items : List Item) → number ≡ length items + 1 → Holds old items
-    → (item : Item) × (item_behind (word_count items) line ≡ Some item) × Holds new (items ++ item ∷ [])
+    (items : List Item) → number ≡ length items + 1 → HoldsItems old items
+    → (item : Item) × (item_behind (word_count items) line ≡ Some item) × HoldsItems new (items ++ item ∷ [])
 
 -- the line of this number says nothing that may come behind what is kept, and this is why
 abbrev pub StopsAt : ℕ → List ℕ → Source → AsmFault → Type 0
 StopsAt number line kept e =
-    (items : List Item) → Holds kept items
+    (items : List Item) → HoldsItems kept items
     → (item_behind (word_count items) line ≡ None) × (e ≡ refusal (word_count items) number)

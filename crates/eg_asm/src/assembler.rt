@@ -10,7 +10,7 @@ ghost use Rattle.eg_asm.specs.Words.{Labels, word_of};
 ghost use Rattle.eg_asm.specs.Sources.{Assembles};
 ghost use Rattle.eg_asm.specs.Listings.{source_text};
 ghost use Rattle.eg_asm.specs.Meanings.{Means};
-ghost use Rattle.eg_asm.specs.Kept.{Holds};
+ghost use Rattle.eg_asm.specs.Kept.{HoldsItems};
 ghost use Rattle.eg_asm.specs.Reading.{items_from, assembled};
 
 use crate::AsmFault;
@@ -30,7 +30,7 @@ pub fn assemble(alloc: Global, bytes: &[u8]) -> Result<Vec<u16>, AsmFault>
 fn read_source(alloc: Global, bytes: &[u8]) -> Result<Source<'_>, AsmFault>
     requires { length bytes.now ≤ 4194304 }
     ensures kept { IfOk result (λ source. (items : List Item)
-        × (items_from 0 1 (lines_of bytes.now) ≡ Ok items) × Holds source items) }
+        × (items_from 0 1 (lines_of bytes.now) ≡ Ok items) × HoldsItems source items) }
     ensures fault { IfErr result (λ e. (e ≡ fault.Memory) ⊎ (items_from 0 1 (lines_of bytes.now) ≡ Err e)) }
 {
     let mut source = Source::new(alloc);

@@ -3,7 +3,7 @@ ghost use Rattle.std.specs.Prelude.{◌≡◌, ◌⊎◌, ◌≤◌, [], option_
 ghost use Rattle.eg_asm.specs.declared.fault.AsmFault.TheVariants as fault;
 ghost use Rattle.eg_asm.specs.Encodings.{told, told_with_room, line_shown, instruction_shown};
 ghost use Rattle.eg_asm.specs.Encodings as tells;
-ghost use Rattle.eg_asm.specs.Kept.{Holds, Adds, ReadsMore, StopsAt};
+ghost use Rattle.eg_asm.specs.Kept.{HoldsItems, Adds, ReadsMore, StopsAt};
 ghost use Rattle.eg_asm.specs.Reading.{item_behind, refusal};
 ghost use Rattle.eg_input.specs.declared.image.TheConstants.{MOST_WORDS};
 
@@ -63,7 +63,7 @@ fn refusal(words: usize, number: u32) -> AsmFault
 impl<'a> Source<'a> {
     /// What is kept before the first line.
     pub(crate) fn new(alloc: Global) -> Source<'a>
-        ensures { Holds result [] }
+        ensures { HoldsItems result [] }
     {
         Source {
             instructions: Vec::new(alloc),

@@ -5,7 +5,7 @@ use Rattle.toml.specs.Data.{Data, array, Members, Items, no_items, item}
 use Rattle.eg_toml.specs.Values.{◌>>=◌}
 use Rattle.eg_toml.specs.Arrays.{count, append_read, all_read, items_in, numbers_in, rows_in, is_rising}
 use Rattle.eg_toml.specs.Refusals.{unless_some}
-use Rattle.eg_toml.specs.Held.{IsWritten, natural, items_of, array_of, AreMany}
+use Rattle.eg_toml.specs.Held.{HoldsValue, natural, items_of, array_of, AreMany}
 use Rattle.eg_toml.proofs.RefusalLemmas.{if-none}
 use Rattle.eg_toml.proofs.RangeLemmas.{bind-some}
 use Rattle.eg_toml.proofs.RisingLemmas.{rising-true, true-rising}
@@ -38,7 +38,7 @@ axis-held high key o e =
 held-axis : (high : ℕ) (key : CalKey) (o : Option Data) → IsAxisArray high o → axis_fault key (o >>= numbers_in 2 16 high) ≡ None
 held-axis high key o h =
     let (is_axis, within) = h.keeps in
-    let many : IsWritten (array_of natural) (AreMany 2 16 (λ n. n ≤ high)) o =
+    let many : HoldsValue (array_of natural) (AreMany 2 16 (λ n. n ≤ high)) o =
     record { value = h.value; is = h.is; keeps = record { from = is_axis.0; to = is_axis.1; each = within } } in
     ap (axis_fault key) (written-read (numbers-exact 2 16 high) o many) ∙ rw (rising-true h.value is_axis.2) refl
 

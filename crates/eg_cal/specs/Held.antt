@@ -3,7 +3,7 @@
 use Rattle.std.specs.Prelude.{◌≡◌, ◌≤◌, ℕ, All, Option, IsSome}
 use Rattle.std.specs.Bool.{⊤}
 use Rattle.toml.specs.Data.{Data, boolean, Members}
-use Rattle.eg_toml.specs.Held.{IsWritten, natural, array_of, IsWithin, AreMany}
+use Rattle.eg_toml.specs.Held.{HoldsValue, natural, array_of, IsBetween, AreMany}
 use Rattle.eg_num.specs.Interpolation.{IsAxis}
 use Rattle.eg_cal.specs.declared.key.CalKey.{CalKey}
 use Rattle.eg_cal.specs.declared.key.CalKey.TheVariants.{PermitBrake}
@@ -12,21 +12,21 @@ use Rattle.eg_cal.specs.Contents.{value_of, point_count, read_questions}
 
 -- an array of `many` numbers from 0 to `high`
 abbrev pub IsNumberArray : ℕ → ℕ → Option Data → Type 0
-IsNumberArray many high o = IsWritten (array_of natural) (AreMany many many (λ n. n ≤ high)) o
+IsNumberArray many high o = HoldsValue (array_of natural) (AreMany many many (λ n. n ≤ high)) o
 
 -- an array of 2 to 16 strictly rising numbers from 0 to `high`
 abbrev pub IsAxisArray : ℕ → Option Data → Type 0
-IsAxisArray high o = IsWritten (array_of natural) (λ points. IsAxis points × All (λ n. n ≤ high) points) o
+IsAxisArray high o = HoldsValue (array_of natural) (λ points. IsAxis points × All (λ n. n ≤ high) points) o
 
 -- an array of `tall` arrays, each of `wide` numbers from 0 to `high`
 abbrev pub IsRowArray : ℕ → ℕ → ℕ → Option Data → Type 0
 IsRowArray tall wide high o =
-    IsWritten (array_of (array_of natural)) (AreMany tall tall (AreMany wide wide (λ n. n ≤ high))) o
+    HoldsValue (array_of (array_of natural)) (AreMany tall tall (AreMany wide wide (λ n. n ≤ high))) o
 
 -- what stands under a key is what that content is
 abbrev pub Holds : Content → Members → CalKey → Type 0
-Holds (number low high) ms key = IsWritten natural (IsWithin low high) (value_of ms key)
-Holds truth ms key = IsWritten boolean (λ b. ⊤) (value_of ms key)
+Holds (number low high) ms key = HoldsValue natural (IsBetween low high) (value_of ms key)
+Holds truth ms key = HoldsValue boolean (λ b. ⊤) (value_of ms key)
 Holds (axis high) ms key = IsAxisArray high (value_of ms key)
 Holds (values along high) ms key = IsNumberArray (point_count ms along) high (value_of ms key)
 Holds (grid down across high) ms key =

@@ -1,6 +1,8 @@
 // The reader of calibration files.
+ghost use Rattle.std.specs.Prelude.{◌≡◌, true, Err};
 ghost use Rattle.toml.specs.View.{table_view};
 ghost use Rattle.eg_toml.specs.Documents.{document_of};
+ghost use Rattle.eg_toml.specs.Weight.{is_too_heavy};
 ghost use Rattle.eg_toml.specs.Refusals.{IsRead, Checks};
 ghost use Rattle.eg_cal.specs.declared.key.CalFault.TheVariants.{Memory};
 ghost use Rattle.eg_cal.specs.Calibration.{calibration_of, refusal_of, unanswered_refusal_of, parts_of, parts_fault, rising_fault, window_fault};
@@ -21,7 +23,9 @@ use std::alloc::Global;
 /// breaks. The result is exactly that of `calibration_of`, unless memory runs out, which may happen with any
 /// bytes.
 pub fn read_calibration(alloc: Global, bytes: &[u8]) -> Result<Calibration, CalFault>
-    ensures { IsRead Memory (calibration_of (document_of bytes.now)) result }
+    ensures read { IsRead Memory (calibration_of (document_of bytes.now)) result }
+    // A document that weighs too much isn't read, and counts as one for which there is no memory.
+    ensures heavy { is_too_heavy bytes.now ≡ true → result ≡ Err Memory }
 {
     let root = read_document(alloc, bytes)?;
     calibration_in(&Document { root })
@@ -31,7 +35,9 @@ pub fn read_calibration(alloc: Global, bytes: &[u8]) -> Result<Calibration, CalF
 /// (docs/CONCEPT.md, "`answers`"), or the first rule that the file breaks, the rule on answers left out. The
 /// result is exactly that of `answers_of`, unless memory runs out, which may happen with any bytes.
 pub fn read_answers(alloc: Global, bytes: &[u8]) -> Result<Questions, CalFault>
-    ensures { IsRead Memory (answers_of (document_of bytes.now)) result }
+    ensures read { IsRead Memory (answers_of (document_of bytes.now)) result }
+    // A document that weighs too much isn't read, and counts as one for which there is no memory.
+    ensures heavy { is_too_heavy bytes.now ≡ true → result ≡ Err Memory }
 {
     let root = read_document(alloc, bytes)?;
     answers_in(&Document { root })

@@ -11,7 +11,7 @@ use Rattle.toml.specs.Data.{Data, string, integer, boolean, Members, get_member,
 use Rattle.eg_toml.specs.Values.{◌>>=◌}
 use Rattle.eg_toml.specs.Arrays.{is_rising}
 use Rattle.eg_toml.specs.Refusals.{unless_some}
-use Rattle.eg_toml.specs.Held.{IsWritten, MayBeWritten, natural, array_of, AreMany}
+use Rattle.eg_toml.specs.Held.{HoldsValue, MayHoldValue, natural, array_of, AreMany}
 use Rattle.eg_toml.proofs.RangeLemmas.{bind-some, if-some}
 use Rattle.eg_toml.proofs.RisingLemmas.{true-rising, rising-true}
 use Rattle.eg_toml.proofs.HeldLemmas.{IsExact, not_refused, kept, text-exact, integer-exact, truth-exact, number-exact, number-up, array-exact, numbers-exact}
@@ -39,16 +39,16 @@ when-exact {X = X} {read = read} {form = form} exact passes stricter to back = r
 }
 
 may-held : {X : Type 0} {read : Data → Option X} {form : X → Data} {rule : X → Type 0} (exact : IsExact read form rule) (usual : X) (f : CampaignFault) (o : Option Data)
-    → (unless_some f (read_or usual read o) ≡ None) ↔ MayBeWritten form rule o
+    → (unless_some f (read_or usual read o) ≡ None) ↔ MayHoldValue form rule o
 may-held exact usual f None = (λ e. inl refl, λ h. refl)
 may-held {read = read} {form = form} {rule = rule} exact usual f (Some d) = (λ e. inr ((not_refused exact f (Some d)).0 e), back)
   where
-    back : MayBeWritten form rule (Some d) → unless_some f (read d) ≡ None
+    back : MayHoldValue form rule (Some d) → unless_some f (read d) ≡ None
     back (inl e) = absurd (cc)
     back (inr h) = (not_refused exact f (Some d)).1 h
 
 pub may-kept : {X : Type 0} {read : Data → Option X} {form : X → Data} {rule : X → Type 0} (exact : IsExact read form rule) (usual other : X) (o : Option Data)
-    → rule usual → MayBeWritten form rule o → rule (unwrap_or (read_or usual read o) other)
+    → rule usual → MayHoldValue form rule o → rule (unwrap_or (read_or usual read o) other)
 may-kept exact usual other None keeps h = keeps
 may-kept exact usual other (Some d) keeps (inl e) = absurd (cc)
 may-kept exact usual other (Some d) keeps (inr h) = kept exact (Some d) other h
@@ -161,14 +161,14 @@ in-turn None passes = refl
 in-turn (Some d) passes = refl
 
 text-held : {rule : List ℕ → Type 0} (passes : List ℕ → Bool) (exact : IsExact (λ d. as_str d >>= when passes) string rule) (f : CampaignFault) (key : List ℕ) (ms : Members)
-    → (unless_some f (text_at passes key ms) ≡ None) ↔ IsWritten string rule (get_member key ms)
+    → (unless_some f (text_at passes key ms) ≡ None) ↔ HoldsValue string rule (get_member key ms)
 text-held passes exact f key ms =
     let same = ap (unless_some f) (in-turn (get_member key ms) passes) in
     let held = not_refused exact f (get_member key ms) in
     (λ e. held.0 (sym same ∙ e), λ h. same ∙ held.1 h)
 
 text-kept : {rule : List ℕ → Type 0} (passes : List ℕ → Bool) (exact : IsExact (λ d. as_str d >>= when passes) string rule) (key : List ℕ) (ms : Members)
-    → IsWritten string rule (get_member key ms) → rule (unwrap_or (text_at passes key ms) [])
+    → HoldsValue string rule (get_member key ms) → rule (unwrap_or (text_at passes key ms) [])
 text-kept {rule = rule} passes exact key ms h =
     subst rule (ap (λ o. unwrap_or o []) (sym (in-turn (get_member key ms) passes))) (kept exact (get_member key ms) [] h)
 

@@ -12,7 +12,7 @@ use Rattle.eg_toml.specs.Values.{◌>>=◌}
 use Rattle.eg_toml.specs.Arrays.{count}
 use Rattle.eg_toml.specs.Names.{all_names, is_among}
 use Rattle.eg_toml.specs.Refusals.{unless_some, unless_true, IsRead, seen}
-use Rattle.eg_toml.specs.Held.{MayBeWritten, items_of, array_of, IsWithin, AreMany}
+use Rattle.eg_toml.specs.Held.{MayHoldValue, items_of, array_of, IsBetween, AreMany}
 use Rattle.eg_toml.proofs.RefusalLemmas.{or-none, none-or, first_of-none, unless_true-none, unless-ok}
 use Rattle.eg_toml.proofs.HeldLemmas.{unless_some-none, kept, number-exact, number-up, numbers-exact, as_table-is, as_array-is, items_of-count}
 use Rattle.eg_sensor.specs.declared.tracks.TheConstants.{PEDAL_1, BRAKE_2, TRACKS}
@@ -53,7 +53,7 @@ held-keys n ms [] h = refl
 held-keys n ms (rule ∷ rules) h =
     none-or (key_refusal n rule ms) (keys_refusal n rules ms) ((content-held (Key n rule.key) rule.content (text_of rule.key) ms).1 h.0) (held-keys n ms rules h.1)
 
-number-in : (low high : ℕ) (k : RunKey) (ms : Members) → Holds (number low high) (get_member (text_of k) ms) → IsWithin low high (number_of (k holds number low high) ms)
+number-in : (low high : ℕ) (k : RunKey) (ms : Members) → Holds (number low high) (get_member (text_of k) ms) → IsBetween low high (number_of (k holds number low high) ms)
 number-in low high k ms h = kept (number-exact low high) (get_member (text_of k) ms) 0 h
 
 words-in : (k : RunKey) (ms : Members) → Holds words (get_member (text_of k) ms) → AreMany 1 64 (λ n. n ≤ 65535) (numbers_of (k holds words) ms)
@@ -163,7 +163,7 @@ few-held n (t ∷ []) few none known = record { from = omega arith; to = omega a
 few-held n (t ∷ u ∷ ts) few none known = let wrong = leb-true _ _ few in absurd (omega arith)
 
 faults-held : (n : ℕ) (o : Option Data) → array_refusal n o ≡ None → table_refusal n (table_in o) ≡ None → table_is_known (table_in o) ≡ true
-    → MayBeWritten (array_of table) AreFaults o
+    → MayHoldValue (array_of table) AreFaults o
 faults-held n None e none known = inl refl
 faults-held n (Some d) e none known =
     let h = first_of-none (unless_true (Key n key.Faults) (are_tables (as_array d)) ∷ unless_true (TwoFaults n) (is_one_at_most (as_array d)) ∷ []) e in
@@ -191,7 +191,7 @@ few-said n (t ∷ []) h =
     record { array = refl; table = held-fault n t is; known = names; valid = fault-valid t is }
 few-said n (t ∷ u ∷ ts) h = let wrong = h.to in absurd (omega arith)
 
-faults-said : (n : ℕ) (o : Option Data) → MayBeWritten (array_of table) AreFaults o → HasFaults n o
+faults-said : (n : ℕ) (o : Option Data) → MayHoldValue (array_of table) AreFaults o → HasFaults n o
 unfolding IsNoneOrValid
 faults-said n None h = record { array = refl; table = refl; known = refl; valid = tt }
 faults-said n (Some d) (inl e) = absurd (cc)

@@ -6,7 +6,7 @@ use Rattle.std.specs.List.{AllByRecursion, AllPairs}
 use Rattle.std.specs.List.Sorted.{IsStrictlyIncreasing}
 use Rattle.toml.specs.Data.{Data, string, integer, boolean, table, Members, get_member}
 use Rattle.eg_toml.specs.Names.{all_names, is_among}
-use Rattle.eg_toml.specs.Held.{IsWritten, MayBeWritten, natural, array_of, IsWithin, AreMany}
+use Rattle.eg_toml.specs.Held.{HoldsValue, MayHoldValue, natural, array_of, IsBetween, AreMany}
 use Rattle.eg_fault.specs.Faults.{IsOffset}
 use Rattle.eg_plan.specs.declared.class_name.ClassName.{ClassName}
 use Rattle.eg_plan.specs.declared.engine.EngineKind.{EngineKind}
@@ -25,22 +25,22 @@ abbrev pub engine_word : EngineKind → Data
 engine_word Gasoline = string (codes "gasoline")
 engine_word Diesel = string (codes "diesel")
 
--- 1 to 64 rising numbers of ticks
+-- 1 to 64 strictly rising numbers from 0 to 19999
 abbrev pub AreTicks : List ℕ → Type 0
 AreTicks ns = AreMany 1 64 (λ n. n ≤ 19999) ns × IsStrictlyIncreasing ns
 
 -- what stands there is what a key of this content may hold
 abbrev pub Holds : Content → Option Data → Type 0
-Holds run_name o = IsWritten string IsRunName o
-Holds file_name o = IsWritten string IsFileName o
-Holds slice_rows o = MayBeWritten (array_of (array_of natural)) IsSlicePlan o
-Holds engine_name o = MayBeWritten engine_word (λ engine. ⊤) o
-Holds (number low high) o = IsWritten natural (IsWithin low high) o
-Holds (optional high) o = MayBeWritten natural (λ n. n ≤ high) o
-Holds shift o = IsWritten integer IsOffset o
-Holds words o = IsWritten (array_of natural) (AreMany 1 64 (λ n. n ≤ 65535)) o
-Holds ticks o = IsWritten (array_of natural) AreTicks o
-Holds truths o = IsWritten (array_of boolean) (AreMany 1 64 (λ truth. ⊤)) o
+Holds run_name o = HoldsValue string IsRunName o
+Holds file_name o = HoldsValue string IsFileName o
+Holds slice_rows o = MayHoldValue (array_of (array_of natural)) IsSlicePlan o
+Holds engine_name o = MayHoldValue engine_word (λ engine. ⊤) o
+Holds (number low high) o = HoldsValue natural (IsBetween low high) o
+Holds (optional high) o = MayHoldValue natural (λ n. n ≤ high) o
+Holds shift o = HoldsValue integer IsOffset o
+Holds words o = HoldsValue (array_of natural) (AreMany 1 64 (λ n. n ≤ 65535)) o
+Holds ticks o = HoldsValue (array_of natural) AreTicks o
+Holds truths o = HoldsValue (array_of boolean) (AreMany 1 64 (λ truth. ⊤)) o
 
 -- what stands under a key in a table is what its rule says
 abbrev pub IsHeld : Members → KeyRule → Type 0
@@ -57,7 +57,7 @@ pub record IsFaultTable (ms : Members) : Type 0 where
 -- the table of a run has what its keys hold, a fault or none, and no other name
 pub record IsRunTable (ms : Members) : Type 0 where
   pub keys : AllByRecursion (IsHeld ms) run_keys
-  pub faults : MayBeWritten (array_of table) (AreMany 0 1 IsFaultTable) (get_member (codes "faults") ms)
+  pub faults : MayHoldValue (array_of table) (AreMany 0 1 IsFaultTable) (get_member (codes "faults") ms)
   pub names : all_names (is_among run_names) ms ≡ true
 
 -- 1 to 1,000 tables of runs, no two of one name
@@ -67,7 +67,7 @@ pub record AreRunTables (tables : List Members) : Type 0 where
 
 -- under `run` stands an array of such tables, and no other name stands at the top
 pub record KeepsRules (ms : Members) : Type 0 where
-  pub runs : IsWritten (array_of table) AreRunTables (get_member (codes "run") ms)
+  pub runs : HoldsValue (array_of table) AreRunTables (get_member (codes "run") ms)
   pub names : is_top_known ms ≡ true
 
 -- the law: a document is accepted exactly if it keeps the rules, and its runs are those that its tables say

@@ -1,7 +1,8 @@
 // The reader of campaign files.
-ghost use Rattle.std.specs.Prelude.{◌≡◌, ◌+◌, ◌<◌, ◌≤◌, [], true, nat_le, length, option_map, IfOk};
+ghost use Rattle.std.specs.Prelude.{◌≡◌, ◌+◌, ◌<◌, ◌≤◌, [], true, nat_le, length, option_map, Err, IfOk};
 ghost use Rattle.toml.specs.View.{view, table_view, items_view};
 ghost use Rattle.eg_toml.specs.Documents.{document_of};
+ghost use Rattle.eg_toml.specs.Weight.{is_too_heavy};
 ghost use Rattle.eg_toml.specs.Arrays.{count};
 ghost use Rattle.eg_toml.specs.Refusals.{IsRead, Reads, seen};
 ghost use Rattle.eg_plan.specs.declared.key.CampaignFault.TheVariants.{Memory};
@@ -22,13 +23,16 @@ use toml::{Table, Value};
 pub fn read_campaign(alloc: Global, bytes: &[u8]) -> Result<Vec<RunPlan>, CampaignFault>
     ensures read { IsRead Memory (campaign_of (document_of bytes.now)) (seen (λ runs. runs.items) result) }
     ensures rules { IfOk result (λ runs. AreRuns runs.items) }
+    // A document that weighs too much isn't read, and counts as one for which there is no memory.
+    ensures heavy { is_too_heavy bytes.now ≡ true → result ≡ Err Memory }
 {
     campaign_of(alloc, bytes)
 }
 
 /// The runs that these bytes say, or the first rule that they break.
 fn campaign_of(alloc: Global, bytes: &[u8]) -> Result<Vec<RunPlan>, CampaignFault>
-    ensures { IsRead Memory (campaign_of (document_of bytes.now)) (seen (λ runs. runs.items) result) }
+    ensures read { IsRead Memory (campaign_of (document_of bytes.now)) (seen (λ runs. runs.items) result) }
+    ensures heavy { is_too_heavy bytes.now ≡ true → result ≡ Err Memory }
 {
     let root = read_document(alloc, bytes)?;
     campaign_in(alloc, &root)

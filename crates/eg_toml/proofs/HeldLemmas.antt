@@ -7,7 +7,7 @@ use Rattle.toml.specs.Data.{Data, string, integer, float, boolean, datetime, arr
 use Rattle.eg_toml.specs.Values.{natural_in, number_in, ◌>>=◌}
 use Rattle.eg_toml.specs.Arrays.{count, append_read, all_read, one, items_in, array_in, numbers_in}
 use Rattle.eg_toml.specs.Refusals.{unless_some}
-use Rattle.eg_toml.specs.Held.{IsWritten, natural, items_of, array_of, IsWithin, AreMany}
+use Rattle.eg_toml.specs.Held.{HoldsValue, natural, items_of, array_of, IsBetween, AreMany}
 use Rattle.eg_toml.proofs.RangeLemmas.{bind-some, if-some, natural_in-within}
 
 -- ---- a reader and what it reads
@@ -23,15 +23,15 @@ unless_some-none f None e = absurd (cc)
 unless_some-none f (Some x) e = (x, refl)
 
 pub written-read : {X : Type 0} {read : Data → Option X} {form : X → Data} {rule : X → Type 0} (exact : IsExact read form rule) (o : Option Data)
-    (h : IsWritten form rule o) → (o >>= read) ≡ Some h.value
+    (h : HoldsValue form rule o) → (o >>= read) ≡ Some h.value
 written-read {read = read} exact o h = ap (λ p. p >>= read) h.is ∙ exact.reads h.value h.keeps
 
 -- there is no refusal exactly if it is written,
 pub not_refused : {F X : Type 0} {read : Data → Option X} {form : X → Data} {rule : X → Type 0} (exact : IsExact read form rule) (f : F) (o : Option Data)
-    → (unless_some f (o >>= read) ≡ None) ↔ IsWritten form rule o
+    → (unless_some f (o >>= read) ≡ None) ↔ HoldsValue form rule o
 not_refused {read = read} {form = form} {rule = rule} exact f o = (written, λ h. ap (unless_some f) (written-read exact o h))
   where
-    written : unless_some f (o >>= read) ≡ None → IsWritten form rule o
+    written : unless_some f (o >>= read) ≡ None → HoldsValue form rule o
     written e =
         let got = unless_some-none f (o >>= read) e in
         let found = bind-some o read got.0 got.1 in
@@ -39,7 +39,7 @@ not_refused {read = read} {form = form} {rule = rule} exact f o = (written, λ h
 
 -- and what is read keeps the rule
 pub kept : {X : Type 0} {read : Data → Option X} {form : X → Data} {rule : X → Type 0} (exact : IsExact read form rule) (o : Option Data) (usual : X)
-    → IsWritten form rule o → rule (unwrap_or (o >>= read) usual)
+    → HoldsValue form rule o → rule (unwrap_or (o >>= read) usual)
 kept {rule = rule} exact o usual h = subst rule (sym (ap (λ p. unwrap_or p usual) (written-read exact o h))) h.keeps
 
 -- ---- single values
@@ -105,7 +105,7 @@ natural_in-is low high (negsuc m) n e = absurd (cc)
 pub natural_in-pos : (low high n : ℕ) → low ≤ n → n ≤ high → natural_in low high (pos n) ≡ Some n
 natural_in-pos low high n least most = rw (le-leb low n least, le-leb n high most) refl
 
-pub number-exact : (low high : ℕ) → IsExact (number_in low high) natural (IsWithin low high)
+pub number-exact : (low high : ℕ) → IsExact (number_in low high) natural (IsBetween low high)
 number-exact low high = record {
   is = λ d n e.
       let found = bind-some (as_integer d) (natural_in low high) n e in

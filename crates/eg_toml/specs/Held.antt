@@ -4,14 +4,14 @@ use Rattle.std.specs.Prelude.{◌≡◌, ◌⊎◌, ◌≤◌, ℕ, pos, List, [
 use Rattle.toml.specs.Data.{Data, integer, array, Items, no_items, item}
 
 -- a value of this form is written there, and keeps the rule
-pub record IsWritten {X : Type 0} (form : X → Data) (rule : X → Type 0) (o : Option Data) : Type 0 where
+pub record HoldsValue {X : Type 0} (form : X → Data) (rule : X → Type 0) (o : Option Data) : Type 0 where
   pub value : X
   pub is : o ≡ Some (form value)
   pub keeps : rule value
 
 -- such a value is written there, or nothing
-abbrev pub MayBeWritten : {X : Type 0} → (X → Data) → (X → Type 0) → Option Data → Type 0
-MayBeWritten form rule o = (o ≡ None) ⊎ IsWritten form rule o
+abbrev pub MayHoldValue : {X : Type 0} → (X → Data) → (X → Type 0) → Option Data → Type 0
+MayHoldValue form rule o = (o ≡ None) ⊎ HoldsValue form rule o
 
 -- ---- forms ----
 
@@ -31,8 +31,8 @@ array_of form xs = array (items_of form xs)
 -- ---- rules ----
 
 -- a number from `low` to `high`
-abbrev pub IsWithin : ℕ → ℕ → ℕ → Type 0
-IsWithin low high n = (low ≤ n) × (n ≤ high)
+abbrev pub IsBetween : ℕ → ℕ → ℕ → Type 0
+IsBetween low high n = (low ≤ n) × (n ≤ high)
 
 -- `least` to `most` values, each of which keeps the rule
 pub record AreMany {X : Type 0} (least most : ℕ) (rule : X → Type 0) (xs : List X) : Type 0 where

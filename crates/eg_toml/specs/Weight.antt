@@ -147,7 +147,7 @@ kept_around w = if nat_lt (length w.around) deepest then w.around ++ w.counts �
 abbrev pub opened : Weighed → Weighed
 opened w = record w { counts = no_counts; around = kept_around w }
 
--- a list or an inline table is closed, and the counts of the one around it go on
+-- a list or an inline table is closed, and the counts of the one around it go on, as deep as they are kept
 abbrev pub closed : Weighed → Weighed
 closed w =
     let outer = length w.around - 1 in
