@@ -6,6 +6,9 @@ use Rattle.eg_answer.specs.declared.marks.Verdict.TheVariants.{Wrong}
 use Rattle.eg_record.specs.declared.watch.Watch.TheVariants.{Answers}
 use Rattle.eg_record.specs.Excess.{true_excess}
 use Rattle.eg_values.specs.Reference.{reference_parts}
+use Rattle.eg_values.specs.Calibration.{IsAccepted}
+use Rattle.eg_answer.specs.Answers as answers
+use Rattle.eg_answer.specs.Formulas as formulas
 use Rattle.eg_model.specs.Examples.{answers_of, verdicts_of, stages_of, moments_in_time, report_on, reported}
 use Rattle.eg_model.specs.Engines.{gasoline}
 use Rattle.eg_model.specs.Records.{rows_to, ExceedLast}
@@ -53,6 +56,23 @@ unfolding feeds_to_confirm periods_to_confirm worth_of rounds_to_confirm lapse_p
 reference-bound = refl
 
 -- ---- excess that stands ----
+
+-- the answers are right by both, since the torque's weights aren't in them
+pub slow-accepted : IsAccepted reference_parts → IsAccepted slow_parts
+unfolding answers.expected_of answers.results_of answers.permitted_result answers.estimate_result answers.excess_result answers.pairs_result formulas.permitted_torque formulas.estimated_torque formulas.excess_number formulas.disagreeing_pairs
+slow-accepted a = record {
+  grid = a.grid;
+  permit = a.permit;
+  pair = a.pair;
+  plant = a.plant;
+  charge = a.charge;
+  times = a.times;
+  answers = a.answers;
+  torque = (omega arith, omega arith, omega arith, omega arith, omega arith);
+  at_most_64 = a.at_most_64;
+  together = record { one_kt = a.together.one_kt; two_questions = a.together.two_questions; answered = a.together.answered };
+  words = record { seeds = a.words.seeds; values = a.words.values };
+}
 
 pub standing-bound : HasLapseBound slow_parts.rules.torque slow_parts.times
 standing-bound = subst (λ c. (c - 1) * slow_parts.times.weights.down < slow_parts.times.weights.up) (sym one) (omega arith)

@@ -39,6 +39,16 @@ far_apart = record {
       (single_misses_are_spaced 3 0 35 35 0 77 (inr (omega arith)));
 }
 
+-- by misses at the ticks 3, 13, 23, ..: of the ticks 14 to 23 one alone is missed
+pub within : IsSpacedLapse (missed_run 10).setting 14 24
+within = record {
+  has = record { two_are_few = omega arith; some_taken = omega arith };
+  lapse = record { onset = 3; after = 0 ∷ []; every = 10; is = refl };
+  spaced = λ first second from before misses misses_too later.
+      let apart = single_misses_are_spaced 3 0 10 10 14 24 (inr (omega arith)) first second from before misses misses_too later in
+      absurd (omega (arith, apart, from, before));
+}
+
 pub far : report_on (missed_run 35) ≡ reported_with 24 None None
 unfolding whole_model
 far = refl

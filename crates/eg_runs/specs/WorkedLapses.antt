@@ -1,6 +1,5 @@
 -- Outside the headline. Two runs that show the laws of lapses at work. In both level 1 opens the throttle. In
--- one level 2 runs at one tick of ten; in the other it runs up to the last send tick before an excess would
--- be confirmed.
+-- one level 2 runs at one tick of ten; in the other it runs up to a send tick, and at none after it.
 use Rattle.std.specs.Prelude.{Bool, List, [], ◌∷◌, ◌++◌, map, replicate, None}
 use Rattle.eg_num.specs.Drive.{driven}
 use Rattle.eg_fault.specs.declared.class.Class.TheVariants.{Lapse}

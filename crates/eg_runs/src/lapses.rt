@@ -2,6 +2,7 @@
 ghost use Rattle.std.specs.Prelude.{◌≡◌, ◌*◌, [], ◌∷◌, ◌++◌, map, replicate, true, false, Some, None};
 ghost use Rattle.eg_answer.specs.Times.{HasLapseBound, lapse_periods, lapse_bound_of, HasMissSpacing, miss_spacing_of};
 ghost use Rattle.eg_values.specs.Reference.{reference_parts};
+ghost use Rattle.eg_values.specs.Calibration.{IsAccepted};
 ghost use Rattle.eg_record.specs.declared.watch.Watch.TheVariants.{Answers, Torque};
 ghost use Rattle.eg_record.specs.Excess.{full_excess};
 ghost use Rattle.eg_model.specs.Engines.{gasoline};
@@ -24,10 +25,10 @@ pub fn a_run_with_lapses_is_cut()
 
 /// Excess that stands for `lapse_periods` whole periods, and is then cut (docs/CONCEPT.md, "Lapses"): by a
 /// calibration with which 10 runs of level 2 confirm an excess, and a period has 6 ticks up to its send tick.
-/// There is true excess from tick 7 on. Level 2 runs up to tick 15, one tick too few to find it; its answer
-/// of tick 15 is still good, the verdicts from tick 29 on are wrong, and the stages are off from tick 50 on.
-/// It does nothing when it runs.
+/// Level 2 runs up to tick 15, which is a send tick. There is true excess at each of the ticks 10 to 49, four
+/// whole periods, and the stages are off from tick 50 on. It does nothing when it runs.
 pub fn standing_excess_run()
+    ensures accepted { IsAccepted reference_parts → IsAccepted slow_parts }
     ensures bound { HasLapseBound slow_parts.rules.torque slow_parts.times }
     ensures periods { lapse_periods slow_parts.rules.torque slow_parts.times ≡ 4 }
     ensures stands { ExceedLast 200 (lapse_periods slow_parts.rules.torque slow_parts.times * 10)
@@ -44,6 +45,7 @@ pub fn near_misses_cut_and_far_ones_do_not()
     ensures spacing { miss_spacing_of (sevens 9).times ≡ 35 }
     ensures near { report_on (missed_run 28) ≡ reported_with 24 (Some (Answers, 69)) (Some 70) }
     ensures far_apart { IsSpacedLapse (missed_run 35).setting 0 77 }
+    ensures within { IsSpacedLapse (missed_run 10).setting 14 24 }
     ensures far { report_on (missed_run 35) ≡ reported_with 24 None None }
     ensures none { ¬ HasMissSpacing (sevens 6).times }
     ensures single { report_on single_miss ≡ reported_with 17 (Some (Answers, 13)) (Some 14) }
