@@ -1,6 +1,6 @@
-// A call over files in memory, of which a read, a put or a note may fail.
+// A call over files in memory, whose reads are counted, and of which a read, a put or a note may fail.
 use eg_app::{Outcome, egasim};
-use eg_base::{MemorySink, MemoryStore, Sink, Store};
+use eg_base::{MemorySink, MemoryStore, ReadRefusal, Sink, Store};
 use eg_tick::Ticks;
 use std::alloc::Global;
 use std::test::Fail;
@@ -20,12 +20,51 @@ trace = "idle.csv"
 image = "probe.hex"
 "#;
 
+/// Three runs of one group: without a fault, and with one that begins late.
+const LATE: &str = r#"[[run]]
+name = "a"
+trace = "long.csv"
+image = "idle.hex"
+[[run]]
+name = "b"
+trace = "long.csv"
+image = "idle.hex"
+faults = [{ class = "flip", onset = 950, word = 3, mask = 1 }]
+[[run]]
+name = "c"
+trace = "long.csv"
+image = "idle.hex"
+faults = [{ class = "halt", onset = 399 }]
+"#;
+
+/// A run, and two of another group, one of them with a fault that begins at once.
+const EARLY: &str = r#"[[run]]
+name = "a"
+trace = "short.csv"
+image = "idle.hex"
+[[run]]
+name = "b"
+trace = "short.csv"
+image = "full.hex"
+[[run]]
+name = "c"
+trace = "short.csv"
+image = "full.hex"
+faults = [{ class = "path1-closed", onset = 0 }]
+"#;
+
 /// Four ticks without pedal at 800 revolutions.
 const TRACE: &str = "pedal,speed,raise\n0,800,0\n0,800,0\n0,800,0\n0,800,0\n";
 
 /// An image that reads the actual torque in one slice and again in the next, and gives the difference to the
 /// throttle.
 const PROBE: &str = "1210\n2220\n1a10\n2a10\nb442\nf000\nb642\n58d0\nc940\nf000\nd1f9\n";
+
+/// An image that waits for ever.
+const IDLE: &str = "f000\nd1fe\n";
+
+/// An image that sets both outputs to 1000, and waits for ever.
+const FULL: &str = "1210\n2210\n1407\n2468\nc440\nc441\nf000\nd1fe\n";
 
 /// A source of an image of two words.
 const LOOP: &str = "loop:\nwait\njz r0,loop\n";
@@ -47,7 +86,7 @@ check = 65535, used = 500, estimate = 1400, allowed = 1000, answer = 8842 },
 ";
 
 /// How a call ends with the words of a line, which are separated by blanks.
-fn end<S: Store, K: Sink, N: Sink>(
+pub(crate) fn end<S: Store, K: Sink, N: Sink>(
     alloc: Global,
     line: &str,
     store: &mut S,
@@ -62,16 +101,52 @@ fn end<S: Store, K: Sink, N: Sink>(
     Ok(egasim(alloc, &words, store, out, notes, steps))
 }
 
-/// A store that has all of these files.
+/// The files that each store has.
+const FILES: [(&str, &str); 10] = [
+    ("in.csv", CHECK),
+    ("c.toml", CAMPAIGN),
+    ("late.toml", LATE),
+    ("early.toml", EARLY),
+    ("idle.csv", TRACE),
+    ("probe.hex", PROBE),
+    ("idle.hex", IDLE),
+    ("full.hex", FULL),
+    ("loop.asm", LOOP),
+    ("cal.toml", CALIBRATION),
+];
+
+/// A store that has all of these files, and a trace of 60 and one of 1,000 ticks.
 fn store(alloc: Global) -> Result<MemoryStore, Fail> {
     let mut store = MemoryStore::new(alloc);
-    store.add("in.csv", CHECK.as_bytes())?;
-    store.add("c.toml", CAMPAIGN.as_bytes())?;
-    store.add("idle.csv", TRACE.as_bytes())?;
-    store.add("probe.hex", PROBE.as_bytes())?;
-    store.add("loop.asm", LOOP.as_bytes())?;
-    store.add("cal.toml", CALIBRATION.as_bytes())?;
+    for (name, text) in FILES {
+        store.add(name, text.as_bytes())?;
+    }
+    for (name, ticks) in [("short.csv", 60), ("long.csv", 1000)] {
+        store.add(name, trace(alloc, ticks)?.as_bytes())?;
+    }
     Ok(store)
+}
+
+/// So many ticks without pedal at 800 revolutions.
+fn trace(alloc: Global, ticks: usize) -> Result<String, Fail> {
+    let rows = "0,800,0\n".repeat(alloc, ticks)?;
+    Ok(format!(in alloc; "pedal,speed,raise\n{rows}")?)
+}
+
+/// A store that counts its reads.
+#[derive(Drop)]
+struct Counting {
+    store: MemoryStore,
+    reads: usize,
+}
+
+impl Store for Counting {
+    ghost shows = { λ s. ⟦<MemoryStore as Store>⟧.shows s.store };
+
+    fn read(&mut self, name: &str, most: usize, into: &mut Vec<u8>) -> Result<(), ReadRefusal> {
+        self.reads = self.reads.saturating_add(1);
+        self.store.read(name, most, into)
+    }
 }
 
 /// The numbers of the read, of the put to the output and of the put to the notes that fail, each from 0.
@@ -93,6 +168,7 @@ pub(crate) const NOTHING: Failing = Failing {
 #[derive(Drop)]
 pub(crate) struct Shown {
     pub(crate) outcome: Outcome,
+    pub(crate) reads: usize,
     pub(crate) out: MemorySink,
     pub(crate) steps: Ticks,
 }
@@ -108,16 +184,21 @@ fn sink(alloc: Global, fails: Option<u32>) -> Result<MemorySink, Fail> {
 
 /// Calls with the words of a line.
 pub(crate) fn call(alloc: Global, line: &str, failing: Failing) -> Result<Shown, Fail> {
-    let mut store = store(alloc)?;
+    let mut files = store(alloc)?;
     if let Some(number) = failing.read {
-        store.fail_at(number)?;
+        files.fail_at(number)?;
     }
+    let mut store = Counting {
+        store: files,
+        reads: 0,
+    };
     let mut out = sink(alloc, failing.put)?;
     let mut notes = sink(alloc, failing.note)?;
     let mut steps = Ticks::new();
     let outcome = end(alloc, line, &mut store, &mut out, &mut notes, &mut steps)?;
     Ok(Shown {
         outcome,
+        reads: store.reads,
         out,
         steps,
     })

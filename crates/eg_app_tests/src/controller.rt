@@ -7,23 +7,18 @@ use eg_num::Drive;
 use eg_plant::GasolineEngine;
 use eg_tick::{Controller, Slices, Ticks};
 use eg_values::reference;
+use eg_word::FULL;
 use std::test::Fail;
 
-/// A controller whose level 1 waits, over a memory that refuses the store of this number. It has made no
-/// tick.
+/// A controller whose level 1 sets both outputs and waits, over a memory that refuses the store of this
+/// number. It has made no tick.
 #[tactic(auto, unfolding(eg_fault::specs::Faults::IsNoneOrValid))]
 fn controller(refuse: u32) -> Result<Controller<GasolineEngine, StingyMemory>, NoMemory>
     ensures { IfOk result (λ controller. controller.kept.ticks ≡ 0) }
 {
     let calibration = reference();
     let engine = GasolineEngine::new(calibration.plant().copy());
-    Controller::new(
-        calibration,
-        &[0xf000],
-        None,
-        StingyMemory::new(refuse),
-        engine,
-    )
+    Controller::new(calibration, &FULL, None, StingyMemory::new(refuse), engine)
 }
 
 /// Whether one tick more is made, with the pedal at rest.
@@ -46,7 +41,7 @@ fn is_made(
 fn made(refuse: u32) -> Result<[bool; 3], Fail> {
     let mut controller = controller(refuse)?;
     let drive = Drive::new(0, 800, 0, false, false).ok_or("no drive row")?;
-    let slices = Slices::new([1; 9]).ok_or("no slices")?;
+    let slices = Slices::new([100; 9]).ok_or("no slices")?;
     let mut steps = Ticks::new();
     Ok([
         is_made(&mut controller, &drive, &slices, &mut steps),
@@ -57,10 +52,14 @@ fn made(refuse: u32) -> Result<[bool; 3], Fail> {
 
 #[test]
 fn out_of_memory_is_told_and_stays(rt: HostRuntime) -> Result<(), Fail> {
-    // The image takes 1 store, and the reset of level 2 takes 32.
-    assert!(rt; controller(0).is_err() && controller(32).is_err());
-    // The first store of the first tick, and one of the second.
-    assert!(rt; made(33)? == [false, false, false]);
-    assert!(rt; made(120)? == [true, false, false]);
+    // The image takes 8 stores, and the reset of level 2 takes 32.
+    for refuse in 0..40 {
+        assert!(rt; controller(refuse).is_err(), "store {refuse}");
+    }
+    // A tick takes 11 stores of the board and 54 of level 2; in the first one level 1 makes two more.
+    for refuse in 40..=237 {
+        let wanted = [refuse >= 107, refuse >= 172, refuse >= 237];
+        assert!(rt; made(refuse)? == wanted, "store {refuse}");
+    }
     Ok(())
 }

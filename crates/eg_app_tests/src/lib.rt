@@ -1,6 +1,7 @@
 //! Tests of the top call and of the controller over fakes, of what neither a clause nor the built program
-//! shows: which of several reads failed, what was written before a put failed, notes that fail, and a
-//! controller whose memory refuses a store.
+//! shows: which of several reads failed, how many were made, what was written before a put failed, notes that
+//! fail, how many ticks a call makes, and a controller whose memory refuses a store. Each call that takes
+//! memory and that the program never makes is made here once, where there is memory.
 #![tactic(auto)]
 
 #[cfg(test)]
@@ -9,3 +10,7 @@ mod calls;
 mod controller;
 #[cfg(test)]
 mod faults;
+#[cfg(test)]
+mod rows;
+#[cfg(test)]
+mod steps;
