@@ -67,7 +67,7 @@ groups_of inputs = map (group_of inputs) (firsts_after [] inputs)
 abbrev pub faultless : RunInput → RunInput
 faultless x = record x { plan = record x.plan { fault = None } }
 
--- how many ticks lie between two ticks at which a run without a fault is kept
+-- a run without a fault is kept at tick 0, and this many ticks later again, and so on
 abbrev pub checkpoint_ticks : ℕ
 checkpoint_ticks = 100
 

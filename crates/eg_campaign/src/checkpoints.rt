@@ -23,7 +23,7 @@ use eg_tick::{BenchedEngine, Controller, Ticks, bench_begin, bench_tick};
 use eg_values::Calibration;
 use std::alloc::Global;
 
-/// How many ticks lie between two checkpoints of the run without a fault, the first of which is at tick 0
+/// How many ticks after one checkpoint of the run without a fault the next one comes. The first is at tick 0
 /// (docs/CONCEPT.md, "The record of a run").
 pub(crate) const CHECKPOINT_TICKS: usize = 100;
 

@@ -19,8 +19,8 @@ use eg_guard::Guarded;
 use eg_sensor::{Readings, checked_raise, used};
 
 /// The signal of a module of number 1 to 5 (docs/CONCEPT.md, "Level 2"): the pedal that level 2 uses, in per
-/// mille; the permitted torque and the actual torque, in tenths of Nm; 1 where the one exceeds the other, else
-/// 0; the bits of the pairs that disagree.
+/// mille; the permitted torque and the actual torque, in tenths of Nm; 1 where the actual torque is an excess
+/// over the permitted torque, else 0; the bits of the pairs that disagree.
 #[inline(always)]
 #[tactic(auto, unfolding(crate::specs::Stores::signal_of))]
 pub(crate) fn signal<M: Guarded>(number: u8, memory: &M, rules: &Rules, lookup: &Lookup) -> u16

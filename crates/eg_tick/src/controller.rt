@@ -173,7 +173,8 @@ impl<E: Engine + Drop, M: Guarded + Drop> Controller<E, M> {
         ensures trapped { (s : Setting) (h : List Entry) → Stands s self.old.kept h
             → IsTrapped (world_before s drive.now h)
             → IfOk result (HoldsOutputs (world_before s drive.now h)) }
-        // Without a fault, and before the onset of one, no test of the paths fails, and the cut is sharp.
+        // Without a fault, and before the onset of one, no test of the paths fails, and the cut is sharp if
+        // the engine showed one load twice at each tick so far.
         ensures passes { (s : Setting) (h : List Entry) → Stands s self.old.kept h
             → IfOk result (NeverFails s.fault) }
         ensures sharp { (s : Setting) → IfOk result (RowCutsSharply s self.old.kept drive.now) }
