@@ -1,5 +1,5 @@
 # From a changed threshold to a table of runs, in a folder that is taken away at the end.
-work=$(mktemp -d) && trap 'rm -rf "$work"' EXIT && ln -s "$PWD/egasim" "$PWD/examples" "$work" && cd "$work" || exit
+work=$(mktemp -d) && trap 'rm -rf "$work"' EXIT && ln -s "$PWD/egasim" "$PWD/examples" "$PWD/tools" "$work" && cd "$work" || exit
 
 # Another threshold makes other answers to the questions right, so that this file is refused: own.toml: answer 0.
 sed 's/^threshold = .*/threshold = 500/' examples/reference.toml >own.toml
@@ -12,7 +12,7 @@ sed -e '/^answer = /R right.txt' -e '//d' own.toml >answered.toml
 # What the calibration comes to.
 ./egasim limits --cal answered.toml
 
-# A run under two classes of fault, each at several onsets, and a row for each; plot_table.gp makes a picture of them.
-examples/make_campaign examples/sweep.toml late halt,path1-closed 0-80/10 >faults.toml
+# A run under two classes of fault, each at several onsets, and a row for each; tools/plot_table.gp makes a picture of them.
+tools/make_campaign examples/sweep.toml late halt,path1-closed 0-80/10 >faults.toml
 ./egasim table --cal answered.toml faults.toml >table.csv
 cat table.csv
