@@ -16,7 +16,7 @@ use crate::texts::{file_name, run_name};
 use crate::{CampaignFault, EngineKind, RunKey};
 use eg_base::Text;
 use eg_fault::Fault;
-use eg_slices::SlicePlan;
+use eg_host::SlicePlan;
 use eg_toml::{has_only_names, member};
 use std::alloc::Global;
 use toml::{Table, Value};

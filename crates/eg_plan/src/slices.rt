@@ -10,7 +10,7 @@ ghost use Rattle.eg_plan.specs.Contents.{usual_slices, slice_row, slices_in, sli
 
 use crate::{CampaignFault, RunKey};
 use arrayvec::ArrayVec;
-use eg_slices::{SlicePlan, Slices};
+use eg_host::{SlicePlan, Slices};
 use eg_toml::{items_in, member, numbers_in};
 use toml::{Table, Value};
 

@@ -24,6 +24,6 @@ mod working;
 pub use bench::{bench_begin, bench_controller, bench_row, bench_tick};
 pub use benched_engine::BenchedEngine;
 pub use controller::{Controller, Ticks};
-pub use eg_slices::{SlicePlan, Slices};
+pub use eg_host::{SlicePlan, Slices};
 pub use facts::{bench_facts, run_facts};
 pub use run::{RunRecord, run_one};
