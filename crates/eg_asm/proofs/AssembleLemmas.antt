@@ -13,7 +13,7 @@ use Rattle.eg_asm.specs.Encodings.{Encoded}
 use Rattle.eg_asm.specs.Kept.{HoldsItems, placed_shown, instructions_from, repeat_behind}
 use Rattle.eg_asm.specs.Linking.{linked_kept, HasLabels}
 use Rattle.eg_asm.specs.Sources.{Assembles}
-use Rattle.eg_asm.specs.Reading.{items_from, linked, words_read, assembled, IsAssembled}
+use Rattle.eg_asm.specs.Reading.{items_from, words_read, assembled, IsAssembled}
 use Rattle.eg_asm.proofs.LinkLaws.{same_answer}
 use Rattle.eg_asm.proofs.ReadLemmas.{read-may}
 use Rattle.eg_asm.proofs.SourceLaws.{assembled-gives}

@@ -1,10 +1,11 @@
 -- The lines of a text, and which of them say something.
-use Rattle.std.proofs.Common.{◌≡◌, ◌≢◌, ◌∙◌, sym, ap, refl, subst, ℕ, ◌<◌, List, [], ◌∷◌, ◌++◌, length, Bool, true, false, cond, Some, None, ◌⊎◌, inl, inr, arith, append-nil}
-use Rattle.std.specs.Prelude.{◌||◌, ◌==◌}
+use Rattle.std.proofs.Common.{◌≡◌, ◌∙◌, sym, ap, refl, ℕ, ◌<◌, List, [], ◌∷◌, ◌++◌, length, false, Some, None, ◌⊎◌, inl, inr, arith, append-nil}
+use Rattle.std.specs.Prelude.{◌==◌}
 use Rattle.std.specs.List.{list_any, concat, onto_first}
 use Rattle.std.proofs.lemmas.Bool.Decides.{nat_tests}
+use Rattle.std.proofs.lemmas.Bool.{or_parts, cases_Bool}
 use Rattle.eg_input.specs.Images.{Line, lines_of}
-use Rattle.eg_input.proofs.LineLemmas.{lines_of-nothing, lines_of-line, concat-lines_of}
+use Rattle.eg_input.proofs.LineLemmas.{lines_of-nothing, lines_of-line}
 use Rattle.eg_asm.specs.Grammar.{Item, IsItem, IsLineOf, text_of, line_of}
 use Rattle.eg_asm.specs.Reading.{is_byte, item_in}
 use Rattle.eg_asm.proofs.TextLaws.{Lacks, lacks-all, before_last-there, before_last-nowhere}
@@ -24,11 +25,10 @@ cut-byte b other (line ∷ lines) (inr (lacks, none, some)) = inr (rw other lack
 pub lines_of-cut : (bytes : List ℕ) → AreCut (lines_of bytes)
 unfolding lines_of
 lines_of-cut [] = tt
-lines_of-cut (b ∷ bytes) = at (b == 10) refl (lines_of-cut bytes)
-  where
-    at : (feed : Bool) → (b == 10) ≡ feed → AreCut (lines_of bytes) → AreCut (lines_of (b ∷ bytes))
-    at true is cut = let same : b ≡ 10 = grind (arith, nat_tests) in rw is (inl ([], rw same refl, refl, cut))
-    at false is cut = rw is (cut-byte b is (lines_of bytes) cut)
+lines_of-cut (b ∷ bytes) = elim (cases_Bool (b == 10)) [
+  | inl is ↦ (let same : b ≡ 10 = grind (arith, nat_tests) in rw is (inl ([], rw same refl, refl, lines_of-cut bytes)))
+  | inr is ↦ rw is (cut-byte b is (lines_of bytes) (lines_of-cut bytes))
+]
 
 -- ---- what lines say ----
 
@@ -50,9 +50,7 @@ unfolding item_in
 item_in-unfed line lacks = rw (before_last-nowhere 10 line lacks) refl
 
 pub item_in-back : (line : Line) (lines : List Line) (item : Item) → AreCut (line ∷ lines) → item_in line ≡ Some item → IsLineOf line item
-item_in-back line lines item (inl (front, is, lacks, cut)) said =
-    let P : List ℕ → Type 0 = λ l. item_in l ≡ Some item → IsLineOf l item in
-    subst P (sym is) (item_in-fed front item lacks) said
+item_in-back line lines item (inl (front, is, lacks, cut)) said = rw is (item_in-fed front item lacks (rw is at said))
 item_in-back line lines item (inr (lacks, none, some)) said = let nothing = item_in-unfed line lacks in absurd cc
 
 pub cut-more : (line : Line) (lines : List Line) → AreCut (line ∷ lines) → AreCut lines
@@ -64,38 +62,15 @@ pub lines_of-item : (item : Item) (rest : List ℕ) → IsItem item → lines_of
 unfolding line_of
 lines_of-item item rest may = lines_of-line (text_of item) 10 rest (lacks-all 10 (text_of item) (text_of-feed item may)) refl
 
--- ---- the first line ----
-
--- something that isn't nothing has a first line
-pub record HasFirst (bytes : List ℕ) : Type 0 where
-  pub line : Line
-  pub others : List Line
-  pub are : lines_of bytes ≡ line ∷ others
-  pub parts : bytes ≡ line ++ concat others
-
-pub first_of : (bytes : List ℕ) → bytes ≢ [] → HasFirst bytes
-first_of bytes some = at (lines_of bytes) refl
-  where
-    at : (lines : List Line) → lines_of bytes ≡ lines → HasFirst bytes
-    at [] are = absurd (some (sym (concat-lines_of bytes) ∙ ap concat are))
-    at (line ∷ others) are = record { line = line; others = others; are = are; parts = sym (concat-lines_of bytes) ∙ ap concat are }
-
 -- ---- lines that are put together ----
 
 -- a text without a line feed is one line
 lines_of-unfed : (b : ℕ) (bytes : List ℕ) → Lacks 10 (b ∷ bytes) → lines_of (b ∷ bytes) ≡ (b ∷ bytes) ∷ []
 unfolding lines_of
-lines_of-unfed b [] lacks = at (b == 10) lacks
-  where
-    at : (feed : Bool) → (feed || false) ≡ false → cond feed ((b ∷ []) ∷ []) (onto_first b []) ≡ (b ∷ []) ∷ []
-    at true h = absurd cc
-    at false h = refl
-lines_of-unfed b (c ∷ bytes) lacks = at (b == 10) lacks (lines_of-unfed c bytes)
-  where
-    at : (feed : Bool) → (feed || list_any (is_byte 10) (c ∷ bytes)) ≡ false → (Lacks 10 (c ∷ bytes) → lines_of (c ∷ bytes) ≡ (c ∷ bytes) ∷ [])
-        → cond feed ((b ∷ []) ∷ lines_of (c ∷ bytes)) (onto_first b (lines_of (c ∷ bytes))) ≡ (b ∷ c ∷ bytes) ∷ []
-    at true h more = absurd cc
-    at false h more = ap (onto_first b) (more h)
+lines_of-unfed b [] lacks = rw (or_parts (b == 10) false lacks).0 refl
+lines_of-unfed b (c ∷ bytes) lacks =
+    let parts = or_parts (b == 10) (list_any (is_byte 10) (c ∷ bytes)) lacks in
+    rw parts.0 (ap (onto_first b) (lines_of-unfed c bytes parts.1))
 
 pub lines_of-concat : (lines : List Line) → AreCut lines → lines_of (concat lines) ≡ lines
 lines_of-concat [] cut = lines_of-nothing

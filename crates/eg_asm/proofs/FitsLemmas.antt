@@ -1,5 +1,5 @@
 -- The operands of a form have room in its word.
-use Rattle.std.proofs.Common.{◌≡◌, ap, refl, ℕ, ◌+◌, ◌*◌, ◌-◌, ◌<◌, ◌≤◌, List, [], ◌∷◌, true, Option, Some, None, option_map, arith}
+use Rattle.std.proofs.Common.{◌≡◌, ap, refl, ℕ, ◌+◌, ◌*◌, ◌-◌, ◌<◌, ◌≤◌, List, [], ◌∷◌, true, Option, Some, None, option_map, arith, sym}
 use Rattle.std.specs.Prelude.{nat_lt}
 use Rattle.std.specs.List.{AllZip, list_all}
 use Rattle.std.proofs.Math.Nat.{mul-le-mul_right}
@@ -12,7 +12,7 @@ use Rattle.eg_asm.specs.Grammar.{Value, Register, Number, Name, Distance, Fits}
 use Rattle.eg_asm.specs.Encodings.{Encoded, with_operand, with_operands, encoded, jump_shown}
 use Rattle.eg_asm.specs.Room.{room_of}
 use Rattle.eg_asm.specs.Reading.{values_of}
-use Rattle.eg_asm.proofs.FormLemmas.{each_form}
+use Rattle.eg_asm.proofs.FormLemmas.{each_form, option_map_some}
 use Rattle.eg_asm.proofs.LineLaws.{values_of-back}
 
 -- the most that an operand adds to the word
@@ -71,14 +71,10 @@ encoded-fits mnemonic f values named fit =
 
 -- one that was read
 pub read-fits : (mnemonic : List ℕ) (f : Form) (texts : List (List ℕ)) (e : Encoded) → form_named mnemonic ≡ Some f → Some e ≡ option_map (encoded f) (values_of f.operands texts) → total e < 65536
-read-fits mnemonic f texts e named is = at (values_of f.operands texts) refl is
-  where
-    at : (o : Option (List Value)) → values_of f.operands texts ≡ o → Some e ≡ option_map (encoded f) o → total e < 65536
-    at None read is = absurd cc
-    at (Some values) read is =
-        let same : e ≡ encoded f values = cc in
-        let fits = encoded-fits mnemonic f values named (values_of-back f.operands texts values read).0 in
-        omega (arith, ap total same)
+read-fits mnemonic f texts e named is =
+    let h = option_map_some (encoded f) (values_of f.operands texts) e (sym is) in
+    let fits = encoded-fits mnemonic f h.0 named (values_of-back f.operands texts h.0 h.1).0 in
+    omega (arith, ap total h.2)
 
 -- the room of a target of the code
 pub room_is : (jump : Option Jump) → room (option_map jump_shown jump) ≡ room_of jump

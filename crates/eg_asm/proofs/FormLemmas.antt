@@ -1,48 +1,45 @@
 -- The table of forms.
-use Rattle.std.proofs.Common.{◌≡◌, ◌∙◌, ap, refl, ℕ, ◌<◌, ◌≤◌, List, [], ◌∷◌, length, drop, get_or, Bool, true, false, cond, map, Option, Some, None, option_map, arith}
-use Rattle.std.specs.Prelude.{◌&&◌, find, nat_le}
+use Rattle.std.proofs.Common.{◌≡◌, ◌∙◌, ap, refl, ℕ, ◌<◌, ◌≤◌, List, [], ◌∷◌, length, drop, get_or, Bool, true, map, Option, Some, None, option_map, arith}
+use Rattle.std.specs.Prelude.{find, nat_le}
 use Rattle.std.specs.List.{list_all}
 use Rattle.std.specs.Str.{bytes_eq}
 use Rattle.std.proofs.lemmas.Bool.Decides.{nat_tests}
 use Rattle.std.proofs.lemmas.List.{drop_all, drop_more}
 use Rattle.std.proofs.lemmas.Slice.Eq.{bytes_eq-Decides}
+use Rattle.std.proofs.lemmas.Option.{same_Some}
 use Rattle.eg_asm.specs.Forms.{Form, forms, form_named}
 
 -- the first image that passes a test is the image of the first element whose image passes it
 pub find-map : {X Y : Type 0} (f : X → Y) (p : Y → Bool) (xs : List X) → find p (map f xs) ≡ option_map f (find (λ x. p (f x)) xs)
 find-map f p [] = refl
-find-map f p (x ∷ xs) = at (p (f x)) (find-map f p xs)
-  where
-    at : (b : Bool) → find p (map f xs) ≡ option_map f (find (λ x. p (f x)) xs) → cond b (Some (f x)) (find p (map f xs)) ≡ option_map f (cond b (Some x) (find (λ x. p (f x)) xs))
-    at true h = refl
-    at false h = h
+find-map f p (x ∷ xs) = grind (arith, find-map f p xs)
 
 -- two functions of a value, one after the other, are one function of it
 pub option_map-option_map : {X Y Z : Type 0} (f : X → Y) (g : Y → Z) (o : Option X) → option_map (λ x. g (f x)) o ≡ option_map g (option_map f o)
 option_map-option_map f g None = refl
 option_map-option_map f g (Some x) = refl
 
+-- the value behind an image
+pub option_map_some : {X Y : Type 0} (f : X → Y) (o : Option X) (y : Y) → option_map f o ≡ Some y → (x : X) × (o ≡ Some x) × (f x ≡ y)
+option_map_some f None y is = absurd cc
+option_map_some f (Some x) y is = (x, refl, same_Some (f x) y is)
+
+-- where each value is absurd, there is none
+pub none_if : {X : Type 0} (o : Option X) → ((x : X) → o ≡ Some x → ⊥) → o ≡ None
+none_if None h = refl
+none_if (Some x) h = absurd (h x refl)
+
 -- ---- forms that are found by their names ----
 
 -- the first that passes does pass
 pub find-passes : {X : Type 0} (p : X → Bool) (xs : List X) (x : X) → find p xs ≡ Some x → p x ≡ true
 find-passes p [] x is = absurd cc
-find-passes p (y ∷ ys) x is = at (p y) refl (find-passes p ys x) is
-  where
-    at : (b : Bool) → p y ≡ b → (find p ys ≡ Some x → p x ≡ true) → cond b (Some y) (find p ys) ≡ Some x → p x ≡ true
-    at true here later is = let same : y ≡ x = cc in rw (← same) here
-    at false here later is = later is
+find-passes p (y ∷ ys) x is = grind (arith, find-passes p ys x)
 
 -- the one that is found passes a test that all pass
 pub find-all : {X : Type 0} (p test : X → Bool) (xs : List X) (x : X) → list_all test xs ≡ true → find p xs ≡ Some x → test x ≡ true
 find-all p test [] x all is = absurd cc
-find-all p test (y ∷ ys) x all is = at (p y) (test y) refl (find-all p test ys x) all is
-  where
-    at : (b t : Bool) → test y ≡ t → (list_all test ys ≡ true → find p ys ≡ Some x → test x ≡ true) → (t && list_all test ys) ≡ true
-        → cond b (Some y) (find p ys) ≡ Some x → test x ≡ true
-    at true true here later all is = let same : y ≡ x = cc in rw (← same) here
-    at false true here later all is = later all is
-    at b false here later all is = absurd cc
+find-all p test (y ∷ ys) x all is = grind (arith, find-all p test ys x)
 
 -- a form that is found has the name
 pub form_named-mnemonic : (mnemonic : List ℕ) (f : Form) → form_named mnemonic ≡ Some f → f.mnemonic ≡ mnemonic

@@ -1,5 +1,5 @@
 -- What is kept of one item more.
-use Rattle.std.proofs.Common.{◌≡◌, ◌∙◌, sym, ap, refl, subst, ℕ, ◌+◌, List, [], ◌∷◌, ◌++◌, length, Bool, true, false, cond, Option, Some, None, arith, append-nil, append_assoc, length-append}
+use Rattle.std.proofs.Common.{◌≡◌, ◌∙◌, sym, ap, refl, subst, ℕ, ◌+◌, List, [], ◌∷◌, ◌++◌, length, true, false, cond, Option, Some, None, arith, append-nil, append_assoc, length-append}
 use Rattle.std.specs.Prelude.{is_some, IsSome}
 use Rattle.std.specs.List.{cons_option}
 use Rattle.std.specs.Option.{option_map_or, option_or}
@@ -62,21 +62,9 @@ instructions_from-one items item = let same : 1 + length items ≡ length items 
 repeat_behind-append : (before items : List Item) (item : Item) → repeat_behind before (items ++ item ∷ [])
     ≡ option_or (repeat_behind before items) (cond (is_repeat (before ++ items) item) (Some (length (before ++ items) + 1)) None)
 unfolding repeat_behind
-repeat_behind-append before [] item = rw (append-nil before) (at (is_repeat before item))
-  where
-    at : (b : Bool) → cond b (Some (length before + 1)) (repeat_behind (before ++ item ∷ []) []) ≡ cond b (Some (length before + 1)) None
-    at true = refl
-    at false = refl
+repeat_behind-append before [] item = rw (append-nil before) refl
 repeat_behind-append before (first ∷ items) item =
-    at (is_repeat before first) (repeat_behind-append (before ++ first ∷ []) items item ∙ rw (append_assoc before (first ∷ []) items) refl)
-  where
-    at : (b : Bool) → repeat_behind (before ++ first ∷ []) (items ++ item ∷ [])
-        ≡ option_or (repeat_behind (before ++ first ∷ []) items) (cond (is_repeat (before ++ (first ∷ items)) item) (Some (length (before ++ (first ∷ items)) + 1)) None)
-        → cond b (Some (length before + 1)) (repeat_behind (before ++ first ∷ []) (items ++ item ∷ []))
-        ≡ option_or (cond b (Some (length before + 1)) (repeat_behind (before ++ first ∷ []) items))
-        (cond (is_repeat (before ++ (first ∷ items)) item) (Some (length (before ++ (first ∷ items)) + 1)) None)
-    at true h = refl
-    at false h = h
+    grind (arith, repeat_behind-append (before ++ first ∷ []) items item, append_assoc before (first ∷ []) items)
 
 pub repeat-one : (items : List Item) (item : Item)
     → repeat_behind [] (items ++ item ∷ []) ≡ option_or (repeat_behind [] items) (cond (is_repeat items item) (Some (length items + 1)) None)
@@ -85,12 +73,7 @@ repeat-one items item = repeat_behind-append [] items item
 -- the place of a label
 lookup-append : (name : List ℕ) (xs ys : Labels) → address_of (xs ++ ys) name ≡ option_or (address_of xs name) (address_of ys name)
 lookup-append name [] ys = refl
-lookup-append name (x ∷ xs) ys = at (bytes_eq name x.0) (lookup-append name xs ys)
-  where
-    at : (b : Bool) → address_of (xs ++ ys) name ≡ option_or (address_of xs name) (address_of ys name)
-        → cond b (Some x.1) (address_of (xs ++ ys) name) ≡ option_or (cond b (Some x.1) (address_of xs name)) (address_of ys name)
-    at true h = refl
-    at false h = h
+lookup-append name (x ∷ xs) ys = grind (arith, lookup-append name xs ys)
 
 pub labels-one : (items : List Item) (item : Item) (name : List ℕ)
     → address_of (labels_of (items ++ item ∷ [])) name ≡ option_or (address_of (labels_of items) name) (address_of (labels_from (word_count items) (item ∷ [])) name)
@@ -125,19 +108,23 @@ keeps-more name_of items item instructions place now repeated later sized found 
   repeat = again ∙ ap (λ o. option_or o (cond (is_repeat items item) (Some (length items + 1)) None)) k.repeat ∙ sym (repeat-one items item);
 }
 
+-- an instruction of a form tells one
+tells_one : (mnemonic : List ℕ) (values : List Value) → HasForm (Instruction mnemonic values) → (e : Encoded) × (told (Instruction mnemonic values) ≡ tells.Instruction e)
+unfolding told HasForm
+tells_one mnemonic values has = at (form_named mnemonic) has
+  where
+    at : (o : Option Form) → IsSome o → (e : Encoded) × (option_map_or (λ form. tells.Instruction (encoded form values)) o tells.Nothing ≡ tells.Instruction e)
+    at None has = absurd cc
+    at (Some f) has = (encoded f values, refl)
+
 -- an item that tells nothing
 pub keeps-nothing : {K : Type 0} (name_of : K → List ℕ) (items : List Item) (item : Item) (instructions : List (ℕ × Encoded)) (place : K → Option ℕ) (repeated : Option ℕ)
     → HasForm item → told item ≡ tells.Nothing → Keeps name_of items instructions place repeated → Keeps name_of (items ++ item ∷ []) instructions place repeated
-unfolding told HasForm numbered size labels_from is_repeat
+unfolding told numbered size labels_from is_repeat
 keeps-nothing name_of items item instructions place repeated has is k = at item has is
   where
     Same : List Item → List (ℕ × Encoded) → Type 0
     Same all is = Keeps name_of all is place repeated
-
-    named : (mnemonic : List ℕ) (values : List Value) (o : Option Form) → form_named mnemonic ≡ o → IsSome o
-        → option_map_or (λ form. tells.Instruction (encoded form values)) o tells.Nothing ≡ tells.Nothing → ⊥
-    named mnemonic values None is some none = absurd cc
-    named mnemonic values (Some f) is some none = absurd cc
 
     at : (item : Item) → HasForm item → told item ≡ tells.Nothing → Keeps name_of (items ++ item ∷ []) instructions place repeated
     at Nothing has is =
@@ -147,19 +134,15 @@ keeps-nothing name_of items item instructions place repeated has is k = at item 
         subst (Same (items ++ Comment bytes ∷ [])) (append-nil instructions)
         (keeps-more name_of items (Comment bytes) instructions place place repeated repeated refl (λ key. option_or-none (place key)) (option_or-none repeated) k)
     at (Label name) has is = absurd cc
-    at (Instruction mnemonic values) has is = absurd (named mnemonic values (form_named mnemonic) refl has is)
+    at (Instruction mnemonic values) has is = absurd (let one = tells_one mnemonic values has in let clash : tells.Nothing ≡ tells.Instruction one.0 = sym is ∙ one.1 in cc)
 
 -- the label that an item tells
 label-of : (item : Item) (name : List ℕ) → HasForm item → told item ≡ tells.Label name → item ≡ Label name
-unfolding told HasForm
+unfolding told
 label-of Nothing name has is = absurd cc
 label-of (Comment bytes) name has is = absurd cc
 label-of (Label other) name has is = let same : other ≡ name = cc in ap Label same
-label-of (Instruction mnemonic values) name has is = absurd (named (form_named mnemonic) has is)
-  where
-    named : (o : Option Form) → IsSome o → option_map_or (λ form. tells.Instruction (encoded form values)) o tells.Nothing ≡ tells.Label name → ⊥
-    named None some none = absurd cc
-    named (Some f) some none = absurd cc
+label-of (Instruction mnemonic values) name has is = absurd (let one = tells_one mnemonic values has in let clash : tells.Label name ≡ tells.Instruction one.0 = sym is ∙ one.1 in cc)
 
 -- a label that stands before it
 keeps-again_label : {K : Type 0} (name_of : K → List ℕ) (items : List Item) (instructions : List (ℕ × Encoded)) (place : K → Option ℕ) (repeated : Option ℕ) (key : K)
@@ -171,20 +154,12 @@ keeps-again_label {K = K} name_of items instructions place repeated key some k =
     let P : List (ℕ × Encoded) → Type 0 = λ is. Keeps name_of (items ++ Label (name_of key) ∷ []) is place (option_or repeated (Some (length items + 1))) in
     subst P (append-nil instructions)
     (keeps-more name_of items (Label (name_of key)) instructions place place repeated (option_or repeated (Some (length items + 1))) refl
-    (λ other. at other (place other) (k.labels other) there) (rw there refl) k)
+    (λ other. here (name_of other) (place other) (k.labels other) there) (rw there refl) k)
   where
-    here : (a b : List ℕ) (o : Option ℕ) → address_of (labels_of items) a ≡ o → is_some (address_of (labels_of items) b) ≡ true → (t : Bool)
-        → bytes_eq a b ≡ t → o ≡ option_or o (cond t (Some (word_count items)) None)
-    here a b (Some n) is there t same = refl
-    here a b None is there false same = refl
-    here a b None is there true same =
-        let one : a ≡ b = (bytes_eq-Decides a b).0 same in
-        let none = ap (λ (n : List ℕ). is_some (address_of (labels_of items) n)) (sym one) ∙ ap is_some is in
-        absurd cc
-
-    at : (other : K) (o : Option ℕ) → o ≡ address_of (labels_of items) (name_of other) → is_some (address_of (labels_of items) (name_of key)) ≡ true
-        → o ≡ option_or o (address_of (labels_from (word_count items) (Label (name_of key) ∷ [])) (name_of other))
-    at other o is there = here (name_of other) (name_of key) o (sym is) there (bytes_eq (name_of other) (name_of key)) refl
+    here : (a : List ℕ) (o : Option ℕ) → o ≡ address_of (labels_of items) a → is_some (address_of (labels_of items) (name_of key)) ≡ true
+        → o ≡ option_or o (cond (bytes_eq a (name_of key)) (Some (word_count items)) None)
+    here a (Some n) is there = refl
+    here a None is there = grind (arith, (bytes_eq-Decides a (name_of key)).0)
 
 -- a label that doesn't
 keeps-new_label : {K : Type 0} (name_of : K → List ℕ) (items : List Item) (instructions : List (ℕ × Encoded)) (place now : K → Option ℕ) (repeated : Option ℕ) (key : K)
@@ -195,51 +170,28 @@ keeps-new_label {K = K} name_of items instructions place now repeated key none p
     let absent : is_some (address_of (labels_of items) (name_of key)) ≡ false = ap is_some (sym (k.labels key)) ∙ none in
     let P : List (ℕ × Encoded) → Type 0 = λ is. Keeps name_of (items ++ Label (name_of key) ∷ []) is now repeated in
     subst P (append-nil instructions)
-    (keeps-more name_of items (Label (name_of key)) instructions place now repeated repeated refl (λ other. put other ∙ at other absent) (rw absent (option_or-none repeated)) k)
+    (keeps-more name_of items (Label (name_of key)) instructions place now repeated repeated refl
+    (λ other. put other ∙ here (name_of key) (name_of other) (place other) (k.labels other) absent) (rw absent (option_or-none repeated)) k)
   where
-    here : (a b : List ℕ) (o : Option ℕ) → address_of (labels_of items) b ≡ o → is_some (address_of (labels_of items) a) ≡ false → (t s : Bool) → bytes_eq a b ≡ t → bytes_eq b a ≡ s
-        → cond t (Some (word_count items)) o ≡ option_or o (cond s (Some (word_count items)) None)
-    here a b None is absent true true same back = refl
-    here a b None is absent false false same back = refl
-    here a b (Some n) is absent false s same back = refl
-    here a b (Some n) is absent true s same back =
-        let one : a ≡ b = (bytes_eq-Decides a b).0 same in
-        let some = ap (λ (n : List ℕ). is_some (address_of (labels_of items) n)) one ∙ ap is_some is in
-        absurd cc
-    here a b None is absent true false same back =
-        let one : a ≡ b = (bytes_eq-Decides a b).0 same in
-        let again = (bytes_eq-Decides b a).1 (sym one) in
-        absurd cc
-    here a b None is absent false true same back =
-        let one : b ≡ a = (bytes_eq-Decides b a).0 back in
-        let again = (bytes_eq-Decides a b).1 (sym one) in
-        absurd cc
-
-    at : (other : K) → is_some (address_of (labels_of items) (name_of key)) ≡ false
-        → cond (bytes_eq (name_of key) (name_of other)) (Some (word_count items)) (place other)
-        ≡ option_or (place other) (address_of (labels_from (word_count items) (Label (name_of key) ∷ [])) (name_of other))
-    at other absent =
-        let P : Option ℕ → Type 0 = λ o. cond (bytes_eq (name_of key) (name_of other)) (Some (word_count items)) o
-        ≡ option_or o (address_of (labels_from (word_count items) (Label (name_of key) ∷ [])) (name_of other)) in
-        subst P (sym (k.labels other)) (here (name_of key) (name_of other) (address_of (labels_of items) (name_of other)) refl absent
-        (bytes_eq (name_of key) (name_of other)) (bytes_eq (name_of other) (name_of key)) refl refl)
+    here : (a b : List ℕ) (o : Option ℕ) → o ≡ address_of (labels_of items) b → is_some (address_of (labels_of items) a) ≡ false
+        → cond (bytes_eq a b) (Some (word_count items)) o ≡ option_or o (cond (bytes_eq b a) (Some (word_count items)) None)
+    here a b None is absent = grind (arith, bytes_eq-Decides a b, bytes_eq-Decides b a)
+    here a b (Some n) is absent = grind (arith, (bytes_eq-Decides a b).0)
 
 -- items that tell these labels
 pub keeps-again : {K : Type 0} (name_of : K → List ℕ) (items : List Item) (item : Item) (instructions : List (ℕ × Encoded)) (place : K → Option ℕ) (repeated : Option ℕ) (key : K)
     → HasForm item → told item ≡ tells.Label (name_of key) → is_some (place key) ≡ true → Keeps name_of items instructions place repeated
     → Keeps name_of (items ++ item ∷ []) instructions place (option_or repeated (Some (length items + 1)))
 keeps-again name_of items item instructions place repeated key has is some k =
-    let P : Item → Type 0 = λ i. Keeps name_of (items ++ i ∷ []) instructions place (option_or repeated (Some (length items + 1))) in
-    subst P (sym (label-of item (name_of key) has is)) (keeps-again_label name_of items instructions place repeated key some k)
+    rw (label-of item (name_of key) has is) (keeps-again_label name_of items instructions place repeated key some k)
 
 pub keeps-new : {K : Type 0} (name_of : K → List ℕ) (items : List Item) (item : Item) (instructions : List (ℕ × Encoded)) (place now : K → Option ℕ) (repeated : Option ℕ) (key : K)
     → HasForm item → told item ≡ tells.Label (name_of key) → is_some (place key) ≡ false
     → ((other : K) → now other ≡ cond (bytes_eq (name_of key) (name_of other)) (Some (length instructions)) (place other))
     → Keeps name_of items instructions place repeated → Keeps name_of (items ++ item ∷ []) instructions now repeated
 keeps-new {K = K} name_of items item instructions place now repeated key has is none put k =
-    let P : Item → Type 0 = λ i. Keeps name_of (items ++ i ∷ []) instructions now repeated in
     let there = λ (other : K). put other ∙ ap (λ n. cond (bytes_eq (name_of key) (name_of other)) (Some n) (place other)) k.count in
-    subst P (sym (label-of item (name_of key) has is)) (keeps-new_label name_of items instructions place now repeated key none there k)
+    rw (label-of item (name_of key) has is) (keeps-new_label name_of items instructions place now repeated key none there k)
 
 -- an instruction
 pub keeps-instruction : {K : Type 0} (name_of : K → List ℕ) (items : List Item) (item : Item) (e : Encoded) (instructions : List (ℕ × Encoded))

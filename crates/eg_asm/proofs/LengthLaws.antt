@@ -1,19 +1,19 @@
 -- A word is written in at most 14 bytes.
-use Rattle.std.proofs.Common.{◌≡◌, refl, ℕ, ◌+◌, ◌*◌, ◌-◌, ◌%◌, ◌/◌, ◌^◌, ◌<◌, ◌≤◌, List, [], ◌∷◌, ◌++◌, length, get_or, map, Bool, true, false, Option, Some, None, arith, lit<, lit≤, mod-lt, length-append}
-use Rattle.std.specs.Prelude.{◌==◌, ◌&&◌, nat_lt, nat_le, find, unwrap_or}
+use Rattle.std.proofs.Common.{◌≡◌, refl, ℕ, ◌+◌, ◌*◌, ◌-◌, ◌%◌, ◌/◌, ◌^◌, ◌<◌, ◌≤◌, List, [], ◌∷◌, ◌++◌, length, get_or, map, true, false, Option, Some, None, arith, lit<, lit≤, mod-lt, length-append, inl, inr}
+use Rattle.std.specs.Prelude.{◌==◌, ◌&&◌, nat_le, find, unwrap_or}
 use Rattle.std.specs.List.{join_with_byte, list_all}
 use Rattle.std.specs.Int.Digits.{digits_of}
 use Rattle.std.proofs.lemmas.Bool.Decides.{nat_tests}
 use Rattle.std.proofs.lemmas.Int.Digits.{all_below_base_digits_of, first_digits_of, length-digits_of-le, number_digits_of, number_lt}
 use Rattle.std.proofs.lemmas.List.{length-map}
+use Rattle.std.proofs.lemmas.Bool.{cases_Bool, cases_lt, and_parts}
 use Rattle.eg_asm.specs.declared.operand.Operand.{Operand}
 use Rattle.eg_asm.specs.declared.operand.Operand.TheVariants as operand
 use Rattle.eg_asm.specs.Forms.{Form, forms, word_form}
-use Rattle.eg_asm.specs.Numerals.{numeral, integer}
+use Rattle.eg_asm.specs.Numerals.{numeral}
 use Rattle.eg_asm.specs.Grammar.{text_of_value, text_of_values, text_of, line_of}
 use Rattle.eg_asm.specs.Usable.{is_usable}
 use Rattle.eg_asm.specs.Listings.{value_in, values_in, is_of, form_of, item_of, source_text}
-use Rattle.eg_word.specs.Instructions.{signed}
 use Rattle.eg_asm.proofs.FormLemmas.{find-all}
 use Rattle.eg_asm.proofs.ListingLemmas.{signed-low, signed-high}
 use Rattle.eg_asm.proofs.ValueLaws.{numeral-digit}
@@ -26,27 +26,26 @@ some-digit (d ∷ ds) h = omega arith
 
 numeral-some : (n : ℕ) → 1 ≤ length (numeral n)
 unfolding numeral
-numeral-some n = at (n == 0) refl
-  where
-    at : (b : Bool) → (n == 0) ≡ b → 1 ≤ length (numeral n)
-    at true zero = rw zero (lit≤ tt)
-    at false more =
-        let some : 0 < n = grind (arith, nat_tests) in
-        rw more (omega (arith, length-map (digits_of 10 n) (λ digit. 48 + digit), some-digit (digits_of 10 n) (first_digits_of 10 n (lit≤ tt) some)))
+numeral-some n = elim (cases_Bool (n == 0)) [
+  | inl zero ↦ rw zero (lit≤ tt)
+  | inr more ↦ rw more (omega (
+    arith,
+    length-map (digits_of 10 n) (λ digit. 48 + digit),
+    some-digit (digits_of 10 n) (first_digits_of 10 n (lit≤ tt) (grind (arith, nat_tests))),
+  ))
+]
 
 -- a lower number has no longer numeral
 numeral-length : (m n : ℕ) → m ≤ n → length (numeral m) ≤ length (numeral n)
 unfolding numeral
-numeral-length m n low = at (m == 0) (n == 0) refl refl
-  where
-    at : (a b : Bool) → (m == 0) ≡ a → (n == 0) ≡ b → length (numeral m) ≤ length (numeral n)
-    at true b m_is n_is = let least = numeral-some n in rw m_is least
-    at false true m_is n_is = absurd (grind (arith, nat_tests))
-    at false false m_is n_is =
-        let k = length (digits_of 10 n) in
-        let small : n < 10 ^ k = omega (arith, number_lt 10 (digits_of 10 n) (all_below_base_digits_of 10 n (lit≤ tt)), number_digits_of 10 n (lit≤ tt)) in
-        let few : length (digits_of 10 m) ≤ k = length-digits_of-le 10 k m (lit≤ tt) (omega arith) in
-        rw (m_is, n_is) (omega (arith, length-map (digits_of 10 m) (λ digit. 48 + digit), length-map (digits_of 10 n) (λ digit. 48 + digit)))
+numeral-length m n low = elim (cases_Bool (m == 0)) [
+  | inl none ↦ rw none (numeral-some n)
+  | inr some ↦ (let more : (n == 0) ≡ false = grind (arith, nat_tests) in
+      let k = length (digits_of 10 n) in
+      let small : n < 10 ^ k = omega (arith, number_lt 10 (digits_of 10 n) (all_below_base_digits_of 10 n (lit≤ tt)), number_digits_of 10 n (lit≤ tt)) in
+      let few : length (digits_of 10 m) ≤ k = length-digits_of-le 10 k m (lit≤ tt) (omega arith) in
+      rw (some, more) (omega (arith, length-map (digits_of 10 m) (λ digit. 48 + digit), length-map (digits_of 10 n) (λ digit. 48 + digit))))
+]
 
 -- ---- operands ----
 
@@ -66,15 +65,12 @@ value-length word (operand.Number most) usable =
     numeral-length (word % (most + 1)) most (let small = mod-lt word some in omega arith)
 value-length word (operand.Target reach) usable =
     let some : 0 < 2 * reach = grind (arith, nat_tests) in
-    at (word % (2 * reach)) (mod-lt word some) (nat_lt (word % (2 * reach)) reach) refl
-  where
-    at : (n : ℕ) → n < 2 * reach → (b : Bool) → nat_lt n reach ≡ b → length (integer (signed reach n)) ≤ 1 + length (numeral reach)
-    at n small true low =
-        let below : n < reach = grind (arith, nat_tests) in
-        rw (signed-low reach n below) (omega (arith, numeral-length n reach (omega arith)))
-    at n small false high =
-        let above : reach ≤ n = grind (arith, nat_tests) in
-        rw (signed-high reach n above small) (omega (arith, numeral-length (2 * reach - n) reach (omega arith)))
+    let n = word % (2 * reach) in
+    let small : n < 2 * reach = mod-lt word some in
+    elim (cases_lt n reach) [
+      | inl below ↦ rw (signed-low reach n below) (omega (arith, numeral-length n reach (omega arith)))
+      | inr above ↦ rw (signed-high reach n above small) (omega (arith, numeral-length (2 * reach - n) reach (omega arith)))
+    ]
 
 -- the most bytes that operands are written in, with what stands before each of them
 longest_all : List Operand → ℕ
@@ -84,20 +80,15 @@ longest_all (o ∷ operands) = 1 + longest o + longest_all operands
 joined-length : (word : ℕ) (o : Operand) (operands : List Operand) → list_all is_usable (o ∷ operands) ≡ true
     → length (join_with_byte 44 (map text_of_value (map (value_in word) (o ∷ operands)))) + 1 ≤ longest_all (o ∷ operands)
 unfolding longest_all
-joined-length word o [] usable = at (is_usable o) refl usable
-  where
-    at : (b : Bool) → is_usable o ≡ b → (b && true) ≡ true → length (text_of_value (value_in word o)) + 1 ≤ 1 + longest o + 0
-    at true is usable = omega (arith, value-length word o is)
-    at false is usable = absurd cc
-joined-length word o (p ∷ operands) usable = at (is_usable o) refl usable (joined-length word p operands)
-  where
-    rest : List ℕ
-    rest = join_with_byte 44 (map text_of_value (map (value_in word) (p ∷ operands)))
-
-    at : (b : Bool) → is_usable o ≡ b → (b && list_all is_usable (p ∷ operands)) ≡ true → (list_all is_usable (p ∷ operands) ≡ true → length rest + 1 ≤ longest_all (p ∷ operands))
-        → length (text_of_value (value_in word o) ++ 44 ∷ rest) + 1 ≤ 1 + longest o + longest_all (p ∷ operands)
-    at true is usable more = omega (arith, value-length word o is, more usable, length-append (text_of_value (value_in word o)) (44 ∷ rest))
-    at false is usable more = absurd cc
+joined-length word o [] usable = omega (arith, value-length word o (and_parts (is_usable o) true usable).0)
+joined-length word o (p ∷ operands) usable =
+    let parts = and_parts (is_usable o) (list_all is_usable (p ∷ operands)) usable in
+    omega (
+      arith,
+      value-length word o parts.0,
+      joined-length word p operands parts.1,
+      length-append (text_of_value (value_in word o)) (44 ∷ join_with_byte 44 (map text_of_value (map (value_in word) (p ∷ operands)))),
+    )
 
 values-length : (word : ℕ) (operands : List Operand) → list_all is_usable operands ≡ true → length (text_of_values (map (value_in word) operands)) ≤ longest_all operands
 unfolding text_of_values longest_all
@@ -126,18 +117,12 @@ form-short word = at (find (is_of word) forms) refl
 
 line-length : (word : ℕ) → length (line_of (item_of word)) ≤ 14
 unfolding line_of text_of item_of
-line-length word = at (list_all is_usable (form_of word).operands) (nat_le (length (form_of word).mnemonic + longest_all (form_of word).operands + 1) 14) refl refl (form-short word)
-  where
-    values : List ℕ
-    values = text_of_values (values_in word (form_of word))
-
-    at : (a b : Bool) → list_all is_usable (form_of word).operands ≡ a → nat_le (length (form_of word).mnemonic + longest_all (form_of word).operands + 1) 14 ≡ b → (a && b) ≡ true
-        → length (((form_of word).mnemonic ++ values) ++ 10 ∷ []) ≤ 14
-    at true true usable short h =
-        let few : length (form_of word).mnemonic + longest_all (form_of word).operands + 1 ≤ 14 = grind (arith, nat_tests) in
-        omega (arith, length-append ((form_of word).mnemonic ++ values) (10 ∷ []), length-append (form_of word).mnemonic values, values-length word (form_of word).operands usable)
-    at true false usable short h = absurd cc
-    at false b usable short h = absurd cc
+line-length word =
+    let f = form_of word in
+    let values = text_of_values (values_in word f) in
+    let parts = and_parts (list_all is_usable f.operands) (nat_le (length f.mnemonic + longest_all f.operands + 1) 14) (form-short word) in
+    let few : length f.mnemonic + longest_all f.operands + 1 ≤ 14 = grind (arith, nat_tests) in
+    omega (arith, length-append (f.mnemonic ++ values) (10 ∷ []), length-append f.mnemonic values, values-length word f.operands parts.0)
 
 -- ---- words ----
 

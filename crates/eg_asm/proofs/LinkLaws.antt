@@ -1,8 +1,9 @@
 -- The words and faults of items are those of what is kept of them.
-use Rattle.std.proofs.Common.{◌≡◌, ◌∙◌, sym, ap, refl, ℕ, ◌+◌, ◌*◌, ◌≤◌, ℤ, pos, negsuc, min, List, [], ◌∷◌, ◌++◌, length, Bool, true, false, cond, Option, Some, None, arith, length-append}
-use Rattle.std.specs.Prelude.{◌&&◌, nat_lt, nat_le, not, is_some, option_map, option_and_then}
+use Rattle.std.proofs.Common.{◌≡◌, ◌∙◌, sym, ap, refl, ℕ, ◌+◌, ◌*◌, ◌≤◌, ℤ, pos, negsuc, List, [], ◌∷◌, ◌++◌, length, Bool, true, false, Option, Some, None, arith, length-append, inl, inr}
+use Rattle.std.specs.Prelude.{◌&&◌, nat_le, not, option_map, option_and_then}
 use Rattle.std.specs.List.{AllByRecursion, AllZip, cons_option, list_all}
 use Rattle.std.proofs.lemmas.Bool.Decides.{nat_tests}
+use Rattle.std.proofs.lemmas.Bool.{and_parts, cases_Bool, not-true}
 use Rattle.eg_asm.specs.declared.operand.Operand.{Operand}
 use Rattle.eg_asm.specs.declared.operand.Operand.TheVariants as operand
 use Rattle.eg_asm.specs.Forms.{Form, forms, form_named}
@@ -23,24 +24,8 @@ use Rattle.eg_asm.proofs.ToldLemmas.{told-form}
 -- a distance past the cap is out of every range
 complement-capped : (reach : ℕ) (d : ℤ) → reach ≤ 65535 → complement_of reach (capped d) ≡ complement_of reach d
 unfolding complement_of capped
-complement-capped reach (pos n) small = at (nat_le n 65536) refl
-  where
-    at : (b : Bool) → nat_le n 65536 ≡ b → complement_of reach (pos (min 65536 n)) ≡ complement_of reach (pos n)
-    at true low = let same : min 65536 n ≡ n = grind (arith, nat_tests) in rw same refl
-    at false high =
-        let same : min 65536 n ≡ 65536 = grind (arith, nat_tests) in
-        let past : nat_lt 65536 reach ≡ false = grind (arith, nat_tests) in
-        let far : nat_lt n reach ≡ false = grind (arith, nat_tests) in
-        rw (same, past, far) refl
-complement-capped reach (negsuc n) small = at (nat_le n 65535) refl
-  where
-    at : (b : Bool) → nat_le n 65535 ≡ b → complement_of reach (negsuc (min 65535 n)) ≡ complement_of reach (negsuc n)
-    at true low = let same : min 65535 n ≡ n = grind (arith, nat_tests) in rw same refl
-    at false high =
-        let same : min 65535 n ≡ 65535 = grind (arith, nat_tests) in
-        let past : nat_lt 65535 reach ≡ false = grind (arith, nat_tests) in
-        let far : nat_lt n reach ≡ false = grind (arith, nat_tests) in
-        rw (same, past, far) refl
+complement-capped reach (pos n) small = grind (arith, nat_tests)
+complement-capped reach (negsuc n) small = grind (arith, nat_tests)
 
 -- what a target adds
 target-field : (labels : Labels) (address reach : ℕ) (value : Value) → reach ≤ 65535 → Fits (operand.Target reach) value
@@ -133,39 +118,24 @@ unfolding completed jump_field with_operands fields_of
 completed-operands labels [] [] last near fit address word = refl
 completed-operands labels [] (value ∷ values) last near fit address word = absurd fit
 completed-operands labels (o ∷ operands) [] last near fit address word = absurd fit
-completed-operands labels (o ∷ []) (value ∷ []) last near fit address word = at (is_target o) (is_near o) refl refl near
-  where
-    at : (t n : Bool) → is_target o ≡ t → is_near o ≡ n → (n && true) ≡ true
-        → completed labels address (with_operand (record { word = word; jump = None }) o value) ≡ option_map (λ field. word + field) (added (field_of labels address o value) (Some 0))
-    at true true target near h = alone labels address word o value target near fit.0
-    at false true other near h = one-operand labels address word o [] value [] other fit.0 (λ word. refl)
-    at t false target near h = absurd cc
+completed-operands labels (o ∷ []) (value ∷ []) last near fit address word = elim (cases_Bool (is_target o)) [
+  | inl target ↦ alone labels address word o value target (and_parts (is_near o) true near).0 fit.0
+  | inr other ↦ one-operand labels address word o [] value [] other fit.0 (λ word. refl)
+]
 completed-operands labels (o ∷ []) (value ∷ more ∷ values) last near fit address word = absurd fit.1
 completed-operands labels (o ∷ p ∷ operands) (value ∷ values) last near fit address word =
-    at (is_target o) (is_near o) refl last near (λ last near. completed-operands labels (p ∷ operands) values last near fit.1 address)
-  where
-    at : (t n : Bool) → is_target o ≡ t → (not t && last_target (p ∷ operands)) ≡ true → (n && list_all is_near (p ∷ operands)) ≡ true
-        → (last_target (p ∷ operands) ≡ true → list_all is_near (p ∷ operands) ≡ true → (word : ℕ)
-        → completed labels address (with_operands (record { word = word; jump = None }) (p ∷ operands) values)
-        ≡ option_map (λ field. word + field) (fields_of labels address (p ∷ operands) values))
-        → completed labels address (with_operands (record { word = word; jump = None }) (o ∷ p ∷ operands) (value ∷ values))
-        ≡ option_map (λ field. word + field) (fields_of labels address (o ∷ p ∷ operands) (value ∷ values))
-    at true n target last near more = absurd cc
-    at false true other last near more = one-operand labels address word o (p ∷ operands) value values other fit.0 (more last near)
-    at false false other last near more = absurd cc
+    let lasts = and_parts (not (is_target o)) (last_target (p ∷ operands)) last in
+    let nears = and_parts (is_near o) (list_all is_near (p ∷ operands)) near in
+    one-operand labels address word o (p ∷ operands) value values (not-true (is_target o) lasts.0) fit.0
+    (completed-operands labels (p ∷ operands) values lasts.1 nears.1 fit.1 address)
 
 -- the word of what is kept of an instruction
 pub completed-word : (labels : Labels) (address : ℕ) (mnemonic : List ℕ) (values : List Value) (f : Form) → form_named mnemonic ≡ Some f → AllZip Fits f.operands values
     → completed labels address (encoded f values) ≡ word_of labels address mnemonic values
 unfolding word_of word_with
 completed-word labels address mnemonic values f named fit =
-    rw named (at (last_target f.operands) (list_all is_near f.operands) refl refl (each_form (λ f. last_target f.operands && list_all is_near f.operands) shaped mnemonic f named))
-  where
-    at : (a b : Bool) → last_target f.operands ≡ a → list_all is_near f.operands ≡ b → (a && b) ≡ true
-        → completed labels address (encoded f values) ≡ option_map (λ fields. f.base + fields) (fields_of labels address f.operands values)
-    at true true last near h = completed-operands labels f.operands values last near fit address f.base
-    at true false last near h = absurd cc
-    at false b last near h = absurd cc
+    let h = and_parts (last_target f.operands) (list_all is_near f.operands) (each_form (λ f. last_target f.operands && list_all is_near f.operands) shaped mnemonic f named) in
+    rw named (completed-operands labels f.operands values h.0 h.1 fit address f.base)
 
 -- ---- places ----
 
@@ -182,38 +152,28 @@ numbered-line line (tells.Instruction other) l e is = let same : (line, other) �
 unresolved-from : (labels : Labels) (address line : ℕ) (items : List Item) → From line (unresolved labels address (instructions_from line items))
 unfolding instructions_from unresolved
 unresolved-from labels address line [] found is = absurd cc
-unresolved-from labels address line (item ∷ items) found is = at (numbered line (told item)) refl (λ address. unresolved-from labels address (line + 1) items) is
+unresolved-from labels address line (item ∷ items) found is = at (numbered line (told item)) refl (λ address. unresolved-from labels address (line + 1) items found) is
   where
-    one : (e : Encoded) (l : ℕ) → l ≡ line → (b : Bool) → ((address : ℕ) → From (line + 1) (unresolved labels address (instructions_from (line + 1) items)))
-        → cond b (unresolved labels (address + 1) (instructions_from (line + 1) items)) (Some l) ≡ Some found → line ≤ found
-    one e l same true more is = let later = more (address + 1) found is in omega arith
-    one e l same false more is = let here : l ≡ found = cc in omega arith
-
-    at : (o : Option (ℕ × Encoded)) → numbered line (told item) ≡ o → ((address : ℕ) → From (line + 1) (unresolved labels address (instructions_from (line + 1) items)))
+    at : (o : Option (ℕ × Encoded)) → numbered line (told item) ≡ o → ((address : ℕ) → unresolved labels address (instructions_from (line + 1) items) ≡ Some found → line + 1 ≤ found)
         → unresolved labels address (cons_option o (instructions_from (line + 1) items)) ≡ Some found → line ≤ found
-    at None none more is = let later = more address found is in omega arith
-    at (Some (l, e)) some more is = one e l (numbered-line line (told item) l e some) (is_some (completed labels address e)) more is
+    at None none more is = let later = more address is in omega arith
+    at (Some (l, e)) some more is = grind (arith, numbered-line line (told item) l e some, more (address + 1))
 
 repeat_behind-from : (before items : List Item) → From (length before + 1) (repeat_behind before items)
 unfolding repeat_behind
 repeat_behind-from before [] found is = absurd cc
-repeat_behind-from before (item ∷ items) found is = at (is_repeat before item) (repeat_behind-from (before ++ item ∷ []) items found) is
-  where
-    at : (b : Bool) → (repeat_behind (before ++ item ∷ []) items ≡ Some found → length (before ++ item ∷ []) + 1 ≤ found)
-        → cond b (Some (length before + 1)) (repeat_behind (before ++ item ∷ []) items) ≡ Some found → length before + 1 ≤ found
-    at true more is = let here : length before + 1 ≡ found = cc in omega arith
-    at false more is = omega (arith, more is, length-append before (item ∷ []))
+repeat_behind-from before (item ∷ items) found is = grind (arith, length-append before (item ∷ []), repeat_behind-from (before ++ item ∷ []) items found)
 
 -- the lower of a place and later ones
 earlier-left : (address : ℕ) (o : Option ℕ) → From (address + 1) o → earlier (Some address) o ≡ Some address
 unfolding earlier
 earlier-left address None h = refl
-earlier-left address (Some other) h = let later = h other refl in let same : min address other ≡ address = omega arith in rw same refl
+earlier-left address (Some other) h = grind (arith, h other refl)
 
 earlier-right : (address : ℕ) (o : Option ℕ) → From (address + 1) o → earlier o (Some address) ≡ Some address
 unfolding earlier
 earlier-right address None h = refl
-earlier-right address (Some other) h = let later = h other refl in let same : min other address ≡ address = omega arith in rw same refl
+earlier-right address (Some other) h = grind (arith, h other refl)
 
 -- ---- faults ----
 
@@ -275,21 +235,21 @@ worded : (labels : Labels) (before : List Item) (e : Encoded) (mnemonic : List �
 unfolding unresolved numbered
 worded labels before e mnemonic values items word is some = rw (is, some) refl
 
+-- an item that has none
+stays : (labels : Labels) (before items : List Item)
+    → unresolved labels (word_count before) (instructions_from (length before + 1 + 1) items) ≡ unresolved labels (word_count before + 0) (instructions_from (length before + 1 + 1) items)
+stays labels before items = ap (λ n. unresolved labels n (instructions_from (length before + 1 + 1) items)) (omega arith)
+
 -- one item, where what is said of those behind it is known
 fault-item : (labels : Labels) (before : List Item) (item : Item) (items : List Item) → IsItem item → SameFault labels (before ++ item ∷ []) items
     → SameFault labels before (item ∷ items)
 unfolding is_sound is_repeat told numbered size
-fault-item labels before Nothing items may h =
-    fault-sound labels before Nothing items refl refl (let same : word_count before + 0 ≡ word_count before = omega arith in rw same refl) h
-fault-item labels before (Comment bytes) items may h =
-    fault-sound labels before (Comment bytes) items refl refl (let same : word_count before + 0 ≡ word_count before = omega arith in rw same refl) h
+fault-item labels before Nothing items may h = fault-sound labels before Nothing items refl refl (stays labels before items) h
+fault-item labels before (Comment bytes) items may h = fault-sound labels before (Comment bytes) items refl refl (stays labels before items) h
 fault-item labels before (Label name) items may h = at (address_of (labels_of before) name) refl
   where
-    same : word_count before + 0 ≡ word_count before
-    same = omega arith
-
     at : (o : Option ℕ) → address_of (labels_of before) name ≡ o → SameFault labels before (Label name ∷ items)
-    at None none = fault-sound labels before (Label name) items (rw none refl) (rw none refl) (rw same refl) h
+    at None none = fault-sound labels before (Label name) items (rw none refl) (rw none refl) (stays labels before items) h
     at (Some address) some = repeated-label labels before name items address some
 fault-item labels before (Instruction mnemonic values) items may h = at (word_of labels (word_count before) mnemonic values) refl
   where
@@ -299,8 +259,8 @@ fault-item labels before (Instruction mnemonic values) items may h = at (word_of
     at : (o : Option ℕ) → word_of labels (word_count before) mnemonic values ≡ o → SameFault labels before (Instruction mnemonic values ∷ items)
     at None none = wordless labels before mnemonic values items k none
     at (Some word) some =
-        let e_some : completed labels (word_count before) k.e ≡ Some word = k.word (word_count before) ∙ some in
-        fault-sound labels before (Instruction mnemonic values) items (rw some refl) refl (worded labels before k.e mnemonic values items word k.tells_it e_some) h
+        fault-sound labels before (Instruction mnemonic values) items (rw some refl) refl
+        (worded labels before k.e mnemonic values items word k.tells_it (k.word (word_count before) ∙ some)) h
 
 -- items that may be said
 pub same_fault : (labels : Labels) (before items : List Item) → AllByRecursion IsItem items → SameFault labels before items

@@ -1,14 +1,15 @@
 -- What words are written as is a source of these words, and short.
-use Rattle.std.proofs.Common.{◌≡◌, ◌∙◌, sym, ap, refl, ℕ, suc, ◌+◌, ◌-◌, ◌/◌, ◌%◌, ◌<◌, ◌≤◌, List, [], ◌∷◌, ◌++◌, length, map, get_or, Bool, true, false, cond, Option, Some, None, arith, lit<, mod-lt, mod-eq_of_lt}
-use Rattle.std.specs.Prelude.{◌==◌, nat_lt, find, unwrap_or, is_some, All, Result, Ok}
+use Rattle.std.proofs.Common.{◌≡◌, ◌∙◌, sym, ap, refl, ℕ, suc, ◌+◌, ◌/◌, ◌%◌, ◌<◌, ◌≤◌, List, [], ◌∷◌, ◌++◌, length, map, get_or, Bool, true, false, cond, Option, Some, None, arith, lit<, mod-lt, mod-eq_of_lt, inl, inr}
+use Rattle.std.specs.Prelude.{◌==◌, find, unwrap_or, is_some, All, Result, Ok}
 use Rattle.std.specs.List.{AllByRecursion, AllZip, flat_map}
 use Rattle.std.specs.Option.{option_map_or}
 use Rattle.std.proofs.lemmas.Bool.Decides.{nat_tests}
 use Rattle.std.proofs.lemmas.List.{get_or_past}
+use Rattle.std.proofs.lemmas.Bool.{cases_lt}
 use Rattle.eg_asm.specs.declared.operand.Operand.{Operand}
 use Rattle.eg_asm.specs.declared.operand.Operand.TheVariants as operand
 use Rattle.eg_asm.specs.Forms.{Form, forms, word_form, form_named}
-use Rattle.eg_asm.specs.Grammar.{Register, Number, Fits, Item, IsItem, line_of}
+use Rattle.eg_asm.specs.Grammar.{Fits, Item, IsItem, line_of}
 use Rattle.eg_asm.specs.Words.{Labels, size, word_count, labels_of, field_of, fields_of, word_with, word_of, word_at, words_from, is_sound, fault_behind}
 use Rattle.eg_asm.specs.Listings.{value_in, values_in, is_of, form_of, item_of, source_text}
 use Rattle.eg_asm.specs.declared.fault.AsmFault.{AsmFault}
@@ -133,11 +134,10 @@ source-law words small few = record {
 
 -- so these words are its answer
 words-are : (words : List ℕ) → All (λ word. word < 65536) words → AreWords words
-words-are words small i = at (nat_lt i (length words)) refl
-  where
-    at : (b : Bool) → nat_lt i (length words) ≡ b → get_or words i 0 < 65536
-    at true inside = small i 0 (grind (arith, nat_tests))
-    at false out = let default : get_or words i 0 ≡ 0 = get_or_past words i 0 (grind (arith, nat_tests)) in omega arith
+words-are words small i = elim (cases_lt i (length words)) [
+  | inl inside ↦ small i 0 inside
+  | inr past ↦ (let default = get_or_past words i 0 past in omega arith)
+]
 
 pub back-law : (words : List ℕ) (answer : Result (List ℕ) AsmFault) → All (λ word. word < 65536) words → length words ≤ 1024 → Assembles (source_text words) answer → answer ≡ Ok words
 back-law words answer small few h =

@@ -1,12 +1,13 @@
 -- What stands in a word in the places of operands.
 use Rattle.std.proofs.Common.{◌≡◌, ◌∙◌, sym, ap, refl, ℕ, ◌+◌, ◌-◌, ◌*◌, ◌<◌, ◌≤◌, pos, negsuc, ◌-ℤ◌, List, [], ◌∷◌, ◌++◌, length, take, drop, get_or, map, Bool, true, false, cond, Option, Some, option_map, arith, append_assoc, add-one}
-use Rattle.std.specs.Prelude.{nat_lt, nat_le, ◌&&◌, ◌==◌}
+use Rattle.std.specs.Prelude.{nat_lt, nat_le, ◌==◌}
 use Rattle.std.specs.List.{list_all, join_with_byte}
 use Rattle.std.proofs.lemmas.List.{drop_all, drop_more, map-append}
 use Rattle.std.proofs.Math.Seq.{take-suc}
 use Rattle.std.proofs.lemmas.List.Sums.{AllPass-from_list_all}
 use Rattle.std.proofs.lemmas.Bool.Decides.{nat_tests}
 use Rattle.std.proofs.lemmas.Int.{ints}
+use Rattle.std.proofs.lemmas.Bool.{and_parts}
 use Rattle.eg_word.specs.Instructions.{signed}
 use Rattle.eg_asm.specs.declared.operand.Operand.{Operand}
 use Rattle.eg_asm.specs.declared.operand.Operand.TheVariants as operand
@@ -41,12 +42,7 @@ field-listed labels place word (operand.Target reach) = refl
 -- ---- operands, one after the other ----
 
 pub usable-at : (operands : List Operand) (i : ℕ) (d : Operand) → are_usable operands ≡ true → i < length operands → is_usable (get_or operands i d) ≡ true
-usable-at operands i d h room = at (nat_le (length operands) 3) (list_all is_usable operands) refl h
-  where
-    at : (a b : Bool) → list_all is_usable operands ≡ b → (a && b) ≡ true → is_usable (get_or operands i d) ≡ true
-    at true true all h = AllPass-from_list_all is_usable operands all i d room
-    at true false all h = absurd cc
-    at false b all h = absurd cc
+usable-at operands i d h room = AllPass-from_list_all is_usable operands (and_parts (nat_le (length operands) 3) (list_all is_usable operands) h).1 i d room
 
 -- what those from a place on add
 abbrev pub listed_from : ℕ → ℕ → List Operand → Option ℕ

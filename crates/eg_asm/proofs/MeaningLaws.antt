@@ -1,8 +1,9 @@
 -- The machine reads the word of an instruction as what the instruction means.
-use Rattle.std.proofs.Common.{◌≡◌, ◌∙◌, ap, refl, ℕ, ◌+◌, ◌*◌, ◌-◌, ◌%◌, ◌/◌, ◌<◌, ℤ, pos, negsuc, ◌-ℤ◌, List, Bool, true, false, cond, Option, Some, None, arith}
+use Rattle.std.proofs.Common.{◌≡◌, ◌∙◌, ap, refl, ℕ, ◌+◌, ◌*◌, ◌-◌, ◌%◌, ◌/◌, ◌<◌, ℤ, pos, negsuc, ◌-ℤ◌, List, false, Option, Some, None, arith}
 use Rattle.std.specs.Prelude.{nat_lt, option_map}
 use Rattle.std.proofs.lemmas.Bool.Decides.{nat_tests}
 use Rattle.std.proofs.lemmas.Int.{ints}
+use Rattle.std.proofs.lemmas.Option.{cond_some}
 use Rattle.eg_word.specs.Instructions.{signed, instruction_with, instruction_of}
 use Rattle.eg_word.specs.declared.instruction.Instruction.{Instruction}
 use Rattle.eg_word.specs.declared.instruction.Instruction.TheVariants as machine
@@ -45,24 +46,13 @@ three word op a b c a_few b_few c_few is =
 -- a distance is read back from its complement
 signed-complement : (reach : ℕ) (d : ℤ) (n : ℕ) → complement_of reach d ≡ Some n → (n < 2 * reach) × (signed reach n ≡ d)
 unfolding complement_of signed
-signed-complement reach (pos m) n is = at (nat_lt m reach) refl is
-  where
-    at : (b : Bool) → nat_lt m reach ≡ b → cond b (Some m) None ≡ Some n → (n < 2 * reach) × (cond (nat_lt n reach) (pos n) (pos n -ℤ pos (2 * reach)) ≡ pos m)
-    at true low is =
-        let same : m ≡ n = cc in let low : m < reach = grind (arith, nat_tests) in let inside : nat_lt n reach ≡ true = grind (arith, nat_tests) in
-        (omega arith, rw (inside, same) refl)
-    at false high is = absurd cc
-signed-complement reach (negsuc m) n is = at (nat_lt m reach) refl is
-  where
-    at : (b : Bool) → nat_lt m reach ≡ b → cond b (Some (2 * reach - (m + 1))) None ≡ Some n
-        → (n < 2 * reach) × (cond (nat_lt n reach) (pos n) (pos n -ℤ pos (2 * reach)) ≡ negsuc m)
-    at true low is =
-        let same : 2 * reach - (m + 1) ≡ n = cc in
-        let low : m < reach = grind (arith, nat_tests) in
-        let outside : nat_lt n reach ≡ false = grind (arith, nat_tests) in
-        let below : pos n -ℤ pos (2 * reach) ≡ negsuc m = omega (arith, ints) in
-        (omega arith, rw outside below)
-    at false high is = absurd cc
+signed-complement reach (pos m) n is = (grind (arith, nat_tests), grind (arith, nat_tests))
+signed-complement reach (negsuc m) n is =
+    let same = (cond_some (nat_lt m reach) (2 * reach - (m + 1)) n is).1 in
+    let low : m < reach = grind (arith, nat_tests) in
+    let outside : nat_lt n reach ≡ false = grind (arith, nat_tests) in
+    let below : pos n -ℤ pos (2 * reach) ≡ negsuc m = omega (arith, ints) in
+    (omega arith, rw outside below)
 
 -- ---- instructions ----
 

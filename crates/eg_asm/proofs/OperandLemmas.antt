@@ -1,5 +1,5 @@
 -- How the operands of an instruction are read, one after the other.
-use Rattle.std.proofs.Common.{◌≡◌, refl, ℕ, ◌+◌, ◌<◌, ◌≤◌, List, ◌∷◌, length, drop, get_or, Bool, true, false, Option, Some, None, arith}
+use Rattle.std.proofs.Common.{◌≡◌, refl, ℕ, ◌+◌, ◌<◌, ◌≤◌, List, ◌∷◌, length, drop, get_or, true, Option, Some, None, arith, inl, inr}
 use Rattle.std.specs.Prelude.{nat_lt, option_map, is_some}
 use Rattle.std.specs.List.{before_first, position_or_len}
 use Rattle.std.specs.Str.{byte}
@@ -7,6 +7,7 @@ use Rattle.std.proofs.lemmas.Bool.Decides.{nat_tests}
 use Rattle.std.proofs.lemmas.List.{drop_all, drop_more, take_all}
 use Rattle.std.proofs.lemmas.List.Splits.{slice_split_first, slice_split_none}
 use Rattle.std.proofs.lemmas.List.Sums.{fails_before_first}
+use Rattle.std.proofs.lemmas.Bool.{cases_Bool}
 use Rattle.eg_asm.specs.declared.operand.Operand.{Operand}
 use Rattle.eg_asm.specs.Grammar.{Value}
 use Rattle.eg_asm.specs.Encodings.{Encoded, with_operand, with_operands}
@@ -15,13 +16,11 @@ use Rattle.eg_asm.specs.Reading.{is_byte, behind_first, texts_in, value_of, valu
 -- the text of the first operand, and the texts of the others
 pub texts_in-some : (text : List ℕ) → texts_in (Some text) ≡ before_first (is_byte (byte ",")) text ∷ texts_in (behind_first (byte ",") text)
 unfolding texts_in behind_first
-texts_in-some text = at (nat_lt (position_or_len (is_byte 44) text) (length text)) refl
-  where
-    at : (b : Bool) → nat_lt (position_or_len (is_byte 44) text) (length text) ≡ b → texts_in (Some text) ≡ before_first (is_byte (byte ",")) text ∷ texts_in (behind_first (byte ",") text)
-    at true inside = let room : position_or_len (is_byte 44) text < length text = grind (arith, nat_tests) in rw inside (slice_split_first (is_byte 44) text 0 room)
-    at false past =
-        let long : length text ≤ position_or_len (is_byte 44) text = grind (arith, nat_tests) in
-        rw (past, take_all (position_or_len (is_byte 44) text) text long) (slice_split_none (is_byte 44) text (λ k d low. fails_before_first (is_byte 44) text k d (omega arith)))
+texts_in-some text = elim (cases_Bool (nat_lt (position_or_len (is_byte 44) text) (length text))) [
+  | inl inside ↦ rw inside (slice_split_first (is_byte 44) text 0 (grind (arith, nat_tests)))
+  | inr past ↦ (let long : length text ≤ position_or_len (is_byte 44) text = grind (arith, nat_tests) in
+      rw (past, take_all (position_or_len (is_byte 44) text) text long) (slice_split_none (is_byte 44) text (λ k d low. fails_before_first (is_byte 44) text k d (omega arith))))
+]
 
 -- an operand that was read
 operand-more : (kept next : Encoded) (operand : Operand) (operands : List Operand) (text : List ℕ)

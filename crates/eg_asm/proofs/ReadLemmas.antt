@@ -14,7 +14,7 @@ use Rattle.eg_asm.specs.Reading.{item_in, item_behind, refusal, item_before, ite
 use Rattle.eg_asm.proofs.LineLaws.{said-form}
 use Rattle.eg_asm.proofs.CutLaws.{lines_of-cut}
 use Rattle.eg_asm.proofs.KeepsLemmas.{word_count-one}
-use Rattle.eg_asm.proofs.SourceLaws.{behind-back, onto, Finds, finds}
+use Rattle.eg_asm.proofs.SourceLaws.{behind-back, onto, Finds, finds, onto-nothing}
 
 -- an item that is told of
 pub told-some : (t : Told) (o : Option Item) → Some t ≡ option_map told o → (item : Item) × (o ≡ Some item) × (told item ≡ t)
@@ -54,10 +54,6 @@ read-start bytes rest source same holds = record {
   told = ap (λ (l : List ℕ). onto [] (items_from 0 1 (lines_of l))) same ∙ onto-nothing (items_from 0 1 (lines_of bytes));
   room = omega (arith, ap length same);
 }
-  where
-    onto-nothing : (read : Result (List Item) AsmFault) → onto [] read ≡ read
-    onto-nothing (Ok items) = refl
-    onto-nothing (Err e) = refl
 
 -- the items that are read behind others
 onto-one : (e : AsmFault) (items : List Item) (item : Item) (read : Result (List Item) AsmFault) → onto items (item_before e (Some item) read) ≡ onto (items ++ item ∷ []) read
@@ -78,6 +74,9 @@ read-more bytes rest line after old new place cut shorter reads r =
     let one = reads r.items (omega arith) r.holds in
     let fits = behind-back (word_count r.items) line one.0 one.1 in
     let long : length (r.items ++ one.0 ∷ []) ≡ length r.items + 1 = length-append r.items (one.0 ∷ []) ∙ omega arith in
+    let step : items_from (word_count r.items) (length r.items + 1) (lines_of rest)
+    ≡ item_before (refusal (word_count r.items) (length r.items + 1)) (Some one.0) (items_from (word_count r.items + size one.0) (length r.items + 1 + 1) (lines_of after)) =
+    rw (cut, one.1) refl in
     record {
       items = r.items ++ one.0 ∷ [];
       holds = one.2;
@@ -86,13 +85,9 @@ read-more bytes rest line after old new place cut shorter reads r =
       told =
           rw (word_count-one r.items one.0, long)
           (sym (onto-one (refusal (word_count r.items) (length r.items + 1)) r.items one.0 (items_from (word_count r.items + size one.0) (length r.items + 1 + 1) (lines_of after)))
-          ∙ ap (onto r.items) (sym (step (word_count r.items) (length r.items + 1) rest line after one.0 cut one.1)) ∙ r.told);
+          ∙ ap (onto r.items) (sym step) ∙ r.told);
       room = (let room = r.room in omega arith);
     }
-  where
-    step : (words place : ℕ) (rest line after : List ℕ) (item : Item) → lines_of rest ≡ line ∷ lines_of after → item_behind words line ≡ Some item
-        → items_from words place (lines_of rest) ≡ item_before (refusal words place) (Some item) (items_from (words + size item) (place + 1) (lines_of after))
-    step words place rest line after item cut is = rw (cut, is) refl
 
 -- a line that may not come
 pub read-stops : (bytes rest line after : List ℕ) (source : Source) (place : ℕ) (e : AsmFault) → lines_of rest ≡ line ∷ lines_of after → StopsAt (place + 1) line source e → IsRead bytes rest source place

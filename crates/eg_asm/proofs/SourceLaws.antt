@@ -1,18 +1,21 @@
 -- What reading a source finds, in the bytes of the source: it answers each of its answers exactly if that answer's words hold.
-use Rattle.std.proofs.Common.{◌≡◌, ◌∙◌, sym, ap, refl, subst, ℕ, ◌+◌, ◌<◌, ◌≤◌, List, [], ◌∷◌, ◌++◌, length, map, Bool, true, false, cond, Option, Some, None, Result, Ok, Err, arith, append-nil, append_assoc}
-use Rattle.std.specs.Prelude.{◌==◌, nat_le, option_and_then}
+use Rattle.std.proofs.Common.{◌≡◌, ◌∙◌, sym, ap, refl, subst, ℕ, ◌+◌, ◌≤◌, List, [], ◌∷◌, ◌++◌, length, map, true, false, cond, Option, Some, None, Result, Ok, Err, arith, append-nil, append_assoc, inl, inr}
+use Rattle.std.specs.Prelude.{◌==◌, nat_le}
 use Rattle.std.specs.List.{AllByRecursion, concat, flat_map}
 use Rattle.std.specs.Option.{option_map_or}
 use Rattle.std.proofs.lemmas.Bool.Decides.{nat_tests}
+use Rattle.std.proofs.lemmas.Bool.{cases_Bool}
+use Rattle.std.proofs.lemmas.Option.{cond_some, option_and_then_some}
 use Rattle.eg_input.specs.Images.{Line, lines_of}
-use Rattle.eg_input.proofs.LineLemmas.{lines_of-nothing, concat-lines_of}
+use Rattle.eg_input.proofs.LineLemmas.{lines_of-nothing, concat-lines_of, HasFirst, first_of}
 use Rattle.eg_asm.specs.declared.fault.AsmFault.{AsmFault}
 use Rattle.eg_asm.specs.declared.fault.AsmFault.TheVariants as fault
 use Rattle.eg_asm.specs.Grammar.{Item, Nothing, Comment, Label, Instruction, IsItem, IsLineOf, IsTextOf, line_of}
 use Rattle.eg_asm.specs.Words.{size, word_count, first_fault}
-use Rattle.eg_asm.specs.Sources.{IsSourceOf, GoesWrong, HasBadLineAt, IsTooLong, HasBadLabelAt, Assembles}
+use Rattle.eg_asm.specs.Sources.{GoesWrong, Assembles}
 use Rattle.eg_asm.specs.Reading.{item_in, with_room, item_behind, refusal, item_before, items_from, linked, words_read, assembled}
-use Rattle.eg_asm.proofs.CutLaws.{AreCut, lines_of-cut, lines_of-concat, lines_of-item, item_in-written, item_in-back, cut-more, HasFirst, first_of}
+use Rattle.eg_asm.proofs.CutLaws.{AreCut, lines_of-cut, lines_of-concat, lines_of-item, item_in-written, item_in-back, cut-more}
+use Rattle.eg_asm.proofs.FormLemmas.{none_if}
 
 -- ---- good lines ----
 
@@ -25,6 +28,10 @@ onto-more : (e : AsmFault) (item : Item) (good : List Item) (read : Result (List
 unfolding item_before
 onto-more e item good (Ok items) = refl
 onto-more e item good (Err later) = refl
+
+pub onto-nothing : (read : Result (List Item) AsmFault) → onto [] read ≡ read
+onto-nothing (Ok items) = refl
+onto-nothing (Err e) = refl
 
 -- an item is at most one word
 size-most : (item : Item) → size item ≤ 1
@@ -41,6 +48,12 @@ behind-written words item may few =
     let room : nat_le (words + size item) 1024 ≡ true = grind (arith, nat_tests) in
     rw (item_in-written item may, room) refl
 
+-- the item of a line that may come
+pub behind-back : (words : ℕ) (line : Line) (item : Item) → item_behind words line ≡ Some item → (item_in line ≡ Some item) × (words + size item ≤ 1024)
+unfolding item_behind
+behind-back words line item is = option_and_then_some (with_room words) (item_in line) item is (λ found said fits.
+    let room = cond_some (nat_le (words + size found) 1024) found item fits in rw (← room.1) (said, grind (arith, nat_tests)))
+
 -- lines of items are read as them, before the rest
 items_from-good : (words place : ℕ) (good : List Item) (lines : List Line) → AllByRecursion IsItem good → words + word_count good ≤ 1024
     → items_from words place (map line_of good ++ lines) ≡ onto good (items_from (words + word_count good) (place + length good) lines)
@@ -48,19 +61,12 @@ unfolding items_from word_count
 items_from-good words place [] lines may few =
     let same_words : words + 0 ≡ words = omega arith in
     let same_place : place + 0 ≡ place = omega arith in
-    rw (same_words, same_place) (at (items_from words place lines))
-  where
-    at : (read : Result (List Item) AsmFault) → read ≡ onto [] read
-    at (Ok items) = refl
-    at (Err e) = refl
+    rw (same_words, same_place) (sym (onto-nothing (items_from words place lines)))
 items_from-good words place (item ∷ good) lines may few =
-    let here = behind-written words item may.0 (omega arith) in
     let words_are : words + size item + word_count good ≡ words + (size item + word_count good) = omega arith in
     let place_is : place + 1 + length good ≡ place + length (item ∷ good) = omega arith in
-    let more = items_from-good (words + size item) (place + 1) good lines may.1 (omega arith) in
-    rw here (ap (item_before (refusal words place) (Some item)) more
-    ∙ onto-more (refusal words place) item good (items_from (words + size item + word_count good) (place + 1 + length good) lines)
-    ∙ ap (onto (item ∷ good)) (rw (words_are, place_is) refl))
+    rw (behind-written words item may.0 (omega arith), items_from-good (words + size item) (place + 1) good lines may.1 (omega arith), words_are, place_is)
+    (onto-more (refusal words place) item good (items_from (words + (size item + word_count good)) (place + length (item ∷ good)) lines))
 
 -- the lines of a text that begins with those of items
 lines_of-items : (good : List Item) (rest : List ℕ) → AllByRecursion IsItem good → lines_of (flat_map line_of good ++ rest) ≡ map line_of good ++ lines_of rest
@@ -90,21 +96,9 @@ whole source items text few =
 -- a line stops it where nothing that it says may come
 stops-if : (words : ℕ) (may_come : Item → Type 0) (rest : List ℕ) → ((item : Item) → words + size item ≤ 1024 → may_come item) → GoesWrong may_come rest
     → (f : HasFirst rest) → item_behind words f.line ≡ None
-unfolding item_behind
-stops-if words may_come rest allows wrong f = at (item_in f.line) refl
-  where
-    cut : AreCut (f.line ∷ f.others)
-    cut = subst AreCut f.are (lines_of-cut rest)
-
-    room : (item : Item) → item_in f.line ≡ Some item → (b : Bool) → nat_le (words + size item) 1024 ≡ b → cond b (Some item) None ≡ None
-    room item said true fits =
-        let few : words + size item ≤ 1024 = grind (arith, nat_tests) in
-        absurd (wrong.wrong f.line (concat f.others) item f.parts (item_in-back f.line f.others item cut said) (allows item few))
-    room item said false fits = refl
-
-    at : (o : Option Item) → item_in f.line ≡ o → option_and_then (with_room words) o ≡ None
-    at None said = refl
-    at (Some item) said = room item said (nat_le (words + size item) 1024) refl
+stops-if words may_come rest allows wrong f = none_if (item_behind words f.line) (λ item is.
+    let back = behind-back words f.line item is in
+    wrong.wrong f.line (concat f.others) item f.parts (item_in-back f.line f.others item (subst AreCut f.are (lines_of-cut rest)) back.0) (allows item back.1))
 
 -- the fault of the line that comes then
 stopped : (source front rest : List ℕ) (good : List Item) (may_come : Item → Type 0) → source ≡ front ++ rest → IsTextOf front good → word_count good ≤ 1024
@@ -118,34 +112,19 @@ stopped source front rest good may_come parts text few allows wrong =
 
 -- ---- each answer's words give the answer ----
 
-words-then : (source words : List ℕ) → IsSourceOf source words → assembled source ≡ Ok words
-unfolding assembled words_read linked
-words-then source words h = rw (whole source h.items h.text h.most, h.sound, h.words_are) refl
-
-label-then : (source : List ℕ) (place : ℕ) → HasBadLabelAt source place → assembled source ≡ Err (fault.Label place)
-unfolding assembled words_read linked
-label-then source place h = rw (whole source h.items h.text h.most, h.at) refl
-
-line-then : (source : List ℕ) (place : ℕ) → HasBadLineAt source place → assembled source ≡ Err (fault.Line place)
-unfolding assembled words_read refusal
-line-then source place h =
+pub assembled-then : (source : List ℕ) (answer : Result (List ℕ) AsmFault) → Assembles source answer → assembled source ≡ answer
+unfolding assembled words_read linked refusal
+assembled-then source (Ok words) h = rw (whole source h.items h.text h.most, h.sound, h.words_are) refl
+assembled-then source (Err fault.Memory) h = absurd h
+assembled-then source (Err (fault.Label place)) h = rw (whole source h.items h.text h.most, h.at) refl
+assembled-then source (Err (fault.Line place)) h =
     let few = h.few in
     let room : (word_count h.good == 1024) ≡ false = grind (arith, nat_tests) in
     rw (stopped source h.front h.rest h.good (λ item. Unit {0}) h.parts h.text (omega arith) (λ item fits. tt) h.bad, room, h.at) refl
-
-long-then : (source : List ℕ) → IsTooLong source → assembled source ≡ Err fault.Long
-unfolding assembled words_read refusal
-long-then source h =
+assembled-then source (Err fault.Long) h =
     let full = h.full in
     let none : (word_count h.good == 1024) ≡ true = grind (arith, nat_tests) in
     rw (stopped source h.front h.rest h.good (λ item. size item ≡ 0) h.parts h.text (omega arith) (λ item fits. omega arith) h.bad, none) refl
-
-pub assembled-then : (source : List ℕ) (answer : Result (List ℕ) AsmFault) → Assembles source answer → assembled source ≡ answer
-assembled-then source (Ok words) h = words-then source words h
-assembled-then source (Err fault.Memory) h = absurd h
-assembled-then source (Err (fault.Line place)) h = line-then source place h
-assembled-then source (Err (fault.Label place)) h = label-then source place h
-assembled-then source (Err fault.Long) h = long-then source h
 
 -- ---- what is read holds of the source ----
 
@@ -195,23 +174,6 @@ finds-more words place line lines item (Err e) is h =
       stops = ap (λ n. item_behind n h.line) (sym words_are) ∙ h.stops;
       fault_is = h.fault_is ∙ rw (words_are, place_is) refl;
     }
-
--- the item of a line that may come
-pub behind-back : (words : ℕ) (line : Line) (item : Item) → item_behind words line ≡ Some item → (item_in line ≡ Some item) × (words + size item ≤ 1024)
-unfolding item_behind
-behind-back words line item is = at (item_in line) refl is
-  where
-    room : (found : Item) → item_in line ≡ Some found → (b : Bool) → nat_le (words + size found) 1024 ≡ b → cond b (Some found) None ≡ Some item
-        → (item_in line ≡ Some item) × (words + size item ≤ 1024)
-    room found said true fits is =
-        let same : found ≡ item = cc in
-        let few : words + size found ≤ 1024 = grind (arith, nat_tests) in
-        rw (← same) (said, few)
-    room found said false fits is = absurd cc
-
-    at : (o : Option Item) → item_in line ≡ o → option_and_then (with_room words) o ≡ Some item → (item_in line ≡ Some item) × (words + size item ≤ 1024)
-    at None said is = absurd cc
-    at (Some found) said is = room found said (nat_le (words + size found) 1024) refl is
 
 -- a line that may not come
 finds-none : (words place : ℕ) (line : Line) (lines : List Line) (read : Result (List Item) AsmFault) → AreCut (line ∷ lines) → words ≤ 1024 → item_behind words line ≡ None
@@ -264,7 +226,27 @@ goes_wrong source e may_come h allows = record {
 -- the fault that stops it
 stops-gives : (source : List ℕ) (e : AsmFault) → Stops 0 1 (lines_of source) e → Assembles source (Err e)
 unfolding refusal
-stops-gives source e h = at (word_count h.good == 1024) refl
+stops-gives source e h = subst P (sym e_is) (elim (cases_Bool (word_count h.good == 1024)) [
+  | inl full ↦ rw full (record {
+    good = h.good;
+    front = flat_map line_of h.good;
+    rest = concat (h.line ∷ h.others);
+    parts = parts;
+    text = record { may = h.may; written = refl };
+    full = grind (arith, nat_tests);
+    bad = goes_wrong source e (λ item. size item ≡ 0) h (λ item none. omega arith);
+  })
+  | inr room ↦ rw room (record {
+    good = h.good;
+    front = flat_map line_of h.good;
+    rest = concat (h.line ∷ h.others);
+    parts = parts;
+    text = record { may = h.may; written = refl };
+    few = (let few = h.few in grind (arith, nat_tests));
+    bad = goes_wrong source e (λ item. Unit {0}) h (λ item any. let fewer = h.few in let most = size-most item in grind (arith, nat_tests));
+    at = refl;
+  })
+])
   where
     parts : source ≡ flat_map line_of h.good ++ concat (h.line ∷ h.others)
     parts = sym (concat-lines_of source) ∙ h.parts
@@ -275,34 +257,11 @@ stops-gives source e h = at (word_count h.good == 1024) refl
     place_is : 1 + length h.good ≡ length h.good + 1
     place_is = omega arith
 
+    e_is : e ≡ cond (word_count h.good == 1024) fault.Long (fault.Line (length h.good + 1))
+    e_is = h.fault_is ∙ rw (words_are, place_is) refl
+
     P : AsmFault → Type 0
     P f = Assembles source (Err f)
-
-    at : (b : Bool) → (word_count h.good == 1024) ≡ b → Assembles source (Err e)
-    at true full =
-        let e_is : e ≡ fault.Long = h.fault_is ∙ rw (words_are, full) refl in
-        subst P (sym e_is) (record {
-          good = h.good;
-          front = flat_map line_of h.good;
-          rest = concat (h.line ∷ h.others);
-          parts = parts;
-          text = record { may = h.may; written = refl };
-          full = grind (arith, nat_tests);
-          bad = goes_wrong source e (λ item. size item ≡ 0) h (λ item none. let few = h.few in omega arith);
-        })
-    at false room =
-        let e_is : e ≡ fault.Line (length h.good + 1) = h.fault_is ∙ rw (words_are, room, place_is) refl in
-        let fewer : word_count h.good < 1024 = (let few = h.few in grind (arith, nat_tests)) in
-        subst P (sym e_is) (record {
-          good = h.good;
-          front = flat_map line_of h.good;
-          rest = concat (h.line ∷ h.others);
-          parts = parts;
-          text = record { may = h.may; written = refl };
-          few = fewer;
-          bad = goes_wrong source e (λ item. Unit {0}) h (λ item any. let most = size-most item in omega arith);
-          at = refl;
-        })
 
 -- what is found of items that were read
 reads-gives : (source : List ℕ) (items : List Item) → Reads 0 (lines_of source) items → (o : Option ℕ) → first_fault items ≡ o → Assembles source (linked items o)

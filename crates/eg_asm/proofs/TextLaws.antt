@@ -1,6 +1,6 @@
 -- Cutting a text at a byte.
-use Rattle.std.proofs.Common.{◌≡◌, ◌∙◌, sym, ap, refl, ℕ, ◌+◌, ◌-◌, ◌<◌, List, [], ◌∷◌, ◌++◌, length, take, drop, get_or, Bool, true, false, cond, Option, Some, None, arith, length-append, take-append-drop}
-use Rattle.std.specs.Prelude.{All, ◌||◌, ◌==◌, nat_lt}
+use Rattle.std.proofs.Common.{◌≡◌, ◌∙◌, sym, ap, refl, ℕ, ◌+◌, ◌-◌, ◌<◌, List, [], ◌∷◌, ◌++◌, length, take, drop, get_or, true, false, Some, None, arith, length-append, take-append-drop}
+use Rattle.std.specs.Prelude.{All, ◌==◌, nat_lt}
 use Rattle.std.specs.List.{list_any, position_or_len, before_first, after_first, slice_split, join_with_byte}
 use Rattle.std.specs.Str.{bytes_eq}
 use Rattle.std.proofs.lemmas.Bool.Decides.{nat_tests}
@@ -11,7 +11,10 @@ use Rattle.std.proofs.lemmas.List.Splits.{slice_split_at, slice_split_none}
 use Rattle.std.proofs.lemmas.List.Sums.{split_at_first, passes_at_first}
 use Rattle.std.proofs.lemmas.Slice.Eq.{bytes_eq-Decides}
 use Rattle.std.proofs.Math.Seq.{take-append_seam, drop-append_seam, drop-append-add}
+use Rattle.std.proofs.lemmas.Bool.{or_parts}
+use Rattle.std.proofs.lemmas.Option.{cond_some}
 use Rattle.eg_asm.specs.Reading.{is_byte, behind_first, before_last_byte}
+use Rattle.eg_asm.proofs.FormLemmas.{none_if}
 
 -- a text has no such byte
 abbrev pub Lacks : ℕ → List ℕ → Type 0
@@ -19,44 +22,26 @@ Lacks c text = list_any (is_byte c) text ≡ false
 
 -- this byte stands neither in the front nor in the rest
 pub lacks_parts : (c : ℕ) (xs ys : List ℕ) → Lacks c (xs ++ ys) → Lacks c xs × Lacks c ys
-lacks_parts c xs ys h = at (list_any (is_byte c) xs) (list_any (is_byte c) ys) refl refl (sym (list_any-append (is_byte c) xs ys) ∙ h)
-  where
-    at : (x y : Bool) → list_any (is_byte c) xs ≡ x → list_any (is_byte c) ys ≡ y → (x || y) ≡ false → Lacks c xs × Lacks c ys
-    at true y x_is y_is none = absurd cc
-    at false true x_is y_is none = absurd cc
-    at false false x_is y_is none = (x_is, y_is)
+lacks_parts c xs ys h = or_parts (list_any (is_byte c) xs) (list_any (is_byte c) ys) (sym (list_any-append (is_byte c) xs ys) ∙ h)
 
 pub lacks-append : (c : ℕ) (xs ys : List ℕ) → Lacks c xs → Lacks c ys → Lacks c (xs ++ ys)
 lacks-append c xs ys x y = list_any-append (is_byte c) xs ys ∙ rw (x, y) refl
 
 pub lacks-all : (c : ℕ) (xs : List ℕ) → Lacks c xs → All (λ b. is_byte c b ≡ false) xs
 lacks-all c [] h = All-nil (λ b. is_byte c b ≡ false)
-lacks-all c (x ∷ xs) h = at (x == c) refl h (lacks-all c xs)
-  where
-    at : (b : Bool) → (x == c) ≡ b → (b || list_any (is_byte c) xs) ≡ false → (Lacks c xs → All (λ b. is_byte c b ≡ false) xs) → All (λ b. is_byte c b ≡ false) (x ∷ xs)
-    at true is h more = absurd cc
-    at false is h more = All-cons (λ b. is_byte c b ≡ false) x xs is (more h)
+lacks-all c (x ∷ xs) h = let parts = or_parts (x == c) (list_any (is_byte c) xs) h in All-cons (λ b. is_byte c b ≡ false) x xs parts.0 (lacks-all c xs parts.1)
 
 -- ---- the first such byte ----
 
 -- where it stands behind a front that lacks it
 place-there : (c : ℕ) (xs ys : List ℕ) → Lacks c xs → position_or_len (is_byte c) (xs ++ c ∷ ys) ≡ length xs
 place-there c [] ys h = let same : (c == c) ≡ true = grind (arith, nat_tests) in rw same refl
-place-there c (x ∷ xs) ys h = at (x == c) refl h (place-there c xs ys)
-  where
-    at : (b : Bool) → (x == c) ≡ b → (b || list_any (is_byte c) xs) ≡ false → (Lacks c xs → position_or_len (is_byte c) (xs ++ c ∷ ys) ≡ length xs)
-        → position_or_len (is_byte c) (x ∷ (xs ++ c ∷ ys)) ≡ length (x ∷ xs)
-    at true is h more = absurd cc
-    at false is h more = rw is (omega (arith, more h))
+place-there c (x ∷ xs) ys h = grind (arith, place-there c xs ys)
 
 -- where there is none
 place-nowhere : (c : ℕ) (xs : List ℕ) → Lacks c xs → position_or_len (is_byte c) xs ≡ length xs
 place-nowhere c [] h = refl
-place-nowhere c (x ∷ xs) h = at (x == c) refl h (place-nowhere c xs)
-  where
-    at : (b : Bool) → (x == c) ≡ b → (b || list_any (is_byte c) xs) ≡ false → (Lacks c xs → position_or_len (is_byte c) xs ≡ length xs) → position_or_len (is_byte c) (x ∷ xs) ≡ length (x ∷ xs)
-    at true is h more = absurd cc
-    at false is h more = rw is (omega (arith, more h))
+place-nowhere c (x ∷ xs) h = grind (arith, place-nowhere c xs)
 
 -- what stands before it and behind it
 pub cut-there : (c : ℕ) (xs ys : List ℕ) → Lacks c xs → (before_first (is_byte c) (xs ++ c ∷ ys) ≡ xs) × (behind_first c (xs ++ c ∷ ys) ≡ Some ys)
@@ -77,25 +62,16 @@ cut-nowhere c xs h =
 -- a text that is cut is what stands before the byte, the byte, and what stands behind it
 pub cut-back : (c : ℕ) (text rest : List ℕ) → behind_first c text ≡ Some rest → text ≡ before_first (is_byte c) text ++ c ∷ rest
 unfolding behind_first
-cut-back c text rest is = at (nat_lt (position_or_len (is_byte c) text) (length text)) refl is
-  where
-    at : (b : Bool) → nat_lt (position_or_len (is_byte c) text) (length text) ≡ b → cond b (Some (after_first (is_byte c) text)) None ≡ Some rest
-        → text ≡ before_first (is_byte c) text ++ c ∷ rest
-    at true inside is =
-        let room : position_or_len (is_byte c) text < length text = grind (arith, nat_tests) in
-        let here = passes_at_first (is_byte c) text 0 room in
-        let byte_is : get_or text (position_or_len (is_byte c) text) 0 ≡ c = grind (arith, nat_tests) in
-        let behind : after_first (is_byte c) text ≡ rest = cc in
-        split_at_first (is_byte c) text 0 room ∙ rw (byte_is, behind) refl
-    at false past is = absurd cc
+cut-back c text rest is =
+    let cut = cond_some (nat_lt (position_or_len (is_byte c) text) (length text)) (after_first (is_byte c) text) rest is in
+    let room : position_or_len (is_byte c) text < length text = grind (arith, nat_tests) in
+    let here = passes_at_first (is_byte c) text 0 room in
+    let byte_is : get_or text (position_or_len (is_byte c) text) 0 ≡ c = grind (arith, nat_tests) in
+    split_at_first (is_byte c) text 0 room ∙ rw (byte_is, cut.1) refl
 
 pub cut-back_none : (c : ℕ) (text : List ℕ) → behind_first c text ≡ None → before_first (is_byte c) text ≡ text
 unfolding behind_first
-cut-back_none c text is = at (nat_lt (position_or_len (is_byte c) text) (length text)) refl is
-  where
-    at : (b : Bool) → nat_lt (position_or_len (is_byte c) text) (length text) ≡ b → cond b (Some (after_first (is_byte c) text)) None ≡ None → before_first (is_byte c) text ≡ text
-    at true inside is = absurd cc
-    at false past is = take_all (position_or_len (is_byte c) text) text (grind (arith, nat_tests))
+cut-back_none c text is = take_all (position_or_len (is_byte c) text) text (grind (arith, nat_tests))
 
 -- ---- parts ----
 
@@ -118,21 +94,12 @@ before_last-there c xs =
 
 pub before_last-back : (c : ℕ) (text front : List ℕ) → before_last_byte c text ≡ Some front → text ≡ front ++ c ∷ []
 unfolding before_last_byte
-before_last-back c text front is = at (bytes_eq (drop (length text - 1) text) (c ∷ [])) refl is
-  where
-    at : (b : Bool) → bytes_eq (drop (length text - 1) text) (c ∷ []) ≡ b → cond b (Some (take (length text - 1) text)) None ≡ Some front → text ≡ front ++ c ∷ []
-    at true same is =
-        let last = (bytes_eq-Decides (drop (length text - 1) text) (c ∷ [])).0 same in
-        let first : take (length text - 1) text ≡ front = cc in
-        sym (take-append-drop (length text - 1) text) ∙ rw (last, first) refl
-    at false other is = absurd cc
+before_last-back c text front is =
+    let cut = cond_some (bytes_eq (drop (length text - 1) text) (c ∷ [])) (take (length text - 1) text) front is in
+    let last = (bytes_eq-Decides (drop (length text - 1) text) (c ∷ [])).0 cut.0 in
+    sym (take-append-drop (length text - 1) text) ∙ rw (last, cut.1) refl
 
 pub before_last-nowhere : (c : ℕ) (text : List ℕ) → Lacks c text → before_last_byte c text ≡ None
-before_last-nowhere c text h = at (before_last_byte c text) refl
-  where
-    at : (o : Option (List ℕ)) → before_last_byte c text ≡ o → before_last_byte c text ≡ None
-    at None is = is
-    at (Some front) is =
-        let parts = before_last-back c text front is in
-        let none = (lacks_parts c front (c ∷ []) (ap (list_any (is_byte c)) (sym parts) ∙ h)).1 in
-        absurd (grind (arith, nat_tests))
+before_last-nowhere c text h = none_if (before_last_byte c text) (λ front is.
+    let none = (lacks_parts c front (c ∷ []) (ap (list_any (is_byte c)) (sym (before_last-back c text front is)) ∙ h)).1 in
+    grind (arith, nat_tests))

@@ -1,14 +1,15 @@
 -- What a line tells.
-use Rattle.std.proofs.Common.{◌≡◌, ◌∙◌, refl, ℕ, ◌+◌, ◌≤◌, List, Bool, true, false, cond, Option, Some, None, option_map, arith}
+use Rattle.std.proofs.Common.{◌≡◌, refl, ℕ, ◌+◌, ◌≤◌, List, true, false, Option, Some, None, option_map, arith, inl, inr}
 use Rattle.std.specs.Prelude.{◌==◌, nat_le, option_and_then}
 use Rattle.std.specs.List.{before_first}
 use Rattle.std.specs.Str.{byte}
 use Rattle.std.proofs.lemmas.Bool.Decides.{nat_tests}
+use Rattle.std.proofs.lemmas.Bool.{cases_Bool}
 use Rattle.eg_asm.specs.Forms.{Form, form_named}
 use Rattle.eg_asm.specs.Grammar as item
 use Rattle.eg_asm.specs.Grammar.{Value, Item}
 use Rattle.eg_asm.specs.Words.{size}
-use Rattle.eg_asm.specs.Encodings.{encoded, Nothing, Label, Instruction, told, told_with_room}
+use Rattle.eg_asm.specs.Encodings.{encoded, Instruction, told, told_with_room}
 use Rattle.eg_asm.specs.Reading.{is_byte, behind_first, texts_in, values_of, instruction_in, item_in, with_room, item_behind}
 use Rattle.eg_asm.proofs.FormLemmas.{form_named-same}
 use Rattle.eg_asm.proofs.LineLaws.{said-form}
@@ -43,14 +44,12 @@ told-behind words line few = at (item_in line) refl
     silent : nat_le (words + 0) 1024 ≡ true
     silent = grind (arith, nat_tests)
 
-    full : (mnemonic : List ℕ) (values : List Value) (f : Form) → form_named mnemonic ≡ Some f → (b : Bool) → (words == 1024) ≡ b
-        → option_map told (cond (nat_le (words + 1) 1024) (Some (item.Instruction mnemonic values)) None) ≡ cond b None (Some (Instruction (encoded f values)))
-    full mnemonic values f named true is = let none : nat_le (words + 1) 1024 ≡ false = grind (arith, nat_tests) in rw none refl
-    full mnemonic values f named false is = let some : nat_le (words + 1) 1024 ≡ true = grind (arith, nat_tests) in rw (some, named) refl
-
     instruction : (mnemonic : List ℕ) (values : List Value) → (f : Form) × (form_named mnemonic ≡ Some f)
         → option_map told (with_room words (item.Instruction mnemonic values)) ≡ told_with_room words (told (item.Instruction mnemonic values))
-    instruction mnemonic values (f, named) = full mnemonic values f named (words == 1024) refl ∙ rw named refl
+    instruction mnemonic values (f, named) = elim (cases_Bool (words == 1024)) [
+      | inl full ↦ (let none : nat_le (words + 1) 1024 ≡ false = grind (arith, nat_tests) in rw (none, named, full) refl)
+      | inr room ↦ (let some : nat_le (words + 1) 1024 ≡ true = grind (arith, nat_tests) in rw (some, named, room) refl)
+    ]
 
     at : (o : Option Item) → item_in line ≡ o → option_map told (option_and_then (with_room words) o) ≡ option_and_then (told_with_room words) (option_map told o)
     at None is = refl

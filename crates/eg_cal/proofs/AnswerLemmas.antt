@@ -229,37 +229,27 @@ key-kept answers ms AnswersLimit = inr (in-table answers ms (codes "answers") (c
 key-kept answers ms Question = inl refl
 key-kept answers ms Unknown = inr (top-kept answers ms (codes "unknown") refl)
 
-number_as-kept : (content : Content) (ms ts : Members) (key : CalKey) → value_of ts key ≡ value_of ms key → number_as content ts key ≡ number_as content ms key
-number_as-kept (number low high) ms ts key same = ap (λ (o : Option Data). unwrap_or (o >>= number_in low high) 0) same
-number_as-kept truth ms ts key same = refl
-number_as-kept (axis high) ms ts key same = refl
-number_as-kept (values along high) ms ts key same = refl
-number_as-kept (grid down across high) ms ts key same = refl
-number_as-kept questions ms ts key same = refl
-number_as-kept nothing ms ts key same = refl
+as-kept : (content : Content) (ms ts : Members) (key : CalKey) → value_of ts key ≡ value_of ms key
+    → (number_as content ts key ≡ number_as content ms key) × (points_as content ts key ≡ points_as content ms key)
+as-kept (number low high) ms ts key same = (ap (λ (o : Option Data). unwrap_or (o >>= number_in low high) 0) same, refl)
+as-kept truth ms ts key same = (refl, refl)
+as-kept (axis high) ms ts key same = (refl, ap (λ (o : Option Data). unwrap_or (o >>= numbers_in 2 16 high) []) same)
+as-kept (values along high) ms ts key same = (refl, refl)
+as-kept (grid down across high) ms ts key same = (refl, refl)
+as-kept questions ms ts key same = (refl, refl)
+as-kept nothing ms ts key same = (refl, refl)
 
-points_as-kept : (content : Content) (ms ts : Members) (key : CalKey) → value_of ts key ≡ value_of ms key → points_as content ts key ≡ points_as content ms key
-points_as-kept (number low high) ms ts key same = refl
-points_as-kept truth ms ts key same = refl
-points_as-kept (axis high) ms ts key same = ap (λ (o : Option Data). unwrap_or (o >>= numbers_in 2 16 high) []) same
-points_as-kept (values along high) ms ts key same = refl
-points_as-kept (grid down across high) ms ts key same = refl
-points_as-kept questions ms ts key same = refl
-points_as-kept nothing ms ts key same = refl
+-- what holds of the questions, and of each key under which the same stands, holds of each key
+by_key : (P : CalKey → Type 0) (answers : List ℕ) (ms : Members) (key : CalKey) → P Question → (value_of (with_answers answers ms) key ≡ value_of ms key → P key) → P key
+by_key P answers ms key asked kept = elim (key-kept answers ms key) [ inl is ↦ subst P (sym is) asked | inr same ↦ kept same ]
 
 number-kept : (answers : List ℕ) (ms : Members) (key : CalKey) → number_of (with_answers answers ms) key ≡ number_of ms key
-number-kept answers ms key = by (key-kept answers ms key)
-  where
-    by : (key ≡ Question) ⊎ (value_of (with_answers answers ms) key ≡ value_of ms key) → number_of (with_answers answers ms) key ≡ number_of ms key
-    by (inl is) = subst (λ (k : CalKey). number_of (with_answers answers ms) k ≡ number_of ms k) (sym is) refl
-    by (inr same) = number_as-kept (content_of key) ms (with_answers answers ms) key same
+number-kept answers ms key =
+    by_key (λ k. number_of (with_answers answers ms) k ≡ number_of ms k) answers ms key refl (λ same. (as-kept (content_of key) ms (with_answers answers ms) key same).0)
 
 points-kept : (answers : List ℕ) (ms : Members) (key : CalKey) → points_of (with_answers answers ms) key ≡ points_of ms key
-points-kept answers ms key = by (key-kept answers ms key)
-  where
-    by : (key ≡ Question) ⊎ (value_of (with_answers answers ms) key ≡ value_of ms key) → points_of (with_answers answers ms) key ≡ points_of ms key
-    by (inl is) = subst (λ (k : CalKey). points_of (with_answers answers ms) k ≡ points_of ms k) (sym is) refl
-    by (inr same) = points_as-kept (content_of key) ms (with_answers answers ms) key same
+points-kept answers ms key =
+    by_key (λ k. points_of (with_answers answers ms) k ≡ points_of ms k) answers ms key refl (λ same. (as-kept (content_of key) ms (with_answers answers ms) key same).1)
 
 -- the values of a table depend on how many points its axes have
 values_as-kept : (content : Content) (ms ts : Members) (key : CalKey) → ((k : CalKey) → points_of ts k ≡ points_of ms k)
@@ -276,11 +266,9 @@ values_as-kept questions ms ts key points same = refl
 values_as-kept nothing ms ts key points same = refl
 
 values-kept : (answers : List ℕ) (ms : Members) (key : CalKey) → values_of (with_answers answers ms) key ≡ values_of ms key
-values-kept answers ms key = by (key-kept answers ms key)
-  where
-    by : (key ≡ Question) ⊎ (value_of (with_answers answers ms) key ≡ value_of ms key) → values_of (with_answers answers ms) key ≡ values_of ms key
-    by (inl is) = subst (λ (k : CalKey). values_of (with_answers answers ms) k ≡ values_of ms k) (sym is) refl
-    by (inr same) = values_as-kept (content_of key) ms (with_answers answers ms) key (points-kept answers ms) same
+values-kept answers ms key =
+    by_key (λ k. values_of (with_answers answers ms) k ≡ values_of ms k) answers ms key refl
+    (λ same. values_as-kept (content_of key) ms (with_answers answers ms) key (points-kept answers ms) same)
 
 truth-kept : (answers : List ℕ) (ms : Members) → truth_of (with_answers answers ms) PermitBrake ≡ truth_of ms PermitBrake
 truth-kept answers ms = ap (λ (o : Option Data). unwrap_or (o >>= as_bool) false) (in-table answers ms (codes "permit") (codes "brake") refl)
@@ -301,11 +289,9 @@ content-kept nothing ms ts key points same = refl
 -- where a key had no fault, and the questions have none now, it has none
 fault-kept : (answers : List ℕ) (ms : Members) (key : CalKey) → fault_at ms key ≡ None → fault_at (with_answers answers ms) Question ≡ None
     → fault_at (with_answers answers ms) key ≡ None
-fault-kept answers ms key before asked = by (key-kept answers ms key)
-  where
-    by : (key ≡ Question) ⊎ (value_of (with_answers answers ms) key ≡ value_of ms key) → fault_at (with_answers answers ms) key ≡ None
-    by (inl is) = subst (λ (k : CalKey). fault_at (with_answers answers ms) k ≡ None) (sym is) asked
-    by (inr same) = content-kept (content_of key) ms (with_answers answers ms) key (points-kept answers ms) same ∙ before
+fault-kept answers ms key before asked =
+    by_key (λ k. fault_at (with_answers answers ms) k ≡ None) answers ms key asked
+    (λ same. content-kept (content_of key) ms (with_answers answers ms) key (points-kept answers ms) same ∙ before)
 
 has_names-kept : (answers : List ℕ) (ms : Members) (known : List (List ℕ)) (of : List ℕ) → same_key (codes "question") of ≡ false
     → has_names known (table_at of (with_answers answers ms)) ≡ has_names known (table_at of ms)

@@ -28,13 +28,13 @@ of-key : {X : Type 0} (key : CalKey) (o : Option X) → OfNoAnswer (unless_some 
 of-key key None = tt
 of-key key (Some x) = tt
 
-of-rising : (key : CalKey) (rises : Bool) → OfNoAnswer (if rises then None else Some (fault.Axis key))
-of-rising key true = tt
-of-rising key false = tt
+of-test : (good : Bool) (f : CalFault) → OfNoAnswer (Some f) → OfNoAnswer (if good then None else Some f)
+of-test true f none = tt
+of-test false f none = none
 
 of-axis : (key : CalKey) (o : Option (List ℕ)) → OfNoAnswer (axis_fault key o)
 of-axis key None = tt
-of-axis key (Some points) = of-rising key (is_rising points)
+of-axis key (Some points) = of-test (is_rising points) (fault.Axis key) tt
 
 of-content : (content : Content) (ms : Members) (key : CalKey) → OfNoAnswer (content_fault content ms key)
 of-content (number low high) ms key = of-key key _
@@ -54,23 +54,15 @@ of-tables : (ms : Members) (tables : List (List CalKey)) → OfNoAnswer (keys_fa
 of-tables ms [] = tt
 of-tables ms (keys ∷ tables) = of-or (first_fault ms keys) (keys_fault ms tables) (of-keys ms keys) (of-tables ms tables)
 
-of-names : (known : Bool) → OfNoAnswer (if known then None else Some (fault.Key Unknown))
-of-names true = tt
-of-names false = tt
-
 of-rows : (row : Option ℕ) → OfNoAnswer (option_map fault.Rising row)
 of-rows None = tt
 of-rows (Some row) = tt
 
-of-window : (good : Bool) → OfNoAnswer (if good then None else Some fault.Window)
-of-window true = tt
-of-window false = tt
-
 of-refusal : (ms : Members) → OfNoAnswer (unanswered_refusal_of ms)
 of-refusal ms =
     of-or _ _ (of-tables ms (all_keys (version_of ms)))
-    (of-or _ _ (of-names (is_all_known (version_of ms) ms))
-    (of-or _ _ (of-rows (falling_row (parts_of ms).rules.permit)) (of-window (is_window (parts_of ms).times))))
+    (of-or _ _ (of-test (is_all_known (version_of ms) ms) (fault.Key Unknown) tt)
+    (of-or _ _ (of-rows (falling_row (parts_of ms).rules.permit)) (of-test (is_window (parts_of ms).times) fault.Window tt)))
 
 unless-never : {X : Type 0} (refusal : Option CalFault) (x : X) (n : ℕ) → OfNoAnswer refusal → unless refusal x ≢ Err (fault.Answer n)
 unless-never None x n none is = absurd (cc)

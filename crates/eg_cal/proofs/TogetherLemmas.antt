@@ -1,7 +1,8 @@
 -- What the values of a calibration are refused for together.
-use Rattle.std.proofs.Common.{◌≡◌, ◌⊎◌, inl, inr, ℕ, zero, suc, ◌+◌, ◌-◌, ◌<◌, ◌≤◌, ◌==◌, nat_lt, not, is_some, Bool, true, false, length, List, Option, Some, None, if◌then◌else◌, refl, sym, ap, ◌∙◌, subst, arith}
+use Rattle.std.proofs.Common.{◌≡◌, inl, inr, ℕ, zero, suc, ◌+◌, ◌-◌, ◌<◌, ◌≤◌, ◌==◌, nat_lt, not, is_some, Bool, true, false, length, List, Option, Some, None, if◌then◌else◌, refl, sym, ap, ◌∙◌, subst, arith}
 use Rattle.std.proofs.lemmas.List.Elements.{All-from_get_or, All-get_or}
 use Rattle.std.proofs.lemmas.Bool.Decides.{nat_tests}
+use Rattle.std.proofs.lemmas.Bool.{cases_lt, true≢false}
 use Rattle.eg_num.specs.Interpolation.{Grid, cell}
 use Rattle.eg_torque.specs.Permit.{FallsAt, IsFirstFall, DoesNotFall}
 use Rattle.eg_answer.specs.Questions.{no_question}
@@ -10,7 +11,6 @@ use Rattle.eg_answer.specs.declared.questions.Question.{Question}
 use Rattle.eg_values.specs.declared.calibration.Apart.{Apart}
 use Rattle.eg_values.specs.declared.calibration.Apart.TheVariants.{Answer}
 use Rattle.eg_values.specs.Calibration.{CalibrationParts, HasRightAnswer, AreAnswered, IsFirstWrong, IsApart}
-use Rattle.eg_cal.specs.declared.key.CalFault.TheVariants as fault
 use Rattle.eg_toml.proofs.RisingLemmas.{lt-true, true-lt}
 use Rattle.eg_cal.proofs.AxisLemmas.{not-true}
 use Rattle.eg_cal.specs.Calibration.{first_from, falls, falling_row, is_wrong, wrong_answer}
@@ -23,36 +23,18 @@ unfolding first_from
 first_from-none passes zero i none = refl
 first_from-none passes (suc n) i none = rw (none i (omega arith) (omega arith)) (first_from-none passes n (suc i) (λ k from to. none k (omega arith) (omega arith)))
 
-le-split : (i j : ℕ) → i ≤ j → (i ≡ j) ⊎ (i < j)
-le-split zero zero h = inl refl
-le-split zero (suc j) h = inr (omega arith)
-le-split (suc i) zero h = absurd (omega arith)
-le-split (suc i) (suc j) h = up (le-split i j (omega arith))
-  where
-    up : (i ≡ j) ⊎ (i < j) → (suc i ≡ suc j) ⊎ (suc i < suc j)
-    up (inl same) = inl (ap suc same)
-    up (inr less) = inr (omega arith)
-
-stops : (o : Option ℕ) (b : Bool) (i j : ℕ) → (i ≡ j) ⊎ (i < j) → (i ≡ j → b ≡ true) → (i < j → (b ≡ false) × (o ≡ Some j)) → (if b then Some i else o) ≡ Some j
-stops o b i j (inl same) here later = rw (here same, same) refl
-stops o b i j (inr less) here later = let (fails, rest) = later less in rw (fails, rest) refl
-
 -- the first is the number that passes where none before it does
 pub first_from-some : (passes : ℕ → Bool) (n i j : ℕ) → i ≤ j → j < i + n → passes j ≡ true → ((k : ℕ) → i ≤ k → k < j → passes k ≡ false) → first_from passes n i ≡ Some j
 unfolding first_from
 first_from-some passes zero i j from to here before = absurd (omega arith)
-first_from-some passes (suc n) i j from to here before =
-    stops (first_from passes n (suc i)) (passes i) i j (le-split i j from)
-    (λ same. ap passes same ∙ here)
-    (λ later. (before i (omega arith) later, first_from-some passes n (suc i) j (omega arith) (omega arith) here (λ k after below. before k (omega arith) below)))
+first_from-some passes (suc n) i j from to here before = elim (cases_lt i j) [
+  | inl later ↦ rw (before i (omega arith) later) (first_from-some passes n (suc i) j (omega arith) (omega arith) here (λ k after below. before k (omega arith) below))
+  | inr past ↦ (let same : i ≡ j = omega arith in rw (ap passes same ∙ here) (ap Some same))
+]
 
 if-none : (b : Bool) (i : ℕ) (o : Option ℕ) → (if b then Some i else o) ≡ None → (b ≡ false) × (o ≡ None)
 if-none true i o e = absurd (cc)
 if-none false i o e = (refl, e)
-
-fails-at : (passes : ℕ → Bool) (i k : ℕ) → (i ≡ k) ⊎ (i < k) → passes i ≡ false → (i < k → passes k ≡ false) → passes k ≡ false
-fails-at passes i k (inl same) here later = ap passes (sym same) ∙ here
-fails-at passes i k (inr less) here later = later less
 
 -- where there is no first, no number passes
 pub none-first_from : (passes : ℕ → Bool) (n i : ℕ) → first_from passes n i ≡ None → (k : ℕ) → i ≤ k → k < i + n → passes k ≡ false
@@ -60,7 +42,10 @@ unfolding first_from
 none-first_from passes zero i e k from to = absurd (omega arith)
 none-first_from passes (suc n) i e k from to =
     let (fails, rest) = if-none (passes i) i (first_from passes n (suc i)) e in
-    fails-at passes i k (le-split i k from) fails (λ later. none-first_from passes n (suc i) rest k (omega arith) (omega arith))
+    elim (cases_lt i k) [
+      | inl later ↦ none-first_from passes n (suc i) rest k (omega arith) (omega arith)
+      | inr past ↦ (let same : i ≡ k = omega arith in ap passes (sym same) ∙ fails)
+    ]
 
 -- ---- rows that fall
 
@@ -68,15 +53,12 @@ is_some-true : (o : Option ℕ) → (o ≡ None → ⊥) → is_some o ≡ true
 is_some-true None h = absurd (h refl)
 is_some-true (Some i) h = refl
 
-true-not_false : (b : Bool) → b ≡ true → b ≡ false → ⊥
-true-not_false b yes_ no_ = absurd (cc)
-
 falls-true : (g : Grid) (i : ℕ) → FallsAt g i → falls g i ≡ true
 falls-true g i at =
     let passes = λ (j : ℕ). nat_lt (cell g i j) (cell g (i - 1) j) in
     is_some-true (first_from passes (length g.columns) 0) (λ none.
-    true-not_false (passes at.column) (lt-true _ _ at.below)
-    (none-first_from passes (length g.columns) 0 none at.column (omega arith) (let within = at.within in omega arith)))
+    let fails = none-first_from passes (length g.columns) 0 none at.column (omega arith) (let within = at.within in omega arith) in
+    true≢false (sym (lt-true _ _ at.below) ∙ fails))
 
 falls-false : (g : Grid) (i : ℕ) → 1 ≤ i → i < length g.rows → ¬ FallsAt g i → falls g i ≡ false
 falls-false g i later row not_here =

@@ -1,6 +1,6 @@
 -- What the readers of fields and records give.
-use Rattle.std.proofs.Common.{◌≡◌, ◌∙◌, sym, ap, refl, ℕ, zero, suc, ◌+◌, add-one, ◌≤◌, ◌<◌, List, [], ◌∷◌, length, drop, map, get_or, Bool, true, false, arith, Option, Some, None, Bor}
-use Rattle.std.specs.Prelude.{not, ◌&&◌, ◌==◌, if◌then◌else◌, nat_le, option_and_then, option_map, SomeIff}
+use Rattle.std.proofs.Common.{◌≡◌, ◌∙◌, sym, ap, refl, ℕ, zero, suc, ◌+◌, add-one, ◌≤◌, ◌<◌, List, [], ◌∷◌, length, drop, map, get_or, Bool, true, false, arith, Option, Some, None, Bor, inl, inr}
+use Rattle.std.specs.Prelude.{not, ◌&&◌, option_map, SomeIff}
 use Rattle.std.specs.Bool.{Decides}
 use Rattle.std.specs.Str.{bytes_eq}
 use Rattle.std.specs.Option.{option_zip, option_eq}
@@ -8,9 +8,11 @@ use Rattle.std.proofs.lemmas.Bool.Decides.{nat_tests}
 use Rattle.std.proofs.lemmas.Slice.Eq.{slice_eq-Decides, bytes_eq-Decides}
 use Rattle.std.proofs.lemmas.List.{drop_all, length-map}
 use Rattle.csv.specs.Records.{field_at}
+use Rattle.std.proofs.lemmas.Bool.{cases_Bool}
+use Rattle.std.proofs.lemmas.Option.{option_and_then_some}
 use Rattle.eg_num.specs.Drive.{DriveRow, IsDrive}
 use Rattle.eg_input.specs.Records.{Record, is_same_record}
-use Rattle.eg_input.specs.Fields.{decimal_value, is_numeral, number_of, number_at, truth_at}
+use Rattle.eg_input.specs.Fields.{number_of, number_at, truth_at}
 use Rattle.eg_input.specs.DriveTrace.{drive_from, drive_at, drive_of}
 use Rattle.eg_input.specs.CheckFile.{CheckRow, IsCheckRow, check_row_of}
 
@@ -22,13 +24,11 @@ is_same_record-Decides xs ys = slice_eq-Decides bytes_eq-Decides xs ys (is_same_
 -- records of different lengths are not the same
 pub is_same_record-lengths : (fields : Record) (names : List (Bor (List ℕ))) → (length fields ≡ length names → ⊥)
     → false ≡ is_same_record fields (map (λ name. name.now) names)
-is_same_record-lengths fields names differ = at (is_same_record fields (map (λ name. name.now) names)) refl
-  where
-    at : (b : Bool) → is_same_record fields (map (λ name. name.now) names) ≡ b → false ≡ b
-    at true is =
-        let same : fields ≡ map (λ name. name.now) names = (is_same_record-Decides fields (map (λ name. name.now) names)).0 is in
-        absurd (differ (ap length same ∙ length-map names (λ name. name.now)))
-    at false is = refl
+is_same_record-lengths fields names differ = elim (cases_Bool (is_same_record fields (map (λ name. name.now) names))) [
+  | inl is ↦ absurd (let same : fields ≡ map (λ name. name.now) names = (is_same_record-Decides fields (map (λ name. name.now) names)).0 is in
+      differ (ap length same ∙ length-map names (λ name. name.now)))
+  | inr is ↦ sym is
+]
 
 -- the test of a field that was looked up
 abbrev pub is_found : Option (Bor (List ℕ)) → Bor (List ℕ) → Bool
@@ -52,23 +52,13 @@ is_same_from-step (suc i) (f ∷ fs) (n ∷ ns) d got long below at = is_same_fr
 pub is_same_record-other : (i : ℕ) (fields : Record) (names : List (Bor (List ℕ))) (d : Bor (List ℕ)) (got : Option (Bor (List ℕ))) → length fields ≡ length names
     → i < length names → option_map (λ s. s.now) got ≡ field_at fields i → not (is_found got (get_or names i d)) ≡ true
     → is_same_record (drop i fields) (map (λ name. name.now) (drop i names)) ≡ false
-is_same_record-other i fields names d got long below at other =
-    is_same_from-step i fields names d got long below at ∙ known (is_found got (get_or names i d)) (is_same_from (suc i) fields names) other
-  where
-    known : (b c : Bool) → not b ≡ true → (b && c) ≡ false
-    known true c e = absurd cc
-    known false c e = refl
+is_same_record-other i fields names d got long below at other = grind (arith, is_same_from-step i fields names d got long below at, other)
 
 -- where the field at a place is the same, the records are the same from there on exactly if they are behind it
 pub is_same_record-more : (i : ℕ) (fields : Record) (names : List (Bor (List ℕ))) (d : Bor (List ℕ)) (got : Option (Bor (List ℕ))) → length fields ≡ length names
     → i < length names → option_map (λ s. s.now) got ≡ field_at fields i → not (is_found got (get_or names i d)) ≡ false
     → is_same_record (drop (i + 1) fields) (map (λ name. name.now) (drop (i + 1) names)) ≡ is_same_record (drop i fields) (map (λ name. name.now) (drop i names))
-is_same_record-more i fields names d got long below at same =
-    rw add-one (sym (is_same_from-step i fields names d got long below at ∙ known (is_found got (get_or names i d)) (is_same_from (suc i) fields names) same))
-  where
-    known : (b c : Bool) → not b ≡ false → (b && c) ≡ c
-    known true c e = refl
-    known false c e = absurd cc
+is_same_record-more i fields names d got long below at same = rw add-one (grind (arith, is_same_from-step i fields names d got long below at, same))
 
 -- past the last field nothing is left to test
 pub is_same_record-end : (i : ℕ) (fields : Record) (names : List (Bor (List ℕ))) → length fields ≡ length names → length names ≤ i
@@ -82,20 +72,11 @@ is_same_record-end i fields names long past =
 -- a number that is read is at most `most`
 number_of-le : (most : ℕ) (field : List ℕ) (n : ℕ) → number_of most field ≡ Some n → n ≤ most
 unfolding number_of
-number_of-le most field n e = at (is_numeral field) (nat_le (decimal_value field) most) refl e
-  where
-    at : (a b : Bool) → nat_le (decimal_value field) most ≡ b → (if a && b then Some (decimal_value field) else None) ≡ Some n → n ≤ most
-    at true true is e = let same : decimal_value field ≡ n = cc in grind (arith, nat_tests)
-    at true false is e = absurd cc
-    at false b is e = absurd cc
+number_of-le most field n e = grind (arith, nat_tests)
 
 number_at-le : (fields : Record) (i most n : ℕ) → number_at fields i most ≡ Some n → n ≤ most
 unfolding number_at
-number_at-le fields i most n e = at (field_at fields i) e
-  where
-    at : (o : Option (List ℕ)) → option_and_then (number_of most) o ≡ Some n → n ≤ most
-    at None e = absurd cc
-    at (Some field) e = number_of-le most field n e
+number_at-le fields i most n e = option_and_then_some (number_of most) (field_at fields i) n e (λ field at read. number_of-le most field n read)
 
 -- the drive row that is made of what was read
 pub drive_at-new : (fields : Record) (pedal speed raise : ℕ) (reset brake : Bool) (given other : Option Bool) (made : Option DriveRow) → number_at fields 0 1000 ≡ Some pedal
@@ -124,21 +105,15 @@ drive_at-limits fields reset brake row e = at (number_at fields 0 1000) (number_
 
 pub drive_of-limits : (width : ℕ) (fields : Record) (row : DriveRow) → drive_of width fields ≡ Some row → IsDrive row
 unfolding drive_of
-drive_of-limits width fields row e = at (length fields == width) e
-  where
-    at : (b : Bool) → (if b then drive_at fields (truth_at fields 3) (truth_at fields 4) else None) ≡ Some row → IsDrive row
-    at true e = drive_at-limits fields (truth_at fields 3) (truth_at fields 4) row e
-    at false e = absurd cc
+drive_of-limits width fields row e = drive_at-limits fields (truth_at fields 3) (truth_at fields 4) row (grind arith)
 
 pub check_row_of-limits : (fields : Record) (row : CheckRow) → check_row_of fields ≡ Some row → IsCheckRow row
 unfolding check_row_of
-check_row_of-limits fields row e = at (length fields == 4) (drive_at fields (Some false) (Some false)) (number_at fields 3 65535) refl refl e
+check_row_of-limits fields row e = at (drive_at fields (Some false) (Some false)) (number_at fields 3 65535) refl refl (grind arith)
   where
-    at : (b : Bool) (d : Option DriveRow) (t : Option ℕ) → drive_at fields (Some false) (Some false) ≡ d → number_at fields 3 65535 ≡ t → (if b then option_zip d t else None) ≡ Some row
-        → IsCheckRow row
-    at true (Some drive) (Some torque) d t e =
+    at : (d : Option DriveRow) (t : Option ℕ) → drive_at fields (Some false) (Some false) ≡ d → number_at fields 3 65535 ≡ t → option_zip d t ≡ Some row → IsCheckRow row
+    at (Some drive) (Some torque) d t e =
         let made : (drive, torque) ≡ row = cc in
         rw (← made) (drive_at-limits fields (Some false) (Some false) drive d, number_at-le fields 3 65535 torque t)
-    at true (Some drive) None d t e = absurd cc
-    at true None t d t' e = absurd cc
-    at false d t d' t' e = absurd cc
+    at (Some drive) None d t e = absurd cc
+    at None t d t' e = absurd cc

@@ -1,5 +1,5 @@
 -- How bytes are cut into lines, and what a step of the code through them takes.
-use Rattle.std.proofs.Common.{◌≡◌, ◌∙◌, ap, refl, ℕ, zero, suc, ◌+◌, ◌<◌, List, [], ◌∷◌, ◌++◌, length, Bool, true, false, arith, Bor}
+use Rattle.std.proofs.Common.{◌≡◌, ◌≢◌, ◌∙◌, sym, ap, refl, ℕ, zero, suc, ◌+◌, ◌<◌, List, [], ◌∷◌, ◌++◌, length, Bool, true, false, arith, Bor}
 use Rattle.std.specs.Prelude.{All, min}
 use Rattle.std.specs.Char.{is_newline}
 use Rattle.std.specs.Fn.{Called, ComputesKey}
@@ -34,6 +34,20 @@ concat-lines_of (b ∷ bytes) = at (is_newline b) refl (lines_of bytes) refl (co
     at true is lines are more = rw (lines_of-feed b bytes is) (ap (λ (bs : List ℕ). b ∷ bs) more)
     at false is [] are more = rw (lines_of-byte b bytes is, are) (ap (λ (bs : List ℕ). b ∷ bs) (rw are at more))
     at false is (line ∷ lines) are more = rw (lines_of-byte b bytes is, are) (ap (λ (bs : List ℕ). b ∷ bs) (rw are at more))
+
+-- something that isn't nothing has a first line
+pub record HasFirst (bytes : List ℕ) : Type 0 where
+  pub line : Line
+  pub others : List Line
+  pub are : lines_of bytes ≡ line ∷ others
+  pub parts : bytes ≡ line ++ concat others
+
+pub first_of : (bytes : List ℕ) → bytes ≢ [] → HasFirst bytes
+first_of bytes some = at (lines_of bytes) refl
+  where
+    at : (lines : List Line) → lines_of bytes ≡ lines → HasFirst bytes
+    at [] are = absurd (some (sym (concat-lines_of bytes) ∙ ap concat are))
+    at (line ∷ others) are = record { line = line; others = others; are = are; parts = sym (concat-lines_of bytes) ∙ ap concat are }
 
 -- bytes without a line feed and then one are a line
 pub lines_of-line : (front : List ℕ) (feed : ℕ) (after : List ℕ) → All (λ b. is_newline b ≡ false) front → is_newline feed ≡ true

@@ -1,6 +1,6 @@
 -- csv's reader on a line of numbers.
-use Rattle.std.proofs.Common.{◌≡◌, ◌∙◌, sym, ap, refl, subst, ℕ, ◌+◌, ◌≤◌, List, [], ◌∷◌, ◌++◌, length, Bool, true, false, arith, Option, Some, None, append-nil, append_assoc, inl, inr, ◌⊎◌}
-use Rattle.std.specs.Prelude.{◌&&◌, ◌==◌, nat_le, if◌then◌else◌}
+use Rattle.std.proofs.Common.{◌≡◌, ◌∙◌, sym, ap, refl, subst, ℕ, ◌+◌, ◌≤◌, List, [], ◌∷◌, ◌++◌, length, Bool, true, false, arith, Option, Some, append-nil, append_assoc, inl, inr, ◌⊎◌}
+use Rattle.std.specs.Prelude.{◌==◌}
 use Rattle.std.specs.Char.{is_ascii_digit}
 use Rattle.std.specs.List.{list_all}
 use Rattle.std.proofs.lemmas.Bool.Decides.{nat_tests}
@@ -13,6 +13,8 @@ use Rattle.std.proofs.lemmas.Slice.Eq.{bytes_eq-Decides}
 use Rattle.std.proofs.lemmas.List.{take-append-drop}
 use Rattle.csv.specs.Records.{field_at}
 use Rattle.csv.specs.Reading.{default_config, strip_bom}
+use Rattle.std.proofs.lemmas.Bool.{cases_Bool, and_parts}
+use Rattle.std.proofs.lemmas.Option.{cond_some}
 use Rattle.eg_num.specs.Drive.{DriveRow, driven}
 use Rattle.csv.specs.declared.parser.State.{State}
 use Rattle.csv.specs.declared.parser.State.TheVariants as st
@@ -22,7 +24,7 @@ use Rattle.std.specs.Prelude.{Result}
 use Rattle.eg_input.specs.Records.{Record, RowRule, records_of, is_same_record}
 use Rattle.eg_input.specs.Rows.{IsRead, is_header, rows_below, file_rows}
 use Rattle.eg_input.specs.declared.fault.TraceFault.{TraceFault}
-use Rattle.eg_input.specs.Fields.{decimal_value, number_of, number_at, truth_of, truth_at}
+use Rattle.eg_input.specs.Fields.{number_of, number_at, truth_of, truth_at}
 use Rattle.eg_input.specs.DriveTrace.{drive_from, drive_at, drive_of, trace_headers}
 use Rattle.eg_input.specs.CheckFile.{check_row_of, check_header}
 use Rattle.eg_input.specs.Plain.{BeginsWithField, BeginsWithNumber, BeginsWithTruth, BeginsWithDrive, BeginsWithRow, BeginsWithHeader, records_below}
@@ -43,22 +45,15 @@ digit-no_mark b e = record {
   feed = grind (arith, nat_tests);
 }
 
-and-left : (a b : Bool) → (a && b) ≡ true → a ≡ true
-and-left true b e = refl
-and-left false b e = absurd cc
-
-and-right : (a b : Bool) → (a && b) ≡ true → b ≡ true
-and-right true b e = e
-and-right false b e = absurd cc
-
 -- digits join the field at hand
 digits-run : (fields : Record) (field x tail : List ℕ) → list_all is_ascii_digit x ≡ true
     → next_record default_config st.InField fields field (x ++ tail) ≡ next_record default_config st.InField fields (field ++ x) tail
 unfolding next_record
 digits-run fields field [] tail e = rw (append-nil field) refl
 digits-run fields field (b ∷ rest) tail e =
-    let n = digit-no_mark b (and-left (is_ascii_digit b) (list_all is_ascii_digit rest) e) in
-    rw (n.comma, n.return, n.feed) (digits-run fields (field ++ (b ∷ [])) rest tail (and-right (is_ascii_digit b) (list_all is_ascii_digit rest) e)
+    let parts = and_parts (is_ascii_digit b) (list_all is_ascii_digit rest) e in
+    let n = digit-no_mark b parts.0 in
+    rw (n.comma, n.return, n.feed) (digits-run fields (field ++ (b ∷ [])) rest tail parts.1
     ∙ ap (λ (f : List ℕ). next_record default_config st.InField fields f tail) (append_assoc field (b ∷ []) rest))
 
 -- where a field begins
@@ -77,7 +72,7 @@ numeral-run : (s : State) → IsStart s → (fields : Record) (x tail : List ℕ
     → next_record default_config s fields [] (x ++ tail) ≡ next_record default_config st.InField fields x tail
 numeral-run s start fields [] tail some e = absurd (omega arith)
 numeral-run s start fields (b ∷ rest) tail some e =
-    let n = digit-no_mark b (and-left (is_ascii_digit b) (list_all is_ascii_digit rest) e) in
+    let n = digit-no_mark b (and_parts (is_ascii_digit b) (list_all is_ascii_digit rest) e).0 in
     digit-starts s start fields b (rest ++ tail) n ∙ digits-run fields [] (b ∷ rest) tail e
 
 -- a field that is read as a value is one digit or more
@@ -86,25 +81,15 @@ OfDigits {X} value_of = (field : List ℕ) (value : X) → value_of field ≡ So
 
 pub number_of-digits : (most : ℕ) → OfDigits (number_of most)
 unfolding number_of
-number_of-digits most digits n e = at (nat_le 1 (length digits)) (nat_le (length digits) 5) (list_all is_ascii_digit digits) (nat_le (decimal_value digits) most) refl refl e
-  where
-    at : (a b c d : Bool) → nat_le 1 (length digits) ≡ a → list_all is_ascii_digit digits ≡ c → (if a && b && c && d then Some (decimal_value digits) else None) ≡ Some n
-        → (1 ≤ length digits) × (list_all is_ascii_digit digits ≡ true)
-    at true true true true some is e = (grind (arith, nat_tests), is)
-    at true true true false some is e = absurd cc
-    at true true false d some is e = absurd cc
-    at true false c d some is e = absurd cc
-    at false b c d some is e = absurd cc
+number_of-digits most digits n e = (grind (arith, nat_tests), grind arith)
 
 pub truth_of-digits : OfDigits truth_of
 unfolding truth_of
-truth_of-digits field value e = at (bytes_eq field (codes "0")) (bytes_eq field (codes "1")) refl refl e
-  where
-    at : (a b : Bool) → bytes_eq field (codes "0") ≡ a → bytes_eq field (codes "1") ≡ b → (if a then Some false else if b then Some true else None) ≡ Some value
-        → (1 ≤ length field) × (list_all is_ascii_digit field ≡ true)
-    at true b is _ e = rw ((bytes_eq-Decides field (codes "0")).0 is) (omega arith, refl)
-    at false true _ is e = rw ((bytes_eq-Decides field (codes "1")).0 is) (omega arith, refl)
-    at false false _ _ e = absurd cc
+truth_of-digits field value e = elim (cases_Bool (bytes_eq field (codes "0"))) [
+  | inl is ↦ rw ((bytes_eq-Decides field (codes "0")).0 is) (omega arith, refl)
+  | inr other ↦ (let is = cond_some (bytes_eq field (codes "1")) true value (rw other at e) in
+      rw ((bytes_eq-Decides field (codes "1")).0 is.0) (omega arith, refl))
+]
 
 -- digits and a comma are a field
 pub field-comma : {X : Type 0} {value_of : List ℕ → Option X} → OfDigits value_of → (s : State) → IsStart s → (fields : Record) (text : List ℕ) (value : X) (rest : List ℕ)

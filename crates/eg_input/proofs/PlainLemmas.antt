@@ -27,7 +27,7 @@ pub number-ends : (most ending : ℕ) (text : List ℕ) (i d : ℕ) → 0 < i �
 unfolding number_of
 number-ends most ending text i d some few room digits small here = record {
   field = take i text;
-  parts = sym (take-append-drop i text) ∙ ap (λ (l : List ℕ). take i text ++ l) (drop-at text i d room ∙ rw here refl);
+  parts = sym (take-append-drop i text) ∙ ap (λ (l : List ℕ). take i text ++ l) (drop_more text i d room ∙ rw here refl);
   written =
       let long : length (take i text) ≡ i = omega (arith, length-take i text) in
       let least : nat_le 1 i ≡ true = grind (arith, nat_tests) in
@@ -35,6 +35,3 @@ number-ends most ending text i d some few room digits small here = record {
       let low : nat_le (decimal_value (take i text)) most ≡ true = grind (arith, nat_tests) in
       rw (long, least, greatest, digits, low) refl;
 }
-  where
-    drop-at : (l : List ℕ) (i d : ℕ) → i < length l → drop i l ≡ get_or l i d ∷ drop (i + 1) l
-    drop-at l i d r = drop_more l i d r

@@ -1,11 +1,12 @@
 -- What `rows_below` answers for each kind of list of records, and that a list is of one of these kinds.
-use Rattle.std.proofs.Common.{◌≡◌, ◌∙◌, ap, refl, subst, ℕ, suc, ◌+◌, ◌-◌, ◌<◌, ◌≤◌, List, [], ◌∷◌, ◌++◌, length, take, Bool, true, false, arith, Option, Some, None, Ok, Err, ◌⊎◌, inl, inr}
+use Rattle.std.proofs.Common.{◌≡◌, ◌∙◌, ap, refl, subst, ℕ, suc, ◌+◌, ◌-◌, ◌<◌, ◌≤◌, List, [], ◌∷◌, ◌++◌, length, take, drop, append_assoc, sym, Bool, true, false, arith, Option, Some, None, Ok, Err, ◌⊎◌, inl, inr}
 use Rattle.std.specs.Prelude.{All, IsSome, is_none, nat_lt, filter_map}
 use Rattle.std.specs.List.{AllZip, position_from}
 use Rattle.std.proofs.lemmas.Bool.Decides.{nat_tests}
-use Rattle.std.proofs.lemmas.List.{take_all}
+use Rattle.std.proofs.lemmas.List.{take_all, take-append-drop}
 use Rattle.std.proofs.lemmas.List.Elements.{All-cons, All-head, All-tail, All-nil, All-weaker}
 use Rattle.std.proofs.Math.Seq.{take-append-add, take-nil}
+use Rattle.std.proofs.lemmas.Bool.{cases_Bool}
 use Rattle.eg_input.specs.Records.{Record, RowRule}
 use Rattle.eg_input.specs.Rows.{rows_unless, rows_below}
 use Rattle.eg_input.specs.declared.fault.TraceFault.TheVariants as fault
@@ -34,23 +35,27 @@ pub record FirstIn {X : Type 0} (passes : X → Bool) (xs : List X) : Type 0 whe
   pub before : All (λ x. passes x ≡ false) good
   pub here : passes bad ≡ true
 
+-- what stands round it in all, where it is looked for among the first `most`
+pub split-first : {X : Type 0} {passes : X → Bool} (most : ℕ) (xs : List X) (f : FirstIn passes (take most xs)) → xs ≡ f.good ++ f.bad ∷ (f.rest ++ drop most xs)
+split-first most xs f = sym (take-append-drop most xs) ∙ ap (λ (front : List _). front ++ drop most xs) f.parts ∙ append_assoc f.good (f.bad ∷ f.rest) (drop most xs)
+
 -- no item passes, or there is a first one
 pub first_in : {X : Type 0} (passes : X → Bool) (xs : List X) → All (λ x. passes x ≡ false) xs ⊎ FirstIn passes xs
 first_in passes [] = inl (All-nil _)
-first_in passes (x ∷ xs) = at_head (passes x) refl (first_in passes xs)
-  where
-    at_head : (b : Bool) → passes x ≡ b → All (λ x. passes x ≡ false) xs ⊎ FirstIn passes xs → All (λ x. passes x ≡ false) (x ∷ xs) ⊎ FirstIn passes (x ∷ xs)
-    at_head true is more = inr (record { good = []; bad = x; rest = xs; parts = refl; before = All-nil _; here = is })
-    at_head false is (inl clean) = inl (All-cons (λ x. passes x ≡ false) x xs is clean)
-    at_head false is (inr f) =
-        inr (record {
-          good = x ∷ f.good;
-          bad = f.bad;
-          rest = f.rest;
-          parts = ap (λ (ys : List _). x ∷ ys) f.parts;
-          before = All-cons (λ x. passes x ≡ false) x f.good is f.before;
-          here = f.here;
-        })
+first_in passes (x ∷ xs) = elim (cases_Bool (passes x)) [
+  | inl is ↦ inr (record { good = []; bad = x; rest = xs; parts = refl; before = All-nil _; here = is })
+  | inr is ↦ elim (first_in passes xs) [
+    | inl clean ↦ inl (All-cons (λ x. passes x ≡ false) x xs is clean)
+    | inr f ↦ inr (record {
+      good = x ∷ f.good;
+      bad = f.bad;
+      rest = f.rest;
+      parts = ap (λ (ys : List _). x ∷ ys) f.parts;
+      before = All-cons (λ x. passes x ≡ false) x f.good is f.before;
+      here = f.here;
+    })
+  ]
+]
 
 -- the two ways to say that something is there
 not_none : {X : Type 0} (o : Option X) → IsSome o → is_none o ≡ false

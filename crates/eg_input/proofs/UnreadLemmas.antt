@@ -1,14 +1,16 @@
 -- What a read of csv's reader takes of the records that are left, and that the records of a text are what its reads give.
-use Rattle.std.proofs.Common.{◌≡◌, ◌∙◌, sym, ap, refl, subst, ℕ, zero, suc, ◌+◌, ◌<◌, ◌≤◌, List, [], ◌∷◌, ◌++◌, length, Bool, true, false, arith, Option, Some, None, add-one, inl, Bor}
-use Rattle.std.specs.Prelude.{◌==◌, ◌||◌, ◌&&◌, if◌then◌else◌, Result, Ok, Err, IfOk, OnOk, IsErrAnd, MatchResult}
+use Rattle.std.proofs.Common.{◌≡◌, ◌∙◌, sym, ap, refl, ℕ, zero, suc, ◌+◌, ◌<◌, ◌≤◌, List, [], ◌∷◌, ◌++◌, length, Bool, true, false, arith, Option, Some, None, add-one, inl, Bor, inr}
+use Rattle.std.specs.Prelude.{Result, Ok, Err, IfOk, OnOk, IsErrAnd, MatchResult}
 use Rattle.std.specs.Bool.{MatchBool}
-use Rattle.csv.specs.Machine.{next_record, step, is_end, ends_at_end, Read, fields_after, field_after, in_field, start_field, start_record, after_end}
+use Rattle.csv.specs.Machine.{next_record, step, is_end, ends_at_end, Read, fields_after}
 use Rattle.csv.specs.Reading.{records_from, records_next, default_config, pending_of, Ready, ReadRecord, ReadsNext, NextIs, took_first, is_flexible, reader_trim}
 use Rattle.csv.specs.declared.reader.Reader.{Reader}
 use Rattle.csv.specs.declared.parser.State.{State}
 use Rattle.csv.specs.declared.parser.State.TheVariants as st
 use Rattle.csv.specs.declared.parser.Action.{Action}
 use Rattle.csv.specs.declared.reader.Trim.TheVariants as trim
+use Rattle.std.proofs.lemmas.Bool.{cases_Bool, true≢false}
+use Rattle.std.proofs.lemmas.Option.{cond_some, same_Some}
 use Rattle.eg_input.specs.Records.{Record}
 use Rattle.eg_input.specs.Unread.{records_after, HasUnread}
 
@@ -16,35 +18,15 @@ use Rattle.eg_input.specs.Unread.{records_after, HasUnread}
 abbrev EndsBetween : State × Action → Type 0
 EndsBetween r = is_end r.1 ≡ true → ends_at_end r.0 ≡ false
 
-either : (b : Bool) (x y : State × Action) → EndsBetween x → EndsBetween y → EndsBetween (if b then x else y)
-either true x y f g = f
-either false x y f g = g
-
-after_end-between : (c : ℕ) → ends_at_end (after_end default_config.terminator c) ≡ false
-after_end-between c = between (c == 13)
-  where
-    between : (b : Bool) → ends_at_end (if b then st.AfterCr else st.StartRecord) ≡ false
-    between true = refl
-    between false = refl
-
-in_field-between : (c : ℕ) → EndsBetween (in_field default_config c)
-in_field-between c = either (c == 44) _ _ (λ e. cc) (either ((c == 13) || (c == 10)) _ _ (λ e. after_end-between c) (λ e. cc))
-
-start_field-between : (c : ℕ) → EndsBetween (start_field default_config c)
-start_field-between c = either (true && (c == 34)) _ _ (λ e. cc) (in_field-between c)
-
-start_record-between : (c : ℕ) → EndsBetween (start_record default_config c)
-start_record-between c = either ((c == 13) || (c == 10)) _ _ (λ e. cc) (start_field-between c)
-
 step-between : (s : State) (c : ℕ) → EndsBetween (step default_config s c)
-step-between st.StartRecord c = start_record-between c
-step-between st.StartField c = start_field-between c
-step-between st.InField c = in_field-between c
-step-between st.InQuoted c = either (c == 34) _ _ (λ e. cc) (λ e. cc)
+step-between st.StartRecord c = grind arith
+step-between st.StartField c = grind arith
+step-between st.InField c = grind arith
+step-between st.InQuoted c = grind arith
 step-between st.InEscape c = λ e. cc
-step-between st.AfterQuote c = either (c == 34) _ _ (λ e. cc) (in_field-between c)
-step-between st.InComment c = either (c == 10) _ _ (λ e. cc) (λ e. cc)
-step-between st.AfterCr c = either (c == 10) _ _ (λ e. cc) (start_record-between c)
+step-between st.AfterQuote c = grind arith
+step-between st.InComment c = grind arith
+step-between st.AfterCr c = grind arith
 
 -- a record that is read from a text takes a byte of it, and leaves the state between two records
 record TakesRecord (s : State) (text : List ℕ) (p : Read) : Type 0 where
@@ -52,33 +34,17 @@ record TakesRecord (s : State) (text : List ℕ) (p : Read) : Type 0 where
   between : ends_at_end p.1 ≡ false
   shorter : ends_at_end s ≡ false → length p.2 < length text
 
--- what is read once this byte was taken
-abbrev after_byte : State → ℕ → List (List ℕ) → List ℕ → List ℕ → Option Read
-after_byte s c fields field rest =
-    next_record default_config (step default_config s c).0 (fields_after (step default_config s c).1 fields field) (field_after (step default_config s c).1 c field) rest
-
 takes_record : (s : State) (fields : List (List ℕ)) (field text : List ℕ) (p : Read) → next_record default_config s fields field text ≡ Some p → TakesRecord s text p
 unfolding next_record
-takes_record s fields field [] p e = at_end (ends_at_end s) refl e
-  where
-    at_end : (b : Bool) → ends_at_end s ≡ b → (if b then Some (fields ++ (field ∷ []), st.StartRecord, []) else None) ≡ Some p → TakesRecord s [] p
-    at_end true is e =
-        let same : (fields ++ (field ∷ []), st.StartRecord, []) ≡ p = cc in
-        let P : Read → Type 0 = λ q. TakesRecord s [] q in
-        subst P same (record { no_longer = omega arith; between = refl; shorter = λ no_end. absurd cc })
-    at_end false is e = absurd cc
-takes_record s fields field (c ∷ rest) p e = at_byte (takes_record (step default_config s c).0 _ _ rest p) (is_end (step default_config s c).1) refl e
-  where
-    at_byte : (after_byte s c fields field rest ≡ Some p → TakesRecord (step default_config s c).0 rest p) → (b : Bool) → is_end (step default_config s c).1 ≡ b
-        → (if b then Some (fields_after (step default_config s c).1 fields field, (step default_config s c).0, rest) else after_byte s c fields field rest) ≡ Some p
-        → TakesRecord s (c ∷ rest) p
-    at_byte again true is e =
-        let same : (fields_after (step default_config s c).1 fields field, (step default_config s c).0, rest) ≡ p = cc in
-        let P : Read → Type 0 = λ q. TakesRecord s (c ∷ rest) q in
-        subst P same (record { no_longer = omega arith; between = step-between s c is; shorter = λ _. omega arith })
-    at_byte again false is e =
-        let t = again e in
-        record { no_longer = (let l = t.no_longer in omega arith); between = t.between; shorter = λ _. (let l = t.no_longer in omega arith) }
+takes_record s fields field [] p e =
+    let is = cond_some (ends_at_end s) (fields ++ (field ∷ []), st.StartRecord, []) p e in
+    rw (← is.1) (record { no_longer = omega arith; between = refl; shorter = λ no_end. absurd (true≢false (sym is.0 ∙ no_end)) })
+takes_record s fields field (c ∷ rest) p e = elim (cases_Bool (is_end (step default_config s c).1)) [
+  | inl is ↦ (let same = same_Some (fields_after (step default_config s c).1 fields field, (step default_config s c).0, rest) p (rw is at e) in
+      rw (← same) (record { no_longer = omega arith; between = step-between s c is; shorter = λ _. omega arith }))
+  | inr is ↦ (let t = takes_record (step default_config s c).0 _ _ rest p (rw is at e) in
+      let l = t.no_longer in record { no_longer = omega arith; between = t.between; shorter = λ _. omega arith })
+]
 
 -- once there are more turns than bytes, how many there are makes no difference
 records_from-turns : (n m : ℕ) (s : State) (text : List ℕ) → ends_at_end s ≡ false → length text < n → length text < m

@@ -1,18 +1,19 @@
 -- The code's rule for the word of a line and the one in the file's words are the same, and such lines are cut as they stand.
-use Rattle.std.proofs.Common.{◌≡◌, ◌∙◌, sym, ap, refl, subst, ℕ, ◌+◌, ◌*◌, ◌-◌, List, [], ◌∷◌, ◌++◌, length, take, drop, Bool, true, false, arith, Option, Some, None, Ok, Err, append_assoc}
-use Rattle.std.specs.Prelude.{Result, All, fold, codes, option_map, option_and_then, if◌then◌else◌}
+use Rattle.std.proofs.Common.{◌≡◌, ◌∙◌, sym, ap, refl, subst, ℕ, ◌+◌, ◌*◌, ◌-◌, List, [], ◌∷◌, ◌++◌, length, take, drop, false, arith, Option, Some, None, Ok, Err, append_assoc}
+use Rattle.std.specs.Prelude.{Result, All, fold, codes, option_map}
 use Rattle.std.specs.Char.{is_newline}
 use Rattle.std.specs.Int.{from_be_bytes, w16}
 use Rattle.std.specs.List.{AllZip, concat}
 use Rattle.std.specs.Result.{result_ok}
 use Rattle.std.specs.Str.{bytes_eq}
-use Rattle.std.proofs.lemmas.Bool.{eqb-true}
+use Rattle.std.proofs.lemmas.Bool.{eqb-true, false_from_ne_true}
 use Rattle.std.proofs.lemmas.List.{take-append-drop}
 use Rattle.std.proofs.lemmas.List.Elements.{All-nil, All-cons, All-head, All-tail}
 use Rattle.std.proofs.lemmas.Slice.Eq.{bytes_eq-Decides}
 use Rattle.hex.specs.Hex.{decode_pairs, decode_sized, digit_or_error, hex_digit_value, ◌>>=◌}
 use Rattle.hex.specs.declared.error.FromHexError.{FromHexError}
 use Rattle.hex.proofs.HexLemmas.{decode_sized-ok}
+use Rattle.std.proofs.lemmas.Option.{cond_some, option_and_then_some}
 use Rattle.eg_input.specs.Images.{Line, lines_of, word_of_digits, word_of, WritesWord, WritesSome}
 use Rattle.eg_input.proofs.LineLemmas.{lines_of-line}
 
@@ -71,23 +72,19 @@ word_of_digits-length digits word is = at (decode_sized digits 2) refl is
 -- a line that writes a word by the code's rule is such digits and a line feed
 pub written-word_of : (line : Line) (word : ℕ) → word_of line ≡ Some word → WritesWord line word
 unfolding word_of
-written-word_of line word is = at (bytes_eq (drop (length line - 1) line) (codes "\n")) refl is
-  where
-    at : (b : Bool) → bytes_eq (drop (length line - 1) line) (codes "\n") ≡ b → option_and_then word_of_digits (if b then Some (take (length line - 1) line) else None) ≡ Some word
-        → WritesWord line word
-    at true ends h =
-        let feed : drop (length line - 1) line ≡ codes "\n" = (bytes_eq-Decides (drop (length line - 1) line) (codes "\n")).0 ends in
-        let long = word_of_digits-length (take (length line - 1) line) word h in
-        let some = word_of_digits-some (take (length line - 1) line) word long h in
-        record {
-          digits = take (length line - 1) line;
-          values = some.0;
-          parts = sym (take-append-drop (length line - 1) line) ∙ ap (λ (bs : List ℕ). take (length line - 1) line ++ bs) feed;
-          four = long;
-          written = some.1;
-          number = some.2;
-        }
-    at false ends h = absurd cc
+written-word_of line word is = option_and_then_some word_of_digits _ word is (λ digits cut h.
+    let ends = cond_some (bytes_eq (drop (length line - 1) line) (codes "\n")) (take (length line - 1) line) digits cut in
+    let feed : drop (length line - 1) line ≡ codes "\n" = (bytes_eq-Decides (drop (length line - 1) line) (codes "\n")).0 ends.0 in
+    let long = word_of_digits-length digits word h in
+    let some = word_of_digits-some digits word long h in
+    record {
+      digits = digits;
+      values = some.0;
+      parts = sym (take-append-drop (length line - 1) line) ∙ rw (ends.1, feed) refl;
+      four = long;
+      written = some.1;
+      number = some.2;
+    })
 
 -- four digits and a line feed write their word by the code's rule
 word_of-digits : (digits values : List ℕ) → length digits ≡ 4 → AllZip (λ digit value. hex_digit_value digit ≡ Some value) digits values
@@ -111,15 +108,7 @@ word_of-written line word h = ap word_of h.parts ∙ word_of-digits h.digits h.v
 
 -- a line feed is no digit
 not_newline : (digit value : ℕ) → hex_digit_value digit ≡ Some value → is_newline digit ≡ false
-not_newline digit value is = at (is_newline digit) refl
-  where
-    at : (b : Bool) → is_newline digit ≡ b → is_newline digit ≡ false
-    at true feed =
-        let ten : digit ≡ 10 = eqb-true digit 10 feed in
-        let P : ℕ → Type 0 = λ n. hex_digit_value n ≡ Some value in
-        let none = subst P ten is in
-        absurd cc
-    at false feed = feed
+not_newline digit value is = false_from_ne_true (is_newline digit) (λ feed. let none = rw (eqb-true digit 10 feed) at is in cc)
 
 digits-lack_newline : (digits values : List ℕ) → AllZip (λ digit value. hex_digit_value digit ≡ Some value) digits values → All (λ b. is_newline b ≡ false) digits
 digits-lack_newline [] values h = All-nil _

@@ -1,13 +1,14 @@
 -- A key has no refusal exactly if it holds what it may.
-use Rattle.std.proofs.Common.{◌≡◌, ◌↔◌, ◌⊎◌, inl, inr, ℕ, ℤ, pos, negsuc, ◌+◌, ◌≤◌, ◌==◌, ◌&&◌, ◌||◌, nat_le, not, Bool, true, false, length, List, [], ◌∷◌, All, bytes_eq, codes, Option, Some, None, unwrap_or, if◌then◌else◌, subst, refl, sym, ap, ◌∙◌, arith}
+use Rattle.std.proofs.Common.{◌≡◌, ◌↔◌, ◌⊎◌, inl, inr, ℕ, ℤ, pos, negsuc, ◌+◌, ◌≤◌, ◌==◌, ◌&&◌, nat_le, not, Bool, true, length, List, [], ◌∷◌, All, bytes_eq, codes, Option, Some, None, unwrap_or, subst, refl, sym, ap, ◌∙◌, arith}
 use Rattle.std.specs.Bool.{⊤}
 use Rattle.std.specs.List.{list_all, sum}
-use Rattle.std.proofs.lemmas.Bool.{and_parts, and_from, le-leb, leb-true}
+use Rattle.std.proofs.lemmas.Bool.{and_parts, and_from, le-leb, leb-true, or_cases, cases_Bool}
 use Rattle.std.proofs.lemmas.Bool.Decides.{nat_tests}
 use Rattle.std.proofs.lemmas.List.Elements.{All-nil, All-cons, All-head, All-tail, All-weaker}
 use Rattle.std.proofs.lemmas.List.Sums.{AllPass-from_list_all, list_all-from_AllPass, sum_by-cons}
 use Rattle.std.proofs.lemmas.Slice.Eq.{bytes_eq-Decides}
 use Rattle.toml.specs.Data.{Data, string, integer, boolean, Members, get_member, as_str}
+use Rattle.std.proofs.lemmas.Option.{cond_some, same_Some}
 use Rattle.eg_toml.specs.Values.{◌>>=◌}
 use Rattle.eg_toml.specs.Arrays.{is_rising}
 use Rattle.eg_toml.specs.Refusals.{unless_some}
@@ -55,44 +56,22 @@ may-kept exact usual other (Some d) keeps (inr h) = kept exact (Some d) other h
 
 -- ---- names
 
-either : (a b : Bool) → (a || b) ≡ true → (a ≡ true) ⊎ (b ≡ true)
-either true b e = inl refl
-either false b e = inr e
-
-or-left : (a b : Bool) → a ≡ true → (a || b) ≡ true
-or-left a b e = rw e refl
-
-or-right : (a b : Bool) → b ≡ true → (a || b) ≡ true
-or-right true b e = refl
-or-right false b e = e
-
 plain : (c : ℕ) → is_plain c ≡ true → IsLetter c ⊎ IsDigit c
-plain c e = of (either (nat_le 97 c && nat_le c 122) (nat_le 48 c && nat_le c 57) e)
-  where
-    of : ((nat_le 97 c && nat_le c 122) ≡ true) ⊎ ((nat_le 48 c && nat_le c 57) ≡ true) → IsLetter c ⊎ IsDigit c
-    of (inl h) = let p = and_parts (nat_le 97 c) (nat_le c 122) h in inl (leb-true 97 c p.0, leb-true c 122 p.1)
-    of (inr h) = let p = and_parts (nat_le 48 c) (nat_le c 57) h in inr (leb-true 48 c p.0, leb-true c 57 p.1)
+plain c e = elim (or_cases (nat_le 97 c && nat_le c 122) (nat_le 48 c && nat_le c 57) e) [
+  | inl h ↦ (let p = and_parts (nat_le 97 c) (nat_le c 122) h in inl (leb-true 97 c p.0, leb-true c 122 p.1))
+  | inr h ↦ (let p = and_parts (nat_le 48 c) (nat_le c 57) h in inr (leb-true 48 c p.0, leb-true c 57 p.1))
+]
 
 plain-true : (c : ℕ) → IsLetter c ⊎ IsDigit c → is_plain c ≡ true
-plain-true c (inl h) = or-left _ _ (and_from _ _ (le-leb 97 c h.0) (le-leb c 122 h.1))
-plain-true c (inr h) = or-right _ _ (and_from _ _ (le-leb 48 c h.0) (le-leb c 57 h.1))
-
-equal : (a b : ℕ) → (a == b) ≡ true → a ≡ b
-equal a b e = grind (arith, nat_tests)
-
-equal-true : (a b : ℕ) → a ≡ b → (a == b) ≡ true
-equal-true a b e = grind (arith, nat_tests)
+plain-true c (inl h) = let (a, b) = h in grind (arith, nat_tests)
+plain-true c (inr h) = let (a, b) = h in grind (arith, nat_tests)
 
 in_name : (c : ℕ) → is_in_name c ≡ true → IsInName c
-in_name c e = of (either (is_plain c) (c == 45) e)
-  where
-    of : (is_plain c ≡ true) ⊎ ((c == 45) ≡ true) → IsInName c
-    of (inl h) = inl (plain c h)
-    of (inr h) = inr (equal c 45 h)
+in_name c e = elim (or_cases (is_plain c) (c == 45) e) [ inl h ↦ inl (plain c h) | inr h ↦ inr (grind (arith, nat_tests)) ]
 
 in_name-true : (c : ℕ) → IsInName c → is_in_name c ≡ true
-in_name-true c (inl h) = or-left _ _ (plain-true c h)
-in_name-true c (inr e) = or-right _ _ (equal-true c 45 e)
+in_name-true c (inl h) = rw (plain-true c h) refl
+in_name-true c (inr e) = grind (arith, nat_tests)
 
 no_dash : (c : ℕ) → IsLetter c ⊎ IsDigit c → c ≡ 45 → ⊥
 no_dash c (inl h) e = let (a, b) = h in omega arith
@@ -129,11 +108,7 @@ other : (a b : ℕ) → not (a == b) ≡ true → a ≡ b → ⊥
 other a b e same = grind (arith, nat_tests)
 
 other-true : (a b : ℕ) → (a ≡ b → ⊥) → not (a == b) ≡ true
-other-true a b h = of (a == b) refl
-  where
-    of : (t : Bool) → (a == b) ≡ t → not t ≡ true
-    of true e = absurd (h (equal a b e))
-    of false e = refl
+other-true a b h = grind (arith, nat_tests)
 
 file-passed : (text : List ℕ) → is_file_name text ≡ true → IsFileName text
 file-passed [] e = absurd (cc)
@@ -197,13 +172,11 @@ pub usual-kept : IsSlicePlan usual_slices
 usual-kept = record { from = omega arith; to = omega arith; each = All-cons IsSliceRow _ [] (refl, omega arith) (All-nil IsSliceRow) }
 
 named-is : (text : List ℕ) (engine : EngineKind) → engine_named text ≡ Some engine → string text ≡ engine_word engine
-named-is text engine e = of (bytes_eq text (codes "gasoline")) (bytes_eq text (codes "diesel")) refl refl e
-  where
-    of : (a b : Bool) → bytes_eq text (codes "gasoline") ≡ a → bytes_eq text (codes "diesel") ≡ b
-        → (if a then Some Gasoline else if b then Some Diesel else None) ≡ Some engine → string text ≡ engine_word engine
-    of true b is other e = let same : Gasoline ≡ engine = cc in ap string ((bytes_eq-Decides text (codes "gasoline")).0 is) ∙ ap engine_word same
-    of false true other is e = let same : Diesel ≡ engine = cc in ap string ((bytes_eq-Decides text (codes "diesel")).0 is) ∙ ap engine_word same
-    of false false other more e = absurd (cc)
+named-is text engine e = elim (cases_Bool (bytes_eq text (codes "gasoline"))) [
+  | inl is ↦ ap string ((bytes_eq-Decides text (codes "gasoline")).0 is) ∙ ap engine_word (same_Some Gasoline engine (rw is at e))
+  | inr more ↦ (let is = cond_some (bytes_eq text (codes "diesel")) Diesel engine (rw more at e) in
+      ap string ((bytes_eq-Decides text (codes "diesel")).0 is.0) ∙ ap engine_word is.1)
+]
 
 engine-exact : IsExact engine_in engine_word (λ engine. ⊤)
 engine-exact = record {

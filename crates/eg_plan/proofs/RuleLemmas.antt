@@ -1,7 +1,7 @@
 -- A document is accepted exactly if it keeps the rules, and its runs then keep theirs.
-use Rattle.std.proofs.Common.{◌≡◌, inl, inr, ℕ, suc, ◌+◌, ◌-◌, ◌≤◌, ◌<◌, nat_le, not, is_some, Bool, true, false, length, map, List, [], ◌∷◌, ◌++◌, All, bytes_eq, codes, Option, Some, None, option_map, unwrap_or, slice_index_or, Result, Ok, Err, IfOk, subst, refl, sym, ap, ap₂, ◌∙◌, arith}
+use Rattle.std.proofs.Common.{◌≡◌, inl, inr, ℕ, suc, ◌+◌, ◌-◌, ◌≤◌, ◌<◌, nat_le, not, is_some, true, false, length, map, List, [], ◌∷◌, ◌++◌, All, bytes_eq, codes, Option, Some, None, option_map, unwrap_or, slice_index_or, Result, Ok, Err, IfOk, subst, refl, sym, ap, ap₂, ◌∙◌, arith}
 use Rattle.std.specs.List.{AllPairs, AllByRecursion}
-use Rattle.std.proofs.lemmas.Bool.{and_parts, and_from, or_parts, le-leb, leb-true}
+use Rattle.std.proofs.lemmas.Bool.{and_parts, and_from, or_parts, le-leb, leb-true, not-true, true≢false, false_from_ne_true}
 use Rattle.std.proofs.lemmas.List.{length-map}
 use Rattle.std.proofs.lemmas.List.Elements.{All-nil, All-cons, All-head, All-tail, All-map, All-weaker}
 use Rattle.std.proofs.lemmas.List.Folds.{list_any-append}
@@ -199,10 +199,6 @@ faults-said n (Some d) (inr h) = subst (HasFaults n) (sym h.is) (few-said n h.va
 
 -- ---- a run
 
-not-false : (b : Bool) → not b ≡ true → b ≡ false
-not-false true e = absurd (cc)
-not-false false e = refl
-
 -- no earlier run has the name of this one
 abbrev IsNew : List RunPlan → RunPlan → Type 0
 IsNew earlier run = has_name run.name earlier ≡ false
@@ -214,7 +210,7 @@ run-held n earlier ms e =
     ∷ unless_true (Name n) (not (has_name (bytes_of name ms) earlier)) ∷ []) e in
     let known = and_parts (all_names (is_among run_names) ms) (table_is_known (fault_table ms)) (unless_true-none (Key n key.Unknown) _ h.1.1.1.0) in (
       record { keys = keys-held n ms run_keys h.0; faults = faults-held n (get_member (codes "faults") ms) h.1.0 h.1.1.0 known.1; names = known.0 },
-      not-false _ (unless_true-none (Name n) _ h.1.1.1.1.0),
+      not-true _ (unless_true-none (Name n) _ h.1.1.1.1.0),
     )
 
 held-run : (n : ℕ) (earlier : List RunPlan) (ms : Members) → IsRunTable ms → IsNew earlier (run_of ms) → run_refusal n earlier ms ≡ None
@@ -249,16 +245,10 @@ fewer text earlier more e =
 differ : (r run : RunPlan) → IsNew (r ∷ []) run → Differ r run
 differ r run e same =
     let here : bytes_eq r.name run.name ≡ true = (bytes_eq-Decides r.name run.name).1 same in
-    let (unlike, rest) = or_parts (bytes_eq r.name run.name) false e in
-    let wrong : true ≡ false = sym here ∙ unlike in
-    absurd cc
+    true≢false (sym here ∙ (or_parts (bytes_eq r.name run.name) false e).0)
 
 unlike : (a b : List ℕ) → (a ≡ b → ⊥) → bytes_eq a b ≡ false
-unlike a b h = of (bytes_eq a b) refl
-  where
-    of : (t : Bool) → bytes_eq a b ≡ t → t ≡ false
-    of true e = absurd (h ((bytes_eq-Decides a b).0 e))
-    of false e = refl
+unlike a b h = false_from_ne_true (bytes_eq a b) (λ e. h ((bytes_eq-Decides a b).0 e))
 
 one-more : (earlier : List RunPlan) (r run : RunPlan) → IsNew earlier run → Differ r run → IsNew (earlier ++ r ∷ []) run
 one-more earlier r run new apart =

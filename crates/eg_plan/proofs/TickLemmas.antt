@@ -1,6 +1,7 @@
 -- A campaign file is never refused for ticks.
 use Rattle.std.proofs.Common.{◌≡◌, ℕ, ◌+◌, Bool, true, false, not, nat_le, List, [], ◌∷◌, ◌++◌, Option, Some, None, Err, refl, sym, ap, ◌∙◌}
 use Rattle.toml.specs.Data.{Data, Members, Items, no_items, item, get_member, as_array}
+use Rattle.std.proofs.lemmas.Bool.{true≢false}
 use Rattle.eg_toml.specs.Values.{number_at}
 use Rattle.eg_toml.specs.Arrays.{count}
 use Rattle.eg_plan.specs.declared.key.RunKey.TheVariants as key
@@ -98,10 +99,7 @@ file-other ms =
 
 refused : {X : Type 0} (f : Option CampaignFault) (x : X) (n : ℕ) → IsOther f → unless f x ≡ Err (Ticks n) → ⊥
 refused None x n h e = absurd (cc)
-refused (Some f) x n h e =
-    let same : f ≡ Ticks n = cc in
-    let wrong : true ≡ false = sym (ap is_ticks same) ∙ h in
-    absurd cc
+refused (Some f) x n h e = let same : f ≡ Ticks n = cc in true≢false (sym (ap is_ticks same) ∙ h)
 
 pub no_ticks : NoTicksLaw
 no_ticks None n e = absurd (cc)

@@ -1,4 +1,4 @@
-use Rattle.std.proofs.Common.{◌≡◌, ◌-◌, take, true, min}
+use Rattle.std.proofs.Common.{◌≡◌, take, true, min}
 use Rattle.std.specs.Char.{is_ascii_digit}
 use Rattle.std.specs.List.{list_all}
 use Rattle.eg_input.specs.Fields.{decimal_value}
