@@ -16,26 +16,37 @@ same_part : {A B : Type 0} (f : A → B) (b : Bool) (x y : A) → f x ≡ f y �
 same_part f true x y e = e
 same_part f false x y e = refl
 
--- ---- the flow ----
+-- ---- the flow and the last tick ----
 
-flow_step : (d : Doing) (i : ℕ) (w : Words) → i < 6 → (after_module d (suc i) w).flow ≡ w.flow
+-- what modules 1 to 6 leave as it is
+abbrev Leaves : Words → Words → Type 0
+Leaves before after = (after.flow ≡ before.flow) × (after.last ≡ before.last)
+
+leaves_if : (b : Bool) (before after : Words) → Leaves before after → Leaves before (if b then after else before)
+leaves_if true before after left = left
+leaves_if false before after left = (refl, refl)
+
+leaves_step : (d : Doing) (i : ℕ) (w : Words) → i < 6 → Leaves w (after_module d (suc i) w)
 unfolding after_module module_step pedal_step permitted_step actual_step excess_step pairs_step debounce_step
-flow_step d zero w h = same_part (λ (w : Words). w.flow) (d.ran 1) _ w refl
-flow_step d (suc zero) w h = same_part (λ (w : Words). w.flow) (d.ran 2) _ w refl
-flow_step d (suc (suc zero)) w h = same_part (λ (w : Words). w.flow) (d.ran 3) _ w refl
-flow_step d (suc (suc (suc zero))) w h = same_part (λ (w : Words). w.flow) (d.ran 4) _ w refl
-flow_step d (suc (suc (suc (suc zero)))) w h = same_part (λ (w : Words). w.flow) (d.ran 5) _ w refl
-flow_step d (suc (suc (suc (suc (suc zero))))) w h = same_part (λ (w : Words). w.flow) (d.ran 6) _ w refl
-flow_step d (suc (suc (suc (suc (suc (suc i)))))) w h = absurd (omega arith)
+leaves_step d zero w h = leaves_if (d.ran 1) w _ (refl, refl)
+leaves_step d (suc zero) w h = leaves_if (d.ran 2) w _ (refl, refl)
+leaves_step d (suc (suc zero)) w h = leaves_if (d.ran 3) w _ (refl, refl)
+leaves_step d (suc (suc (suc zero))) w h = leaves_if (d.ran 4) w _ (refl, refl)
+leaves_step d (suc (suc (suc (suc zero)))) w h = leaves_if (d.ran 5) w _ (refl, refl)
+leaves_step d (suc (suc (suc (suc (suc zero))))) w h = leaves_if (d.ran 6) w _ (refl, refl)
+leaves_step d (suc (suc (suc (suc (suc (suc i)))))) w h = absurd (omega arith)
 
--- the modules 1 to 6 leave it as check left it
-flow-checked : (d : Doing) (w : Words) (n : ℕ) → n ≤ 6 → (after_modules d (suc n) w).flow ≡ (after_module d 0 w).flow
+-- as check left it
+checked : (d : Doing) (w : Words) (n : ℕ) → n ≤ 6 → Leaves (after_module d 0 w) (after_modules d (suc n) w)
 unfolding after_modules
-flow-checked d w zero h = refl
-flow-checked d w (suc n) h = flow_step d n (after_modules d (suc n) w) (omega arith) ∙ flow-checked d w n (omega arith)
+checked d w zero h = (refl, refl)
+checked d w (suc n) h =
+    let step = leaves_step d n (after_modules d (suc n) w) (omega arith) in
+    let before = checked d w n (omega arith) in
+    (step.0 ∙ before.0, step.1 ∙ before.1)
 
 pub flow-at_react : (d : Doing) (w : Words) → (at_react d w).flow ≡ (after_module d 0 w).flow
-flow-at_react d w = flow-checked d w 6 (omega arith)
+flow-at_react d w = (checked d w 6 (omega arith)).0
 
 -- the flow after check, whatever a word of it is
 check-any : (d : Doing) (w : Words) → (after_module d 0 w).flow
@@ -49,31 +60,9 @@ check-flow : (d : Doing) (w : Words) → d.differs ≡ false → d.ran 0 ≡ tru
     (after_module d 0 w).flow ≡ (if (w.last + 1) % 65536 == d.tick then w.flow else marked w.flow)
 check-flow d w e r = check-any d w ∙ rw (e, r) refl
 
--- ---- the last tick ----
-
-last_step : (d : Doing) (i : ℕ) (w : Words) → i < 7 → (after_module d (suc i) w).last ≡ w.last
-unfolding after_module module_step pedal_step permitted_step actual_step excess_step pairs_step debounce_step react_step
-last_step d zero w h = same_part (λ (w : Words). w.last) (d.ran 1) _ w refl
-last_step d (suc zero) w h = same_part (λ (w : Words). w.last) (d.ran 2) _ w refl
-last_step d (suc (suc zero)) w h = same_part (λ (w : Words). w.last) (d.ran 3) _ w refl
-last_step d (suc (suc (suc zero))) w h = same_part (λ (w : Words). w.last) (d.ran 4) _ w refl
-last_step d (suc (suc (suc (suc zero)))) w h = same_part (λ (w : Words). w.last) (d.ran 5) _ w refl
-last_step d (suc (suc (suc (suc (suc zero))))) w h = same_part (λ (w : Words). w.last) (d.ran 6) _ w refl
-last_step d (suc (suc (suc (suc (suc (suc zero)))))) w h = same_part (λ (w : Words). w.last) (d.ran 7) _ w refl
-last_step d (suc (suc (suc (suc (suc (suc (suc i))))))) w h = absurd (omega arith)
-
-pub last-checked : (d : Doing) (w : Words) (n : ℕ) → n ≤ 7 → (after_modules d (suc n) w).last ≡ (after_module d 0 w).last
-unfolding after_modules
-last-checked d w zero h = refl
-last-checked d w (suc n) h = last_step d n (after_modules d (suc n) w) (omega arith) ∙ last-checked d w n (omega arith)
-
 check-last : (d : Doing) (w : Words) → d.differs ≡ false → d.ran 0 ≡ true → (after_module d 0 w).last ≡ d.tick
 unfolding after_module module_step check_step inputs_for
 check-last d w e r = rw (e, r) refl
-
-pub last-after : (d : Doing) (w : Words) → d.differs ≡ false → d.ran 0 ≡ true → (after_tick d w).last ≡ d.tick
-unfolding after_tick
-last-after d w e r = last-checked d w 7 (omega arith) ∙ check-last d w e r
 
 -- ---- react ----
 
@@ -85,6 +74,13 @@ after_tick-is d w = refl
 react-token : (d : Doing) (w : Words) → d.ran 7 ≡ true → (after_module d 7 w).token ≡ 0
 unfolding after_module module_step react_step
 react-token d w r = rw r refl
+
+react-last : (d : Doing) (w : Words) → (after_module d 7 w).last ≡ w.last
+unfolding after_module module_step react_step
+react-last d w = same_part (λ (w : Words). w.last) (d.ran 7) _ w refl
+
+pub last-after : (d : Doing) (w : Words) → d.differs ≡ false → d.ran 0 ≡ true → (after_tick d w).last ≡ d.tick
+last-after d w e r = ap (λ (w : Words). w.last) (after_tick-is d w) ∙ react-last d (at_react d w) ∙ (checked d w 6 (omega arith)).1 ∙ check-last d w e r
 
 pub react_clears : ReactClears
 react_clears d w r = ap (λ (w : Words). w.token) (after_tick-is d w) ∙ react-token d (at_react d w) r

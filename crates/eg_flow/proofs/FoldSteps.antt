@@ -1,7 +1,7 @@
 -- The fold tells whether a module is disturbed.
-use Rattle.std.proofs.Common.{◌≡◌, ◌≢◌, ℕ, zero, suc, ◌^◌, ◌≤◌, ◌<◌, inl, inr, true, false, List, [], ◌∷◌, length, refl, sym, ap, ◌∙◌, arith}
+use Rattle.std.proofs.Common.{◌≡◌, ◌≢◌, ℕ, zero, suc, ◌^◌, ◌≤◌, ◌<◌, inl, inr, true, false, List, [], ◌∷◌, length, get_or, refl, sym, ap, ◌∙◌, arith}
 use Rattle.std.specs.Prelude.{if◌then◌else◌, ◌==◌, bit_xor, slice_set, All}
-use Rattle.std.specs.List.{list_all}
+use Rattle.std.proofs.lemmas.List.Folds.{list_all_at, list_all-append}
 use Rattle.std.specs.Int.{w16, rotate_left}
 use Rattle.std.specs.Int.Bits.{xor_assoc, xor_self, xor_zero_l, xor_zero_r}
 use Rattle.std.proofs.lemmas.Nat.{xor_of_16}
@@ -15,6 +15,7 @@ use Rattle.eg_flow.specs.Ticks.{Doing, inputs_for, after_module, after_modules}
 use Rattle.eg_answer.specs.Modules.{modules_before_react, modules, AllRun, NoneIsDisturbed, OneIsDisturbed}
 use Rattle.eg_flow.specs.Flow.{row_asked, expected_fold, FitsWords, is_undisturbed}
 use Rattle.eg_flow.specs.Laws.{at_react, FoldTells}
+use Rattle.eg_flow.proofs.TickSteps.{before-is}
 
 -- ---- the fold as react begins ----
 
@@ -140,19 +141,14 @@ none_told : (d : Doing) → NoneIsDisturbed d.disturbance → is_undisturbed d �
 unfolding is_undisturbed modules_before_react modules
 none_told d z = rw (z 0, z 1, z 2, z 3, z 4, z 5, z 6, z 7) refl
 
-is_disturbed : (d : ℕ → ℕ) (one mask : ℕ) → 1 ≤ one → one ≤ 5 → (mask == 0) ≡ false → ((i : ℕ) → d i ≡ (if i == one then mask else 0)) → list_all (λ i. d i == 0) modules ≡ false
-unfolding modules_before_react modules
-is_disturbed d zero mask from to some is = absurd (omega arith)
-is_disturbed d (suc zero) mask from to some is = rw (is 0, is 1, some) refl
-is_disturbed d (suc (suc zero)) mask from to some is = rw (is 0, is 1, is 2, some) refl
-is_disturbed d (suc (suc (suc zero))) mask from to some is = rw (is 0, is 1, is 2, is 3, some) refl
-is_disturbed d (suc (suc (suc (suc zero)))) mask from to some is = rw (is 0, is 1, is 2, is 3, is 4, some) refl
-is_disturbed d (suc (suc (suc (suc (suc zero))))) mask from to some is = rw (is 0, is 1, is 2, is 3, is 4, is 5, some) refl
-is_disturbed d (suc (suc (suc (suc (suc (suc one)))))) mask from to some is = absurd (omega arith)
-
 one_told : (d : Doing) → OneIsDisturbed d.disturbance → is_undisturbed d ≡ false
-unfolding is_undisturbed
-one_told d one = is_disturbed d.disturbance one.one one.mask one.from_1 one.to_5 (ne_eqb one.mask 0 (λ e. let some = one.some in omega arith)) one.alone
+unfolding is_undisturbed modules
+one_told d one =
+    let from = one.from_1 in let to = one.to_5 in let some = one.some in
+    let at : (d.disturbance (get_or modules_before_react one.one 0) == 0) ≡ false =
+    rw (before-is one.one (omega arith), one.alone one.one, eq-eqb one.one one.one refl) (ne_eqb one.mask 0 (λ e. omega arith)) in
+    list_all-append (λ i. d.disturbance i == 0) modules_before_react (7 ∷ [])
+    ∙ rw (list_all_at (λ i. d.disturbance i == 0) modules_before_react one.one 0 (unfold modules_before_react in omega arith) at) refl
 
 pub fold_tells : FoldTells
 fold_tells d w all e fits (inl none) =

@@ -1,8 +1,9 @@
 -- Steady words: which ticks keep them, and what they answer.
-use Rattle.std.proofs.Common.{◌≡◌, ℕ, zero, suc, ◌+◌, ◌*◌, ◌%◌, ◌≤◌, ◌<◌, ◌⊎◌, inl, inr, Bool, true, false, ◌&&◌, ◌||◌, [], ◌∷◌, length, refl, sym, subst, ◌∙◌, arith, is_some}
+use Rattle.std.proofs.Common.{◌≡◌, ℕ, suc, ◌+◌, ◌*◌, ◌%◌, ◌≤◌, ◌<◌, ◌⊎◌, inl, inr, Bool, true, false, ◌&&◌, ◌||◌, [], ◌∷◌, length, refl, sym, ap, subst, ◌∙◌, arith, is_some}
 use Rattle.std.specs.Prelude.{if◌then◌else◌, ◌==◌}
 use Rattle.std.specs.List.{list_all}
-use Rattle.std.proofs.lemmas.Bool.{eq-eqb, ne_eqb}
+use Rattle.std.proofs.lemmas.List.Folds.{list_all_at, list_all-append}
+use Rattle.std.proofs.lemmas.Bool.{eq-eqb, ne_eqb, cases_lt}
 use Rattle.std.proofs.lemmas.Bool.Decides.{eqb_tells}
 use Rattle.eg_answer.specs.Answers.{answer_number}
 use Rattle.eg_level2.specs.Words.{Words, start}
@@ -12,6 +13,7 @@ use Rattle.eg_answer.specs.Modules.{modules_before_react, modules, AllRun, NoneR
 use Rattle.eg_flow.specs.Flow.{is_whole, row_asked, expected_fold, expected_number, FitsWords, AreInOrder, AreTogether, words_after, whole_after, whole_since, IsSteady}
 use Rattle.eg_flow.specs.Laws.{at_react, NumberTells, SteadyStays, SteadyAnswers, GapAnswers, SteadyFromStart}
 use Rattle.eg_flow.proofs.FlowSteps.{whole_tick, empty_tick, closed-flow, marked-high, flow-after}
+use Rattle.eg_flow.proofs.TickSteps.{before-is}
 use Rattle.eg_flow.proofs.FoldSteps.{fold_tells, expected-word}
 
 -- ---- the number ----
@@ -130,28 +132,20 @@ steady_answers d w false e all fits most steady =
 
 -- a module before react that is left out
 gap_told : (d : Doing) (one : ℕ) → one < 7 → OthersRun one d.ran → list_all (λ i. d.ran i) modules_before_react ≡ false
-unfolding modules_before_react
-gap_told d zero h o = rw (o 0) refl
-gap_told d (suc zero) h o = rw (o 0, o 1) refl
-gap_told d (suc (suc zero)) h o = rw (o 0, o 1, o 2) refl
-gap_told d (suc (suc (suc zero))) h o = rw (o 0, o 1, o 2, o 3) refl
-gap_told d (suc (suc (suc (suc zero)))) h o = rw (o 0, o 1, o 2, o 3, o 4) refl
-gap_told d (suc (suc (suc (suc (suc zero))))) h o = rw (o 0, o 1, o 2, o 3, o 4, o 5) refl
-gap_told d (suc (suc (suc (suc (suc (suc zero)))))) h o = rw (o 0, o 1, o 2, o 3, o 4, o 5, o 6) refl
-gap_told d (suc (suc (suc (suc (suc (suc (suc one))))))) h o = absurd (omega arith)
+gap_told d one h o =
+    list_all_at (λ i. d.ran i) modules_before_react one 0 (unfold modules_before_react in h) (ap d.ran (before-is one h) ∙ o one ∙ rw (eq-eqb one one refl) refl)
 
 -- any module that is left out
 pub out_told : (d : Doing) (one : ℕ) → one < 8 → OthersRun one d.ran → is_whole d ≡ false
-unfolding is_whole modules_before_react modules
-out_told d zero h o = rw (o 0) refl
-out_told d (suc zero) h o = rw (o 0, o 1) refl
-out_told d (suc (suc zero)) h o = rw (o 0, o 1, o 2) refl
-out_told d (suc (suc (suc zero))) h o = rw (o 0, o 1, o 2, o 3) refl
-out_told d (suc (suc (suc (suc zero)))) h o = rw (o 0, o 1, o 2, o 3, o 4) refl
-out_told d (suc (suc (suc (suc (suc zero))))) h o = rw (o 0, o 1, o 2, o 3, o 4, o 5) refl
-out_told d (suc (suc (suc (suc (suc (suc zero)))))) h o = rw (o 0, o 1, o 2, o 3, o 4, o 5, o 6) refl
-out_told d (suc (suc (suc (suc (suc (suc (suc zero))))))) h o = rw (o 0, o 1, o 2, o 3, o 4, o 5, o 6, o 7) refl
-out_told d (suc (suc (suc (suc (suc (suc (suc (suc one)))))))) h o = absurd (omega arith)
+unfolding is_whole modules
+out_told d one h o = elim (cases_lt one 7) [
+  | inl before ↦ list_all-append (λ i. d.ran i) modules_before_react (7 ∷ []) ∙ rw (gap_told d one before o) refl
+  | inr last ↦ let is : one ≡ 7 = omega arith in list_all-append (λ i. d.ran i) modules_before_react (7 ∷ []) ∙ rw (o 7, is) (cases (list_all (λ i. d.ran i) modules_before_react))
+]
+  where
+    cases : (b : Bool) → (b && false) ≡ false
+    cases true = refl
+    cases false = refl
 
 pub gap_answers : GapAnswers
 gap_answers d w one e others below fits z =

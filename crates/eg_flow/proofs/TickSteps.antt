@@ -1,6 +1,9 @@
 -- What a tick makes of the token, the flow, the last tick and the fold, module by module.
-use Rattle.std.proofs.Common.{◌≡◌, ℕ, zero, suc, ◌+◌, ◌-◌, ◌^◌, ◌≤◌, ◌<◌, ◌⊎◌, inl, inr, Bool, true, false, ◌&&◌, refl, ap, ◌∙◌, arith, add-one}
+use Rattle.std.proofs.Common.{◌≡◌, ℕ, zero, suc, ◌+◌, ◌-◌, ◌^◌, ◌≤◌, ◌<◌, ◌⊎◌, inl, inr, Bool, true, false, ◌&&◌, refl, sym, ap, subst, ◌∙◌, take, get_or, arith, add-one}
 use Rattle.std.specs.Prelude.{if◌then◌else◌, ◌==◌}
+use Rattle.std.specs.List.{list_all}
+use Rattle.std.proofs.lemmas.List.Folds.{list_all_more}
+use Rattle.std.proofs.lemmas.List.FromFn.{get_or-range_with_len}
 use Rattle.std.proofs.lemmas.Nat.{pow_pos, pow_below}
 use Rattle.std.proofs.Math.Pow.{pow_mono}
 use Rattle.eg_answer.specs.Token.{next_token_of}
@@ -55,9 +58,12 @@ behind_step i token false h (inl lost) = inl lost
 behind_step i token false h (inr less) = let more = pow_below i (suc i) (omega arith) in inr (omega arith)
 
 -- the first n modules, from 0 on: each ran and the token is 2^n - 1, or one didn't and it lies behind
-unfoldable first_ran : (ℕ → Bool) → ℕ → Bool
-first_ran ran zero = true
-first_ran ran (suc i) = first_ran ran i && ran i
+abbrev first_ran : (ℕ → Bool) → ℕ → Bool
+first_ran ran n = list_all (λ i. ran i) (take n modules_before_react)
+
+pub before-is : (i : ℕ) → i < 7 → get_or modules_before_react i 0 ≡ i
+unfolding modules_before_react
+before-is i h = get_or-range_with_len 0 7 i 0 h ∙ (omega arith)
 
 Told : Bool → ℕ → ℕ → Type 0
 Told true n token = token ≡ 2 ^ n - 1
@@ -70,9 +76,13 @@ told_step true false i token h e = unfold moved Behind in let more = pow_below i
 told_step false runs i token h b = behind_step i token runs h b
 
 chain-told : (ran : ℕ → Bool) (n : ℕ) → n ≤ 7 → Told (first_ran ran n) n (chain ran n 0)
-unfolding chain first_ran
+unfolding chain
 chain-told ran zero h = unfold Told in refl
-chain-told ran (suc i) h = told_step (first_ran ran i) (ran i) i (chain ran i 0) (omega arith) (chain-told ran i (omega arith))
+chain-told ran (suc i) h =
+    let within : i < 7 = omega arith in
+    let more : first_ran ran (suc i) ≡ (first_ran ran i && ran i) = ap (first_ran ran) (sym (add-one i)) ∙ list_all_more (λ i. ran i) modules_before_react i 0 (unfold modules_before_react in within)
+    ∙ ap (λ k. first_ran ran i && ran k) (before-is i within) in
+    subst (λ all. Told all (suc i) (chain ran (suc i) 0)) (sym more) (told_step (first_ran ran i) (ran i) i (chain ran i 0) (omega arith) (chain-told ran i (omega arith)))
 
 whole_told : (all : Bool) (token : ℕ) → Told all 7 token → (next_token_of token 7 == 255) ≡ all
 unfolding Told Behind
@@ -80,19 +90,8 @@ whole_told true token e = ap (λ t. next_token_of t 7 == 255) e ∙ unfold next_
 whole_told false token (inl lost) = ap (λ t. next_token_of t 7 == 255) lost ∙ unfold next_token_of in refl
 whole_told false token (inr less) = ap (λ t. t == 255) (next_token_of-other token 7 (λ e. omega arith))
 
-same_order : (a b c d e f g : Bool) → (true && a && b && c && d && e && f && g) ≡ (a && (b && (c && (d && (e && (f && (g && true)))))))
-same_order true true true true true true true = refl
-same_order true true true true true true false = refl
-same_order true true true true true false g = refl
-same_order true true true true false f g = refl
-same_order true true true false e f g = refl
-same_order true true false d e f g = refl
-same_order true false c d e f g = refl
-same_order false b c d e f g = refl
-
 pub token_tells : TokenTells
-unfolding first_ran modules_before_react
+unfolding modules_before_react
 token_tells d w e z =
     ap (λ t. next_token_of t 7 == 255) (token-chain d w 7 e (omega arith) ∙ ap (chain d.ran 7) z)
     ∙ whole_told (first_ran d.ran 7) (chain d.ran 7 0) (chain-told d.ran 7 (omega arith))
-    ∙ same_order (d.ran 0) (d.ran 1) (d.ran 2) (d.ran 3) (d.ran 4) (d.ran 5) (d.ran 6)

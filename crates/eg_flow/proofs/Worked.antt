@@ -5,64 +5,28 @@ use Rattle.eg_num.specs.Interpolation.{value_at}
 use Rattle.eg_num.specs.Counting.{fed}
 use Rattle.eg_torque.specs.Permit.{permitted}
 use Rattle.eg_torque.specs.Excess.{is_excess}
-use Rattle.eg_sensor.specs.Readings.{has_bit, sound_readings}
+use Rattle.eg_sensor.specs.Readings.{has_bit}
 use Rattle.eg_answer.specs.Folds.{mixed, fold_of}
 use Rattle.eg_answer.specs.Formulas.{permitted_torque, estimated_torque, excess_number, disagreeing_pairs}
 use Rattle.eg_answer.specs.Answers.{pedal_result, permitted_result, estimate_result, excess_result, pairs_result, results_of, expected_of, answer_number}
 use Rattle.eg_answer.specs.Token.{next_token_of}
-use Rattle.eg_answer.specs.declared.rules.Rules.{Rules}
-use Rattle.eg_answer.specs.declared.questions.Question.{Question}
 use Rattle.eg_level2.specs.declared.phase.Phase.{Phase}
 use Rattle.eg_level2.specs.declared.phase.Phase.TheVariants.{Quiet, Send}
 use Rattle.eg_level2.specs.Phases.{feeds, sends}
 use Rattle.eg_level2.specs.Words.{Words, is_set, start}
 use Rattle.eg_level2.specs.Inputs.{row_of}
 use Rattle.eg_level2.specs.Modules.{feeds_now, marked, check_step, given_up, written, signed, pedal_step, permitted_step, actual_step, excess_step, pairs_step, pedal_bit, plate_bit, load_bit, speed_bit, torque_bit, counted, is_found, debounced, limits, trips, debounce_step, closed_flow, answers_now, number_of, answer_of, react_step, module_step}
+use Rattle.eg_level2.proofs.Worked.{rules, question, idle, after_tick_0}
 use Rattle.eg_flow.specs.Ticks.{Doing, inputs_for, after_module, after_modules, after_tick, answer_at}
 use Rattle.eg_flow.specs.Flow.{row_asked, expected_fold, expected_number}
 
--- pedals 0, 500, 1000; speeds 800, 3000, 6000
-abbrev rules : Rules
-rules = record {
-  permit = record {
-    rows = 0 ∷ 500 ∷ 1000 ∷ [];
-    columns = 800 ∷ 3000 ∷ 6000 ∷ [];
-    values = 200 ∷ 100 ∷ 0 ∷ 1000 ∷ 1200 ∷ 900 ∷ 2000 ∷ 2400 ∷ 1800 ∷ [];
-  };
-  kt = 2500;
-  threshold = 200;
-  tolerances = 50 ∷ 50 ∷ 50 ∷ 50 ∷ [];
-  pair = record { up = 2; down = 1; limit = 10 };
-  torque = record { up = 1; down = 1; limit = 5 };
-}
-
--- all tracks agree, and the row's estimate is an excess; its answer is 8842
-abbrev question : Question
-question = record {
-  row = record {
-    seed = 4660;
-    readings = record {
-      pedal = 500 ∷ 500 ∷ [];
-      plate = 200 ∷ 800 ∷ [];
-      load = 300 ∷ 300 ∷ [];
-      speed = 800 ∷ 800 ∷ [];
-      raise = 0;
-      raise_check = 65535;
-    };
-    used = 500;
-    estimate = 1400;
-    allowed = 1000;
-  };
-  answer = 8842;
-}
-
--- The question is asked at a tick, with pedal 0, plate 0, both loads 40, speed 800 and no raise. These
+-- The question is asked at a tick, with the readings of an idle engine, as in the examples of level 2. These
 -- modules run, the disturbance of each is as given, and no word differs from its complement.
 abbrev doing : ℕ → Phase → (ℕ → Bool) → (ℕ → ℕ) → Doing
 doing tick phase ran disturbance = record {
   rules = rules;
   questions = question ∷ question ∷ [];
-  readings = sound_readings 0 0 (40 ∷ 40 ∷ []) 800 0;
+  readings = idle;
   asked = 2;
   tick = tick;
   phase = phase;
@@ -99,27 +63,6 @@ tick d words = after_tick d words
 unfoldable answer : Doing → Words → Option ℕ
 unfolding tick answer_of number_of answer_at
 answer d words = answer_at d words
-
--- the words that a sound tick 0 leaves
-abbrev after_tick_0 : Words
-after_tick_0 = record {
-  pedal = 0;
-  permitted = 200;
-  actual = 100;
-  excess = 0;
-  pairs = 0;
-  pedal_counter = 0;
-  plate_counter = 0;
-  load_counter = 0;
-  speed_counter = 0;
-  torque_counter = 0;
-  limp = 0;
-  trip = 0;
-  token = 0;
-  flow = 255;
-  last = 0;
-  sign = 8842;
-}
 
 -- all eight modules at tick 0, without and with an answer; it is the expected one
 tick_0 : tick (whole 0 Quiet) start ≡ after_tick_0

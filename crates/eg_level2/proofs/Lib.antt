@@ -1,6 +1,6 @@
 pub mod PlaceLemmas
 pub mod StoreLemmas
-pub mod KeepsLemmas
+pub mod MakesLemmas
 pub mod SignalLemmas
 pub mod OrderLemmas
 pub mod PortLemmas
@@ -8,4 +8,4 @@ pub mod ModuleLemmas
 pub mod DebounceLemmas
 pub mod ResultLemmas
 pub mod StepLemmas
-mod Worked
+pub mod Worked

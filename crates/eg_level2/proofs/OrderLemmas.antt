@@ -1,131 +1,14 @@
--- The first of some stores, and what is told after them.
-use Rattle.std.proofs.Common.{◌≡◌, ◌∙◌, refl, sym, ap, subst, ℕ, zero, suc, ◌+◌, ◌-◌, ◌<◌, ◌⊎◌, inl, inr, Bool, true, false, IsTrue, List, [], ◌∷◌, ◌++◌, length, take, drop, slice_index, arith}
+-- What the stores of a run make of the words, all of them or the first of them, and what is told then.
+use Rattle.std.proofs.Common.{◌≡◌, ◌∙◌, refl, sym, subst, ℕ, zero, suc, ◌+◌, ◌<◌, ◌⊎◌, inl, inr, Bool, true, false, IsTrue, List, [], ◌∷◌, ◌++◌, take, arith}
 use Rattle.std.specs.Prelude.{if◌then◌else◌, ◌==◌, ◌&&◌, ◌||◌, not}
-use Rattle.std.proofs.lemmas.List.{drop_more}
-use Rattle.eg_num.specs.declared.watches.Watches.{Watches}
+use Rattle.eg_answer.specs.Token.{next_token_of}
 use Rattle.eg_answer.specs.declared.rules.Rules.{Rules}
 use Rattle.eg_level2.specs.declared.phase.Phase.{Phase}
-use Rattle.eg_level2.specs.declared.debounce.Feeds.{Feeds}
-use Rattle.eg_level2.specs.Words.{Words, named, words_of, word_at, AreMirrored, is_set, in_order}
-use Rattle.eg_level2.specs.Inputs.{Level2Parts, Inputs, inputs_of, asked_of, row_of}
-use Rattle.eg_level2.specs.Modules.{given_up, feeds_now, is_found, debounced, limits, trips, check_step, pedal_step, permitted_step, actual_step, excess_step, pairs_step, debounce_step, react_step, module_step}
-use Rattle.eg_level2.specs.Stores.{Store, store, put, keep, keep_where, both, both_where, both_from, after_stores, AreFirst, counting, counters_kept}
-use Rattle.eg_level2.specs.Order.{check_stores, signal_stores, debounce_stores, react_stores, stores_of, given_up_stores, TellsTrip}
-
-take-nil : {A : Type 0} (n : ℕ) → (let none : List A = [] in take n none ≡ none)
-take-nil zero = refl
-take-nil (suc n) = refl
-
--- ---- where memory ran out ----
-
--- at the word itself
-pub at_word : (number value : ℕ) (rest : List Store) (f h : ℕ → ℕ) → h ≡ f → AreFirst (both number value rest) f h
-unfolding after_stores
-at_word number value rest f h e = record { count = 0; made = e }
-
--- at its complement
-pub at_complement : (number value : ℕ) (rest : List Store) (f g h : ℕ → ℕ) → h ≡ g → g ≡ put number value f → AreFirst (both number value rest) f h
-unfolding both store after_stores
-at_complement number value rest f g h e p = record { count = 1; made = e ∙ p }
-
--- at one of these two, with stores behind them
-pub here : (number value : ℕ) (rest : List Store) (f h : ℕ → ℕ) → AreFirst (both number value []) f h → AreFirst (both number value rest) f h
-unfolding both store after_stores
-here number value rest f h first = at first.count first.made
-  where
-    at : (count : ℕ) → h ≡ after_stores (take count (both number value [])) f → AreFirst (both number value rest) f h
-    at zero e = record { count = 0; made = e }
-    at (suc zero) e = record { count = 1; made = e }
-    at (suc (suc more)) e = record {
-      count = 2;
-      made = e ∙ ap (λ (l : List Store). after_stores (store number value ∷ store (number + 16) (65535 - value) ∷ l) f) (take-nil more);
-    }
-
--- among some stores, with more behind them
-longer-take : (stores more : List Store) (count : ℕ) → (c : ℕ) × (take count stores ≡ take c (stores ++ more))
-longer-take [] more count = (0, take-nil count)
-longer-take (one ∷ rest) more zero = (0, refl)
-longer-take (one ∷ rest) more (suc count) =
-    let (c, e) = longer-take rest more count in
-    (suc c, ap (λ l. one ∷ l) e)
-
-pub longer : (stores more : List Store) (f h : ℕ → ℕ) → AreFirst stores f h → AreFirst (stores ++ more) f h
-longer stores more f h first =
-    let (c, e) = longer-take stores more first.count in
-    record { count = c; made = first.made ∙ ap (λ (l : List Store). after_stores l f) e }
-
--- behind them
-pub later : (number value : ℕ) (rest : List Store) (f g h : ℕ → ℕ) → g ≡ keep number value f → AreFirst rest g h → AreFirst (both number value rest) f h
-unfolding both store after_stores keep
-later number value rest f g h e first = record {
-  count = suc (suc first.count);
-  made = first.made ∙ ap (after_stores (take first.count rest)) e;
-}
-
-pub here_where : (test : Bool) (number value : ℕ) (rest : List Store) (f h : ℕ → ℕ) → AreFirst (both_where test number value []) f h
-    → AreFirst (both_where test number value rest) f h
-unfolding both_where after_stores
-here_where true number value rest f h first = here number value rest f h first
-here_where false number value rest f h first = record {
-  count = 0;
-  made = first.made ∙ ap (λ (l : List Store). after_stores l f) (take-nil first.count);
-}
-
-pub where_true : (test : Bool) (number value : ℕ) (rest : List Store) (f h : ℕ → ℕ) → test ≡ true → AreFirst (both number value rest) f h
-    → AreFirst (both_where test number value rest) f h
-unfolding both_where
-where_true test number value rest f h e first = rw e first
-
-pub later_where : (test : Bool) (number value : ℕ) (rest : List Store) (f g h : ℕ → ℕ) → g ≡ keep_where test number value f → AreFirst rest g h
-    → AreFirst (both_where test number value rest) f h
-unfolding both_where keep_where
-later_where true number value rest f g h e first = later number value rest f g h e first
-later_where false number value rest f g h e first = record {
-  count = first.count;
-  made = first.made ∙ ap (after_stores (take first.count rest)) e;
-}
-
--- all sixteen: at the word of that number, or behind it
-next_from : (values : List ℕ) (n : ℕ) → n < length values → both_from n (drop n values) ≡ both n (slice_index values n) (both_from (n + 1) (drop (n + 1) values))
-unfolding both_from
-next_from values n within = ap (both_from n) (drop_more values n 0 within)
-
-pub stops_from : (values : List ℕ) (n value : ℕ) (f h : ℕ → ℕ) → n < length values → value ≡ slice_index values n → AreFirst (both n value []) f h
-    → AreFirst (both_from n (drop n values)) f h
-stops_from values n value f h within e first =
-    subst (λ (l : List Store). AreFirst l f h) (sym (next_from values n within))
-    (here n (slice_index values n) (both_from (n + 1) (drop (n + 1) values)) f h (subst (λ v. AreFirst (both n v []) f h) e first))
-
-pub goes_from : (values : List ℕ) (n value : ℕ) (f g h : ℕ → ℕ) → n < length values → value ≡ slice_index values n → g ≡ keep n value f
-    → AreFirst (both_from (n + 1) (drop (n + 1) values)) g h → AreFirst (both_from n (drop n values)) f h
-goes_from values n value f g h within e eg first =
-    subst (λ (l : List Store). AreFirst l f h) (sym (next_from values n within))
-    (later n (slice_index values n) (both_from (n + 1) (drop (n + 1) values)) f g h (eg ∙ ap (λ v. keep n v f) e) first)
-
--- the five counters
-pub counting-here : (feeds : Feeds) (rest : List Store) (f h : ℕ → ℕ) → AreFirst (counting feeds []) f h → AreFirst (counting feeds rest) f h
-unfolding counting both
-counting-here feeds rest f h first = longer (counting feeds []) rest f h first
-
-pub counting-later : (feeds : Feeds) (rest : List Store) (f g h : ℕ → ℕ) → g ≡ counters_kept feeds f → AreFirst rest g h → AreFirst (counting feeds rest) f h
-unfolding counting counters_kept after_stores both store keep
-counting-later feeds rest f g h e first =
-    later 5 feeds.pedal.value _ f (keep 5 feeds.pedal.value f) h refl
-    (later 6 feeds.plate.value _ _ (keep 6 feeds.plate.value (keep 5 feeds.pedal.value f)) h refl
-    (later 7 feeds.load.value _ _ (keep 7 feeds.load.value (keep 6 feeds.plate.value (keep 5 feeds.pedal.value f))) h refl
-    (later 8 feeds.speed.value _ _ (keep 8 feeds.speed.value (keep 7 feeds.load.value (keep 6 feeds.plate.value (keep 5 feeds.pedal.value f)))) h refl
-    (later 9 feeds.torque.value rest _ g h e first))))
-
--- giving up
-pub gives_up-here : (tick : ℕ) (f h : ℕ → ℕ) → AreFirst (both 11 1 []) f h → AreFirst (given_up_stores tick) f h
-unfolding given_up_stores
-gives_up-here tick f h first = here 11 1 (both_from 0 (in_order (given_up tick))) f h first
-
-pub gives_up-later : (tick : ℕ) (values : List ℕ) (f g h : ℕ → ℕ) → values ≡ in_order (given_up tick) → g ≡ keep 11 1 f → AreFirst (both_from 0 values) g h
-    → AreFirst (given_up_stores tick) f h
-unfolding given_up_stores
-gives_up-later tick values f g h e eg first =
-    later 11 1 (both_from 0 (in_order (given_up tick))) f g h eg (subst (λ (l : List ℕ). AreFirst (both_from 0 l) g h) e first)
+use Rattle.eg_level2.specs.Words.{Words, named, words_of, word_at, AreMirrored, is_set, in_order, start}
+use Rattle.eg_level2.specs.Inputs.{Inputs}
+use Rattle.eg_level2.specs.Modules.{given_up, feeds_now, counted, is_found, debounced, limits, trips, check_step, pedal_step, permitted_step, actual_step, excess_step, pairs_step, debounce_step, react_step, module_step}
+use Rattle.eg_level2.specs.Stores.{Store, store, put, both, both_where, both_from, after_stores, AreFirst}
+use Rattle.eg_level2.specs.Order.{counters_of, check_stores, signal_stores, debounced_stores, debounce_stores, react_stores, stores_of, reset_stores, given_up_stores, TellsTrip}
 
 -- ---- a trip that stands ----
 
@@ -159,11 +42,11 @@ stays : (stores : List Store) (f h : ℕ → ℕ) → AreFirst stores f h → Is
 stays stores f h first kept is = subst (λ (w : ℕ → ℕ). IsTrue (is_set (w 11))) (sym first.made) (stays_set first.count stores f kept is)
 
 -- where the trip is the first store: it stands, or nothing was stored
-begun : (rest : List Store) (f h : ℕ → ℕ) → AreFirst (both 11 1 rest) f h → IsTrue (keeps_trip rest) → IsTrue (is_set (h 11)) ⊎ (h ≡ f)
+begun : (rest : List Store) (f h : ℕ → ℕ) → AreFirst (both 11 1 ++ rest) f h → IsTrue (keeps_trip rest) → IsTrue (is_set (h 11)) ⊎ (h ≡ f)
 unfolding both store after_stores keeps_trip put is_set
 begun rest f h first kept = at first.count first.made
   where
-    at : (count : ℕ) → h ≡ after_stores (take count (both 11 1 rest)) f → IsTrue (is_set (h 11)) ⊎ (h ≡ f)
+    at : (count : ℕ) → h ≡ after_stores (take count (both 11 1 ++ rest)) f → IsTrue (is_set (h 11)) ⊎ (h ≡ f)
     at zero e = inr e
     at (suc count) e = inl (subst (λ (w : ℕ → ℕ). IsTrue (is_set (w 11))) (sym e)
         (stays_set count (store 27 65534 ∷ rest) (put 11 1 f) kept refl))
@@ -182,34 +65,25 @@ eight P p0 p1 p2 p3 p4 p5 p6 p7 (suc (suc (suc (suc (suc (suc zero)))))) within 
 eight P p0 p1 p2 p3 p4 p5 p6 p7 (suc (suc (suc (suc (suc (suc (suc zero))))))) within = p7
 eight P p0 p1 p2 p3 p4 p5 p6 p7 (suc (suc (suc (suc (suc (suc (suc (suc n)))))))) within = absurd (omega arith)
 
--- what module 6 stores behind the trip, and all of it
-abbrev counters_stored : Bool → Words → List Store
-counters_stored limit after = both_where limit 10 1 (both 5 after.pedal_counter (both 6 after.plate_counter
-    (both 7 after.load_counter (both 8 after.speed_counter (both 9 after.torque_counter (both 12 after.token []))))))
+-- what module 6 stores behind the trip
+abbrev behind_trip : Bool → Words → List Store
+behind_trip limit after = both_where limit 10 1 ++ (counters_of after ++ both 12 after.token)
 
-abbrev debounced_stores : Bool → Bool → Bool → Words → List Store
-debounced_stores feeding trip limit after =
-    if feeding then both_where trip 11 1 (counters_stored limit after) else both 12 after.token []
-
-counters-keep : (limit : Bool) (after : Words) → IsTrue (keeps_trip (counters_stored limit after))
-unfolding both_where both store keeps_trip is_set
-counters-keep true after = refl
-counters-keep false after = refl
+behind-keep : (limit : Bool) (after : Words) → IsTrue (keeps_trip (behind_trip limit after))
+unfolding both_where counters_of both store keeps_trip is_set
+behind-keep true after = refl
+behind-keep false after = refl
 
 debounced-keep : (feeding trip limit : Bool) (after : Words) → IsTrue (keeps_trip (debounced_stores feeding trip limit after))
-unfolding both_where both store keeps_trip is_set
-debounced-keep true true limit after = counters-keep limit after
-debounced-keep true false limit after = counters-keep limit after
+unfolding debounced_stores both_where both store keeps_trip is_set
+debounced-keep true true limit after = behind-keep limit after
+debounced-keep true false limit after = behind-keep limit after
 debounced-keep false trip limit after = refl
-
-debounce-keeps : (feeding : Bool) (found : Watches) (after : Words) → IsTrue (keeps_trip (debounce_stores feeding found after))
-unfolding debounce_stores
-debounce-keeps feeding found after = debounced-keep feeding (trips found) (limits found) after
 
 debounced-first : (feeding trip limit : Bool) (after : Words) (f h : ℕ → ℕ) → feeding ≡ true → trip ≡ true → AreFirst (debounced_stores feeding trip limit after) f h
     → IsTrue (is_set (h 11)) ⊎ (h ≡ f)
-unfolding both_where
-debounced-first true true limit after f h feeds trips first = begun (counters_stored limit after) f h first (counters-keep limit after)
+unfolding debounced_stores both_where
+debounced-first true true limit after f h feeds trips first = begun (behind_trip limit after) f h first (behind-keep limit after)
 debounced-first true false limit after f h feeds trips first = absurd (let clash : false ≡ true = trips in cc)
 debounced-first false trip limit after f h feeds trips first = absurd (let clash : false ≡ true = feeds in cc)
 
@@ -223,21 +97,15 @@ unfolding trips debounced is_found
 tripping rules phase words e = fed-trips (feeds_now phase words) _ _ _ _ e
 
 module-keeps : (inputs : Inputs) (words : Words) (n : ℕ) → n < 8 → IsTrue (keeps_trip (stores_of inputs n words))
-unfolding stores_of check_stores signal_stores react_stores both store keeps_trip
+unfolding stores_of check_stores signal_stores debounce_stores react_stores both store keeps_trip
 module-keeps inputs words = eight (λ n. IsTrue (keeps_trip (stores_of inputs n words))) refl refl refl refl refl refl
-    (debounce-keeps (feeds_now inputs.phase words) (debounced inputs.rules inputs.phase words) (module_step inputs 6 words)) refl
+    (debounced-keep (feeds_now inputs.phase words) (trips (debounced inputs.rules inputs.phase words)) (limits (debounced inputs.rules inputs.phase words)) (debounce_step inputs.rules inputs.phase words)) refl
 
 given_up-keeps : (tick : ℕ) → IsTrue (keeps_trip (both_from 0 (in_order (given_up tick))))
 unfolding both_from in_order given_up both store keeps_trip is_set
 given_up-keeps tick = refl
 
 -- ---- what is told ----
-
-pub told-check : (seed tick : ℕ) (old new : List ℕ) → AreFirst (check_stores (check_step seed tick (words_of old))) (word_at old) (word_at new) → AreMirrored old
-    → TellsTrip old → TellsTrip new
-unfolding named check_stores both store keeps_trip
-told-check seed tick old new first are (inl trip) = inl (stays _ _ _ first refl trip)
-told-check seed tick old new first are (inr differs) = absurd (differs are)
 
 pub told-run : (inputs : Inputs) (n : ℕ) (old new : List ℕ) → n < 8 → AreMirrored old → TellsTrip old
     → AreFirst (stores_of inputs n (words_of old)) (word_at old) (word_at new) → TellsTrip new
@@ -253,16 +121,16 @@ told-given_up tick old new first differs = elim (begun _ _ _ first (given_up-kee
 ]
 
 -- of a trip that module 6 sets
-debounce-set : (rules : Rules) (phase : Phase) (f h : ℕ → ℕ) (after : Words) → IsTrue (is_set (debounce_step rules phase (named f)).trip)
-    → AreFirst (debounce_stores (feeds_now phase (named f)) (debounced rules phase (named f)) after) f h → IsTrue (is_set (h 11)) ⊎ (h ≡ f)
+debounce-set : (rules : Rules) (phase : Phase) (f h : ℕ → ℕ) → IsTrue (is_set (debounce_step rules phase (named f)).trip)
+    → AreFirst (debounce_stores rules phase (named f)) f h → IsTrue (is_set (h 11)) ⊎ (h ≡ f)
 unfolding named debounce_step debounce_stores
-debounce-set rules phase f h after is first = fork (trips (debounced rules phase (named f))) refl is
+debounce-set rules phase f h is first = fork (trips (debounced rules phase (named f))) refl is
   where
     fork : (trip : Bool) → trips (debounced rules phase (named f)) ≡ trip → IsTrue (is_set (if trip then 1 else f 11)) → IsTrue (is_set (h 11)) ⊎ (h ≡ f)
-    fork true e is = debounced-first (feeds_now phase (named f)) (trips (debounced rules phase (named f))) (limits (debounced rules phase (named f))) after f h
+    fork true e is = debounced-first (feeds_now phase (named f)) (trips (debounced rules phase (named f))) (limits (debounced rules phase (named f))) (debounce_step rules phase (named f)) f h
         (tripping rules phase (named f) e) e first
     fork false e is =
-        inl (stays _ f h first (debounced-keep (feeds_now phase (named f)) (trips (debounced rules phase (named f))) (limits (debounced rules phase (named f))) after) is)
+        inl (stays _ f h first (debounced-keep (feeds_now phase (named f)) (trips (debounced rules phase (named f))) (limits (debounced rules phase (named f))) (debounce_step rules phase (named f))) is)
 
 run-set : (inputs : Inputs) (f h : ℕ → ℕ) (n : ℕ) → n < 8 → IsTrue (is_set (module_step inputs n (named f)).trip) → AreFirst (stores_of inputs n (named f)) f h
     → IsTrue (is_set (h 11)) ⊎ (h ≡ f)
@@ -271,28 +139,56 @@ run-set inputs f h = eight
     (λ n. IsTrue (is_set (module_step inputs n (named f)).trip) → AreFirst (stores_of inputs n (named f)) f h → IsTrue (is_set (h 11)) ⊎ (h ≡ f))
     (λ is first. inl (stays _ f h first refl is)) (λ is first. inl (stays _ f h first refl is)) (λ is first. inl (stays _ f h first refl is))
     (λ is first. inl (stays _ f h first refl is)) (λ is first. inl (stays _ f h first refl is)) (λ is first. inl (stays _ f h first refl is))
-    (debounce-set inputs.rules inputs.phase f h _) (λ is first. inl (stays _ f h first refl is))
+    (debounce-set inputs.rules inputs.phase f h) (λ is first. inl (stays _ f h first refl is))
 
 pub told-set : (inputs : Inputs) (n : ℕ) (old new : List ℕ) → n < 8 → IsTrue (is_set (module_step inputs n (words_of old)).trip)
     → AreFirst (stores_of inputs n (words_of old)) (word_at old) (word_at new) → TellsTrip new ⊎ (word_at new ≡ word_at old)
 unfolding named
 told-set inputs n old new within is first = elim (run-set inputs (word_at old) (word_at new) n within is first) [ inl trip ↦ inl (inl trip) | inr same ↦ inr same ]
 
--- ---- a module by its number ----
+-- ---- what the stores make of the words ----
 
-pub checks-stores : (parts : Level2Parts) (memory : List ℕ) (tick : ℕ) (phase : Phase) (d n seed : ℕ) (words : Words) (f h : ℕ → ℕ) → n ≡ 0
-    → seed ≡ (row_of parts.questions (asked_of memory)).seed → AreFirst (check_stores (check_step seed tick words)) f h
-    → AreFirst (stores_of (inputs_of parts memory tick phase d) n words) f h
-unfolding stores_of module_step inputs_of
-checks-stores parts memory tick phase d n seed words f h en es first = rw (en, sym es) first
+-- of module 6, by whether it feeds, trips and limits
+debounced-make : (feeding trip limit : Bool) (after : Words) (f : ℕ → ℕ) → named (after_stores (debounced_stores feeding trip limit after) f)
+    ≡ (if feeding then record after {
+      pedal = f 0;
+      permitted = f 1;
+      actual = f 2;
+      excess = f 3;
+      pairs = f 4;
+      flow = f 13;
+      last = f 14;
+      sign = f 15;
+      limp = if limit then 1 else f 10;
+      trip = if trip then 1 else f 11;
+    } else record (named f) { token = after.token })
+unfolding named debounced_stores counters_of both_where both store after_stores put
+debounced-make true true true after f = refl
+debounced-make true true false after f = refl
+debounced-make true false true after f = refl
+debounced-make true false false after f = refl
+debounced-make false trip limit after f = refl
 
-pub debounces-stores : (parts : Level2Parts) (memory : List ℕ) (tick : ℕ) (phase : Phase) (d n : ℕ) (rules : Rules) (words : Words) (f h : ℕ → ℕ) → n ≡ 6 → rules ≡ parts.rules
-    → AreFirst (debounce_stores (feeds_now phase words) (debounced rules phase words) (debounce_step rules phase words)) f h
-    → AreFirst (stores_of (inputs_of parts memory tick phase d) n words) f h
-unfolding stores_of module_step inputs_of
-debounces-stores parts memory tick phase d n rules words f h en er first = rw (en, sym er) first
+debounce-makes : (rules : Rules) (phase : Phase) (f : ℕ → ℕ) → named (after_stores (debounce_stores rules phase (named f)) f) ≡ debounce_step rules phase (named f)
+unfolding named debounce_stores debounce_step debounced limits trips counted is_found
+debounce-makes rules phase f =
+    debounced-make (feeds_now phase (named f)) (trips (debounced rules phase (named f))) (limits (debounced rules phase (named f))) (debounce_step rules phase (named f)) f
+    ∙ fork (feeds_now phase (named f)) refl
+  where
+    fork : (feeding : Bool) → feeds_now phase (named f) ≡ feeding → (if feeding then debounce_step rules phase (named f) else record (named f) { token = next_token_of (f 12) 6 })
+        ≡ debounce_step rules phase (named f)
+    fork true e = refl
+    fork false e = rw e refl
 
-pub reacts-stores : (parts : Level2Parts) (memory : List ℕ) (tick : ℕ) (phase : Phase) (d n : ℕ) (words : Words) (f h : ℕ → ℕ) → n ≡ 7
-    → AreFirst (react_stores (react_step phase words)) f h → AreFirst (stores_of (inputs_of parts memory tick phase d) n words) f h
-unfolding stores_of module_step inputs_of
-reacts-stores parts memory tick phase d n words f h en first = rw en first
+pub stores-make : (inputs : Inputs) (f : ℕ → ℕ) (n : ℕ) → n < 8 → named (after_stores (stores_of inputs n (named f)) f) ≡ module_step inputs n (named f)
+unfolding named stores_of module_step check_step pedal_step permitted_step actual_step excess_step pairs_step react_step check_stores signal_stores react_stores in_order both store after_stores put
+stores-make inputs f = eight (λ n. named (after_stores (stores_of inputs n (named f)) f) ≡ module_step inputs n (named f)) refl refl refl refl refl refl
+    (debounce-makes inputs.rules inputs.phase f) refl
+
+pub given_up-make : (tick : ℕ) (f : ℕ → ℕ) → named (after_stores (given_up_stores tick) f) ≡ given_up tick
+unfolding named given_up_stores both_from in_order given_up both store after_stores put
+given_up-make tick f = refl
+
+pub reset-make : (f : ℕ → ℕ) → named (after_stores reset_stores f) ≡ start
+unfolding named reset_stores both_from in_order start both store after_stores put
+reset-make f = refl

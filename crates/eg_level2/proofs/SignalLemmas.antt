@@ -1,6 +1,7 @@
--- What a module of number 1 to 5 makes of the words by their names, and in which order it stores them.
-use Rattle.std.proofs.Common.{◌≡◌, ◌∙◌, refl, ap, ap₂, subst, ℕ, zero, suc, ◌-◌, ◌≤◌, Bool, true, false, List, [], arith}
-use Rattle.std.specs.Prelude.{if◌then◌else◌, bit_xor, slice_index}
+-- What a module of number 1 to 5 stores.
+use Rattle.std.proofs.Common.{◌≡◌, ◌∙◌, refl, ap, ap₂, subst, ℕ, zero, suc, ◌-◌, ◌≤◌, Bool, true, false, List, ◌++◌, arith}
+use Rattle.std.specs.Prelude.{Result, if◌then◌else◌, bit_xor, slice_index}
+use Rattle.eg_guard.specs.Memory.{ShownMemory}
 use Rattle.eg_answer.specs.Answers.{results_of}
 use Rattle.eg_answer.specs.Formulas.{permitted_torque}
 use Rattle.eg_answer.specs.Token.{next_token_of}
@@ -11,7 +12,7 @@ use Rattle.eg_level2.specs.declared.phase.Phase.{Phase}
 use Rattle.eg_level2.specs.Words.{named, is_set, in_order}
 use Rattle.eg_level2.specs.Inputs.{Level2Parts, inputs_of, readings_of, asked_of, results_by, row_of}
 use Rattle.eg_level2.specs.Modules.{written, signed, module_step, pedal_step, permitted_step, actual_step, excess_step, pairs_step}
-use Rattle.eg_level2.specs.Stores.{Store, AreFirst, put, store, both, after_stores, signal_of, signalling, signalled}
+use Rattle.eg_level2.specs.Stores.{Store, both, signal_of, signalling, Makes}
 use Rattle.eg_level2.specs.Order.{stores_of, signal_stores}
 
 -- a signal that is 0 where a trip stands is written as any other, since 0 is written there
@@ -36,25 +37,11 @@ module _ (parts : Level2Parts) (memory : List ℕ) (tick : ℕ) (phase : Phase) 
     unfolding signal_of written named
     written_2 = unless_tripped (is_set (f 11)) (permitted_torque parts.rules (readings_of memory) (f 0)) d
 
-    words : (n : ℕ) → 1 ≤ n → n ≤ 5 → named (signalled n (signal n) (result n) d f) ≡ module_step (inputs_of parts memory tick phase d) n (named f)
-    unfolding signal_of results_of module_step inputs_of named signalled signalling after_stores both store put written signed pedal_step permitted_step actual_step excess_step pairs_step
-    words zero from to = absurd (omega arith)
-    words (suc zero) from to = refl
-    words (suc (suc zero)) from to = ap (λ v. record (named f) {
-      permitted = v;
-      token = next_token_of (f 12) 2;
-      sign = signed (named f) (result 2) d;
-    }) written_2
-    words (suc (suc (suc zero))) from to = refl
-    words (suc (suc (suc (suc zero)))) from to = refl
-    words (suc (suc (suc (suc (suc zero))))) from to = refl
-    words (suc (suc (suc (suc (suc (suc n)))))) from to = absurd (omega arith)
-
     stores : (n : ℕ) → 1 ≤ n → n ≤ 5 → signalling n (signal n) (result n) d f ≡ stores_of (inputs_of parts memory tick phase d) n (named f)
-    unfolding signal_of results_of stores_of signal_stores in_order module_step inputs_of named signalling both store written signed pedal_step permitted_step actual_step excess_step pairs_step
+    unfolding signal_of results_of stores_of signal_stores in_order module_step inputs_of named signalling written signed pedal_step permitted_step actual_step excess_step pairs_step
     stores zero from to = absurd (omega arith)
     stores (suc zero) from to = refl
-    stores (suc (suc zero)) from to = ap (λ v. both 1 v (both 12 (next_token_of (f 12) 2) (both 15 (signed (named f) (result 2) d) []))) written_2
+    stores (suc (suc zero)) from to = ap (λ v. both 1 v ++ (both 12 (next_token_of (f 12) 2) ++ both 15 (signed (named f) (result 2) d))) written_2
     stores (suc (suc (suc zero))) from to = refl
     stores (suc (suc (suc (suc zero)))) from to = refl
     stores (suc (suc (suc (suc (suc zero))))) from to = refl
@@ -71,11 +58,6 @@ module _ (parts : Level2Parts) (memory : List ℕ) (tick : ℕ) (phase : Phase) 
         unfolding results_by
         result-is = ap₂ (λ (t : RowResults) k. slice_index t.results (k - 1)) is_test is_place
 
-        pub signals : (h : ℕ → ℕ) → h ≡ signalled n signal_n (slice_index test.results (place - 1)) d f
-            → named h ≡ module_step (inputs_of parts memory tick phase d) n (named f)
-        signals h eh = ap named (eh ∙ ap₂ (λ s r. signalled n s r d f) signal-is result-is) ∙ words n from to
-
-        pub signals-stores : (h : ℕ → ℕ) → AreFirst (signalling n signal_n (slice_index test.results (place - 1)) d f) f h
-            → AreFirst (stores_of (inputs_of parts memory tick phase d) n (named f)) f h
-        signals-stores h first =
-            subst (λ (l : List Store). AreFirst l f h) (ap₂ (λ s r. signalling n s r d f) signal-is result-is ∙ stores n from to) first
+        pub signal_makes : {T E : Type 0} {a b : ShownMemory} {result : Result T E} → Makes (signalling n signal_n (slice_index test.results (place - 1)) d f) a b result → Makes (stores_of (inputs_of parts memory tick phase d) n (named f)) a b result
+        signal_makes {a = a} {b = b} {result = result} made =
+            subst (λ (l : List Store). Makes l a b result) (ap₂ (λ s r. signalling n s r d f) signal-is result-is ∙ stores n from to) made

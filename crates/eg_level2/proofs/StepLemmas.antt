@@ -1,110 +1,57 @@
--- A module by its number: the step of each number, and what every step keeps.
-use Rattle.std.proofs.Common.{◌≡◌, ◌∙◌, refl, sym, ap, ℕ, ◌+◌, ◌-◌, ◌≤◌, Bool, true, false, IsTrue, List, arith, ◌↔◌}
+-- A run of a module by its number, as its callers see it, and that no counter passes its limit.
+use Rattle.std.proofs.Common.{◌≡◌, ◌∙◌, refl, sym, ap, subst, ℕ, ◌+◌, ◌-◌, ◌≤◌, ◌<◌, Bool, true, false, List, arith}
 use Rattle.std.proofs.lemmas.Bool.{eqb-true}
-use Rattle.std.specs.Prelude.{min, if◌then◌else◌, ◌==◌, Option, None, Result, Ok, Err, IfOk}
+use Rattle.std.proofs.lemmas.Result.{on_ok_weaker, on_err_weaker, IfOk-weaker}
+use Rattle.std.specs.Prelude.{min, if◌then◌else◌, ◌==◌, Result, OnOk}
+use Rattle.eg_num.specs.Windows.{WeightParts}
+use Rattle.eg_num.specs.Counting.{fed}
+use Rattle.eg_guard.specs.Memory.{ShownMemory}
+use Rattle.eg_guard.proofs.KeepsLemmas.{clash}
 use Rattle.eg_answer.specs.declared.rules.Rules.{Rules}
 use Rattle.eg_level2.specs.declared.phase.Phase.{Phase}
 use Rattle.eg_level2.specs.declared.step.Step.{Step}
-use Rattle.eg_num.specs.Windows.{WeightParts}
-use Rattle.eg_num.specs.Counting.{fed}
-use Rattle.eg_num.specs.declared.watches.Watches.{Watches}
-use Rattle.eg_level2.specs.Words.{Words, start, AreMirrored, AreWithin}
+use Rattle.eg_level2.specs.Words.{Words, start, named, word_at, words_of, AreMirrored, AreWithin}
 use Rattle.eg_level2.specs.Inputs.{Level2Parts, Inputs, asked_of, inputs_of, row_of}
-use Rattle.eg_level2.specs.Modules.{feeds_now, opens_now, check_step, given_up, pedal_bit, plate_bit, load_bit, speed_bit, torque_bit, counted, pedal_step, permitted_step, actual_step, excess_step, pairs_step, debounced, debounce_step, answer_of, react_step, module_step, answer_after, order_after, no_watches, found_by, step_of, finding, quiet_step}
-
-pub if_ok_all : {T E : Type 0} (result : Result T E) {P Q R S : T → Type 0} → ((x : T) → P x → Q x → R x → S x)
-    → IfOk result P → IfOk result Q → IfOk result R → IfOk result S
-if_ok_all (Ok x) f p q r = f x p q r
-if_ok_all (Err x) f p q r = p
+use Rattle.eg_level2.specs.Modules.{feeds_now, check_step, given_up, pedal_bit, plate_bit, load_bit, speed_bit, torque_bit, counted, pedal_step, permitted_step, actual_step, excess_step, pairs_step, debounced, debounce_step, reaction, react_step, module_step, answer_after, order_after, no_watches, mirror_alone, found_by, step_of, finding, quiet_step}
+use Rattle.eg_level2.specs.Stores.{Store, IsRun}
+use Rattle.eg_level2.specs.Order.{check_stores, debounce_stores, react_stores, stores_of, given_up_stores}
+use Rattle.eg_level2.specs.Runs.{IsModuleRun}
+use Rattle.eg_level2.proofs.StoreLemmas.{same_outside}
+use Rattle.eg_level2.proofs.OrderLemmas.{stores-make, given_up-make, told-run, told-given_up, told-set}
 
 pub same_rules : (one other : Level2Parts) → one ≡ other → one.rules ≡ other.rules
 same_rules one other e = ap (λ (parts : Level2Parts). parts.rules) e
 
--- ---- the words ----
+-- ---- a module by its number ----
 
-pub checks : (parts : Level2Parts) (memory : List ℕ) (tick : ℕ) (phase : Phase) (d n seed : ℕ) (words : Words) → n ≡ 0
-    → seed ≡ (row_of parts.questions (asked_of memory)).seed → check_step seed tick words ≡ module_step (inputs_of parts memory tick phase d) n words
-unfolding module_step inputs_of
-checks parts memory tick phase d n seed words en es = rw (en, es) refl
+pub check_run : {E : Type 0} {a b : ShownMemory} {result : Result Step E} (parts : Level2Parts) (memory : List ℕ) (tick : ℕ) (phase : Phase) (d : ℕ) (words : Words) {n seed : ℕ} → n ≡ 0
+    → seed ≡ (row_of parts.questions (asked_of memory)).seed → IsRun (check_stores (check_step seed tick words)) quiet_step a b result
+    → (let inputs = inputs_of parts memory tick phase d in IsRun (stores_of inputs n words) (step_of inputs n words) a b result)
+unfolding stores_of module_step inputs_of step_of order_after answer_after found_by
+check_run parts memory tick phase d words en es run = rw (en, sym es) run
 
-pub debounces : (parts : Level2Parts) (memory : List ℕ) (tick : ℕ) (phase : Phase) (d n : ℕ) (rules : Rules) (words : Words) → n ≡ 6 → rules ≡ parts.rules
-    → debounce_step rules phase words ≡ module_step (inputs_of parts memory tick phase d) n words
-unfolding module_step inputs_of
-debounces parts memory tick phase d n rules words en eu = rw (en, eu) refl
-
-pub reacts : (parts : Level2Parts) (memory : List ℕ) (tick : ℕ) (phase : Phase) (d n : ℕ) (words : Words) → n ≡ 7
-    → react_step phase words ≡ module_step (inputs_of parts memory tick phase d) n words
-unfolding module_step inputs_of
-reacts parts memory tick phase d n words en = rw en refl
-
--- ---- what a run answers ----
-
--- a module other than the last two
-pub quiet : (inputs : Inputs) (n : ℕ) (words : Words) → n ≤ 5 → quiet_step ≡ step_of inputs n words
+pub signal_run : {E : Type 0} {a b : ShownMemory} {result : Result Step E} {stores : List Store} (inputs : Inputs) (n : ℕ) (words : Words) → n ≤ 5 → IsRun stores quiet_step a b result
+    → IsRun stores (step_of inputs n words) a b result
 unfolding step_of order_after answer_after found_by
-quiet inputs n words to = by (n == 6) (n == 7) refl refl
+signal_run {a = a} {b = b} {result = result} {stores = stores} inputs n words to run =
+    subst (λ step. IsRun stores step a b result) (by (n == 6) (n == 7) refl refl) run
   where
     by : (six seven : Bool) → (n == 6) ≡ six → (n == 7) ≡ seven → quiet_step ≡ step_of inputs n words
     by false false sixth seventh = rw (sixth, seventh) refl
     by true seven sixth seventh = absurd (let is = eqb-true n 6 sixth in omega arith)
     by six true sixth seventh = absurd (let is = eqb-true n 7 seventh in omega arith)
 
-pub debounces-step : (parts : Level2Parts) (memory : List ℕ) (tick : ℕ) (phase : Phase) (d n : ℕ) (rules : Rules) (words : Words) → n ≡ 6 → rules ≡ parts.rules
-    → finding (debounced rules phase words) ≡ step_of (inputs_of parts memory tick phase d) n words
-unfolding step_of order_after answer_after found_by inputs_of
-debounces-step parts memory tick phase d n rules words en eu = rw (en, eu) refl
+pub debounce_run : {E : Type 0} {a b : ShownMemory} {result : Result Step E} (parts : Level2Parts) (memory : List ℕ) (tick : ℕ) (phase : Phase) (d : ℕ) (words : Words) {n : ℕ} {rules : Rules} → n ≡ 6
+    → rules ≡ parts.rules → IsRun (debounce_stores rules phase words) (finding (debounced rules phase words)) a b result
+    → (let inputs = inputs_of parts memory tick phase d in IsRun (stores_of inputs n words) (step_of inputs n words) a b result)
+unfolding stores_of module_step inputs_of step_of order_after answer_after found_by
+debounce_run parts memory tick phase d words en er run = rw (en, sym er) run
 
-pub reacts-step : (parts : Level2Parts) (memory : List ℕ) (tick : ℕ) (phase : Phase) (d n : ℕ) (words : Words) (step : Step) → n ≡ 7
-    → step.open_path ≡ opens_now phase words → step.answer ≡ answer_of phase words → step.found ≡ no_watches
-    → step ≡ step_of (inputs_of parts memory tick phase d) n words
-unfolding step_of order_after answer_after found_by inputs_of
-reacts-step parts memory tick phase d n words step en eo ea ef = of_parts step eo ea ef ∙ rw en refl
-  where
-    of_parts : (step : Step) {order : Bool} {answer : Option ℕ} {found : Watches} → step.open_path ≡ order → step.answer ≡ answer → step.found ≡ found
-        → (let made : Step = record { open_path = order; answer = answer; found = found } in step ≡ made)
-    of_parts step eo ea ef = λ i. record { open_path = eo i; answer = ea i; found = ef i }
-
--- module 0
-pub first-answer : (inputs : Inputs) (n : ℕ) (words : Words) → n ≡ 0 → None ≡ answer_after inputs n words
-unfolding answer_after
-first-answer inputs n words e = rw e refl
-
-pub first-order : (inputs : Inputs) (n : ℕ) (words : Words) → n ≡ 0 → false ≡ order_after inputs n words
-unfolding order_after
-first-order inputs n words e = rw e refl
-
-pub first-found : (inputs : Inputs) (n : ℕ) (words : Words) → n ≡ 0 → no_watches ≡ found_by inputs n words
-unfolding found_by
-first-found inputs n words e = rw e refl
-
--- the parts of what a run answers
-pub step-answer : (inputs : Inputs) (n : ℕ) (words : Words) (step : Step) → step ≡ step_of inputs n words → step.answer ≡ answer_after inputs n words
-unfolding step_of
-step-answer inputs n words step e = ap (λ (s : Step). s.answer) e
-
-pub step-order : (inputs : Inputs) (n : ℕ) (words : Words) (step : Step) → step ≡ step_of inputs n words → step.open_path ≡ order_after inputs n words
-unfolding step_of
-step-order inputs n words step e = ap (λ (s : Step). s.open_path) e
-
-pub step-found : (inputs : Inputs) (n : ℕ) (words : Words) (step : Step) → step ≡ step_of inputs n words → step.found ≡ found_by inputs n words
-unfolding step_of
-step-found inputs n words step e = ap (λ (s : Step). s.found) e
-
--- no module but the first finds Mirror
-found_by-mirror : (inputs : Inputs) (n : ℕ) (words : Words) → (found_by inputs n words).mirror ≡ false
-unfolding found_by debounced no_watches
-found_by-mirror inputs n words = pick (n == 6)
-  where
-    pick : (b : Bool) → (if b then debounced inputs.rules inputs.phase words else no_watches).mirror ≡ false
-    pick true = refl
-    pick false = refl
-
-pub step-mirror : (inputs : Inputs) (n : ℕ) (words : Words) (step : Step) (memory : List ℕ) → step ≡ step_of inputs n words → AreMirrored memory
-    → IsTrue step.found.mirror ↔ ¬ AreMirrored memory
-step-mirror inputs n words step memory e are = (
-  λ found. absurd (let none = ap (λ (w : Watches). w.mirror) (step-found inputs n words step e) ∙ found_by-mirror inputs n words in let clash : true ≡ false = sym found ∙ none in cc),
-  λ differs. absurd (differs are),
-)
+pub react_run : {E : Type 0} {a b : ShownMemory} {result : Result Step E} (parts : Level2Parts) (memory : List ℕ) (tick : ℕ) (phase : Phase) (d : ℕ) (words : Words) {n : ℕ} → n ≡ 7
+    → IsRun (react_stores (react_step phase words)) (reaction phase words) a b result
+    → (let inputs = inputs_of parts memory tick phase d in IsRun (stores_of inputs n words) (step_of inputs n words) a b result)
+unfolding stores_of module_step inputs_of step_of order_after answer_after found_by reaction
+react_run parts memory tick phase d words en run = rw en run
 
 -- ---- no counter passes its limit ----
 
@@ -117,10 +64,6 @@ kept rules words next within pedal plate load speed torque = record {
   speed = rw speed within.speed;
   torque = rw torque within.torque;
 }
-
-pub check-within : (rules : Rules) (seed tick : ℕ) (words : Words) → AreWithin rules words → AreWithin rules (check_step seed tick words)
-unfolding check_step
-check-within rules seed tick words within = kept rules words _ within refl refl refl refl refl
 
 pub given_up-within : (rules : Rules) (tick : ℕ) → AreWithin rules (given_up tick)
 unfolding given_up
@@ -174,3 +117,73 @@ unfolding start
 start-within rules words e = kept rules start words (record { pedal = omega arith; plate = omega arith; load = omega arith; speed = omega arith; torque = omega arith })
     (ap (λ (w : Words). w.pedal_counter) e) (ap (λ (w : Words). w.plate_counter) e) (ap (λ (w : Words). w.load_counter) e)
     (ap (λ (w : Words). w.speed_counter) e) (ap (λ (w : Words). w.torque_counter) e)
+
+-- ---- a run, as its callers see it ----
+
+-- no module but the first finds Mirror
+finds_no_mirror : (inputs : Inputs) (n : ℕ) (words : Words) → (step_of inputs n words).found.mirror ≡ false
+unfolding step_of found_by debounced no_watches
+finds_no_mirror inputs n words = pick (n == 6)
+  where
+    pick : (b : Bool) → (if b then debounced inputs.rules inputs.phase words else no_watches).mirror ≡ false
+    pick true = refl
+    pick false = refl
+
+-- where each word has its complement
+pub orderly_run : {E : Type 0} {old new : ShownMemory} {result : Result Step E} (parts : Level2Parts) (tick : ℕ) (phase : Phase) (d n : ℕ) → n < 8 → AreMirrored old.words
+    → (let inputs = inputs_of parts old.words tick phase d in IsRun (stores_of inputs n (words_of old.words)) (step_of inputs n (words_of old.words)) old new result)
+    → IsModuleRun parts n tick phase d old new result
+unfolding step_of
+orderly_run {old = old} {new = new} {result = result} parts tick phase d n within are run =
+    let inputs = inputs_of parts old.words tick phase d in
+    let words : OnOk result (words_of new.words ≡ module_step inputs n (words_of old.words)) =
+    on_ok_weaker result (λ e. ap named e ∙ stores-make inputs (word_at old.words) n within) run.makes.stored in
+    record {
+      words = λ are. words;
+      answer = IfOk-weaker result _ _ (λ step e. ap (λ (s : Step). s.answer) e) run.answers;
+      order = IfOk-weaker result _ _ (λ step e. ap (λ (s : Step). s.open_path) e) run.answers;
+      found = λ are. IfOk-weaker result _ _ (λ step e. ap (λ (s : Step). s.found) e) run.answers;
+      given_up = λ differs. absurd (differs are);
+      mirror_alone = λ differs. absurd (differs are);
+      mirror = IfOk-weaker result _ _ (λ step e. (
+        λ found. absurd (clash (sym (ap (λ (s : Step). s.found.mirror) e ∙ finds_no_mirror inputs n (words_of old.words)) ∙ found)),
+        λ differs. absurd (differs are),
+      )) run.answers;
+      mirrored = run.makes.keeps.mirrored are;
+      within = λ within. on_ok_weaker result
+          (λ e. subst (AreWithin parts.rules) (sym e) (step-within parts old.words tick phase d n (words_of old.words) (within are))) words;
+      stopped = λ are. run.makes.stopped;
+      given_up_stopped = λ differs. absurd (differs are);
+      told = λ tells. on_err_weaker result (λ first. told-run inputs n old.words new.words within are tells first) run.makes.stopped;
+      set_told = λ are is. on_err_weaker result (λ first. told-set inputs n old.words new.words within is first) run.makes.stopped;
+      outside = λ address other. same_outside old.words new.words address run.makes.keeps.outside other;
+      sure = run.makes.keeps.memory.sure;
+      stays_sure = run.makes.keeps.memory.stays_sure;
+      are_words = run.makes.keeps.memory.are_words;
+    }
+
+-- where one differs from it
+pub given_up_run : {E : Type 0} {old new : ShownMemory} {result : Result Step E} (parts : Level2Parts) (tick : ℕ) (phase : Phase) (d n : ℕ) → n ≡ 0 → ¬ AreMirrored old.words
+    → IsRun (given_up_stores tick) (finding mirror_alone) old new result → OnOk result (AreMirrored new.words) → IsModuleRun parts n tick phase d old new result
+unfolding answer_after order_after mirror_alone
+given_up_run {old = old} {new = new} {result = result} parts tick phase d n first differs run mirrored =
+    let words : OnOk result (words_of new.words ≡ given_up tick) = on_ok_weaker result (λ e. ap named e ∙ given_up-make tick (word_at old.words)) run.makes.stored in
+    record {
+      words = λ are. absurd (differs are);
+      answer = IfOk-weaker result _ _ (λ step e. ap (λ (s : Step). s.answer) e ∙ rw first refl) run.answers;
+      order = IfOk-weaker result _ _ (λ step e. ap (λ (s : Step). s.open_path) e ∙ rw first refl) run.answers;
+      found = λ are. absurd (differs are);
+      given_up = λ differs. words;
+      mirror_alone = λ differs. IfOk-weaker result _ _ (λ step e. ap (λ (s : Step). s.found) e) run.answers;
+      mirror = IfOk-weaker result _ _ (λ step e. (λ found. differs, λ differs. ap (λ (s : Step). s.found.mirror) e)) run.answers;
+      mirrored = mirrored;
+      within = λ within. on_ok_weaker result (λ e. subst (AreWithin parts.rules) (sym e) (given_up-within parts.rules tick)) words;
+      stopped = λ are. absurd (differs are);
+      given_up_stopped = λ differs. run.makes.stopped;
+      told = λ tells. on_err_weaker result (λ first. told-given_up tick old.words new.words first differs) run.makes.stopped;
+      set_told = λ are is. absurd (differs are);
+      outside = λ address other. same_outside old.words new.words address run.makes.keeps.outside other;
+      sure = run.makes.keeps.memory.sure;
+      stays_sure = run.makes.keeps.memory.stays_sure;
+      are_words = run.makes.keeps.memory.are_words;
+    }

@@ -1,67 +1,38 @@
 -- What a store of a word and its complement makes of the words, and what it keeps.
-use Rattle.std.proofs.Common.{◌≡◌, ◌∙◌, refl, sym, ap, subst, ℕ, suc, ◌+◌, ◌-◌, ◌<◌, ◌≤◌, ◌↔◌, inl, inr, Bool, true, false, IsTrue, List, slice_index, arith}
-use Rattle.std.specs.Prelude.{Result, Ok, Err, OnOk, if◌then◌else◌, ◌&&◌, ◌==◌}
+use Rattle.std.proofs.Common.{◌≡◌, ◌≢◌, ◌∙◌, refl, sym, ap, subst, ℕ, ◌+◌, ◌-◌, ◌<◌, ◌≤◌, ◌↔◌, inl, inr, Bool, true, false, IsTrue, List, slice_index, arith}
+use Rattle.std.specs.Prelude.{if◌then◌else◌, ◌&&◌, ◌==◌}
 use Rattle.eg_guard.specs.Regions.{region_of}
 use Rattle.std.proofs.lemmas.Bool.Decides.{eqb_tells}
 use Rattle.std.proofs.lemmas.Bool.{eq-eqb, ne_eqb}
 use Rattle.eg_level2.specs.Words.{word_at, AreMirrored, is_level2_own}
-use Rattle.eg_level2.specs.Stores.{put, keep, kept_from, outside}
+use Rattle.eg_level2.specs.Stores.{put, store, both, after_stores, outside}
 
--- a word, and then its complement
-pub kept_at : (f g h : ℕ → ℕ) (number value : ℕ) → h ≡ put (number + 16) (65535 - value) g → g ≡ put number value f → h ≡ keep number value f
-unfolding keep
-kept_at f g h number value e p = e ∙ ap (put (number + 16) (65535 - value)) p
-
--- words by their numbers, each with its complement
-abbrev pub Mirror : (ℕ → ℕ) → Type 0
-Mirror word = (k : ℕ) → k < 16 → word k + word (k + 16) ≡ 65535
-
--- a store keeps every word with its complement
-pub keep-mirror : (word : ℕ → ℕ) (number value : ℕ) → number < 16 → value < 65536 → Mirror word → Mirror (keep number value word)
-unfolding keep put
-keep-mirror word number value within fits m k h = elim (eqb_tells k number) [
-  | inl same ↦ rw (ne_eqb k (number + 16) (λ e. omega arith), same.0, eq-eqb (k + 16) (number + 16) (let e = same.1 in omega arith)) (omega arith)
-  | inr other ↦ rw (ne_eqb k (number + 16) (λ e. omega arith), other.0, ne_eqb (k + 16) (number + 16) (λ e. other.1 (omega arith)), ne_eqb (k + 16) number (λ e. omega arith)) (m k h)
-]
-
-pub kept_mirrored : (old new : List ℕ) (g : ℕ → ℕ) (number value : ℕ) → word_at new ≡ put (number + 16) (65535 - value) g → g ≡ put number value (word_at old)
-    → number < 16 → value < 65536 → AreMirrored old → AreMirrored new
-kept_mirrored old new g number value e p within fits are = record {
-  sums = subst Mirror (sym (kept_at (word_at old) g (word_at new) number value e p)) (keep-mirror (word_at old) number value within fits are.sums);
-}
-
--- all words are mirrored where each of them was looked at
-mirrored_all : (memory : List ℕ) → ((k : ℕ) → k < 16 → word_at memory k + word_at memory (k + 16) ≡ 65535) → AreMirrored memory
-mirrored_all memory sums = record { sums = sums }
-
-pub kept_on : {T E : Type 0} (result : Result T E) (f g h : ℕ → ℕ) (number value : ℕ) → OnOk result (h ≡ put (number + 16) (65535 - value) g) → g ≡ put number value f
-    → OnOk result (h ≡ keep number value f)
-kept_on (Ok x) f g h number value e p = kept_at f g h number value e p
-kept_on (Err x) f g h number value e p = e
-
--- ---- all words stored ----
-
-pub kept_from-more : (values : List ℕ) (f g h : ℕ → ℕ) (count value : ℕ) → value ≡ slice_index values count → h ≡ keep count value g → g ≡ kept_from values count f → h ≡ kept_from values (count + 1) f
-unfolding kept_from
-kept_from-more values f g h count value ev e p =
-    e ∙ ap (λ v. keep count v g) ev ∙ ap (keep count (slice_index values count)) p ∙ ap (λ k. kept_from values k f) (let one_more : suc count ≡ count + 1 = omega arith in one_more)
-
--- the first `count` words are mirrored
+-- words by their numbers, each of the first `count` with its complement
 abbrev pub MirrorBelow : ℕ → (ℕ → ℕ) → Type 0
 MirrorBelow count word = (k : ℕ) → k < count → word k + word (k + 16) ≡ 65535
 
-pub mirror-more : (g h : ℕ → ℕ) (count value : ℕ) → count < 16 → value < 65536 → h ≡ keep count value g → MirrorBelow count g → MirrorBelow (count + 1) h
-unfolding keep put
-mirror-more g h count value within fits e m = subst (MirrorBelow (count + 1)) (sym e) below
-  where
-    below : MirrorBelow (count + 1) (keep count value g)
-    below k h = elim (eqb_tells k count) [
-      | inl same ↦ rw (ne_eqb k (count + 16) (λ e. omega arith), same.0, eq-eqb (k + 16) (count + 16) (let e = same.1 in omega arith)) (omega arith)
-      | inr other ↦ rw (ne_eqb k (count + 16) (λ e. omega arith), other.0, ne_eqb (k + 16) (count + 16) (λ e. other.1 (omega arith)), ne_eqb (k + 16) count (λ e. omega arith))
-          (m k (let apart = other.1 in grind arith))
-    ]
+abbrev pub Mirror : (ℕ → ℕ) → Type 0
+Mirror word = MirrorBelow 16 word
 
-pub ruleset stores = (kept_on, kept_mirrored)
+-- a word that is stored with its complement
+at-both : (word : ℕ → ℕ) (number value k : ℕ) → number < 16 → value < 65536 → k < 16 → (k ≢ number → word k + word (k + 16) ≡ 65535)
+    → after_stores (both number value) word k + after_stores (both number value) word (k + 16) ≡ 65535
+unfolding both store after_stores put
+at-both word number value k within fits below other = elim (eqb_tells k number) [
+  | inl same ↦ rw (ne_eqb k (number + 16) (λ e. omega arith), same.0, eq-eqb (k + 16) (number + 16) (let e = same.1 in omega arith)) (omega arith)
+  | inr apart ↦ rw (ne_eqb k (number + 16) (λ e. omega arith), apart.0, ne_eqb (k + 16) (number + 16) (λ e. apart.1 (omega arith)), ne_eqb (k + 16) number (λ e. omega arith)) (other apart.1)
+]
+
+pub both-mirror : (word : ℕ → ℕ) (number value : ℕ) → number < 16 → value < 65536 → Mirror word → Mirror (after_stores (both number value) word)
+both-mirror word number value within fits m k h = at-both word number value k within fits h (λ apart. m k h)
+
+pub mirror-more : (g h : ℕ → ℕ) (count value : ℕ) → count < 16 → value < 65536 → h ≡ after_stores (both count value) g → MirrorBelow count g → MirrorBelow (count + 1) h
+mirror-more g h count value within fits e m =
+    subst (MirrorBelow (count + 1)) (sym e) (λ k h. at-both g count value k within fits (omega arith) (λ apart. m k (grind arith)))
+
+-- all words are mirrored where each of them was looked at
+mirrored_all : (memory : List ℕ) → Mirror (word_at memory) → AreMirrored memory
+mirrored_all memory sums = record { sums = sums }
 
 -- ---- one word after another is compared with its complement ----
 

@@ -20,10 +20,10 @@ use Rattle.eg_level2.specs.Words.{Words, is_set, start, address_of, named, in_or
 use Rattle.eg_level2.specs.Inputs.{Inputs, row_of}
 use Rattle.eg_level2.specs.Modules.{feeds_now, opens_now, marked, check_step, written, signed, pedal_step, permitted_step, actual_step, excess_step, pairs_step, pedal_bit, plate_bit, load_bit, speed_bit, torque_bit, counted, is_found, debounced, limits, trips, debounce_step, closed_flow, answers_now, number_of, answer_of, react_step, module_step, answer_after, given_up, found_by, order_after, no_watches, mirror_alone}
 use Rattle.eg_level2.specs.Stores.{Store, store, put, both, both_where, both_from, after_stores}
-use Rattle.eg_level2.specs.Order.{check_stores, signal_stores, debounce_stores, react_stores, stores_of, reset_stores, given_up_stores}
+use Rattle.eg_level2.specs.Order.{check_stores, signal_stores, counters_of, debounced_stores, debounce_stores, react_stores, stores_of, reset_stores, given_up_stores}
 
 -- pedals 0, 500, 1000; speeds 800, 3000, 6000
-abbrev rules : Rules
+abbrev pub rules : Rules
 rules = record {
   permit = record {
     rows = 0 ∷ 500 ∷ 1000 ∷ [];
@@ -38,7 +38,7 @@ rules = record {
 }
 
 -- all tracks agree, and the row's estimate is an excess; its answer is 8842
-abbrev question : Question
+abbrev pub question : Question
 question = record {
   row = record {
     seed = 4660;
@@ -70,7 +70,7 @@ inputs readings tick phase disturbance = record {
 }
 
 -- pedal 0, plate 0, both loads 40, speed 800, no raise
-abbrev idle : Readings
+abbrev pub idle : Readings
 idle = sound_readings 0 0 (40 ∷ 40 ∷ []) 800 0
 
 -- runs of these modules, in this order, with all that they are made of opened
@@ -85,7 +85,7 @@ abbrev to_react : List ℕ
 to_react = 0 ∷ 1 ∷ 2 ∷ 3 ∷ 4 ∷ 5 ∷ 6 ∷ []
 
 -- the words that a sound tick 0 leaves
-abbrev after_tick_0 : Words
+abbrev pub after_tick_0 : Words
 after_tick_0 = record {
   pedal = 0;
   permitted = 200;
@@ -240,7 +240,7 @@ flip_later = refl
 
 -- the numbers of the words that a run stores, complements from 16 on
 unfoldable order : Inputs → ℕ → Words → List ℕ
-unfolding stores_of check_stores signal_stores debounce_stores react_stores both both_where store in_order fed has_bit is_set pedal_bit plate_bit load_bit speed_bit torque_bit
+unfolding stores_of check_stores signal_stores counters_of debounced_stores debounce_stores react_stores both both_where store in_order fed has_bit is_set pedal_bit plate_bit load_bit speed_bit torque_bit
     is_found debounced limits trips feeds_now feeds start
 order given number words = map (λ (one : Store). one.number) (stores_of given number words)
 

@@ -244,6 +244,14 @@ no_watches = record {
   start = false;
 }
 
+-- what react orders and answers; it finds nothing
+unfoldable pub reaction : Phase → Words → Step
+reaction phase words = record {
+  open_path = opens_now phase words;
+  answer = answer_of phase words;
+  found = no_watches;
+}
+
 -- the watch of the mirrored words alone is found
 unfoldable pub mirror_alone : Watches
 mirror_alone = record no_watches { mirror = true }

@@ -1,7 +1,7 @@
 -- Outside the headline. What stores make of level 2's words, by their numbers, and what they leave alone.
 -- What is stored is said by the definitions of the modules (`Modules.antt`), which have the words by their
 -- names, as public contracts do.
-use Rattle.std.specs.Prelude.{◌≡◌, ℕ, zero, suc, ◌+◌, ◌-◌, Bool, true, ◌==◌, if◌then◌else◌, List, [], ◌∷◌, take, slice_index, Result, OnOk}
+use Rattle.std.specs.Prelude.{◌≡◌, ℕ, ◌+◌, ◌-◌, Bool, true, ◌==◌, if◌then◌else◌, List, [], ◌∷◌, ◌++◌, take, slice_index, Result, OnOk, OnErr, IfOk}
 use Rattle.eg_guard.specs.Regions.{region_of}
 use Rattle.eg_guard.specs.Memory.{ShownMemory, KeepsMemory}
 use Rattle.eg_num.specs.declared.watches.Watches.{Watches}
@@ -14,28 +14,16 @@ use Rattle.eg_answer.specs.Formulas.{permitted_torque, estimated_torque, excess_
 use Rattle.eg_answer.specs.Token.{next_token_of}
 use Rattle.eg_answer.specs.declared.rules.Rules.{Rules}
 use Rattle.eg_answer.specs.declared.words.TheConstants.{MIRRORED_WORDS}
-use Rattle.eg_level2.specs.declared.words.TheConstants.{PEDAL_COUNTER, PLATE_COUNTER, LOAD_COUNTER, SPEED_COUNTER, TORQUE_COUNTER, TOKEN, SIGN}
+use Rattle.eg_level2.specs.declared.words.TheConstants.{PEDAL_COUNTER, PLATE_COUNTER, LOAD_COUNTER, SPEED_COUNTER, TORQUE_COUNTER, LIMP, TRIP, TOKEN, SIGN}
 use Rattle.eg_level2.specs.declared.debounce.Fed.{Fed}
 use Rattle.eg_level2.specs.declared.debounce.Feeds.{Feeds}
-use Rattle.eg_level2.specs.Words.{Words, named, is_set, is_level2_own, AreMirrored}
-use Rattle.eg_level2.specs.Modules.{written, signed, pedal_bit, plate_bit, load_bit, speed_bit, torque_bit, is_found, no_watches}
+use Rattle.eg_level2.specs.declared.step.Step.{Step}
+use Rattle.eg_level2.specs.Words.{Words, named, is_set, word_at, is_level2_own, AreMirrored}
+use Rattle.eg_level2.specs.Modules.{written, signed, pedal_bit, plate_bit, load_bit, speed_bit, torque_bit, is_found, no_watches, trips}
 
 -- a store of one word
 unfoldable pub put : ℕ → ℕ → (ℕ → ℕ) → ℕ → ℕ
 put number value word k = if k == number then value else word k
-
--- a store of a word and its complement
-unfoldable pub keep : ℕ → ℕ → (ℕ → ℕ) → ℕ → ℕ
-keep number value word = put (number + MIRRORED_WORDS) (65535 - value) (put number value word)
-
--- a store of a word and its complement where a test is true, and else none
-unfoldable pub keep_where : Bool → ℕ → ℕ → (ℕ → ℕ) → ℕ → ℕ
-keep_where test number value word = if test then keep number value word else word
-
--- the first `count` words set to the values of a list
-unfoldable pub kept_from : List ℕ → ℕ → (ℕ → ℕ) → ℕ → ℕ
-kept_from values zero word = word
-kept_from values (suc count) word = keep count (slice_index values count) (kept_from values count word)
 
 -- ---- stores in their order ----
 
@@ -47,13 +35,13 @@ pub record Store : Type 0 where
 unfoldable pub store : ℕ → ℕ → Store
 store number value = record { number = number; value = value }
 
--- the store of a word, that of its complement, and then the rest
-unfoldable pub both : ℕ → ℕ → List Store → List Store
-both number value rest = store number value ∷ store (number + MIRRORED_WORDS) (65535 - value) ∷ rest
+-- the store of a word, and that of its complement
+unfoldable pub both : ℕ → ℕ → List Store
+both number value = store number value ∷ store (number + MIRRORED_WORDS) (65535 - value) ∷ []
 
--- the two stores and then the rest where a test is true, else the rest alone
-unfoldable pub both_where : Bool → ℕ → ℕ → List Store → List Store
-both_where test number value rest = if test then both number value rest else rest
+-- these two where a test is true, else none
+unfoldable pub both_where : Bool → ℕ → ℕ → List Store
+both_where test number value = if test then both number value else []
 
 -- the words after these stores, one after another
 unfoldable pub after_stores : List Store → (ℕ → ℕ) → ℕ → ℕ
@@ -68,7 +56,7 @@ pub record AreFirst (stores : List Store) (before after : ℕ → ℕ) : Type 0 
 -- the stores of words of these values, with their complements, from this number on
 unfoldable pub both_from : ℕ → List ℕ → List Store
 both_from number [] = []
-both_from number (value ∷ values) = both number value (both_from (number + 1) values)
+both_from number (value ∷ values) = both number value ++ both_from (number + 1) values
 
 -- ---- what the modules store ----
 
@@ -87,8 +75,7 @@ signal_of rules readings number words =
 unfoldable pub signalling : ℕ → ℕ → ℕ → ℕ → (ℕ → ℕ) → List Store
 signalling number signal test disturbance word =
     both (number - 1) (written (named word) signal disturbance)
-    (both TOKEN (next_token_of (word TOKEN) number)
-    (both SIGN (signed (named word) test disturbance) []))
+    ++ (both TOKEN (next_token_of (word TOKEN) number) ++ both SIGN (signed (named word) test disturbance))
 
 unfoldable pub signalled : ℕ → ℕ → ℕ → ℕ → (ℕ → ℕ) → ℕ → ℕ
 signalled number signal test disturbance word =
@@ -121,15 +108,18 @@ found_of feeds = record no_watches {
   torque = feeds.torque.found;
 }
 
--- the stores of the counters' values, and then the rest
-unfoldable pub counting : Feeds → List Store → List Store
-counting feeds rest =
-    both PEDAL_COUNTER feeds.pedal.value (both PLATE_COUNTER feeds.plate.value
-    (both LOAD_COUNTER feeds.load.value (both SPEED_COUNTER feeds.speed.value
-    (both TORQUE_COUNTER feeds.torque.value rest))))
+-- the stores of the counters' values
+unfoldable pub counting : Feeds → List Store
+counting feeds =
+    both PEDAL_COUNTER feeds.pedal.value ++ (both PLATE_COUNTER feeds.plate.value
+    ++ (both LOAD_COUNTER feeds.load.value ++ (both SPEED_COUNTER feeds.speed.value
+    ++ both TORQUE_COUNTER feeds.torque.value)))
 
-unfoldable pub counters_kept : Feeds → (ℕ → ℕ) → ℕ → ℕ
-counters_kept feeds word = after_stores (counting feeds []) word
+-- what module 6 stores where it feeds: the trip and limp, if they are found, the counters and the token
+unfoldable pub fed_stores : Feeds → ℕ → List Store
+fed_stores feeds token =
+    both_where (trips (found_of feeds)) TRIP 1
+    ++ (both_where feeds.pedal.found LIMP 1 ++ (counting feeds ++ both TOKEN token))
 
 -- the words outside level 2's own regions, by their addresses
 unfoldable pub outside : List ℕ → ℕ → ℕ
@@ -141,3 +131,17 @@ pub record Keeps {T E : Type 0} (old new : ShownMemory) (result : Result T E) : 
   pub outside : outside new.words ≡ outside old.words
   pub memory : KeepsMemory old new result
   pub mirrored : AreMirrored old.words → OnOk result (AreMirrored new.words)
+
+-- A call makes these stores, in their order: all of them where it is done, and where memory ran out those up
+-- to some point.
+pub record Makes {T E : Type 0} (stores : List Store) (old new : ShownMemory) (result : Result T E) : Type 0
+  where
+    pub stored : OnOk result (word_at new.words ≡ after_stores stores (word_at old.words))
+    pub stopped : OnErr result (AreFirst stores (word_at old.words) (word_at new.words))
+    pub keeps : Keeps old new result
+
+-- A run of a module makes these stores, and answers this step where it is done.
+pub record IsRun {E : Type 0} (stores : List Store) (step : Step) (old new : ShownMemory)
+    (result : Result Step E) : Type 0 where
+  pub makes : Makes stores old new result
+  pub answers : IfOk result (λ answer. answer ≡ step)

@@ -1,10 +1,9 @@
 // Module 0: whether level 2's words are as level 2 left them, and whether it ran at the tick before.
-ghost use Rattle.std.specs.Prelude.{◌≡◌, ◌↔◌, ◌+◌, ◌%◌, ◌==◌, IsTrue, OnOk, OnErr, IfOk, if◌then◌else◌, None, false};
-ghost use Rattle.eg_answer.specs.declared.rules.Rules.{Rules};
-ghost use Rattle.eg_level2.specs.Words.{word_at, words_of, in_order, AreMirrored, AreWithin};
-ghost use Rattle.eg_level2.specs.Modules.{marked, check_step, given_up, no_watches, mirror_alone};
-ghost use Rattle.eg_level2.specs.Stores.{Keeps, AreFirst};
-ghost use Rattle.eg_level2.specs.Order.{check_stores, given_up_stores, TellsTrip};
+ghost use Rattle.std.specs.Prelude.{◌≡◌, ◌⊎◌, ◌+◌, ◌%◌, ◌==◌, OnOk, if◌then◌else◌};
+ghost use Rattle.eg_level2.specs.Words.{words_of, in_order, AreMirrored};
+ghost use Rattle.eg_level2.specs.Modules.{marked, check_step, given_up, mirror_alone, finding, quiet_step};
+ghost use Rattle.eg_level2.specs.Stores.{Makes, IsRun};
+ghost use Rattle.eg_level2.specs.Order.{check_stores, given_up_stores};
 
 use crate::Step;
 use crate::words::{
@@ -17,34 +16,15 @@ use eg_guard::Guarded;
 /// Module 0: compares each word with its complement, and begins the token and the fold of this tick
 /// (docs/CONCEPT.md, "Level 2").
 #[inline(always)]
-#[tactic(auto, unfolding(crate::specs::Modules::no_watches, crate::specs::Modules::mirror_alone))]
 pub(crate) fn check<M: Guarded>(memory: &mut M, tick: u16, seed: u16) -> Result<Step, NoMemory>
-    ensures words { AreMirrored (M.shows memory.old).words
-        → OnOk result (words_of (M.shows memory.new).words
-        ≡ check_step seed tick (words_of (M.shows memory.old).words)) }
-    ensures given_up { ¬ AreMirrored (M.shows memory.old).words
-        → OnOk result (words_of (M.shows memory.new).words ≡ given_up tick) }
-    ensures stopped { AreMirrored (M.shows memory.old).words → OnErr result (AreFirst
-        (check_stores (check_step seed tick (words_of (M.shows memory.old).words)))
-        (word_at (M.shows memory.old).words) (word_at (M.shows memory.new).words)) }
-    ensures given_up_stopped { ¬ AreMirrored (M.shows memory.old).words
-        → OnErr result (AreFirst (given_up_stores tick)
-        (word_at (M.shows memory.old).words) (word_at (M.shows memory.new).words)) }
-    ensures told { TellsTrip (M.shows memory.old).words
-        → OnErr result (TellsTrip (M.shows memory.new).words) }
-    ensures answer { IfOk result (λ step. step.answer ≡ None) }
-    ensures order { IfOk result (λ step. step.open_path ≡ false) }
-    ensures found { AreMirrored (M.shows memory.old).words
-        → IfOk result (λ step. step.found ≡ no_watches) }
-    ensures mirror_alone { ¬ AreMirrored (M.shows memory.old).words
-        → IfOk result (λ step. step.found ≡ mirror_alone) }
-    ensures mirror { IfOk result (λ step. IsTrue step.found.mirror
-        ↔ ¬ AreMirrored (M.shows memory.old).words) }
-    ensures mirrored { OnOk result (AreMirrored (M.shows memory.new).words) }
-    ensures within { (rules : Rules)
-        → (AreMirrored (M.shows memory.old).words → AreWithin rules (words_of (M.shows memory.old).words))
-        → OnOk result (AreWithin rules (words_of (M.shows memory.new).words)) }
-    ensures keeps { Keeps (M.shows memory.old) (M.shows memory.new) result }
+    // Where each word has its complement it goes on, and else it gives all words up.
+    ensures { (AreMirrored (M.shows memory.old).words
+        × IsRun (check_stores (check_step seed tick (words_of (M.shows memory.old).words))) quiet_step
+        (M.shows memory.old) (M.shows memory.new) result)
+        ⊎ ((¬ AreMirrored (M.shows memory.old).words)
+        × IsRun (given_up_stores tick) (finding mirror_alone)
+        (M.shows memory.old) (M.shows memory.new) result
+        × OnOk result (AreMirrored (M.shows memory.new).words)) }
 {
     if !is_mirrored(memory) {
         give_up(memory, tick)?;
@@ -56,12 +36,8 @@ pub(crate) fn check<M: Guarded>(memory: &mut M, tick: u16, seed: u16) -> Result<
 
 /// Moves the token, looks at the tick of the last run, notes this one, and begins the fold.
 fn go_on<M: Guarded>(memory: &mut M, tick: u16, seed: u16) -> Result<(), NoMemory>
-    ensures words { OnOk result (words_of (M.shows memory.new).words
-        ≡ check_step seed tick (words_of (M.shows memory.old).words)) }
-    ensures stopped { OnErr result (AreFirst
-        (check_stores (check_step seed tick (words_of (M.shows memory.old).words)))
-        (word_at (M.shows memory.old).words) (word_at (M.shows memory.new).words)) }
-    ensures keeps { Keeps (M.shows memory.old) (M.shows memory.new) result }
+    ensures { Makes (check_stores (check_step seed tick (words_of (M.shows memory.old).words)))
+        (M.shows memory.old) (M.shows memory.new) result }
 {
     let token = next_token(word(memory, TOKEN), eg_answer::CHECK);
     let last = word(memory, LAST);
@@ -87,11 +63,8 @@ fn flow_after(flow: u16, last: u16, tick: u16) -> u16
 /// Gives all words up, and trips. The trip is stored first, so that after each store a trip stands or a word
 /// differs from its complement: memory that runs out in between doesn't hide the fault.
 fn give_up<M: Guarded>(memory: &mut M, tick: u16) -> Result<(), NoMemory>
-    ensures words { OnOk result (words_of (M.shows memory.new).words ≡ given_up tick) }
-    ensures stopped { OnErr result (AreFirst (given_up_stores tick)
-        (word_at (M.shows memory.old).words) (word_at (M.shows memory.new).words)) }
+    ensures makes { Makes (given_up_stores tick) (M.shows memory.old) (M.shows memory.new) result }
     ensures mirrored { OnOk result (AreMirrored (M.shows memory.new).words) }
-    ensures keeps { Keeps (M.shows memory.old) (M.shows memory.new) result }
 {
     keep(memory, TRIP, 1)?;
     keep_all(memory, &given_up_words(tick))

@@ -1,9 +1,9 @@
 // Module 6: the signals are debounced, and what is confirmed for the first time is found.
-ghost use Rattle.std.specs.Prelude.{◌≡◌, ◌≤◌, ◌&&◌, [], nat_lt, OnOk, OnErr, IfOk};
+ghost use Rattle.std.specs.Prelude.{◌≡◌, ◌≤◌, ◌&&◌, nat_lt};
 ghost use Rattle.eg_sensor.specs.Readings.{has_bit};
-ghost use Rattle.eg_level2.specs.Words.{word_at, words_of, AreWithin};
-ghost use Rattle.eg_level2.specs.Modules.{feeds_now, debounced, debounce_step, trips, finding};
-ghost use Rattle.eg_level2.specs.Stores.{Keeps, AreFirst, fed_of, feeds_of, found_of, counting, counters_kept};
+ghost use Rattle.eg_level2.specs.Words.{words_of, AreWithin};
+ghost use Rattle.eg_level2.specs.Modules.{feeds_now, debounced, trips, finding};
+ghost use Rattle.eg_level2.specs.Stores.{Makes, IsRun, fed_of, feeds_of, found_of, counting, fed_stores};
 ghost use Rattle.eg_level2.specs.Order.{debounce_stores};
 
 use crate::step::no_watches;
@@ -40,23 +40,15 @@ struct Feeds {
 /// limited operation are stored before the counters: where memory runs out, no counter stands at its limit
 /// without them.
 #[inline(always)]
-#[tactic(auto, using(crate::proofs::DebounceLemmas::debounce_laws))]
 pub(crate) fn debounce<M: Guarded>(
     memory: &mut M,
     rules: &Rules,
     phase: Phase,
 ) -> Result<Step, NoMemory>
     requires { AreWithin rules.now (words_of (M.shows memory.old).words) }
-    ensures words { OnOk result (words_of (M.shows memory.new).words
-        ≡ debounce_step rules.now phase (words_of (M.shows memory.old).words)) }
-    ensures stopped { OnErr result (AreFirst
-        (debounce_stores (feeds_now phase (words_of (M.shows memory.old).words))
-        (debounced rules.now phase (words_of (M.shows memory.old).words))
-        (debounce_step rules.now phase (words_of (M.shows memory.old).words)))
-        (word_at (M.shows memory.old).words) (word_at (M.shows memory.new).words)) }
-    ensures step { IfOk result (λ step. step
-        ≡ finding (debounced rules.now phase (words_of (M.shows memory.old).words))) }
-    ensures keeps { Keeps (M.shows memory.old) (M.shows memory.new) result }
+    ensures { IsRun (debounce_stores rules.now phase (words_of (M.shows memory.old).words))
+        (finding (debounced rules.now phase (words_of (M.shows memory.old).words)))
+        (M.shows memory.old) (M.shows memory.new) result }
 {
     let token = next_token(word(memory, TOKEN), eg_answer::DEBOUNCE);
     if !feeds_now(memory, phase) {
@@ -64,10 +56,7 @@ pub(crate) fn debounce<M: Guarded>(
         return Ok(Step::quiet());
     }
     let feeds = feed_all(memory, rules);
-    keep_where(feeds.trips(), memory, TRIP, 1)?;
-    keep_where(feeds.pedal.found, memory, LIMP, 1)?;
-    keep_counters(memory, &feeds)?;
-    keep(memory, TOKEN, token)?;
+    keep_fed(memory, &feeds, token)?;
     Ok(Step::finding(feeds.found()))
 }
 
@@ -111,6 +100,7 @@ fn has_bit(size: u16, word: u16) -> bool
 
 /// Feeds the counters with the bits of the pairs and of the excess.
 #[inline(always)]
+#[tactic(auto, unfolding(crate::specs::Words::named))]
 fn feed_all<M: Guarded>(memory: &M, rules: &Rules) -> Feeds
     requires { AreWithin rules.now (words_of (M.shows memory.now).words) }
     ensures { result ≡ feeds_of rules.now (words_of (M.shows memory.now).words) }
@@ -146,14 +136,21 @@ fn feed_all<M: Guarded>(memory: &M, rules: &Rules) -> Feeds
     }
 }
 
+/// Stores what comes of the feeds, and the token.
+#[inline(always)]
+fn keep_fed<M: Guarded>(memory: &mut M, feeds: &Feeds, token: u16) -> Result<(), NoMemory>
+    ensures { Makes (fed_stores feeds.now token) (M.shows memory.old) (M.shows memory.new) result }
+{
+    keep_where(feeds.trips(), memory, TRIP, 1)?;
+    keep_where(feeds.pedal.found, memory, LIMP, 1)?;
+    keep_counters(memory, feeds)?;
+    keep(memory, TOKEN, token)
+}
+
 /// Stores the counters.
 #[inline(always)]
 fn keep_counters<M: Guarded>(memory: &mut M, feeds: &Feeds) -> Result<(), NoMemory>
-    ensures stored { OnOk result (word_at (M.shows memory.new).words
-        ≡ counters_kept feeds.now (word_at (M.shows memory.old).words)) }
-    ensures stopped { OnErr result (AreFirst (counting feeds.now [])
-        (word_at (M.shows memory.old).words) (word_at (M.shows memory.new).words)) }
-    ensures keeps { Keeps (M.shows memory.old) (M.shows memory.new) result }
+    ensures { Makes (counting feeds.now) (M.shows memory.old) (M.shows memory.new) result }
 {
     keep(memory, PEDAL_COUNTER, feeds.pedal.value)?;
     keep(memory, PLATE_COUNTER, feeds.plate.value)?;

@@ -1,11 +1,11 @@
 // Level 2 as a whole: its eight modules by their numbers, and its reset.
-ghost use Rattle.std.specs.Prelude.{◌≡◌, ℕ, ◌%◌, ◌<◌, ◌≤◌, length, IsTrue, IsOk, OnOk, OnErr, IfOk};
+ghost use Rattle.std.specs.Prelude.{◌≡◌, ℕ, ◌%◌, ◌<◌, ◌≤◌, length, IsTrue, IsOk, OnOk, OnErr};
 ghost use Rattle.eg_answer.specs.declared.modules.TheConstants.{CHECK, MODULES, PAIRS};
 ghost use Rattle.eg_guard.specs.Memory.{AreWords, SameOutside};
 ghost use Rattle.eg_level2.specs.Words.{ChangeLaw, word_at, words_of, AreMirrored, AreWithin, is_level2_own, start};
 ghost use Rattle.eg_level2.specs.Inputs.{AreParts, IsLookup, inputs_of, asked_of, results_by, row_of};
-ghost use Rattle.eg_level2.specs.Modules.{module_step, step_of};
-ghost use Rattle.eg_level2.specs.Stores.{Keeps, AreFirst};
+ghost use Rattle.eg_level2.specs.Modules.{quiet_step};
+ghost use Rattle.eg_level2.specs.Stores.{AreFirst, IsRun};
 ghost use Rattle.eg_level2.specs.Order.{reset_stores, stores_of};
 ghost use Rattle.eg_level2.specs.Runs.{IsModuleRun};
 
@@ -164,35 +164,6 @@ impl Level2 {
         if number == eg_answer::CHECK {
             return check(memory, tick, self.test(memory).seed);
         }
-        self.run(number, memory, phase, disturbance, lookup)
-    }
-
-    /// Runs a module other than module 0.
-    #[inline(always)]
-    fn run<M: Guarded>(
-        &self,
-        number: u8,
-        memory: &mut M,
-        phase: Phase,
-        disturbance: u16,
-        lookup: &Lookup,
-    ) -> Result<Step, NoMemory>
-        requires first { CHECK < number }
-        requires last { number < MODULES }
-        requires lookup { IsLookup self.now.rules lookup.now }
-        requires within { AreWithin self.now.rules (words_of (M.shows memory.old).words) }
-        ensures words { (tick : ℕ) → OnOk result (words_of (M.shows memory.new).words
-            ≡ module_step (inputs_of self.now (M.shows memory.old).words tick phase disturbance) number
-            (words_of (M.shows memory.old).words)) }
-        ensures stopped { (tick : ℕ) → OnErr result (AreFirst
-            (stores_of (inputs_of self.now (M.shows memory.old).words tick phase disturbance) number
-            (words_of (M.shows memory.old).words))
-            (word_at (M.shows memory.old).words) (word_at (M.shows memory.new).words)) }
-        ensures step { (tick : ℕ) → IfOk result (λ step. step
-            ≡ step_of (inputs_of self.now (M.shows memory.old).words tick phase disturbance) number
-            (words_of (M.shows memory.old).words)) }
-        ensures keeps { Keeps (M.shows memory.old) (M.shows memory.new) result }
-    {
         if number <= eg_answer::PAIRS {
             return self.run_signal(number, memory, disturbance, lookup);
         }
@@ -214,17 +185,10 @@ impl Level2 {
         requires first { CHECK < number }
         requires last { number ≤ PAIRS }
         requires lookup { IsLookup self.now.rules lookup.now }
-        ensures words { (tick : ℕ) (phase : Phase) → OnOk result (words_of (M.shows memory.new).words
-            ≡ module_step (inputs_of self.now (M.shows memory.old).words tick phase disturbance) number
-            (words_of (M.shows memory.old).words)) }
-        ensures stopped { (tick : ℕ) (phase : Phase) → OnErr result (AreFirst
+        ensures { (tick : ℕ) (phase : Phase) → IsRun
             (stores_of (inputs_of self.now (M.shows memory.old).words tick phase disturbance) number
             (words_of (M.shows memory.old).words))
-            (word_at (M.shows memory.old).words) (word_at (M.shows memory.new).words)) }
-        ensures step { (tick : ℕ) (phase : Phase) → IfOk result (λ step. step
-            ≡ step_of (inputs_of self.now (M.shows memory.old).words tick phase disturbance) number
-            (words_of (M.shows memory.old).words)) }
-        ensures keeps { Keeps (M.shows memory.old) (M.shows memory.new) result }
+            quiet_step (M.shows memory.old) (M.shows memory.new) result }
     {
         let signal = signal(number, memory, &self.rules, lookup);
         let test = self.test(memory).results[usize::from(number) - 1];

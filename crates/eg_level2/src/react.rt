@@ -1,8 +1,8 @@
 // Module 7: what comes of a trip, and the answer.
-ghost use Rattle.std.specs.Prelude.{◌≡◌, ◌+◌, ◌*◌, ◌==◌, [], OnOk, OnErr, IfOk, if◌then◌else◌, Some, None};
-ghost use Rattle.eg_level2.specs.Words.{words_of, word_at};
-ghost use Rattle.eg_level2.specs.Modules.{marked, closed_flow, opens_now, answers_now, react_step, answer_of, no_watches};
-ghost use Rattle.eg_level2.specs.Stores.{Keeps, AreFirst, keep, both};
+ghost use Rattle.std.specs.Prelude.{◌≡◌, ◌+◌, ◌*◌, ◌==◌, if◌then◌else◌, Some, None};
+ghost use Rattle.eg_level2.specs.Words.{words_of};
+ghost use Rattle.eg_level2.specs.Modules.{marked, closed_flow, opens_now, answers_now, react_step, reaction};
+ghost use Rattle.eg_level2.specs.Stores.{IsRun};
 ghost use Rattle.eg_level2.specs.Order.{react_stores};
 
 use crate::step::no_watches;
@@ -19,40 +19,21 @@ const WHOLE_TOKEN: u16 = 0x00ff;
 /// `Send` where no trip stands (docs/CONCEPT.md, "Level 2").
 #[inline(always)]
 pub(crate) fn react<M: Guarded>(memory: &mut M, phase: Phase) -> Result<Step, NoMemory>
-    ensures words { OnOk result (words_of (M.shows memory.new).words
-        ≡ react_step phase (words_of (M.shows memory.old).words)) }
-    ensures stopped { OnErr result (AreFirst
-        (react_stores (react_step phase (words_of (M.shows memory.old).words)))
-        (word_at (M.shows memory.old).words) (word_at (M.shows memory.new).words)) }
-    ensures answer { IfOk result (λ step. step.answer
-        ≡ answer_of phase (words_of (M.shows memory.old).words)) }
-    ensures order { IfOk result (λ step. step.open_path
-        ≡ opens_now phase (words_of (M.shows memory.old).words)) }
-    ensures found { IfOk result (λ step. step.found ≡ no_watches) }
-    ensures keeps { Keeps (M.shows memory.old) (M.shows memory.new) result }
+    ensures { IsRun (react_stores (react_step phase (words_of (M.shows memory.old).words)))
+        (reaction phase (words_of (M.shows memory.old).words))
+        (M.shows memory.old) (M.shows memory.new) result }
 {
     let opens = opens_now(memory, phase);
     let sends = answers_now(memory, phase);
     let flow = closed_flow(memory);
     let sign = word(memory, SIGN);
-    begin_token(memory)?;
+    keep(memory, TOKEN, 0)?;
     keep(memory, FLOW, flow_after(sends, flow))?;
     Ok(Step {
         open_path: opens,
         answer: sent_number(sends, flow, sign),
         found: no_watches(),
     })
-}
-
-/// Begins the token anew.
-fn begin_token<M: Guarded>(memory: &mut M) -> Result<(), NoMemory>
-    ensures stored { OnOk result (word_at (M.shows memory.new).words
-        ≡ keep TOKEN 0 (word_at (M.shows memory.old).words)) }
-    ensures stopped { OnErr result (AreFirst (both TOKEN 0 [])
-        (word_at (M.shows memory.old).words) (word_at (M.shows memory.new).words)) }
-    ensures keeps { Keeps (M.shows memory.old) (M.shows memory.new) result }
-{
-    keep(memory, TOKEN, 0)
 }
 
 /// The flow of this tick's answer.

@@ -28,16 +28,21 @@ pub(crate) fn signal<M: Guarded>(number: u8, memory: &M, rules: &Rules, lookup: 
     ensures { result ≡ signal_of rules.now (readings_of (M.shows memory.now).words) number
         (words_of (M.shows memory.now).words) }
 {
-    let read = readings(memory);
     match number {
-        eg_answer::PEDAL => used(read.pedal, is_set(word(memory, LIMP))),
+        eg_answer::PEDAL => used(readings(memory).pedal, is_set(word(memory, LIMP))),
         eg_answer::PERMITTED => {
             let tripped = is_set(word(memory, TRIP));
-            permit(rules, lookup, tripped, word(memory, PEDAL), &read)
+            permit(
+                rules,
+                lookup,
+                tripped,
+                word(memory, PEDAL),
+                &readings(memory),
+            )
         }
-        eg_answer::ACTUAL => estimated_torque(rules, &read),
+        eg_answer::ACTUAL => estimated_torque(rules, &readings(memory)),
         eg_answer::EXCESS => excess_number(rules, word(memory, PERMITTED), word(memory, ACTUAL)),
-        _ => disagreeing_pairs(rules, &read),
+        _ => disagreeing_pairs(rules, &readings(memory)),
     }
 }
 

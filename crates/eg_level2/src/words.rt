@@ -1,9 +1,9 @@
 // Level 2's words in the guarded memory: each is stored with its complement.
-ghost use Rattle.std.specs.Prelude.{◌≡◌, ◌↔◌, ◌<◌, [], IsTrue, OnOk, OnErr};
+ghost use Rattle.std.specs.Prelude.{◌≡◌, ◌↔◌, ◌<◌, IsTrue, OnOk, OnErr};
 ghost use Rattle.eg_guard.specs.Memory.{KeepsMemory};
 ghost use Rattle.eg_answer.specs.declared.words.TheConstants.{MIRRORED_WORDS, STORED_WORDS};
 ghost use Rattle.eg_level2.specs.Words.{address_of, word_at, AreMirrored, is_set};
-ghost use Rattle.eg_level2.specs.Stores.{Keeps, AreFirst, put, keep, keep_where, kept_from, both, both_where, both_from, outside};
+ghost use Rattle.eg_level2.specs.Stores.{Makes, put, both, both_where, both_from, outside};
 
 use eg_answer::MIRRORED_WORDS;
 use eg_base::NoMemory;
@@ -100,21 +100,15 @@ fn put<M: Guarded>(memory: &mut M, number: u16, value: u16) -> Result<(), NoMemo
 }
 
 /// Stores a word and its complement.
-#[tactic(auto, using(crate::proofs::StoreLemmas::stores))]
 pub(crate) fn keep<M: Guarded>(memory: &mut M, number: u16, value: u16) -> Result<(), NoMemory>
     requires { number < MIRRORED_WORDS }
-    ensures stored { OnOk result (word_at (M.shows memory.new).words
-        ≡ keep number value (word_at (M.shows memory.old).words)) }
-    ensures stopped { OnErr result (AreFirst (both number value [])
-        (word_at (M.shows memory.old).words) (word_at (M.shows memory.new).words)) }
-    ensures keeps { Keeps (M.shows memory.old) (M.shows memory.new) result }
+    ensures { Makes (both number value) (M.shows memory.old) (M.shows memory.new) result }
 {
     put(memory, number, value)?;
     put(memory, number + WORDS, u16::MAX - value)
 }
 
 /// Stores a word and its complement where a test is true, and else nothing.
-#[tactic(auto, unfolding(crate::specs::Stores::keep_where))]
 pub(crate) fn keep_where<M: Guarded>(
     test: bool,
     memory: &mut M,
@@ -122,11 +116,7 @@ pub(crate) fn keep_where<M: Guarded>(
     value: u16,
 ) -> Result<(), NoMemory>
     requires { number < MIRRORED_WORDS }
-    ensures stored { OnOk result (word_at (M.shows memory.new).words
-        ≡ keep_where test number value (word_at (M.shows memory.old).words)) }
-    ensures stopped { OnErr result (AreFirst (both_where test number value [])
-        (word_at (M.shows memory.old).words) (word_at (M.shows memory.new).words)) }
-    ensures keeps { Keeps (M.shows memory.old) (M.shows memory.new) result }
+    ensures { Makes (both_where test number value) (M.shows memory.old) (M.shows memory.new) result }
 {
     if !test {
         return Ok(());
@@ -139,12 +129,8 @@ pub(crate) fn keep_all<M: Guarded>(
     memory: &mut M,
     words: &[u16; MIRRORED_WORDS as usize],
 ) -> Result<(), NoMemory>
-    ensures stored { OnOk result (word_at (M.shows memory.new).words
-        ≡ kept_from words.now MIRRORED_WORDS (word_at (M.shows memory.old).words)) }
-    ensures stopped { OnErr result (AreFirst (both_from 0 words.now)
-        (word_at (M.shows memory.old).words) (word_at (M.shows memory.new).words)) }
+    ensures makes { Makes (both_from 0 words.now) (M.shows memory.old) (M.shows memory.new) result }
     ensures mirrored { OnOk result (AreMirrored (M.shows memory.new).words) }
-    ensures keeps { Keeps (M.shows memory.old) (M.shows memory.new) result }
 {
     for number in 0..WORDS {
         let value = words[usize::from(number)];

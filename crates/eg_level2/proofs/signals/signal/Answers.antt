@@ -5,12 +5,12 @@ use Rattle.eg_level2.proofs.signals.signal.Goals as goal
 
 pub returns-in-1 : goal.returns-in-1
 unfolding signal_of named
-returns-in-1 g c = rw (c.used.ensures, c.is_set.ensures, c.word.ensures, c.readings-read.ensures, c.in-1.is) refl
+returns-in-1 g c = rw (c.used.ensures, c.is_set.ensures, c.word.ensures, c.readings.ensures, c.in-1.is) refl
 
 pub returns-in-2 : goal.returns-in-2
 unfolding signal_of named
 returns-in-2 g c =
-    rw (c.permit.ensures, c.is_set-tripped.ensures, c.word-in-2.ensures, c.word-in-2-2.ensures, c.readings-read.ensures, c.in-2.is) refl
+    rw (c.permit.ensures, c.is_set-tripped.ensures, c.word-in-2.ensures, c.word-in-2-2.ensures, c.readings-in-2.ensures, c.in-2.is) refl
 
 pub returns-in-4 : goal.returns-in-4
 unfolding signal_of named

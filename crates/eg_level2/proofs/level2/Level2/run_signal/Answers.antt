@@ -1,18 +1,18 @@
-use Rattle.std.proofs.Common.{◌∙◌}
-use Rattle.eg_base.proofs.ResultLemmas.{at_err}
-use Rattle.eg_level2.proofs.SignalLemmas.{signals, signals-stores}
-use Rattle.eg_level2.proofs.StepLemmas.{same_rules, quiet}
+use Rattle.eg_level2.specs.Stores.{signalled}
+use Rattle.eg_level2.proofs.SignalLemmas.{signal_makes}
+use Rattle.eg_level2.proofs.MakesLemmas.{early_last, done_by, ended}
+use Rattle.eg_level2.proofs.StepLemmas.{same_rules}
 use Rattle.eg_level2.proofs.level2.Level2.run_signal.Goals as goal
 
-pub returns-in_err-write-clause-stopped : goal.returns-in_err-write-clause-stopped
-returns-in_err-write-clause-stopped g c = λ tick phase. at_err c.from_residual.result
-    (signals-stores _ _ tick phase _ _ _ _ _ _ _ (same_rules _ _ c.self.view_is) c.requires.first c.requires.last
-    c.signal-signal.ensures c.test.ensures c.from.ensures _ c.in_err-write.ensures.stopped)
+pub returns-in_err-write : goal.returns-in_err-write
+returns-in_err-write g c = λ tick phase. ended c.from_residual.result c.from_residual.ensures.0
+    (signal_makes _ _ tick phase _ _ _ _ _ _ _ (same_rules _ _ c.self.view_is) c.requires.first c.requires.last c.signal-signal.ensures c.test.ensures c.from.ensures
+    (early_last c.from_residual.result c.from_residual.ensures.0 (record { stored = tt; stopped = c.in_err-write.ensures.stopped; keeps = c.in_err-write.ensures.keeps })))
 
-pub returns-clause-words : goal.returns-clause-words
-returns-clause-words g c = λ tick phase.
-    signals _ _ tick phase _ _ _ _ _ _ _ (same_rules _ _ c.self.view_is) c.requires.first c.requires.last
-    c.signal-signal.ensures c.test.ensures c.from.ensures _ c.in_ok-write.ensures.stored
-
-pub returns-clause-step : goal.returns-clause-step
-returns-clause-step g c = λ tick phase. c.quiet.ensures ∙ quiet _ _ _ c.requires.last
+pub returns : goal.returns
+unfolding signalled
+returns g c = λ tick phase. record {
+  makes = signal_makes _ _ tick phase _ _ _ _ _ _ _ (same_rules _ _ c.self.view_is) c.requires.first c.requires.last c.signal-signal.ensures c.test.ensures c.from.ensures
+      (done_by c.in_ok-write.ensures.stored c.in_ok-write.ensures.keeps);
+  answers = c.quiet.ensures;
+}
