@@ -1,8 +1,7 @@
 -- Laws of one tick over truth values and numbers alone: what a word becomes, by whether a word is flipped,
 -- whether the module runs, and whether a trip stood before.
-use Rattle.std.proofs.Common.{◌≡◌, ℕ, ◌≤◌, Bool, true, false, not, ◌||◌, ◌&&◌, List, ◌∷◌, refl, sym, ap, ◌∙◌, nat_lt}
+use Rattle.std.proofs.Common.{arith, ◌≡◌, ℕ, ◌≤◌, Bool, true, false, not, ◌||◌, ◌&&◌, List, ◌∷◌, refl, ap, ◌∙◌, nat_lt}
 use Rattle.std.specs.Prelude.{if◌then◌else◌, ◌==◌, is_some, bit_xor, Some, None}
-use Rattle.std.proofs.lemmas.Bool.{true≢false, false≢true}
 use Rattle.eg_num.specs.Windows.{WeightParts, is_first}
 use Rattle.eg_num.specs.Counting.{fed, counted}
 use Rattle.eg_num.proofs.CounterLemmas.{StandsFor-first}
@@ -21,29 +20,16 @@ pub if-same : {T U : Type 0} (part : T → U) (runs : Bool) (a b : T) (u : U) �
 if-same part true a b u e kept = e ∙ kept
 if-same part false a b u e kept = kept
 
-pub if-nested : (runs test : Bool) (a b : ℕ) →
-    (if runs then (if test then a else b) else b) ≡ (if runs && test then a else b)
-if-nested true test a b = refl
-if-nested false test a b = refl
-
 pub if-false : (runs test : Bool) → (if runs then test else false) ≡ (runs && test)
-if-false true test = refl
-if-false false test = refl
+if-false runs test = grind arith
 
 -- what a trip or a flip stops doesn't run
 pub stopped : (driven runs trip flip : Bool) → trip ≡ true → (driven && (runs && not trip && not flip)) ≡ false
-stopped false runs trip flip e = refl
-stopped true true true flip e = refl
-stopped true false true flip e = refl
-stopped true runs false flip e = absurd (false≢true e)
+stopped driven runs trip flip e = grind arith
 
 pub stopped_by_flip : (driven runs trip flip : Bool) → flip ≡ true →
     (driven && (runs && not trip && not flip)) ≡ false
-stopped_by_flip false runs trip flip e = refl
-stopped_by_flip true true true true e = refl
-stopped_by_flip true true false true e = refl
-stopped_by_flip true false trip true e = refl
-stopped_by_flip true runs trip false e = absurd (false≢true e)
+stopped_by_flip driven runs trip flip e = grind arith
 
 pub is_set-bit : (b : Bool) → is_set (bit 1 b) ≡ b
 unfolding is_set
@@ -57,13 +43,7 @@ pub written-law : (flip runs trip : Bool) (trip_word old before value told mask 
     → (if runs then (if is_set trip_word then 0 else bit_xor value mask) else old)
     ≡ (if flip && true then 0 else
     (if flip then 0 else if not runs then before else if trip then 0 else bit_xor told mask))
-unfolding is_set
-written-law true true trip tw old before value told mask et eo ev = rw et refl
-written-law true false trip tw old before value told mask et eo ev = eo
-written-law false true true tw old before value told mask et eo ev = rw et refl
-written-law false true false tw old before value told mask et eo ev =
-    rw et (ap (λ n. bit_xor n mask) (ev refl refl))
-written-law false false trip tw old before value told mask et eo ev = eo
+written-law flip runs trip tw old before value told mask et eo ev = grind (arith, is_set-bit)
 
 -- whether module 6 feeds, by the word for the trip
 pub feeding-law : (feeding driven flip trip : Bool) (trip_word : ℕ) → feeding ≡ (driven && not (is_set trip_word)) →
@@ -76,17 +56,7 @@ pub counted-law : (weights : WeightParts) (feeding driven flip runs trip : Bool)
     → (flip ≡ false → bad ≡ told)
     → (if runs then (if feeding then fed weights value bad else value) else value)
     ≡ (if flip then 0 else if driven && (runs && not trip && not flip) then fed weights kept told else kept)
-counted-law weights feeding driven true true trip value kept bad told ef ev eb = rw ef (never driven)
-  where
-    never : (driven : Bool) → (if driven && false then fed weights value bad else value) ≡ 0
-    never true = ev
-    never false = ev
-counted-law weights feeding driven true false trip value kept bad told ef ev eb = ev
-counted-law weights feeding false false true trip value kept bad told ef ev eb = rw ef ev
-counted-law weights feeding true false true true value kept bad told ef ev eb = rw ef ev
-counted-law weights feeding true false true false value kept bad told ef ev eb = rw (ef, ev, eb refl) refl
-counted-law weights feeding false false false trip value kept bad told ef ev eb = ev
-counted-law weights feeding true false false trip value kept bad told ef ev eb = ev
+counted-law weights feeding driven flip runs trip value kept bad told ef ev eb = grind arith
 
 -- a watch that module 6 finds
 pub found-law : (weights : WeightParts) (feeding driven flip runs trip mirror : Bool) (value : ℕ)
@@ -96,16 +66,8 @@ pub found-law : (weights : WeightParts) (feeding driven flip runs trip mirror : 
     (flip ≡ false → bad ≡ told)
     → (runs && (feeding && (nat_lt value weights.limit && fed weights value bad == weights.limit)))
     ≡ ((driven && (runs && not trip && not flip)) && is_first weights (told ∷ bits))
-found-law weights feeding false flip true trip mirror value bits bad told positive em ef ev eb = rw ef refl
-found-law weights feeding false flip false trip mirror value bits bad told positive em ef ev eb = refl
-found-law weights feeding true true true true mirror value bits bad told positive em ef ev eb = rw ef refl
-found-law weights feeding true true true false mirror value bits bad told positive em ef ev eb = rw ef refl
-found-law weights feeding true flip false trip mirror value bits bad told positive em ef ev eb = refl
-found-law weights feeding true false true true mirror value bits bad told positive em ef ev eb = rw ef refl
-found-law weights feeding true false true false true value bits bad told positive em ef ev eb =
-    absurd (false≢true (em refl))
-found-law weights feeding true false true false false value bits bad told positive em ef ev eb =
-    rw (ef, eb refl) (sym (StandsFor-first weights value told bits positive ev))
+found-law weights feeding driven flip runs trip mirror value bits bad told positive em ef ev eb =
+    grind (arith, StandsFor-first weights value told bits positive)
 
 -- limited operation, of which module 6 finds the pedal
 pub limp-law : (flip runs mirror limited pedal told : Bool) (word : ℕ) →
@@ -113,18 +75,7 @@ pub limp-law : (flip runs mirror limited pedal told : Bool) (word : ℕ) →
     → (flip ≡ true → told ≡ false) → (mirror ≡ true → told ≡ false)
     → (if runs then (if pedal then 1 else word) else word)
     ≡ (if flip || mirror then 0 else bit 1 (told || limited))
-limp-law flip runs mirror limited pedal told word ew ep ef em = if-nested runs pedal 1 word
-    ∙ ap (λ found. if found then 1 else word) ep ∙ go flip mirror told ew ef em
-  where
-    go : (flip mirror told : Bool) → word ≡ (if flip then 0 else if mirror then 0 else bit 1 limited) →
-        (flip ≡ true → told ≡ false) → (mirror ≡ true → told ≡ false)
-        → (if told then 1 else word) ≡ (if flip || mirror then 0 else bit 1 (told || limited))
-    go true mirror true ew ef em = absurd (true≢false (ef refl))
-    go false true true ew ef em = absurd (true≢false (em refl))
-    go false false true ew ef em = refl
-    go true mirror false ew ef em = ew
-    go false true false ew ef em = ew
-    go false false false ew ef em = ew
+limp-law flip runs mirror limited pedal told word ew ep ef em = grind arith
 
 -- the trip, by the four watches of module 6 that trip
 pub trip-law : (flip runs trip plate load speed turn plate' load' speed' turn' : Bool) (word : ℕ) →
@@ -132,29 +83,7 @@ pub trip-law : (flip runs trip plate load speed turn plate' load' speed' turn' :
     → (runs && plate) ≡ plate' → (runs && load) ≡ load' → (runs && speed) ≡ speed' → (runs && turn) ≡ turn'
     → (if runs then (if plate || load || speed || turn then 1 else word) else word)
     ≡ bit 1 ((flip || plate' || load' || speed' || turn') || trip)
-trip-law flip true trip plate load speed turn plate' load' speed' turn' word ew ep el es et =
-    rw (ep, el, es, et, ew) (go flip trip
-    (plate' || load' || speed' || turn') plate' load' speed' turn' refl)
-  where
-    go : (flip trip any a b c d : Bool) → any ≡ (a || b || c || d) →
-        (if a || b || c || d then 1 else bit 1 (flip || trip)) ≡ bit 1 ((flip || a || b || c || d) || trip)
-    go true trip any a b c d e = rw (← e) (same any)
-      where
-        same : (any : Bool) → (if any then 1 else bit 1 true) ≡ bit 1 true
-        same true = refl
-        same false = refl
-    go false trip any a b c d e = rw (← e) (either any)
-      where
-        either : (any : Bool) → (if any then 1 else bit 1 trip) ≡ bit 1 (any || trip)
-        either true = refl
-        either false = refl
-trip-law flip false trip plate load speed turn plate' load' speed' turn' word ew ep el es et =
-    rw (← ep, ← el, ← es, ← et) (go flip ew)
-  where
-    go : (flip : Bool) → word ≡ bit 1 (flip || trip) →
-        word ≡ bit 1 ((flip || false || false || false || false) || trip)
-    go true ew = ew
-    go false ew = ew
+trip-law flip runs trip plate load speed turn plate' load' speed' turn' word ew ep el es et = grind arith
 
 -- whether module 7 sends an answer
 pub sent-law : {T : Type 0} (runs sends driven due tripped : Bool) (word : ℕ) (answer : T) → word ≡ bit 1 tripped
@@ -167,10 +96,4 @@ sent-law runs sends driven due tripped word answer ew es =
     go : (runs driven due tripped : Bool) →
         is_some (if runs then (if (driven && due) && not tripped then Some answer else None) else None)
         ≡ (driven && (due && runs && not tripped))
-    go true true true true = refl
-    go true true true false = refl
-    go true true false tripped = refl
-    go true false due tripped = refl
-    go false true true tripped = refl
-    go false true false tripped = refl
-    go false false due tripped = refl
+    go runs driven due tripped = grind arith

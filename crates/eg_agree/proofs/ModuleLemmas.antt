@@ -20,41 +20,26 @@ module _ (kind : SpanKind) (s : Setting) (x : Effects) (reads : Readings) (l : �
   abbrev pub row : TestRow
   row = row_of s.cal.questions (asked_at x s.cal.times (length s.cal.questions) l)
 
-  pub after-check : after 1 ≡ (if x.ran 0 then
-      (if is_some x.flip then given_up l else check_step row.seed l w) else w)
-  unfolding doing_at after_modules after_module inputs_for module_step
-  after-check = refl
+  -- what each module makes of those after the module before it, where it runs
+  pub record Steps : Type 0 where
+    pub check : after 1 ≡ (if x.ran 0 then (if is_some x.flip then given_up l else check_step row.seed l w) else w)
+    pub pedal : after 2 ≡ (if x.ran 1 then pedal_step reads row (x.disturbance 1) (after 1) else after 1)
+    pub permitted : after 3 ≡ (if x.ran 2 then permitted_step s.cal.rules reads row (x.disturbance 2) (after 2) else after 2)
+    pub actual : after 4 ≡ (if x.ran 3 then actual_step s.cal.rules reads row (x.disturbance 3) (after 3) else after 3)
+    pub excess : after 5 ≡ (if x.ran 4 then excess_step s.cal.rules row (x.disturbance 4) (after 4) else after 4)
+    pub pairs : after 6 ≡ (if x.ran 5 then pairs_step s.cal.rules reads row (x.disturbance 5) (after 5) else after 5)
+    pub debounce : after 7 ≡ (if x.ran 6 then debounce_step s.cal.rules (phase_at kind s.cal.times x l) (after 6) else after 6)
+    pub react : after 8 ≡ (if x.ran 7 then react_step (phase_at kind s.cal.times x l) (after 7) else after 7)
 
-  pub after-pedal : after 2 ≡ (if x.ran 1 then pedal_step reads row (x.disturbance 1)
-      (after 1) else after 1)
+  pub steps : Steps
   unfolding doing_at after_modules after_module inputs_for module_step
-  after-pedal = refl
-
-  pub after-permitted : after 3
-      ≡ (if x.ran 2 then permitted_step s.cal.rules reads row (x.disturbance 2) (after 2) else after 2)
-  unfolding doing_at after_modules after_module inputs_for module_step
-  after-permitted = refl
-
-  pub after-actual : after 4 ≡
-      (if x.ran 3 then actual_step s.cal.rules reads row (x.disturbance 3) (after 3) else after 3)
-  unfolding doing_at after_modules after_module inputs_for module_step
-  after-actual = refl
-
-  pub after-excess : after 5 ≡
-      (if x.ran 4 then excess_step s.cal.rules row (x.disturbance 4) (after 4) else after 4)
-  unfolding doing_at after_modules after_module inputs_for module_step
-  after-excess = refl
-
-  pub after-pairs : after 6 ≡ (if x.ran 5 then pairs_step s.cal.rules reads row (x.disturbance 5)
-      (after 5) else after 5)
-  unfolding doing_at after_modules after_module inputs_for module_step
-  after-pairs = refl
-
-  pub after-debounce : after 7
-      ≡ (if x.ran 6 then debounce_step s.cal.rules (phase_at kind s.cal.times x l) (after 6) else after 6)
-  unfolding doing_at after_modules after_module inputs_for module_step
-  after-debounce = refl
-
-  pub after-react : after 8 ≡ (if x.ran 7 then react_step (phase_at kind s.cal.times x l) (after 7) else after 7)
-  unfolding doing_at after_modules after_module inputs_for module_step
-  after-react = refl
+  steps = record {
+    check = refl;
+    pedal = refl;
+    permitted = refl;
+    actual = refl;
+    excess = refl;
+    pairs = refl;
+    debounce = refl;
+    react = refl;
+  }

@@ -1,7 +1,7 @@
 -- The number that is sent has the mark of the model's tick, under every fault.
-use Rattle.std.proofs.Common.{◌≡◌, ℕ, ◌+◌, ◌≤◌, ◌<◌, ◌⊎◌, inl, inr, Bool, true, false, not, ◌&&◌, ◌||◌, List, [], ◌∷◌, length, refl, sym, ap, subst, ◌∙◌, arith, Option, Some, None, is_some}
+use Rattle.std.proofs.Common.{◌≡◌, ℕ, ◌+◌, ◌≤◌, ◌<◌, ◌⊎◌, inl, inr, Bool, true, false, not, ◌&&◌, List, [], ◌∷◌, length, refl, sym, ap, subst, ◌∙◌, arith, Option, Some, None, is_some}
 use Rattle.std.specs.Prelude.{if◌then◌else◌, ◌==◌}
-use Rattle.std.proofs.lemmas.Bool.{and_parts, or_parts, or_from, not-true, cases_lt, eq-eqb, ne_eqb, eqb-true, and_left}
+use Rattle.std.proofs.lemmas.Bool.{false≢true, true≢false, and_parts, or_parts, or_from, not-true, cases_lt, eq-eqb, ne_eqb, eqb-true}
 use Rattle.std.proofs.Math.Nat.{mod-lt, mod-eq_of_lt}
 use Rattle.eg_answer.specs.Answers.{expected_of, answer_number}
 use Rattle.eg_answer.specs.Modules.{AllRun, NoneRuns, OthersRun, AtMostOneIsDisturbed}
@@ -27,12 +27,12 @@ use Rattle.eg_model.specs.Signals.{tripped}
 use Rattle.eg_model.specs.Answers.{is_undisturbed, is_answer, whole_since_answer, is_sent, is_good}
 use Rattle.eg_model.specs.Moments.{moment_in, moments_in}
 use Rattle.eg_model.specs.Premises.{Follows}
-use Rattle.eg_model.proofs.TickLemmas.{tripped-cons}
+use Rattle.eg_model.proofs.TickLemmas.{fields_in, tripped-cons}
 use Rattle.eg_agree.specs.Doings.{doing_at}
 use Rattle.eg_fault.specs.Faults.{IsNoneOrValid}
 use Rattle.eg_agree.specs.Replies.{doing_after, IsReady, FlowMarks, moment_after, number_expected, mark_of, is_flipped, RanTogether, ReactRan, has_just_answered, KeepsFlow}
 use Rattle.eg_fault.proofs.ClassLemmas.{at_most_one_is_disturbed}
-use Rattle.eg_agree.proofs.MomentLemmas.{sent_in, moment_in-whole, moment_in-mirror, moment_in-trip}
+use Rattle.eg_agree.proofs.MomentLemmas.{sent_in}
 use Rattle.eg_agree.proofs.ReplyShapes.{shape, LeavesOneOut}
 use Rattle.eg_agree.proofs.ReplySteps.{whole_same, undisturbed_same, sent_same, mark-is}
 
@@ -78,8 +78,8 @@ number_expected-usual s x tick e = rw e refl
 
 flip_trips : (kind : SpanKind) (s : Setting) (x : Effects) (e : Entry) (past : List Moment) →
     (moment_in kind s x e past).trip ≡ false → is_some x.flip ≡ false
-flip_trips kind s x e past none = sym (moment_in-mirror kind s x e past)
-    ∙ (or_parts _ _ (or_parts _ _ (or_parts _ _ (or_parts _ _ (sym (moment_in-trip kind s x e past) ∙ none)).0).0).0).0
+flip_trips kind s x e past none = sym (fields_in kind s x e past).mirror
+    ∙ (or_parts _ _ (or_parts _ _ (or_parts _ _ (or_parts _ _ (sym (fields_in kind s x e past).trip ∙ none)).0).0).0).0
 
 unflipped : (kind : SpanKind) (s : Setting) (h : List Tick) → tripped (moments_in kind s h) ≡ false → is_flipped h ≡ false
 unfolding moments_in is_flipped
@@ -147,9 +147,9 @@ mark_law : (answer : Option ℕ) (sent good : Bool) (number expected : ℕ) → 
     → (sent ≡ true → (number == expected) ≡ good) →
     mark_of expected answer ≡ (if sent then (if good then Good else Bad) else Absent)
 unfolding mark_of
-mark_law None true good number expected same is tells = absurd (let e : false ≡ true = same in cc)
+mark_law None true good number expected same is tells = absurd (false≢true same)
 mark_law None false good number expected same is tells = refl
-mark_law (Some n) false good number expected same is tells = absurd (let e : true ≡ false = same in cc)
+mark_law (Some n) false good number expected same is tells = absurd (true≢false same)
 mark_law (Some n) true good number expected same is tells = ap (mark_of expected) (is refl)
     ∙ ap (λ b. if b then Good else Bad) (tells refl)
 
@@ -205,7 +205,7 @@ module _ (kind : SpanKind) (s : Setting) (start : ℕ) (x : Tick) (h : List Tick
   by_shape (inl whole) unflipped ran =
       elim (run_as (λ y. AllRun y.ran ⊎ NoneRuns y.ran) s start x h g.follows (whole (start + length h))) [
         | inl all ↦ tells_all all unflipped (whole_together s whole start h g.follows.1)
-        | inr none ↦ absurd (let e : false ≡ true = sym (none 7) ∙ ran in cc)
+        | inr none ↦ absurd (false≢true (sym (none 7) ∙ ran))
       ]
   by_shape (inr out) unflipped ran =
       elim (cases_lt (start + length h) out.onset) [
@@ -221,7 +221,7 @@ module _ (kind : SpanKind) (s : Setting) (start : ℕ) (x : Tick) (h : List Tick
           tells_out out.one below others unflipped
           (g.keeps.token (react_ran s out below start h g.follows.1))
       after others (inr is7) =
-          absurd (let e : true ≡ false = sym ran ∙ others 7 ∙ ap not (eq-eqb 7 out.one (sym is7)) in cc)
+          absurd (true≢false (sym ran ∙ others 7 ∙ ap not (eq-eqb 7 out.one (sym is7))))
 
   number-tells : sent_in kind s x.effects x.entry past ≡ true → Tells
   number-tells sent =
@@ -246,18 +246,14 @@ rest_of w made whole e steady = (steady.token, eqb-true w.flow 255 (and_parts _ 
 answered_now : (m : Moment) (past : List Moment) → m.whole ≡ false → whole_since_answer (m ∷ past) ≡ true →
     is_answer m.mark ≡ true
 unfolding whole_since_answer
-answered_now m past part e = cases (is_answer m.mark) m.whole part e
-  where
-    cases : (a b : Bool) → b ≡ false → (a || (b && whole_since_answer past)) ≡ true → a ≡ true
-    cases true b p q = refl
-    cases false b p q = absurd (let f : false ≡ true = sym (and_left b _ p) ∙ q in cc)
+answered_now m past part e = grind arith
 
 module _ (kind : SpanKind) (s : Setting) (fault : IsNoneOrValid s.fault) (start : ℕ) (w : Words) where
   -- the tick isn't whole
   part_of : (one : ℕ) (x : Tick) (h : List Tick) → one < 8 → OthersRun one x.effects.ran →
       (moment_after kind s x h).whole ≡ false
   unfolding doing_after doing_at
-  part_of one x h below others = moment_in-whole kind s x.effects x.entry (moments_in kind s h) ∙ sym (whole_same kind s x h)
+  part_of one x h below others = (fields_in kind s x.effects x.entry (moments_in kind s h)).whole ∙ sym (whole_same kind s x h)
       ∙ out_told (doing_after kind s x h) one below others
 
   -- where one module is left out

@@ -1,7 +1,7 @@
 -- One tick more: what level 2 sends against the model's mark, and what the words tell after it.
-use Rattle.std.proofs.Common.{◌≡◌, suc, ◌<◌, ◌⊎◌, Bool, true, false, not, ◌&&◌, ◌||◌, List, ◌∷◌, length, refl, sym, ap, ap₂, subst, ◌∙◌, is_some}
+use Rattle.std.proofs.Common.{arith, ◌≡◌, suc, ◌<◌, ◌⊎◌, Bool, true, false, not, ◌&&◌, ◌||◌, List, ◌∷◌, length, refl, sym, ap, ap₂, subst, ◌∙◌, is_some}
 use Rattle.std.specs.Prelude.{if◌then◌else◌}
-use Rattle.std.proofs.lemmas.Bool.{and_parts, or_parts}
+use Rattle.std.proofs.lemmas.Bool.{false≢true, and_parts, or_parts}
 use Rattle.eg_answer.specs.Modules as eight
 use Rattle.eg_answer.specs.declared.marks.AnswerMark.TheVariants.{Absent, Good, Bad}
 use Rattle.eg_level2.specs.Words.{Words, is_set, start}
@@ -9,7 +9,7 @@ use Rattle.eg_level2.specs.Modules.{answers_now}
 use Rattle.eg_fault.specs.Effects.{sends_at}
 use Rattle.eg_flow.specs.Ticks.{Doing, after_tick, answer_at}
 use Rattle.eg_flow.specs.Flow as flow
-use Rattle.eg_flow.specs.Flow.{IsSteady, whole_after}
+use Rattle.eg_flow.specs.Flow.{IsSteady}
 use Rattle.eg_flow.specs.Laws.{at_react}
 use Rattle.eg_flow.proofs.FlowSteps.{answers, flow-after, react_clears}
 use Rattle.eg_flow.proofs.SteadyLemmas.{steady_stays, start_steady}
@@ -17,20 +17,15 @@ use Rattle.eg_model.specs.History.{Setting, Tick, SpanKind, drives, Moment}
 use Rattle.eg_model.specs.Signals.{tripped}
 use Rattle.eg_model.specs.Answers.{is_whole, is_undisturbed, is_answer, whole_since_answer, is_sent, is_good}
 use Rattle.eg_model.specs.Moments.{moments_in}
-use Rattle.eg_model.proofs.TickLemmas.{tripped-cons}
+use Rattle.eg_model.proofs.TickLemmas.{length-moments_in, fields_in, tripped-cons}
 use Rattle.eg_agree.specs.Doings.{doing_at}
-use Rattle.eg_agree.proofs.MomentLemmas.{length-moments_in, phase-sends, sent_in, moment_in-mark, moment_in-answer, moment_in-whole}
+use Rattle.eg_agree.proofs.MomentLemmas.{phase-tells, sent_in, moment_in-mark, moment_in-answer}
 use Rattle.eg_agree.specs.Replies.{doing_after, moment_after, WordTellsTrip, is_flipped, RanTogether, ReactRan, has_just_answered, KeepsFlow, FlowBegins, FlowIsKept}
 
 -- ---- Bool alone ----
 
 in_turn : (r driven due t : Bool) → (r && ((driven && due) && not t)) ≡ (driven && (due && r && not t))
-in_turn true true true t = refl
-in_turn true true false t = refl
-in_turn true false due t = refl
-in_turn false true true t = refl
-in_turn false true false t = refl
-in_turn false false due t = refl
+in_turn r driven due t = grind arith
 
 module _ (kind : SpanKind) (s : Setting) (x : Tick) (h : List Tick) where
   abbrev past : List Moment
@@ -59,7 +54,7 @@ module _ (kind : SpanKind) (s : Setting) (x : Tick) (h : List Tick) where
   unfolding answers_now is_sent doing_after doing_at
   answers_as_sent w told =
       ap (λ sends. x.effects.ran 7 && (sends && not (is_set (at_react d w).trip)))
-      (phase-sends kind s.cal.times x.effects (length h))
+      (phase-tells kind s.cal.times x.effects (length h)).sends
       ∙ in_turn _ _ _ (is_set (at_react d w).trip)
       ∙ ap (λ t. drives kind && (sends_at x.effects s.cal.times (length h) && x.effects.ran 7 && not t))
       (told ∙ tripped-cons m past)
@@ -81,7 +76,7 @@ module _ (kind : SpanKind) (s : Setting) (x : Tick) (h : List Tick) where
       flow.whole_after d w (whole_since_answer past) ≡ whole_since_answer (m ∷ past)
   unfolding flow.whole_after whole_since_answer
   since_answer w told = ap₂ (λ a b. a || (b && whole_since_answer past)) (sent_same w told ∙ sym answer-is)
-      (whole_same ∙ sym (moment_in-whole kind s x.effects x.entry past))
+      (whole_same ∙ sym (fields_in kind s x.effects x.entry past).whole)
 
   -- ---- what the words tell after it ----
 
@@ -131,7 +126,7 @@ unfolding start moments_in whole_since_answer has_just_answered
 keeps_start kind s = record {
   steady = λ unflipped together. start_steady;
   token = λ ran. refl;
-  anew = λ answer. absurd (let e : false ≡ true = answer in cc);
+  anew = λ answer. absurd (false≢true answer);
 }
 
 pub keeps_tick : FlowIsKept

@@ -1,6 +1,6 @@
 -- Level 2 and the model agree over whole spans.
 use Rattle.std.proofs.Common.{◌≡◌, ℕ, ◌+◌, Bool, true, false, List, [], ◌∷◌, length, refl, sym, ap, subst, ◌∙◌, arith}
-use Rattle.std.specs.Prelude.{if◌then◌else◌}
+use Rattle.std.specs.Prelude.{if◌then◌else◌, ◌==◌}
 use Rattle.eg_level2.specs.Words.{Words, start}
 use Rattle.eg_level2.specs.Modules.{check_step, given_up, pedal_step, permitted_step, actual_step, excess_step, pairs_step, debounce_step, react_step, module_step}
 use Rattle.eg_flow.specs.Ticks.{Doing, inputs_for, after_module, after_modules, after_tick}
@@ -14,6 +14,7 @@ use Rattle.eg_agree.specs.Doings.{doing_at}
 use Rattle.eg_agree.specs.Ticking.{IsTick}
 use Rattle.eg_agree.specs.Replies.{doing_after, words_over, moment_after}
 use Rattle.eg_agree.specs.Agreement.{WordsStand, FlowStands, EachAnswerHolds, WordsRest, last_check, LastChecksStand, LastCheckIsKept}
+use Rattle.eg_agree.proofs.BoolLaws.{if-same}
 use Rattle.eg_agree.proofs.HistoryLemmas.{start_law}
 use Rattle.eg_agree.proofs.TickLemmas.{tick_law}
 use Rattle.eg_agree.proofs.ReplySteps.{keeps_next, keeps_start}
@@ -84,47 +85,21 @@ checked_last d w = go (d.ran 0) d.differs
     go false f = refl
 
 -- no other module changes it
-kept_last : (d : Doing) (i : ℕ) (w : Words) → (module_step (inputs_for d i) i w).last ≡ w.last →
-    (if d.ran i then module_step (inputs_for d i) i w else w).last ≡ w.last
-kept_last d i w same = go (d.ran i)
-  where
-    go : (r : Bool) → (if r then module_step (inputs_for d i) i w else w).last ≡ w.last
-    go true = same
-    go false = refl
-
-module _ (d : Doing) (w : Words) where
-  last-1 : (after_module d 1 w).last ≡ w.last
-  unfolding after_module
-  last-1 = kept_last d 1 w (unfold module_step pedal_step inputs_for in refl)
-
-  last-2 : (after_module d 2 w).last ≡ w.last
-  unfolding after_module
-  last-2 = kept_last d 2 w (unfold module_step permitted_step inputs_for in refl)
-
-  last-3 : (after_module d 3 w).last ≡ w.last
-  unfolding after_module
-  last-3 = kept_last d 3 w (unfold module_step actual_step inputs_for in refl)
-
-  last-4 : (after_module d 4 w).last ≡ w.last
-  unfolding after_module
-  last-4 = kept_last d 4 w (unfold module_step excess_step inputs_for in refl)
-
-  last-5 : (after_module d 5 w).last ≡ w.last
-  unfolding after_module
-  last-5 = kept_last d 5 w (unfold module_step pairs_step inputs_for in refl)
-
-  last-6 : (after_module d 6 w).last ≡ w.last
-  unfolding after_module
-  last-6 = kept_last d 6 w (unfold module_step debounce_step inputs_for in refl)
-
-  last-7 : (after_module d 7 w).last ≡ w.last
-  unfolding after_module
-  last-7 = kept_last d 7 w (unfold module_step react_step inputs_for in refl)
+kept_last : (d : Doing) (i : ℕ) (w : Words) → (i == 0) ≡ false → (module_step (inputs_for d i) i w).last ≡ w.last →
+    (after_module d i w).last ≡ w.last
+unfolding after_module
+kept_last d i w other same = rw other (if-same (λ (u : Words). u.last) (d.ran i) (module_step (inputs_for d i) i w) w _ same refl)
 
 tick_last : (d : Doing) (w : Words) → (after_tick d w).last ≡ (if d.ran 0 then d.tick else w.last)
 unfolding after_tick after_modules
 tick_last d w =
-    last-7 d _ ∙ last-6 d _ ∙ last-5 d _ ∙ last-4 d _ ∙ last-3 d _ ∙ last-2 d _ ∙ last-1 d _
+    kept_last d 7 (after_modules d 7 w) refl (unfold module_step react_step inputs_for in refl)
+    ∙ kept_last d 6 (after_modules d 6 w) refl (unfold module_step debounce_step inputs_for in refl)
+    ∙ kept_last d 5 (after_modules d 5 w) refl (unfold module_step pairs_step inputs_for in refl)
+    ∙ kept_last d 4 (after_modules d 4 w) refl (unfold module_step excess_step inputs_for in refl)
+    ∙ kept_last d 3 (after_modules d 3 w) refl (unfold module_step actual_step inputs_for in refl)
+    ∙ kept_last d 2 (after_modules d 2 w) refl (unfold module_step permitted_step inputs_for in refl)
+    ∙ kept_last d 1 (after_modules d 1 w) refl (unfold module_step pedal_step inputs_for in refl)
     ∙ checked_last d w
 
 pub last_check_is_kept : LastCheckIsKept

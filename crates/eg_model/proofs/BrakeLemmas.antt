@@ -1,5 +1,6 @@
 -- The effective drive row, and the readings where the brake is taken as pressed.
 use Rattle.std.proofs.Common.{◌≡◌, Bool, true, false, ◌&&◌, [], ◌∷◌, refl, sym, ap, ◌∙◌, ◌⊎◌, lit≤}
+use Rattle.std.proofs.lemmas.Bool.{true≢false}
 use Rattle.std.specs.Prelude.{if◌then◌else◌}
 use Rattle.eg_num.specs.Drive.{DriveRow, IsDrive}
 use Rattle.eg_sensor.specs.Readings.{sound_readings}
@@ -43,7 +44,7 @@ effective-unpressed cal x drive sound unpressed = go cal.brake drive.brake unpre
         (if counts && brakes then record drive { pedal = 0; raise = 0 } else drive) ≡ drive
     go false brakes un = refl
     go true false un = refl
-    go true true un = absurd (let seen = pressed_is_seen x sound in let clash : true ≡ false = sym seen ∙ un in cc)
+    go true true un = absurd (let seen = pressed_is_seen x sound in true≢false (sym seen ∙ un))
 
 -- ---- the readings where nothing is out of order ----
 

@@ -21,8 +21,8 @@ use Rattle.eg_model.specs.History.{Tick, Moment}
 use Rattle.eg_answer.specs.Modules.{modules_before_react, modules}
 use Rattle.eg_model.specs.Answers.{is_whole, is_undisturbed, whole_since_answer, is_sent, is_good, mark_at}
 use Rattle.eg_model.specs.Premises.{Follows}
-use Rattle.eg_model.proofs.TickLemmas.{Each, Runs}
-use Rattle.eg_model.proofs.Seeing.{IsUndisturbed, SeesExcess}
+use Rattle.eg_model.specs.Seeing.{Runs, IsUndisturbed, SeesExcess}
+use Rattle.eg_model.proofs.TickLemmas.{Each}
 
 -- what holds at each tick of a run holds at each tick of a history
 pub of_history : (P : Effects → Type 0) (f : Option Fault) (start : ℕ) (h : List Tick) → Follows f start h →
@@ -88,11 +88,7 @@ mark_not_good times x trip past h =
     (fails (is_whole x) (whole_since_answer past) (is_undisturbed x) h)
   where
     fails : (w b u : Bool) → (w ≡ false) ⊎ (u ≡ false) → (w && b && u) ≡ false
-    fails false b u h = refl
-    fails true false u h = refl
-    fails true true false h = refl
-    fails true true true (inl h) = h
-    fails true true true (inr h) = h
+    fails w b u h = elim h [ inl e ↦ grind arith | inr e ↦ grind arith ]
 
 -- a test that fails for one module fails for all
 fails_for_one : (p : ℕ → Bool) (i : ℕ) → i < MODULES → p i ≡ false → list_all p modules ≡ false

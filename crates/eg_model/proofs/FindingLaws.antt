@@ -27,7 +27,7 @@ use Rattle.eg_model.specs.Premises.{Follows, is_on_after}
 use Rattle.eg_model.specs.Reaction.{spoils_answers}
 use Rattle.eg_model.specs.Rows.{row_of}
 use Rattle.eg_model.specs.Findings.{cutting, Finds, opens_path, opens_by_itself, FindsBeforeOff, FindsFromOnset}
-use Rattle.eg_model.proofs.TickLemmas.{Each, length-moments, moment-on, moment-trip, moment-orders, moment-answers, moment-opens, tripped-cons}
+use Rattle.eg_model.proofs.TickLemmas.{Each, length-moments, moment-orders, tripped-cons, fields}
 use Rattle.eg_model.proofs.TripLemmas.{latch1-cons}
 use Rattle.eg_model.proofs.ClassLemmas.{of_history}
 use Rattle.eg_model.proofs.SpanRows.{Split, split, follows-end, rows_after, length-rows_after, SpanRows, row_on, row_tick, LastTick, last_tick}
@@ -66,8 +66,7 @@ opens_nothing (Some fault) tick none t l = at_tick OpensNothing fault t (λ earl
     (λ from. opens_nothing_class fault.class (t - fault.onset) (spared (opens_path fault.class) (le-leb fault.onset tick (omega (arith, from, l))) none))
   where
     spared : {begun : Bool} (opens : Bool) → begun ≡ true → (begun && opens) ≡ false → opens ≡ false
-    spared true e f = absurd (true≢false (sym (ap (λ b. b && true) e) ∙ f))
-    spared false e f = refl
+    spared opens e f = grind arith
 
 -- ---- a watch that cuts ----
 
@@ -145,7 +144,7 @@ cut_by_trip : (s : Setting) (h : List Tick) → tripped (moments_of s h) ≡ tru
 unfolding moments_of tripped finds_cut
 cut_by_trip s [] e = absurd (true≢false (sym e))
 cut_by_trip s (x ∷ h) e = elim (or_cases m.trip (tripped past) (sym (tripped-cons m past) ∙ e)) [
-  | inl now ↦ cut_now m past (or_left _ m.found.answers (sym (moment-trip s x.effects x.entry past) ∙ now))
+  | inl now ↦ cut_now m past (or_left _ m.found.answers (sym (fields s x.effects x.entry past).trip ∙ now))
   | inr before ↦ cut_before m past (cut_by_trip s h before)
 ]
   where
@@ -175,8 +174,8 @@ unfolding moments_of latch2 Each finds_cut
 cut_by_latch2 s [] quiet e = absurd (true≢false (sym e))
 cut_by_latch2 s (x ∷ h) quiet e = elim (or_cases (m.confirms || m.opens) (latch2 past) e) [
   | inl now ↦ elim (or_cases m.confirms m.opens now) [
-    | inl confirms ↦ cut_now m past (or_right _ m.found.answers (moment-answers s x.effects x.entry past ∙ confirms))
-    | inr opens ↦ absurd (true≢false (sym opens ∙ moment-opens s x.effects x.entry past ∙ quiet.0.orders))
+    | inl confirms ↦ cut_now m past (or_right _ m.found.answers ((fields s x.effects x.entry past).answers ∙ confirms))
+    | inr opens ↦ absurd (true≢false (sym opens ∙ (fields s x.effects x.entry past).opens ∙ quiet.0.orders))
   ]
   | inr before ↦ cut_before m past (cut_by_latch2 s h quiet.1 before)
 ]
@@ -197,7 +196,7 @@ cut_by_off s x h now before off = go (latch1 past) refl (latch2 past) refl
     past = moments_of s h
 
     on_is : (x.effects.conducts PATH_1 (latch1 past) && x.effects.conducts PATH_2 (latch2 past)) ≡ false
-    on_is = sym (moment-on s x.effects x.entry past ∙ (unfold both_conduct path1_at path2_at in refl)) ∙ off
+    on_is = sym ((fields s x.effects x.entry past).on ∙ (unfold both_conduct path1_at path2_at in refl)) ∙ off
 
     both : latch1 past ≡ false → latch2 past ≡ false →
         (x.effects.conducts PATH_1 (latch1 past) && x.effects.conducts PATH_2 (latch2 past)) ≡ true

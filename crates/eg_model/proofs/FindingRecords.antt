@@ -1,9 +1,9 @@
 -- What the watches find, by the rows of records: before the stages are off, where a test has failed, in time, and
 -- where a word is flipped.
-use Rattle.std.proofs.Common.{◌≡◌, ◌∙◌, refl, sym, ap, subst, ℕ, suc, ◌+◌, ◌-◌, ◌≤◌, ◌<◌, ◌⊎◌, inl, inr, Bool, true, false, not, ◌&&◌, ◌||◌, List, [], ◌∷◌, ◌++◌, All, length, Option, Some, None, is_some, arith}
+use Rattle.std.proofs.Common.{◌≡◌, ◌∙◌, refl, sym, ap, subst, ℕ, suc, ◌+◌, ◌-◌, ◌≤◌, ◌<◌, inl, inr, Bool, true, false, ◌&&◌, ◌||◌, List, [], ◌∷◌, ◌++◌, All, length, Option, Some, None, is_some, arith}
 use Rattle.std.specs.Prelude.{◌==◌, if◌then◌else◌}
 use Rattle.std.specs.List.{list_any}
-use Rattle.std.proofs.lemmas.Bool.{or_left, or_right, or_parts, and_right, ne_eqb, eq-eqb, cases_lt, leb-false, true≢false}
+use Rattle.std.proofs.lemmas.Bool.{cases_Bool, or_left, or_right, or_parts, and_right, ne_eqb, eq-eqb, cases_lt, leb-false}
 use Rattle.std.proofs.lemmas.Bool.Decides.{nat_tests}
 use Rattle.eg_num.specs.declared.watches.Watches.{Watches}
 use Rattle.eg_answer.specs.Times.{test_ticks_of, reaction_of}
@@ -26,10 +26,11 @@ use Rattle.eg_model.specs.Bench.{Run, entry_at, moments_to, entries_to}
 use Rattle.eg_model.specs.Rows.{row_of, record_rows}
 use Rattle.eg_model.specs.Records.{row_at}
 use Rattle.eg_model.specs.Findings.{Finds, is_flip, flips_at, FindsBeforeOff, FindsFromOnset, RecordsFindBeforeOff, RecordsFindFailures, RecordsFindFromOnset, RecordsTellFlips}
-use Rattle.eg_model.proofs.SpanLemmas.{before-begins, before-goes_on, kind-goes_on, span_so_far-next, by_ticks}
+use Rattle.eg_model.proofs.TickLemmas.{parts_of}
+use Rattle.eg_model.proofs.SpanLemmas.{before-begins, before-goes_on, kind-goes_on, kind-next, span_so_far-next, by_ticks}
 use Rattle.eg_model.proofs.SpanRows.{rows_after}
 use Rattle.eg_model.proofs.RecordTicks.{length-moments_to, row_tick, all_rows, record_rows-is}
-use Rattle.eg_model.proofs.RecordSpans.{kind_by, head_of, tail_of, test_part_of, with_part, SpanTo, SpanIn, span_in}
+use Rattle.eg_model.proofs.RecordSpans.{kind_by, test_part_of, with_part, SpanTo, SpanIn, span_in}
 use Rattle.eg_model.proofs.RecordLaws.{each_drive}
 use Rattle.eg_model.proofs.FindingLaws.{FindsOne, finds_in_rows, find_before_off, find_from_onset}
 
@@ -42,22 +43,30 @@ HasFailed past = list_any (λ m. m.found.start) past ≡ true
 fails_now : (s : Setting) (x : Effects) (e : Entry) (before : List Moment) → length before ≡ test_ticks_of s.cal.times →
     (moment_in Test s x e before).passes ≡ false → (moment_in Test s x e before).found.start ≡ true
 unfolding moment_in reads_back
-fails_now s x e before now unpassed = either _ _ (eq-eqb _ _ now) unpassed
-  where
-    either : (reads paths : Bool) → reads ≡ true → (reads && not paths) ≡ false → (reads && paths) ≡ true
-    either true true r u = refl
-    either true false r u = absurd (true≢false u)
-    either false paths r u = absurd (true≢false (sym r))
+fails_now s x e before now unpassed = let reads = eq-eqb _ _ now in grind arith
 
 module _ (s : Setting) where
-  -- A test span that goes on behind the tick at which the paths are read back.
+  -- a test span goes on behind the tick at which the paths are read back
+  abbrev IsLate : List Moment → Type 0
+  IsLate span = test_ticks_of s.cal.times < length span
+
+  -- what comes before a tick of it, if that is so of the ticks before
+  goes_on : (e : Entry) (h : List Entry) → kind_at e.drive (moments s h) ≡ Test → IsLate (before_at e.drive (moments s h)) →
+      (span_kind (moments s h) ≡ Test → has_passed (moments s h) ≡ false → IsLate (span_so_far (moments s h)) →
+      HasFailed (span_so_far (moments s h))) → HasFailed (before_at e.drive (moments s h))
+  goes_on e h kind late rest = elim (cases_Bool (e.drive.reset || has_passed (moments s h))) [
+    | inl begins ↦ absurd (let none = ap length (before-begins e.drive (moments s h) begins) in omega (arith, none, late))
+    | inr on ↦ (let same = before-goes_on e.drive (moments s h) on in subst HasFailed (sym same)
+        (rest (sym (kind-goes_on e.drive (moments s h) on) ∙ kind) (or_parts e.drive.reset _ on).1 (subst IsLate same late)))
+  ]
+
   failed_before : (h : List Entry) → span_kind (moments s h) ≡ Test → has_passed (moments s h) ≡ false →
-      test_ticks_of s.cal.times < length (span_so_far (moments s h)) → HasFailed (span_so_far (moments s h))
+      IsLate (span_so_far (moments s h)) → HasFailed (span_so_far (moments s h))
   unfolding moments
   failed_before [] kind unpassed late = absurd (let none : length (span_so_far []) ≡ 0 = (unfold span_so_far in refl) in omega (arith, none, late))
-  failed_before (e ∷ h) kind unpassed late = subst HasFailed (sym grown) (elim (now_or_before (length before) (test_ticks_of s.cal.times) (subst (λ span. test_ticks_of s.cal.times < length span) grown late)) [
-    | inl now ↦ or_left _ _ (fails now)
-    | inr earlier ↦ or_right m.found.start _ (goes_on (e.drive.reset || has_passed past) refl earlier (failed_before h))
+  failed_before (e ∷ h) kind unpassed late = subst HasFailed (sym grown) (elim (cases_lt (test_ticks_of s.cal.times) (length before)) [
+    | inr now ↦ or_left _ _ (fails (omega (arith, now, subst IsLate grown late)))
+    | inl earlier ↦ or_right m.found.start _ (goes_on e h kind_is earlier (failed_before h))
   ])
     where
       past : List Moment
@@ -72,52 +81,20 @@ module _ (s : Setting) where
       grown : span_so_far (m ∷ past) ≡ m ∷ before
       grown = span_so_far-next s e past
 
-      kind_next : kind_at e.drive past ≡ span_kind (m ∷ past)
-      kind_next = unfold next_after moment_at moment_in span_kind in refl
-
       kind_is : kind_at e.drive past ≡ Test
-      kind_is = kind_next ∙ kind
-
-      now_or_before : (n w : ℕ) → w < suc n → (n ≡ w) ⊎ (w < n)
-      now_or_before n w l = grind arith
-
-      m_in : m ≡ moment_in (kind_at e.drive past) s (effects s.fault (length past)) e before
-      m_in = unfold next_after moment_at in refl
+      kind_is = (unfold next_after moment_at moment_in span_kind in kind)
 
       m_is : m ≡ moment_in Test s (effects s.fault (length past)) e before
-      m_is = m_in ∙ ap (λ k. moment_in k s (effects s.fault (length past)) e before) kind_is
-
-      unpassed_now : m.passes ≡ false
-      unpassed_now = unfold has_passed in unpassed
+      m_is = unfold next_after moment_at in ap (λ k. moment_in k s (effects s.fault (length past)) e before) kind_is
 
       fails : length before ≡ test_ticks_of s.cal.times → m.found.start ≡ true
       fails now = ap (λ (n : Moment). n.found.start) m_is ∙ fails_now s (effects s.fault (length past)) e before now
-          (ap (λ (n : Moment). n.passes) (sym m_is) ∙ unpassed_now)
-
-      goes_on : (b : Bool) → (e.drive.reset || has_passed past) ≡ b → test_ticks_of s.cal.times < length before →
-          (span_kind past ≡ Test → has_passed past ≡ false → test_ticks_of s.cal.times < length (span_so_far past) → HasFailed (span_so_far past)) →
-          HasFailed before
-      goes_on true begins l rest = absurd (let none = ap length (before-begins e.drive past begins) in omega (arith, none, l))
-      goes_on false on l rest = subst HasFailed (sym same)
-          (rest (sym (kind-goes_on e.drive past on) ∙ kind_is) (or_parts e.drive.reset (has_passed past) on).1
-          (subst (λ span. test_ticks_of s.cal.times < length span) same l))
-        where
-          same : before ≡ span_so_far past
-          same = before-goes_on e.drive past on
+          (ap (λ (n : Moment). n.passes) (sym m_is) ∙ (unfold has_passed in unpassed))
 
   -- what comes before a tick of a test span at which no test is running
   failed_at : (e : Entry) (h : List Entry) → kind_at e.drive (moments s h) ≡ Test →
-      test_ticks_of s.cal.times < length (before_at e.drive (moments s h)) → HasFailed (before_at e.drive (moments s h))
-  failed_at e h kind late = go (e.drive.reset || has_passed (moments s h)) refl
-    where
-      go : (b : Bool) → (e.drive.reset || has_passed (moments s h)) ≡ b → HasFailed (before_at e.drive (moments s h))
-      go true begins = absurd (let none = ap length (before-begins e.drive (moments s h) begins) in omega (arith, none, late))
-      go false on = subst HasFailed (sym same)
-          (failed_before h (sym (kind-goes_on e.drive (moments s h) on) ∙ kind) (or_parts e.drive.reset (has_passed (moments s h)) on).1
-          (subst (λ span. test_ticks_of s.cal.times < length span) same late))
-        where
-          same : before_at e.drive (moments s h) ≡ span_so_far (moments s h)
-          same = before-goes_on e.drive (moments s h) on
+      IsLate (before_at e.drive (moments s h)) → HasFailed (before_at e.drive (moments s h))
+  failed_at e h kind late = goes_on e h kind late (failed_before h)
 
 starts : (f : Watches) → f.start ≡ true → FindsOne (Start ∷ []) f
 unfolding is_found
@@ -130,8 +107,7 @@ unfolding effects_of no_effects is_flip
 flip_class (Flip word mask) k = at_first (k == 0)
   where
     at_first : (b : Bool) → is_some {T = ℕ × ℕ} (if b then Some (word, mask) else None) ≡ b
-    at_first true = refl
-    at_first false = refl
+    at_first b = grind arith
 flip_class _ k = refl
 
 flip_is : (fault : Option Fault) (t : ℕ) → is_some (effects fault t).flip ≡ flips_at fault t
@@ -185,11 +161,8 @@ module _ {E : Type 0} (b : BenchEngine E) where
       entries_are : entries_to b r (suc n) ≡ e ∷ h
       entries_are = unfold entries_to in refl
 
-      kind_next : kind_at e.drive past ≡ span_kind (moments s (e ∷ h))
-      kind_next = unfold moments next_after moment_at moment_in span_kind in refl
-
       kind_is : kind_at e.drive past ≡ Test
-      kind_is = kind_next ∙ ap (λ g. span_kind (moments s g)) (sym entries_are) ∙ is.kind_is
+      kind_is = sym (kind-next s e h) ∙ ap (λ g. span_kind (moments s g)) (sym entries_are) ∙ is.kind_is
 
       moments_are : moments s (e ∷ h) ≡ m ∷ past
       moments_are = unfold moments in refl
@@ -206,7 +179,7 @@ module _ {E : Type 0} (b : BenchEngine E) where
       parted = rows_are ∙ ap (rows_after start) (span_so_far-next s e past) ∙ one_more
 
       rest : before ≡ rows_after start (before_at e.drive past)
-      rest = tail_of row (row_of (start + length (before_at e.drive past)) m) before (rows_after start (before_at e.drive past)) parted
+      rest = (parts_of parted).1
 
       told : m.testing ≡ is_testing (kind_at e.drive past) s.cal.times (length (before_at e.drive past))
       told = unfold next_after moment_at moment_in in refl
@@ -216,7 +189,7 @@ module _ {E : Type 0} (b : BenchEngine E) where
 
       tested : is_testing Test s.cal.times (length (before_at e.drive past)) ≡ false
       tested = ap (λ kind. is_testing kind s.cal.times (length (before_at e.drive past))) (sym kind_is) ∙ sym told ∙ sym tells
-          ∙ ap (λ (r : Row). r.testing) (sym (head_of row (row_of (start + length (before_at e.drive past)) m) before (rows_after start (before_at e.drive past)) parted))
+          ∙ ap (λ (r : Row). r.testing) (sym (parts_of parted).0)
           ∙ untested
 
       late : test_ticks_of s.cal.times < length (before_at e.drive past)

@@ -2,7 +2,8 @@
 -- test span.
 use Rattle.std.proofs.Common.{◌≡◌, ◌∙◌, refl, sym, ap, subst, ℕ, zero, suc, ◌≤◌, ◌<◌, ◌⊎◌, inl, inr, Bool, true, false, List, [], ◌∷◌, ◌++◌, length, append_assoc, Option, Some, None, arith}
 use Rattle.std.specs.Prelude.{IsTrue, Contains}
-use Rattle.std.proofs.lemmas.Bool.{cases_lt}
+use Rattle.std.proofs.lemmas.Bool.{cases_Bool, cases_lt}
+use Rattle.std.proofs.lemmas.Option.{none-some}
 use Rattle.std.proofs.lemmas.List.Elements.{All-nil, All-cons, All-contains, Contains-append_left, Contains-append_right}
 use Rattle.eg_fault.specs.declared.class.Fault.{Fault}
 use Rattle.eg_answer.specs.Times.{test_ticks_of}
@@ -32,14 +33,12 @@ abbrev pub FirstBegins : List Row → Type 0
 FirstBegins rows = (newer : List Row) (first : Row) → rows ≡ newer ++ first ∷ [] → first.fresh ≡ true
 
 pub first_begins : (read_back : ℕ) (rows : List Row) → SpansBeginInTurn read_back rows → FirstBegins rows
-first_begins read_back rows turns newer first is = by_reset first.drive.reset refl
-  where
-    begins : BeginsInTurn read_back first []
-    begins = turns newer first [] is
-
-    by_reset : (b : Bool) → first.drive.reset ≡ b → first.fresh ≡ true
-    by_reset true reset = (begins.resets reset).fresh
-    by_reset false goes_on = (begins.first goes_on refl).fresh
+first_begins read_back rows turns newer first is =
+    let begins : BeginsInTurn read_back first [] = turns newer first [] is in
+    elim (cases_Bool first.drive.reset) [
+      | inl reset ↦ (begins.resets reset).fresh
+      | inr goes_on ↦ (begins.first goes_on refl).fresh
+    ]
 
 -- a row and those before it begin with a span, or its part up to that row
 record SpanOf (row : Row) (older : List Row) : Type 0 where
@@ -72,12 +71,11 @@ longer row other older later s = record {
 
 span_of : (row : Row) (older : List Row) → FirstBegins (row ∷ older) → SpanOf row older
 span_of row [] first = alone row [] (first [] row refl)
-span_of row (other ∷ older) first = go row.fresh refl
-    (span_of other older (λ newer begin is. first (row ∷ newer) begin (ap (λ rows. row ∷ rows) is)))
-  where
-    go : (b : Bool) → row.fresh ≡ b → SpanOf other older → SpanOf row (other ∷ older)
-    go true fresh s = alone row (other ∷ older) fresh
-    go false later s = longer row other older later s
+span_of row (other ∷ older) first = elim (cases_Bool row.fresh) [
+  | inl fresh ↦ alone row (other ∷ older) fresh
+  | inr later ↦ longer row other older later
+      (span_of other older (λ newer begin is. first (row ∷ newer) begin (ap (λ rows. row ∷ rows) is)))
+]
 
 -- ---- where the stages are off, a watch was found before ----
 
@@ -131,9 +129,9 @@ place_of (other ∷ rows) row (suc k, below, same) = further (place_of rows row 
     further : PlaceOf rows row → PlaceOf (other ∷ rows) row
     further p = record { newer = other ∷ p.newer; older = p.older; is = ap (λ rows. other ∷ rows) p.is }
 
-older_rows : (newer : List Row) (row : Row) (older : List Row) → AreRows (newer ++ row ∷ older) → (row.tick ≡ length older) × AreRows older
-older_rows [] row older whole = whole
-older_rows (other ∷ newer) row older whole = older_rows newer row older whole.1
+pub rows_behind : (newer rows : List Row) → AreRows (newer ++ rows) → AreRows rows
+rows_behind [] rows are = are
+rows_behind (row ∷ newer) rows are = rows_behind newer rows are.1
 
 -- a watch that was found before a tick is first detected before it
 detected_before : (rows newer : List Row) (row : Row) (older : List Row) → AreRows rows → rows ≡ newer ++ row ∷ older → FindsAny older →
@@ -141,7 +139,7 @@ detected_before : (rows newer : List Row) (row : Row) (older : List Row) → Are
 detected_before rows newer row older whole e any = go (first_detection rows) refl
   where
     parts : (row.tick ≡ length older) × AreRows older
-    parts = older_rows newer row older (subst AreRows e whole)
+    parts = rows_behind newer (row ∷ older) (subst AreRows e whole)
 
     early : any.row.tick < row.tick
     early = let l = All-contains (λ r. r.tick < length older) older any.row (AreRows-ticks older parts.1) any.stands in
@@ -186,15 +184,10 @@ module _ {E : Type 0} (b : BenchEngine E) where
 
   pub reports_name_what_cuts : ReportsNameWhatCuts b
   unfolding report_of summary_of
-  reports_name_what_cuts r name = record { named = named_by r; unnamed = λ tick none off. opens tick none off (opens_by_itself r.setting.fault tick) refl }
-    where
-      unnamed : (tick : ℕ) → first_detection (record_rows b r) ≡ None → IsNamedBefore tick (first_detection (record_rows b r)) → ⊥
-      unnamed tick none n = not_both (sym none ∙ n.is)
-        where
-          not_both : None ≡ Some n.detection → ⊥
-          not_both e = cc
-
-      opens : (tick : ℕ) → first_detection (record_rows b r) ≡ None → first_off (record_rows b r) ≡ Some tick → (is : Bool) →
-          opens_by_itself r.setting.fault tick ≡ is → opens_by_itself r.setting.fault tick ≡ true
-      opens tick none off true e = e
-      opens tick none off false e = absurd (unnamed tick none (named_by r tick off e))
+  reports_name_what_cuts r name = record {
+    named = named_by r;
+    unnamed = λ tick none off. elim (cases_Bool (opens_by_itself r.setting.fault tick)) [
+      | inl opens ↦ opens
+      | inr spared ↦ absurd (let n = named_by r tick off spared in none-some n.detection (sym none ∙ n.is))
+    ];
+  }

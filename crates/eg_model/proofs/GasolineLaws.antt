@@ -1,5 +1,5 @@
 -- What the gasoline engine brings to the bench.
-use Rattle.std.proofs.Common.{ℕ, ◌≤◌, Bool, true, false, refl, arith, Option, Some, None}
+use Rattle.std.proofs.Common.{ℕ, ◌≤◌, Bool, false, refl, arith, Option, Some, None}
 use Rattle.std.specs.Prelude.{min, if◌then◌else◌}
 use Rattle.eg_plant.specs.PlantParts.{PlantParts, ArePlantParts}
 use Rattle.eg_plant.specs.Gasoline.{Gasoline, at_rest, next_plate, next_charge, gasoline_step}
@@ -16,8 +16,7 @@ next_plate-most plant plate throttle on None low h =
     moved_toward-most 1000 plate _ plant.slew low (commanded on)
   where
     commanded : (b : Bool) → (if b then min throttle 1000 else 0) ≤ 1000
-    commanded true = omega arith
-    commanded false = omega arith
+    commanded b = grind arith
 
 kept_at_first : (plant : PlantParts) → ArePlantParts plant → IsKept plant (at_rest plant)
 unfolding at_rest

@@ -3,7 +3,7 @@ use Rattle.std.proofs.Common.{◌≡◌, ◌∙◌, refl, sym, ap, ap₂, subst,
 use Rattle.std.specs.Prelude.{if◌then◌else◌, is_some, nat_lt, option_map}
 use Rattle.std.specs.Option.{option_or}
 use Rattle.std.specs.List.{All}
-use Rattle.std.proofs.lemmas.Bool.{cases_Bool, lt-ltb, leb-true, le-leb}
+use Rattle.std.proofs.lemmas.Bool.{cases_lt, false≢true, true≢false, cases_Bool, lt-ltb, leb-true, le-leb}
 use Rattle.std.proofs.lemmas.List.{length-map}
 use Rattle.std.proofs.lemmas.List.Elements.{All-head, All-tail, All-weaker}
 use Rattle.eg_num.specs.Windows.{WeightParts, is_confirmed, first_index}
@@ -28,7 +28,7 @@ use Rattle.eg_model.specs.InTime.{IsWithin, IsInTime, RecordsReactInTime}
 use Rattle.eg_model.proofs.RecordLaws.{records_react, records_test_unpowered}
 use Rattle.eg_model.proofs.PowerCycleLaws.{records_begin_in_turn}
 use Rattle.eg_model.proofs.WholeRecord.{are_rows}
-use Rattle.eg_model.proofs.FindingReports.{FirstBegins, first_begins}
+use Rattle.eg_model.proofs.FindingReports.{rows_behind, FirstBegins, first_begins}
 
 -- ---- what is told of two ----
 
@@ -50,7 +50,7 @@ greater_within bound (Some n) (Some m) first second = omega arith
 
 greater_some-left : (a b : Option ℕ) → is_some a ≡ true → is_some (greater a b) ≡ true
 unfolding greater
-greater_some-left None b some = absurd (let e : false ≡ true = some in cc)
+greater_some-left None b some = absurd (false≢true some)
 greater_some-left (Some n) None some = refl
 greater_some-left (Some n) (Some m) some = refl
 
@@ -99,32 +99,25 @@ one_in_time bound end last (Some c) off = go (nat_lt (off_from last) end) refl (
       tt,
       λ settled ticks same. absurd (let follows = leb-true bound (end - (c + 1)) settled in
           let less : nat_lt (off_from last) end ≡ true = lt-ltb (off_from last) end (omega arith) in
-          let both : true ≡ false = sym less ∙ is in cc),
+          true≢false (sym less ∙ is)),
     )
 
 -- ---- a span by its rows ----
-
-rows_behind : (newer rows : List Row) → AreRows (newer ++ rows) → AreRows rows
-rows_behind [] rows are = are
-rows_behind (row ∷ newer) rows are = rows_behind newer rows are.1
 
 -- where the stages are off from a tick on, they are last on before it
 off_from-below : (n : ℕ) (rows : List Row) → All (λ row. n ≤ row.tick → row.on ≡ false) rows → off_from (last_on rows) ≤ n
 unfolding off_from
 off_from-below n [] off = unfold last_on in omega arith
 off_from-below n (row ∷ before) off = elim (cases_Bool row.on) [
-  | inl on ↦ subst (λ last. off_from last ≤ n) (sym (last_on-on row before on)) (early on (late_or_early n row.tick))
+  | inl on ↦ subst (λ last. off_from last ≤ n) (sym (last_on-on row before on)) (early on (cases_lt row.tick n))
   | inr is ↦ subst (λ last. off_from last ≤ n) (sym (last_on-off row before is))
       (off_from-below n before (All-tail (λ r. n ≤ r.tick → r.on ≡ false) row before off))
 ]
   where
-    late_or_early : (n t : ℕ) → (n ≤ t) ⊎ (t + 1 ≤ n)
-    late_or_early n t = grind arith
-
-    early : row.on ≡ true → (n ≤ row.tick) ⊎ (row.tick + 1 ≤ n) → off_from (Some row.tick) ≤ n
-    early on (inl late) = absurd (let is = All-head (λ r. n ≤ r.tick → r.on ≡ false) row before off late in
-        let both : true ≡ false = sym on ∙ is in cc)
-    early on (inr less) = less
+    early : row.on ≡ true → (row.tick < n) ⊎ (n ≤ row.tick) → off_from (Some row.tick) ≤ n
+    early on (inr late) = absurd (let is = All-head (λ r. n ≤ r.tick → r.on ≡ false) row before off late in
+        true≢false (sym on ∙ is))
+    early on (inl less) = omega (arith, less)
 
 -- the tick by which the excess is confirmed is the first place, counted from the begin of the span
 module _ (w : WeightParts) (threshold : ℕ) where

@@ -1,8 +1,8 @@
 -- Under lapses each good answer takes a whole period of runs, and each right verdict a good answer.
-use Rattle.std.proofs.Common.{◌≡◌, ℕ, zero, suc, ◌+◌, ◌*◌, ◌/◌, ◌%◌, ◌≤◌, ◌<◌, Bool, true, false, ◌||◌, ◌&&◌, List, [], ◌∷◌, length, take, refl, sym, ap, ◌∙◌, arith, ◌-◌, not}
+use Rattle.std.proofs.Common.{inl, inr, ◌≡◌, ℕ, zero, suc, ◌+◌, ◌*◌, ◌/◌, ◌%◌, ◌≤◌, ◌<◌, Bool, true, false, ◌||◌, ◌&&◌, List, [], ◌∷◌, length, take, refl, sym, ap, ◌∙◌, arith, ◌-◌, not}
 use Rattle.std.specs.Prelude.{if◌then◌else◌, ◌==◌}
 use Rattle.std.specs.List.{count_by}
-use Rattle.std.proofs.lemmas.Bool.{and_left, and_parts, eqb-true}
+use Rattle.std.proofs.lemmas.Bool.{cases_Bool, true≢false, false≢true, and_left, and_parts, eqb-true}
 use Rattle.eg_answer.specs.Times.{TimeParts, AreTimes}
 use Rattle.eg_answer.specs.Periods.{place_of, is_send_tick, is_in_window, MarkedAnswer, verdict_of, is_wrong}
 use Rattle.eg_answer.specs.declared.marks.AnswerMark.{AnswerMark}
@@ -12,7 +12,7 @@ use Rattle.eg_fault.specs.Classes.{IsRegular}
 use Rattle.eg_model.specs.History.{Setting, Tick, Moment}
 use Rattle.eg_model.specs.Answers.{is_whole, is_undisturbed, is_answer, whole_since_answer, is_sent, is_good, mark_at, with_answer, answers_in}
 use Rattle.eg_model.specs.Moments.{moment, moments_of}
-use Rattle.eg_model.proofs.TickLemmas.{Each, length-moments, moment-mark, moment-whole, moment-tick, moment-verdict}
+use Rattle.eg_model.proofs.TickLemmas.{Each, length-moments, fields}
 use Rattle.eg_model.proofs.Silence.{period_least, verdict_none, verdict_some, wrongs, with_wrong, wrongs-cons}
 use Rattle.eg_model.proofs.LapseRuns.{AllOrNoneEach, count-cons, runs_in, runs_in-cons}
 use Rattle.std.proofs.lemmas.Nat.{mod-mul-add}
@@ -47,9 +47,9 @@ whole_where_good times x trip past good =
         is_good_mark (if sent then (if whole && since && calm then Good else Bad) else Absent) ≡ true →
         (whole ≡ true) × (since ≡ true)
     go true true true calm h = (refl, refl)
-    go true true false calm h = absurd (let h' : false ≡ true = h in cc)
-    go true false since calm h = absurd (let h' : false ≡ true = h in cc)
-    go false whole since calm h = absurd (let h' : false ≡ true = h in cc)
+    go true true false calm h = absurd (false≢true h)
+    go true false since calm h = absurd (false≢true h)
+    go false whole since calm h = absurd (false≢true h)
 
 -- whether a tick is a send tick, where nothing moves it
 sends-is : (times : TimeParts) (x : Effects) (tick : ℕ) → IsRegular x →
@@ -115,8 +115,7 @@ sent_between times m past t n absent sent = record {
 }
   where
     more : (b : Bool) (g k r : ℕ) → g + k ≤ r → g + (if b then suc k else k) ≤ (if b then suc r else r)
-    more true g k r h = omega arith
-    more false g k r h = h
+    more b g k r h = grind arith
 
 -- one tick more that is one
 sent_now : (s : Setting) (x : Tick) (past : List Moment) (t n : ℕ) → 0 < s.cal.times.period →
@@ -144,8 +143,7 @@ sent_now s x past t n positive here before = record {
         placed t period send l e = omega arith
 
     low : (b : Bool) (r : ℕ) → r ≤ (if b then suc r else r)
-    low true r = omega arith
-    low false r = omega arith
+    low b r = grind arith
 
     sums : (q g b c r : ℕ) → q ≤ c + 1 → b ≡ c → q * g + b ≤ r → q * suc g + 0 ≤ suc r
     sums q g b c r h e i = grind arith
@@ -156,10 +154,10 @@ sent_now s x past t n positive here before = record {
     enough_now false e = let z = low now.whole (runs_in n past) in let y = before.enough in omega arith
     enough_now true e =
         let parts = whole_where_good times x.effects now.trip past
-        (ap is_good_mark (sym (moment-mark s x.effects x.entry past)) ∙ e) in
+        (ap is_good_mark (sym (fields s x.effects x.entry past).mark) ∙ e) in
         let full =
         apart (t / times.period) before.period times.period times.send before.since t place before.at in
-        rw (moment-whole s x.effects x.entry past, parts.0)
+        rw ((fields s x.effects x.entry past).whole, parts.0)
         (sums times.period (goods_in n past) before.runs before.since (runs_in n past) full
         (before.whole parts.1) before.enough)
 
@@ -180,24 +178,15 @@ sent_since s are h each p zero at =
     }
 sent_since s are [] each p (suc n) at = absurd (omega arith)
 sent_since s are (x ∷ h) each p (suc n) at =
-    go (length h % s.cal.times.period == s.cal.times.send) refl
-    (sent_since s are h each.1 p n (omega arith))
-  where
-    past : List Moment
-    past = moments_of s h
-
-    now : Moment
-    now = moment s x.effects x.entry past
-
-    go : (sends : Bool) → (length h % s.cal.times.period == s.cal.times.send) ≡ sends →
-        Sent s.cal.times past (length h) n →
-        Sent s.cal.times (now ∷ past) (suc (length h)) (suc n)
-    go false e ih =
-        let off = ap (λ t. t % s.cal.times.period == s.cal.times.send) (length-moments s h) ∙ e in
-        sent_between s.cal.times now past (length h) n
-        (moment-mark s x.effects x.entry past
-        ∙ absent_off_place s.cal.times x.effects now.trip past each.0.regular off) ih
-    go true e ih = sent_now s x past (length h) n (period_least s.cal.times are) (eqb-true _ _ e) ih
+    let past = moments_of s h in
+    let now = moment s x.effects x.entry past in
+    let before = sent_since s are h each.1 p n (omega arith) in
+    elim (cases_Bool (length h % s.cal.times.period == s.cal.times.send)) [
+      | inl e ↦ sent_now s x past (length h) n (period_least s.cal.times are) (eqb-true _ _ e) before
+      | inr e ↦ (let off = ap (λ t. t % s.cal.times.period == s.cal.times.send) (length-moments s h) ∙ e in
+          sent_between s.cal.times now past (length h) n ((fields s x.effects x.entry past).mark
+          ∙ absent_off_place s.cal.times x.effects now.trip past each.0.regular off) before)
+    ]
 
 -- ---- a right verdict takes a good answer ----
 
@@ -225,15 +214,15 @@ good_answers-cons n m past = good_answers-with_answer m.tick m.mark (answers_in 
 right_has_good : (times : TimeParts) (these : List MarkedAnswer) →
     is_wrong (verdict_of times these) ≡ false → 1 ≤ good_answers these
 unfolding verdict_of is_wrong good_answers
-right_has_good times [] h = absurd (let h' : true ≡ false = h in cc)
+right_has_good times [] h = absurd (true≢false h)
 right_has_good times (a ∷ []) h = let e = count-cons (λ b. b.good) a []
     ∙ ap (λ b. if b then 1 else 0) (good (is_in_window times a.tick) a.good h) in omega arith
   where
     good : (b g : Bool) → is_wrong (if b && g then Right else Wrong) ≡ false → g ≡ true
     good true true h = refl
-    good true false h = absurd (let h' : true ≡ false = h in cc)
-    good false g h = absurd (let h' : true ≡ false = h in cc)
-right_has_good times (a ∷ b ∷ more) h = absurd (let h' : true ≡ false = h in cc)
+    good true false h = absurd (true≢false h)
+    good false g h = absurd (true≢false h)
+right_has_good times (a ∷ b ∷ more) h = absurd (true≢false h)
 
 -- The newest q verdicts, and the period that has none yet, of which n ticks have passed; together g ticks.
 -- For each right verdict, and each good answer of that period, a good answer was sent at one of these
@@ -253,8 +242,7 @@ judged_inside m past q n g same judged = record {
   where
     sums : (b : Bool) (f f' c c' g g' : ℕ) → f' ≡ f → c' ≡ (if b then suc c else c) →
         g' ≡ (if b then suc g else g) → f + c ≤ g → f' + c' ≤ g'
-    sums true f f' c c' g g' e1 e2 e3 h = omega arith
-    sums false f f' c c' g g' e1 e2 e3 h = omega arith
+    sums b f f' c c' g g' e1 e2 e3 h = grind arith
 
 -- one tick more that closes a period
 judged_closing : (m : Moment) (past : List Moment) (q n g : ℕ) (wrong : Bool) →
@@ -276,10 +264,7 @@ judged_closing m past q n g wrong bits good judged = record {
     sums : (wrong b : Bool) (f f' c c' g g' : ℕ) → f' ≡ (if not wrong then suc f else f) →
         (wrong ≡ false → 1 ≤ c') →
         c' ≡ (if b then suc c else c) → g' ≡ (if b then suc g else g) → f + c ≤ g → f' + 0 ≤ g'
-    sums false true f f' c c' g g' e1 h e2 e3 l = let one : 1 ≤ c' = h refl in omega arith
-    sums false false f f' c c' g g' e1 h e2 e3 l = let one : 1 ≤ c' = h refl in omega arith
-    sums true true f f' c c' g g' e1 h e2 e3 l = omega arith
-    sums true false f f' c c' g g' e1 h e2 e3 l = omega arith
+    sums wrong b f f' c c' g g' e1 h e2 e3 l = grind arith
 
 -- a tick that closes a period, by its place
 judged_end : (s : Setting) → AreTimes s.cal.times → (x : Tick) (h : List Tick) → AllOrNoneEach (x ∷ h) →
@@ -306,13 +291,13 @@ judged_end s are x h each q g ends judged =
     closed : wrongs (now ∷ past) ≡ is_wrong (verdict_of times these) ∷ wrongs past
     closed =
         let last = ap (λ t. (t + 1) % times.period) (length-moments s h) ∙ ends in
-        let verdict = moment-verdict s x.effects x.entry past
+        let verdict = (fields s x.effects x.entry past).verdict
         ∙ verdict_some times are x.effects now.mark past each.0.regular.judged last in
         wrongs-cons now past ∙ ap (λ v. with_wrong v (wrongs past)) verdict ∙ (unfold with_wrong in refl)
 
     one_good : 1 ≤ good_answers these →
         1 ≤ good_answers (answers_in (take (suc (times.period - 1)) (now ∷ past)))
-    one_good h = unfold answers_in in rw (moment-tick s x.effects x.entry past) h
+    one_good h = unfold answers_in in rw (fields s x.effects x.entry past).tick h
 
 -- so it is at each tick of the newest q periods and of the one after them
 pub judged : (s : Setting) → AreTimes s.cal.times → (h : List Tick) → AllOrNoneEach h → (j q n g : ℕ) →
@@ -329,7 +314,7 @@ judged s are (x ∷ h) each j q (suc n) (suc g) at room size =
     let next = next_place (length past) (length h) (length-moments s h) at in
     let place = ap (λ k. k % s.cal.times.period) next
     ∙ mod-mul-add (j + q) s.cal.times.period (suc n) room in
-    let none = moment-verdict s x.effects x.entry past
+    let none = (fields s x.effects x.entry past).verdict
     ∙ verdict_none s.cal.times are x.effects now.mark past (omega arith) in
     judged_inside now past q n g
     (wrongs-cons now past ∙ ap (λ v. with_wrong v (wrongs past)) none ∙ (unfold with_wrong in refl))

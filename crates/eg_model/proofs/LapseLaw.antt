@@ -1,35 +1,30 @@
 -- The two laws of lapses.
-use Rattle.std.proofs.Common.{◌≡◌, ℕ, zero, suc, ◌+◌, ◌-◌, ◌*◌, ◌≤◌, ◌<◌, Bool, true, false, not, List, [], ◌∷◌, ◌++◌, length, take, refl, sym, ap, ◌∙◌, subst, arith, inl, inr, ◌⊎◌, length-append, nat_lt}
+use Rattle.std.proofs.Common.{◌≡◌, ℕ, zero, suc, ◌+◌, ◌-◌, ◌*◌, ◌≤◌, ◌<◌, true, false, not, List, [], ◌∷◌, ◌++◌, length, take, sym, ap, ◌∙◌, subst, arith, inl, inr, length-append, nat_lt}
 use Rattle.std.specs.List.{count_by}
 use Rattle.std.proofs.Math.Nat.{div-mul-le_self}
-use Rattle.std.proofs.lemmas.Bool.{or_right, and_right, and_parts, le-ltb}
+use Rattle.std.proofs.lemmas.Bool.{cases_lt, false≢true, cases_Bool, and_parts, le-ltb}
 use Rattle.eg_num.specs.Arithmetic.{quotient_up}
 use Rattle.eg_num.specs.Windows.{is_confirmed}
 use Rattle.eg_torque.specs.Excess.{is_excess}
 use Rattle.eg_answer.specs.Times.{feeds_to_confirm, periods_to_confirm, worth_of, HasLapseBound, rounds_to_confirm, lapse_periods, lapse_bound_of}
 use Rattle.eg_values.specs.Calibration.{CalibrationParts, IsAccepted}
-use Rattle.eg_fault.specs.Effects.{Effects}
-use Rattle.eg_fault.specs.declared.paths.TheConstants.{PATH_2}
 use Rattle.eg_record.specs.Excess.{true_excess}
-use Rattle.eg_model.specs.History.{Setting, Entry, Tick, Moment}
+use Rattle.eg_model.specs.History.{Setting, Tick, Drive, Moment}
 use Rattle.eg_model.specs.Signals.{tripped}
 use Rattle.eg_model.specs.Detection.{fed_bits, torque_bit}
-use Rattle.eg_model.specs.Paths.{latch2, path2_at, both_conduct}
+use Rattle.eg_model.specs.Paths.{latch2, both_conduct}
 use Rattle.eg_model.specs.Moments.{moment, moments_of}
 use Rattle.eg_model.specs.Rows.{row_of, rows_of}
 use Rattle.eg_model.specs.Premises.{AreProper, IsProper, Follows, is_on_after, true_excesses}
 use Rattle.eg_model.specs.Lapses.{IsLapse, Exceeds, CutsStandingExcess, StretchesAreShort}
-use Rattle.eg_model.proofs.TickLemmas.{moment-on, moment-exceeds}
-use Rattle.eg_model.proofs.TripLemmas.{exceeds, latch1_on, off_by_latch1}
-use Rattle.eg_model.proofs.Silence.{wrongs, run_confirms, longer_run, latch2-cons, opens_when_confirmed, period_least, send_within}
+use Rattle.eg_model.proofs.TickLemmas.{stays, moment-exceeds, fields}
+use Rattle.eg_model.proofs.TripLemmas.{trip_from_fed, exceeds, latch1_on, off_by_latch1}
+use Rattle.eg_model.proofs.Silence.{wrongs, run_confirms, longer_run, opens_when_confirmed, off_by_latch2, period_least, send_within}
 use Rattle.eg_model.proofs.ClassLemmas.{of_history}
-use Rattle.eg_model.proofs.ReactionLaw.{Follows-tail, AreProper-tail, split}
-use Rattle.eg_model.proofs.LapseRuns.{AllOrNone, AllOrNoneEach, lapse_all_or_none, trip_opens, trip_from_fed, runs_in, AllExceed, runs_find}
+use Rattle.eg_model.proofs.SpanRows.{end_of, follows-end, proper-end}
+use Rattle.eg_model.proofs.LapseRuns.{AllOrNone, AllOrNoneEach, lapse_all_or_none, trip_opens, runs_in, AllExceed, runs_find}
 use Rattle.eg_model.proofs.LapseAnswers.{is_good_mark, goods_in, Sent, sent_since, Judged, judged}
 use Rattle.eg_model.proofs.LapseWeights.{all_of_fewer, count_of_fewer, rounded_up, confirms_few}
-
-less_or : (a b : ℕ) → (a < b) ⊎ (b ≤ a)
-less_or a b = grind arith
 
 -- the premises of both laws
 record Lapsing (s : Setting) : Type 0 where
@@ -101,7 +96,7 @@ module _ (s : Setting) (h : List Tick) (g : EndsWithPeriods s h)
   -- fewer runs came than confirm
   few_runs : runs_in counted past < runs
   unfolding lapse_periods
-  few_runs = elim (less_or (runs_in counted past) runs) [
+  few_runs = elim (cases_lt (runs_in counted past) runs) [
     | inl less ↦ less
     | inr enough ↦ absurd (let e : false ≡ true = sym untripped ∙ trip_from_fed s h (confirmed enough) in
         cc)
@@ -174,29 +169,15 @@ module _ (s : Setting) (h : List Tick) (g : EndsWithPeriods s h)
 
 -- ---- and the stages stay off ----
 
-latch2_on : (s : Setting) (more h : List Tick) → latch2 (moments_of s h) ≡ true →
-    latch2 (moments_of s (more ++ h)) ≡ true
-unfolding moments_of
-latch2_on s [] h u = u
-latch2_on s (x ∷ more) h u = latch2-cons _ _ ∙ or_right _ _ (latch2_on s more h u)
-
-off_by_latch2 : (s : Setting) (x : Effects) (e : Entry) (ms : List Moment) → x.conducts PATH_2 true ≡ false →
-    latch2 ms ≡ true → (moment s x e ms).on ≡ false
-unfolding both_conduct path2_at
-off_by_latch2 s x e ms opens u =
-    moment-on s x e ms ∙ and_right _ _ (ap (x.conducts PATH_2) u ∙ opens)
-
 off_after_periods : (s : Setting) (h more : List Tick) → EndsWithPeriods s h → (x : Tick) →
     AllOrNone x.effects → is_on_after s (more ++ h) x ≡ false
-unfolding is_on_after
-off_after_periods s h more g x one = go (tripped (moments_of s h)) refl
-  where
-    go : (b : Bool) → tripped (moments_of s h) ≡ b →
-        (moment s x.effects x.entry (moments_of s (more ++ h))).on ≡ false
-    go true u = off_by_latch1 s x.effects x.entry (moments_of s (more ++ h)) (one.obeys 1)
-        (latch1_on s more h (trip_opens s h g.each u))
-    go false u = off_by_latch2 s x.effects x.entry (moments_of s (more ++ h)) (one.obeys 2)
-        (latch2_on s more h (opens_when_confirmed s h (verdicts_confirm s h g u)))
+unfolding is_on_after latch2 moments_of
+off_after_periods s h more g x one = elim (cases_Bool (tripped (moments_of s h))) [
+  | inl u ↦ off_by_latch1 s x.effects x.entry (moments_of s (more ++ h)) (one.obeys 1)
+      (latch1_on s more h (trip_opens s h g.each u))
+  | inr u ↦ off_by_latch2 s x.effects x.entry (moments_of s (more ++ h)) (one.obeys 2) (stays _ s more h
+      (opens_when_confirmed Drive s h (verdicts_confirm s h g u)))
+]
 
 pub lapsing_history : (s : Setting) → IsLapse s.fault → (start : ℕ) (h : List Tick) → Follows s.fault start h →
     AllOrNoneEach h
@@ -208,8 +189,8 @@ unfolding Follows
 cuts_lapses s accepted bounded lapse start periods h at exceed more x follows proper after =
     off_after_periods s h more (record {
       lapsing = record { accepted = accepted; bounded = bounded; lapse = lapse };
-      each = lapsing_history s lapse start h (Follows-tail s.fault start more h follows.1);
-      proper = AreProper-tail s more h proper;
+      each = lapsing_history s lapse start h (follows-end s.fault start more h follows.1);
+      proper = proper-end s more h proper;
       periods = periods;
       at = at;
       exceed = exceed;
@@ -224,12 +205,11 @@ pub off_no_excess : (s : Setting) (x : Tick) (past : List Moment) → IsProper s
     exceeds s (moment s x.effects x.entry past) ≡ true → ⊥
 unfolding is_excess
 off_no_excess s x past proper off over =
-    none _ _ _ (proper.no_torque (sym (moment-on s x.effects x.entry past) ∙ off))
+    none _ _ _ (proper.no_torque (sym (fields s x.effects x.entry past).on ∙ off))
     (sym (moment-exceeds s x.effects x.entry past) ∙ over)
   where
     none : (limit threshold torque : ℕ) → torque ≡ 0 → nat_lt (limit + threshold) torque ≡ true → ⊥
-    none limit threshold torque zero_torque h = let k : false ≡ true =
-        sym (le-ltb (limit + threshold) torque (omega arith)) ∙ h in cc
+    none limit threshold torque zero_torque h = false≢true (sym (le-ltb (limit + threshold) torque (omega arith)) ∙ h)
 
 -- the stretch goes on behind the newest ticks
 pub exceed_behind : (s : Setting) (more h : List Tick) (n k : ℕ) → n ≡ length more + k →
@@ -262,8 +242,8 @@ none_longer s has start periods n front [] follows proper size fits long all = a
 none_longer s has start periods n front (x ∷ h) follows proper size fits long all =
     let ticks = whole_ticks s in
     let behind = exceed_behind s front (x ∷ h) n (n - length front) (omega arith) all in
-    none_after s has start periods x h (Follows-tail s.fault start front (x ∷ h) follows)
-    (AreProper-tail s front (x ∷ h) proper) (omega arith) (omega arith)
+    none_after s has start periods x h (follows-end s.fault start front (x ∷ h) follows)
+    (proper-end s front (x ∷ h) proper) (omega arith) (omega arith)
     (all_of_fewer (λ b. b) (suc ticks) (n - length front) (true_excesses s (x ∷ h)) (omega arith) behind)
 
 -- Where a stretch begins at tick `from`, the first whole period in it begins within a period, and `whole` of
@@ -295,26 +275,23 @@ pub lapses_are_short : (s : Setting) → IsAccepted s.cal → HasLapseBound s.ca
     (n : ℕ) → Exceeds s n h → n < lapse_bound_of s.cal.rules.torque s.cal.times
 unfolding lapse_bound_of
 lapses_are_short s accepted bounded lapse start h follows proper n exceed =
-    elim (less_or n (lapse_bound_of s.cal.rules.torque s.cal.times)) [
+    elim (cases_lt n (lapse_bound_of s.cal.rules.torque s.cal.times)) [
       | inl less ↦ less
       | inr long ↦ absurd (too_long long)
     ]
   where
-    both_sizes : (front back h : List Tick) → front ++ back ≡ h → length front + length back ≡ length h
-    both_sizes front back h whole = sym (length-append front back) ∙ ap length whole
-
     too_long : lapse_bound_of s.cal.rules.torque s.cal.times ≤ n → ⊥
     too_long long =
         let r = room (length h - n) (lapse_periods s.cal.rules.torque s.cal.times) s.cal.times.period n
         (period_least s.cal.times accepted.times) long in
         let f = exceed.within in let b = r.begins in let e = r.ends in let sum = r.sum in
-        let cut = split h (r.periods * s.cal.times.period + 1) (omega arith) in
-        let sizes = both_sizes cut.front cut.back h cut.whole in
+        let cut = end_of h (r.periods * s.cal.times.period + 1) (omega arith) in
+        let sizes = ap length cut.whole ∙ length-append cut.more cut.rest in
         let size = cut.size in
         let has : Lapsing s = record { accepted = accepted; bounded = bounded; lapse = lapse } in
-        none_longer s has start r.periods n cut.front cut.back (rw cut.whole follows)
-        (rw cut.whole proper) cut.size r.fits (omega arith)
-        (rw cut.whole exceed.each)
+        none_longer s has start r.periods n cut.more cut.rest (rw cut.whole at follows)
+        (rw cut.whole at proper) cut.size r.fits (omega arith)
+        (rw cut.whole at exceed.each)
 
 pub stretches_are_short : StretchesAreShort
 stretches_are_short cal accepted bounded s is lapse start h follows proper n exceed =

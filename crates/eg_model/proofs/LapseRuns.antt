@@ -1,12 +1,11 @@
 -- Under lapses level 2 runs as a whole or not at all, and each of its runs in a stretch of excess finds the
 -- excess.
-use Rattle.std.proofs.Common.{◌≡◌, ℕ, zero, suc, ◌+◌, Bool, true, false, not, ◌||◌, ◌&&◌, cond, List, [], ◌∷◌, take, refl, sym, ap, ◌∙◌, subst, arith, Option, None, is_some, inl}
+use Rattle.std.proofs.Common.{inr, ◌≡◌, ℕ, zero, suc, ◌+◌, Bool, true, false, not, ◌||◌, cond, List, [], ◌∷◌, take, refl, sym, ap, ◌∙◌, subst, arith, Option, None, is_some, inl}
 use Rattle.std.specs.Prelude.{if◌then◌else◌}
 use Rattle.std.specs.List.{list_all, count_by}
 use Rattle.std.proofs.lemmas.List.Sums.{sum_by-cons}
-use Rattle.std.proofs.lemmas.Bool.{or_left, or_right, or_from, and_left, and_parts}
-use Rattle.eg_num.specs.Windows.{WeightParts, is_confirmed}
-use Rattle.eg_num.proofs.FirstIndexLemmas.{is_first_from}
+use Rattle.std.proofs.lemmas.Bool.{cases_Bool, false≢true, or_right, and_left, and_parts}
+use Rattle.eg_num.specs.Windows.{WeightParts}
 use Rattle.eg_answer.specs.declared.modules.TheConstants.{DEBOUNCE, REACT}
 use Rattle.eg_values.specs.Calibration.{IsAccepted}
 use Rattle.eg_fault.specs.Effects.{Effects, no_effects}
@@ -26,9 +25,10 @@ use Rattle.eg_model.specs.Moments.{moment, moments_of}
 use Rattle.eg_model.specs.Rows.{row_of, rows_of}
 use Rattle.eg_model.specs.Premises.{AreProper, true_excesses}
 use Rattle.eg_model.specs.Lapses.{IsLapse}
-use Rattle.eg_model.proofs.TickLemmas.{Each, tripped-cons, untripped_before, moment-whole, moment-feeds_at, moment-trip, moment-mirror, moment-plate, moment-load, moment-speed, moment-torque_found, moment-torque, trip_from_torque}
-use Rattle.eg_model.proofs.TripLemmas.{fed_bits-cons, confirmed_none, latch1-cons, latch1_from_trip}
-use Rattle.eg_model.proofs.Seeing.{IsUndisturbed, SeesExcess, errs_safely, excess_seen}
+use Rattle.eg_model.specs.Seeing.{IsUndisturbed, SeesExcess}
+use Rattle.eg_model.proofs.TickLemmas.{Each, fields, no_trip, tripped-cons, untripped_before}
+use Rattle.eg_model.proofs.TripLemmas.{fed_bits-cons, fed_bits-skip, latch1-cons, latch1_from_trip}
+use Rattle.eg_model.proofs.Seeing.{errs_safely, excess_seen}
 use Rattle.eg_model.proofs.Silence.{TrueRun}
 
 -- ---- what lapses leave as it is ----
@@ -43,22 +43,10 @@ pub record AllOrNone (x : Effects) : Type 0 where
   pub regular : IsRegular x
   pub obeys : (path : ℕ) → x.conducts path true ≡ false
 
-none_out : AllOrNone no_effects
+all_or_none : (runs : Bool) → AllOrNone (record no_effects { ran = λ i. runs })
 unfolding no_effects
-none_out = record {
-  runs = true;
-  ran = λ i. refl;
-  unflipped = refl;
-  undisturbed = λ i. refl;
-  sound = λ i v. refl;
-  regular = record { sends = refl; judged = refl };
-  obeys = λ path. refl;
-}
-
-all_or_none : (after : List ℕ) (every k : ℕ) → AllOrNone (effects_of (Lapse after every) k)
-unfolding effects_of no_effects
-all_or_none after every k = record {
-  runs = not (is_left_out after every k);
+all_or_none runs = record {
+  runs = runs;
   ran = λ i. refl;
   unflipped = refl;
   undisturbed = λ i. refl;
@@ -69,9 +57,10 @@ all_or_none after every k = record {
 
 -- so it is at each tick of a run with a lapse
 pub lapse_all_or_none : (f : Option Fault) → IsLapse f → (t : ℕ) → AllOrNone (effects f t)
+unfolding effects_of no_effects
 lapse_all_or_none f lapse t = subst (λ g. AllOrNone (effects g t)) (sym lapse.is)
-    (of_class AllOrNone (record { onset = lapse.onset; class = Lapse lapse.after lapse.every }) none_out
-    (all_or_none lapse.after lapse.every) t)
+    (of_class AllOrNone (record { onset = lapse.onset; class = Lapse lapse.after lapse.every })
+    (all_or_none true) (λ k. all_or_none (not (is_left_out lapse.after lapse.every k))) t)
 
 abbrev pub AllOrNoneEach : List Tick → Type 0
 AllOrNoneEach h = Each (λ x. AllOrNone x.effects) h
@@ -83,35 +72,25 @@ module _ (s : Setting) (x : Tick) (past : List Moment) (one : AllOrNone x.effect
   now = moment s x.effects x.entry past
 
   pub whole-is : now.whole ≡ one.runs
-  whole-is = moment-whole s x.effects x.entry past ∙ all x.effects one.runs one.ran
+  whole-is = (fields s x.effects x.entry past).whole ∙ all x.effects one.runs one.ran
     where
       all : (x : Effects) (b : Bool) → ((i : ℕ) → x.ran i ≡ b) → is_whole x ≡ b
       all x true r = unfold is_whole modules modules_before_react in rw (r 0, r 1, r 2, r 3, r 4, r 5, r 6, r 7) refl
       all x false r = unfold is_whole modules modules_before_react in and_left _ _ (r 0)
 
   feeds-is : tripped past ≡ false → now.feeds ≡ one.runs
-  feeds-is u = moment-feeds_at s x.effects x.entry past
-      ∙ (unfold feeds_at in rw (one.ran DEBOUNCE, u, one.unflipped) (and_trues one.runs))
-    where
-      and_trues : (b : Bool) → (b && true && true) ≡ b
-      and_trues true = refl
-      and_trues false = refl
+  feeds-is u = (fields s x.effects x.entry past).feeds
+      ∙ (unfold feeds_at in rw (one.ran DEBOUNCE, u, one.unflipped) (grind arith))
 
   feeds_out : one.runs ≡ false → now.feeds ≡ false
-  feeds_out out = moment-feeds_at s x.effects x.entry past
+  feeds_out out = (fields s x.effects x.entry past).feeds
       ∙ (unfold feeds_at in and_left _ _ (and_left _ _ (one.ran DEBOUNCE ∙ out)))
 
   -- where level 2 doesn't run it finds nothing
   pub trip_out : one.runs ≡ false → now.trip ≡ false
   trip_out out =
-      moment-trip s x.effects x.entry past
-      ∙ or_from _ _ (or_from _ _
-      (or_from _ _ (or_from _ _
-      (moment-mirror s x.effects x.entry past ∙ ap (λ flip. is_some flip) one.unflipped)
-      (moment-plate s x.effects x.entry past ∙ none _ _))
-      (moment-load s x.effects x.entry past ∙ none _ _))
-      (moment-speed s x.effects x.entry past ∙ none _ _))
-      (moment-torque_found s x.effects x.entry past ∙ none _ _)
+      let f = fields s x.effects x.entry past in
+      no_trip f (f.mirror ∙ ap (λ flip. is_some flip) one.unflipped) (λ p. f.pair p ∙ none _ _) (f.torque ∙ none _ _)
     where
       none : (w : WeightParts) (bit : Signals → Bool) → finds w bit now.feeds now.signals past ≡ false
       none w bit = unfold finds in and_left _ _ (feeds_out out)
@@ -131,60 +110,12 @@ module _ (s : Setting) (x : Tick) (past : List Moment) (one : AllOrNone x.effect
 pub trip_opens : (s : Setting) (h : List Tick) → AllOrNoneEach h → tripped (moments_of s h) ≡ true →
     latch1 (moments_of s h) ≡ true
 unfolding Each moments_of
-trip_opens s [] each u = absurd (never u)
-  where
-    never : tripped [] ≡ true → ⊥
-    never u = let u' : false ≡ true = unfold tripped in u in cc
-trip_opens s (x ∷ h) each u = go each.0.runs refl (trip_opens s h each.1)
-  where
-    past : List Moment
-    past = moments_of s h
-
-    older : (a b : Bool) → (a || b) ≡ true → a ≡ false → b ≡ true
-    older true b e f = absurd (let f' : true ≡ false = f in cc)
-    older false b e f = e
-
-    go : (runs : Bool) → each.0.runs ≡ runs → (tripped past ≡ true → latch1 past ≡ true) →
-        latch1 (moment s x.effects x.entry past ∷ past) ≡ true
-    go true runs before = latch1_from_trip s x h (each.0.ran REACT ∙ runs) u
-    go false out before = latch1-cons _ _
-        ∙ or_right _ _ (before (older _ _ (sym (tripped-cons _ _) ∙ u) (trip_out s x past each.0 out)))
-
--- ---- the bits that are fed ----
-
-pub fed_bits-skip : (b : Signals → Bool) (m : Moment) (past : List Moment) → m.feeds ≡ false →
-    fed_bits b (m ∷ past) ≡ fed_bits b past
-unfolding fed_bits
-fed_bits-skip b m past h = rw h refl
-
--- where the fed torque bits are confirmed a trip has come, whichever ticks fed them
-pub trip_from_fed : (s : Setting) (h : List Tick) →
-    is_confirmed s.cal.rules.torque (fed_bits torque_bit (moments_of s h)) ≡ true →
-    tripped (moments_of s h) ≡ true
-unfolding moments_of
-trip_from_fed s [] c = absurd (confirmed_none s.cal.rules.torque torque_bit c)
-trip_from_fed s (x ∷ h) c = tripped-cons _ _ ∙ go now.feeds refl (confirmed past) refl (trip_from_fed s h)
-  where
-    past : List Moment
-    past = moments_of s h
-
-    now : Moment
-    now = moment s x.effects x.entry past
-
-    confirmed : List Moment → Bool
-    confirmed ms = is_confirmed s.cal.rules.torque (fed_bits torque_bit ms)
-
-    go : (feeds : Bool) → now.feeds ≡ feeds → (before : Bool) → confirmed past ≡ before →
-        (confirmed past ≡ true → tripped past ≡ true) → (now.trip || tripped past) ≡ true
-    go feeds e true before ih = or_right _ _ (ih before)
-    go true e false before ih =
-        let first = is_first_from s.cal.rules.torque (torque_bit now.signals) (fed_bits torque_bit past)
-        (rw (← fed_bits-cons torque_bit now past e) c) before in
-        or_left _ _ (trip_from_torque s x.effects x.entry past
-        (moment-torque s x.effects x.entry past e first))
-    go false e false before ih =
-        absurd (let k : true ≡ false = sym c
-        ∙ ap (is_confirmed s.cal.rules.torque) (fed_bits-skip torque_bit now past e) ∙ before in cc)
+trip_opens s [] each u = absurd (false≢true (unfold tripped in u))
+trip_opens s (x ∷ h) each u = elim (cases_Bool each.0.runs) [
+  | inl runs ↦ latch1_from_trip s x h (each.0.ran REACT ∙ runs) u
+  | inr out ↦ latch1-cons _ _ ∙ or_right _ _ (trip_opens s h each.1
+      (sym (ap (λ b. b || tripped (moments_of s h)) (trip_out s x (moments_of s h) each.0 out)) ∙ sym (tripped-cons _ _) ∙ u))
+]
 
 -- ---- how often level 2 ran ----
 
@@ -193,8 +124,7 @@ pub count-cons : {X : Type 0} (p : X → Bool) (x : X) (xs : List X) →
 count-cons p x xs = sum_by-cons _ x xs ∙ go (p x) (count_by p xs)
   where
     go : (b : Bool) (n : ℕ) → cond b 1 0 + n ≡ (if b then suc n else n)
-    go true n = omega arith
-    go false n = omega arith
+    go b n = grind arith
 
 -- at how many of the newest n ticks it ran
 unfoldable pub runs_in : ℕ → List Moment → ℕ
@@ -238,23 +168,13 @@ unfolding Each AreProper moments_of true_excesses rows_of row_of true_excess run
 runs_find s a h each proper zero over u = tt
 runs_find s a [] each proper (suc n) over u = tt
 runs_find s a (x ∷ h) each proper (suc n) over u =
-    go each.0.runs refl (runs_find s a h each.1 proper.1 n (and_parts _ _ over).1 before)
-  where
-    past : List Moment
-    past = moments_of s h
-
-    now : Moment
-    now = moment s x.effects x.entry past
-
-    before : tripped past ≡ false
-    before = untripped_before now past u
-
-    go : (runs : Bool) → each.0.runs ≡ runs → RunsFind n past → RunsFind (suc n) (now ∷ past)
-    go true runs ih =
-        let seen = sees s x past each.0 runs in
-        let bit = excess_seen s x past seen.runs seen.undisturbed before a
-        (errs_safely s x past seen proper.0) (and_parts _ _ over).0 in
-        run_more now past n (whole-is s x past each.0 ∙ runs)
-        (feeds-is s x past each.0 before ∙ runs) bit ih
-    go false out ih = run_same now past n (whole-is s x past each.0 ∙ out)
-        (feeds-is s x past each.0 before ∙ out) ih
+    let past = moments_of s h in
+    let now = moment s x.effects x.entry past in
+    let before = untripped_before now past u in
+    let found = runs_find s a h each.1 proper.1 n (and_parts _ _ over).1 before in
+    elim (cases_Bool each.0.runs) [
+      | inl runs ↦ (let seen = sees s x past each.0 runs in
+          run_more now past n (whole-is s x past each.0 ∙ runs) (feeds-is s x past each.0 before ∙ runs)
+          (excess_seen s x past seen.runs seen.undisturbed before a (errs_safely s x past seen proper.0) (and_parts _ _ over).0) found)
+      | inr out ↦ run_same now past n (whole-is s x past each.0 ∙ out) (feeds-is s x past each.0 before ∙ out) found
+    ]

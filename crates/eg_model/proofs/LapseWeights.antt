@@ -1,14 +1,14 @@
 -- Verdicts of which few are right confirm: what they weigh.
-use Rattle.std.proofs.Common.{◌≡◌, ℕ, zero, suc, ◌+◌, ◌-◌, ◌*◌, ◌≤◌, ◌<◌, Bool, true, false, not, List, [], ◌∷◌, length, take, refl, ◌∙◌, subst, arith}
+use Rattle.std.proofs.Common.{◌≡◌, ℕ, zero, suc, ◌+◌, ◌-◌, ◌*◌, ◌≤◌, ◌<◌, Bool, true, false, not, List, [], ◌∷◌, length, take, refl, subst, arith}
 use Rattle.std.specs.Prelude.{if◌then◌else◌}
 use Rattle.std.specs.List.{list_all, count_by}
 use Rattle.std.proofs.lemmas.List.{length-take-le}
 use Rattle.std.proofs.Math.Nat.{lt-div-mul-add}
-use Rattle.std.proofs.lemmas.Bool.{and_from, and_parts, le-leb}
+use Rattle.std.proofs.lemmas.Bool.{and_from, and_parts}
 use Rattle.eg_num.specs.Arithmetic.{quotient_up}
 use Rattle.eg_num.specs.Windows.{WeightParts, is_confirmed, weight, greatest}
-use Rattle.eg_num.proofs.CounterLemmas.{greatest-nil, greatest-bad, greatest-good, is_reached-greatest}
-use Rattle.eg_num.proofs.FirstIndexLemmas.{is_reached_confirmed}
+use Rattle.eg_num.proofs.CounterLemmas.{greatest-bad, greatest-good}
+use Rattle.eg_model.proofs.Silence.{reached_confirms}
 use Rattle.eg_model.proofs.LapseRuns.{count-cons}
 
 -- ---- fewer of the newest ----
@@ -31,8 +31,7 @@ count_of_fewer p (suc n) (suc more) (x ∷ xs) l =
     (go (p x) _ _ (count_of_fewer p n more xs (omega arith)))
   where
     go : (b : Bool) (k k' : ℕ) → k ≤ k' → (if b then suc k else k) ≤ (if b then suc k' else k')
-    go true k k' l = omega arith
-    go false k k' l = l
+    go b k k' l = grind arith
 
 -- a feed is bad or good
 count-both : (us : List Bool) → count_by (λ b. b) us + count_by not us ≡ length us
@@ -41,8 +40,7 @@ count-both (b ∷ us) = rw (count-cons (λ c. c) b us, count-cons not b us) (go 
   where
     go : (b : Bool) (t f n : ℕ) → t + f ≡ n →
         (if b then suc t else t) + (if not b then suc f else f) ≡ suc n
-    go true t f n e = omega arith
-    go false t f n e = omega arith
+    go b t f n e = grind arith
 
 -- ---- what the newest feeds weigh ----
 
@@ -103,12 +101,6 @@ heavy up down limit (suc b) (suc c) right some few worth enough =
   where
     less : suc c - 1 ≡ c
     less = omega arith
-
-reached_confirms : (w : WeightParts) (bits : List Bool) → 0 < w.limit → w.limit ≤ greatest w bits →
-    is_confirmed w bits ≡ true
-reached_confirms w [] some enough = absurd (let none = greatest-nil w in omega arith)
-reached_confirms w (b ∷ bits) some enough =
-    is_reached_confirmed w b bits (is_reached-greatest w (b ∷ bits) some ∙ le-leb _ _ enough)
 
 -- so they confirm
 pub confirms_few : (w : WeightParts) (rounds periods : ℕ) (bits : List Bool) → 0 < w.limit →

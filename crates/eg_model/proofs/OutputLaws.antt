@@ -5,6 +5,7 @@ use Rattle.std.specs.Prelude.{filter, if◌then◌else◌}
 use Rattle.std.proofs.lemmas.List.{length-map, take-map}
 use Rattle.eg_num.specs.Drive.{DriveRow}
 use Rattle.eg_num.specs.Windows.{is_first}
+use Rattle.eg_num.proofs.WindowLemmas.{list_any-map}
 use Rattle.eg_answer.specs.Times.{TimeParts}
 use Rattle.eg_answer.specs.Periods.{with_verdict, is_wrong}
 use Rattle.eg_answer.specs.declared.marks.Verdict.{Verdict}
@@ -19,28 +20,25 @@ use Rattle.eg_model.specs.Paths.{orders_open, latch1, latch2, path1_at, path2_at
 use Rattle.eg_model.specs.Moments.{readings_at, sensed_at, moment_in, moments_in}
 use Rattle.eg_model.specs.Spans.{span_so_far, span_kind, has_passed, kind_at, before_at, moment_at, next_after, moments}
 use Rattle.eg_model.specs.Outputs.{running, without_slices, tick_without_slices, without_level1, SpansDisregardLevel1, RunsDisregardLevel1}
+use Rattle.eg_model.proofs.TickLemmas.{parts_of, nothing}
 
 -- ---- what is read of the ticks before ----
 
 tripped-bare : (past : List Moment) → tripped (map without_level1 past) ≡ tripped past
 unfolding tripped without_level1
-tripped-bare [] = refl
-tripped-bare (m ∷ past) = ap (λ b. m.trip || b) (tripped-bare past)
+tripped-bare past = list_any-map (λ m. m.trip) without_level1 past
 
 limited-bare : (past : List Moment) → is_limited (map without_level1 past) ≡ is_limited past
 unfolding is_limited without_level1
-limited-bare [] = refl
-limited-bare (m ∷ past) = ap (λ b. m.found.pedal || b) (limited-bare past)
+limited-bare past = list_any-map (λ m. m.found.pedal) without_level1 past
 
 latch1-bare : (past : List Moment) → latch1 (map without_level1 past) ≡ latch1 past
 unfolding latch1 without_level1
-latch1-bare [] = refl
-latch1-bare (m ∷ past) = ap (λ b. m.orders || b) (latch1-bare past)
+latch1-bare past = list_any-map (λ m. m.orders) without_level1 past
 
 latch2-bare : (past : List Moment) → latch2 (map without_level1 past) ≡ latch2 past
 unfolding latch2 without_level1
-latch2-bare [] = refl
-latch2-bare (m ∷ past) = ap (λ b. (m.confirms || m.opens) || b) (latch2-bare past)
+latch2-bare past = list_any-map (λ m. m.confirms || m.opens) without_level1 past
 
 path1-bare : (x : Effects) (past : List Moment) → path1_at x (map without_level1 past) ≡ path1_at x past
 unfolding path1_at
@@ -129,12 +127,6 @@ moment_in-alike kind s image x e other past others same before =
     sym (moment-bare kind s s.image x e past)
     ∙ ap₂ (λ entry ms. without_level1 (moment_in kind s x entry ms)) same before
     ∙ moment-bare kind (running image s) s.image x other others
-
-pub parts_of : {A : Type 0} {a c : A} {rest more : List A} → a ∷ rest ≡ c ∷ more → (a ≡ c) × (rest ≡ more)
-parts_of f = (cc, cc)
-
-pub nothing : {A : Type 0} {a : A} {rest : List A} → [] ≡ a ∷ rest → ⊥
-nothing f = cc
 
 pub spans_disregard_level1 : SpansDisregardLevel1
 unfolding moments_in tick_without_slices

@@ -15,7 +15,8 @@ use Rattle.eg_model.specs.Rows.{row_of, rows_of, record_rows}
 use Rattle.eg_model.specs.Records.{rows_to}
 use Rattle.eg_model.specs.Outputs.{with_level1, without_slices, without_level1, without_outputs, outputs_of, RecordsActByOutputs, RecordsFollowOutputs}
 use Rattle.eg_model.proofs.RecordTicks.{no_rows, front, record_rows-is}
-use Rattle.eg_model.proofs.OutputLaws.{parts_of, nothing, length-bare, length-alike, passed-alike, kind-alike, before-alike, on-alike, next-alike}
+use Rattle.eg_model.proofs.TickLemmas.{parts_of, nothing}
+use Rattle.eg_model.proofs.OutputLaws.{length-bare, length-alike, passed-alike, kind-alike, before-alike, on-alike, next-alike}
 
 -- ---- the two outputs after the last of some ticks ----
 

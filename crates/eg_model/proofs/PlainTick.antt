@@ -1,5 +1,5 @@
 -- A tick at which nothing is out of order: what level 2 makes of it before any trip.
-use Rattle.std.proofs.Common.{◌≡◌, ℕ, zero, suc, ◌+◌, ◌-◌, ◌/◌, ◌%◌, ◌≤◌, Bool, true, false, List, [], ◌∷◌, length, refl, sym, ap, ap₂, ◌∙◌, arith, nat_lt, min, max}
+use Rattle.std.proofs.Common.{◌≡◌, ℕ, ◌+◌, ◌-◌, ◌≤◌, Bool, true, false, List, [], ◌∷◌, length, refl, sym, ap, ap₂, ◌∙◌, arith, nat_lt, min, max}
 use Rattle.std.specs.Prelude.{if◌then◌else◌, ◌==◌, slice_index}
 use Rattle.std.proofs.lemmas.Bool.{le-ltb, eq-eqb}
 use Rattle.eg_num.specs.Arithmetic.{estimate}
@@ -19,9 +19,10 @@ use Rattle.eg_model.specs.Paths.{both_conduct}
 use Rattle.eg_model.specs.Moments.{effective_drive, readings_at, limit_at, moment}
 use Rattle.eg_model.specs.Rows.{row_of}
 use Rattle.eg_model.specs.Premises.{IsProper}
-use Rattle.eg_model.proofs.TickLemmas.{Runs, moment-limit, moment-pairs, moment-full_excess}
+use Rattle.eg_model.specs.Seeing.{Runs, IsUndisturbed}
+use Rattle.eg_model.proofs.TickLemmas.{Pair, Pedal, Plate, Load, Speed, bit_of, moment-full_excess, fields}
 use Rattle.eg_model.proofs.BrakeLemmas.{effective-speed, effective-within, plain_readings}
-use Rattle.eg_model.proofs.Seeing.{IsUndisturbed, signal_value, actual-is, permitted-is, pedal-is, excess-is}
+use Rattle.eg_model.proofs.Seeing.{signal_value, actual-is, permitted-is, pedal-is, excess-is}
 
 -- a tick at which nothing is out of order
 abbrev pub plain : Entry → Tick
@@ -36,8 +37,7 @@ unfolding no_effects
 plain_undisturbed i = refl
 
 else_of : {A : Type 0} (b : Bool) (y z : A) → b ≡ false → (if b then y else z) ≡ z
-else_of true y z e = absurd (let e' : true ≡ false = e in cc)
-else_of false y z e = refl
+else_of b y z e = grind arith
 
 lower_is : (p : ℕ) → p ≤ 1000 → min p (1000 - (1000 - p)) ≡ p
 lower_is p l = omega arith
@@ -52,17 +52,6 @@ flag_bit : (b : Bool) → has_bit 1 (bit 1 b) ≡ b
 unfolding has_bit
 flag_bit true = refl
 flag_bit false = refl
-
-no_bit : (k : ℕ) → has_bit k 0 ≡ false
-unfolding has_bit
-no_bit k = go (0 / k) (nothing k)
-  where
-    nothing : (k : ℕ) → 0 / k ≡ 0
-    nothing zero = refl
-    nothing (suc k) = omega arith
-
-    go : (n : ℕ) → n ≡ 0 → (n % 2 == 1) ≡ false
-    go n e = rw e refl
 
 module _ (s : Setting) (e : Entry) (past : List Moment) (proper : IsProper s (both_conduct no_effects past) e)
     (loads : e.shown.load_2 ≡ e.shown.load_1) (untripped : tripped past ≡ false)
@@ -93,7 +82,7 @@ module _ (s : Setting) (e : Entry) (past : List Moment) (proper : IsProper s (bo
       ∙ ap₂ (permitted_torque s.cal.rules) (plain_readings s.cal e) pedal-same ∙ value ∙ sym limit-is
     where
       limit-is : m.limit ≡ drive_permits s.cal.rules.permit effective
-      limit-is = moment-limit s no_effects e past ∙ (unfold limit_at in refl)
+      limit-is = (fields s no_effects e past).limit ∙ (unfold limit_at in refl)
 
       same : (a b r q : ℕ) → a ≡ b → r ≡ q → max (min a a) r ≡ max b q
       same a b r q e f = omega arith
@@ -126,7 +115,7 @@ module _ (s : Setting) (e : Entry) (past : List Moment) (proper : IsProper s (bo
       ∙ sym (moment-full_excess s no_effects e past (length past))
 
   no_pairs : m.signals.pairs ≡ 0
-  no_pairs = moment-pairs s no_effects e past
+  no_pairs = (fields s no_effects e past).pairs
       ∙ signal_value no_effects past 5 (last_signals past).pairs
       (disagreeing_pairs s.cal.rules (readings_at s.cal no_effects e)) plain_runs plain_undisturbed untripped
       ∙ ap (disagreeing_pairs s.cal.rules) (plain_readings s.cal e) ∙ none
@@ -145,18 +134,10 @@ module _ (s : Setting) (e : Entry) (past : List Moment) (proper : IsProper s (bo
           falls : (p : ℕ) → p ≤ 1000 → p ≡ 1000 - (1000 - p)
           falls p l = omega arith
 
-  pub pedal_bit-is : pedal_bit m.signals ≡ false
-  unfolding pedal_bit
-  pedal_bit-is = ap (has_bit 1) no_pairs ∙ no_bit 1
-
-  pub plate_bit-is : plate_bit m.signals ≡ false
-  unfolding plate_bit
-  plate_bit-is = ap (has_bit 2) no_pairs ∙ no_bit 2
-
-  pub load_bit-is : load_bit m.signals ≡ false
-  unfolding load_bit
-  load_bit-is = ap (has_bit 4) no_pairs ∙ no_bit 4
-
-  pub speed_bit-is : speed_bit m.signals ≡ false
-  unfolding speed_bit
-  speed_bit-is = ap (has_bit 8) no_pairs ∙ no_bit 8
+  -- and the bits of the pairs are good
+  pub pair_good : (p : Pair) → bit_of p m.signals ≡ false
+  unfolding bit_of pedal_bit plate_bit load_bit speed_bit has_bit
+  pair_good Pedal = ap (has_bit 1) no_pairs
+  pair_good Plate = ap (has_bit 2) no_pairs
+  pair_good Load = ap (has_bit 4) no_pairs
+  pair_good Speed = ap (has_bit 8) no_pairs

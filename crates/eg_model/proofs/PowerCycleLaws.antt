@@ -1,6 +1,7 @@
 -- The spans of a record begin at the resets of its drive, and after tests that were passed.
-use Rattle.std.proofs.Common.{◌≡◌, ◌∙◌, refl, sym, ap, ap₂, subst, arith, ℕ, zero, suc, ◌+◌, ◌==◌, nat_le, Bool, true, false, ◌&&◌, ◌||◌, not, if◌then◌else◌, List, [], ◌∷◌, ◌++◌, length}
-use Rattle.std.proofs.lemmas.Bool.{eqb-true, eq-eqb, ne_eqb}
+use Rattle.std.proofs.Common.{◌≡◌, ◌∙◌, refl, sym, ap, ap₂, subst, arith, ℕ, zero, suc, ◌+◌, ◌==◌, nat_le, Bool, true, false, ◌&&◌, ◌||◌, not, if◌then◌else◌, List, [], ◌∷◌, length}
+use Rattle.std.proofs.lemmas.Bool.Decides.{nat_tests}
+use Rattle.std.proofs.lemmas.Bool.{false_from_ne_true, false≢true, true≢false, not-true, and_parts, or_parts, or_right, eqb-true, eq-eqb}
 use Rattle.eg_answer.specs.Times.{TimeParts, test_ticks_of}
 use Rattle.eg_fault.specs.Effects.{Effects}
 use Rattle.eg_fault.specs.Faults.{effects}
@@ -15,6 +16,7 @@ use Rattle.eg_model.specs.Engines.{BenchEngine}
 use Rattle.eg_model.specs.Bench.{Run, entry_at, moments_to}
 use Rattle.eg_model.specs.Rows.{row_of, rows_of, record_rows}
 use Rattle.eg_model.specs.PowerCycles.{BeginsTest, BeginsDrive, stands_in_test, IsPassed, IsUnfed, BeginsInTurn, SpansBeginInTurn, RecordsBeginInTurn}
+use Rattle.eg_model.proofs.TickLemmas.{parts_of, nothing, along}
 use Rattle.eg_model.proofs.SpanLemmas.{before-begins, kind-goes_on, span_so_far-next}
 
 -- ---- numbers ----
@@ -34,46 +36,26 @@ le_equal n m e = grind arith
 begins_test : (s : Setting) (x : Effects) (e : Entry) (n : ℕ) (past : List Moment) → e.drive.reset ≡ true →
     BeginsTest (row_of n (moment_at s x e past))
 unfolding row_of moment_at moment_in kind_at before_at is_testing
-begins_test s x e n past resets = record {
-  fresh = subst (λ b. (length (if b || has_passed past then [] else span_so_far past) == 0) ≡ true) (sym resets) refl;
-  tests = subst (λ b. is_testing (if b then Test else if has_passed past then Drive else span_kind past) s.cal.times
-      (length (if b || has_passed past then [] else span_so_far past)) ≡ true) (sym resets)
-      (zero_le (test_ticks_of s.cal.times));
-}
+begins_test s x e n past resets = record { fresh = rw resets refl; tests = rw resets (zero_le (test_ticks_of s.cal.times)) }
 
 -- where it doesn't, and a test was passed at the tick before, a drive span
 begins_drive : (s : Setting) (x : Effects) (e : Entry) (n : ℕ) (past : List Moment) → e.drive.reset ≡ false →
     has_passed past ≡ true → BeginsDrive (row_of n (moment_at s x e past))
 unfolding row_of moment_at moment_in kind_at before_at is_testing
-begins_drive s x e n past stays passed = record {
-  fresh = subst (λ b. (length (if b || has_passed past then [] else span_so_far past) == 0) ≡ true) (sym stays)
-      (subst (λ p. (length (if p then [] else span_so_far past) == 0) ≡ true) (sym passed) refl);
-  drives = subst (λ b. is_testing (if b then Test else if has_passed past then Drive else span_kind past) s.cal.times
-      (length (if b || has_passed past then [] else span_so_far past)) ≡ false) (sym stays)
-      (subst (λ p. is_testing (if p then Drive else span_kind past) s.cal.times
-      (length (if p then [] else span_so_far past)) ≡ false) (sym passed) refl);
-}
+begins_drive s x e n past stays passed = record { fresh = rw (stays, passed) refl; drives = rw (stays, passed) refl }
 
 -- whether or not the row resets, a span begins there
 begins_fresh : (s : Setting) (x : Effects) (e : Entry) (n : ℕ) (past : List Moment) → has_passed past ≡ true →
     (row_of n (moment_at s x e past)).fresh ≡ true
 unfolding row_of moment_at moment_in
 begins_fresh s x e n past passed = ap (λ before. length before == 0)
-    (before-begins e.drive past (ap (λ p. e.drive.reset || p) passed ∙ or_true e.drive.reset))
-  where
-    or_true : (b : Bool) → (b || true) ≡ true
-    or_true true = refl
-    or_true false = refl
+    (before-begins e.drive past (or_right e.drive.reset _ passed))
 
 -- and so at the first tick of a run
 begins_first : (s : Setting) (x : Effects) (e : Entry) (n : ℕ) → e.drive.reset ≡ false →
     BeginsDrive (row_of n (moment_at s x e []))
 unfolding row_of moment_at moment_in kind_at before_at is_testing has_passed span_kind span_so_far
-begins_first s x e n stays = record {
-  fresh = subst (λ b. (length (if b || has_passed [] then [] else span_so_far []) == 0) ≡ true) (sym stays) refl;
-  drives = subst (λ b. is_testing (if b then Test else Drive) s.cal.times
-      (length (if b || has_passed [] then [] else span_so_far [])) ≡ false) (sym stays) refl;
-}
+begins_first s x e n stays = record { fresh = rw stays refl; drives = rw stays refl }
 
 -- At other ticks none begins.
 passed_before : (s : Setting) (x : Effects) (e : Entry) (n : ℕ) (m : Moment) (past : List Moment) →
@@ -122,16 +104,14 @@ tests_by_kind-next s e past so = by_fresh (length (before_at e.drive past) == 0)
     at_begin Drive = refl
     at_begin Test = zero_le (test_ticks_of s.cal.times)
 
-    goes_on : (b : Bool) → (e.drive.reset || has_passed past) ≡ b → (length (before_at e.drive past) == 0) ≡ false →
-        kind ≡ span_kind past
-    goes_on true begins later = absurd (let f : true ≡ false =
-        sym (ap (λ before. length before == 0) (before-begins e.drive past begins)) ∙ later in cc)
-    goes_on false goes later = kind-goes_on e.drive past goes
+    goes_on : (length (before_at e.drive past) == 0) ≡ false → kind ≡ span_kind past
+    goes_on later = kind-goes_on e.drive past (false_from_ne_true _ (λ begins.
+        true≢false (sym (ap (λ before. length before == 0) (before-begins e.drive past begins)) ∙ later)))
 
     by_fresh : (b : Bool) → (length (before_at e.drive past) == 0) ≡ b →
         (if b then is_testing kind s.cal.times (length (before_at e.drive past)) else stands_in_test (rows_of past)) ≡ not (drives kind)
     by_fresh true fresh = ap (is_testing kind s.cal.times) (eqb-true (length (before_at e.drive past)) 0 fresh) ∙ at_begin kind
-    by_fresh false later = so ∙ ap (λ k. not (drives k)) (sym (goes_on (e.drive.reset || has_passed past) refl later))
+    by_fresh false later = so ∙ ap (λ k. not (drives k)) (sym (goes_on later))
 
 -- a test is running at it by the rows of its span
 runs_by_rows : (s : Setting) (e : Entry) (past : List Moment) → tests_by_kind past →
@@ -158,8 +138,7 @@ powered_by_rows s e past so = ap (λ driven. driven && ((next_after s e past).pa
     (twice (drives (kind_at e.drive past)) ∙ ap not (sym (tests_by_kind-next s e past so)))
   where
     twice : (b : Bool) → b ≡ not (not b)
-    twice true = refl
-    twice false = refl
+    twice b = grind arith
 
 -- and a test is found to have failed exactly if it reads the paths back and one of them conducts
 fails_by_rows : (s : Setting) (e : Entry) (past : List Moment) →
@@ -171,21 +150,13 @@ fails_by_rows s e past = ap (λ read. read && ((next_after s e past).path1 || (n
     (by_kind (kind_at e.drive past) ∙ ap (λ many. is_testing (kind_at e.drive past) s.cal.times (length (before_at e.drive past)) &&
     (many == test_ticks_of s.cal.times + 1)) (sym (span_length-next s e past)))
   where
-    last : (n m : ℕ) (b : Bool) → (n == m) ≡ b → b ≡ (nat_le n m && (suc n == m + 1))
-    last n m true is = let same = eqb-true n m is in rw (le_equal n m is, eq-eqb (suc n) (m + 1) (omega arith)) refl
-    last n m false other = rw (ne_eqb (suc n) (m + 1) (λ e. never (n == m) (eq-eqb n m (omega arith)) other)) (nothing (nat_le n m))
-      where
-        never : (c : Bool) → c ≡ true → c ≡ false → ⊥
-        never c is other = absurd (let f : true ≡ false = sym is ∙ other in cc)
-
-        nothing : (c : Bool) → false ≡ (c && false)
-        nothing true = refl
-        nothing false = refl
+    last : (n m : ℕ) → (n == m) ≡ (nat_le n m && (suc n == m + 1))
+    last n m = grind (arith, nat_tests)
 
     by_kind : (k : SpanKind) → reads_back k s.cal.times (length (before_at e.drive past)) ≡
         (is_testing k s.cal.times (length (before_at e.drive past)) && (suc (length (before_at e.drive past)) == test_ticks_of s.cal.times + 1))
     by_kind Drive = refl
-    by_kind Test = last (length (before_at e.drive past)) (test_ticks_of s.cal.times) _ refl
+    by_kind Test = last (length (before_at e.drive past)) (test_ticks_of s.cal.times)
 
 -- in a test span no debounced watch is found
 unfed_by_rows : (s : Setting) (e : Entry) (past : List Moment) → tests_by_kind past →
@@ -201,11 +172,7 @@ unfed_by_rows s e past so tests = record {
 }
   where
     driven : drives (kind_at e.drive past) ≡ false
-    driven = flip (drives (kind_at e.drive past)) (sym (tests_by_kind-next s e past so) ∙ tests)
-      where
-        flip : (b : Bool) → not b ≡ true → b ≡ false
-        flip true is = sym is
-        flip false is = refl
+    driven = not-true (drives (kind_at e.drive past)) (sym (tests_by_kind-next s e past so) ∙ tests)
 
     driven_not : (c : Bool) → (drives (kind_at e.drive past) && c) ≡ false
     driven_not c = ap (λ b. b && c) driven
@@ -224,33 +191,16 @@ record Opened (kind : SpanKind) (times : TimeParts) (local : ℕ) (path1 path2 :
 opened : (kind : SpanKind) (times : TimeParts) (local : ℕ) (path1 path2 : Bool) →
     (reads_back kind times local && not (path1 || path2)) ≡ true → Opened kind times local path1 path2
 unfolding reads_back is_testing
-opened Drive times local p q is = absurd (let e : false ≡ true = is in cc)
-opened Test times local p q is = record {
-  runs = le_equal local (test_ticks_of times) (first (local == test_ticks_of times) (not (p || q)) is);
-  reads = last_tick (eqb-true local (test_ticks_of times) (first (local == test_ticks_of times) (not (p || q)) is));
-  opens1 = no_first p q (second (local == test_ticks_of times) (not (p || q)) is);
-  opens2 = no_second p q (second (local == test_ticks_of times) (not (p || q)) is);
-}
-  where
-    first : (a b : Bool) → (a && b) ≡ true → a ≡ true
-    first true b is = refl
-    first false b is = is
-
-    second : (a b : Bool) → (a && b) ≡ true → b ≡ true
-    second true b is = is
-    second false b is = absurd (let e : false ≡ true = is in cc)
-
-    last_tick : local ≡ test_ticks_of times → suc local ≡ test_ticks_of times + 1
-    last_tick e = omega arith
-
-    no_first : (a b : Bool) → not (a || b) ≡ true → a ≡ false
-    no_first true b is = absurd (let e : false ≡ true = is in cc)
-    no_first false b is = refl
-
-    no_second : (a b : Bool) → not (a || b) ≡ true → b ≡ false
-    no_second true b is = absurd (let e : false ≡ true = is in cc)
-    no_second false true is = absurd (let e : false ≡ true = is in cc)
-    no_second false false is = refl
+opened Drive times local p q is = absurd (false≢true is)
+opened Test times local p q is =
+    let parts = and_parts (local == test_ticks_of times) (not (p || q)) is in
+    let paths = or_parts p q (not-true (p || q) parts.1) in
+    record {
+      runs = le_equal local (test_ticks_of times) parts.0;
+      reads = (let last = eqb-true local (test_ticks_of times) parts.0 in omega arith);
+      opens1 = paths.0;
+      opens2 = paths.1;
+    }
 
 -- by the moment, and so by its row
 is_passed : (s : Setting) (e : Entry) (past : List Moment) → (next_after s e past).passes ≡ true →
@@ -277,16 +227,10 @@ passes s e past passed = by_kind (kind_at e.drive past) passed.tests
 
     by_kind : (k : SpanKind) → is_testing k s.cal.times local ≡ true → local ≡ test_ticks_of s.cal.times →
         (reads_back k s.cal.times local && not ((next_after s e past).path1 || (next_after s e past).path2)) ≡ true
-    by_kind Drive tests is = absurd (let f : false ≡ true = tests in cc)
+    by_kind Drive tests is = absurd (false≢true tests)
     by_kind Test tests is = rw (passed.path1, passed.path2, is, eq-eqb (test_ticks_of s.cal.times) (test_ticks_of s.cal.times) refl) refl
 
 -- ---- the rows of a run ----
-
-tail_is : {X : Type 0} (x y : X) (xs ys : List X) → x ∷ xs ≡ y ∷ ys → xs ≡ ys
-tail_is x y xs ys e = cc
-
-head_is : {X : Type 0} (x y : X) (xs ys : List X) → x ∷ xs ≡ y ∷ ys → x ≡ y
-head_is x y xs ys e = cc
 
 -- the row of tick t
 newest : {E : Type 0} (b : BenchEngine E) (r : Run) (t : ℕ) → Row
@@ -306,8 +250,8 @@ unfolding newest rows_of moments_to next_after entry_at row_of moment_at moment_
 begins_in_turn b r zero = record {
   resets = λ reset. begins_test r.setting (effects r.setting.fault 0) (entry_at b r 0 []) 0 [] reset;
   first = λ stays none. begins_first r.setting (effects r.setting.fault 0) (entry_at b r 0 []) 0 stays;
-  later = λ last before stays is fresh. absurd (let e : [] ≡ last ∷ before = is in cc);
-  passed = λ last before is passed. absurd (let e : [] ≡ last ∷ before = is in cc);
+  later = λ last before stays is fresh. absurd (nothing is);
+  passed = λ last before is passed. absurd (nothing is);
   runs = runs_by_rows r.setting (entry_at b r 0 []) [] (tests_by_kind-at b r 0);
   powered = powered_by_rows r.setting (entry_at b r 0 []) [] (tests_by_kind-at b r 0);
   fails = fails_by_rows r.setting (entry_at b r 0 []) [];
@@ -323,50 +267,28 @@ begins_in_turn b r (suc t) =
     let comes = effects r.setting.fault (length past) in
     record {
       resets = λ reset. begins_test r.setting comes now (length past) past reset;
-      first = λ stays none. absurd (let e : row_of (length before) m ∷ rows_of before ≡ [] = none in cc);
+      first = λ stays none. absurd (nothing (sym none));
       later = λ last older stays is fresh.
           let passes = passed_before r.setting comes now (length past) m before stays fresh in (
             begins_drive r.setting comes now (length past) past stays passes,
-            moved last older is (is_passed r.setting e before passes),
+            along (IsPassed (test_ticks_of r.setting.cal.times)) is (is_passed r.setting e before passes),
           );
       passed = λ last older is passed.
-          begins_fresh r.setting comes now (length past) past (passes r.setting e before (moved_back last older is passed));
+          begins_fresh r.setting comes now (length past) past (passes r.setting e before (along (IsPassed (test_ticks_of r.setting.cal.times)) (sym is) passed));
       runs = runs_by_rows r.setting now past (tests_by_kind-at b r (suc t));
       powered = powered_by_rows r.setting now past (tests_by_kind-at b r (suc t));
       fails = fails_by_rows r.setting now past;
       unfed = unfed_by_rows r.setting now past (tests_by_kind-at b r (suc t));
     }
-  where
-    row : Row
-    row = newest b r t
-
-    moved : (last : Row) (older : List Row) → row ∷ rows_of (moments_to b r t) ≡ last ∷ older →
-        IsPassed (test_ticks_of r.setting.cal.times) row (rows_of (moments_to b r t)) →
-        IsPassed (test_ticks_of r.setting.cal.times) last older
-    moved last older is passed =
-        subst (λ rows. IsPassed (test_ticks_of r.setting.cal.times) last rows) (tail_is row last (rows_of (moments_to b r t)) older is)
-        (subst (λ first. IsPassed (test_ticks_of r.setting.cal.times) first (rows_of (moments_to b r t)))
-        (head_is row last (rows_of (moments_to b r t)) older is) passed)
-
-    moved_back : (last : Row) (older : List Row) → row ∷ rows_of (moments_to b r t) ≡ last ∷ older →
-        IsPassed (test_ticks_of r.setting.cal.times) last older →
-        IsPassed (test_ticks_of r.setting.cal.times) row (rows_of (moments_to b r t))
-    moved_back last older is passed =
-        subst (λ rows. IsPassed (test_ticks_of r.setting.cal.times) row rows) (sym (tail_is row last (rows_of (moments_to b r t)) older is))
-        (subst (λ first. IsPassed (test_ticks_of r.setting.cal.times) first older)
-        (sym (head_is row last (rows_of (moments_to b r t)) older is)) passed)
 
 rows_in_turn : {E : Type 0} (b : BenchEngine E) (r : Run) (t : ℕ) →
     SpansBeginInTurn (test_ticks_of r.setting.cal.times) (rows_of (moments_to b r t))
 unfolding rows_of moments_to
-rows_in_turn b r zero [] row older is = absurd (let e : [] ≡ row ∷ older = is in cc)
-rows_in_turn b r zero (other ∷ newer) row older is = absurd (let e : [] ≡ other ∷ (newer ++ (row ∷ older)) = is in cc)
+rows_in_turn b r zero [] row older is = absurd (nothing is)
+rows_in_turn b r zero (other ∷ newer) row older is = absurd (nothing is)
 rows_in_turn b r (suc t) [] row older is =
-    subst (λ rows. BeginsInTurn (test_ticks_of r.setting.cal.times) row rows) (tail_is (newest b r t) row (rows_of (moments_to b r t)) older (unfold newest in is))
-    (subst (λ first. BeginsInTurn (test_ticks_of r.setting.cal.times) first (rows_of (moments_to b r t))) (head_is (newest b r t) row (rows_of (moments_to b r t)) older (unfold newest in is))
-    (begins_in_turn b r t))
-rows_in_turn b r (suc t) (other ∷ newer) row older is =
-    rows_in_turn b r t newer row older (tail_is (newest b r t) other (rows_of (moments_to b r t)) (newer ++ (row ∷ older)) (unfold newest in is))
+    unfold newest in along (BeginsInTurn (test_ticks_of r.setting.cal.times)) is (begins_in_turn b r t)
+rows_in_turn b r (suc t) (other ∷ newer) row older is = rows_in_turn b r t newer row older (parts_of is).1
 
 pub records_begin_in_turn : {E : Type 0} (b : BenchEngine E) → RecordsBeginInTurn b
 unfolding record_rows

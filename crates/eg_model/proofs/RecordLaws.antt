@@ -1,9 +1,9 @@
 -- The laws for the record of a run on the bench, span by span, for any engine that brings what every engine
 -- owes.
-use Rattle.std.proofs.Common.{◌≡◌, ℕ, zero, suc, ◌+◌, ◌≤◌, ◌<◌, Bool, true, false, not, ◌&&◌, ◌||◌, List, [], ◌∷◌, ◌++◌, All, map, take, length, refl, sym, ap, ap₂, ◌∙◌, arith, Option, Some, None, subst}
-use Rattle.std.specs.Prelude.{slice_index_or}
-use Rattle.std.proofs.lemmas.List.Elements.{All-head, All-tail, All-cons, All-nil}
-use Rattle.std.proofs.lemmas.Bool.{ltb-true, lt-ltb}
+use Rattle.std.proofs.Common.{inl, inr, ◌≡◌, ℕ, zero, suc, ◌+◌, ◌≤◌, ◌<◌, Bool, true, false, not, ◌&&◌, ◌||◌, List, [], ◌∷◌, ◌++◌, All, map, length, refl, sym, ap, ap₂, ◌∙◌, arith, Option, Some, None, subst}
+use Rattle.eg_model.proofs.SpanRuns.{all_or}
+use Rattle.std.proofs.lemmas.List.Elements.{All-head, All-tail, All-cons, All-nil, All-take}
+use Rattle.std.proofs.lemmas.Bool.{cases_Bool, ltb-true, lt-ltb}
 use Rattle.eg_num.specs.Drive.{DriveRow, IsDrive}
 use Rattle.eg_num.specs.Windows.{is_confirmed}
 use Rattle.eg_answer.specs.Times.{reaction_of}
@@ -35,19 +35,14 @@ use Rattle.eg_model.specs.Findings.{FindsExcessAlone, RecordsFindSharply}
 use Rattle.eg_model.specs.Records.{IsRun, NeverFails, is_before_onset, ReactWithin, RowsReactAtOnce, CutOneTickAfter, CutStandingExcess, ExcessIsShort, CutFromOnset, RecordsReact, RecordsReactAtOnce, RecordsCutSharply, RecordsCutSharplyBefore, RecordsCutStandingExcess, RecordsHaveShortExcess, RecordsCutFromOnset, RecordsTestUnpowered, RecordsPassTests}
 use Rattle.eg_model.proofs.StartUpLaws.{tests_pass}
 use Rattle.eg_model.proofs.SharpCutLaw.{cuts_sharply}
+use Rattle.eg_model.proofs.TickLemmas.{along}
 use Rattle.eg_model.proofs.SpanLemmas.{length-run_moments, kind-goes_on, tick_after, ticks_before, ticks_before-begins, ticks_before-goes_on, continues, spans_are_histories, proper_drive}
-use Rattle.eg_model.proofs.SpanRows.{rows_after, SpanRows, RowAfter, row_tick, rows_off, bits_after, full_unnumbered}
+use Rattle.eg_model.proofs.SpanRows.{rows_after, SpanRows, LastOf, last_of, row_tick, rows_off, bits_after, full_unnumbered}
 use Rattle.eg_model.proofs.SpanLaws.{react_within, react_at_once, cut_lapses, short_lapses, cut_from_onset, sharp_after, found_after, cut_one_tick_after}
 use Rattle.eg_model.proofs.RecordTicks.{length-moments_to, records_are_histories}
-use Rattle.eg_model.proofs.RecordSpans.{kind_by, head_of, tail_of, part_of, with_part, SpanTo, SpanIn, span_in}
+use Rattle.eg_model.proofs.RecordSpans.{kind_by, part_of, with_part, SpanTo, SpanIn, span_in}
 
 -- ---- the drive, and faults that haven't begun ----
-
-all_or : {X : Type 0} (P : X → Type 0) (xs : List X) (i : ℕ) (d : X) → P d → All P xs →
-    P (slice_index_or xs i d)
-all_or P [] i d none all = none
-all_or P (x ∷ xs) zero d none all = All-head P x xs all
-all_or P (x ∷ xs) (suc i) d none all = all_or P xs i d none (All-tail P x xs all)
 
 -- the drive row of each tick is one that may be, also past the end of the drive
 drive_is : (r : Run) (t : ℕ) → All IsDrive r.drive → IsDrive (drive_at r t)
@@ -76,11 +71,6 @@ quiet_held f t quiet = subst (λ x. IsHeldWithin x.held_plate) (sym (quiet_tick 
 -- a plate that is held at one of the first n ticks has an angle within its range
 abbrev pub HoldsTo : Run → ℕ → Type 0
 HoldsTo r n = (t : ℕ) → t < n → IsHeldWithin (effects r.setting.fault t).held_plate
-
-All-take : {X : Type 0} (P : X → Type 0) (n : ℕ) (xs : List X) → All P xs → All P (take n xs)
-All-take P zero xs all = All-nil P
-All-take P (suc n) [] all = All-nil P
-All-take P (suc n) (x ∷ xs) all = All-cons P x (take n xs) (All-head P x xs all) (All-take P n xs (All-tail P x xs all))
 
 -- ---- one load ----
 
@@ -139,11 +129,10 @@ module _ (s : Setting) (accepted : IsAccepted s.cal) (e : Entry) (h : List Entry
 -- what holds of no tick, and of the span that goes on, holds of the ticks of its span before the next tick
 before_next : (P : List Tick → Type 0) (s : Setting) (e : Entry) (h : List Entry) → P [] →
     ((e.drive.reset || has_passed (moments s h)) ≡ false → P (span_ticks s h)) → P (ticks_before s e h)
-before_next P s e h none on = go (e.drive.reset || has_passed (moments s h)) refl
-  where
-    go : (b : Bool) → (e.drive.reset || has_passed (moments s h)) ≡ b → P (ticks_before s e h)
-    go true begins = subst P (sym (ticks_before-begins s e h begins)) none
-    go false goes_on = subst P (sym (ticks_before-goes_on s e h goes_on)) (on goes_on)
+before_next P s e h none on = elim (cases_Bool (e.drive.reset || has_passed (moments s h))) [
+  | inl begins ↦ subst P (sym (ticks_before-begins s e h begins)) none
+  | inr goes_on ↦ subst P (sym (ticks_before-goes_on s e h goes_on)) (on goes_on)
+]
 
 -- the sharp cut at the next tick of a run, where it stands in a drive span
 module _ (s : Setting) (accepted : IsAccepted s.cal) (e : Entry) (h : List Entry) (driven : kind_at e.drive (moments s h) ≡ Drive)
@@ -223,13 +212,10 @@ module _ {E : Type 0} (b : BenchEngine E) where
       (none_fails r.setting run.accepted (entries_to b r (length r.drive)))
 
 -- a row of a drive span is that of a plain tick, after plain ones
-record QuietLast (s : Setting) (start : ℕ) (row : Row) (before : List Row) : Type 0 where
-  pub tick : Tick
-  pub past : List Tick
-  pub row_is : row ≡ RowAfter s start tick past
-  pub before_are : before ≡ SpanRows s start past
-  pub plain : ArePlain (tick ∷ past)
-  pub proper : AreProper s (tick ∷ past)
+record QuietLast (s : Setting) (start : ℕ) (h : List Tick) (row : Row) (before : List Row) : Type 0 where
+  pub last : LastOf s start h row before
+  pub plain : ArePlain (last.tick ∷ last.past)
+  pub proper : AreProper s (last.tick ∷ last.past)
 
 module _ {E : Type 0} {b : BenchEngine E} {Keeps : PlantParts → E → Type 0} (keeps : KeepsBenchLaws b Keeps) where
   -- ---- what comes in on the bench is proper ----
@@ -379,79 +365,43 @@ module _ {E : Type 0} {b : BenchEngine E} {Keeps : PlantParts → E → Type 0} 
     -- the last row of a part of a span, at a tick at which no fault has begun, is that of a plain tick
     quiet_last : (r : Run) → IsRun r → (start count : ℕ) (row : Row) (before : List Row) →
         SpanIn b r start count Drive (row ∷ before) → is_before_onset r.setting.fault row.tick ≡ true →
-        QuietLast r.setting start row before
-    quiet_last r run start count row before is quiet = go (SpanTo b r count) refl
+        QuietLast r.setting start (SpanTo b r count) row before
+    quiet_last r run start count row before is quiet = record {
+      last = last;
+      plain = subst ArePlain last.is (plain_span r start count (row ∷ before) is still);
+      proper = subst (AreProper r.setting) last.is (proper_quiet r run start count (row ∷ before) is still);
+    }
       where
-        s : Setting
-        s = r.setting
+        last : LastOf r.setting start (SpanTo b r count) row before
+        last = last_of r.setting start (SpanTo b r count) row before (unfold moments_of in is.rows_are)
 
-        rows_are : (h : List Tick) → SpanTo b r count ≡ h → row ∷ before ≡ SpanRows s start h
-        rows_are h e = is.rows_are ∙ (unfold moments_of in ap (λ g. rows_after start (moments_in Drive s g)) e)
+        place : count ≡ suc row.tick
+        place = let size = is.size in let long = ap length last.is in
+            let at = ap (λ (r : Row). r.tick) last.row_is ∙ row_tick r.setting start last.tick last.past in omega (arith, size, long, at)
 
-        last : (x : Tick) (h : List Tick) → SpanTo b r count ≡ x ∷ h → row ∷ before ≡ RowAfter s start x h ∷ SpanRows s start h →
-            QuietLast s start row before
-        last x h e rows = record { tick = x; past = h; row_is = first; before_are = rest; plain = plain; proper = proper }
-          where
-            first : row ≡ RowAfter s start x h
-            first = head_of row (RowAfter s start x h) before (SpanRows s start h) rows
-
-            rest : before ≡ SpanRows s start h
-            rest = tail_of row (RowAfter s start x h) before (SpanRows s start h) rows
-
-            place : count ≡ suc row.tick
-            place = let size = is.size in let long = ap length e in let at = ap (λ (r : Row). r.tick) first ∙ row_tick s start x h in
-                omega (arith, size, long, at)
-
-            still : (t : ℕ) → t < count → is_before_onset s.fault t ≡ true
-            still t l = up_to (omega (arith, l, place))
-              where
-                up_to : t ≤ row.tick → is_before_onset s.fault t ≡ true
-                up_to m = quiet_up_to s.fault row.tick t quiet m
-
-            plain : ArePlain (x ∷ h)
-            plain = subst ArePlain e (plain_span r start count (row ∷ before) is still)
-
-            proper : AreProper s (x ∷ h)
-            proper = subst (AreProper s) e (proper_quiet r run start count (row ∷ before) is still)
-
-        go : (h : List Tick) → SpanTo b r count ≡ h → QuietLast s start row before
-        go [] e = absurd (none (rows_are [] e ∙ (unfold rows_after moments_of moments_in in refl)))
-          where
-            none : row ∷ before ≡ [] → ⊥
-            none f = cc
-        go (x ∷ h) e = last x h e (rows_are (x ∷ h) e ∙ (unfold rows_after moments_of moments_in in refl))
+        still : (t : ℕ) → t < count → is_before_onset r.setting.fault t ≡ true
+        still t l = quiet_up_to r.setting.fault row.tick t quiet (omega (arith, l, place))
 
     sharp_last : (r : Run) → IsRun r → (start count : ℕ) (row : Row) (before : List Row) →
         SpanIn b r start count Drive (row ∷ before) → is_before_onset r.setting.fault row.tick ≡ true →
         row.on ≡ not (is_confirmed r.setting.cal.rules.torque (map (full_excess r.setting.cal.rules.kt r.setting.cal.rules.threshold) before))
-    sharp_last r run start count row before is quiet = ap (λ (r : Row). r.on) last.row_is
-        ∙ sharp_after s start run.accepted last.tick last.past (unfold ArePlain in last.plain.0.effects) (unfold ArePlain in last.plain.1)
-        (unfold AreProper in last.proper.1)
+    unfolding ArePlain AreProper
+    sharp_last r run start count row before is quiet =
+        let q = quiet_last r run start count row before is quiet in
+        let s = r.setting in
+        let bit = full_excess s.cal.rules.kt s.cal.rules.threshold in
+        ap (λ (r : Row). r.on) q.last.row_is
+        ∙ sharp_after s start run.accepted q.last.tick q.last.past q.plain.0.effects q.plain.1 q.proper.1
         ∙ ap (λ bits. not (is_confirmed s.cal.rules.torque bits))
-        (sym (ap (map bit) last.before_are ∙ bits_after bit (full_unnumbered s.cal.rules.kt s.cal.rules.threshold) s start last.past))
-      where
-        s : Setting
-        s = r.setting
-
-        bit : Row → Bool
-        bit = full_excess s.cal.rules.kt s.cal.rules.threshold
-
-        last : QuietLast s start row before
-        last = quiet_last r run start count row before is quiet
+        (sym (ap (map bit) q.last.before_are ∙ bits_after bit (full_unnumbered s.cal.rules.kt s.cal.rules.threshold) s start q.last.past))
 
     found_last : (r : Run) → IsRun r → (start count : ℕ) (row : Row) (before : List Row) →
         SpanIn b r start count Drive (row ∷ before) → is_before_onset r.setting.fault row.tick ≡ true →
         FindsExcessAlone r.setting.cal.rules.torque r.setting.cal.rules.kt r.setting.cal.rules.threshold row before
     found_last r run start count row before is quiet =
-        subst (λ rows. FindsExcessAlone s.cal.rules.torque s.cal.rules.kt s.cal.rules.threshold row rows) (sym last.before_are)
-        (subst (λ row. FindsExcessAlone s.cal.rules.torque s.cal.rules.kt s.cal.rules.threshold row (SpanRows s start last.past)) (sym last.row_is)
-        (found_after s start run.accepted last.tick last.past last.plain last.proper))
-      where
-        s : Setting
-        s = r.setting
-
-        last : QuietLast s start row before
-        last = quiet_last r run start count row before is quiet
+        let q = quiet_last r run start count row before is quiet in
+        along (FindsExcessAlone r.setting.cal.rules.torque r.setting.cal.rules.kt r.setting.cal.rules.threshold)
+        (sym (ap₂ (λ x xs. x ∷ xs) q.last.row_is q.last.before_are)) (found_after r.setting start run.accepted q.last.tick q.last.past q.plain q.proper)
 
     -- and so at each row of a drive span at which no fault has begun
     module _ (r : Run) (newer span older : List Row) (e : record_rows b r ≡ newer ++ (span ++ older)) (is : IsDriveSpan span)

@@ -1,7 +1,7 @@
 -- The spans of a record: the rows of each are those of a history that stands by itself and begins at its tick.
 use Rattle.std.proofs.Common.{◌≡◌, ◌∙◌, refl, sym, ap, ap₂, subst, ℕ, suc, ◌+◌, ◌≤◌, Bool, true, false, ◌||◌, List, [], ◌∷◌, ◌++◌, All, length, length-append, append_assoc, arith}
 use Rattle.std.specs.Prelude.{◌==◌}
-use Rattle.std.proofs.lemmas.Bool.{le-leb, eqb-true}
+use Rattle.std.proofs.lemmas.Bool.{false≢true, true≢false, false_from_ne_true, le-leb, eqb-true}
 use Rattle.std.proofs.lemmas.List.Elements.{All-head, All-tail}
 use Rattle.eg_answer.specs.Times.{test_ticks_of}
 use Rattle.eg_fault.specs.Effects.{Effects}
@@ -16,7 +16,8 @@ use Rattle.eg_model.specs.Engines.{BenchEngine}
 use Rattle.eg_model.specs.Bench.{Run, entries_to}
 use Rattle.eg_model.specs.Rows.{row_of, rows_of, record_rows}
 use Rattle.eg_model.specs.Premises.{Follows}
-use Rattle.eg_model.proofs.SpanLemmas.{length-moments_in, before-begins, kind-goes_on, by_ticks, follows_at}
+use Rattle.eg_model.proofs.TickLemmas.{parts_of, nothing, length-moments_in}
+use Rattle.eg_model.proofs.SpanLemmas.{before-begins, kind-goes_on, kind-next, by_ticks, follows_at}
 use Rattle.eg_model.proofs.SpanRows.{rows_after, length-rows_after, Between, between}
 use Rattle.eg_model.proofs.RecordTicks.{length-entries, rows_of_entries}
 
@@ -30,10 +31,10 @@ kind_by false = Drive
 kind_of_first : (kind : SpanKind) (s : Setting) (x : Effects) (e : Entry) (past : List Moment) (tests : Bool) →
     (moment_in kind s x e past).fresh ≡ true → (moment_in kind s x e past).testing ≡ tests → kind ≡ kind_by tests
 unfolding moment_in kind_by is_testing
-kind_of_first Drive s x e past true fresh is = absurd (let f : false ≡ true = is in cc)
+kind_of_first Drive s x e past true fresh is = absurd (false≢true is)
 kind_of_first Drive s x e past false fresh is = refl
 kind_of_first Test s x e past true fresh is = refl
-kind_of_first Test s x e past false fresh is = absurd (let f : true ≡ false = sym (le-leb (length past) (test_ticks_of s.cal.times) early) ∙ is in cc)
+kind_of_first Test s x e past false fresh is = absurd (true≢false (sym (le-leb (length past) (test_ticks_of s.cal.times) early) ∙ is))
   where
     early : length past ≤ test_ticks_of s.cal.times
     early = let none = eqb-true (length past) 0 fresh in omega (arith, none)
@@ -62,15 +63,6 @@ unfolding rows_of
 length-rows_of [] = refl
 length-rows_of (m ∷ past) = ap suc (length-rows_of past)
 
-pub head_of : (a b : Row) (rows others : List Row) → a ∷ rows ≡ b ∷ others → a ≡ b
-head_of a b rows others e = cc
-
-pub tail_of : (a b : Row) (rows others : List Row) → a ∷ rows ≡ b ∷ others → rows ≡ others
-tail_of a b rows others e = cc
-
-no_row : (a : Row) (rows : List Row) → [] ≡ a ∷ rows → ⊥
-no_row a rows e = cc
-
 -- these rows are those of the span that the run h ends in, which begins at tick `start`
 pub record Covers (s : Setting) (h : List Entry) (span : List Row) (start : ℕ) (tests : Bool) : Type 0 where
   pub rows_are : span ≡ rows_after start (span_so_far (moments s h))
@@ -90,105 +82,72 @@ module _ (s : Setting) where
   unfolding rows_of moments next_after moment_at m_of
   rows-next e h = refl
 
-  kind-next : (e : Entry) (h : List Entry) → span_kind (moments s (e ∷ h)) ≡ kind_at e.drive (moments s h)
-  unfolding span_kind moments next_after moment_at moment_in
-  kind-next e h = refl
-
-  -- the first tick of a span
-  covers_first : (e : Entry) (h : List Entry) (first : Row) (older : List Row) (tests : Bool) →
-      row_of (length (moments s h)) (m_of e h) ≡ first → rows_of (moments s h) ≡ older → first.fresh ≡ true →
-      first.testing ≡ tests → Covers s (e ∷ h) (first ∷ []) (length older) tests
-  covers_first e h first older tests is before begins told = record { rows_are = rows_are; kind_is = kind_is }
+  -- the rows of a span that ends with the next tick, by those before it
+  rows_with : (e : Entry) (h : List Entry) (row : Row) (span older : List Row) (past : List Moment) →
+      row_of (length (moments s h)) (m_of e h) ≡ row → rows_of (moments s h) ≡ span ++ older → span ≡ rows_after (length older) past →
+      span_so_far (m_of e h ∷ moments s h) ≡ m_of e h ∷ past → row ∷ span ≡ rows_after (length older) (span_so_far (moments s (e ∷ h)))
+  unfolding rows_after
+  rows_with e h row span older past is before are grown =
+      ap₂ (λ r rows. r ∷ rows) (sym is ∙ ap (λ k. row_of k (m_of e h)) place) are
+      ∙ sym (ap (rows_after (length older)) (ap span_so_far (moments-next e h) ∙ grown))
     where
-      n : ℕ
-      n = length (moments s h)
-
-      fresh : (m_of e h).fresh ≡ true
-      fresh = row_fresh n (m_of e h) first is ∙ begins
-
-      place : length (moments s h) ≡ length older + 0
-      place = omega (arith, ap length before, length-rows_of (moments s h))
-
-      alone : span_so_far (moments s (e ∷ h)) ≡ m_of e h ∷ []
-      alone = ap span_so_far (moments-next e h) ∙ span_so_far-first (m_of e h) (moments s h) fresh
-
-      one : rows_after (length older) (m_of e h ∷ []) ≡ row_of (length older + 0) (m_of e h) ∷ []
-      one = unfold rows_after in refl
-
-      rows_are : first ∷ [] ≡ rows_after (length older) (span_so_far (moments s (e ∷ h)))
-      rows_are = ap (λ row. row ∷ []) (sym is ∙ ap (λ k. row_of k (m_of e h)) place) ∙ sym one
-          ∙ sym (ap (rows_after (length older)) alone)
-
-      kind_is : span_kind (moments s (e ∷ h)) ≡ kind_by tests
-      kind_is = kind-next e h ∙ kind_of_first (kind_at e.drive (moments s h)) s (effects s.fault n) e
-          (before_at e.drive (moments s h)) tests (unfold m_of in fresh)
-          (unfold m_of in row_testing n (m_of e h) first is ∙ told)
-
-  -- a span goes on at a tick that isn't fresh
-  not_begun : (e : Entry) (h : List Entry) → (m_of e h).fresh ≡ false → (e.drive.reset || has_passed (moments s h)) ≡ false
-  not_begun e h fresh = go (e.drive.reset || has_passed (moments s h)) refl
-    where
-      none : before_at e.drive (moments s h) ≡ [] → (m_of e h).fresh ≡ true
-      none empty = unfold m_of moment_in in ap (λ (past : List Moment). length past == 0) empty
-
-      go : (b : Bool) → (e.drive.reset || has_passed (moments s h)) ≡ b → (e.drive.reset || has_passed (moments s h)) ≡ false
-      go false goes_on = goes_on
-      go true begins = absurd (let f : true ≡ false = sym (none (before-begins e.drive (moments s h) begins)) ∙ fresh in cc)
-
-  -- one tick more of it
-  covers_next : (e : Entry) (h : List Entry) (row : Row) (span older : List Row) (tests : Bool) →
-      row_of (length (moments s h)) (m_of e h) ≡ row → rows_of (moments s h) ≡ span ++ older → row.fresh ≡ false →
-      Covers s h span (length older) tests → Covers s (e ∷ h) (row ∷ span) (length older) tests
-  covers_next e h row span older tests is before later c = record {
-    rows_are = rows_are;
-    kind_is = kind-next e h ∙ kind-goes_on e.drive (moments s h) (not_begun e h fresh) ∙ c.kind_is;
-  }
-    where
-      past : List Moment
-      past = span_so_far (moments s h)
-
-      fresh : (m_of e h).fresh ≡ false
-      fresh = row_fresh (length (moments s h)) (m_of e h) row is ∙ later
-
       place : length (moments s h) ≡ length older + length past
       place = omega (
         arith,
         ap length before,
         length-append span older,
         length-rows_of (moments s h),
-        ap length c.rows_are,
+        ap length are,
         length-rows_after (length older) past,
       )
 
-      longer : span_so_far (moments s (e ∷ h)) ≡ m_of e h ∷ past
-      longer = ap span_so_far (moments-next e h) ∙ span_so_far-goes_on (m_of e h) (moments s h) fresh
+  -- the first tick of a span
+  covers_first : (e : Entry) (h : List Entry) (first : Row) (older : List Row) (tests : Bool) →
+      row_of (length (moments s h)) (m_of e h) ≡ first → rows_of (moments s h) ≡ older → first.fresh ≡ true →
+      first.testing ≡ tests → Covers s (e ∷ h) (first ∷ []) (length older) tests
+  covers_first e h first older tests is before begins told = record {
+    rows_are = rows_with e h first [] older [] is before (unfold rows_after in refl)
+        (span_so_far-first (m_of e h) (moments s h) fresh);
+    kind_is = kind-next s e h ∙ kind_of_first (kind_at e.drive (moments s h)) s (effects s.fault (length (moments s h))) e
+        (before_at e.drive (moments s h)) tests (unfold m_of in fresh)
+        (unfold m_of in row_testing (length (moments s h)) (m_of e h) first is ∙ told);
+  }
+    where
+      fresh : (m_of e h).fresh ≡ true
+      fresh = row_fresh (length (moments s h)) (m_of e h) first is ∙ begins
 
-      one_more : rows_after (length older) (m_of e h ∷ past)
-          ≡ row_of (length older + length past) (m_of e h) ∷ rows_after (length older) past
-      one_more = unfold rows_after in refl
+  -- a span goes on at a tick that isn't fresh
+  not_begun : (e : Entry) (h : List Entry) → (m_of e h).fresh ≡ false → (e.drive.reset || has_passed (moments s h)) ≡ false
+  not_begun e h fresh = false_from_ne_true _ (λ begins. true≢false (sym (first (before-begins e.drive (moments s h) begins)) ∙ fresh))
+    where
+      first : before_at e.drive (moments s h) ≡ [] → (m_of e h).fresh ≡ true
+      first empty = unfold m_of moment_in in ap (λ (past : List Moment). length past == 0) empty
 
-      rows_are : row ∷ span ≡ rows_after (length older) (span_so_far (moments s (e ∷ h)))
-      rows_are = ap₂ (λ r rows. r ∷ rows) (sym is ∙ ap (λ k. row_of k (m_of e h)) place) c.rows_are ∙ sym one_more
-          ∙ sym (ap (rows_after (length older)) longer)
+  -- one tick more of it
+  covers_next : (e : Entry) (h : List Entry) (row : Row) (span older : List Row) (tests : Bool) →
+      row_of (length (moments s h)) (m_of e h) ≡ row → rows_of (moments s h) ≡ span ++ older → row.fresh ≡ false →
+      Covers s h span (length older) tests → Covers s (e ∷ h) (row ∷ span) (length older) tests
+  covers_next e h row span older tests is before later c = record {
+    rows_are = rows_with e h row span older (span_so_far (moments s h)) is before c.rows_are
+        (span_so_far-goes_on (m_of e h) (moments s h) fresh);
+    kind_is = kind-next s e h ∙ kind-goes_on e.drive (moments s h) (not_begun e h fresh) ∙ c.kind_is;
+  }
+    where
+      fresh : (m_of e h).fresh ≡ false
+      fresh = row_fresh (length (moments s h)) (m_of e h) row is ∙ later
 
   covers : (h : List Entry) (later : List Row) (first : Row) (older : List Row) (tests : Bool) →
       rows_of (moments s h) ≡ (later ++ first ∷ []) ++ older → first.fresh ≡ true → first.testing ≡ tests →
       All (λ row. row.fresh ≡ false) later → Covers s h (later ++ first ∷ []) (length older) tests
-  covers [] [] first older tests e begins told goes_on = absurd (no_row first older (unfold rows_of moments in e))
-  covers [] (row ∷ later) first older tests e begins told goes_on =
-      absurd (no_row row ((later ++ first ∷ []) ++ older) (unfold rows_of moments in e))
-  covers (x ∷ h) [] first older tests e begins told goes_on = covers_first x h first older tests
-      (head_of (row_of (length (moments s h)) (m_of x h)) first (rows_of (moments s h)) older (sym (rows-next x h) ∙ e))
-      (tail_of (row_of (length (moments s h)) (m_of x h)) first (rows_of (moments s h)) older (sym (rows-next x h) ∙ e)) begins told
+  covers [] [] first older tests e begins told goes_on = absurd (unfold rows_of moments in nothing e)
+  covers [] (row ∷ later) first older tests e begins told goes_on = absurd (unfold rows_of moments in nothing e)
+  covers (x ∷ h) [] first older tests e begins told goes_on =
+      let parts = parts_of (sym (rows-next x h) ∙ e) in covers_first x h first older tests parts.0 parts.1 begins told
   covers (x ∷ h) (row ∷ later) first older tests e begins told goes_on =
-      covers_next x h row (later ++ first ∷ []) older tests
-      (head_of (row_of (length (moments s h)) (m_of x h)) row (rows_of (moments s h)) ((later ++ first ∷ []) ++ older) (sym (rows-next x h) ∙ e))
-      rest (All-head (λ row. row.fresh ≡ false) row later goes_on)
-      (covers h later first older tests rest begins told (All-tail (λ row. row.fresh ≡ false) row later goes_on))
-    where
-      rest : rows_of (moments s h) ≡ (later ++ first ∷ []) ++ older
-      rest = tail_of (row_of (length (moments s h)) (m_of x h)) row (rows_of (moments s h)) ((later ++ first ∷ []) ++ older)
-          (sym (rows-next x h) ∙ e)
+      let parts = parts_of (sym (rows-next x h) ∙ e) in
+      covers_next x h row (later ++ first ∷ []) older tests parts.0 parts.1
+      (All-head (λ row. row.fresh ≡ false) row later goes_on)
+      (covers h later first older tests parts.1 begins told (All-tail (λ row. row.fresh ≡ false) row later goes_on))
 
 -- ---- the spans of a record ----
 

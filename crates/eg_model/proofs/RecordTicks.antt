@@ -9,6 +9,7 @@ use Rattle.eg_model.specs.Engines.{BenchEngine}
 use Rattle.eg_model.specs.Bench.{Run, entry_at, moments_to, entries_to}
 use Rattle.eg_model.specs.Rows.{row_of, rows_of, record_rows}
 use Rattle.eg_model.specs.Records.{row_at, rows_to, RecordsAreHistories, RecordsAreRows}
+use Rattle.eg_model.proofs.TickLemmas.{parts_of, nothing}
 
 module _ {E : Type 0} (b : BenchEngine E) where
   -- ---- the record is a history ----
@@ -71,14 +72,8 @@ module _ {E : Type 0} (b : BenchEngine E) where
     where
       long : length before ≡ n
       long = ap length (sym e) ∙ (records_are_rows r n).1
-  front r zero (row ∷ later) before e = absurd (none (sym (no_rows r) ∙ e))
-    where
-      none : [] ≡ row ∷ (later ++ before) → ⊥
-      none f = cc
-  front r (suc n) (row ∷ later) before e = front r n later before (tail (sym (rows_to-suc r n) ∙ e))
-    where
-      tail : row_at b r n ∷ rows_to b r n ≡ row ∷ (later ++ before) → rows_to b r n ≡ later ++ before
-      tail f = cc
+  front r zero (row ∷ later) before e = absurd (nothing (sym (no_rows r) ∙ e))
+  front r (suc n) (row ∷ later) before e = front r n later before (parts_of (sym (rows_to-suc r n) ∙ e)).1
 
   -- its rows before a tick, as those of what came in
   pub rows_of_entries : (r : Run) (later before : List Row) → record_rows b r ≡ later ++ before →

@@ -1,8 +1,9 @@
 -- Level 2 sees each true excess where one track of each pair is sound.
-use Rattle.std.proofs.Common.{◌≡◌, ℕ, ◌+◌, ◌-◌, ◌≤◌, ◌<◌, Bool, true, false, List, [], ◌∷◌, refl, sym, subst, ◌∙◌, arith, inl, inr, ◌⊎◌, min, max}
+use Rattle.std.proofs.Common.{◌≡◌, ℕ, ◌+◌, ◌-◌, ◌≤◌, ◌<◌, true, false, List, [], ◌∷◌, refl, sym, subst, ◌∙◌, arith, inl, inr, ◌⊎◌, min, max}
+use Rattle.std.proofs.lemmas.Bool.Decides.{nat_tests}
 use Rattle.std.specs.Prelude.{if◌then◌else◌, ◌==◌, slice_index}
 use Rattle.std.specs.Int.Bits.{xor_zero_r}
-use Rattle.std.proofs.lemmas.Bool.{ltb-true, lt-ltb, eqb-true}
+use Rattle.std.proofs.lemmas.Bool.{cases_Bool, ltb-true, lt-ltb}
 use Rattle.eg_num.specs.Arithmetic.{estimate}
 use Rattle.eg_num.specs.Drive.{DriveRow}
 use Rattle.eg_num.proofs.RisingLemmas.{estimate-rises}
@@ -15,31 +16,18 @@ use Rattle.eg_sensor.specs.Brake.{gated}
 use Rattle.eg_sensor.specs.declared.readings.Readings.{Readings}
 use Rattle.eg_values.specs.Calibration.{IsAccepted}
 use Rattle.eg_answer.specs.Formulas.{permitted_torque, estimated_torque, excess_number}
-use Rattle.eg_sensor.specs.declared.tracks.TheConstants.{PEDAL_1, PEDAL_2, LOAD_1, LOAD_2, SPEED_1, SPEED_2, BRAKE_1, BRAKE_2}
+use Rattle.eg_sensor.specs.declared.tracks.TheConstants.{LOAD_1, LOAD_2}
 use Rattle.eg_fault.specs.Effects.{Effects, readings_under}
-use Rattle.eg_fault.specs.Classes.{IsSound}
 use Rattle.eg_model.specs.History.{Setting, Tick, Moment}
 use Rattle.eg_model.specs.Signals.{tripped, is_limited, signal}
 use Rattle.eg_model.specs.Detection.{torque_bit}
 use Rattle.eg_model.specs.Paths.{both_conduct}
 use Rattle.eg_model.specs.Moments.{effective_drive, is_braking, sensed_at, readings_at, limit_at, moment, moments_of}
 use Rattle.eg_model.specs.Premises.{AreProper, IsProper}
-use Rattle.eg_model.proofs.TickLemmas.{Each, Runs, moment-limit, moment-pedal_signal, moment-permitted, moment-actual, moment-excess, moment-exceeds}
+use Rattle.eg_model.specs.Seeing.{Runs, IsUndisturbed, SeesExcess}
+use Rattle.eg_model.proofs.TickLemmas.{Each, moment-exceeds, fields}
 use Rattle.eg_model.proofs.BrakeLemmas.{effective-speed, effective-unpressed}
 use Rattle.eg_model.proofs.TripLemmas.{Sees, exceeds}
-
--- nothing disturbs a signal
-abbrev pub IsUndisturbed : Effects → Type 0
-IsUndisturbed x = (i : ℕ) → x.disturbance i ≡ 0
-
--- level 2 runs whole and undisturbed, and one track of each of these pairs is sound
-pub record SeesExcess (x : Effects) : Type 0 where
-  pub runs : Runs x
-  pub undisturbed : IsUndisturbed x
-  pub pedal : IsSound x PEDAL_1 ⊎ IsSound x PEDAL_2
-  pub load : IsSound x LOAD_1 ⊎ IsSound x LOAD_2
-  pub speed : IsSound x SPEED_1 ⊎ IsSound x SPEED_2
-  pub brake : IsSound x BRAKE_1 ⊎ IsSound x BRAKE_2
 
 -- the readings, track by track
 abbrev lower_pedal : Readings → ℕ
@@ -59,11 +47,7 @@ pub record ErrsSafely (kt : ℕ) (r : Readings) (drive : DriveRow) (torque : ℕ
   pub raise : raise_of r ≤ drive.raise
 
 at_most : (a b : ℕ) → (if a + (65535 - b) == 65535 then a else 0) ≤ b
-at_most a b = go (a + (65535 - b) == 65535) refl
-  where
-    go : (t : Bool) → (a + (65535 - b) == 65535) ≡ t → (if t then a else 0) ≤ b
-    go true e = let e' : a + (65535 - b) ≡ 65535 = eqb-true _ _ e in omega arith
-    go false e = omega arith
+at_most a b = grind (arith, nat_tests)
 
 lower_first : (a b p : ℕ) → a ≡ p → min a b ≤ p
 lower_first a b p h = omega arith
@@ -97,37 +81,31 @@ senses_safely s x past sees proper = record {
   raise = at_most (x.effects.raise x.entry.drive.raise) x.entry.drive.raise;
 }
 
-nothing_below : (n : ℕ) → 0 ≤ n
-nothing_below n = omega arith
-
 -- gated readings err to the safe side of each row of the same speed
 gates_safely : (kt torque : ℕ) (r : Readings) (drive other : DriveRow) → other.speed ≡ drive.speed →
     ErrsSafely kt r drive torque → ErrsSafely kt (gated r) other torque
 gates_safely kt torque r drive other same safe = record {
   load = safe.load;
-  pedal = nothing_below other.pedal;
+  pedal = (let low : 0 ≤ other.pedal = omega arith in low);
   speed = rw same safe.speed;
-  raise = nothing_below other.raise;
+  raise = (let low : 0 ≤ other.raise = omega arith in low);
 }
 
 -- a brake that is pressed is seen, and one that is seen falsely lowers what is read
 pub errs_safely : (s : Setting) (x : Tick) (past : List Moment) → SeesExcess x.effects → IsProper s (both_conduct x.effects past) x.entry →
     ErrsSafely s.cal.rules.kt (readings_at s.cal x.effects x.entry) (effective_drive s.cal x.entry.drive) x.entry.shown.torque
 unfolding readings_at
-errs_safely s x past sees proper = go (is_braking s.cal x.effects drive) refl
+errs_safely s x past sees proper = elim (cases_Bool (is_braking s.cal x.effects drive)) [
+  | inl is ↦ rw is (gates_safely s.cal.rules.kt x.entry.shown.torque _ drive (effective_drive s.cal drive) (effective-speed s.cal drive) safe)
+  | inr is ↦ rw is (subst (λ row. ErrsSafely s.cal.rules.kt (sensed_at x.effects x.entry) row x.entry.shown.torque)
+      (sym (effective-unpressed s.cal x.effects drive sees.brake is)) safe)
+]
   where
     drive : DriveRow
     drive = x.entry.drive
 
     safe : ErrsSafely s.cal.rules.kt (sensed_at x.effects x.entry) drive x.entry.shown.torque
     safe = senses_safely s x past sees proper
-
-    go : (pressed : Bool) → is_braking s.cal x.effects drive ≡ pressed →
-        ErrsSafely s.cal.rules.kt (if pressed then gated (sensed_at x.effects x.entry) else sensed_at x.effects x.entry)
-        (effective_drive s.cal drive) x.entry.shown.torque
-    go true is = gates_safely s.cal.rules.kt x.entry.shown.torque _ drive (effective_drive s.cal drive) (effective-speed s.cal drive) safe
-    go false is = subst (λ row. ErrsSafely s.cal.rules.kt (sensed_at x.effects x.entry) row x.entry.shown.torque)
-        (sym (effective-unpressed s.cal x.effects drive sees.brake is)) safe
 
 -- a signal of a module that runs before any trip is its value
 pub signal_value : (x : Effects) (past : List Moment) (i before value : ℕ) → Runs x → IsUndisturbed x →
@@ -145,26 +123,22 @@ module _ (s : Setting) (x : Tick) (past : List Moment) (runs : Runs x.effects)
 
   pub actual-is : m.signals.actual ≡ estimate s.cal.rules.kt (higher_load (readings_at s.cal x.effects x.entry))
   unfolding estimated_torque
-  actual-is = moment-actual s x.effects x.entry past ∙ signal_value x.effects past 3 _ _ runs calm untripped
+  actual-is = (fields s x.effects x.entry past).actual ∙ signal_value x.effects past 3 _ _ runs calm untripped
 
   pub permitted-is : m.signals.permitted
       ≡ permitted_torque s.cal.rules (readings_at s.cal x.effects x.entry) m.signals.pedal
-  permitted-is = moment-permitted s x.effects x.entry past
+  permitted-is = (fields s x.effects x.entry past).permitted
       ∙ signal_value x.effects past 2 _ _ runs calm untripped
 
   pub pedal-is : m.signals.pedal ≡ used_pedal (readings_at s.cal x.effects x.entry).pedal (is_limited past)
-  pedal-is = moment-pedal_signal s x.effects x.entry past
+  pedal-is = (fields s x.effects x.entry past).pedal
       ∙ signal_value x.effects past 1 _ _ runs calm untripped
 
   pub excess-is : m.signals.excess ≡ excess_number s.cal.rules m.signals.permitted m.signals.actual
-  excess-is = moment-excess s x.effects x.entry past ∙ signal_value x.effects past 4 _ _ runs calm untripped
+  excess-is = (fields s x.effects x.entry past).excess ∙ signal_value x.effects past 4 _ _ runs calm untripped
 
   pedal-below : m.signals.pedal ≤ lower_pedal reads
-  pedal-below = rw pedal-is (go (is_limited past) _)
-    where
-      go : (b : Bool) (n : ℕ) → (if b then 0 else n) ≤ n
-      go true n = omega arith
-      go false n = omega arith
+  pedal-below = rw pedal-is (grind arith)
 
   -- the effective drive row
   abbrev effective : DriveRow
@@ -177,7 +151,7 @@ module _ (s : Setting) (x : Tick) (past : List Moment) (runs : Runs x.effects)
       (below reads safe.pedal safe.speed safe.raise pedal-below)
     where
       limit-is : m.limit ≡ drive_permits s.cal.rules.permit effective
-      limit-is = moment-limit s x.effects x.entry past ∙ (unfold limit_at in refl)
+      limit-is = (fields s x.effects x.entry past).limit ∙ (unfold limit_at in refl)
 
       up : (p q v : ℕ) → p ≤ q → grid_at s.cal.rules.permit p v ≤ grid_at s.cal.rules.permit q v
       up = grid_at-rises s.cal.rules.permit accepted.grid accepted.permit

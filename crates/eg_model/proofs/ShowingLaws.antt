@@ -1,6 +1,7 @@
 -- The rows of a record show its run.
-use Rattle.std.proofs.Common.{◌≡◌, ◌∙◌, refl, sym, ap, ap₂, subst, ℕ, zero, suc, ◌≤◌, ◌==◌, Bool, true, false, not, ◌&&◌, ◌||◌, List, [], ◌∷◌, All, map, reverse, take, length, slice_index_or, Option, if◌then◌else◌, arith}
+use Rattle.std.proofs.Common.{◌≡◌, ◌∙◌, refl, sym, ap, ap₂, subst, ℕ, zero, suc, ◌≤◌, ◌==◌, Bool, true, false, not, ◌&&◌, List, [], ◌∷◌, All, map, reverse, take, length, slice_index_or, Option, if◌then◌else◌, arith}
 use Rattle.std.proofs.Math.Seq.{take-suc, take-length}
+use Rattle.std.proofs.lemmas.Bool.{false≢true, or_right, and_right, false_from_ne_true}
 use Rattle.std.proofs.lemmas.List.{reverse-append}
 use Rattle.std.proofs.lemmas.List.Elements.{All-nil, All-cons}
 use Rattle.eg_fault.specs.declared.class.Class.{Class}
@@ -28,14 +29,6 @@ use Rattle.eg_model.proofs.RecordLaws.{proper_under, each_row}
 use Rattle.eg_model.proofs.WholeRecord.{are_rows}
 use Rattle.eg_plant.specs.PlantParts.{PlantParts}
 
-or_true : (b : Bool) → (b || true) ≡ true
-or_true true = refl
-or_true false = refl
-
-never : {A : Type 0} (b : Bool) → (b && false) ≡ true → A
-never true is = absurd (let f : false ≡ true = is in cc)
-never false is = absurd (let f : false ≡ true = is in cc)
-
 -- ---- over the moments of any run ----
 
 abbrev Permitted : Setting → Row → Type 0
@@ -60,33 +53,22 @@ ConductsMore x = (path : ℕ) → x.conducts path true ≡ true → x.conducts p
 
 more_class : (class : Class) (k : ℕ) → ConductsMore (effects_of class k)
 unfolding effects_of no_effects
-more_class Path1Closed k path is = or_true (path == PATH_1)
-more_class Path2Closed k path is = or_true (path == PATH_2)
-more_class (PathOpen other) k path is = never (not (path == other)) is
+more_class Path1Closed k path is = or_right (path == PATH_1) true refl
+more_class Path2Closed k path is = or_right (path == PATH_2) true refl
+more_class (PathOpen other) k path is = absurd (false≢true (sym (and_right (not (path == other)) false refl) ∙ is))
 more_class _ k path is = refl
 
 conducts_more : (fault : Option Fault) (tick : ℕ) → ConductsMore (effects fault tick)
 unfolding no_effects
 conducts_more fault tick = of_all ConductsMore (λ path is. refl) more_class fault tick
 
-closed_conducts : (fault : Option Fault) (tick path : ℕ) (is_open : Bool) →
-    (effects fault tick).conducts path true ≡ true → (effects fault tick).conducts path is_open ≡ true
-closed_conducts fault tick path true is = is
-closed_conducts fault tick path false is = conducts_more fault tick path is
-
-open_conducts : (fault : Option Fault) (tick path : ℕ) (is_open : Bool) →
-    (effects fault tick).conducts path false ≡ false → (effects fault tick).conducts path is_open ≡ false
-open_conducts fault tick path false is = is
-open_conducts fault tick path true is = go ((effects fault tick).conducts path true) refl
-  where
-    go : (b : Bool) → (effects fault tick).conducts path true ≡ b → b ≡ false
-    go true more = absurd (let f : false ≡ true = sym is ∙ conducts_more fault tick path more in cc)
-    go false more = refl
-
 conducts_forced : (fault : Option Fault) (tick path : ℕ) (state is_open : Bool) →
     (effects fault tick).conducts path state ≡ state → (effects fault tick).conducts path is_open ≡ state
-conducts_forced fault tick path true is_open is = closed_conducts fault tick path is_open is
-conducts_forced fault tick path false is_open is = open_conducts fault tick path is_open is
+conducts_forced fault tick path true true is = is
+conducts_forced fault tick path true false is = conducts_more fault tick path is
+conducts_forced fault tick path false false is = is
+conducts_forced fault tick path false true is =
+    false_from_ne_true _ (λ more. false≢true (sym is ∙ conducts_more fault tick path more))
 
 -- where the fault alone says whether a path conducts, its column says the same
 abbrev IsForced : ℕ → (Row → Bool) → Bool → Setting → Row → Type 0

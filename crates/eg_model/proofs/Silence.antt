@@ -1,11 +1,11 @@
 -- Where no good answer comes from a tick on, path 2 is open from R ticks after it.
 use Rattle.std.proofs.Common.{◌≡◌, ℕ, zero, suc, ◌+◌, ◌-◌, ◌*◌, ◌/◌, ◌%◌, ◌≤◌, ◌<◌, Bool, true, false, ◌||◌, ◌&&◌, List, [], ◌∷◌, ◌++◌, map, length, take, refl, ap, ◌∙◌, arith, inl, inr, ◌⊎◌, Option, Some, None, ◌≢◌, length-append, add-one}
 use Rattle.std.specs.Prelude.{◌==◌, if◌then◌else◌}
-use Rattle.std.proofs.lemmas.Bool.{or_left, or_right, eqb-true, ne_eqb, le-leb, and_right, and_parts}
+use Rattle.std.proofs.lemmas.Bool.{true_from_ne_false, cases_lt, false≢true, cases_Bool, false_from_ne_true, or_left, or_right, eqb-true, ne_eqb, le-leb, and_right, and_parts}
 use Rattle.std.proofs.Math.Nat.{lt-div-mul-add}
 use Rattle.eg_num.specs.Windows.{WeightParts, is_confirmed, greatest}
 use Rattle.eg_num.proofs.CounterLemmas.{greatest-nil, greatest-bad, is_reached-greatest}
-use Rattle.eg_num.proofs.FirstIndexLemmas.{is_first_from}
+use Rattle.eg_num.proofs.FirstIndexLemmas.{is_reached_confirmed, is_first_from}
 use Rattle.eg_answer.specs.Times.{TimeParts, AreTimes, feeds_to_confirm, reaction_of}
 use Rattle.eg_answer.specs.Periods.{place_of, is_last_tick, is_send_tick, is_in_window, MarkedAnswer, verdict_of, with_verdict, is_wrong}
 use Rattle.eg_answer.specs.declared.marks.AnswerMark.{AnswerMark}
@@ -15,13 +15,13 @@ use Rattle.eg_answer.specs.declared.marks.Verdict.TheVariants.{Right, Wrong}
 use Rattle.eg_fault.specs.Effects.{Effects, sends_in, sends_at}
 use Rattle.eg_fault.specs.Classes.{IsRegular}
 use Rattle.eg_fault.specs.declared.paths.TheConstants.{PATH_2}
-use Rattle.eg_model.specs.History.{Setting, Tick, Moment}
+use Rattle.eg_model.specs.History.{Setting, Entry, Tick, SpanKind, Drive, Moment}
 use Rattle.eg_model.specs.Answers.{is_sent, mark_at, with_answer, answers_in, verdict_at, verdicts_in, confirms_at}
 use Rattle.eg_model.specs.Paths.{latch2, path2_at, both_conduct}
-use Rattle.eg_model.specs.Moments.{moment, moments_of}
+use Rattle.eg_model.specs.Moments.{moment_in, moment, moments_in, moments_of}
 use Rattle.eg_model.specs.Premises.{is_on_after}
 use Rattle.eg_model.proofs.PeriodLemmas.{at_place, period_closes, period_open, period_room, counts_from, none_counts, enough_periods, last_tick}
-use Rattle.eg_model.proofs.TickLemmas.{Each, length-moments, moment-tick, moment-mark, moment-verdict, moment-confirms, moment-on}
+use Rattle.eg_model.proofs.TickLemmas.{Each, length-moments, fields_in, fields}
 
 abbrev pub AreRegular : List Tick → Type 0
 AreRegular h = Each (λ x. IsRegular x.effects) h
@@ -39,15 +39,11 @@ EachAnswer P [] = Unit {0}
 EachAnswer P (a ∷ these) = P a × EachAnswer P these
 
 -- an answer is sent at a send tick alone
-if_sent : (b good : Bool) → (if b then (if good then Good else Bad) else Absent) ≢ Absent → b ≡ true
-if_sent true good h = refl
-if_sent false good h = absurd (h refl)
-
 pub sent_at_place : (times : TimeParts) (x : Effects) (trip : Bool) (past : List Moment) → IsRegular x →
     mark_at times x trip past ≢ Absent → length past % times.period ≡ times.send
 unfolding mark_at is_sent sends_at sends_in is_send_tick place_of
 sent_at_place times x trip past usual h =
-    let sent : is_sent times x trip past ≡ true = if_sent _ _ h in
+    let sent : is_sent times x trip past ≡ true = true_from_ne_false _ (λ e. h (rw e refl)) in
     let first : sends_in x.send times (length past) ≡ true = (and_parts _ _ (and_parts _ _ sent).0).0 in
     let plain : sends_in None times (length past) ≡ true = rw usual.sends at first in
     eqb-true _ _ plain
@@ -75,10 +71,10 @@ answers_placed s (x ∷ h) r (suc n) low l =
     let m = moment s x.effects x.entry past in
     EachAnswer-with_answer (PlacedFrom s.cal.times low) m.tick m.mark (answers_in (take n past))
     (λ sent g is_good. (
-      rw (moment-tick s x.effects x.entry past)
+      rw (fields s x.effects x.entry past).tick
           (sent_at_place s.cal.times x.effects m.trip past r.0
-          (λ a. sent (moment-mark s x.effects x.entry past ∙ a))),
-      rw (moment-tick s x.effects x.entry past, length-moments s h) (omega arith),
+          (λ a. sent ((fields s x.effects x.entry past).mark ∙ a))),
+      rw ((fields s x.effects x.entry past).tick, length-moments s h) (omega arith),
     ))
     (answers_placed s h r.1 n low (omega arith))
 
@@ -101,7 +97,7 @@ good_before_now s (x ∷ h) (suc n) s0 l =
     let past = moments_of s h in
     let m = moment s x.effects x.entry past in
     EachAnswer-with_answer (GoodBefore s0) m.tick m.mark (answers_in (take n past))
-    (λ sent g is_good yes. rw (moment-tick s x.effects x.entry past, length-moments s h) (omega arith))
+    (λ sent g is_good yes. rw ((fields s x.effects x.entry past).tick, length-moments s h) (omega arith))
     (good_before_now s h n s0 (omega arith))
 
 pub good_before : (s : Setting) (more h : List Tick) (n : ℕ) → NoGood s more h →
@@ -124,8 +120,7 @@ not_right times [] h = refl
 not_right times (a ∷ []) h = wrong_one (is_in_window times a.tick) a.good h.0
   where
     wrong_one : (b g : Bool) → g ≡ false → (if b && g then Right else Wrong) ≡ Wrong
-    wrong_one true g e = rw e refl
-    wrong_one false g e = refl
+    wrong_one b g e = grind arith
 not_right times (a ∷ b ∷ more) h = refl
 
 none_good : (times : TimeParts) (p s0 : ℕ) (these : List MarkedAnswer) → 0 < times.period →
@@ -133,16 +128,11 @@ none_good : (times : TimeParts) (p s0 : ℕ) (these : List MarkedAnswer) → 0 <
     EachAnswer (GoodBefore s0) these → EachAnswer (λ a. a.good ≡ false) these
 unfolding EachAnswer PlacedFrom GoodBefore
 none_good times p s0 [] h l placed before = tt
-none_good times p s0 (a ∷ these) h l placed before =
-    (go a.good refl, none_good times p s0 these h l placed.1 before.1)
-  where
-    go : (b : Bool) → a.good ≡ b → a.good ≡ false
-    go false e = e
-    go true e =
-        let early : a.tick < s0 = before.0 e in
-        let late : p * times.period + times.send ≤ a.tick =
-        at_place times.period p a.tick times.send h placed.0.1 placed.0.0 in
-        absurd (omega arith)
+none_good times p s0 (a ∷ these) h l placed before = (
+  false_from_ne_true a.good (λ e. let early : a.tick < s0 = before.0 e in
+      let late = at_place times.period p a.tick times.send h placed.0.1 placed.0.0 in omega arith),
+  none_good times p s0 these h l placed.1 before.1,
+)
 
 -- a number of newest bits that are all true
 unfoldable pub TrueRun : ℕ → List Bool → Type 0
@@ -197,8 +187,8 @@ closes_wrong s are x more h r none ends late =
     good_before s (x ∷ more) h (suc (times.period - 1)) none in
     let wrong = not_right times _
     (none_good times p (length h) _ (period_least times are) late placed before) in
-    let wrong' = rw (moment-tick s x.effects x.entry past) at wrong in
-    moment-verdict s x.effects x.entry past
+    let wrong' = rw (fields s x.effects x.entry past).tick at wrong in
+    (fields s x.effects x.entry past).verdict
     ∙ verdict_some times are x.effects m.mark past r.0.judged (rw (length-moments s (more ++ h)) ends)
     ∙ ap Some wrong'
 
@@ -241,9 +231,6 @@ Grows s more h x =
     let k = closed s.cal.times (length h) (length (more ++ h) + 1) in
     ((v ≡ None) × (k ≡ n)) ⊎ (((v ≡ Some Wrong) × (k ≡ suc n)) ⊎ (k ≡ 0))
 
-counts_or_not : (first q : ℕ) → (first ≤ q) ⊎ (q + 1 ≤ first)
-counts_or_not first q = grind arith
-
 grows_at_end : (s : Setting) → AreTimes s.cal.times → (x : Tick) (more h : List Tick) →
     AreRegular (x ∷ more ++ h) → NoGood s (x ∷ more) h → (length (more ++ h) + 1) % s.cal.times.period ≡ 0 →
     Grows s more h x
@@ -251,15 +238,14 @@ unfolding closed
 grows_at_end s are x more h r none ends =
     let times = s.cal.times in
     let one = period_closes times.period (length (more ++ h)) (period_least times are) ends in
-    elim (counts_or_not ((length h + times.period - 1 - times.send) / times.period)
-    (length (more ++ h) / times.period)) [
-      | inl counts ↦ inr (inl (
+    elim (cases_lt (length (more ++ h) / times.period) ((length h + times.period - 1 - times.send) / times.period)) [
+      | inr counts ↦ inr (inl (
         closes_wrong s are x more h r none ends
             (counts_from times.period times.send (length h) (length (more ++ h) / times.period)
             (period_least times are) (send_within times are) counts),
         omega arith,
       ))
-      | inr not_yet ↦ inr (inr (omega arith))
+      | inl not_yet ↦ inr (inr (omega arith))
     ]
 
 grows : (s : Setting) → AreTimes s.cal.times → (x : Tick) (more h : List Tick) →
@@ -274,7 +260,7 @@ grows s are x more h r none = go ((length (more ++ h) + 1) % s.cal.times.period)
         let same = period_open s.cal.times.period (length (more ++ h))
         (period_least s.cal.times are) inside in
         inl (
-          moment-verdict s x.effects x.entry (moments_of s (more ++ h))
+          (fields s x.effects x.entry (moments_of s (more ++ h))).verdict
               ∙ verdict_none s.cal.times are x.effects _ (moments_of s (more ++ h))
               (rw (length-moments s (more ++ h)) inside),
           rw same refl,
@@ -307,16 +293,16 @@ run_weighs w (suc n) [] run = absurd run
 run_weighs w (suc n) (b ∷ bits) run =
     rw (run.0, greatest-bad w bits) (let rest = run_weighs w n bits run.1 in omega arith)
 
+-- and a list that weighs as much as the limit is confirmed
+pub reached_confirms : (w : WeightParts) (bits : List Bool) → 0 < w.limit → w.limit ≤ greatest w bits →
+    is_confirmed w bits ≡ true
+reached_confirms w [] some enough = absurd (let none = greatest-nil w in omega arith)
+reached_confirms w (b ∷ bits) some enough =
+    is_reached_confirmed w b bits (is_reached-greatest w (b ∷ bits) some ∙ le-leb _ _ enough)
+
 pub run_confirms : (w : WeightParts) (n : ℕ) (bits : List Bool) → 0 < w.limit → w.limit ≤ n * w.up →
     TrueRun n bits → is_confirmed w bits ≡ true
-unfolding is_confirmed
-run_confirms w n [] h enough run = absurd (let f = run_weighs w n [] run in none w n h enough f)
-  where
-    none : (w : WeightParts) (n : ℕ) → 0 < w.limit → w.limit ≤ n * w.up → n * w.up ≤ greatest w [] → ⊥
-    none w n h enough f = let z = greatest-nil w in omega arith
-run_confirms w n (b ∷ bits) h enough run =
-    or_left _ _ (is_reached-greatest w (b ∷ bits) h
-    ∙ le-leb _ _ (let f = run_weighs w n (b ∷ bits) run in omega arith))
+run_confirms w n bits h enough run = reached_confirms w bits h (let f = run_weighs w n bits run in omega arith)
 
 -- ---- the latch of path 2 ----
 
@@ -334,31 +320,33 @@ confirmed_now times None past before now = absurd (cc)
 confirmed_now times (Some v) past before now = unfold wrongs in
     is_first_from times.weights (is_wrong v) (wrongs past) now before
 
-pub opens_step : (times : TimeParts) (m : Moment) (past : List Moment) → m.confirms ≡ confirms_at times m.verdict past →
+opens_step : (times : TimeParts) (m : Moment) (past : List Moment) → m.confirms ≡ confirms_at times m.verdict past →
     (is_confirmed times.weights (wrongs past) ≡ true → latch2 past ≡ true) →
     is_confirmed times.weights (wrongs (m ∷ past)) ≡ true → latch2 (m ∷ past) ≡ true
-opens_step times m past confirms ih now = go (is_confirmed times.weights (wrongs past)) refl
-  where
-    now' : is_confirmed times.weights (with_wrong m.verdict (wrongs past)) ≡ true
-    now' = rw (wrongs-cons m past) at now
-
-    go : (b : Bool) → is_confirmed times.weights (wrongs past) ≡ b → latch2 (m ∷ past) ≡ true
-    go true c = latch2-cons m past ∙ or_right _ _ (ih c)
-    go false c = latch2-cons m past
-        ∙ or_left _ _ (or_left _ _ (confirms ∙ confirmed_now times m.verdict past c now'))
+opens_step times m past confirms ih now = latch2-cons m past
+    ∙ elim (cases_Bool (is_confirmed times.weights (wrongs past))) [
+      | inl c ↦ or_right _ _ (ih c)
+      | inr c ↦ or_left _ _ (or_left _ _ (confirms ∙ confirmed_now times m.verdict past c (rw (wrongs-cons m past) at now)))
+    ]
 
 pub confirmed_nothing : (w : WeightParts) → is_confirmed w (wrongs []) ≡ true → ⊥
 unfolding is_confirmed wrongs verdicts_in
-confirmed_nothing w c = let c' : false ≡ true = c in cc
+confirmed_nothing w c = false≢true c
 
--- where the list of verdicts is confirmed path 2 was ordered open
-pub opens_when_confirmed : (s : Setting) (h : List Tick) →
-    is_confirmed s.cal.times.weights (wrongs (moments_of s h)) ≡ true → latch2 (moments_of s h) ≡ true
-unfolding moments_of
-opens_when_confirmed s [] c = absurd (confirmed_nothing s.cal.times.weights c)
-opens_when_confirmed s (x ∷ h) c =
-    opens_step s.cal.times (moment s x.effects x.entry (moments_of s h)) (moments_of s h)
-    (moment-confirms s x.effects x.entry (moments_of s h)) (opens_when_confirmed s h) c
+-- where the list of verdicts is confirmed path 2 was ordered open, in a span of either kind
+pub opens_when_confirmed : (kind : SpanKind) (s : Setting) (h : List Tick) →
+    is_confirmed s.cal.times.weights (wrongs (moments_in kind s h)) ≡ true → latch2 (moments_in kind s h) ≡ true
+unfolding moments_in
+opens_when_confirmed kind s [] c = absurd (confirmed_nothing s.cal.times.weights c)
+opens_when_confirmed kind s (x ∷ h) c =
+    opens_step s.cal.times (moment_in kind s x.effects x.entry (moments_in kind s h)) (moments_in kind s h)
+    (fields_in kind s x.effects x.entry (moments_in kind s h)).confirms (opens_when_confirmed kind s h) c
+
+-- where it is open, and no fault makes it conduct, the stages are off
+pub off_by_latch2 : (s : Setting) (x : Effects) (e : Entry) (past : List Moment) → x.conducts PATH_2 true ≡ false →
+    latch2 past ≡ true → (moment s x e past).on ≡ false
+unfolding both_conduct path2_at
+off_by_latch2 s x e past opens u = (fields s x e past).on ∙ and_right _ _ (ap (x.conducts PATH_2) u ∙ opens)
 
 pub enough_weight : (w : WeightParts) → 0 < w.up → w.limit ≤ feeds_to_confirm w * w.up
 unfolding feeds_to_confirm
@@ -380,7 +368,7 @@ pub off_after_silence : (s : Setting) → AreTimes s.cal.times → 0 < s.cal.tim
     (more h : List Tick) → AreRegular (more ++ h) → NoGood s more h →
     reaction_of s.cal.times ≤ length more →
     (x : Tick) → x.effects.conducts PATH_2 true ≡ false → is_on_after s (more ++ h) x ≡ false
-unfolding both_conduct path2_at reaction_of closed is_on_after
+unfolding reaction_of closed is_on_after moments_of
 off_after_silence s are up limit more h r none long x opens =
     let times = s.cal.times in
     let n = feeds_to_confirm times.weights in
@@ -391,8 +379,7 @@ off_after_silence s are up limit more h r none long x opens =
     (wrongs (moments_of s (more ++ h))) (many whole) (wrong_run s are more h r none) in
     let c = run_confirms times.weights n (wrongs (moments_of s (more ++ h))) limit
     (enough_weight times.weights up) run in
-    moment-on s x.effects x.entry (moments_of s (more ++ h))
-    ∙ and_right _ _ (ap (x.effects.conducts PATH_2) (opens_when_confirmed s (more ++ h) c) ∙ opens)
+    off_by_latch2 s x.effects x.entry (moments_of s (more ++ h)) opens (opens_when_confirmed Drive s (more ++ h) c)
   where
     many :
         (length h + s.cal.times.period - 1 - s.cal.times.send) / s.cal.times.period + feeds_to_confirm s.cal.times.weights ≤ length

@@ -1,6 +1,6 @@
 -- The laws by the rows of a history in which the engine is driven, and that begins at any tick of a run.
-use Rattle.std.proofs.Common.{◌≡◌, ◌∙◌, refl, sym, ap, subst, ℕ, zero, suc, ◌+◌, ◌-◌, ◌*◌, ◌≤◌, ◌<◌, Bool, true, false, not, List, [], ◌∷◌, ◌++◌, All, map, length, length-append, append_assoc, arith, inl, inr, ◌⊎◌, Option, Some, None, nat_le, max}
-use Rattle.std.proofs.lemmas.Bool.{lt-leb, le-leb}
+use Rattle.std.proofs.Common.{◌≡◌, ◌∙◌, refl, sym, ap, subst, ℕ, zero, suc, ◌+◌, ◌-◌, ◌*◌, ◌≤◌, ◌<◌, Bool, true, false, not, List, [], ◌∷◌, ◌++◌, All, map, length, length-append, append_assoc, arith, inl, inr, Option, Some, None, nat_le, max}
+use Rattle.std.proofs.lemmas.Bool.{cases_lt, lt-leb, le-leb}
 use Rattle.eg_num.specs.Windows.{WeightParts, AreWeights, is_confirmed, is_first, first_index}
 use Rattle.eg_answer.specs.Times.{TimeParts, AreTimes, feeds_to_confirm, reaction_of, HasLapseBound, lapse_periods}
 use Rattle.eg_values.specs.Calibration.{IsAccepted}
@@ -21,7 +21,7 @@ use Rattle.eg_model.proofs.Silence.{enough_weight}
 use Rattle.eg_model.proofs.ReactionLaw.{reacts_in_time, reacts_at_once_law, cuts_from_onset}
 use Rattle.eg_model.proofs.SharpCutLaw.{cuts_sharply, found_sharply}
 use Rattle.eg_model.proofs.LapseLaw.{cuts_lapses, lapses_are_short}
-use Rattle.eg_model.proofs.TickLemmas.{length-moments}
+use Rattle.eg_model.proofs.TickLemmas.{length-moments, Pedal, Plate, Load, Speed, found_by}
 use Rattle.eg_model.proofs.SpanRows.{rows_after, Between, between, EndOf, end_of, follows-end, proper-end, SpanRows, RowAfter, length-rows_after, row_on, row_found, row_tick, all_rows, Split, split, BitsOf, bits_after, true_unnumbered, full_unnumbered, confirmed_later, quiet_earlier, IsFirstAt, first_confirms, never_confirms, exceed}
 
 -- the worst-case reaction is at least one tick
@@ -63,7 +63,7 @@ sharp_after s start accepted x before none plain proper = row_on s start x befor
 pub found_after : (s : Setting) (start : ℕ) → IsAccepted s.cal → (x : Tick) (before : List Tick) → ArePlain (x ∷ before) →
     AreProper s (x ∷ before) → FindsExcessAlone s.cal.rules.torque s.cal.rules.kt s.cal.rules.threshold
     (RowAfter s start x before) (SpanRows s start before)
-unfolding full_excesses rows_after moments_of moments_in
+unfolding full_excesses rows_after moments_of moments_in found_by
 found_after s start accepted x before plain proper =
     let found = found_sharply s accepted x before plain proper in
     let is = row_found s start x before in
@@ -72,10 +72,10 @@ found_after s start accepted x before plain proper =
       torque = ap (λ w. w.torque) is ∙ found.torque ∙ sym (ap (is_first s.cal.rules.torque) bits);
       answers = λ quiet. ap (λ w. w.answers) is ∙ found.answers (sym (ap (is_confirmed s.cal.rules.torque) bits) ∙ quiet);
       mirror = ap (λ w. w.mirror) is ∙ found.mirror;
-      pedal = ap (λ w. w.pedal) is ∙ found.pedal;
-      plate = ap (λ w. w.plate) is ∙ found.plate;
-      load = ap (λ w. w.load) is ∙ found.load;
-      speed = ap (λ w. w.speed) is ∙ found.speed;
+      pedal = ap (λ w. w.pedal) is ∙ found.pairs Pedal;
+      plate = ap (λ w. w.plate) is ∙ found.pairs Plate;
+      load = ap (λ w. w.load) is ∙ found.pairs Load;
+      speed = ap (λ w. w.speed) is ∙ found.pairs Speed;
     }
   where
     bit : Row → Bool
@@ -247,16 +247,13 @@ module _ (s : Setting) (start : ℕ) (h : List Tick) where
 
       sharp : (c : ℕ) → IsFirstAt w FullBit s h c → (newer : List Tick) (x : Tick) (before : List Tick) → h ≡ newer ++ x ∷ before →
           (RowAfter s start x before).on ≡ nat_le (RowAfter s start x before).tick (start + c)
-      sharp c at newer x before whole = on_is newer x before whole ∙ elim (up_or_past c (length before)) [
-        | inl up ↦ ap not (early up) ∙ sym (ap (λ n. nat_le n (start + c)) (row_tick s start x before)
+      sharp c at newer x before whole = on_is newer x before whole ∙ elim (cases_lt c (length before)) [
+        | inr up ↦ ap not (early up) ∙ sym (ap (λ n. nat_le n (start + c)) (row_tick s start x before)
             ∙ le-leb (start + length before) (start + c) (omega (arith, up)))
-        | inr past ↦ ap not (late past) ∙ sym (ap (λ n. nat_le n (start + c)) (row_tick s start x before)
+        | inl past ↦ ap not (late (omega arith)) ∙ sym (ap (λ n. nat_le n (start + c)) (row_tick s start x before)
             ∙ lt-leb (start + length before) (start + c) (omega (arith, past)))
       ]
         where
-          up_or_past : (c t : ℕ) → (t ≤ c) ⊎ (c + 1 ≤ t)
-          up_or_past c t = grind arith
-
           early : length before ≤ c → is_confirmed w (BitsOf FullBit s before) ≡ false
           early up = quiet_earlier w FullBit s cut.more before (subst (λ g. is_confirmed w (BitsOf FullBit s g) ≡ false) cut.ends at.quiet)
             where

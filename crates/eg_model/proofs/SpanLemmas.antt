@@ -1,8 +1,8 @@
 -- A run span by span: the ticks of the span that it ends in are a history that stands by itself, and what one
 -- tick more makes of them.
-use Rattle.std.proofs.Common.{◌≡◌, ◌∙◌, refl, sym, ap, ap₂, subst, ℕ, zero, suc, ◌+◌, ◌-◌, ◌≤◌, Bool, true, false, ◌||◌, List, [], ◌∷◌, take, length, arith}
+use Rattle.std.proofs.Common.{inl, inr, ◌≡◌, ◌∙◌, refl, sym, ap, ap₂, subst, ℕ, zero, suc, ◌+◌, ◌-◌, ◌≤◌, Bool, true, false, ◌||◌, List, [], ◌∷◌, take, length, arith}
 use Rattle.std.specs.Prelude.{◌==◌, if◌then◌else◌}
-use Rattle.std.proofs.lemmas.Bool.{or_parts, ne_eqb}
+use Rattle.std.proofs.lemmas.Bool.{cases_Bool, or_parts, ne_eqb}
 use Rattle.std.proofs.lemmas.List.{length-take-le}
 use Rattle.eg_num.specs.Drive.{DriveRow}
 use Rattle.eg_fault.specs.Faults.{effects}
@@ -15,11 +15,6 @@ use Rattle.eg_model.specs.Premises.{IsProper, AreProper, IsProperRun, Follows}
 use Rattle.eg_model.specs.SpanHistories.{SpansAreHistories}
 
 -- ---- how many there are ----
-
-pub length-moments_in : (kind : SpanKind) (s : Setting) (h : List Tick) → length (moments_in kind s h) ≡ length h
-unfolding moments_in
-length-moments_in kind s [] = refl
-length-moments_in kind s (x ∷ h) = ap suc (length-moments_in kind s h)
 
 pub length-run_moments : (s : Setting) (h : List Entry) → length (moments s h) ≡ length h
 unfolding moments
@@ -87,7 +82,11 @@ commands drive past = go (drive.reset || has_passed past) refl past refl
 pub span_so_far-next : (s : Setting) (e : Entry) (past : List Moment) →
     span_so_far (next_after s e past ∷ past) ≡ next_after s e past ∷ before_at e.drive past
 unfolding span_so_far
-span_so_far-next s e past = ap (λ rest. next_after s e past ∷ rest) (go (e.drive.reset || has_passed past) refl)
+span_so_far-next s e past = ap (λ rest. next_after s e past ∷ rest) (elim (cases_Bool (e.drive.reset || has_passed past)) [
+  | inl begins ↦ rw (fresh, before-begins e.drive past begins) refl
+  | inr goes_on ↦ ap (λ b. if b then [] else span_so_far past) fresh
+      ∙ some (before_at e.drive past) (before-goes_on e.drive past goes_on)
+])
   where
     fresh : (next_after s e past).fresh ≡ (length (before_at e.drive past) == 0)
     fresh = unfold next_after moment_at moment_in in refl
@@ -95,12 +94,6 @@ span_so_far-next s e past = ap (λ rest. next_after s e past ∷ rest) (go (e.dr
     some : (before : List Moment) → before ≡ span_so_far past → (if length before == 0 then [] else span_so_far past) ≡ before
     some [] is = refl
     some (m ∷ before) is = rw (ne_eqb (length (m ∷ before)) 0 (λ f. omega arith)) (sym is)
-
-    go : (b : Bool) → (e.drive.reset || has_passed past) ≡ b →
-        (if (next_after s e past).fresh then [] else span_so_far past) ≡ before_at e.drive past
-    go true begins = rw (fresh, before-begins e.drive past begins) refl
-    go false goes_on = ap (λ b. if b then [] else span_so_far past) fresh
-        ∙ some (before_at e.drive past) (before-goes_on e.drive past goes_on)
 
 -- the tick of an entry that comes next, and the ticks of its span before it
 unfoldable pub tick_after : Setting → Entry → List Entry → Tick
@@ -120,12 +113,10 @@ ticks_before-goes_on s e h goes_on = unfold ticks_before in rw goes_on refl
 ticks_before-are : (s : Setting) (e : Entry) (h : List Entry) →
     ticks_before s e h ≡ take (length (before_at e.drive (moments s h))) (ticks s h)
 unfolding ticks_before
-ticks_before-are s e h = go (e.drive.reset || has_passed (moments s h)) refl
-  where
-    go : (b : Bool) → (e.drive.reset || has_passed (moments s h)) ≡ b →
-        (if b then [] else span_ticks s h) ≡ take (length (before_at e.drive (moments s h))) (ticks s h)
-    go true begins = rw (before-begins e.drive (moments s h) begins) refl
-    go false goes_on = rw (before-goes_on e.drive (moments s h) goes_on) (unfold span_ticks in refl)
+ticks_before-are s e h = elim (cases_Bool (e.drive.reset || has_passed (moments s h))) [
+  | inl begins ↦ rw (begins, before-begins e.drive (moments s h) begins) refl
+  | inr goes_on ↦ rw (goes_on, before-goes_on e.drive (moments s h) goes_on) (unfold span_ticks in refl)
+]
 
 -- ---- a span of a run is a history ----
 
@@ -144,17 +135,15 @@ module _ (s : Setting) where
 
   before_from : (e : Entry) (h : List Entry) → ByTicks h →
       before_at e.drive (moments s h) ≡ moments_in (kind_at e.drive (moments s h)) s (ticks_before s e h)
-  before_from e h is = go (e.drive.reset || has_passed (moments s h)) refl
-    where
-      go : (b : Bool) → (e.drive.reset || has_passed (moments s h)) ≡ b →
-          before_at e.drive (moments s h) ≡ moments_in (kind_at e.drive (moments s h)) s (ticks_before s e h)
-      go true begins = before-begins e.drive (moments s h) begins
-          ∙ (unfold moments_in in rw (ticks_before-begins s e h begins) refl)
-      go false goes_on = before-goes_on e.drive (moments s h) goes_on ∙ is
-          ∙ ap₂ (λ kind before. moments_in kind s before) (sym (kind-goes_on e.drive (moments s h) goes_on))
-          (sym (ticks_before-goes_on s e h goes_on))
+  before_from e h is = elim (cases_Bool (e.drive.reset || has_passed (moments s h))) [
+    | inl begins ↦ before-begins e.drive (moments s h) begins
+        ∙ (unfold moments_in in rw (ticks_before-begins s e h begins) refl)
+    | inr goes_on ↦ before-goes_on e.drive (moments s h) goes_on ∙ is
+        ∙ ap₂ (λ kind before. moments_in kind s before) (sym (kind-goes_on e.drive (moments s h) goes_on))
+        (sym (ticks_before-goes_on s e h goes_on))
+  ]
 
-  kind-next : (e : Entry) (h : List Entry) → span_kind (moments s (e ∷ h)) ≡ kind_at e.drive (moments s h)
+  pub kind-next : (e : Entry) (h : List Entry) → span_kind (moments s (e ∷ h)) ≡ kind_at e.drive (moments s h)
   unfolding moments span_kind next_after moment_at moment_in
   kind-next e h = refl
 
@@ -222,7 +211,12 @@ module _ (s : Setting) where
 
   pub proper_drive : (h : List Entry) → IsProperRun s h → span_kind (moments s h) ≡ Drive → AreProper s (span_ticks s h)
   proper_drive [] proper driven = unfold span_ticks moments span_so_far ticks AreProper in tt
-  proper_drive (e ∷ h) proper driven = subst (AreProper s) (sym c.ticks_are) (go (e.drive.reset || has_passed (moments s h)) refl (proper_drive h))
+  proper_drive (e ∷ h) proper driven =
+      subst (AreProper s) (sym c.ticks_are) (with_tick (elim (cases_Bool (e.drive.reset || has_passed (moments s h))) [
+        | inl begins ↦ subst (AreProper s) (sym (ticks_before-begins s e h begins)) (unfold AreProper in tt)
+        | inr goes_on ↦ subst (AreProper s) (sym (ticks_before-goes_on s e h goes_on))
+            (proper_drive h (earlier proper) (sym (kind-goes_on e.drive (moments s h) goes_on) ∙ kind_is))
+      ]))
     where
       c : Continues s e h (kind_at e.drive (moments s h)) (ticks_before s e h)
       c = continues e h
@@ -242,16 +236,6 @@ module _ (s : Setting) where
 
       with_tick : AreProper s (ticks_before s e h) → AreProper s (tick_after s e h ∷ ticks_before s e h)
       with_tick before = unfold AreProper tick_after in (now proper, before)
-
-      go : (b : Bool) → (e.drive.reset || has_passed (moments s h)) ≡ b →
-          (IsProperRun s h → span_kind (moments s h) ≡ Drive → AreProper s (span_ticks s h)) →
-          AreProper s (tick_after s e h ∷ ticks_before s e h)
-      go true begins before = with_tick (subst (AreProper s) (sym (ticks_before-begins s e h begins)) (unfold AreProper in tt))
-      go false goes_on before = with_tick (subst (AreProper s) (sym same)
-          (before (earlier proper) (sym (kind-goes_on e.drive (moments s h) goes_on) ∙ kind_is)))
-        where
-          same : ticks_before s e h ≡ span_ticks s h
-          same = unfold ticks_before in rw goes_on refl
 
 -- ---- the law ----
 

@@ -1,8 +1,10 @@
 -- The rows of a history in which the engine is driven, and that begins at any tick of a run: what is said of
 -- parts of the rows is said of parts of the history.
-use Rattle.std.proofs.Common.{◌≡◌, ◌∙◌, refl, sym, ap, ap₂, subst, ℕ, suc, ◌+◌, ◌≤◌, Bool, true, false, List, [], ◌∷◌, ◌++◌, All, map, take, length, length-append, arith, inl, inr, ◌⊎◌, Option, Some, None, is_some}
+use Rattle.std.proofs.Common.{◌≡◌, ◌∙◌, refl, sym, ap, ap₂, subst, ℕ, suc, ◌+◌, ◌≤◌, Bool, true, false, List, [], ◌∷◌, ◌++◌, All, map, take, length, length-append, arith, inl, inr, Option, Some, None, is_some}
+use Rattle.std.proofs.lemmas.Bool.{cases_lt, true≢false, false_from_ne_true}
 use Rattle.std.specs.List.{list_all}
 use Rattle.std.proofs.lemmas.List.Elements.{All-cons, All-nil}
+use Rattle.std.proofs.lemmas.Option.{none-some, same_Some}
 use Rattle.eg_num.specs.Windows.{WeightParts, is_confirmed, is_first, first_index}
 use Rattle.eg_num.proofs.FirstIndexLemmas.{is_first-parts, first_index-first, first_index-other, is_some-first_index, is_reached_confirmed, is_confirmed-cons}
 use Rattle.eg_fault.specs.declared.class.Fault.{Fault}
@@ -14,7 +16,7 @@ use Rattle.eg_model.specs.Rows.{row_of, rows_of}
 use Rattle.eg_model.specs.Premises.{AreProper, Follows, is_on_after, true_excesses}
 use Rattle.eg_model.specs.Records.{ExceedLast}
 use Rattle.eg_model.specs.Lapses.{Exceeds}
-use Rattle.eg_model.proofs.TickLemmas.{length-moments}
+use Rattle.eg_model.proofs.TickLemmas.{parts_of, nothing, length-moments}
 
 -- ---- parts of lists ----
 
@@ -28,14 +30,8 @@ pub between : {X : Type 0} (a b c d : List X) → a ++ b ≡ c ++ d → length d
 between [] b c d e l = record { more = c; ends = e; front = refl }
 between (y ∷ a) b [] d e l = absurd (let long = ap length e in let sum = length-append a b in omega (arith, long, sum, l))
 between (y ∷ a) b (z ∷ c) d e l =
-    let rest = between a b c d (tail y z (a ++ b) (c ++ d) e) l in
-    record { more = rest.more; ends = rest.ends; front = ap₂ (λ x xs. x ∷ xs) (head z y (c ++ d) (a ++ b) (sym e)) rest.front }
-  where
-    head : {X : Type 0} (y z : X) (ys zs : List X) → y ∷ ys ≡ z ∷ zs → y ≡ z
-    head y z ys zs f = cc
-
-    tail : {X : Type 0} (y z : X) (ys zs : List X) → y ∷ ys ≡ z ∷ zs → ys ≡ zs
-    tail y z ys zs f = cc
+    let rest = between a b c d (parts_of e).1 l in
+    record { more = rest.more; ends = rest.ends; front = ap₂ (λ x xs. x ∷ xs) (sym (parts_of e).0) rest.front }
 
 -- a list has an end of any length up to its own
 pub record EndOf {X : Type 0} (all : List X) (n : ℕ) : Type 0 where
@@ -46,8 +42,8 @@ pub record EndOf {X : Type 0} (all : List X) (n : ℕ) : Type 0 where
 
 pub end_of : {X : Type 0} (all : List X) (n : ℕ) → n ≤ length all → EndOf all n
 end_of [] n l = record { more = []; rest = []; whole = refl; size = omega (arith, l) }
-end_of (x ∷ all) n l = elim (now_or_before n (length all) l) [
-  | inl now ↦ record { more = []; rest = x ∷ all; whole = refl; size = now }
+end_of (x ∷ all) n l = elim (cases_lt (length all) n) [
+  | inl now ↦ record { more = []; rest = x ∷ all; whole = refl; size = omega (arith, now, l) }
   | inr before ↦ (let e = end_of all n before in record {
     more = x ∷ e.more;
     rest = e.rest;
@@ -55,9 +51,6 @@ end_of (x ∷ all) n l = elim (now_or_before n (length all) l) [
     size = e.size;
   })
 ]
-  where
-    now_or_before : (n m : ℕ) → n ≤ suc m → (suc m ≡ n) ⊎ (n ≤ m)
-    now_or_before n m l = grind arith
 
 -- ---- what an end of a history keeps ----
 
@@ -132,20 +125,11 @@ split s start h [] before e = record {
   rows_are = sym e;
   off = λ p. All-nil (λ row. row.on ≡ false);
 }
-split s start [] (row ∷ later) before e = absurd (none (unfold rows_after moments_of moments_in in e))
-  where
-    none : [] ≡ row ∷ (later ++ before) → ⊥
-    none f = cc
-split s start (x ∷ h) (row ∷ later) before e = one_more (split s start h later before (tail parted))
+split s start [] (row ∷ later) before e = absurd (unfold rows_after moments_of in nothing e)
+split s start (x ∷ h) (row ∷ later) before e = one_more (split s start h later before (parts_of parted).1)
   where
     parted : RowAfter s start x h ∷ SpanRows s start h ≡ row ∷ (later ++ before)
     parted = unfold rows_after moments_of in e
-
-    tail : RowAfter s start x h ∷ SpanRows s start h ≡ row ∷ (later ++ before) → SpanRows s start h ≡ later ++ before
-    tail f = cc
-
-    head : RowAfter s start x h ∷ SpanRows s start h ≡ row ∷ (later ++ before) → row ≡ RowAfter s start x h
-    head f = cc
 
     one_more : Split s start h later before → Split s start (x ∷ h) (row ∷ later) before
     one_more c = record {
@@ -154,10 +138,25 @@ split s start (x ∷ h) (row ∷ later) before e = one_more (split s start h lat
       whole = ap (λ k. x ∷ k) c.whole;
       rows_are = c.rows_are;
       off = λ p. All-cons (λ row. row.on ≡ false) row later
-          (ap (λ (r : Row). r.on) (head parted) ∙ row_on s start x h
+          (ap (λ (r : Row). r.on) (sym (parts_of parted).0) ∙ row_on s start x h
           ∙ subst (λ g. is_on_after s g x ≡ false) (sym c.whole) (p [] x c.more (ap (λ k. x ∷ k) c.whole)))
           (c.off (λ newer y mid f. p (x ∷ newer) y mid (ap (λ k. x ∷ k) f)));
     }
+
+-- the last of these rows is that of the last tick of h, and those before it are the rows of the ticks before it
+pub record LastOf (s : Setting) (start : ℕ) (h : List Tick) (row : Row) (before : List Row) : Type 0 where
+  pub tick : Tick
+  pub past : List Tick
+  pub is : h ≡ tick ∷ past
+  pub row_is : row ≡ RowAfter s start tick past
+  pub before_are : before ≡ SpanRows s start past
+
+pub last_of : (s : Setting) (start : ℕ) (h : List Tick) (row : Row) (before : List Row) → row ∷ before ≡ SpanRows s start h →
+    LastOf s start h row before
+unfolding rows_after moments_of
+last_of s start [] row before e = absurd (nothing (sym e))
+last_of s start (x ∷ h) row before e =
+    record { tick = x; past = h; is = refl; row_is = (parts_of e).0; before_are = (parts_of e).1 }
 
 -- The last of these rows is that of a tick of the history, and those before it are the rows of the ticks before
 -- that one.
@@ -170,27 +169,17 @@ pub record LastTick (s : Setting) (start : ℕ) (row : Row) (before : List Row) 
 
 pub last_tick : (s : Setting) (start : ℕ) (h : List Tick) → Follows s.fault start h → (later before : List Row) (row : Row) →
     SpanRows s start h ≡ later ++ row ∷ before → LastTick s start row before
-last_tick s start h follows later before row e = go parts.rest parts.rows_are
-    (follows-end s.fault start parts.more parts.rest (subst (Follows s.fault start) parts.whole follows))
-  where
-    parts : Split s start h later (row ∷ before)
-    parts = split s start h later (row ∷ before) e
-
-    go : (g : List Tick) → row ∷ before ≡ SpanRows s start g → Follows s.fault start g → LastTick s start row before
-    go [] rows f = absurd (none (rows ∙ (unfold rows_after moments_of moments_in in refl)))
-      where
-        none : row ∷ before ≡ [] → ⊥
-        none r = cc
-    go (x ∷ g) rows f = record { tick = x; past = g; follows = f; row_is = head parted; before_are = tail parted }
-      where
-        parted : row ∷ before ≡ RowAfter s start x g ∷ SpanRows s start g
-        parted = rows ∙ (unfold rows_after moments_of moments_in in refl)
-
-        head : row ∷ before ≡ RowAfter s start x g ∷ SpanRows s start g → row ≡ RowAfter s start x g
-        head r = cc
-
-        tail : row ∷ before ≡ RowAfter s start x g ∷ SpanRows s start g → before ≡ SpanRows s start g
-        tail r = cc
+last_tick s start h follows later before row e =
+    let parts = split s start h later (row ∷ before) e in
+    let last = last_of s start parts.rest row before parts.rows_are in
+    record {
+      tick = last.tick;
+      past = last.past;
+      follows = subst (Follows s.fault start) last.is
+          (follows-end s.fault start parts.more parts.rest (subst (Follows s.fault start) parts.whole follows));
+      row_is = last.row_is;
+      before_are = last.before_are;
+    }
 
 -- ---- bits of the rows, one a tick ----
 
@@ -240,11 +229,8 @@ confirmed_later w bit s (x ∷ more) h c = subst (λ k. is_confirmed w k ≡ tru
 
 pub quiet_earlier : (w : WeightParts) (bit : Row → Bool) (s : Setting) (more h : List Tick) →
     is_confirmed w (BitsOf bit s (more ++ h)) ≡ false → is_confirmed w (BitsOf bit s h) ≡ false
-quiet_earlier w bit s more h quiet = go (is_confirmed w (BitsOf bit s h)) refl
-  where
-    go : (is : Bool) → is_confirmed w (BitsOf bit s h) ≡ is → is_confirmed w (BitsOf bit s h) ≡ false
-    go false e = e
-    go true e = absurd (let f : true ≡ false = sym (confirmed_later w bit s more h e) ∙ quiet in cc)
+quiet_earlier w bit s more h quiet =
+    false_from_ne_true _ (λ c. true≢false (sym (confirmed_later w bit s more h c) ∙ quiet))
 
 -- the tick by which it is first confirmed
 pub record IsFirstAt (w : WeightParts) (bit : Row → Bool) (s : Setting) (h : List Tick) (c : ℕ) : Type 0 where
@@ -258,10 +244,7 @@ pub record IsFirstAt (w : WeightParts) (bit : Row → Bool) (s : Setting) (h : L
 
 pub first_confirms : (w : WeightParts) (bit : Row → Bool) (s : Setting) (h : List Tick) (c : ℕ) →
     first_index w (BitsOf bit s h) ≡ Some c → IsFirstAt w bit s h c
-first_confirms w bit s [] c first = absurd (none (unfold first_index rows_of moments_of moments_in in first))
-  where
-    none : None ≡ Some c → ⊥
-    none e = cc
+first_confirms w bit s [] c first = absurd (none-some c (unfold first_index rows_of moments_of in first))
 first_confirms w bit s (x ∷ h) c first = go (is_first w (b ∷ BitsOf bit s h)) refl (first_confirms w bit s h c)
   where
     b : Bool
@@ -269,9 +252,6 @@ first_confirms w bit s (x ∷ h) c first = go (is_first w (b ∷ BitsOf bit s h)
 
     first' : first_index w (b ∷ BitsOf bit s h) ≡ Some c
     first' = subst (λ l. first_index w l ≡ Some c) (bits-cons bit s x h) first
-
-    some_same : (a c : ℕ) → Some a ≡ Some c → a ≡ c
-    some_same a c e = cc
 
     go : (is : Bool) → is_first w (b ∷ BitsOf bit s h) ≡ is →
         (first_index w (BitsOf bit s h) ≡ Some c → IsFirstAt w bit s h c) → IsFirstAt w bit s (x ∷ h) c
@@ -282,7 +262,7 @@ first_confirms w bit s (x ∷ h) c first = go (is_first w (b ∷ BitsOf bit s h)
           at = x;
           before = h;
           whole = refl;
-          size = some_same (length h) c (ap Some (sym (length-bits bit s h)) ∙ sym (first_index-first w b (BitsOf bit s h) now) ∙ first');
+          size = same_Some _ c (ap Some (sym (length-bits bit s h)) ∙ sym (first_index-first w b (BitsOf bit s h) now) ∙ first');
           confirmed = subst (λ l. is_confirmed w l ≡ true) (sym (bits-cons bit s x h))
               (is_reached_confirmed w b (BitsOf bit s h) parts.0);
           quiet = parts.1;

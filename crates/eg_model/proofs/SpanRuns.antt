@@ -23,39 +23,48 @@ NeverResets row = row.reset ≡ false
 abbrev NeverFails : Row → Type 0
 NeverFails row = row.found.start ≡ false
 
--- past the end of a drive nothing resets either
-at_each : (rows : List DriveRow) (t : ℕ) → All NeverResets rows → NeverResets (slice_index_or rows t no_drive)
-at_each [] t all = unfold no_drive in refl
-at_each (row ∷ rows) zero all = All-head NeverResets row rows all
-at_each (row ∷ rows) (suc t) all = at_each rows t (All-tail NeverResets row rows all)
+-- what holds of each item of a list and of what stands in its place past the end
+pub all_or : {X : Type 0} (P : X → Type 0) (xs : List X) (i : ℕ) (d : X) → P d → All P xs →
+    P (slice_index_or xs i d)
+all_or P [] i d none all = none
+all_or P (x ∷ xs) zero d none all = All-head P x xs all
+all_or P (x ∷ xs) (suc i) d none all = all_or P xs i d none (All-tail P x xs all)
 
 entries_never : {E : Type 0} (b : BenchEngine E) (r : Run) → All NeverResets r.drive → (n : ℕ) →
     All (λ (e : Entry). e.drive.reset ≡ false) (entries_to b r n)
 unfolding entries_to
 entries_never b r all zero = All-nil (λ (e : Entry). e.drive.reset ≡ false)
 entries_never b r all (suc t) = All-cons (λ (e : Entry). e.drive.reset ≡ false) (entry_at b r t (moments_to b r t)) (entries_to b r t)
-    (unfold entry_at drive_at in at_each r.drive t all) (entries_never b r all t)
+    (unfold entry_at drive_at no_drive in all_or NeverResets r.drive t no_drive refl all) (entries_never b r all t)
 
--- while the engine is driven no test fails
-driven_rows : (s : Setting) (h : List Tick) → All NeverFails (rows_of (moments_of s h))
-unfolding rows_of moments_of
-driven_rows s [] = All-nil NeverFails
-driven_rows s (x ∷ h) = All-cons NeverFails (row_of (length (moments_of s h)) (moment s x.effects x.entry (moments_of s h))) (rows_of (moments_of s h))
-    (unfold row_of moment moment_in reads_back in refl) (driven_rows s h)
-
-pub finds_no_start : {E : Type 0} (b : BenchEngine E) (r : Run) → All NeverResets r.drive → All NeverFails (record_rows b r)
-unfolding record_rows
-finds_no_start b r all = subst (λ past. All NeverFails (rows_of past))
-    (sym (records_are_histories b r (length r.drive)
-    ∙ runs_without_reset r.setting (entries_to b r (length r.drive)) (entries_never b r all (length r.drive))))
-    (driven_rows r.setting (ticks r.setting (entries_to b r (length r.drive))))
-
--- ---- one drive span ----
-
--- the row of a tick while the engine is driven: no test is running, and it is fresh where it is the first
+-- the row of a tick while the engine is driven, and what holds of each such row
 abbrev driven_row : Setting → Tick → List Tick → Row
 driven_row s x h = row_of (length (moments_of s h)) (moment s x.effects x.entry (moments_of s h))
 
+each_driven : (P : Row → Type 0) (s : Setting) → ((x : Tick) (h : List Tick) → P (driven_row s x h)) → (h : List Tick) →
+    All P (rows_of (moments_of s h))
+unfolding rows_of moments_of
+each_driven P s each [] = All-nil P
+each_driven P s each (x ∷ h) = All-cons P (driven_row s x h) (rows_of (moments_of s h)) (each x h) (each_driven P s each h)
+
+never_fails : (s : Setting) (x : Tick) (h : List Tick) → NeverFails (driven_row s x h)
+unfolding row_of moment moment_in reads_back
+never_fails s x h = refl
+
+-- the rows of such a run are those of a history that is driven
+pub driven_record : {E : Type 0} (b : BenchEngine E) (r : Run) → All NeverResets r.drive →
+    record_rows b r ≡ rows_of (moments_of r.setting (ticks r.setting (entries_to b r (length r.drive))))
+unfolding record_rows
+driven_record b r all = ap rows_of (records_are_histories b r (length r.drive)
+    ∙ runs_without_reset r.setting (entries_to b r (length r.drive)) (entries_never b r all (length r.drive)))
+
+pub finds_no_start : {E : Type 0} (b : BenchEngine E) (r : Run) → All NeverResets r.drive → All NeverFails (record_rows b r)
+finds_no_start b r all = subst (All NeverFails) (sym (driven_record b r all))
+    (each_driven NeverFails r.setting (never_fails r.setting) (ticks r.setting (entries_to b r (length r.drive))))
+
+-- ---- one drive span ----
+
+-- no test is running at such a tick, and it is fresh where it is the first
 driven-next : (s : Setting) (x : Tick) (h : List Tick) → rows_of (moments_of s (x ∷ h)) ≡ driven_row s x h ∷ rows_of (moments_of s h)
 unfolding rows_of moments_of
 driven-next s x h = refl
@@ -84,18 +93,6 @@ drive_rows s x [] = subst IsDriveSpan (sym (driven-next s x [] ∙ ap (λ rows. 
 drive_rows s x (y ∷ h) = subst IsDriveSpan (sym (driven-next s x (y ∷ h)))
     (drive_span-goes_on (driven_row s x (y ∷ h)) (rows_of (moments_of s (y ∷ h))) (driven-later s x y h) (drive_rows s y h))
 
-untested_rows : (s : Setting) (h : List Tick) → All (λ (row : Row). row.testing ≡ false) (rows_of (moments_of s h))
-untested_rows s [] = unfold moments_of rows_of in All-nil (λ (row : Row). row.testing ≡ false)
-untested_rows s (x ∷ h) = subst (All (λ (row : Row). row.testing ≡ false)) (sym (driven-next s x h))
-    (All-cons (λ (row : Row). row.testing ≡ false) (driven_row s x h) (rows_of (moments_of s h)) (driven-untested s x h) (untested_rows s h))
-
--- the rows of such a run are those of a history that is driven
-pub driven_record : {E : Type 0} (b : BenchEngine E) (r : Run) → All NeverResets r.drive →
-    record_rows b r ≡ rows_of (moments_of r.setting (ticks r.setting (entries_to b r (length r.drive))))
-unfolding record_rows
-driven_record b r all = ap rows_of (records_are_histories b r (length r.drive)
-    ∙ runs_without_reset r.setting (entries_to b r (length r.drive)) (entries_never b r all (length r.drive)))
-
 pub is_one_drive_span : {E : Type 0} (b : BenchEngine E) (r : Run) → All NeverResets r.drive → 1 ≤ length r.drive → IsDriveSpan (record_rows b r)
 is_one_drive_span b r all some = subst IsDriveSpan (sym (driven_record b r all)) (go (length r.drive) some)
   where
@@ -105,4 +102,4 @@ is_one_drive_span b r all some = subst IsDriveSpan (sym (driven_record b r all))
 
 pub tests_never : {E : Type 0} (b : BenchEngine E) (r : Run) → All NeverResets r.drive → All (λ (row : Row). row.testing ≡ false) (record_rows b r)
 tests_never b r all = subst (All (λ (row : Row). row.testing ≡ false)) (sym (driven_record b r all))
-    (untested_rows r.setting (ticks r.setting (entries_to b r (length r.drive))))
+    (each_driven (λ (row : Row). row.testing ≡ false) r.setting (driven-untested r.setting) (ticks r.setting (entries_to b r (length r.drive))))

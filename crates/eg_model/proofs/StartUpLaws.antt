@@ -1,10 +1,10 @@
 -- The start-up test where nothing is out of order, and runs without one.
-use Rattle.std.proofs.Common.{◌≡◌, ◌∙◌, refl, sym, ap, ap₂, subst, ℕ, zero, suc, ◌+◌, ◌-◌, ◌*◌, ◌/◌, ◌%◌, ◌≤◌, ◌<◌, Bool, true, false, List, [], ◌∷◌, All, take, length, arith, inl, inr, ◌⊎◌, Some, None, add-one}
+use Rattle.std.proofs.Common.{◌≡◌, ◌∙◌, refl, sym, ap, ap₂, subst, ℕ, zero, suc, ◌+◌, ◌-◌, ◌*◌, ◌/◌, ◌%◌, ◌≤◌, ◌<◌, true, false, List, [], ◌∷◌, All, take, length, arith, inl, inr, ◌⊎◌, Some, None, add-one}
 use Rattle.std.specs.Prelude.{◌==◌}
-use Rattle.std.proofs.lemmas.Bool.{or_left, or_right, eq-eqb, eqb-true}
+use Rattle.std.proofs.lemmas.Bool.{cases_lt, cases_Bool, or_left, or_right, eq-eqb, eqb-true}
 use Rattle.std.proofs.lemmas.List.Elements.{All-head, All-tail}
-use Rattle.eg_num.specs.Windows.{WeightParts, is_confirmed}
-use Rattle.eg_answer.specs.Times.{TimeParts, AreTimes, feeds_to_confirm, test_ticks_of}
+use Rattle.eg_num.specs.Windows.{WeightParts}
+use Rattle.eg_answer.specs.Times.{AreTimes, feeds_to_confirm, test_ticks_of}
 use Rattle.eg_answer.specs.Periods.{verdict_of}
 use Rattle.eg_answer.specs.declared.marks.AnswerMark.TheVariants.{Absent}
 use Rattle.eg_answer.specs.declared.marks.Verdict.TheVariants.{Wrong}
@@ -12,38 +12,28 @@ use Rattle.eg_values.specs.Calibration.{IsAccepted}
 use Rattle.eg_fault.specs.Effects.{no_effects}
 use Rattle.eg_fault.specs.Faults.{effects}
 use Rattle.eg_model.specs.History.{Setting, Entry, Tick, Drive, Test, drives, Moment}
-use Rattle.eg_model.specs.Answers.{with_answer, answers_in, verdict_at, confirms_at}
+use Rattle.eg_model.specs.Answers.{with_answer, answers_in, verdict_at}
 use Rattle.eg_model.specs.Paths.{is_told_to_open, reads_back, orders_open, latch1, latch2, path1_at, path2_at}
 use Rattle.eg_model.specs.Moments.{moment_in, moments_in, moments_of}
 use Rattle.eg_model.specs.Spans.{span_so_far, span_kind, has_passed, kind_at, before_at, moment_at, next_after, moments, ticks}
 use Rattle.eg_model.specs.StartUp.{IsUndisturbed, TestsPass, RunsWithoutReset}
 use Rattle.eg_model.proofs.TripLemmas.{latch1-cons}
 use Rattle.eg_model.proofs.PeriodLemmas.{quotient, period_closes, period_open}
-use Rattle.eg_model.proofs.Silence.{period_least, TrueRun, runs_on, run_confirms, wrongs, wrongs-cons, verdict_none, verdict_some, opens_step, confirmed_nothing, enough_weight}
-use Rattle.eg_model.proofs.SpanLemmas.{length-moments_in, length-run_moments, span_so_far-next}
+use Rattle.eg_model.proofs.Silence.{period_least, TrueRun, runs_on, run_confirms, wrongs, wrongs-cons, verdict_none, verdict_some, opens_when_confirmed, enough_weight}
+use Rattle.eg_model.proofs.TickLemmas.{fields_in, length-moments_in}
+use Rattle.eg_model.proofs.SpanLemmas.{length-run_moments, span_so_far-next}
 
 -- ---- a tick of a test at which nothing is out of order ----
 
--- what is so of it, of which these came before
-record IsQuiet (times : TimeParts) (m : Moment) (past : List Moment) : Type 0 where
-  pub mark : m.mark ≡ Absent
-  pub orders : length past + 1 ≡ test_ticks_of times → m.orders ≡ true
-  pub verdict : m.verdict ≡ verdict_at times no_effects Absent past
-  pub confirms : m.confirms ≡ confirms_at times m.verdict past
+-- no answer is sent at it, and react orders path 1 open where it is told to
+unmarked : (s : Setting) (x : Tick) (past : List Moment) → (moment_in Test s x.effects x.entry past).mark ≡ Absent
+unfolding drives
+unmarked s x past = (fields_in Test s x.effects x.entry past).mark
 
-quiet : (s : Setting) (e : Entry) (past : List Moment) → IsQuiet s.cal.times (moment_in Test s no_effects e past) past
-unfolding moment_in drives
-quiet s e past = record {
-  mark = refl;
-  orders = λ last. unfold orders_open is_told_to_open no_effects in or_left _ _ (eq-eqb _ _ last);
-  verdict = refl;
-  confirms = refl;
-}
-
-quiet_tick : (s : Setting) (x : Tick) (past : List Moment) → IsUndisturbed x →
-    IsQuiet s.cal.times (moment_in Test s x.effects x.entry past) past
-quiet_tick s x past plain = subst (λ y. IsQuiet s.cal.times (moment_in Test s y x.entry past) past) (sym plain)
-    (quiet s x.entry past)
+ordered : (s : Setting) (x : Tick) (past : List Moment) → IsUndisturbed x → length past + 1 ≡ test_ticks_of s.cal.times →
+    (moment_in Test s x.effects x.entry past).orders ≡ true
+unfolding orders_open is_told_to_open no_effects
+ordered s x past plain last = (fields_in Test s x.effects x.entry past).orders ∙ rw plain (or_left _ _ (eq-eqb _ _ last))
 
 -- ---- the latches after such ticks ----
 
@@ -55,8 +45,9 @@ opens_1 : (s : Setting) (h : List Tick) → AreUndisturbed h → 0 < test_ticks_
     test_ticks_of s.cal.times ≤ length h → latch1 (moments_in Test s h) ≡ true
 unfolding moments_in
 opens_1 s [] plain some long = absurd (omega (arith, some, long))
-opens_1 s (x ∷ h) plain some long = latch1-cons m past ∙ (elim (now_or_before (test_ticks_of s.cal.times) (length h) long) [
-  | inl now ↦ or_left _ _ ((quiet_tick s x past (All-head IsUndisturbed x h plain)).orders (now_is now))
+opens_1 s (x ∷ h) plain some long = latch1-cons m past ∙ (elim (cases_lt (length h) (test_ticks_of s.cal.times)) [
+  | inl now ↦ or_left _ _ (ordered s x past (All-head IsUndisturbed x h plain)
+      (omega (arith, now, long, length-moments_in Test s h)))
   | inr before ↦ or_right _ _ (opens_1 s h (All-tail IsUndisturbed x h plain) some before)
 ])
   where
@@ -66,12 +57,6 @@ opens_1 s (x ∷ h) plain some long = latch1-cons m past ∙ (elim (now_or_befor
     m : Moment
     m = moment_in Test s x.effects x.entry past
 
-    now_or_before : (w n : ℕ) → w ≤ suc n → (n + 1 ≡ w) ⊎ (w ≤ n)
-    now_or_before w n l = grind arith
-
-    now_is : length h + 1 ≡ test_ticks_of s.cal.times → length past + 1 ≡ test_ticks_of s.cal.times
-    now_is e = ap (λ n. n + 1) (length-moments_in Test s h) ∙ e
-
 -- no answer is sent
 no_answers : (s : Setting) (h : List Tick) (n : ℕ) → AreUndisturbed h → answers_in (take n (moments_in Test s h)) ≡ []
 unfolding moments_in answers_in
@@ -79,7 +64,7 @@ no_answers s h zero plain = refl
 no_answers s [] (suc n) plain = refl
 no_answers s (x ∷ h) (suc n) plain =
     ap₂ (λ mark before. with_answer (moment_in Test s x.effects x.entry (moments_in Test s h)).tick mark before)
-    (quiet_tick s x (moments_in Test s h) (All-head IsUndisturbed x h plain)).mark
+    (unmarked s x (moments_in Test s h))
     (no_answers s h n (All-tail IsUndisturbed x h plain)) ∙ (unfold with_answer in refl)
 
 -- so each verdict is wrong
@@ -101,15 +86,17 @@ all_wrong s are (x ∷ h) plain = rw (← add-one, wrongs-cons m past)
     m : Moment
     m = moment_in Test s x.effects x.entry past
 
-    is : IsQuiet s.cal.times m past
-    is = quiet_tick s x past (All-head IsUndisturbed x h plain)
+    verdict : m.verdict ≡ verdict_at s.cal.times x.effects Absent past
+    verdict = (fields_in Test s x.effects x.entry past).verdict
+        ∙ ap (λ mark. verdict_at s.cal.times x.effects mark past) (unmarked s x past)
 
     place : (n : ℕ) → (length h + 1) % s.cal.times.period ≡ n → (length past + 1) % s.cal.times.period ≡ n
     place n e = ap (λ k. (k + 1) % s.cal.times.period) (length-moments_in Test s h) ∙ e
 
     wrong : (length h + 1) % s.cal.times.period ≡ 0 → m.verdict ≡ Some Wrong
-    wrong ends = is.verdict
-        ∙ verdict_some s.cal.times are no_effects Absent past (unfold no_effects in refl) (place 0 ends)
+    wrong ends = verdict
+        ∙ verdict_some s.cal.times are x.effects Absent past
+        (ap (λ g. g.wild) (All-head IsUndisturbed x h plain) ∙ (unfold no_effects in refl)) (place 0 ends)
         ∙ ap (λ these. Some (verdict_of s.cal.times (with_answer (length past) Absent these)))
         (no_answers s h (s.cal.times.period - 1) (All-tail IsUndisturbed x h plain)) ∙ of_none
       where
@@ -128,18 +115,9 @@ all_wrong s are (x ∷ h) plain = rw (← add-one, wrongs-cons m past)
         one_more : (n : ℕ) → n + 1 ≡ suc n
         one_more n = omega arith
     grown (suc n) open_ = inl (
-      is.verdict ∙ verdict_none s.cal.times are no_effects Absent past (omega (arith, place (suc n) open_)),
+      verdict ∙ verdict_none s.cal.times are x.effects Absent past (omega (arith, place (suc n) open_)),
       period_open s.cal.times.period (length h) (period_least s.cal.times are) (omega (arith, open_)),
     )
-
--- where the wrong verdicts are confirmed path 2 was ordered open
-opens_2 : (s : Setting) (h : List Tick) → AreUndisturbed h →
-    is_confirmed s.cal.times.weights (wrongs (moments_in Test s h)) ≡ true → latch2 (moments_in Test s h) ≡ true
-unfolding moments_in
-opens_2 s [] plain c = absurd (confirmed_nothing s.cal.times.weights c)
-opens_2 s (x ∷ h) plain c = opens_step s.cal.times (moment_in Test s x.effects x.entry (moments_in Test s h))
-    (moments_in Test s h) (quiet_tick s x (moments_in Test s h) (All-head IsUndisturbed x h plain)).confirms
-    (opens_2 s h (All-tail IsUndisturbed x h plain)) c
 
 -- ---- the test is passed ----
 
@@ -152,7 +130,7 @@ are_open : (s : Setting) → IsAccepted s.cal → (h : List Tick) → AreUndistu
     length h ≡ test_ticks_of s.cal.times → AreOpen (moments_in Test s h)
 are_open s accepted h plain long = record {
   path1 = opens_1 s h plain some (omega (arith, long));
-  path2 = opens_2 s h plain (run_confirms w n (wrongs (moments_in Test s h)) (omega (arith, accepted.answers.3))
+  path2 = opens_when_confirmed Test s h (run_confirms w n (wrongs (moments_in Test s h)) (omega (arith, accepted.answers.3))
       enough run);
 }
   where
@@ -205,13 +183,11 @@ tests_pass s accepted x h plain = record { passes = λ long. (at_end long).0; ne
         (passes_now s x.entry past (length-moments_in Test s h ∙ long)
         (are_open s accepted h (All-tail IsUndisturbed x h plain) long))
 
-    go : (b : Bool) → (length past == test_ticks_of s.cal.times) ≡ b →
-        (moment_in Test s x.effects x.entry past).found.start ≡ false
-    go true e = (at_end (sym (length-moments_in Test s h) ∙ eqb-true _ _ e)).1
-    go false e = fails_not s x past e
-
     never : (moment_in Test s x.effects x.entry past).found.start ≡ false
-    never = go (length past == test_ticks_of s.cal.times) refl
+    never = elim (cases_Bool (length past == test_ticks_of s.cal.times)) [
+      | inl e ↦ (at_end (sym (length-moments_in Test s h) ∙ eqb-true _ _ e)).1
+      | inr e ↦ fails_not s x past e
+    ]
 
 -- ---- runs without a reset ----
 

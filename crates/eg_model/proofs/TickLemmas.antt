@@ -1,21 +1,27 @@
 -- What is so at each tick of a history, and what a tick is made of.
-use Rattle.std.proofs.Common.{◌≡◌, ℕ, suc, Bool, true, false, ◌||◌, ◌&&◌, List, [], ◌∷◌, ◌++◌, length, refl, sym, ap, ◌∙◌, None, is_some}
-use Rattle.std.proofs.lemmas.Bool.{or_right, or_left, and_from}
+use Rattle.std.proofs.Common.{◌≡◌, ℕ, suc, Bool, true, false, not, ◌||◌, ◌&&◌, List, [], ◌∷◌, ◌++◌, length, refl, sym, ap, ◌∙◌, is_some, subst, rules}
+use Rattle.std.specs.Prelude.{if◌then◌else◌, ◌==◌}
+use Rattle.std.specs.List.{list_any}
+use Rattle.std.proofs.lemmas.Bool.{or_right, or_left, or_parts, and_from}
 use Rattle.eg_num.specs.Windows.{is_first}
+use Rattle.eg_num.specs.declared.watches.Watches.{Watches}
 use Rattle.eg_num.specs.Arithmetic.{estimate}
 use Rattle.eg_sensor.specs.Readings.{used_pedal}
 use Rattle.eg_answer.specs.Formulas.{permitted_torque, estimated_torque, excess_number, disagreeing_pairs}
+use Rattle.eg_answer.specs.declared.marks.AnswerMark.TheVariants.{Absent, Good, Bad}
 use Rattle.eg_answer.specs.declared.modules.TheConstants.{PEDAL, PERMITTED, ACTUAL, EXCESS, PAIRS, REACT, DEBOUNCE}
 use Rattle.eg_record.specs.Excess.{full_excess}
 use Rattle.eg_torque.specs.Excess.{is_excess}
 use Rattle.eg_fault.specs.Effects.{Effects}
-use Rattle.eg_model.specs.History.{Setting, Entry, Tick, drives, Moment}
+use Rattle.eg_model.specs.History.{Setting, Entry, Tick, SpanKind, Drive, drives, Moment, Signals}
 use Rattle.eg_model.specs.Signals.{tripped, is_limited, last_signals, signal, signals_at}
 use Rattle.eg_model.specs.Detection.{feeds_at, fed_bits, finds, pedal_bit, plate_bit, load_bit, speed_bit, torque_bit}
-use Rattle.eg_model.specs.Answers.{is_whole, mark_at, verdict_at, confirms_at}
-use Rattle.eg_model.specs.Paths.{is_told_to_open, orders_open, path2_at, both_conduct}
-use Rattle.eg_model.specs.Moments.{readings_at, limit_at, moment_in, moment, moments_of}
+use Rattle.eg_model.specs.Answers.{is_answer, is_whole, mark_at, verdict_at, confirms_at}
+use Rattle.eg_model.specs.Paths.{is_testing, is_told_to_open, reads_back, orders_open, path1_at, path2_at, both_conduct}
+use Rattle.eg_model.specs.Level1.{world_at}
+use Rattle.eg_model.specs.Moments.{readings_at, limit_at, some_trips, moment_in, moment, moments_in, moments_of}
 use Rattle.eg_model.specs.Rows.{row_of}
+use Rattle.eg_model.specs.Seeing.{Runs}
 
 -- P at each tick
 unfoldable pub Each : (Tick → Type 0) → List Tick → Type 0
@@ -27,133 +33,126 @@ unfolding Each
 Each-map f [] p = tt
 Each-map f (x ∷ h) p = (f x p.0, Each-map f h p.1)
 
--- all modules run, and no word is flipped
-pub record Runs (x : Effects) : Type 0 where
-  pub ran : (i : ℕ) → x.ran i ≡ true
-  pub unflipped : x.flip ≡ None
+pub length-moments_in : (kind : SpanKind) (s : Setting) (h : List Tick) → length (moments_in kind s h) ≡ length h
+unfolding moments_in
+length-moments_in kind s [] = refl
+length-moments_in kind s (x ∷ h) = ap suc (length-moments_in kind s h)
 
 pub length-moments : (s : Setting) (h : List Tick) → length (moments_of s h) ≡ length h
 unfolding moments_of
-length-moments s [] = refl
-length-moments s (x ∷ h) = ap suc (length-moments s h)
+length-moments s h = length-moments_in Drive s h
+
+-- ---- lists ----
+
+pub parts_of : {A : Type 0} {a c : A} {rest more : List A} → a ∷ rest ≡ c ∷ more → (a ≡ c) × (rest ≡ more)
+parts_of f = (cc, cc)
+
+pub nothing : {A : Type 0} {a : A} {rest : List A} → [] ≡ a ∷ rest → ⊥
+nothing f = cc
+
+-- what holds of the first of some and of the rest holds of what these are
+pub along : {A : Type 0} (P : A → List A → Type 0) {a c : A} {rest more : List A} → a ∷ rest ≡ c ∷ more → P a rest → P c more
+along P {a} {c} {rest} {more} e p = subst (λ x. P x more) (parts_of e).0 (subst (P a) (parts_of e).1 p)
+
+-- ---- the watches of the four pairs ----
+
+pub data Pair : Type 0 where
+  Pedal : Pair
+  Plate : Pair
+  Load : Pair
+  Speed : Pair
+
+-- the bit that the debouncer of a pair is fed with, and whether its watch is found
+unfoldable pub bit_of : Pair → Signals → Bool
+bit_of Pedal = pedal_bit
+bit_of Plate = plate_bit
+bit_of Load = load_bit
+bit_of Speed = speed_bit
+
+unfoldable pub found_by : Pair → Watches → Bool
+found_by Pedal f = f.pedal
+found_by Plate f = f.plate
+found_by Load f = f.load
+found_by Speed f = f.speed
 
 -- ---- each field of a moment ----
 
--- no other proof opens the definition
-module _ (s : Setting) (x : Effects) (e : Entry) (past : List Moment) where
-  pub moment-tick : (moment s x e past).tick ≡ length past
-  unfolding moment moment_in drives
-  moment-tick = refl
-
-  pub moment-limit : (moment s x e past).limit ≡ limit_at s.cal e.drive
-  unfolding moment moment_in drives
-  moment-limit = refl
-
-  pub moment-path2 : (moment s x e past).path2 ≡ path2_at x past
-  unfolding moment moment_in drives
-  moment-path2 = refl
-
-  pub moment-on : (moment s x e past).on ≡ both_conduct x past
-  unfolding moment moment_in drives
-  moment-on = refl
-
-  pub moment-pedal_signal : (moment s x e past).signals.pedal
+-- what each is, where the engine is driven or not
+pub record Fields (kind : SpanKind) (driven : Bool) (s : Setting) (x : Effects) (e : Entry) (past : List Moment)
+    (m : Moment) : Type 0 where
+  pub fresh : m.fresh ≡ (length past == 0)
+  pub tick : m.tick ≡ length past
+  pub entry : m.entry ≡ e
+  pub limit : m.limit ≡ limit_at s.cal e.drive
+  pub testing : m.testing ≡ is_testing kind s.cal.times (length past)
+  pub passes : m.passes ≡ (reads_back kind s.cal.times (length past) && not (m.path1 || m.path2))
+  pub path1 : m.path1 ≡ path1_at x past
+  pub path2 : m.path2 ≡ path2_at x past
+  pub on : m.on ≡ (driven && both_conduct x past)
+  pub signals : m.signals ≡ signals_at s.cal.rules x (readings_at s.cal x e) past
+  pub pedal : m.signals.pedal
       ≡ signal x past PEDAL (last_signals past).pedal (used_pedal (readings_at s.cal x e).pedal (is_limited past))
-  unfolding moment moment_in drives signals_at
-  moment-pedal_signal = refl
-
-  pub moment-permitted : (moment s x e past).signals.permitted
-      ≡ signal x past PERMITTED (last_signals past).permitted
-      (permitted_torque s.cal.rules (readings_at s.cal x e) (moment s x e past).signals.pedal)
-  unfolding moment moment_in drives signals_at
-  moment-permitted = refl
-
-  pub moment-actual : (moment s x e past).signals.actual
+  pub permitted : m.signals.permitted ≡ signal x past PERMITTED (last_signals past).permitted
+      (permitted_torque s.cal.rules (readings_at s.cal x e) m.signals.pedal)
+  pub actual : m.signals.actual
       ≡ signal x past ACTUAL (last_signals past).actual (estimated_torque s.cal.rules (readings_at s.cal x e))
-  unfolding moment moment_in drives signals_at
-  moment-actual = refl
-
-  pub moment-excess : (moment s x e past).signals.excess
-      ≡ signal x past EXCESS (last_signals past).excess
-      (excess_number s.cal.rules (moment s x e past).signals.permitted (moment s x e past).signals.actual)
-  unfolding moment moment_in drives signals_at
-  moment-excess = refl
-
-  pub moment-pairs : (moment s x e past).signals.pairs
+  pub excess : m.signals.excess ≡ signal x past EXCESS (last_signals past).excess
+      (excess_number s.cal.rules m.signals.permitted m.signals.actual)
+  pub pairs : m.signals.pairs
       ≡ signal x past PAIRS (last_signals past).pairs (disagreeing_pairs s.cal.rules (readings_at s.cal x e))
-  unfolding moment moment_in drives signals_at
-  moment-pairs = refl
+  pub feeds : m.feeds ≡ (driven && feeds_at x past)
+  pub mirror : m.found.mirror ≡ is_some x.flip
+  pub pair : (p : Pair) → found_by p m.found ≡ finds s.cal.rules.pair (bit_of p) m.feeds m.signals past
+  pub torque : m.found.torque ≡ finds s.cal.rules.torque torque_bit m.feeds m.signals past
+  pub answers : m.found.answers ≡ (driven && m.confirms)
+  pub start : m.found.start ≡ (reads_back kind s.cal.times (length past) && (m.path1 || m.path2))
+  pub trip : m.trip ≡ some_trips m.found.mirror m.found.plate m.found.load m.found.speed m.found.torque
+  pub orders : m.orders ≡ orders_open kind s.cal.times x m.trip past
+  pub whole : m.whole ≡ is_whole x
+  pub mark : m.mark ≡ (if driven then mark_at s.cal.times x m.trip past else Absent)
+  pub verdict : m.verdict ≡ verdict_at s.cal.times x m.mark past
+  pub confirms : m.confirms ≡ confirms_at s.cal.times m.verdict past
+  pub opens : m.opens ≡ x.opens
+  pub world : m.world ≡ world_at s.image x e.slices (readings_at s.cal x e) m.signals past
 
-  pub moment-feeds_at : (moment s x e past).feeds ≡ feeds_at x past
-  unfolding moment moment_in drives
-  moment-feeds_at = refl
+-- no other proof opens the definition
+pair_in : (kind : SpanKind) (s : Setting) (x : Effects) (e : Entry) (past : List Moment) (p : Pair) →
+    found_by p (moment_in kind s x e past).found ≡ finds s.cal.rules.pair (bit_of p)
+    (moment_in kind s x e past).feeds (moment_in kind s x e past).signals past
+unfolding moment_in found_by bit_of
+pair_in kind s x e past Pedal = refl
+pair_in kind s x e past Plate = refl
+pair_in kind s x e past Load = refl
+pair_in kind s x e past Speed = refl
 
-  pub moment-mirror : (moment s x e past).found.mirror ≡ is_some x.flip
-  unfolding moment moment_in drives
-  moment-mirror = refl
+pub fields_in : (kind : SpanKind) (s : Setting) (x : Effects) (e : Entry) (past : List Moment) →
+    Fields kind (drives kind) s x e past (moment_in kind s x e past)
+unfolding moment_in signals_at
+fields_in kind s x e past = search (rules, pair_in)
 
-  pub moment-pedal : (moment s x e past).found.pedal
-      ≡ finds s.cal.rules.pair pedal_bit (moment s x e past).feeds (moment s x e past).signals past
-  unfolding moment moment_in drives
-  moment-pedal = refl
+-- where it is driven
+pub fields : (s : Setting) (x : Effects) (e : Entry) (past : List Moment) →
+    Fields Drive true s x e past (moment s x e past)
+unfolding moment drives
+fields s x e past = fields_in Drive s x e past
 
-  pub moment-plate : (moment s x e past).found.plate
-      ≡ finds s.cal.rules.pair plate_bit (moment s x e past).feeds (moment s x e past).signals past
-  unfolding moment moment_in drives
-  moment-plate = refl
+-- no trip comes of watches that aren't found
+pub no_trip : {kind : SpanKind} {driven : Bool} {s : Setting} {x : Effects} {e : Entry} {past : List Moment} {m : Moment} →
+    Fields kind driven s x e past m → m.found.mirror ≡ false → ((p : Pair) → found_by p m.found ≡ false) →
+    m.found.torque ≡ false → m.trip ≡ false
+unfolding found_by
+no_trip f mirror none torque = f.trip ∙ rw (mirror, none Plate, none Load, none Speed, torque) refl
 
-  pub moment-load : (moment s x e past).found.load
-      ≡ finds s.cal.rules.pair load_bit (moment s x e past).feeds (moment s x e past).signals past
-  unfolding moment moment_in drives
-  moment-load = refl
+-- an answer was sent where the mark says so
+pub answered : (sent good : Bool) → is_answer (if sent then (if good then Good else Bad) else Absent) ≡ sent
+unfolding is_answer
+answered true true = refl
+answered true false = refl
+answered false good = refl
 
-  pub moment-speed : (moment s x e past).found.speed
-      ≡ finds s.cal.rules.pair speed_bit (moment s x e past).feeds (moment s x e past).signals past
-  unfolding moment moment_in drives
-  moment-speed = refl
-
-  pub moment-torque_found : (moment s x e past).found.torque
-      ≡ finds s.cal.rules.torque torque_bit (moment s x e past).feeds (moment s x e past).signals past
-  unfolding moment moment_in drives
-  moment-torque_found = refl
-
-  pub moment-answers : (moment s x e past).found.answers ≡ (moment s x e past).confirms
-  unfolding moment moment_in drives
-  moment-answers = refl
-
-  pub moment-trip : (moment s x e past).trip
-      ≡ ((((((moment s x e past).found.mirror || (moment s x e past).found.plate) ||
-      (moment s x e past).found.load) || (moment s x e past).found.speed) ||
-      (moment s x e past).found.torque))
-  unfolding moment moment_in drives
-  moment-trip = refl
-
+module _ (s : Setting) (x : Effects) (e : Entry) (past : List Moment) where
   pub moment-orders : (moment s x e past).orders ≡ (x.ran REACT && tripped ((moment s x e past) ∷ past))
-  unfolding moment moment_in drives is_told_to_open orders_open tripped
-  moment-orders = refl
-
-  pub moment-whole : (moment s x e past).whole ≡ is_whole x
-  unfolding moment moment_in drives
-  moment-whole = refl
-
-  pub moment-mark : (moment s x e past).mark ≡ mark_at s.cal.times x (moment s x e past).trip past
-  unfolding moment moment_in drives
-  moment-mark = refl
-
-  pub moment-verdict : (moment s x e past).verdict ≡ verdict_at s.cal.times x (moment s x e past).mark past
-  unfolding moment moment_in drives
-  moment-verdict = refl
-
-  pub moment-confirms : (moment s x e past).confirms
-      ≡ confirms_at s.cal.times (moment s x e past).verdict past
-  unfolding moment moment_in drives
-  moment-confirms = refl
-
-  pub moment-opens : (moment s x e past).opens ≡ x.opens
-  unfolding moment moment_in drives
-  moment-opens = refl
-
-  -- ---- what follows ----
+  moment-orders = (fields s x e past).orders ∙ (unfold orders_open is_told_to_open tripped in refl)
 
   pub moment-exceeds :
       is_excess (moment s x e past).entry.shown.torque (moment s x e past).limit s.cal.rules.threshold
@@ -167,33 +166,34 @@ module _ (s : Setting) (x : Effects) (e : Entry) (past : List Moment) where
   moment-full_excess tick = refl
 
   pub trip_from_torque : (moment s x e past).found.torque ≡ true → (moment s x e past).trip ≡ true
-  trip_from_torque h = moment-trip ∙ or_right _ _ h
+  trip_from_torque h = (fields s x e past).trip ∙ or_right _ _ h
 
   pub trip_from_mirror : (moment s x e past).found.mirror ≡ true → (moment s x e past).trip ≡ true
-  trip_from_mirror h = moment-trip ∙ or_left _ _ (or_left _ _ (or_left _ _ (or_left _ _ h)))
+  trip_from_mirror h = (fields s x e past).trip ∙ or_left _ _ (or_left _ _ (or_left _ _ (or_left _ _ h)))
 
   pub moment-torque : (moment s x e past).feeds ≡ true →
       is_first s.cal.rules.torque (torque_bit (moment s x e past).signals ∷ fed_bits torque_bit past)
       ≡ true → (moment s x e past).found.torque ≡ true
-  moment-torque feeds first = moment-torque_found ∙ (unfold finds in and_from _ _ feeds first)
+  moment-torque feeds first = (fields s x e past).torque ∙ (unfold finds in and_from _ _ feeds first)
 
   pub moment-feeds : Runs x → tripped past ≡ false → (moment s x e past).feeds ≡ true
-  moment-feeds r h = moment-feeds_at ∙ (unfold feeds_at in rw (r.ran DEBOUNCE, h, r.unflipped) refl)
+  moment-feeds r h = (fields s x e past).feeds ∙ (unfold feeds_at in rw (r.ran DEBOUNCE, h, r.unflipped) refl)
 
 pub tripped-cons : (m : Moment) (past : List Moment) → tripped (m ∷ past) ≡ (m.trip || tripped past)
 unfolding tripped
 tripped-cons m past = refl
 
 pub untripped_before : (m : Moment) (past : List Moment) → tripped (m ∷ past) ≡ false → tripped past ≡ false
-untripped_before m past u = go m.trip (tripped past) (sym (tripped-cons m past) ∙ u)
-  where
-    go : (a b : Bool) → (a || b) ≡ false → b ≡ false
-    go true b e = absurd (let e' : true ≡ false = e in cc)
-    go false b e = e
+untripped_before m past u = (or_parts _ _ (sym (tripped-cons m past) ∙ u)).1
 
--- a trip stays
+-- what came at some tick has come by each later one, as a trip
+pub stays : (f : Moment → Bool) (s : Setting) (more h : List Tick) → list_any f (moments_of s h) ≡ true →
+    list_any f (moments_of s (more ++ h)) ≡ true
+unfolding moments_of
+stays f s [] h u = u
+stays f s (x ∷ more) h u = or_right _ _ (stays f s more h u)
+
 pub tripped_on : (s : Setting) (more h : List Tick) → tripped (moments_of s h) ≡ true →
     tripped (moments_of s (more ++ h)) ≡ true
-unfolding moments_of
-tripped_on s [] h u = u
-tripped_on s (x ∷ more) h u = tripped-cons _ _ ∙ or_right _ _ (tripped_on s more h u)
+unfolding tripped
+tripped_on s more h u = stays (λ m. m.trip) s more h u

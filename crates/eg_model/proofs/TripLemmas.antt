@@ -1,7 +1,7 @@
 -- A trip comes by the tick at which the torque's bits are confirmed, and then the stages go off.
-use Rattle.std.proofs.Common.{◌≡◌, Bool, true, false, ◌||◌, List, [], ◌∷◌, ◌++◌, map, refl, ap, ◌∙◌}
-use Rattle.std.proofs.lemmas.Bool.{and_from, or_left, or_right, and_left}
-use Rattle.eg_num.specs.Windows.{WeightParts, is_confirmed, is_first}
+use Rattle.std.proofs.Common.{inl, inr, ◌≡◌, Bool, true, false, ◌||◌, List, [], ◌∷◌, ◌++◌, map, refl, sym, ap, ◌∙◌}
+use Rattle.std.proofs.lemmas.Bool.{false≢true, true≢false, cases_Bool, and_from, or_left, or_right, and_left}
+use Rattle.eg_num.specs.Windows.{WeightParts, is_confirmed}
 use Rattle.eg_num.proofs.WindowLemmas.{Below, below_none, below_more, is_confirmed-Below}
 use Rattle.eg_num.proofs.FirstIndexLemmas.{is_first_from}
 use Rattle.eg_torque.specs.Excess.{is_excess}
@@ -15,8 +15,9 @@ use Rattle.eg_model.specs.Paths.{latch1, path1_at, both_conduct}
 use Rattle.eg_model.specs.Moments.{moment, moments_of}
 use Rattle.eg_model.specs.Rows.{row_of, rows_of}
 use Rattle.eg_model.specs.Premises.{true_excesses, is_on_after}
+use Rattle.eg_model.specs.Seeing.{Runs}
 use Rattle.eg_record.specs.Excess.{true_excess}
-use Rattle.eg_model.proofs.TickLemmas.{Each, Runs, tripped-cons, untripped_before, moment-on, moment-orders, moment-feeds, moment-torque, trip_from_torque}
+use Rattle.eg_model.proofs.TickLemmas.{stays, Each, tripped-cons, untripped_before, moment-orders, moment-feeds, moment-torque, trip_from_torque, fields}
 
 pub fed_bits-cons : (b : Signals → Bool) (m : Moment) (past : List Moment) → m.feeds ≡ true →
     fed_bits b (m ∷ past) ≡ b m.signals ∷ fed_bits b past
@@ -39,45 +40,43 @@ fed_untripped s b (x ∷ h) r u =
     fed_bits-cons b m past (moment-feeds s x.effects x.entry past r.0 u')
     ∙ ap (λ bits. b m.signals ∷ bits) (fed_untripped s b h r.1 u')
 
--- the same at one tick more
-trip_step : (s : Setting) (x : Tick) → Runs x.effects → (past : List Moment) →
-    (is_confirmed s.cal.rules.torque (fed_bits torque_bit past) ≡ true → tripped past ≡ true) →
-    is_confirmed s.cal.rules.torque (fed_bits torque_bit (moment s x.effects x.entry past ∷ past)) ≡ true →
-    tripped (moment s x.effects x.entry past ∷ past) ≡ true
-trip_step s x r past ih c = go (tripped past) refl
-  where
-    m : Moment
-    m = moment s x.effects x.entry past
-
-    go : (b : Bool) → tripped past ≡ b → tripped (m ∷ past) ≡ true
-    go true u = tripped-cons m past ∙ or_right _ _ u
-    go false u = tripped-cons m past
-        ∙ or_left _ _ (trip_from_torque s x.effects x.entry past
-        (moment-torque s x.effects x.entry past feeds first))
-      where
-        feeds : m.feeds ≡ true
-        feeds = moment-feeds s x.effects x.entry past r u
-
-        before : (b : Bool) → is_confirmed s.cal.rules.torque (fed_bits torque_bit past) ≡ b →
-            is_confirmed s.cal.rules.torque (fed_bits torque_bit past) ≡ false
-        before false k = k
-        before true k = absurd (let k' : tripped past ≡ true = ih k in cc)
-
-        first : is_first s.cal.rules.torque (torque_bit m.signals ∷ fed_bits torque_bit past) ≡ true
-        first = is_first_from s.cal.rules.torque (torque_bit m.signals) (fed_bits torque_bit past)
-            (rw (← fed_bits-cons torque_bit m past feeds) c) (before _ refl)
-
 pub confirmed_none : (w : WeightParts) (b : Signals → Bool) → is_confirmed w (fed_bits b []) ≡ true → ⊥
 unfolding fed_bits is_confirmed
-confirmed_none w b c = let c' : false ≡ true = c in cc
+confirmed_none w b c = false≢true c
 
--- where the list of torque bits is confirmed a trip has come
-pub trip_from_confirmed : (s : Setting) → (h : List Tick) → RunsAll h →
+pub fed_bits-skip : (b : Signals → Bool) (m : Moment) (past : List Moment) → m.feeds ≡ false →
+    fed_bits b (m ∷ past) ≡ fed_bits b past
+unfolding fed_bits
+fed_bits-skip b m past h = rw h refl
+
+-- where the fed torque bits are confirmed a trip has come, whichever ticks fed them
+pub trip_from_fed : (s : Setting) (h : List Tick) →
     is_confirmed s.cal.rules.torque (fed_bits torque_bit (moments_of s h)) ≡ true →
     tripped (moments_of s h) ≡ true
-unfolding moments_of Each
-trip_from_confirmed s [] r c = absurd (confirmed_none s.cal.rules.torque torque_bit c)
-trip_from_confirmed s (x ∷ h) r c = trip_step s x r.0 (moments_of s h) (trip_from_confirmed s h r.1) c
+unfolding moments_of
+trip_from_fed s [] c = absurd (confirmed_none s.cal.rules.torque torque_bit c)
+trip_from_fed s (x ∷ h) c = tripped-cons _ _ ∙ go now.feeds refl (confirmed past) refl (trip_from_fed s h)
+  where
+    past : List Moment
+    past = moments_of s h
+
+    now : Moment
+    now = moment s x.effects x.entry past
+
+    confirmed : List Moment → Bool
+    confirmed ms = is_confirmed s.cal.rules.torque (fed_bits torque_bit ms)
+
+    go : (feeds : Bool) → now.feeds ≡ feeds → (before : Bool) → confirmed past ≡ before →
+        (confirmed past ≡ true → tripped past ≡ true) → (now.trip || tripped past) ≡ true
+    go feeds e true before ih = or_right _ _ (ih before)
+    go true e false before ih =
+        let first = is_first_from s.cal.rules.torque (torque_bit now.signals) (fed_bits torque_bit past)
+        (rw (← fed_bits-cons torque_bit now past e) c) before in
+        or_left _ _ (trip_from_torque s x.effects x.entry past
+        (moment-torque s x.effects x.entry past e first))
+    go false e false before ih =
+        absurd (true≢false (sym c
+        ∙ ap (is_confirmed s.cal.rules.torque) (fed_bits-skip torque_bit now past e) ∙ before))
 
 -- the true excess of a tick
 abbrev pub exceeds : Setting → Moment → Bool
@@ -102,13 +101,11 @@ seen_below s (x ∷ h) sees u =
 -- by the tick at which true excess is confirmed a trip has come
 pub trip_by_excess : (s : Setting) → (h : List Tick) → RunsAll h → Sees s h →
     is_confirmed s.cal.rules.torque (true_excesses s h) ≡ true → tripped (moments_of s h) ≡ true
-trip_by_excess s h r sees c = go (tripped (moments_of s h)) refl
-  where
-    go : (b : Bool) → tripped (moments_of s h) ≡ b → tripped (moments_of s h) ≡ true
-    go true u = u
-    go false u = trip_from_confirmed s h r
-        (rw (fed_untripped s torque_bit h r u)
-        (is_confirmed-Below s.cal.rules.torque (seen_below s h sees u) c))
+trip_by_excess s h r sees c = elim (cases_Bool (tripped (moments_of s h))) [
+  | inl u ↦ u
+  | inr u ↦ trip_from_fed s h
+      (rw (fed_untripped s torque_bit h r u) (is_confirmed-Below s.cal.rules.torque (seen_below s h sees u) c))
+]
 
 -- ---- the latch of path 1 ----
 
@@ -130,22 +127,20 @@ latch1_from_trip s x h r u =
     ∙ or_left _ _ (moment-orders s x.effects x.entry (moments_of s h) ∙ and_from _ _ r u)
 
 -- and it stays open
-pub latch1_on : (s : Setting) (more h : List Tick) → latch1 (moments_of s h) ≡ true →
-    latch1 (moments_of s (more ++ h)) ≡ true
-unfolding moments_of
-latch1_on s [] h u = u
-latch1_on s (x ∷ more) h u = latch1-cons _ _ ∙ or_right _ _ (latch1_on s more h u)
+pub latch1_on : (s : Setting) (more h : List Tick) → latch1 (moments_of s h) ≡ true → latch1 (moments_of s (more ++ h)) ≡ true
+unfolding latch1
+latch1_on s more h u = stays (λ m. m.orders) s more h u
 
 -- where it is open, and no fault makes it conduct, the stages are off
 pub off_by_latch1 : (s : Setting) (x : Effects) (e : Entry) (past : List Moment) → x.conducts PATH_1 true ≡ false →
     latch1 past ≡ true → (moment s x e past).on ≡ false
 unfolding both_conduct path1_at
 off_by_latch1 s x e past opens u =
-    moment-on s x e past ∙ and_left _ _ (ap (x.conducts PATH_1) u ∙ opens)
+    (fields s x e past).on ∙ and_left _ _ (ap (x.conducts PATH_1) u ∙ opens)
 
 no_trip_at_first : (s : Setting) → tripped (moments_of s []) ≡ true → ⊥
 unfolding moments_of tripped
-no_trip_at_first s u = let u' : false ≡ true = u in cc
+no_trip_at_first s u = false≢true u
 
 -- a trip at some tick of h at whose last tick react ran: off at each later tick
 pub off_after_trip : (s : Setting) (h more : List Tick) → ReactsAll h → tripped (moments_of s h) ≡ true →

@@ -11,6 +11,7 @@ pub mod Bench
 pub mod Rows
 pub mod Examples
 pub mod Premises
+pub mod Seeing
 pub mod Reaction
 pub mod SharpCut
 pub mod Records
