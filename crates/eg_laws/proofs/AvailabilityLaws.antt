@@ -8,8 +8,8 @@ use Rattle.eg_fault.specs.Effects.{Effects, no_effects}
 use Rattle.eg_fault.specs.declared.paths.TheConstants.{PATH_1, PATH_2}
 use Rattle.eg_record.specs.Excess.{full_excess}
 use Rattle.eg_model.specs.History.{Setting, Entry, Tick, Moment, Signals}
-use Rattle.eg_model.specs.Signals.{tripped, is_limited}
-use Rattle.eg_model.specs.Detection.{fed_bits, finds, pedal_bit, plate_bit, load_bit, speed_bit, torque_bit}
+use Rattle.eg_model.specs.Signals.{tripped}
+use Rattle.eg_model.specs.Detection.{fed_bits, torque_bit}
 use Rattle.eg_model.specs.Paths.{latch1, latch2, path1_at, path2_at, both_conduct}
 use Rattle.eg_model.specs.Moments.{moment, moments_of}
 use Rattle.eg_model.specs.Rows.{row_of}
@@ -17,12 +17,13 @@ use Rattle.eg_model.specs.Premises.{IsProper, AreProper, Follows, is_on_after, f
 use Rattle.eg_model.specs.Lapses.{IsLapse}
 use Rattle.eg_model.specs.Engines.{IsOneLoad}
 use Rattle.eg_laws.specs.Availability.{IsSpacedLapse, KeepsPath2, TripsAloneCut, NoTripComes}
-use Rattle.eg_model.proofs.TickLemmas.{moment-path2, moment-on, moment-trip, moment-mirror, moment-pedal, moment-plate, moment-load, moment-speed, moment-torque_found, moment-feeds, tripped-cons}
-use Rattle.eg_model.proofs.PlainTick.{plain, plain_runs, torque_bit-is, pedal_bit-is, plate_bit-is, load_bit-is, speed_bit-is}
-use Rattle.eg_model.proofs.SharpCutLaw.{AllGood, none-cons, unfound_now, unlimited-cons, latch1_shut, full_excesses-cons}
-use Rattle.eg_model.proofs.LapseRuns.{AllOrNone, AllOrNoneEach, lapse_all_or_none, trip_opens, fed_bits-skip}
+use Rattle.eg_model.proofs.TickLemmas.{Pedal, bit_of, found_by, fields, tripped-cons}
+use Rattle.eg_model.proofs.PlainTick.{plain, torque_bit-is}
+use Rattle.eg_model.proofs.SharpCutLaw.{AllGood, Untouched, untouched_at_first, still_untouched, feeds-is, none-cons, unfound_now, unlimited-cons, latch1_shut, full_excesses-cons}
+use Rattle.eg_model.proofs.TripLemmas.{fed_bits-skip}
+use Rattle.eg_model.proofs.LapseRuns.{AllOrNone, AllOrNoneEach, lapse_all_or_none, trip_opens}
 use Rattle.eg_model.proofs.ClassLemmas.{of_history}
-use Rattle.eg_laws.proofs.MissTicks.{missed, as_tick, to_tick, lapse_tick, lapse_conducts, missed-feeds, missed-pedal, missed-trip}
+use Rattle.eg_laws.proofs.MissTicks.{missed, as_tick, to_tick, lapse_tick, lapse_conducts, missed-feeds, missed-pair, missed-trip}
 use Rattle.eg_laws.proofs.MissVerdicts.{recovering}
 
 -- ---- a trip alone cuts ----
@@ -36,7 +37,7 @@ runs_or_none s lapse start h follows = of_history AllOrNone s.fault start h foll
 pub path_2_conducts : (s : Setting) → IsAccepted s.cal → (start : ℕ) (h : List Tick) (x : Tick) → IsSpacedLapse s start (start + length h) →
     Follows s.fault start (x ∷ h) → tripped (moments_of s h) ≡ false → (moment s x.effects x.entry (moments_of s h)).path2 ≡ true
 unfolding Follows
-path_2_conducts s accepted start h x lapse follows untripped = moment-path2 s x.effects x.entry (moments_of s h) ∙ shut
+path_2_conducts s accepted start h x lapse follows untripped = (fields s x.effects x.entry (moments_of s h)).path2 ∙ shut
   where
     shut : path2_at x.effects (moments_of s h) ≡ true
     shut = unfold path2_at in ap (x.effects.conducts PATH_2) (keeps_path_2 s accepted start h lapse follows.1 untripped)
@@ -54,7 +55,7 @@ trips_alone_cut s accepted start h x lapse follows = go (tripped past) refl
         ∙ lapse_conducts s.fault lapse.lapse (start + length h) path is_open
 
     on_is : (moment s x.effects x.entry past).on ≡ (not (latch1 past) && not (latch2 past))
-    on_is = moment-on s x.effects x.entry past ∙ both
+    on_is = (fields s x.effects x.entry past).on ∙ both
       where
         both : both_conduct x.effects past ≡ (not (latch1 past) && not (latch2 past))
         both = unfold both_conduct path1_at path2_at in
@@ -68,25 +69,12 @@ trips_alone_cut s accepted start h x lapse follows = go (tripped past) refl
 
 -- nothing is found, and each bit that was fed is good
 record Spared (s : Setting) (h : List Tick) : Type 0 where
-  pub untripped : tripped (moments_of s h) ≡ false
-  pub unlimited : is_limited (moments_of s h) ≡ false
-  pub pedal : AllGood (fed_bits pedal_bit (moments_of s h))
-  pub plate : AllGood (fed_bits plate_bit (moments_of s h))
-  pub load : AllGood (fed_bits load_bit (moments_of s h))
-  pub speed : AllGood (fed_bits speed_bit (moments_of s h))
+  pub untouched : Untouched (moments_of s h)
   pub torque : AllGood (fed_bits torque_bit (moments_of s h))
 
 spared_at_first : (s : Setting) → Spared s []
-unfolding moments_of fed_bits AllGood tripped is_limited
-spared_at_first s = record {
-  untripped = refl;
-  unlimited = refl;
-  pedal = tt;
-  plate = tt;
-  load = tt;
-  speed = tt;
-  torque = tt;
-}
+unfolding moments_of fed_bits AllGood
+spared_at_first s = record { untouched = untouched_at_first; torque = tt }
 
 -- there is none at the tick x after h
 abbrev NoExcess : Setting → Tick → List Tick → Type 0
@@ -102,65 +90,29 @@ module _ (s : Setting) (accepted : IsAccepted s.cal) (e : Entry) (h : List Tick)
   abbrev now : Moment
   now = moment s no_effects e past
 
-  feeds : now.feeds ≡ true
-  feeds = moment-feeds s no_effects e past plain_runs spared.untripped
-
-  pedal_good : pedal_bit now.signals ≡ false
-  pedal_good = pedal_bit-is s e past proper loads spared.untripped spared.unlimited
-
-  plate_good : plate_bit now.signals ≡ false
-  plate_good = plate_bit-is s e past proper loads spared.untripped spared.unlimited
-
-  load_good : load_bit now.signals ≡ false
-  load_good = load_bit-is s e past proper loads spared.untripped spared.unlimited
-
-  speed_good : speed_bit now.signals ≡ false
-  speed_good = speed_bit-is s e past proper loads spared.untripped spared.unlimited
-
   torque_good : torque_bit now.signals ≡ false
-  torque_good = torque_bit-is s e past proper loads spared.untripped spared.unlimited ∙ none
+  torque_good = torque_bit-is s e past proper loads spared.untouched.untripped spared.untouched.unlimited ∙ none
 
-  pair_unfound : (bit : Signals → Bool) → bit now.signals ≡ false → AllGood (fed_bits bit past) →
-      finds s.cal.rules.pair bit now.feeds now.signals past ≡ false
-  pair_unfound bit good before = unfound_now s.cal.rules.pair bit now.feeds now.signals past
-      (let l = accepted.pair.3 in omega arith) good before
-
-  no_trip : now.trip ≡ false
-  no_trip = moment-trip s no_effects e past
-      ∙ or_from _ _ (or_from _ _ (or_from _ _ (or_from _ _ unflipped_now
-      (moment-plate s no_effects e past ∙ pair_unfound plate_bit plate_good spared.plate))
-      (moment-load s no_effects e past ∙ pair_unfound load_bit load_good spared.load))
-      (moment-speed s no_effects e past ∙ pair_unfound speed_bit speed_good spared.speed))
-      (moment-torque_found s no_effects e past
-      ∙ unfound_now s.cal.rules.torque torque_bit now.feeds now.signals past (let l = accepted.torque.3 in omega arith)
-      torque_good spared.torque)
-    where
-      unflipped_now : now.found.mirror ≡ false
-      unflipped_now = moment-mirror s no_effects e past ∙ (unfold no_effects in refl)
+  torque_unfound : now.found.torque ≡ false
+  torque_unfound = (fields s no_effects e past).torque ∙ unfound_now s.cal.rules.torque torque_bit now.feeds now.signals past
+      (let l = accepted.torque.3 in omega arith) torque_good spared.torque
 
   spared_plain : Spared s (plain e ∷ h)
   unfolding moments_of
   spared_plain = record {
-    untripped = tripped-cons now past ∙ or_from _ _ no_trip spared.untripped;
-    unlimited = unlimited-cons now past
-        (moment-pedal s no_effects e past ∙ pair_unfound pedal_bit pedal_good spared.pedal) spared.unlimited;
-    pedal = none-cons pedal_bit now past feeds pedal_good spared.pedal;
-    plate = none-cons plate_bit now past feeds plate_good spared.plate;
-    load = none-cons load_bit now past feeds load_good spared.load;
-    speed = none-cons speed_bit now past feeds speed_good spared.speed;
-    torque = none-cons torque_bit now past feeds torque_good spared.torque;
+    untouched = still_untouched s accepted e past proper loads spared.untouched torque_unfound;
+    torque = none-cons torque_bit now past (feeds-is s accepted e past proper loads spared.untouched) torque_good spared.torque;
   }
 
 -- where level 2 misses a tick it is fed nothing
 spared_missed : (s : Setting) (e : Entry) (h : List Tick) → Spared s h → Spared s (record { effects = missed; entry = e } ∷ h)
 unfolding moments_of
 spared_missed s e h spared = record {
-  untripped = tripped-cons m past ∙ or_from _ _ (missed-trip s e past) spared.untripped;
-  unlimited = unlimited-cons m past (missed-pedal s e past) spared.unlimited;
-  pedal = unfed pedal_bit spared.pedal;
-  plate = unfed plate_bit spared.plate;
-  load = unfed load_bit spared.load;
-  speed = unfed speed_bit spared.speed;
+  untouched = record {
+    untripped = tripped-cons m past ∙ or_from _ _ (missed-trip s e past) spared.untouched.untripped;
+    unlimited = unfold found_by in unlimited-cons m past (missed-pair s e past Pedal) spared.untouched.unlimited;
+    pairs = λ p. unfed (bit_of p) (spared.untouched.pairs p);
+  };
   torque = unfed torque_bit spared.torque;
 }
   where
@@ -194,4 +146,4 @@ spares s accepted lapse start (x ∷ h) follows proper loads none =
     ]
 
 pub no_trip_comes : NoTripComes
-no_trip_comes s accepted lapse start h follows proper loads none = (spares s accepted lapse start h follows proper loads none).untripped
+no_trip_comes s accepted lapse start h follows proper loads none = (spares s accepted lapse start h follows proper loads none).untouched.untripped

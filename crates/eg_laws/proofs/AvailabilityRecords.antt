@@ -1,8 +1,8 @@
 -- Misses that are far apart never cut: by the rows of a history, and of the record of a run on the bench.
-use Rattle.std.proofs.Common.{◌≡◌, ℕ, suc, ◌+◌, ◌≤◌, length, length-append, arith, Bool, true, false, not, ◌||◌, List, [], ◌∷◌, ◌++◌, All, map, refl, sym, ap, ap₂, ◌∙◌, subst}
+use Rattle.std.proofs.Common.{append_assoc, ◌≡◌, ℕ, suc, ◌+◌, ◌≤◌, length, length-append, arith, Bool, true, false, not, ◌||◌, List, [], ◌∷◌, ◌++◌, All, map, refl, sym, ap, ap₂, ◌∙◌, subst}
 use Rattle.std.specs.List.{list_any}
 use Rattle.std.proofs.lemmas.List.Elements.{All-head, All-tail}
-use Rattle.std.proofs.lemmas.Bool.{or_from, or_parts}
+use Rattle.std.proofs.lemmas.Bool.{true≢false, false_from_ne_true, or_from, or_parts}
 use Rattle.eg_values.specs.Calibration.{IsAccepted}
 use Rattle.eg_plant.specs.PlantParts.{PlantParts}
 use Rattle.eg_record.specs.declared.row.Row.{Row}
@@ -15,7 +15,7 @@ use Rattle.eg_model.specs.Rows.{row_of}
 use Rattle.eg_model.specs.Premises.{AreProper, Follows, full_excesses}
 use Rattle.eg_model.specs.Engines.{BenchEngine, KeepsBenchLaws, IsOneLoad, ShowsOneLoad}
 use Rattle.eg_laws.specs.Availability.{IsSpacedLapse, trips, has_tripped, StaysAvailable, AvailableIfSpaced, RecordsStayAvailable}
-use Rattle.eg_model.proofs.TickLemmas.{length-moments, moment-trip, moment-answers, tripped-cons, untripped_before}
+use Rattle.eg_model.proofs.TickLemmas.{length-moments, tripped-cons, tripped_on, fields}
 use Rattle.eg_model.proofs.Silence.{latch2-cons}
 use Rattle.eg_model.proofs.SpanRows.{follows-end, rows_after, length-rows_after, SpanRows, RowAfter, row_on, all_rows, LastTick, last_tick, bits_after, full_unnumbered}
 use Rattle.eg_model.proofs.RecordSpans.{SpanTo}
@@ -33,18 +33,11 @@ tripped_rows s start (x ∷ h) = ap₂ (λ a b. a || b) now (tripped_rows s star
     ∙ sym (tripped-cons (moment s x.effects x.entry (moments_of s h)) (moments_of s h))
   where
     now : trips (RowAfter s start x h).found ≡ (moment s x.effects x.entry (moments_of s h)).trip
-    now = unfold trips row_of in sym (moment-trip s x.effects x.entry (moments_of s h))
+    now = unfold trips row_of in sym (fields s x.effects x.entry (moments_of s h)).trip
 
 rows-cons : (s : Setting) (start : ℕ) (x : Tick) (h : List Tick) → SpanRows s start (x ∷ h) ≡ RowAfter s start x h ∷ SpanRows s start h
 unfolding rows_after moments_of
 rows-cons s start x h = refl
-
--- none had come by an end of a history, where none has come
-untripped_end : (s : Setting) (more h : List Tick) → tripped (moments_of s (more ++ h)) ≡ false → tripped (moments_of s h) ≡ false
-unfolding moments_of
-untripped_end s [] h none = none
-untripped_end s (x ∷ more) h none = untripped_end s more h
-    (untripped_before (moment s x.effects x.entry (moments_of s (more ++ h))) (moments_of s (more ++ h)) none)
 
 none_set : (bit : Row → Bool) (rows : List Row) → All (λ row. bit row ≡ false) rows → list_any (λ b. b) (map bit rows) ≡ false
 none_set bit [] all = refl
@@ -96,7 +89,7 @@ module _ (s : Setting) (start : ℕ) (h : List Tick) (accepted : IsAccepted s.ca
       closed = keeps_path_2 s accepted start (at.tick ∷ at.past) (spaced_in (at.tick ∷ at.past) (at_within later before row e at)) at.follows untripped
 
       unfound : (RowAfter s start at.tick at.past).found.answers ≡ false
-      unfound = unfold row_of in moment-answers s at.tick.effects at.tick.entry past
+      unfound = unfold row_of in (fields s at.tick.effects at.tick.entry past).answers
           ∙ (or_parts now.confirms now.opens (or_parts _ (latch2 past) (sym (latch2-cons now past) ∙ closed)).0).0
 
   conducts_rows : (later before : List Row) (row : Row) → SpanRows s start h ≡ later ++ row ∷ before →
@@ -137,10 +130,10 @@ module _ (s : Setting) (start : ℕ) (h : List Tick) (accepted : IsAccepted s.ca
       on_at_each quiet newer x before whole = row_on s start x before
           ∙ trips_alone_cut s accepted start before x (spaced_in before (omega (arith, ap length whole, length-append newer (x ∷ before))))
           (follows-end s.fault start newer (x ∷ before) (subst (Follows s.fault start) whole follows))
-          ∙ ap not (earlier (untripped_end s newer (x ∷ before) (subst (λ g. tripped (moments_of s g) ≡ false) whole quiet)))
+          ∙ ap not (false_from_ne_true _ (λ u. true≢false (sym (tripped_on s (newer ++ x ∷ []) before u) ∙ at_end)))
         where
-          earlier : tripped (moments_of s (x ∷ before)) ≡ false → tripped (moments_of s before) ≡ false
-          earlier none = unfold moments_of in untripped_before (moment s x.effects x.entry (moments_of s before)) (moments_of s before) none
+          at_end : tripped (moments_of s ((newer ++ x ∷ []) ++ before)) ≡ false
+          at_end = subst (λ g. tripped (moments_of s g) ≡ false) (whole ∙ sym (append_assoc newer (x ∷ []) before)) quiet
 
       stays_on : All (λ row. bit row ≡ false) (SpanRows s start h) →
           All (λ row. row.on ≡ true) (SpanRows s start h) × (has_tripped (SpanRows s start h) ≡ false)

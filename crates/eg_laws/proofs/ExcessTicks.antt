@@ -1,6 +1,7 @@
 -- Ticks of excess over quiet ones: what is so of them in any setting.
-use Rattle.std.proofs.Common.{◌≡◌, ℕ, zero, suc, ◌+◌, ◌-◌, ◌*◌, ◌/◌, ◌≤◌, ◌<◌, Bool, true, false, not, List, ◌∷◌, ◌++◌, All, length, refl, sym, ap, ap₂, ◌∙◌, arith, length-append, min, replicate, Some, []}
-use Rattle.std.proofs.lemmas.Bool.{le-ltb}
+use Rattle.std.proofs.Common.{◌≡◌, ℕ, zero, suc, ◌+◌, ◌-◌, ◌*◌, ◌/◌, ◌≤◌, ◌<◌, Bool, true, false, not, List, ◌∷◌, ◌++◌, All, length, refl, sym, ap, ap₂, ◌∙◌, arith, length-append, min, replicate, subst, take, Some, None, []}
+use Rattle.std.specs.List.{list_all}
+use Rattle.std.proofs.lemmas.Bool.{true≢false, and_from, le-ltb}
 use Rattle.std.proofs.lemmas.List.{length-replicate}
 use Rattle.std.proofs.lemmas.List.Elements.{All-append, All-replicate}
 use Rattle.std.proofs.Math.Nat.{zero-mul}
@@ -9,7 +10,7 @@ use Rattle.eg_num.specs.Windows.{WeightParts, is_confirmed}
 use Rattle.eg_torque.specs.Excess.{is_excess}
 use Rattle.eg_answer.specs.Times.{feeds_to_confirm, reaction_of}
 use Rattle.eg_values.specs.Calibration.{IsAccepted}
-use Rattle.eg_fault.specs.Faults.{effects_of}
+use Rattle.eg_fault.specs.Faults.{effects_of, effects}
 use Rattle.eg_fault.specs.declared.class.Fault.{Fault}
 use Rattle.eg_fault.proofs.ActingLemmas.{before_onset, from_onset}
 use Rattle.eg_fault.specs.Effects.{Effects, no_effects}
@@ -21,8 +22,9 @@ use Rattle.eg_model.specs.Rows.{row_of, rows_of}
 use Rattle.eg_model.specs.Premises.{IsProper, AreProper, Follows, is_on_after, true_excesses, full_excesses}
 use Rattle.eg_model.specs.SharpCut.{ArePlain}
 use Rattle.eg_laws.specs.LeastReaction.{CanExceed, GoesOn, ShowsWord, giving, quiet, exceeding}
-use Rattle.eg_model.proofs.TickLemmas.{Each, moment-limit, moment-on, moment-full_excess}
+use Rattle.eg_model.proofs.TickLemmas.{Each, moment-full_excess, fields}
 use Rattle.eg_model.proofs.Silence.{TrueRun, run_confirms, period_least, send_within}
+use Rattle.eg_model.proofs.LapseRuns.{AllExceed}
 use Rattle.eg_model.proofs.LapseWeights.{rounded_up}
 use Rattle.eg_model.proofs.SharpCutLaw.{AllGood, full_excesses-cons, cuts_sharply}
 use Rattle.eg_laws.proofs.FewVerdicts.{too_few, quotient_short, quotient_positive, NoneOpens}
@@ -40,13 +42,24 @@ pub full_bit : (s : Setting) (x : Tick) (past : List Moment) (tick : ℕ) →
     ≡ is_excess (estimate s.cal.rules.kt x.entry.shown.load_1) (limit_at s.cal x.entry.drive) s.cal.rules.threshold
 full_bit s x past tick = moment-full_excess s x.effects x.entry past tick
     ∙ ap (λ limit. is_excess (estimate s.cal.rules.kt x.entry.shown.load_1) limit s.cal.rules.threshold)
-    (moment-limit s x.effects x.entry past)
+    (fields s x.effects x.entry past).limit
 
 pub true_excesses-cons : (s : Setting) (x : Tick) (h : List Tick) →
     true_excesses s (x ∷ h)
     ≡ is_excess x.entry.shown.torque (limit_at s.cal x.entry.drive) s.cal.rules.threshold ∷ true_excesses s h
 unfolding true_excesses moments_of rows_of
 true_excesses-cons s x h = ap (λ b. b ∷ true_excesses s h) (true_bit s x (moments_of s h) _)
+
+-- one tick more of excess
+pub more_exceed : (s : Setting) (x : Tick) (h : List Tick) (k m : ℕ) → m ≡ suc k →
+    is_excess x.entry.shown.torque (limit_at s.cal x.entry.drive) s.cal.rules.threshold ≡ true →
+    AllExceed s k h → AllExceed s m (x ∷ h)
+more_exceed s x h k m same now before = subst (λ n. AllExceed s n (x ∷ h)) (sym same)
+    (subst (λ bits. list_all (λ b. b) (take (suc k) bits) ≡ true) (sym (true_excesses-cons s x h)) (and_from _ _ now before))
+
+pub length-true_excesses : (s : Setting) (h : List Tick) → length (true_excesses s h) ≡ length h
+length-true_excesses s [] = unfold true_excesses moments_of rows_of in refl
+length-true_excesses s (x ∷ h) = ap length (true_excesses-cons s x h) ∙ ap suc (length-true_excesses s h)
 
 pub no_torque_no_excess : (limit threshold : ℕ) → is_excess 0 limit threshold ≡ false
 unfolding is_excess
@@ -60,6 +73,12 @@ no_load_no_excess kt limit threshold =
     ap (λ torque. is_excess torque limit threshold) (no_load kt) ∙ no_torque_no_excess limit threshold
 
 -- ---- ticks of a run under one fault ----
+
+-- without a fault nothing is out of order
+pub follows_none : (h : List Tick) → ArePlain h → Follows None 0 h
+unfolding ArePlain Follows effects
+follows_none [] each = tt
+follows_none (x ∷ h) each = (each.0.effects, follows_none h each.1)
 
 -- before its onset nothing is out of order
 pub follows_plain : (f : Fault) (h : List Tick) → ArePlain h → length h ≤ f.onset → Follows (Some f) 0 h
@@ -130,6 +149,10 @@ module _ (s : Setting) (accepted : IsAccepted s.cal) (can : CanExceed s.cal) (qu
             ∙ ap₂ (λ b others. b ∷ others) (full_bit s (exceeding s.cal can.drive can.load) _ _ ∙ can.exceeds) rest.1,
       )
 
+  pub all_exceed : (j : ℕ) → AllExceed s j (ticks j)
+  all_exceed zero = refl
+  all_exceed (suc j) = more_exceed s (exceeding s.cal can.drive can.load) (ticks j) j (suc j) refl can.exceeds (all_exceed j)
+
   quiet_plain : (n : ℕ) → ArePlain (replicate n calm_tick)
   unfolding ArePlain
   quiet_plain zero = tt
@@ -175,7 +198,7 @@ module _ (s : Setting) (accepted : IsAccepted s.cal) (can : CanExceed s.cal) (qu
   loaded_proper x past on = record {
     drive = can.within;
     engine = record { position = omega arith; load_1 = omega arith; load_2 = omega arith };
-    no_torque = λ off. absurd (let both : true ≡ false = sym on ∙ off in cc);
+    no_torque = λ off. absurd (true≢false (sym on ∙ off));
   }
 
   -- no drive row of it resets the unit, and its loads are words
@@ -198,7 +221,7 @@ module _ (s : Setting) (accepted : IsAccepted s.cal) (can : CanExceed s.cal) (qu
   on_until : (j : ℕ) → j < many → AreProper s (ticks j) → both_conduct no_effects (moments_of s (ticks j)) ≡ true
   unfolding is_on_after
   on_until j less proper =
-      sym (moment-on s no_effects (exceeding s.cal can.drive can.load).entry (moments_of s (ticks j)))
+      sym ((fields s no_effects (exceeding s.cal can.drive can.load).entry (moments_of s (ticks j))).on)
       ∙ cuts_sharply s accepted (ticks j) (all_plain j) proper (exceeding s.cal can.drive can.load) refl
       ∙ ap not (ap (is_confirmed torque) (all_bits j).1 ∙ unconfirmed j less)
 

@@ -1,9 +1,9 @@
 -- Path 2 stays closed as long as few verdicts have come since the last one that was surely right.
-use Rattle.std.proofs.Common.{◌≡◌, ℕ, zero, suc, ◌+◌, ◌-◌, ◌*◌, ◌/◌, ◌%◌, ◌≤◌, ◌<◌, Bool, true, false, List, [], ◌∷◌, ◌++◌, length, refl, sym, ap, ◌∙◌, arith, inl, inr, ◌⊎◌, Option, Some, None, subst, length-append}
+use Rattle.std.proofs.Common.{◌≡◌, ℕ, zero, suc, ◌+◌, ◌-◌, ◌*◌, ◌/◌, ◌%◌, ◌≤◌, ◌<◌, Bool, true, false, List, [], ◌∷◌, ◌++◌, length, refl, sym, ap, ◌∙◌, arith, inl, inr, Option, Some, None, subst, length-append}
 use Rattle.std.specs.Prelude.{if◌then◌else◌, ◌==◌}
 use Rattle.std.proofs.Math.Nat.{le-div_iff_mul-le, div-lt_iff_lt-mul, div-mul-le_self}
 use Rattle.std.proofs.lemmas.Nat.{mod-mul-add}
-use Rattle.std.proofs.lemmas.Bool.{or_from, lt-leb, ne_eqb}
+use Rattle.std.proofs.lemmas.Bool.{cases_lt, or_from, lt-leb, ne_eqb}
 use Rattle.eg_num.specs.Arithmetic.{quotient_up}
 use Rattle.eg_num.specs.Windows.{WeightParts, is_confirmed, greatest}
 use Rattle.eg_num.proofs.CounterLemmas.{greatest-bad, greatest-good, is_reached-greatest}
@@ -17,10 +17,10 @@ use Rattle.eg_model.specs.Answers.{confirms_at}
 use Rattle.eg_model.specs.Paths.{latch2}
 use Rattle.eg_model.specs.Moments.{moment, moments_of}
 use Rattle.eg_model.proofs.PeriodLemmas.{period_closes}
-use Rattle.eg_model.proofs.TickLemmas.{Each, length-moments, moment-verdict, moment-confirms, moment-opens}
+use Rattle.eg_model.proofs.TickLemmas.{Each, length-moments, fields}
 use Rattle.eg_model.proofs.Silence.{AreRegular, wrongs, with_wrong, wrongs-cons, latch2-cons, period_least, verdict_none}
 use Rattle.eg_model.proofs.ReactionLaw.{Unanswered}
-use Rattle.eg_model.proofs.SharpCutLaw.{AllGood, Calm, greatest-AllGood, not_reached, AreUsual, usual_mark, IsNotWrong, verdict_usual, right_bits, not_first, not_before}
+use Rattle.eg_model.proofs.SharpCutLaw.{AllGood, Calm, greatest-AllGood, not_reached, AreUsual, usual_mark, IsNotWrong, verdict_usual, right_bits, not_yet}
 
 -- ---- few bits after good ones don't confirm ----
 
@@ -64,8 +64,7 @@ unconfirmed_now : (times : TimeParts) (v : Option Verdict) (past : List Moment) 
     (confirms_at times v past ≡ false) × (is_confirmed times.weights (wrongs past) ≡ false)
 unfolding confirms_at with_wrong
 unconfirmed_now times None past none = (refl, none)
-unconfirmed_now times (Some v) past none = unfold wrongs in
-    (not_first times.weights _ _ none, not_before times.weights _ _ none)
+unconfirmed_now times (Some v) past none = unfold wrongs in not_yet times.weights _ _ none
 
 pub shut_unless_confirmed : (s : Setting) (h : List Tick) → NoneOpens h →
     is_confirmed s.cal.times.weights (wrongs (moments_of s h)) ≡ false → latch2 (moments_of s h) ≡ false
@@ -77,8 +76,8 @@ shut_unless_confirmed s (x ∷ h) shut none =
     let both = unconfirmed_now s.cal.times m.verdict past
     (subst (λ bits. is_confirmed s.cal.times.weights bits ≡ false) (wrongs-cons m past) none) in
     latch2-cons m past
-    ∙ or_from _ _ (or_from _ _ (moment-confirms s x.effects x.entry past ∙ both.0)
-    (moment-opens s x.effects x.entry past ∙ shut.0)) (shut_unless_confirmed s h shut.1 both.1)
+    ∙ or_from _ _ (or_from _ _ ((fields s x.effects x.entry past).confirms ∙ both.0)
+    ((fields s x.effects x.entry past).opens ∙ shut.0)) (shut_unless_confirmed s h shut.1 both.1)
 
 -- ---- how many verdicts have come since period k began ----
 
@@ -146,9 +145,9 @@ few_more : (s : Setting) → AreTimes s.cal.times → (p : ℕ) (x : Tick) (h : 
     (moment s x.effects x.entry (moments_of s h)).mark ≡ Absent →
     p * s.cal.times.period + s.cal.times.send < length h → HasFew s (p + 1) h → HasFew s (p + 1) (x ∷ h)
 unfolding moments_of
-few_more s are p x h regular absent later was = elim (before_or_past (length h + 1) ((p + 1) * s.cal.times.period)) [
-  | inl before ↦ early before
-  | inr past_it ↦ late ((length h + 1) % s.cal.times.period) refl m.verdict refl (omega arith)
+few_more s are p x h regular absent later was = elim (cases_lt ((p + 1) * s.cal.times.period) (length h + 1)) [
+  | inr before ↦ early before
+  | inl past_it ↦ late ((length h + 1) % s.cal.times.period) refl m.verdict refl (omega arith)
 ]
   where
     past : List Moment
@@ -156,9 +155,6 @@ few_more s are p x h regular absent later was = elim (before_or_past (length h +
 
     m : Moment
     m = moment s x.effects x.entry past
-
-    before_or_past : (n l : ℕ) → (n ≤ l) ⊎ (l < n)
-    before_or_past n l = grind arith
 
     some : 0 < s.cal.times.period
     some = period_least s.cal.times are
@@ -168,7 +164,7 @@ few_more s are p x h regular absent later was = elim (before_or_past (length h +
       bits = [];
       good = with_wrong m.verdict (wrongs past);
       are = wrongs-cons m past;
-      none_bad = right_bits m.verdict (wrongs past) (subst IsNotWrong (sym (moment-verdict s x.effects x.entry past))
+      none_bad = right_bits m.verdict (wrongs past) (subst IsNotWrong (sym (fields s x.effects x.entry past).verdict)
           (verdict_usual s are x h regular.judged usual)) (subst AllGood (sym (was.are ∙ ap (λ bits. bits ++ was.good) empty)) was.none_bad);
       few = omega arith;
       usual = λ within. usual;
@@ -190,7 +186,7 @@ few_more s are p x h regular absent later was = elim (before_or_past (length h +
       few = still_few (length was.bits) _ _ (p + 1) was.few (no_less s.cal.times.period (length h) some);
       usual = λ within. absurd (omega arith);
     }
-    late (suc r) ends (Some v) is over = absurd (let none : m.verdict ≡ None = moment-verdict s x.effects x.entry past
+    late (suc r) ends (Some v) is over = absurd (let none : m.verdict ≡ None = (fields s x.effects x.entry past).verdict
         ∙ verdict_none s.cal.times are x.effects m.mark past (subst (λ n. 0 < (n + 1) % s.cal.times.period) (sym (length-moments s h)) (omega arith)) in
         let both : Some v ≡ None = sym is ∙ none in cc)
     late zero ends (Some v) is over = record {

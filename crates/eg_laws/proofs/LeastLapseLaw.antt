@@ -1,12 +1,10 @@
 -- R and as many ticks as confirm is the least bound under lapses: the history that shows it.
-use Rattle.std.proofs.Common.{◌≡◌, ℕ, zero, suc, ◌+◌, ◌-◌, ◌*◌, ◌≤◌, ◌<◌, ◌%◌, Bool, true, false, not, ◌||◌, ◌&&◌, List, [], ◌∷◌, ◌++◌, length, take, replicate, refl, sym, ap, ap₂, ◌∙◌, subst, arith, length-append}
+use Rattle.std.proofs.Common.{◌≡◌, ℕ, zero, suc, ◌+◌, ◌-◌, ◌*◌, ◌≤◌, ◌<◌, ◌%◌, Bool, true, false, not, ◌||◌, ◌&&◌, List, [], ◌∷◌, ◌++◌, length, replicate, refl, sym, ap, ap₂, ◌∙◌, subst, arith, length-append}
 use Rattle.std.specs.Prelude.{if◌then◌else◌, ◌==◌}
-use Rattle.std.specs.List.{list_all}
-use Rattle.std.proofs.lemmas.Bool.{and_from, and_left, and_right, or_from}
+use Rattle.std.proofs.lemmas.Bool.{and_left, and_right, or_from}
 use Rattle.std.proofs.lemmas.List.{length-replicate}
 use Rattle.std.proofs.lemmas.List.Elements.{All-cons, All-nil, All-append, All-replicate}
 use Rattle.eg_num.specs.Windows.{WeightParts, is_confirmed}
-use Rattle.eg_torque.specs.Excess.{is_excess}
 use Rattle.eg_answer.specs.Times.{TimeParts, feeds_to_confirm, reaction_of}
 use Rattle.eg_answer.specs.declared.marks.AnswerMark.TheVariants.{Absent, Good, Bad}
 use Rattle.eg_values.specs.Calibration.{CalibrationParts, IsAccepted}
@@ -16,17 +14,17 @@ use Rattle.eg_model.specs.History.{Setting, Tick, Moment}
 use Rattle.eg_model.specs.Signals.{tripped}
 use Rattle.eg_model.specs.Answers.{is_sent, is_good, mark_at}
 use Rattle.eg_model.specs.Paths.{latch2, path1_at, path2_at, both_conduct}
-use Rattle.eg_model.specs.Moments.{moments_of, limit_at}
+use Rattle.eg_model.specs.Moments.{moments_of}
 use Rattle.eg_model.specs.Premises.{AreProper}
-use Rattle.eg_laws.specs.LeastReaction.{CanExceed, GoesOn, ShowsWord, quiet, exceeding}
+use Rattle.eg_laws.specs.LeastReaction.{CanExceed, GoesOn, ShowsWord}
 use Rattle.eg_laws.specs.LeastLapse.{RunsFit, least_lapse_bound, lapse_onset, missing_all, lapse_setting, before_lapse, missed_excess, Lasts, ExcessLastsSoLong, LapseBoundIsLeast}
-use Rattle.eg_model.proofs.TickLemmas.{Each, moment-mark, tripped-cons}
+use Rattle.eg_model.proofs.TickLemmas.{Each, tripped-cons, fields}
 use Rattle.eg_model.proofs.Silence.{AreRegular, send_within}
 use Rattle.eg_model.proofs.ReactionLaw.{Unanswered}
 use Rattle.eg_model.proofs.SharpCutLaw.{Calm, calm_until, latch1_shut}
 use Rattle.eg_laws.proofs.FewVerdicts.{NoneOpens, HasFew, few_of_calm, few_on, still_shut}
 use Rattle.eg_model.proofs.LapseRuns.{AllOrNone, trip_out, AllExceed}
-use Rattle.eg_laws.proofs.ExcessTicks.{follows_plain, follows_alike, ticks_shut, true_excesses-cons, many_positive, all_bits, all_plain, unconfirmed, loaded_proper, all_go_on, all_words, all_proper, size, period_positive, reaction_is}
+use Rattle.eg_laws.proofs.ExcessTicks.{follows_plain, follows_alike, ticks_shut, many_positive, all_bits, all_plain, unconfirmed, loaded_proper, all_go_on, all_words, all_proper, size, period_positive, reaction_is, more_exceed, all_exceed}
 
 -- ---- a tick that level 2 misses ----
 
@@ -58,14 +56,6 @@ unfolding mark_at is_sent effects_of no_effects is_left_out
 never_sent times trip past =
     ap (λ sent. if sent then (if is_good (effects_of missing_all 0) past then Good else Bad) else Absent)
     (and_left _ _ (and_right (sends_at (effects_of missing_all 0) times (length past)) false refl))
-
--- ---- one tick more of excess ----
-
-more_exceed : (s : Setting) (x : Tick) (h : List Tick) (k m : ℕ) → m ≡ suc k →
-    is_excess x.entry.shown.torque (limit_at s.cal x.entry.drive) s.cal.rules.threshold ≡ true →
-    AllExceed s k h → AllExceed s m (x ∷ h)
-more_exceed s x h k m same now before = subst (λ n. AllExceed s n (x ∷ h)) (sym same)
-    (subst (λ bits. list_all (λ b. b) (take (suc k) bits) ≡ true) (sym (true_excesses-cons s x h)) (and_from _ _ now before))
 
 -- ---- the history ----
 
@@ -115,7 +105,7 @@ module _ (cal : CalibrationParts) (accepted : IsAccepted cal) (fit : RunsFit cal
 
   untripped : (n : ℕ) → tripped (moments_of s (whole n)) ≡ false
   unfolding moments_of missed_out
-  untripped zero = calm.untripped
+  untripped zero = calm.untouched.untripped
   untripped (suc n) = tripped-cons _ (moments_of s (whole n))
       ∙ or_from _ _ (trip_out s miss (moments_of s (whole n)) missed_out refl) (untripped n)
 
@@ -123,7 +113,7 @@ module _ (cal : CalibrationParts) (accepted : IsAccepted cal) (fit : RunsFit cal
   unfolding Unanswered
   unanswered zero = tt
   unanswered (suc n) = (
-    moment-mark s (effects_of missing_all 0) miss.entry (moments_of s (whole n)) ∙ never_sent cal.times _ (moments_of s (whole n)),
+    (fields s (effects_of missing_all 0) miss.entry (moments_of s (whole n))).mark ∙ never_sent cal.times _ (moments_of s (whole n)),
     unanswered n,
   )
 
@@ -161,12 +151,8 @@ module _ (cal : CalibrationParts) (accepted : IsAccepted cal) (fit : RunsFit cal
   proper (suc n) within =
       (loaded_proper s accepted can first_quiet (effects_of missing_all 0) _ (on n (omega arith)), proper n (omega arith))
 
-  base_exceeds : (j : ℕ) → AllExceed s j (replicate j (exceeding cal can.drive can.load) ++ replicate first_quiet (quiet no_effects can.drive))
-  base_exceeds zero = refl
-  base_exceeds (suc j) = more_exceed s (exceeding cal can.drive can.load) _ j (suc j) refl can.exceeds (base_exceeds j)
-
   exceeds : (n m : ℕ) → m ≡ n + (many - 1) → AllExceed s m (whole n)
-  exceeds zero m is = subst (λ k. AllExceed s k base) (let e = is in omega arith) (base_exceeds (many - 1))
+  exceeds zero m is = subst (λ k. AllExceed s k base) (let e = is in omega arith) (all_exceed s accepted can first_quiet (many - 1))
   exceeds (suc n) m is =
       more_exceed s miss (whole n) (n + (many - 1)) m (omega arith) can.exceeds (exceeds n (n + (many - 1)) refl)
 

@@ -1,7 +1,6 @@
 -- R is the least number that can stand in the reaction theorem: the history that shows it.
-use Rattle.std.proofs.Common.{◌≡◌, ℕ, zero, suc, ◌+◌, ◌-◌, ◌*◌, ◌≤◌, ◌<◌, Bool, true, false, not, ◌&&◌, List, [], ◌∷◌, ◌++◌, All, length, refl, sym, ap, ap₂, ◌∙◌, arith, inl, inr, ◌⊎◌, subst, length-append, append_assoc, replicate}
-use Rattle.std.proofs.lemmas.Bool.{lt-ltb, ltb-true}
-use Rattle.std.specs.Prelude.{if◌then◌else◌}
+use Rattle.std.proofs.Common.{◌≡◌, ℕ, zero, suc, ◌+◌, ◌-◌, ◌*◌, ◌^◌, ◌≤◌, ◌<◌, Bool, true, false, not, ◌&&◌, List, [], ◌∷◌, ◌++◌, All, length, refl, sym, ap, ap₂, ◌∙◌, arith, inl, inr, ◌⊎◌, subst, length-append, append_assoc, replicate}
+use Rattle.std.proofs.lemmas.Bool.{cases_Bool, cases_lt, true≢false, lt-ltb, ltb-true}
 use Rattle.std.proofs.lemmas.List.{length-replicate}
 use Rattle.std.proofs.lemmas.List.Elements.{All-head, All-tail, All-append, All-replicate}
 use Rattle.std.proofs.Math.Nat.{div-mul-le_self}
@@ -13,23 +12,24 @@ use Rattle.eg_torque.specs.Permit.{drive_permits}
 use Rattle.eg_torque.specs.Excess.{is_excess}
 use Rattle.eg_answer.specs.Times.{feeds_to_confirm, reaction_of, periods_to_confirm}
 use Rattle.eg_values.specs.Calibration.{CalibrationParts, IsAccepted}
-use Rattle.eg_fault.specs.Effects.{no_effects}
+use Rattle.eg_fault.specs.Effects.{Effects, no_effects}
 use Rattle.eg_fault.specs.Faults.{effects_of, IsListed, IsValidClass, is_lapse}
 use Rattle.eg_fault.specs.Classes.{IsRegular}
 use Rattle.eg_fault.specs.declared.class.Class.TheVariants.{Path1Closed}
 use Rattle.eg_fault.specs.declared.class.Fault.{Fault}
-use Rattle.eg_model.specs.History.{Setting, Tick}
+use Rattle.eg_model.specs.History.{Setting, Entry, Tick, Moment}
 use Rattle.eg_model.specs.Signals.{tripped}
 use Rattle.eg_model.specs.Paths.{latch2, path1_at, path2_at, both_conduct}
 use Rattle.eg_model.specs.Moments.{effective_drive, limit_at, moments_of}
 use Rattle.eg_model.specs.Rows.{rows_of}
-use Rattle.eg_model.specs.Premises.{AreProper, Follows, is_on_after, true_excesses, IsExcessConfirmed}
+use Rattle.eg_model.specs.Premises.{IsProper, AreProper, Follows, is_on_after, true_excesses, IsExcessConfirmed}
 use Rattle.eg_model.specs.Reaction.{ReactsBy}
-use Rattle.eg_laws.specs.LeastReaction.{CanExceed, GoesOn, ShowsWord, NeedsCanExceed, quiet, exceeding, last_excess, until_confirmed, closed_setting, quiet_after, IsStillOn, StaysOnSoLong, ReactionIsLeast}
-use Rattle.eg_model.proofs.TickLemmas.{Each, moment-on}
+use Rattle.eg_laws.specs.LeastReaction.{CanExceed, GoesOn, ShowsWord, NeedsCanExceed, giving, quiet, exceeding, last_excess, until_confirmed, closed_setting, quiet_after, IsStillOn, StaysOnSoLong, ReactionIsLeast}
+use Rattle.eg_model.proofs.TickLemmas.{Each, fields}
 use Rattle.eg_model.proofs.Silence.{AreRegular, send_within}
 use Rattle.eg_model.proofs.LapseWeights.{rounded_up}
-use Rattle.eg_model.proofs.ReactionLaw.{AreProper-tail, unanswered_on}
+use Rattle.eg_model.proofs.SpanRows.{proper-end}
+use Rattle.eg_model.proofs.ReactionLaw.{unanswered_on}
 use Rattle.eg_model.proofs.SharpCutLaw.{AllGood, Calm, calm_until, trip_once_confirmed}
 use Rattle.eg_laws.proofs.FewVerdicts.{never, quotient_short, NoneOpens, HasFew, few_of_calm, few_on, still_shut}
 use Rattle.eg_laws.proofs.ExcessTicks.{follows_plain, follows_alike, ticks_shut, true_excesses-cons, many_positive, all_bits, all_plain, unconfirmed, confirmed, quiet_proper, all_go_on, all_words, all_proper, size, period_positive, confirm_positive, reaction_is, up_positive, limit_positive}
@@ -45,16 +45,7 @@ more_exceeds torque most limit threshold le e =
 -- what a drive row permits doesn't depend on whether the unit is reset
 without_reset : (cal : CalibrationParts) (drive : DriveRow) → limit_at cal (record drive { reset = false }) ≡ limit_at cal drive
 unfolding limit_at effective_drive drive_permits
-without_reset cal drive = go (cal.brake && drive.brake)
-  where
-    same : DriveRow
-    same = record drive { reset = false }
-
-    go : (b : Bool) →
-        drive_permits cal.rules.permit (if b then record same { pedal = 0; raise = 0 } else same)
-        ≡ drive_permits cal.rules.permit (if b then record drive { pedal = 0; raise = 0 } else drive)
-    go true = refl
-    go false = refl
+without_reset cal drive = elim (cases_Bool (cal.brake && drive.brake)) [ inl on ↦ rw on refl | inr off ↦ rw off refl ]
 
 none_or_some : (s : Setting) (h : List Tick) → AreProper s h → All ShowsWord h → AllGood (true_excesses s h) ⊎ CanExceed s.cal
 unfolding AreProper
@@ -79,11 +70,18 @@ pub needs_can_exceed : NeedsCanExceed
 needs_can_exceed s accepted h proper words confirmed = elim (none_or_some s h proper words) [
   | inl good ↦ absurd (let none = never s.cal.rules.torque (true_excesses s h)
       (let l = accepted.torque.3 in omega arith) good in
-      let both : true ≡ false = sym confirmed ∙ none in cc)
+      true≢false (sym confirmed ∙ none))
   | inr can ↦ can
 ]
 
 -- ---- the history ----
+
+-- This may come in at the ticks that follow: it doesn't reset the unit, its loads are words, and it is proper while
+-- the stages are on.
+pub record MayFollow (s : Setting) (e : Entry) : Type 0 where
+  pub goes_on : e.drive.reset ≡ false
+  pub words : (e.shown.load_1 < 2 ^ 16) × (e.shown.load_2 < 2 ^ 16)
+  pub proper : (x : Effects) (past : List Moment) → both_conduct x past ≡ true → IsProper s (both_conduct x past) e
 
 module _ (cal : CalibrationParts) (accepted : IsAccepted cal) (can : CanExceed cal) where
   abbrev s : Setting
@@ -118,10 +116,10 @@ module _ (cal : CalibrationParts) (accepted : IsAccepted cal) (can : CanExceed c
   -- ---- sizes ----
 
   -- there is room for all ticks of excess
-  room : many ≤ p * cal.times.period
+  pub room : many ≤ p * cal.times.period
   room = unfold periods_to_confirm in rounded_up many cal.times.period (period_positive s accepted can first_quiet)
 
-  last_is : last_excess cal ≡ p * cal.times.period + cal.times.send + 1
+  pub last_is : last_excess cal ≡ p * cal.times.period + cal.times.send + 1
   last_is = unfold last_excess in omega arith
 
   size_until : length (until_confirmed cal can.drive can.load) ≡ last_excess cal + 1
@@ -150,59 +148,13 @@ module _ (cal : CalibrationParts) (accepted : IsAccepted cal) (can : CanExceed c
       let most = many_within in let last = last_is in
       let a = accepted.times.longest in let b = send_within cal.times accepted.times in omega arith
 
-  reaction_long : 2 ≤ reaction_of cal.times
+  pub reaction_long : 2 ≤ reaction_of cal.times
   reaction_long = law (reaction_of cal.times) confirm cal.times.period cal.times.send (reaction_is s accepted can first_quiet) (confirm_positive s accepted can first_quiet)
       (send_within cal.times accepted.times) accepted.times.shortest
     where
       law : (r n period send : ℕ) → r + send + 1 ≡ (n + 1) * period → 0 < n → send < period → 2 ≤ period → 2 ≤ r
       law r zero period send is some within least = absurd (omega arith)
       law r (suc n) period send is some within least = grind arith
-
-  -- ---- after it ----
-
-  abbrev after : ℕ → List Tick
-  after n = replicate n (quiet_after can.drive)
-
-  abbrev whole : ℕ → List Tick
-  whole n = after n ++ until_confirmed cal can.drive can.load
-
-  after_proper : (n : ℕ) → AreProper s (whole n)
-  unfolding AreProper
-  after_proper zero = all_proper s accepted can first_quiet many (omega arith)
-  after_proper (suc n) = (quiet_proper s accepted can first_quiet (effects_of Path1Closed 0) _, after_proper n)
-
-  goes_on_after : (n : ℕ) → All GoesOn (whole n)
-  goes_on_after n = All-append GoesOn (after n) (until_confirmed cal can.drive can.load)
-      (All-replicate GoesOn n (quiet_after can.drive) can.goes_on) (all_go_on s accepted can first_quiet many)
-
-  words_after : (n : ℕ) → All ShowsWord (whole n)
-  words_after n = All-append ShowsWord (after n) (until_confirmed cal can.drive can.load)
-      (All-replicate ShowsWord n (quiet_after can.drive) (omega arith, omega arith)) (all_words s accepted can first_quiet many)
-
-  abbrev the_fault : Fault
-  the_fault = record { onset = last_excess cal + 1; class = Path1Closed }
-
-  same_always : (k : ℕ) → effects_of Path1Closed k ≡ effects_of Path1Closed 0
-  unfolding effects_of
-  same_always k = refl
-
-  follows_on : (n : ℕ) → Follows s.fault 0 (whole n)
-  follows_on n = follows_alike the_fault (quiet_after can.drive) same_always n (until_confirmed cal can.drive can.load)
-      (let a = size_until in omega arith)
-      (follows_plain the_fault (until_confirmed cal can.drive can.load) (all_plain s accepted can first_quiet many)
-      (let a = size_until in omega arith))
-
-  -- ---- the stages are still on ----
-
-  regular_after : (n : ℕ) (y : Tick) → IsRegular y.effects → AreRegular (after n ++ y ∷ [])
-  unfolding Each
-  regular_after zero y usual = (usual, tt)
-  regular_after (suc n) y usual = (unfold effects_of no_effects in record { sends = refl; judged = refl }, regular_after n y usual)
-
-  none_opens : (n : ℕ) → NoneOpens (whole n)
-  unfolding Each
-  none_opens zero = ticks_shut s accepted can first_quiet many
-  none_opens (suc n) = (unfold effects_of no_effects in refl, none_opens n)
 
   -- up to the tick before the last excess each verdict was right
   few_before : (j : ℕ) → suc j ≡ many → HasFew s (p + 1) (ticks j)
@@ -212,43 +164,106 @@ module _ (cal : CalibrationParts) (accepted : IsAccepted cal) (can : CanExceed c
       calm = calm_until s accepted (ticks j) (all_plain s accepted can first_quiet j) (all_proper s accepted can first_quiet j (omega arith))
           (ap (is_confirmed torque) (all_bits s accepted can first_quiet j).1 ∙ unconfirmed s accepted can first_quiet j (omega arith))
 
-  -- so few came by any tick after it
-  few_after : (j n : ℕ) → suc j ≡ many → HasFew s (p + 1) (after n ++ exceeding cal can.drive can.load ∷ ticks j)
-  few_after j n is =
-      let all = few_on s accepted.times p (after n ++ exceeding cal can.drive can.load ∷ []) (ticks j)
-      (regular_after n (exceeding cal can.drive can.load) (unfold no_effects in record { sends = refl; judged = refl }))
-      (unanswered_on s (exceeding cal can.drive can.load) (after n) (ticks j) trip)
-      (let a = size s accepted can first_quiet j in let b = room in let c = last_is in omega arith) (few_before j is) in
-      rw append_assoc at all
-    where
-      trip : tripped (moments_of s (exceeding cal can.drive can.load ∷ ticks j)) ≡ true
-      trip = trip_once_confirmed s accepted (ticks (suc j)) (all_plain s accepted can first_quiet (suc j)) (all_proper s accepted can first_quiet (suc j) (omega arith))
-          (ap (is_confirmed torque) (all_bits s accepted can first_quiet (suc j)).1
-          ∙ subst (λ n. is_confirmed torque (bits n) ≡ true) (sym is) (confirmed s accepted can first_quiet))
+  abbrev the_fault : Fault
+  the_fault = record { onset = last_excess cal + 1; class = Path1Closed }
 
-  shut_after : (n : ℕ) → n + 2 ≤ reaction_of cal.times → latch2 (moments_of s (whole n)) ≡ false
-  shut_after n early = go many refl (many_positive s accepted can first_quiet)
-    where
-      early_enough : length (whole n) < (p + 1 + confirm) * cal.times.period
-      early_enough = law (length (whole n)) n (reaction_of cal.times) p confirm cal.times.period cal.times.send (reaction_is s accepted can first_quiet)
-          (length-append (after n) (until_confirmed cal can.drive can.load)
-          ∙ ap₂ (λ a b. a + b) (length-replicate n (quiet_after can.drive)) (size_until ∙ ap (λ k. k + 1) last_is)) early
-        where
-          law : (l n r p c period send : ℕ) → r + send + 1 ≡ (c + 1) * period → l ≡ n + (p * period + send + 1 + 1) →
-              n + 2 ≤ r → l < (p + 1 + c) * period
-          law l n r p c period send is long early = grind arith
+  same_always : (k : ℕ) → effects_of Path1Closed k ≡ effects_of Path1Closed 0
+  unfolding effects_of
+  same_always k = refl
 
-      go : (k : ℕ) → k ≡ many → 0 < k → latch2 (moments_of s (whole n)) ≡ false
-      go zero is some = absurd (omega arith)
-      go (suc j) is some = still_shut s (period_positive s accepted can first_quiet) (let a = accepted.answers.0 in omega arith)
-          (let a = accepted.answers.3 in omega arith) (p + 1) (whole n)
-          (subst (λ k. HasFew s (p + 1) (after n ++ ticks k)) is (few_after j n is)) (none_opens n) early_enough
+  -- ---- after it this comes in at each tick ----
 
-  on_after : (n : ℕ) → n + 2 ≤ reaction_of cal.times → is_on_after s (whole n) (quiet_after can.drive) ≡ true
-  unfolding is_on_after both_conduct path1_at path2_at effects_of no_effects
-  on_after n early =
-      moment-on s (effects_of Path1Closed 0) (quiet_after can.drive).entry (moments_of s (whole n))
-      ∙ ap not (shut_after n early)
+  module _ (e : Entry) (may : MayFollow s e) where
+    abbrev closed : Tick
+    closed = record { effects = effects_of Path1Closed 0; entry = e }
+
+    abbrev after : ℕ → List Tick
+    after n = replicate n closed
+
+    abbrev whole : ℕ → List Tick
+    whole n = after n ++ until_confirmed cal can.drive can.load
+
+    pub size_whole : (n : ℕ) → length (whole n) ≡ n + (last_excess cal + 1)
+    size_whole n = length-append (after n) (until_confirmed cal can.drive can.load)
+        ∙ ap₂ (λ a b. a + b) (length-replicate n closed) size_until
+
+    pub goes_on_after : (n : ℕ) → All GoesOn (whole n)
+    goes_on_after n = All-append GoesOn (after n) (until_confirmed cal can.drive can.load)
+        (All-replicate GoesOn n closed may.goes_on) (all_go_on s accepted can first_quiet many)
+
+    pub words_after : (n : ℕ) → All ShowsWord (whole n)
+    words_after n = All-append ShowsWord (after n) (until_confirmed cal can.drive can.load)
+        (All-replicate ShowsWord n closed may.words) (all_words s accepted can first_quiet many)
+
+    pub follows_on : (n : ℕ) → Follows s.fault 0 (whole n)
+    follows_on n = follows_alike the_fault closed same_always n (until_confirmed cal can.drive can.load)
+        (let a = size_until in omega arith)
+        (follows_plain the_fault (until_confirmed cal can.drive can.load) (all_plain s accepted can first_quiet many)
+        (let a = size_until in omega arith))
+
+    -- ---- the stages are still on ----
+
+    regular_after : (n : ℕ) (y : Tick) → IsRegular y.effects → AreRegular (after n ++ y ∷ [])
+    unfolding Each
+    regular_after zero y usual = (usual, tt)
+    regular_after (suc n) y usual = (unfold effects_of no_effects in record { sends = refl; judged = refl }, regular_after n y usual)
+
+    none_opens : (n : ℕ) → NoneOpens (whole n)
+    unfolding Each
+    none_opens zero = ticks_shut s accepted can first_quiet many
+    none_opens (suc n) = (unfold effects_of no_effects in refl, none_opens n)
+
+    -- few verdicts came by any tick after it
+    few_after : (j n : ℕ) → suc j ≡ many → HasFew s (p + 1) (after n ++ exceeding cal can.drive can.load ∷ ticks j)
+    few_after j n is =
+        let all = few_on s accepted.times p (after n ++ exceeding cal can.drive can.load ∷ []) (ticks j)
+        (regular_after n (exceeding cal can.drive can.load) (unfold no_effects in record { sends = refl; judged = refl }))
+        (unanswered_on s (exceeding cal can.drive can.load) (after n) (ticks j) trip)
+        (let a = size s accepted can first_quiet j in let b = room in let c = last_is in omega arith) (few_before j is) in
+        rw append_assoc at all
+      where
+        trip : tripped (moments_of s (exceeding cal can.drive can.load ∷ ticks j)) ≡ true
+        trip = trip_once_confirmed s accepted (ticks (suc j)) (all_plain s accepted can first_quiet (suc j)) (all_proper s accepted can first_quiet (suc j) (omega arith))
+            (ap (is_confirmed torque) (all_bits s accepted can first_quiet (suc j)).1
+            ∙ subst (λ n. is_confirmed torque (bits n) ≡ true) (sym is) (confirmed s accepted can first_quiet))
+
+    shut_after : (n : ℕ) → n + 2 ≤ reaction_of cal.times → latch2 (moments_of s (whole n)) ≡ false
+    shut_after n early = go many refl (many_positive s accepted can first_quiet)
+      where
+        early_enough : length (whole n) < (p + 1 + confirm) * cal.times.period
+        early_enough = law (length (whole n)) n (reaction_of cal.times) p confirm cal.times.period cal.times.send (reaction_is s accepted can first_quiet)
+            (size_whole n ∙ ap (λ k. n + (k + 1)) last_is) early
+          where
+            law : (l n r p c period send : ℕ) → r + send + 1 ≡ (c + 1) * period → l ≡ n + (p * period + send + 1 + 1) →
+                n + 2 ≤ r → l < (p + 1 + c) * period
+            law l n r p c period send is long early = grind arith
+
+        go : (k : ℕ) → k ≡ many → 0 < k → latch2 (moments_of s (whole n)) ≡ false
+        go zero is some = absurd (omega arith)
+        go (suc j) is some = still_shut s (period_positive s accepted can first_quiet) (let a = accepted.answers.0 in omega arith)
+            (let a = accepted.answers.3 in omega arith) (p + 1) (whole n)
+            (subst (λ k. HasFew s (p + 1) (after n ++ ticks k)) is (few_after j n is)) (none_opens n) early_enough
+
+    pub on_after : (n : ℕ) → n + 2 ≤ reaction_of cal.times → both_conduct (effects_of Path1Closed 0) (moments_of s (whole n)) ≡ true
+    unfolding both_conduct path1_at path2_at effects_of no_effects
+    on_after n early = ap not (shut_after n early)
+
+    pub after_proper : (n : ℕ) → n + 1 ≤ reaction_of cal.times → AreProper s (whole n)
+    unfolding AreProper
+    after_proper zero within = all_proper s accepted can first_quiet many (omega arith)
+    after_proper (suc n) within = (may.proper (effects_of Path1Closed 0) _ (on_after n (omega arith)), after_proper n (omega arith))
+
+  -- ---- quiet ticks after it ----
+
+  abbrev quiet_entry : Entry
+  quiet_entry = giving can.drive 0 0
+
+  quiet_may : MayFollow s quiet_entry
+  quiet_may = record {
+    goes_on = can.goes_on;
+    words = (omega arith, omega arith);
+    proper = λ x past on. quiet_proper s accepted can first_quiet x past;
+  }
 
   first_now : is_first torque (true_excesses s (until_confirmed cal can.drive can.load)) ≡ true
   first_now = go many refl (many_positive s accepted can first_quiet)
@@ -260,35 +275,34 @@ module _ (cal : CalibrationParts) (accepted : IsAccepted cal) (can : CanExceed c
           (is_first_from torque true (bits j) (subst (λ k. is_confirmed torque (bits k) ≡ true) (sym is) (confirmed s accepted can first_quiet))
           (unconfirmed s accepted can first_quiet j (omega arith)))
 
-  stays : IsStillOn s (until_confirmed cal can.drive can.load) (after (reaction_of cal.times - 2)) (quiet_after can.drive)
-      (reaction_of cal.times - 1)
+  stays : IsStillOn s (until_confirmed cal can.drive can.load) (replicate (reaction_of cal.times - 2) (quiet_after can.drive))
+      (quiet_after can.drive) (reaction_of cal.times - 1)
+  unfolding is_on_after
   stays = record {
-    follows = follows_on (suc (reaction_of cal.times - 2));
-    proper = after_proper (suc (reaction_of cal.times - 2));
-    goes_on = goes_on_after (suc (reaction_of cal.times - 2));
-    words = words_after (suc (reaction_of cal.times - 2));
+    follows = follows_on quiet_entry quiet_may (suc (reaction_of cal.times - 2));
+    proper = after_proper quiet_entry quiet_may (suc (reaction_of cal.times - 2)) (let long = reaction_long in omega arith);
+    goes_on = goes_on_after quiet_entry quiet_may (suc (reaction_of cal.times - 2));
+    words = words_after quiet_entry quiet_may (suc (reaction_of cal.times - 2));
     first = first_now;
     comes = ap (λ n. n + 1) (length-replicate (reaction_of cal.times - 2) (quiet_after can.drive))
         ∙ (let long = reaction_long in omega arith);
-    on = on_after (reaction_of cal.times - 2) (let long = reaction_long in omega arith);
+    on = (fields s (effects_of Path1Closed 0) quiet_entry _).on
+        ∙ on_after quiet_entry quiet_may (reaction_of cal.times - 2) (let long = reaction_long in omega arith);
   }
 
-  listed : IsListed s.fault
+  pub listed : IsListed s.fault
   listed = unfold IsListed IsValidClass is_lapse in ((onset_within, tt), refl)
 
   -- a smaller number would have the stages off where they are on
   least : (n : ℕ) → ReactsBy cal n → reaction_of cal.times ≤ n
-  least n reacts = elim (before_or_from n (reaction_of cal.times)) [
+  least n reacts = elim (cases_lt n (reaction_of cal.times)) [
     | inl before ↦ absurd (let off = reacts s refl listed 0 (until_confirmed cal can.drive can.load) confirmed_now
-        (after (reaction_of cal.times - 2)) (quiet_after can.drive) stays.follows (AreProper-tail s (quiet_after can.drive ∷ []) _ stays.proper)
+        (replicate (reaction_of cal.times - 2) (quiet_after can.drive)) (quiet_after can.drive) stays.follows (proper-end s (quiet_after can.drive ∷ []) _ stays.proper)
         (let comes = stays.comes in omega arith) in
-        let both : true ≡ false = sym stays.on ∙ off in cc)
+        true≢false (sym stays.on ∙ off))
     | inr from ↦ from
   ]
     where
-      before_or_from : (n r : ℕ) → (n < r) ⊎ (r ≤ n)
-      before_or_from n r = grind arith
-
       confirmed_now : IsExcessConfirmed s (until_confirmed cal can.drive can.load)
       confirmed_now = ap (is_confirmed torque) (all_bits s accepted can first_quiet many).0 ∙ (confirmed s accepted can first_quiet)
 

@@ -10,3 +10,8 @@ pub mod AvailabilityLaws
 pub mod AvailabilityRecords
 pub mod ShortStretches
 pub mod LeastLapseLaw
+pub mod StretchLaws
+pub mod LongestStretch
+pub mod BurstLaws
+pub mod StretchRows
+pub mod SeenExcess

@@ -1,11 +1,9 @@
 -- A tick under a lapse: nothing is out of order, or level 2 as a whole misses it.
-use Rattle.std.proofs.Common.{◌≡◌, ℕ, ◌%◌, Bool, true, false, not, ◌||◌, ◌&&◌, List, length, inl, inr, ◌⊎◌, Option, refl, sym, ap, ◌∙◌, subst}
-use Rattle.std.specs.Prelude.{if◌then◌else◌}
-use Rattle.std.proofs.lemmas.Bool.{and_left, or_from, eq-eqb}
+use Rattle.std.proofs.Common.{◌≡◌, ℕ, ◌%◌, Bool, true, false, not, List, length, inl, inr, ◌⊎◌, Option, refl, sym, ap, ◌∙◌, subst}
+use Rattle.std.proofs.lemmas.Bool.{cases_Bool, and_left, eq-eqb}
 use Rattle.eg_num.specs.Windows.{WeightParts}
 use Rattle.eg_answer.specs.Times.{TimeParts}
 use Rattle.eg_answer.specs.Modules.{modules_before_react, modules}
-use Rattle.eg_answer.specs.declared.marks.AnswerMark.TheVariants.{Absent, Good, Bad}
 use Rattle.eg_fault.specs.Effects.{Effects, no_effects}
 use Rattle.eg_fault.specs.Faults.{is_left_out, effects_of, effects}
 use Rattle.eg_fault.specs.declared.class.Class.TheVariants.{Lapse}
@@ -13,12 +11,12 @@ use Rattle.eg_fault.specs.declared.class.Fault.{Fault}
 use Rattle.eg_fault.proofs.ActingLemmas.{of_class}
 use Rattle.eg_model.specs.History.{Setting, Entry, Tick, Moment, Signals}
 use Rattle.eg_model.specs.Signals.{tripped}
-use Rattle.eg_model.specs.Detection.{feeds_at, finds, pedal_bit, plate_bit, load_bit, speed_bit, torque_bit}
+use Rattle.eg_model.specs.Detection.{feeds_at, finds, torque_bit}
 use Rattle.eg_model.specs.Answers.{is_whole, is_answer, is_sent, is_good, mark_at}
 use Rattle.eg_model.specs.Moments.{moment}
 use Rattle.eg_model.specs.Lapses.{IsLapse}
 use Rattle.eg_laws.specs.Availability.{misses_tick}
-use Rattle.eg_model.proofs.TickLemmas.{moment-feeds_at, moment-trip, moment-mirror, moment-pedal, moment-plate, moment-load, moment-speed, moment-torque_found}
+use Rattle.eg_model.proofs.TickLemmas.{answered, Pair, bit_of, found_by, fields, no_trip}
 use Rattle.eg_model.proofs.SharpCutLaw.{send_plain, reacts_plain}
 
 -- level 2 doesn't run, and nothing else is out of order
@@ -34,12 +32,10 @@ to_tick P x g is p = subst (λ f. P (record { effects = f; entry = x.entry })) i
 
 class_tick : (after : List ℕ) (every k : ℕ) → (effects_of (Lapse after every) k ≡ no_effects) ⊎ (effects_of (Lapse after every) k ≡ missed)
 unfolding effects_of missed no_effects
-class_tick after every k = go (is_left_out after every k) refl
-  where
-    go : (out : Bool) → is_left_out after every k ≡ out →
-        (effects_of (Lapse after every) k ≡ no_effects) ⊎ (effects_of (Lapse after every) k ≡ missed)
-    go false e = inl (ap (λ out. record no_effects { ran = λ i. not out }) e)
-    go true e = inr (ap (λ out. record no_effects { ran = λ i. not out }) e)
+class_tick after every k = elim (cases_Bool (is_left_out after every k)) [
+  | inl e ↦ inr (ap (λ out. record no_effects { ran = λ i. not out }) e)
+  | inr e ↦ inl (ap (λ out. record no_effects { ran = λ i. not out }) e)
+]
 
 -- so it is at each tick of a run with a lapse
 pub lapse_tick : (f : Option Fault) → IsLapse f → (t : ℕ) → (effects f t ≡ no_effects) ⊎ (effects f t ≡ missed)
@@ -71,7 +67,7 @@ module _ (s : Setting) (e : Entry) (past : List Moment) where
   m = moment s missed e past
 
   pub missed-feeds : m.feeds ≡ false
-  missed-feeds = moment-feeds_at s missed e past ∙ none
+  missed-feeds = (fields s missed e past).feeds ∙ none
     where
       none : feeds_at missed past ≡ false
       none = unfold feeds_at missed no_effects in refl
@@ -80,19 +76,13 @@ module _ (s : Setting) (e : Entry) (past : List Moment) where
   unfolding finds
   unfound w bit = and_left _ _ missed-feeds
 
-  pub missed-pedal : m.found.pedal ≡ false
-  missed-pedal = moment-pedal s missed e past ∙ unfound s.cal.rules.pair pedal_bit
-
-  unflipped : m.found.mirror ≡ false
-  unflipped = moment-mirror s missed e past ∙ (unfold missed no_effects in refl)
+  pub missed-pair : (p : Pair) → found_by p m.found ≡ false
+  missed-pair p = (fields s missed e past).pair p ∙ unfound s.cal.rules.pair (bit_of p)
 
   pub missed-trip : m.trip ≡ false
-  missed-trip = moment-trip s missed e past
-      ∙ or_from _ _ (or_from _ _ (or_from _ _ (or_from _ _ unflipped
-      (moment-plate s missed e past ∙ unfound s.cal.rules.pair plate_bit))
-      (moment-load s missed e past ∙ unfound s.cal.rules.pair load_bit))
-      (moment-speed s missed e past ∙ unfound s.cal.rules.pair speed_bit))
-      (moment-torque_found s missed e past ∙ unfound s.cal.rules.torque torque_bit)
+  missed-trip =
+      let f = fields s missed e past in
+      no_trip f (f.mirror ∙ (unfold missed no_effects in refl)) missed-pair (f.torque ∙ unfound s.cal.rules.torque torque_bit)
 
 -- ---- a tick at which nothing is out of order ----
 
@@ -101,9 +91,5 @@ pub answered_plain : (times : TimeParts) (trip : Bool) (past : List Moment) → 
     length past % times.period ≡ times.send → is_answer (mark_at times no_effects trip past) ≡ true
 unfolding mark_at is_sent
 answered_plain times trip past t u place =
-    sent _ _ _ _ (is_good no_effects past) (send_plain times (length past) ∙ eq-eqb _ _ place) reacts_plain t u
-  where
-    sent : (a b t u good : Bool) → a ≡ true → b ≡ true → t ≡ false → u ≡ false →
-        is_answer (if a && b && not (t || u) then (if good then Good else Bad) else Absent) ≡ true
-    sent a b t u true e1 e2 e3 e4 = rw (e1, e2, e3, e4) (unfold is_answer in refl)
-    sent a b t u false e1 e2 e3 e4 = rw (e1, e2, e3, e4) (unfold is_answer in refl)
+    let sends = send_plain times (length past) ∙ eq-eqb _ _ place in
+    answered _ (is_good no_effects past) ∙ rw (sends, reacts_plain, t, u) refl

@@ -3,11 +3,10 @@
 use Rattle.std.proofs.Common.{◌≡◌, ℕ, zero, suc, ◌+◌, ◌-◌, ◌*◌, ◌/◌, ◌%◌, ◌≤◌, ◌<◌, Bool, true, false, List, [], ◌∷◌, length, take, inl, inr, ◌⊎◌, Some, None, refl, sym, ap, ap₂, ◌∙◌, subst, arith}
 use Rattle.std.proofs.lemmas.Nat.{mod-mul-add}
 use Rattle.std.proofs.Math.Nat.{div-mul-le_self}
-use Rattle.std.proofs.lemmas.Bool.{or_left, or_from, or_parts, and_left, lt-ltb, le-ltb}
-use Rattle.eg_num.specs.Windows.{WeightParts, is_reached, is_confirmed, is_first, greatest}
+use Rattle.std.proofs.lemmas.Bool.{cases_lt, or_left, or_from, or_parts, and_left, lt-ltb, le-ltb}
+use Rattle.eg_num.specs.Windows.{is_reached, is_confirmed, is_first, greatest}
 use Rattle.eg_answer.specs.Times.{TimeParts, AreTimes, periods_between_misses, miss_spacing_of}
 use Rattle.eg_answer.specs.Periods.{MarkedAnswer, verdict_of, is_wrong}
-use Rattle.eg_answer.specs.declared.marks.Verdict.TheVariants.{Right}
 use Rattle.eg_values.specs.Calibration.{IsAccepted}
 use Rattle.eg_fault.specs.Effects.{no_effects}
 use Rattle.eg_fault.specs.Faults.{effects}
@@ -19,10 +18,10 @@ use Rattle.eg_model.specs.Moments.{moment, moments_of}
 use Rattle.eg_model.specs.Premises.{Follows}
 use Rattle.eg_laws.specs.Availability.{misses_tick, IsSpacedLapse}
 use Rattle.eg_model.proofs.PeriodLemmas.{quotient}
-use Rattle.eg_model.proofs.TickLemmas.{length-moments, moment-tick, moment-mark, moment-whole, moment-verdict, moment-confirms, moment-opens, untripped_before}
+use Rattle.eg_model.proofs.TickLemmas.{length-moments, untripped_before, fields}
 use Rattle.eg_model.proofs.Silence.{period_least, send_within, verdict_none, verdict_some, wrongs, with_wrong, wrongs-cons, latch2-cons}
 use Rattle.eg_model.proofs.PlainTick.{plain}
-use Rattle.eg_model.proofs.SharpCutLaw.{usual_mark, one_answer, sent_now, mark_plain, whole_plain, whole-cons, right_alone}
+use Rattle.eg_model.proofs.SharpCutLaw.{usual_mark, right_answer, one_answer, sent_now, mark_plain, whole_plain, whole-cons, right_alone}
 use Rattle.eg_laws.proofs.MissWeights.{Weighs, weighs_at_first, weighs_anew, weighs_more, weighs_nothing, never_reached, never_confirmed}
 use Rattle.eg_laws.proofs.MissTicks.{missed, as_tick, to_tick, lapse_tick, counts_as_missed, answered_plain}
 
@@ -62,20 +61,12 @@ record Goes (s : Setting) (start : ℕ) (x : Tick) (h : List Tick) (q n settled 
 
 -- ---- the verdict of a tick ----
 
-inside_or_last : (n period : ℕ) → n < period → (suc n < period) ⊎ (suc n ≡ period)
-inside_or_last n period l = grind arith
-
 no_answers : (times : TimeParts) (q : ℕ) → [] ≡ one_answer times q 0
 no_answers times q = rw (le-ltb times.send 0 (omega arith)) refl
 
 one_whole : (times : TimeParts) (q n : ℕ) → times.send < suc n →
-    one_answer times q (suc n) ≡ record { tick = q * times.period + times.send; good = true } ∷ []
+    one_answer times q (suc n) ≡ right_answer times q ∷ []
 one_whole times q n l = rw (lt-ltb times.send (suc n) l) refl
-
-not_first : (w : WeightParts) (wrong : Bool) (bits : List Bool) → is_reached w (wrong ∷ bits) ≡ false →
-    is_first w (wrong ∷ bits) ≡ false
-unfolding is_first
-not_first w wrong bits low = and_left _ _ low
 
 module _ (s : Setting) (accepted : IsAccepted s.cal) (few : 2 * s.cal.times.weights.up < s.cal.times.weights.limit) (start : ℕ)
     (x : Tick) (h : List Tick) (q n settled : ℕ) (at : length h ≡ q * s.cal.times.period + n) (room : n < s.cal.times.period)
@@ -96,10 +87,10 @@ module _ (s : Setting) (accepted : IsAccepted s.cal) (few : 2 * s.cal.times.weig
   answers_now : settled ≤ q → answers_in (take (suc n) (now ∷ past)) ≡ one_answer times q (suc n)
   unfolding answers_in
   answers_now from = ap (λ t. with_answer t now.mark (answers_in (take n past)))
-      (moment-tick s x.effects x.entry past ∙ size) ∙ goes.answers from
+      ((fields s x.effects x.entry past).tick ∙ size) ∙ goes.answers from
 
   opens_none : now.opens ≡ false
-  opens_none = moment-opens s x.effects x.entry past ∙ goes.opens
+  opens_none = (fields s x.effects x.entry past).opens ∙ goes.opens
 
   -- one that has none
   go_on : suc n < times.period → Recovering s start (x ∷ h)
@@ -125,20 +116,14 @@ module _ (s : Setting) (accepted : IsAccepted s.cal) (few : 2 * s.cal.times.weig
           next k t e f = omega (arith, e, f)
 
       none : now.verdict ≡ None
-      none = moment-verdict s x.effects x.entry past
+      none = (fields s x.effects x.entry past).verdict
           ∙ verdict_none times accepted.times x.effects now.mark past (omega (arith, place))
 
       same : wrongs (now ∷ past) ≡ wrongs past
-      same = wrongs-cons now past ∙ ap (λ v. with_wrong v (wrongs past)) none ∙ kept
-        where
-          kept : with_wrong None (wrongs past) ≡ wrongs past
-          kept = unfold with_wrong in refl
+      same = wrongs-cons now past ∙ ap (λ v. with_wrong v (wrongs past)) none ∙ (unfold with_wrong in refl)
 
       unconfirmed : now.confirms ≡ false
-      unconfirmed = moment-confirms s x.effects x.entry past ∙ ap (λ v. confirms_at times v past) none ∙ nothing
-        where
-          nothing : confirms_at times None past ≡ false
-          nothing = unfold confirms_at in refl
+      unconfirmed = (fields s x.effects x.entry past).confirms ∙ ap (λ v. confirms_at times v past) none ∙ (unfold confirms_at in refl)
 
   -- one that closes a period
   close : suc n ≡ times.period → Recovering s start (x ∷ h)
@@ -174,26 +159,20 @@ module _ (s : Setting) (accepted : IsAccepted s.cal) (few : 2 * s.cal.times.weig
           next k t e f = omega (arith, e, f)
 
       told : now.verdict ≡ Some (verdict_of times these)
-      told = moment-verdict s x.effects x.entry past
+      told = (fields s x.effects x.entry past).verdict
           ∙ verdict_some times accepted.times x.effects now.mark past goes.judged last_one
 
       bits : wrongs (now ∷ past) ≡ wrong ∷ wrongs past
-      bits = wrongs-cons now past ∙ ap (λ v. with_wrong v (wrongs past)) told ∙ one_more
-        where
-          one_more : with_wrong (Some (verdict_of times these)) (wrongs past) ≡ wrong ∷ wrongs past
-          one_more = unfold with_wrong in refl
+      bits = wrongs-cons now past ∙ ap (λ v. with_wrong v (wrongs past)) told ∙ (unfold with_wrong in refl)
 
       -- from period `settled` on one good answer was sent, so it is right
       right : settled ≤ q → wrong ≡ false
       right from = ap (λ a. is_wrong (verdict_of times a)) (ap₂ (λ t k. with_answer t now.mark (answers_in (take k past))) size less
           ∙ goes.answers from ∙ one_whole times q n (let z = send_within times accepted.times in omega (arith, z, whole)))
-          ∙ ap is_wrong (right_alone times q accepted.times) ∙ good
+          ∙ ap is_wrong (right_alone times q accepted.times) ∙ (unfold is_wrong in refl)
         where
           less : times.period - 1 ≡ n
           less = omega (arith, whole)
-
-          good : is_wrong Right ≡ false
-          good = unfold is_wrong in refl
 
       weighs : Weighs times.weights (q + 1) settled (wrong ∷ wrongs past)
       weighs = weighs_more times.weights q settled (wrongs past) wrong right goes.weighs
@@ -202,24 +181,21 @@ module _ (s : Setting) (accepted : IsAccepted s.cal) (few : 2 * s.cal.times.weig
       low = never_reached times.weights (q + 1) settled (wrong ∷ wrongs past) few weighs
 
       unconfirmed : now.confirms ≡ false
-      unconfirmed = moment-confirms s x.effects x.entry past ∙ ap (λ v. confirms_at times v past) told ∙ not_yet
+      unconfirmed = (fields s x.effects x.entry past).confirms ∙ ap (λ v. confirms_at times v past) told ∙ not_yet
         where
           not_yet : confirms_at times (Some (verdict_of times these)) past ≡ false
-          not_yet = unfold confirms_at wrongs in not_first times.weights wrong (wrongs past) low
+          not_yet = unfold confirms_at wrongs is_first in and_left _ _ low
 
   one_more : Recovering s start (x ∷ h)
-  one_more = elim (inside_or_last n times.period room) [
+  one_more = elim (cases_lt (suc n) times.period) [
     | inl more ↦ go_on more
-    | inr whole ↦ close whole
+    | inr whole ↦ close (omega (arith, whole, room))
   ]
 
 -- ---- a tick at which level 2 runs ----
 
 scaled : (a b p : ℕ) → a ≤ b → a * p ≤ b * p
 scaled a b p l = grind arith
-
-old_or_now : (a t : ℕ) → a < suc t → (a < t) ⊎ (a ≡ t)
-old_or_now a t l = grind arith
 
 -- the send tick from which on all ran since the last answer
 send_place : (settled period send t : ℕ) → send < period → settled * period + send ≡ t + period → t % period ≡ send
@@ -250,16 +226,16 @@ module _ (s : Setting) (are : AreTimes s.cal.times) (start : ℕ) (e : Entry) (h
 
   sends_now : r.settled * s.cal.times.period + s.cal.times.send ≡ length h + s.cal.times.period →
       is_answer now_plain.mark ≡ true
-  sends_now e' = ap is_answer (moment-mark s no_effects e before_plain)
+  sends_now e' = ap is_answer (fields s no_effects e before_plain).mark
       ∙ answered_plain s.cal.times now_plain.trip before_plain calm untripped
       (ap (λ t. t % s.cal.times.period) (length-moments s h)
       ∙ send_place r.settled s.cal.times.period s.cal.times.send (length h) (send_within s.cal.times are) e')
 
   all_ran : r.settled * s.cal.times.period + s.cal.times.send < suc (length h) + s.cal.times.period →
       whole_since_answer (now_plain ∷ before_plain) ≡ true
-  all_ran late = elim (old_or_now (r.settled * s.cal.times.period + s.cal.times.send) (length h + s.cal.times.period) (omega (arith, late))) [
-    | inl old ↦ whole-cons now_plain before_plain (moment-whole s no_effects e before_plain ∙ whole_plain) (r.whole old)
-    | inr now ↦ (unfold whole_since_answer in or_left _ _ (sends_now now))
+  all_ran late = elim (cases_lt (r.settled * s.cal.times.period + s.cal.times.send) (length h + s.cal.times.period)) [
+    | inl old ↦ whole-cons now_plain before_plain ((fields s no_effects e before_plain).whole ∙ whole_plain) (r.whole old)
+    | inr now ↦ (unfold whole_since_answer in or_left _ _ (sends_now (omega (arith, now, late))))
   ]
 
   ran_since : r.settled ≤ r.q → whole_since_answer before_plain ≡ true
@@ -272,7 +248,7 @@ module _ (s : Setting) (are : AreTimes s.cal.times) (start : ℕ) (e : Entry) (h
       ∙ sent_now s.cal.times r.q r.n (length h) r.room r.at
     where
       usual : now_plain.mark ≡ usual_mark s.cal.times (length h)
-      usual = moment-mark s no_effects e before_plain
+      usual = (fields s no_effects e before_plain).mark
           ∙ mark_plain s.cal.times now_plain.trip before_plain calm untripped (ran_since from)
           ∙ ap (usual_mark s.cal.times) (length-moments s h)
 

@@ -1,7 +1,7 @@
 -- What verdicts weigh under misses that are far apart: two that are spoiled, and then right ones that take that
 -- back before the next two.
-use Rattle.std.proofs.Common.{◌≡◌, ℕ, ◌+◌, ◌-◌, ◌*◌, ◌≤◌, ◌<◌, Bool, true, false, List, [], ◌∷◌, inl, inr, ◌⊎◌, sym, ◌∙◌, subst, arith}
-use Rattle.std.proofs.lemmas.Bool.{lt-leb, or_from, true≢false}
+use Rattle.std.proofs.Common.{◌≡◌, ℕ, ◌+◌, ◌-◌, ◌*◌, ◌≤◌, ◌<◌, Bool, true, false, List, [], ◌∷◌, inl, inr, sym, ◌∙◌, subst, arith}
+use Rattle.std.proofs.lemmas.Bool.{cases_lt, lt-leb, or_from, true≢false}
 use Rattle.eg_num.specs.Arithmetic.{quotient_up}
 use Rattle.eg_num.specs.Windows.{WeightParts, is_reached, is_confirmed, greatest}
 use Rattle.eg_num.proofs.CounterLemmas.{greatest-nil, greatest-bad, greatest-good, is_reached-greatest}
@@ -33,8 +33,8 @@ weighs_anew w q bits e = record {
     two : q + 2 - q ≡ 2
     two = omega arith
 
-before_or_from : (settled q : ℕ) → (settled ≤ q) ⊎ (q + 1 ≤ settled)
-before_or_from settled q = grind arith
+scaled : (a b d : ℕ) → a ≤ b → a * d ≤ b * d
+scaled a b d l = grind arith
 
 -- one verdict more
 weighs_bad : (w : WeightParts) (q settled : ℕ) (bits : List Bool) → q + 1 ≤ settled → Weighs w q settled bits →
@@ -60,50 +60,23 @@ weighs_bad w q settled bits early before = record {
 
 weighs_good : (w : WeightParts) (q settled : ℕ) (bits : List Bool) → Weighs w q settled bits →
     Weighs w (q + 1) settled (false ∷ bits)
-weighs_good w q settled bits before = elim (before_or_from settled q) [
-  | inl from ↦ record {
-    risen = rw (greatest-good w bits) (subst (λ k. greatest w bits - w.down + k * w.up ≤ 2 * w.up) (sym (left from))
-        (let r = before.risen in omega (arith, r)));
-    fallen = rw (greatest-good w bits) (subst (λ k. greatest w bits - w.down ≤ 2 * w.up - k * w.down) (sym (longer from))
-        (less (greatest w bits) (2 * w.up) (q - settled) w.down before.fallen));
-    none = still;
-  }
-  | inr early ↦ record {
-    risen = rw (greatest-good w bits) (rise (greatest w bits) w.down w.up (settled - (q + 1))
-        (subst (λ k. greatest w bits + k * w.up ≤ 2 * w.up) (one_more early) before.risen));
-    fallen = rw (greatest-good w bits) (subst (λ k. greatest w bits - w.down ≤ 2 * w.up - k * w.down) (sym (past early))
-        (let r = before.risen in omega (arith, r)));
-    none = still;
-  }
-]
+weighs_good w q settled bits before = record {
+  risen = rw (greatest-good w bits) (let l = scaled (settled - (q + 1)) (settled - q) w.up (omega arith) in
+      let r = before.risen in omega (arith, l, r));
+  fallen = rw (greatest-good w bits) (falls (greatest w bits) w.up w.down (q - settled) (q + 1 - settled) _ before.risen before.fallen (omega arith));
+  none = λ z. rw (greatest-good w bits) (let n = before.none z in omega (arith, n));
+}
   where
-    left : settled ≤ q → settled - (q + 1) ≡ 0
-    left from = omega (arith, from)
-
-    longer : settled ≤ q → q + 1 - settled ≡ q - settled + 1
-    longer from = omega (arith, from)
-
-    one_more : q + 1 ≤ settled → settled - q ≡ settled - (q + 1) + 1
-    one_more early = omega (arith, early)
-
-    past : q + 1 ≤ settled → q + 1 - settled ≡ 0
-    past early = omega (arith, early)
-
-    still : settled ≡ 0 → greatest w (false ∷ bits) ≡ 0
-    still z = rw (greatest-good w bits) (let n = before.none z in omega (arith, n))
-
-    less : (g most k down : ℕ) → g ≤ most - k * down → g - down ≤ most - (k + 1) * down
-    less g most k down l = omega (arith, l)
-
-    rise : (g down up k : ℕ) → g + (k + 1) * up ≤ 2 * up → g - down + k * up ≤ 2 * up
-    rise g down up k l = omega (arith, l)
+    falls : (g up down k next over : ℕ) → g + over ≤ 2 * up → g ≤ 2 * up - k * down → next ≤ k + 1 →
+        g - down ≤ 2 * up - next * down
+    falls g up down k next over r f l = let m = scaled next (k + 1) down l in omega (arith, r, f, m)
 
 pub weighs_more : (w : WeightParts) (q settled : ℕ) (bits : List Bool) (wrong : Bool) → (settled ≤ q → wrong ≡ false) →
     Weighs w q settled bits → Weighs w (q + 1) settled (wrong ∷ bits)
 weighs_more w q settled bits false right before = weighs_good w q settled bits before
-weighs_more w q settled bits true right before = elim (before_or_from settled q) [
-  | inl from ↦ absurd (true≢false (right from))
-  | inr early ↦ weighs_bad w q settled bits early before
+weighs_more w q settled bits true right before = elim (cases_lt q settled) [
+  | inr from ↦ absurd (true≢false (right from))
+  | inl early ↦ weighs_bad w q settled bits (omega (arith, early)) before
 ]
 
 -- after the right verdicts between two misses nothing is left of the two wrong ones
@@ -117,9 +90,6 @@ weighs_nothing times q settled bits some late before = omega (arith, before.fall
 
     down : ℕ
     down = times.weights.down
-
-    scaled : (a b d : ℕ) → a ≤ b → a * d ≤ b * d
-    scaled a b d l = grind arith
 
     back : 2 * up ≤ (q - settled) * down
     back = let whole = rounded_up (2 * up) down some in

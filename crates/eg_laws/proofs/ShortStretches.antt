@@ -1,8 +1,8 @@
 -- Under lapses an answer at which a stretch of excess is as long as the runs that confirm it isn't good, so
 -- where these runs fit into a period the stretch is soon over.
-use Rattle.std.proofs.Common.{◌≡◌, ◌≢◌, ℕ, zero, suc, ◌+◌, ◌-◌, ◌*◌, ◌/◌, ◌%◌, ◌≤◌, ◌<◌, Bool, true, false, List, [], ◌∷◌, ◌++◌, length, refl, sym, ap, ap₂, ◌∙◌, subst, arith, inl, inr, ◌⊎◌, length-append}
+use Rattle.std.proofs.Common.{◌≡◌, ◌≢◌, ℕ, zero, suc, ◌+◌, ◌-◌, ◌*◌, ◌/◌, ◌%◌, ◌≤◌, ◌<◌, true, false, List, [], ◌∷◌, ◌++◌, length, refl, sym, ap, ap₂, ◌∙◌, subst, arith, inl, inr, length-append}
 use Rattle.std.specs.Prelude.{if◌then◌else◌, ◌==◌}
-use Rattle.std.proofs.lemmas.Bool.{ne_eqb, and_parts}
+use Rattle.std.proofs.lemmas.Bool.{cases_lt, true≢false, cases_Bool, ne_eqb, and_parts}
 use Rattle.eg_num.specs.Arithmetic.{quotient_up}
 use Rattle.eg_answer.specs.Times.{TimeParts, feeds_to_confirm, reaction_of, periods_to_confirm, worth_of, rounds_to_confirm, lapse_periods}
 use Rattle.eg_answer.specs.declared.marks.AnswerMark.TheVariants.{Absent, Good}
@@ -18,15 +18,15 @@ use Rattle.eg_record.specs.Excess.{true_excess}
 use Rattle.eg_model.specs.Premises.{AreProper, Follows, is_on_after, true_excesses}
 use Rattle.eg_model.specs.Lapses.{IsLapse, Exceeds}
 use Rattle.eg_laws.specs.LeastLapse.{RunsFit, least_lapse_bound, StretchesAreShorter, NoneStandsSoLong}
-use Rattle.eg_model.proofs.TickLemmas.{Each, Each-map, length-moments, moment-mark, moment-whole, untripped_before}
-use Rattle.eg_model.proofs.TripLemmas.{off_by_latch1}
+use Rattle.eg_model.proofs.TickLemmas.{Each, Each-map, length-moments, untripped_before, fields}
+use Rattle.eg_model.proofs.TripLemmas.{trip_from_fed, off_by_latch1}
 use Rattle.eg_model.proofs.PeriodLemmas.{quotient}
 use Rattle.eg_model.proofs.Silence.{AreRegular, TrueRun, NoGood, send_within, sent_at_place, run_confirms, off_after_silence}
-use Rattle.eg_model.proofs.LapseRuns.{AllOrNone, AllOrNoneEach, lapse_all_or_none, trip_opens, trip_from_fed, runs_in, runs_in-cons, AllExceed, runs_find}
+use Rattle.eg_model.proofs.LapseRuns.{AllOrNone, AllOrNoneEach, lapse_all_or_none, trip_opens, runs_in, runs_in-cons, AllExceed, runs_find}
 use Rattle.eg_model.proofs.LapseAnswers.{is_good_mark, absent_off_place, whole_before, whole_where_good}
 use Rattle.eg_model.proofs.LapseWeights.{all_of_fewer, rounded_up}
 use Rattle.eg_model.proofs.LapseLaw.{exceed_behind, off_no_excess, lapsing_history}
-use Rattle.eg_model.proofs.ReactionLaw.{Split, split}
+use Rattle.eg_model.proofs.SpanRows.{EndOf, end_of}
 use Rattle.eg_laws.proofs.FewVerdicts.{quotient_positive}
 
 -- fewer than a period before a send tick none is
@@ -67,7 +67,7 @@ all_ran s (x ∷ h) regular (suc k) within off whole =
     m = moment s x.effects x.entry past
 
     absent : m.mark ≡ Absent
-    absent = moment-mark s x.effects x.entry past
+    absent = (fields s x.effects x.entry past).mark
         ∙ absent_off_place s.cal.times x.effects m.trip past regular.0
         (ap (λ n. n % s.cal.times.period == s.cal.times.send) (length-moments s h) ∙ off (length h) (omega arith) (omega arith))
 
@@ -83,15 +83,14 @@ module _ (s : Setting) (accepted : IsAccepted s.cal) (fit : RunsFit s.cal) where
   -- where level 2 ran at `many` ticks of it a trip has come
   trip_from_runs : (h : List Tick) → AllOrNoneEach h → AreProper s h → AllExceed s many h →
       runs_in many (moments_of s h) ≡ many → tripped (moments_of s h) ≡ true
-  trip_from_runs h each proper exceed ran = go (tripped (moments_of s h)) refl
-    where
-      go : (b : Bool) → tripped (moments_of s h) ≡ b → tripped (moments_of s h) ≡ true
-      go true u = u
-      go false u = trip_from_fed s h
-          (run_confirms s.cal.rules.torque many (fed_bits torque_bit (moments_of s h))
-          (let f = accepted.torque.3 in omega arith)
-          (unfold feeds_to_confirm in rounded_up s.cal.rules.torque.limit s.cal.rules.torque.up (let f = accepted.torque.0 in omega arith))
-          (subst (λ n. TrueRun n (fed_bits torque_bit (moments_of s h))) ran (runs_find s accepted h each proper many exceed u)))
+  trip_from_runs h each proper exceed ran = elim (cases_Bool (tripped (moments_of s h))) [
+    | inl u ↦ u
+    | inr u ↦ trip_from_fed s h
+        (run_confirms s.cal.rules.torque many (fed_bits torque_bit (moments_of s h))
+        (let f = accepted.torque.3 in omega arith)
+        (unfold feeds_to_confirm in rounded_up s.cal.rules.torque.limit s.cal.rules.torque.up (let f = accepted.torque.0 in omega arith))
+        (subst (λ n. TrueRun n (fed_bits torque_bit (moments_of s h))) ran (runs_find s accepted h each proper many exceed u)))
+  ]
 
   -- so an answer there isn't good
   not_good : (x : Tick) (h : List Tick) → AllOrNoneEach (x ∷ h) → AreProper s (x ∷ h) → AllExceed s many (x ∷ h) →
@@ -100,7 +99,7 @@ module _ (s : Setting) (accepted : IsAccepted s.cal) (fit : RunsFit s.cal) where
   unfolding Each moments_of
   not_good x h each proper exceed some within untripped good = absurd
       (let trip : tripped (moments_of s (x ∷ h)) ≡ true = trip_from_runs (x ∷ h) each proper exceed ran in
-      let both : true ≡ false = sym trip ∙ untripped in cc)
+      true≢false (sym trip ∙ untripped))
     where
       past : List Moment
       past = moments_of s h
@@ -109,7 +108,7 @@ module _ (s : Setting) (accepted : IsAccepted s.cal) (fit : RunsFit s.cal) where
       m = moment s x.effects x.entry past
 
       marked : mark_at s.cal.times x.effects m.trip past ≡ Good
-      marked = sym (moment-mark s x.effects x.entry past) ∙ good
+      marked = sym (fields s x.effects x.entry past).mark ∙ good
 
       place : length h % s.cal.times.period ≡ s.cal.times.send
       place = ap (λ n. n % s.cal.times.period) (sym (length-moments s h))
@@ -118,7 +117,7 @@ module _ (s : Setting) (accepted : IsAccepted s.cal) (fit : RunsFit s.cal) where
 
       whole : (m.whole ≡ true) × (whole_since_answer past ≡ true)
       whole = (let both = whole_where_good s.cal.times x.effects m.trip past (unfold is_good_mark in ap is_good_mark marked) in
-          (moment-whole s x.effects x.entry past ∙ both.0, both.1))
+          ((fields s x.effects x.entry past).whole ∙ both.0, both.1))
 
       go : (k : ℕ) → k ≡ many → 0 < k → runs_in k (m ∷ past) ≡ k
       go zero is none = absurd (omega arith)
@@ -150,22 +149,18 @@ module _ (s : Setting) (accepted : IsAccepted s.cal) (fit : RunsFit s.cal) where
       AreProper s (front ++ back) → 0 < many → many ≤ length back + 1 →
       AllExceed s (length front + (many - 1)) (front ++ back) → reaction_of s.cal.times ≤ length front →
       is_on_after s (front ++ back) x ≡ false
-  off_by_then x front back one each proper some within exceed long = go (tripped (moments_of s (front ++ back))) refl
-    where
-      go : (b : Bool) → tripped (moments_of s (front ++ back)) ≡ b → is_on_after s (front ++ back) x ≡ false
-      go true u = unfold is_on_after in
-          off_by_latch1 s x.effects x.entry (moments_of s (front ++ back)) (one.obeys 1) (trip_opens s (front ++ back) each u)
-      go false u = off_after_silence s accepted.times (let a = accepted.answers.0 in omega arith)
-          (let a = accepted.answers.3 in omega arith) front back
-          (Each-map (λ y one. one.regular) (front ++ back) each)
-          (silence front back each proper some within exceed u) long x (one.obeys PATH_2)
+  off_by_then x front back one each proper some within exceed long = elim (cases_Bool (tripped (moments_of s (front ++ back)))) [
+    | inl u ↦ (unfold is_on_after in
+        off_by_latch1 s x.effects x.entry (moments_of s (front ++ back)) (one.obeys 1) (trip_opens s (front ++ back) each u))
+    | inr u ↦ off_after_silence s accepted.times (let a = accepted.answers.0 in omega arith)
+        (let a = accepted.answers.3 in omega arith) front back
+        (Each-map (λ y one. one.regular) (front ++ back) each)
+        (silence front back each proper some within exceed u) long x (one.obeys PATH_2)
+  ]
 
 -- ---- the law ----
 
-less_or : (a b : ℕ) → (a < b) ⊎ (b ≤ a)
-less_or a b = grind arith
-
-runs_positive : (s : Setting) → IsAccepted s.cal → 0 < feeds_to_confirm s.cal.rules.torque
+pub runs_positive : (s : Setting) → IsAccepted s.cal → 0 < feeds_to_confirm s.cal.rules.torque
 unfolding feeds_to_confirm
 runs_positive s accepted = quotient_positive s.cal.rules.torque.limit s.cal.rules.torque.up
     (let a = accepted.torque.3 in omega arith) (let a = accepted.torque.0 in omega arith)
@@ -191,33 +186,33 @@ too_long s accepted fit lapse start (x ∷ h) follows proper m exceed long =
     now : AllExceed s (suc (least_lapse_bound s.cal - 1)) (x ∷ h)
     now = all_of_fewer (λ b. b) (suc (least_lapse_bound s.cal - 1)) m (true_excesses s (x ∷ h)) (let b = bound in let l = long in let p = some in omega arith) exceed.each
 
-    cut : Split h (length h - reaction_of s.cal.times)
-    cut = split h (length h - reaction_of s.cal.times) (omega arith)
+    cut : EndOf h (length h - reaction_of s.cal.times)
+    cut = end_of h (length h - reaction_of s.cal.times) (omega arith)
 
-    sizes : length cut.front + length cut.back ≡ length h
-    sizes = sym (length-append cut.front cut.back) ∙ ap length cut.whole
+    sizes : length cut.more + length cut.rest ≡ length h
+    sizes = sym (ap length cut.whole ∙ length-append cut.more cut.rest)
 
-    long_front : least_lapse_bound s.cal - 1 ≡ length cut.front + (feeds_to_confirm s.cal.rules.torque - 1)
+    long_front : least_lapse_bound s.cal - 1 ≡ length cut.more + (feeds_to_confirm s.cal.rules.torque - 1)
     long_front = let w = exceed.within in let c = cut.size in let z = sizes in let b = bound in let l = long in
         let p = some in omega arith
 
-    behind : AllExceed s (length cut.front + (feeds_to_confirm s.cal.rules.torque - 1)) h
+    behind : AllExceed s (length cut.more + (feeds_to_confirm s.cal.rules.torque - 1)) h
     behind = exceed_behind s (x ∷ []) h (suc (least_lapse_bound s.cal - 1))
-        (length cut.front + (feeds_to_confirm s.cal.rules.torque - 1)) (let e = long_front in omega arith) now
+        (length cut.more + (feeds_to_confirm s.cal.rules.torque - 1)) (let e = long_front in omega arith) now
 
-    each : AllOrNoneEach (cut.front ++ cut.back)
-    each = rw cut.whole (lapsing_history s lapse start h follows.1)
+    each : AllOrNoneEach (cut.more ++ cut.rest)
+    each = rw cut.whole at (lapsing_history s lapse start h follows.1)
 
     off : (moment s x.effects x.entry (moments_of s h)).on ≡ false
-    off = subst (λ l. (moment s x.effects x.entry (moments_of s l)).on ≡ false) cut.whole
-        (off_by_then s accepted fit x cut.front cut.back
+    off = subst (λ l. (moment s x.effects x.entry (moments_of s l)).on ≡ false) (sym cut.whole)
+        (off_by_then s accepted fit x cut.more cut.rest
         (subst AllOrNone (sym follows.0) (lapse_all_or_none s.fault lapse (start + length h))) each
-        (rw cut.whole proper.1) some (let w = exceed.within in let c = cut.size in let b = bound in let l = long in let p = some in omega arith)
-        (rw cut.whole behind)
+        (rw cut.whole at proper.1) some (let w = exceed.within in let c = cut.size in let b = bound in let l = long in let p = some in omega arith)
+        (subst (AllExceed s (length cut.more + (feeds_to_confirm s.cal.rules.torque - 1))) cut.whole behind)
         (let w = exceed.within in let c = cut.size in let z = sizes in let b = bound in let l = long in let p = some in omega arith))
 
 pub stretches_are_shorter : StretchesAreShorter
-stretches_are_shorter cal accepted fit s is lapse start h follows proper m exceed = elim (less_or m (least_lapse_bound cal)) [
+stretches_are_shorter cal accepted fit s is lapse start h follows proper m exceed = elim (cases_lt m (least_lapse_bound cal)) [
   | inl less ↦ omega (arith, less)
   | inr long ↦ absurd (too_long s (subst IsAccepted (sym is) accepted) (subst RunsFit (sym is) fit) lapse start h follows proper m exceed
       (subst (λ c. least_lapse_bound c ≤ m) (sym is) long))

@@ -1,7 +1,7 @@
 -- A lapse that leaves out one tick, or one tick every `every` ticks: how far apart its misses lie.
 use Rattle.std.proofs.Common.{◌≡◌, ℕ, zero, suc, ◌+◌, ◌-◌, ◌*◌, ◌/◌, ◌%◌, ◌≤◌, ◌<◌, Bool, true, false, not, [], ◌∷◌, inl, inr, Some, refl, sym, ap, ◌∙◌, arith}
 use Rattle.std.specs.Prelude.{if◌then◌else◌, ◌==◌}
-use Rattle.std.proofs.lemmas.Bool.{or_cases, ne_eqb, eqb-true, true≢false}
+use Rattle.std.proofs.lemmas.Bool.{true_from_ne_false, or_cases, ne_eqb, eqb-true, true≢false}
 use Rattle.eg_answer.specs.Modules.{modules_before_react, modules}
 use Rattle.eg_fault.specs.Effects.{no_effects}
 use Rattle.eg_fault.specs.Faults.{is_left_out, effects_of}
@@ -28,14 +28,13 @@ record Comes (onset after every tick : ℕ) : Type 0 where
 
 left_out : (after every k : ℕ) → not (is_whole (effects_of (Lapse (after ∷ []) every) k)) ≡ true → after ≡ turn every k
 unfolding effects_of is_left_out turn
-left_out after every k missed = elim (or_cases (after == (if every == 0 then k else k % every)) false (out (is_left_out (after ∷ []) every k) refl)) [
+left_out after every k missed = elim (or_cases (after == (if every == 0 then k else k % every)) false (true_from_ne_false _ out)) [
   | inl same ↦ eqb-true _ _ same
   | inr none ↦ absurd (true≢false (sym none))
 ]
   where
-    out : (b : Bool) → is_left_out (after ∷ []) every k ≡ b → is_left_out (after ∷ []) every k ≡ true
-    out true e = e
-    out false e = absurd (true≢false (sym missed ∙ ap (λ o. not (is_whole (record no_effects { ran = λ i. not o }))) e ∙ ap not (whole_lapse false)))
+    out : is_left_out (after ∷ []) every k ≡ false → ⊥
+    out e = true≢false (sym missed ∙ ap (λ o. not (is_whole (record no_effects { ran = λ i. not o }))) e ∙ ap not (whole_lapse false))
 
 comes : (onset after every tick : ℕ) → misses_tick (Some (record { onset = onset; class = Lapse (after ∷ []) every })) tick ≡ true →
     Comes onset after every tick

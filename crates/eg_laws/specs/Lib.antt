@@ -1,4 +1,7 @@
 pub mod LeastReaction
 pub mod LeastLapse
+pub mod Stretches
+pub mod Bursts
+pub mod Seeing
 pub mod Availability
 pub mod Examples

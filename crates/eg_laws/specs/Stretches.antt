@@ -1,0 +1,133 @@
+-- How long a true excess lasts: with no fault or a listed one each stretch of ticks in a row with excess
+-- has D - 1 + R ticks at most, where D feeds confirm it; and D ticks where the reaction is at once. No
+-- smaller numbers serve. In a stretch of ticks or rows the newest stands first.
+use Rattle.std.specs.Prelude.{◌≡◌, ℕ, ◌+◌, ◌-◌, ◌≤◌, true, List, [], ◌++◌, All, length, replicate, Option, None}
+use Rattle.eg_num.specs.Arithmetic.{estimate}
+use Rattle.eg_num.specs.Drive.{DriveRow}
+use Rattle.eg_answer.specs.Times.{feeds_to_confirm, reaction_of}
+use Rattle.eg_values.specs.Calibration.{CalibrationParts, IsAccepted}
+use Rattle.eg_fault.specs.Faults.{effects_of, IsListed}
+use Rattle.eg_fault.specs.declared.class.Class.TheVariants.{Path1Closed}
+use Rattle.eg_fault.specs.declared.class.Fault.{Fault}
+use Rattle.eg_record.specs.declared.row.Row.{Row}
+use Rattle.eg_record.specs.Excess.{true_excess}
+use Rattle.eg_record.specs.Spans.{EachDriveSpan}
+use Rattle.eg_model.specs.History.{Setting, Tick}
+use Rattle.eg_model.specs.Premises.{AreProper, Follows}
+use Rattle.eg_model.specs.Reaction.{is_at_once}
+use Rattle.eg_model.specs.Lapses.{Exceeds}
+use Rattle.eg_model.specs.Engines.{BenchEngine}
+use Rattle.eg_model.specs.Bench.{Run}
+use Rattle.eg_model.specs.Rows.{record_rows}
+use Rattle.eg_model.specs.Records.{IsRun}
+use Rattle.eg_laws.specs.LeastReaction.{CanExceed, giving, until_confirmed, closed_setting}
+use Rattle.eg_laws.specs.LeastLapse.{Lasts}
+
+-- how many ticks of excess in a row confirm it, D
+unfoldable pub ticks_to_confirm : CalibrationParts → ℕ
+ticks_to_confirm cal = feeds_to_confirm cal.rules.torque
+
+-- The longest stretch in ticks: D - 1 by which it isn't confirmed yet, and R from the tick by which it is.
+unfoldable pub longest_stretch : CalibrationParts → ℕ
+longest_stretch cal = ticks_to_confirm cal - 1 + reaction_of cal.times
+
+-- These ticks, after the ticks `before`, are a stretch with true excess at each, in a history that begins
+-- at tick `start` of a run.
+pub record IsStretch (s : Setting) (start : ℕ) (stretch before : List Tick) : Type 0 where
+  pub follows : Follows s.fault start (stretch ++ before)
+  pub proper : AreProper s (stretch ++ before)
+  pub exceeds : Exceeds s (length stretch) (stretch ++ before)
+
+-- with no fault or a listed one each stretch has `longest` ticks at most
+abbrev pub StretchesEndBy : CalibrationParts → (longest : ℕ) → Type 0
+StretchesEndBy cal longest =
+    (s : Setting) → s.cal ≡ cal → IsListed s.fault → (start : ℕ) (stretch before : List Tick) →
+    IsStretch s start stretch before → length stretch ≤ longest
+
+-- so it is where the reaction is at once from the tick that comes D ticks after the begin of the stretch
+abbrev pub StretchesEndAtOnceBy : CalibrationParts → (longest : ℕ) → Type 0
+StretchesEndAtOnceBy cal longest =
+    (s : Setting) → s.cal ≡ cal → IsListed s.fault → (start : ℕ) (stretch before : List Tick) →
+    is_at_once s.fault (start + length before + ticks_to_confirm cal) ≡ true →
+    IsStretch s start stretch before → length stretch ≤ longest
+
+-- The two laws. (Without a fault the reaction is always at once.)
+abbrev pub StretchesEnd : Type 0
+StretchesEnd = (cal : CalibrationParts) → IsAccepted cal → StretchesEndBy cal (longest_stretch cal)
+
+abbrev pub StretchesEndAtOnce : Type 0
+StretchesEndAtOnce =
+    (cal : CalibrationParts) → IsAccepted cal → StretchesEndAtOnceBy cal (ticks_to_confirm cal)
+
+-- ---- the histories that show that no smaller numbers serve ----
+
+-- a tick after the excess is confirmed, at which path 1 is held closed: the excess goes on
+abbrev pub exceeding_after : CalibrationParts → DriveRow → (load : ℕ) → Tick
+exceeding_after cal drive load =
+    record { effects = effects_of Path1Closed 0; entry = giving drive load (estimate cal.rules.kt load) }
+
+-- path 1 is held closed from the tick on that comes after the confirmed excess, which lasts as long as it
+-- can
+abbrev pub ExcessLasts : Type 0
+ExcessLasts =
+    (cal : CalibrationParts) → IsAccepted cal → (can : CanExceed cal) →
+    IsListed (closed_setting cal).fault
+    × Lasts (closed_setting cal)
+    (replicate (reaction_of cal.times - 1) (exceeding_after cal can.drive can.load)
+    ++ until_confirmed cal can.drive can.load)
+    (longest_stretch cal)
+
+-- a setting without a fault, in which the excess lasts the D ticks that confirm it
+abbrev pub faultless_setting : CalibrationParts → Setting
+faultless_setting cal = record { cal = cal; image = []; fault = None }
+
+abbrev pub ExcessLastsUntilConfirmed : Type 0
+ExcessLastsUntilConfirmed =
+    (cal : CalibrationParts) → IsAccepted cal → (can : CanExceed cal) →
+    Lasts (faultless_setting cal) (until_confirmed cal can.drive can.load) (ticks_to_confirm cal)
+
+-- so any number that serves in one of the two laws is the number there or more
+abbrev pub StretchIsLeast : Type 0
+StretchIsLeast =
+    (cal : CalibrationParts) → IsAccepted cal → CanExceed cal → (longest : ℕ) →
+    StretchesEndBy cal longest → longest_stretch cal ≤ longest
+
+abbrev pub StretchAtOnceIsLeast : Type 0
+StretchAtOnceIsLeast =
+    (cal : CalibrationParts) → IsAccepted cal → CanExceed cal → (longest : ℕ) →
+    StretchesEndAtOnceBy cal longest → ticks_to_confirm cal ≤ longest
+
+-- ---- the rows of a drive span that begins at tick `start`, or of its part up to any tick ----
+
+-- there is true excess at each of these rows
+abbrev pub AllExcess : (threshold : ℕ) → List Row → Type 0
+AllExcess threshold stretch = All (λ row. true_excess threshold row ≡ true) stretch
+
+-- each stretch of rows in a row with true excess has `longest` rows at most
+abbrev pub RowsEndStretches : (threshold longest start : ℕ) → List Row → Type 0
+RowsEndStretches threshold longest start rows =
+    (later stretch before : List Row) → rows ≡ later ++ (stretch ++ before) → AllExcess threshold stretch →
+    length stretch ≤ longest
+
+-- so has each where the reaction is at once from the tick that comes `longest` ticks after its begin
+abbrev pub RowsEndStretchesAtOnce : Option Fault → (threshold longest start : ℕ) → List Row → Type 0
+RowsEndStretchesAtOnce fault threshold longest start rows =
+    (later stretch before : List Row) → rows ≡ later ++ (stretch ++ before) →
+    is_at_once fault (start + length before + longest) ≡ true → AllExcess threshold stretch →
+    length stretch ≤ longest
+
+-- ---- of every record ----
+
+-- with no fault or a listed one: in each drive span each stretch has `longest_stretch` rows at most
+abbrev pub RecordsEndStretches : {E : Type 0} → BenchEngine E → Type 0
+RecordsEndStretches b =
+    (r : Run) → IsRun r → IsListed r.setting.fault →
+    EachDriveSpan (RowsEndStretches r.setting.cal.rules.threshold (longest_stretch r.setting.cal))
+    (record_rows b r)
+
+-- and D rows at most where the reaction is at once
+abbrev pub RecordsEndStretchesAtOnce : {E : Type 0} → BenchEngine E → Type 0
+RecordsEndStretchesAtOnce b =
+    (r : Run) → IsRun r → IsListed r.setting.fault →
+    EachDriveSpan (RowsEndStretchesAtOnce r.setting.fault r.setting.cal.rules.threshold
+    (ticks_to_confirm r.setting.cal)) (record_rows b r)

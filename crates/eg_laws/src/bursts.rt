@@ -1,0 +1,30 @@
+// How often an excess may come again.
+ghost use Rattle.std.specs.Prelude.{◌≡◌, true, false, [], ◌∷◌, ◌++◌, replicate};
+ghost use Rattle.eg_values.specs.Reference.{reference_rules};
+ghost use Rattle.eg_model.specs.Engines.{gasoline, diesel};
+ghost use Rattle.eg_laws.specs.Bursts.{most_bad, densest, hasty, BurstsAreSparse, SoManyCanBeBad, FewerMayDo, RecordsAreSparse};
+
+/// How often an excess may come again and not be confirmed (docs/CONCEPT.md, "Why the unit reacts"): of any
+/// n ticks in a row at most `(limit - 1 + n*down)/(up + down)`, rounded down, have excess, by the weights
+/// of the torque. So many may have it where `up` and `down` together are at most the limit; elsewhere fewer
+/// may. It does nothing when it runs.
+pub fn bursts_are_sparse()
+    ensures sparse { BurstsAreSparse }
+    ensures reached { SoManyCanBeBad }
+    ensures fewer { FewerMayDo }
+{}
+
+/// What `bursts_are_sparse` says of bits, of the true excess by the rows of each drive span of the record
+/// of a run on the bench, for the gasoline engine and for the diesel engine. It does nothing when it runs.
+pub fn records_are_sparse()
+    ensures { RecordsAreSparse gasoline × RecordsAreSparse diesel }
+{}
+
+/// `bursts_are_sparse` worked out with the reference calibration (1, 1 and 5): 52 of 100 ticks may have
+/// excess. The densest ticks are four of excess, and then every other one. By 1, 2 and 2 the law's number
+/// is 3 of 4. It does nothing when it runs.
+pub fn densest_feeds()
+    ensures most { most_bad reference_rules.torque 100 ≡ 52 }
+    ensures densest { densest reference_rules.torque 8 ≡ true ∷ false ∷ true ∷ false ∷ replicate 4 true }
+    ensures hasty { most_bad hasty 4 ≡ 3 }
+{}

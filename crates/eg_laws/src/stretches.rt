@@ -1,0 +1,40 @@
+// How long an excess lasts.
+ghost use Rattle.std.specs.Prelude.{◌≡◌, true, false, [], ◌∷◌, ◌++◌, map, replicate, reverse};
+ghost use Rattle.eg_values.specs.Reference.{reference_rules, reference_parts};
+ghost use Rattle.eg_record.specs.Excess.{true_excess};
+ghost use Rattle.eg_model.specs.Rows.{rows_of};
+ghost use Rattle.eg_model.specs.Engines.{gasoline, diesel};
+ghost use Rattle.eg_laws.specs.Stretches.{ticks_to_confirm, longest_stretch, StretchesEnd, StretchesEndAtOnce, ExcessLasts, ExcessLastsUntilConfirmed, StretchIsLeast, StretchAtOnceIsLeast, RecordsEndStretches, RecordsEndStretchesAtOnce};
+ghost use Rattle.eg_laws.specs.Examples.{longest_closed};
+
+/// How long an excess lasts (docs/CONCEPT.md, "Why the unit reacts"): with no fault or a listed one a
+/// stretch of true excess has at most D - 1 + R ticks, where D feeds confirm it; and D ticks where the
+/// reaction is at once, as without a fault. No smaller numbers serve where an excess can be confirmed at
+/// all. It does nothing when it runs.
+pub fn excess_ends()
+    ensures ends { StretchesEnd }
+    ensures at_once { StretchesEndAtOnce }
+    ensures lasts { ExcessLasts }
+    ensures confirmed { ExcessLastsUntilConfirmed }
+    ensures least { StretchIsLeast }
+    ensures least_at_once { StretchAtOnceIsLeast }
+{}
+
+/// What `excess_ends` says (docs/CONCEPT.md, "Why the unit reacts"), by the rows of each drive span of the
+/// record of a run on the bench, for the gasoline engine and for the diesel engine. It does nothing when it
+/// runs.
+pub fn records_end_excess()
+    ensures ends { RecordsEndStretches gasoline × RecordsEndStretches diesel }
+    ensures at_once { RecordsEndStretchesAtOnce gasoline × RecordsEndStretchesAtOnce diesel }
+{}
+
+/// `excess_ends` worked out with the reference calibration, by which the longest stretch has 38 ticks:
+/// there is excess at the ticks from 12 to 49, path 1 is held closed from tick 17 on, and the stages are
+/// off at tick 50. It does nothing when it runs.
+pub fn longest_stretch_run()
+    ensures longest { longest_stretch reference_parts ≡ 38 }
+    ensures confirms { ticks_to_confirm reference_parts ≡ 5 }
+    ensures excess { map (true_excess reference_rules.threshold) (reverse (rows_of longest_closed))
+        ≡ replicate 12 false ++ replicate 38 true ++ false ∷ [] }
+    ensures stages { map (λ m. m.on) (reverse longest_closed) ≡ replicate 50 true ++ false ∷ [] }
+{}
