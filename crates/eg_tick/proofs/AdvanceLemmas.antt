@@ -1,6 +1,7 @@
 -- A tick, from what each of its parts says of itself.
-use Rattle.std.proofs.Common.{◌≡◌, ◌∙◌, refl, sym, ap, ap₂, subst, inr, ℕ, ◌+◌, ◌≤◌, ◌<◌, not, ◌||◌, ◌&&◌, All, Bool, false, None, Option, Some, List, [], ◌∷◌, length, slice_index, arith}
-use Rattle.std.specs.Prelude.{◌==◌, Result, OnErr}
+use Rattle.std.proofs.Common.{◌≡◌, ◌∙◌, refl, sym, ap, ap₂, subst, inr, ℕ, ◌+◌, ◌≤◌, ◌<◌, not, ◌||◌, ◌&&◌, All, Bool, true, false, IsTrue, None, Option, Some, List, [], ◌∷◌, length, slice_index, arith}
+use Rattle.std.specs.Prelude.{◌==◌, Result, Err, IsOk, IsErr}
+use Rattle.std.proofs.lemmas.Result.{IfOk-from_err}
 use Rattle.std.specs.Option.{option_or}
 use Rattle.eg_base.proofs.ResultLemmas.{at_err}
 use Rattle.eg_num.specs.Drive.{DriveRow, IsDrive}
@@ -13,6 +14,7 @@ use Rattle.eg_fault.specs.Classes.{IsHeldWithin}
 use Rattle.eg_fault.proofs.ClassLemmas.{plates_are_held_within}
 use Rattle.eg_values.specs.Calibration.{IsAccepted}
 use Rattle.eg_guard.specs.Memory.{ShownMemory, AreWords}
+use Rattle.eg_guard.proofs.KeepsLemmas.{clash}
 use Rattle.eg_word.specs.declared.registers.Registers.{Registers}
 use Rattle.eg_word.specs.World.{World, world_of}
 use Rattle.eg_record.specs.declared.row.Row.{Row}
@@ -31,11 +33,12 @@ use Rattle.eg_agree.specs.Doings.{phase_at}
 use Rattle.eg_model.specs.Rows.{trap_in, row_of}
 use Rattle.eg_agree.specs.Replies.{moment_after}
 use Rattle.eg_agree.proofs.HistoryLemmas.{within_law}
-use Rattle.eg_tick.specs.Kept.{Kept}
-use Rattle.eg_tick.specs.Stands.{kind_of, Stands, HoldsMonitor}
+use Rattle.eg_tick.specs.Kept.{Kept, ControllerParts}
+use Rattle.eg_tick.specs.Stands.{kind_of, Stands, HoldsMonitor, IsController}
+use Rattle.eg_tick.specs.Entering.{StaysOrBegins}
 use Rattle.eg_tick.specs.Working.{Serves, Served, IsStep}
 use Rattle.eg_tick.specs.Judging.{ComesNext, Tells}
-use Rattle.eg_tick.specs.Advancing.{effects_after, entry_of, world_before, StaysOrSteps}
+use Rattle.eg_tick.specs.Advancing.{effects_after, entry_of, world_before, StaysOrSteps, IsTick}
 use Rattle.eg_tick.specs.declared.monitoring.Judgement.{Judgement}
 use Rattle.eg_tick.specs.declared.paths.Paths.{Paths}
 use Rattle.eg_tick.specs.declared.span.SpanTick.{SpanTick}
@@ -173,24 +176,57 @@ module _ (s : Setting) (e : Entry) (h : List Entry) (old : Kept) (paths : Paths)
       four P throttle ignition (next-on s e h old paths enter leads-in) held told
 
 -- where memory ran out behind it: the engine made its one step
-pub stepped : {T X E : Type 0} (result : Result T X) (steps : E → ℕ → ℕ → Bool → Option ℕ → E → Type 0) (s : Setting) (drive : DriveRow) (slices : List ℕ) (shown : Shown)
+pub stepped : {E : Type 0} (steps : E → ℕ → ℕ → Bool → Option ℕ → E → Type 0) (s : Setting) (drive : DriveRow) (slices : List ℕ) (shown : Shown)
     (h : List Entry) (now before : Kept) (span : Span) (m : Registers) (memory : ShownMemory) (reset : Bool) (paths : Paths) (under : Option Fault) (held : Option ℕ)
     (engine old new : E) → before ≡ now → under ≡ before.fault → engine ≡ old → Stands s now h → reset ≡ drive.reset → ComesIn before reset span m memory →
     paths.path1 ≡ (effects under before.ticks).conducts 1 span.open1 → paths.path2 ≡ (effects under before.ticks).conducts 2 span.open2 →
     paths.on ≡ (drives (kind_of span.tests) && (paths.path1 && paths.path2)) → held ≡ (effects under before.ticks).held_plate →
     steps engine (slice_index memory.words 2064) (slice_index memory.words 2065) paths.on held new →
-    OnErr result (StaysOrSteps steps s drive slices shown h old new)
+    StaysOrSteps steps s drive slices shown h old new
 unfolding entry_of
-stepped result steps s drive slices shown h now before span m memory reset paths under held engine old new same is_under is_old stands resets comes path1 path2 on is_held told =
+stepped steps s drive slices shown h now before span m memory reset paths under held engine old new same is_under is_old stands resets comes path1 path2 on is_held told =
     let e : Entry = entry_of drive slices shown in
     let throttle = slice_index memory.words 2064 in
     let ignition = slice_index memory.words 2065 in
-    at_err result (inr (step-begun s e h (entered before span m memory) paths
+    inr (step-begun s e h (entered before span m memory) paths
     (enters s before e h reset span m memory (subst (λ k. Stands s k h) (sym same) stands) resets comes)
     (path1 ∙ ap (λ f. (effects f before.ticks).conducts 1 span.open1) is_under) (path2 ∙ ap (λ f. (effects f before.ticks).conducts 2 span.open2) is_under) on
     (λ throttle ignition on held. steps old throttle ignition on held new)
     (subst (λ x. steps x throttle ignition paths.on (effects before.fault before.ticks).held_plate new) is_old
-    (subst (λ k. steps engine throttle ignition paths.on k new) (is_held ∙ ap (λ f. (effects f before.ticks).held_plate) is_under) told))))
+    (subst (λ k. steps engine throttle ignition paths.on k new) (is_held ∙ ap (λ f. (effects f before.ticks).held_plate) is_under) told)))
+
+-- A tick in which memory ran out, whatever the call answers.
+pub unmade : {E X : Type 0} {shows : E → Shown} {steps : E → ℕ → ℕ → Bool → Option ℕ → E → Type 0} {drive : DriveRow} {slices : List ℕ} {old new : ControllerParts E}
+    (result : Result Row X) → IsErr result → new.kept.shown ≡ shows new.engine → new.kept.fault ≡ old.kept.fault → new.kept.cal ≡ old.kept.cal → IsController new.kept
+    → new.kept.lost ≡ true → (old.kept.lost ≡ true → new ≡ old) → new.kept.ticks ≡ old.kept.ticks → new.kept.trap ≡ old.kept.trap
+    → (IsTrue old.kept.memory.sure → IsOk result) → new.kept.memory.sure ≡ old.kept.memory.sure
+    → ((s : Setting) (h : List Entry) → Stands s old.kept h → StaysOrSteps steps s drive slices new.kept.shown h old.engine new.engine)
+    → StaysOrBegins drive.reset old.kept.span new.kept.span → IsTick shows steps drive slices old new result
+unmade result is shown fault cal keeps lost rests ticks trap sure stays_sure stepped begun = record {
+  stands = λ s h stands. IfOk-from_err result _ is;
+  row = λ s h stands. IfOk-from_err result _ is;
+  engine = λ s h stands. IfOk-from_err result _ is;
+  shown = shown;
+  ticks = IfOk-from_err result _ is;
+  fault = fault;
+  cal = cal;
+  keeps = keeps;
+  lost = λ lost. is;
+  loses = at_err result lost;
+  rests = rests;
+  same_ticks = at_err result ticks;
+  same_trap = at_err result trap;
+  sure = sure;
+  stays_sure = stays_sure;
+  same_or_stepped = λ s h stands. at_err result (stepped s h stands);
+  same_or_begun = at_err result begun;
+}
+
+pub refused : {E X : Type 0} {shows : E → Shown} {steps : E → ℕ → ℕ → Bool → Option ℕ → E → Type 0} {drive : DriveRow} {slices : List ℕ} {old new : ControllerParts E} {x : X}
+    (result : Result Row X) → IsErr result → (let refused : Result Row X = Err x in IsTick shows steps drive slices old new refused)
+    → IsTick shows steps drive slices old new result
+refused result is tick = unmade result is tick.shown tick.fault tick.cal tick.keeps tick.loses tick.rests tick.same_ticks tick.same_trap
+    (λ sure. absurd (clash (tick.sure sure))) tick.stays_sure tick.same_or_stepped tick.same_or_begun
 
 -- What the parts of a tick say, where `old` is the controller as it begins: `under` is the fault, and level 2 is `made` of these parts.
 pub record Advance (old new : Kept) (drive : DriveRow) (budgets : List ℕ) (under : Option Fault) (made : Level2Parts)

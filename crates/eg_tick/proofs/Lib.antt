@@ -1,4 +1,3 @@
-pub mod MomentLemmas
 pub mod FrameLemmas
 pub mod MidwayLemmas
 pub mod TickLemmas
@@ -12,6 +11,7 @@ pub mod AdvanceLemmas
 pub mod MonitorLemmas
 pub mod FlipLemmas
 pub mod StepLemmas
+pub mod TurnLemmas
 pub mod ReactionLemmas
 pub mod RunLemmas
 pub mod CountLemmas

@@ -3,7 +3,7 @@ use Rattle.std.proofs.Common.{◌≡◌, ◌∙◌, refl, sym, ap, ℕ, zero, su
 use Rattle.std.proofs.lemmas.Bool.Decides.{eqb_tells}
 use Rattle.std.proofs.lemmas.List.{get_or-set_same, get_or-set_other, take_all}
 use Rattle.eg_level2.specs.Stores.{Store, store, put, after_stores, AreFirst}
-use Rattle.eg_level2.proofs.OrderLemmas.{longer}
+use Rattle.eg_level2.proofs.MakesLemmas.{longer}
 use Rattle.eg_sensor.specs.declared.readings.Readings.{Readings}
 use Rattle.eg_tick.specs.Board.{stores_from, clearing, ten_ports, showing, AreMade}
 

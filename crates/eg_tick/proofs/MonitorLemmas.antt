@@ -26,14 +26,14 @@ use Rattle.eg_model.specs.History.{Setting, Tick, SpanKind, Moment}
 use Rattle.eg_model.specs.Answers.{with_answer, answers_in, verdict_at, verdicts_in, confirms_at}
 use Rattle.eg_model.specs.Premises.{Follows}
 use Rattle.eg_model.specs.Moments.{moment_in, moments_in}
-use Rattle.eg_model.proofs.SpanLemmas.{length-moments_in}
+use Rattle.eg_model.proofs.TickLemmas.{length-moments_in}
 use Rattle.eg_agree.specs.Replies.{moment_after, number_expected, mark_of}
 use Rattle.eg_agree.proofs.ReplyLaws.{number_expected-usual}
 use Rattle.eg_tick.specs.Stands.{was_wild, IsOrderly, HoldsMonitor, HoldsSpan}
 use Rattle.eg_tick.specs.Kept.{Kept}
 use Rattle.eg_values.specs.Calibration.{CalibrationParts}
 use Rattle.eg_tick.specs.Judging.{with_heard, Takes, IsDeaf, ComesNext}
-use Rattle.eg_tick.proofs.MomentLemmas.{moment_in-tick, moment_in-verdict, moment_in-confirms, moment_in-opens}
+use Rattle.eg_model.proofs.TickLemmas.{fields_in}
 
 -- ---- wild, once it has begun ----
 
@@ -65,7 +65,7 @@ unfolding moments_in answers_in
 answers_below kind s zero h t before = All-nil (λ answer. answer.tick < t)
 answers_below kind s (suc n) [] t before = All-nil (λ answer. answer.tick < t)
 answers_below kind s (suc n) (x ∷ h) t before =
-    let is : (moment_in kind s x.effects x.entry (moments_in kind s h)).tick ≡ length h = moment_in-tick kind s x.effects x.entry (moments_in kind s h) ∙ length-moments_in kind s h in
+    let is : (moment_in kind s x.effects x.entry (moments_in kind s h)).tick ≡ length h = (fields_in kind s x.effects x.entry (moments_in kind s h)).tick ∙ length-moments_in kind s h in
     with_answer-below _ t _ _ (omega (arith, is, before)) (answers_below kind s n h t (omega (arith, before)))
 
 heard_below : (n t : ℕ) (heard : List HeardAnswer) → All (λ answer. answer.tick < t) (map (marked n) heard) → All (λ answer. answer.tick < t) heard
@@ -228,7 +228,7 @@ module _ (kind : SpanKind) (s : Setting) (x : Tick) (h : List Tick) where
   moments-cons = refl
 
   next-tick : m.tick ≡ length h
-  next-tick = moment_in-tick kind s x.effects x.entry past ∙ length-moments_in kind s h
+  next-tick = (fields_in kind s x.effects x.entry past).tick ∙ length-moments_in kind s h
 
   verdicts-cons : verdicts_in (moments_in kind s (x ∷ h)) ≡ with_verdict m.verdict (verdicts_in past)
   unfolding moments_in verdicts_in
@@ -278,7 +278,7 @@ module _ (kind : SpanKind) (s : Setting) (begin : ℕ) (x : Tick) (h : List Tick
     tame-verdict : verdict ≡ (moment_after kind s x h).verdict
     tame-verdict =
         verdict-given s.cal.times x.effects (moment_after kind s x h).mark (moments_in kind s h) (length h) n heard verdict (length-moments_in kind s h) tame told gives
-        ∙ sym (moment_in-verdict kind s x.effects x.entry (moments_in kind s h))
+        ∙ sym ((fields_in kind s x.effects x.entry (moments_in kind s h)).verdict)
 
     tame-holds : HoldsMonitor kind s now (x ∷ h)
     tame-holds = record {
@@ -297,7 +297,7 @@ module _ (kind : SpanKind) (s : Setting) (begin : ℕ) (x : Tick) (h : List Tick
   module _ (asks : ℕ) (wild : x.effects.wild ≡ Some asks) (deaf : IsDeaf before now verdict) where
     wild-verdict : verdict ≡ (moment_after kind s x h).verdict
     wild-verdict = deaf.none
-        ∙ sym (moment_in-verdict kind s x.effects x.entry (moments_in kind s h) ∙ verdict-wild s.cal.times x.effects (moment_after kind s x h).mark (moments_in kind s h) asks wild)
+        ∙ sym ((fields_in kind s x.effects x.entry (moments_in kind s h)).verdict ∙ verdict-wild s.cal.times x.effects (moment_after kind s x h).mark (moments_in kind s h) asks wild)
 
     wild_now : was_wild (x ∷ h) ≡ true
     unfolding was_wild
@@ -340,7 +340,7 @@ module _ (kind : SpanKind) (s : Setting) (x : Tick) (h : List Tick) (fault : Opt
       (subst (λ y. Hears y local answer before now verdict) effects-is hears)) _ refl
 
   pub judged-opens : (opens : Bool) → opens ≡ (effects fault tick).opens → opens ≡ (moment_after kind s x h).opens
-  judged-opens opens is = is ∙ ap (λ (y : Effects). y.opens) effects-is ∙ sym (moment_in-opens kind s x.effects x.entry (moments_in kind s h))
+  judged-opens opens is = is ∙ ap (λ (y : Effects). y.opens) effects-is ∙ sym ((fields_in kind s x.effects x.entry (moments_in kind s h)).opens)
 
   number-is : (questions : List Question) → before.questions ≡ questions → number_of (effects fault tick) before.times questions local ≡ number_expected s x.effects (length h)
   unfolding number_of number_expected
@@ -369,7 +369,7 @@ module _ (kind : SpanKind) (s : Setting) (x : Tick) (h : List Tick) (fault : Opt
       (is_so _ holds.given
       ∙ ap (λ (times : TimeParts). is_confirmed times.weights (map is_wrong (verdicts_in (moments_in kind s (x ∷ h))))) holds.times
       ∙ ap (λ verdicts. is_confirmed s.cal.times.weights (map is_wrong verdicts)) (verdicts-cons kind s x h))
-      ∙ sym (moment_in-confirms kind s x.effects x.entry (moments_in kind s h))
+      ∙ sym ((fields_in kind s x.effects x.entry (moments_in kind s h)).confirms)
 
 -- ---- for the controller ----
 

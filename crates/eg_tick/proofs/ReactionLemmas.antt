@@ -17,12 +17,13 @@ use Rattle.eg_model.specs.SpanHistories.{SpanIsHistory}
 use Rattle.eg_model.specs.Records.{NeverFails, is_before_onset}
 use Rattle.eg_model.proofs.ReactionLaw.{reacts_in_time, reacts_at_once_law}
 use Rattle.eg_model.proofs.LapseLaw.{cuts_lapses, lapses_are_short}
-use Rattle.eg_model.proofs.SpanLemmas.{length-moments_in, kind-goes_on, ticks_before-begins, ticks_before-goes_on, tick_after, ticks_before, Continues, continues, spans_are_histories}
+use Rattle.eg_model.proofs.TickLemmas.{length-moments_in}
+use Rattle.eg_model.proofs.SpanLemmas.{kind-goes_on, ticks_before-begins, ticks_before-goes_on, tick_after, ticks_before, Continues, continues, spans_are_histories}
 use Rattle.eg_model.proofs.RecordLaws.{next_passes, next_cuts_sharply}
 use Rattle.eg_tick.specs.Kept.{Kept}
 use Rattle.eg_tick.specs.Stands.{Stands}
 use Rattle.eg_tick.specs.Advancing.{entry_of, RowIsUnpowered, RowCutsSharply, DrivesOn, RowReactsInTime, RowReactsAtOnce, RowCutsStandingExcess, HistoryHasShortExcess}
-use Rattle.eg_tick.proofs.MomentLemmas.{moment_in-fresh}
+use Rattle.eg_model.proofs.TickLemmas.{fields_in}
 
 -- ---- the next row of a run ----
 
@@ -32,7 +33,7 @@ module _ (s : Setting) (e : Entry) (h : List Entry) where
 
   row_fresh : (row_of (length h) (next s e h)).fresh ≡ (length (ticks_before s e h) == 0)
   unfolding row_of
-  row_fresh = ap (λ (m : Moment). m.fresh) goes.moment_is ∙ moment_in-fresh _ s _ e _
+  row_fresh = ap (λ (m : Moment). m.fresh) goes.moment_is ∙ (fields_in _ s _ e _).fresh
       ∙ ap (λ n. n == 0) (length-moments_in (kind_at e.drive (moments s h)) s (ticks_before s e h))
 
   row_on : (row_of (length h) (next s e h)).on

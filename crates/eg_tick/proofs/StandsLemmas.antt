@@ -19,7 +19,8 @@ use Rattle.eg_model.specs.Premises.{IsProperRun}
 use Rattle.eg_model.specs.Moments.{limit_at, moments_in}
 use Rattle.eg_model.specs.Spans.{span_kind, has_passed, kind_at, moments, next, span_ticks}
 use Rattle.eg_model.specs.Rows.{row_of, signal_list, first_trap, trap_in}
-use Rattle.eg_model.proofs.SpanLemmas.{length-moments_in, length-run_moments, tick_after, ticks_before, Continues, continues}
+use Rattle.eg_model.proofs.TickLemmas.{length-moments_in}
+use Rattle.eg_model.proofs.SpanLemmas.{length-run_moments, tick_after, ticks_before, Continues, continues}
 use Rattle.eg_agree.specs.Standing.{signals_of}
 use Rattle.eg_agree.specs.Ticking.{found_in_level2}
 use Rattle.eg_agree.specs.Replies.{moment_after}
@@ -32,7 +33,7 @@ use Rattle.eg_tick.specs.declared.monitoring.Judgement.{Judgement}
 use Rattle.eg_tick.specs.declared.paths.Paths.{Paths}
 use Rattle.eg_tick.specs.declared.span.SpanTick.{SpanTick}
 use Rattle.eg_tick.specs.declared.span.Span.{Span}
-use Rattle.eg_tick.proofs.MomentLemmas.{moment_in-entry, moment_in-limit, moment_in-path1, moment_in-path2, moment_in-on, moment_in-testing, moment_in-fresh, moment_in-passes, moment_in-start, moment_in-answers}
+use Rattle.eg_model.proofs.TickLemmas.{fields_in}
 
 -- ---- as a tick begins ----
 
@@ -94,18 +95,18 @@ module _ (kind : SpanKind) (s : Setting) (x : Tick) (h : List Tick) (old : Kept)
 
   led1 : paths.path1 ≡ (moment_after kind s x h).path1
   unfolding path1_at
-  led1 = leads.path1 ∙ ap (x.effects.conducts 1) holds.latches.path1 ∙ sym (moment_in-path1 kind s x.effects x.entry ticks-past)
+  led1 = leads.path1 ∙ ap (x.effects.conducts 1) holds.latches.path1 ∙ sym ((fields_in kind s x.effects x.entry ticks-past).path1)
 
   led2 : paths.path2 ≡ (moment_after kind s x h).path2
   unfolding path2_at
-  led2 = leads.path2 ∙ ap (x.effects.conducts 2) holds.latches.path2 ∙ sym (moment_in-path2 kind s x.effects x.entry ticks-past)
+  led2 = leads.path2 ∙ ap (x.effects.conducts 2) holds.latches.path2 ∙ sym ((fields_in kind s x.effects x.entry ticks-past).path2)
 
   led-both : (paths.path1 && paths.path2) ≡ both_conduct x.effects ticks-past
   unfolding both_conduct
-  led-both = ap₂ (λ a b. a && b) (led1 ∙ moment_in-path1 kind s x.effects x.entry ticks-past) (led2 ∙ moment_in-path2 kind s x.effects x.entry ticks-past)
+  led-both = ap₂ (λ a b. a && b) (led1 ∙ (fields_in kind s x.effects x.entry ticks-past).path1) (led2 ∙ (fields_in kind s x.effects x.entry ticks-past).path2)
 
   led-on : paths.on ≡ (moment_after kind s x h).on
-  led-on = leads.on ∙ ap₂ (λ k b. drives k && b) holds.kind_is led-both ∙ sym (moment_in-on kind s x.effects x.entry ticks-past)
+  led-on = leads.on ∙ ap₂ (λ k b. drives k && b) holds.kind_is led-both ∙ sym ((fields_in kind s x.effects x.entry ticks-past).on)
 
 -- whether the stages are on is what the model says of the next tick of the run
 pub next-on : (s : Setting) (e : Entry) (h : List Entry) (old : Kept) (paths : Paths) → Enters s old e h → Leads (tick_after s e h) old paths → paths.on ≡ (next s e h).on
@@ -213,10 +214,10 @@ module _ (kind : SpanKind) (s : Setting) (x : Tick) (h : List Tick) (old new : K
 
   passes-is : new.span.passed ≡ m.passes
   passes-is = makes.passed ∙ ap₂ (λ r b. r && not b) read-is (ap₂ (λ a b. a || b) path1-is path2-is)
-      ∙ sym (moment_in-passes kind s x.effects x.entry past)
+      ∙ sym ((fields_in kind s x.effects x.entry past).passes)
 
   fails-is : (span_tick.reads_back && (paths.path1 || paths.path2)) ≡ m.found.start
-  fails-is = ap₂ (λ r b. r && b) read-is (ap₂ (λ a b. a || b) path1-is path2-is) ∙ sym (moment_in-start kind s x.effects x.entry past)
+  fails-is = ap₂ (λ r b. r && b) read-is (ap₂ (λ a b. a || b) path1-is path2-is) ∙ sym ((fields_in kind s x.effects x.entry past).start)
 
   -- ---- the span ----
 
@@ -240,14 +241,14 @@ module _ (kind : SpanKind) (s : Setting) (x : Tick) (h : List Tick) (old new : K
   -- ---- its row ----
 
   entered-is : x.entry ≡ m.entry
-  entered-is = sym (moment_in-entry kind s x.effects x.entry past)
+  entered-is = sym ((fields_in kind s x.effects x.entry past).entry)
 
   shown-is : new.shown ≡ m.entry.shown
   shown-is = sym makes.shown ∙ ap (λ (e : Entry). e.shown) entered-is
 
   answers-are : (drives (kind_of span_tick.tests) && judgement.confirms) ≡ m.found.answers
   answers-are = ap₂ (λ k b. drives k && b) (ap kind_of makes.placed ∙ holds.kind_is) makes.judged.confirms
-      ∙ sym (moment_in-answers kind s x.effects x.entry past)
+      ∙ sym ((fields_in kind s x.effects x.entry past).answers)
 
   pub row-is : (row : Row) (allowed : ℕ) → allowed ≡ limit_at s.cal x.entry.drive → row ≡ row_by old.ticks x.entry.drive allowed new paths span_tick step judgement → row ≡ row_of old.ticks m
   unfolding row_of world_of
@@ -257,7 +258,7 @@ module _ (kind : SpanKind) (s : Setting) (x : Tick) (h : List Tick) (old new : K
     plate = ap (λ (shown : Shown). shown.position) shown-is i;
     charge = ap (λ (shown : Shown). shown.load_1) shown-is i;
     torque = ap (λ (shown : Shown). shown.torque) shown-is i;
-    limit = (permits ∙ sym (moment_in-limit kind s x.effects x.entry past)) i;
+    limit = (permits ∙ sym ((fields_in kind s x.effects x.entry past).limit)) i;
     path1 = path1-is i;
     path2 = path2-is i;
     on = on-is i;
@@ -267,8 +268,8 @@ module _ (kind : SpanKind) (s : Setting) (x : Tick) (h : List Tick) (old new : K
     found = watches-are step.found _ _ m makes.step.found answers-are fails-is i;
     answer = makes.judged.mark i;
     verdict = makes.judged.verdict i;
-    testing = (makes.testing ∙ ap₂ (λ k n. is_testing k s.cal.times n) holds.kind_is local-is ∙ sym (moment_in-testing kind s x.effects x.entry past)) i;
-    fresh = (makes.fresh ∙ ap (λ n. n == 0) local-is ∙ sym (moment_in-fresh kind s x.effects x.entry past)) i;
+    testing = (makes.testing ∙ ap₂ (λ k n. is_testing k s.cal.times n) holds.kind_is local-is ∙ sym ((fields_in kind s x.effects x.entry past).testing)) i;
+    fresh = (makes.fresh ∙ ap (λ n. n == 0) local-is ∙ sym ((fields_in kind s x.effects x.entry past).fresh)) i;
   })
 
 -- ---- what a controller stands for ----

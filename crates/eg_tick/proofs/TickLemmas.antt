@@ -21,7 +21,7 @@ use Rattle.eg_agree.proofs.WholeRuns.{words_stand, is_tick_over, last_checks_sta
 use Rattle.eg_tick.specs.Stands.{HoldsLevel1, HoldsLevel2}
 use Rattle.eg_tick.specs.Midway.{Work, view_at, rest_of, IsSet, IsMidway, work_at}
 use Rattle.eg_tick.proofs.MidwayLemmas.{all-words, all-world}
-use Rattle.eg_tick.proofs.MomentLemmas.{moment_in-world}
+use Rattle.eg_model.proofs.TickLemmas.{fields_in}
 
 -- ---- level 1's world ----
 
@@ -74,7 +74,7 @@ module _ (kind : SpanKind) (s : Setting) (accepted : IsAccepted s.cal) (begin : 
   -- the slices make the model's world
   pub world-is : length x.entry.slices ≡ 9 → rest_of w 0 w.world ≡ (moment_after kind s x h).world
   unfolding rest_of work_at world_at
-  world-is nine = tick-same x.effects.level1 (view_at w) _ x.entry.slices (last_world past) nine view-is ∙ sym (moment_in-world kind s x.effects x.entry past)
+  world-is nine = tick-same x.effects.level1 (view_at w) _ x.entry.slices (last_world past) nine view-is ∙ sym ((fields_in kind s x.effects x.entry past).world)
 
   -- ---- what the memory holds as the tick begins, and after it ----
 

@@ -14,7 +14,7 @@ use Rattle.eg_model.specs.Spans.{kind_at, before_at, moment_at, next_after, mome
 use Rattle.eg_record.specs.declared.row.Row.{Row}
 use Rattle.eg_model.specs.Rows.{row_of}
 use Rattle.eg_tick.specs.Advancing.{world_before, IsTrapped, HoldsOutputs}
-use Rattle.eg_tick.proofs.MomentLemmas.{moment_in-world}
+use Rattle.eg_model.proofs.TickLemmas.{fields_in}
 
 -- ---- a world that is trapped ----
 
@@ -53,7 +53,7 @@ if-same false made world same = refl
 module _ (s : Setting) (e : Entry) (h : List Entry) where
   world-holds : IsTrapped (world_before s e.drive h) → (next s e h).world ≡ world_before s e.drive h
   unfolding world_before next next_after moment_at world_at
-  world-holds trapped = moment_in-world (kind_at e.drive (moments s h)) s (effects s.fault (length (moments s h))) e (before_at e.drive (moments s h))
+  world-holds trapped = (fields_in (kind_at e.drive (moments s h)) s (effects s.fault (length (moments s h))) e (before_at e.drive (moments s h))).world
       ∙ if-same (effects s.fault (length (moments s h))).level1 _ _ (no_slices 0 _ e.slices (last_world (before_at e.drive (moments s h))) trapped)
 
   pub outputs-hold : (row : Row) → IsTrapped (world_before s e.drive h) → row ≡ row_of (length h) (next s e h) →

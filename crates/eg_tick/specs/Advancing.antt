@@ -1,6 +1,6 @@
 -- Outside the headline. A tick of a controller, from a history that it stands for to the history with one
 -- entry more; and what its row owes to the laws of a run.
-use Rattle.std.specs.Prelude.{◌≡◌, ℕ, ◌+◌, ◌-◌, ◌*◌, ◌≤◌, ◌<◌, ◌⊎◌, Bool, true, false, not, List, ◌++◌, All, map, length, Option}
+use Rattle.std.specs.Prelude.{◌≡◌, ℕ, ◌+◌, ◌-◌, ◌*◌, ◌≤◌, ◌<◌, ◌⊎◌, Bool, true, false, not, List, ◌∷◌, ◌++◌, All, map, length, Option, Result, IsTrue, IsOk, IsErr, IfOk, OnOk, OnErr}
 use Rattle.eg_num.specs.Drive.{DriveRow}
 use Rattle.eg_num.specs.Windows.{is_confirmed}
 use Rattle.eg_plant.specs.Engine.{Shown}
@@ -18,11 +18,12 @@ use Rattle.eg_model.specs.Premises.{IsExcessConfirmed}
 use Rattle.eg_model.specs.Reaction.{is_at_once}
 use Rattle.eg_model.specs.Lapses.{IsLapse, Exceeds}
 use Rattle.eg_model.specs.Spans.{span_kind, kind_at, before_at, moments, next, span_ticks}
-use Rattle.eg_model.specs.Rows.{rows_of}
+use Rattle.eg_model.specs.Rows.{rows_of, row_of}
 use Rattle.eg_model.specs.Engines.{IsOneLoad}
 use Rattle.eg_model.specs.Records.{is_before_onset}
-use Rattle.eg_tick.specs.Kept.{Kept}
-use Rattle.eg_tick.specs.Stands.{Stands}
+use Rattle.eg_tick.specs.Kept.{Kept, ControllerParts}
+use Rattle.eg_tick.specs.Stands.{Stands, IsController}
+use Rattle.eg_tick.specs.Entering.{StaysOrBegins}
 
 -- what is out of order at the tick after a history
 unfoldable pub effects_after : Setting → List Entry → Effects
@@ -45,6 +46,39 @@ abbrev pub StaysOrSteps : {E : Type 0} → (steps : E → ℕ → ℕ → Bool �
 StaysOrSteps steps s drive slices shown h old new =
     (new ≡ old) ⊎ steps old (world_before s drive h).throttle (world_before s drive h).ignition
     (next s (entry_of drive slices shown) h).on (effects_after s h).held_plate new
+
+-- A tick of this drive row and this slice row, after which the controller is `new`; `steps` is the relation
+-- of the engine's type, and `shows` what it shows.
+pub record IsTick {E X : Type 0} (shows : E → Shown) (steps : E → ℕ → ℕ → Bool → Option ℕ → E → Type 0)
+    (drive : DriveRow) (slices : List ℕ) (old new : ControllerParts E) (result : Result Row X) : Type 0 where
+  -- Whichever history it stood for, it stands for the history with this tick, whose row is the model's.
+  pub stands : (s : Setting) (h : List Entry) → Stands s old.kept h →
+      OnOk result (Stands s new.kept (entry_of drive slices new.kept.shown ∷ h))
+  pub row : (s : Setting) (h : List Entry) → Stands s old.kept h →
+      IfOk result (λ row. row ≡ row_of (length h) (next s (entry_of drive slices new.kept.shown) h))
+  -- The engine made a step of its own, by the commands as the tick before left them in this span.
+  pub engine : (s : Setting) (h : List Entry) → Stands s old.kept h → OnOk result
+      (steps old.engine (world_before s drive h).throttle (world_before s drive h).ignition
+      (next s (entry_of drive slices new.kept.shown) h).on (effects_after s h).held_plate new.engine)
+  pub shown : new.kept.shown ≡ shows new.engine
+  pub ticks : OnOk result (new.kept.ticks ≡ old.kept.ticks + 1)
+  -- It stays a controller of its run.
+  pub fault : new.kept.fault ≡ old.kept.fault
+  pub cal : new.kept.cal ≡ old.kept.cal
+  pub keeps : IsController new.kept
+  -- Once memory has run out every later tick says so. Over a sure memory it never does.
+  pub lost : old.kept.lost ≡ true → IsErr result
+  pub loses : OnErr result (new.kept.lost ≡ true)
+  pub rests : old.kept.lost ≡ true → new ≡ old
+  pub same_ticks : OnErr result (new.kept.ticks ≡ old.kept.ticks)
+  pub same_trap : OnErr result (new.kept.trap ≡ old.kept.trap)
+  pub sure : IsTrue old.kept.memory.sure → IsOk result
+  pub stays_sure : new.kept.memory.sure ≡ old.kept.memory.sure
+  -- In a tick in which memory runs out the engine stays, or makes its one step; and what is kept of the span,
+  -- the latches of the paths too, stays as it was, or is the span that begins with this tick.
+  pub same_or_stepped : (s : Setting) (h : List Entry) → Stands s old.kept h → OnErr result
+      (StaysOrSteps steps s drive slices new.kept.shown h old.engine new.engine)
+  pub same_or_begun : OnErr result (StaysOrBegins drive.reset old.kept.span new.kept.span)
 
 -- level 1 is trapped in this world
 pub record IsTrapped (world : World) : Type 0 where

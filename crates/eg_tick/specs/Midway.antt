@@ -1,6 +1,6 @@
 -- Outside the headline. Inside a tick: what the memory holds after some slices of level 1 and some modules
 -- of level 2.
-use Rattle.std.specs.Prelude.{◌≡◌, ℕ, ◌<◌, ◌==◌, ◌&&◌, ◌||◌, Bool, is_some, List, drop, slice_index, if◌then◌else◌}
+use Rattle.std.specs.Prelude.{◌≡◌, ℕ, ◌+◌, ◌<◌, ◌==◌, ◌&&◌, ◌||◌, Bool, is_some, List, drop, length, slice_index, if◌then◌else◌, Result, OnOk, IfOk}
 use Rattle.std.specs.Option.{option_or}
 use Rattle.eg_num.specs.declared.watches.Watches.{Watches}
 use Rattle.eg_word.specs.declared.registers.Registers.{Registers}
@@ -8,7 +8,7 @@ use Rattle.eg_word.specs.World.{View, World, world_of}
 use Rattle.eg_word.specs.declared.instruction.Instruction.{Instruction}
 use Rattle.eg_word.specs.Program.{IsProgramOf}
 use Rattle.eg_guard.specs.declared.regions.TheConstants.{DATA}
-use Rattle.eg_guard.specs.Memory.{AreWords}
+use Rattle.eg_guard.specs.Memory.{ShownMemory, AreWords, KeepsMemory}
 use Rattle.eg_answer.specs.declared.modules.TheConstants.{CHECK}
 use Rattle.eg_answer.specs.declared.rules.Rules.{Rules}
 use Rattle.eg_level2.specs.Words.{Words, AreMirrored, AreWithin, words_of}
@@ -24,6 +24,7 @@ use Rattle.eg_model.specs.Rows.{signal_list}
 use Rattle.eg_agree.specs.Standing.{signals_of}
 use Rattle.eg_agree.specs.Replies.{doing_after, words_over}
 use Rattle.eg_tick.specs.declared.working.Task.{Task}
+use Rattle.eg_tick.specs.declared.working.Level1.{Level1}
 
 -- What a tick begins with: the image, what level 2 meets (`doing`) and its words; whether level 1 runs, how
 -- many instructions it may do in each slice, and its world.
@@ -136,3 +137,24 @@ work_at kind s x h = record {
   slices = x.entry.slices;
   world = last_world (moments_in kind s h);
 }
+
+-- The turn of this number in a tick of this task: a slice of level 1, and then the module.
+pub record IsTurn {E : Type 0} (parts : Level2Parts) (x : Effects) (task : Task) (number : ℕ)
+    (before after : Level1) (old new : ShownMemory) (result : Result Step E) : Type 0 where
+  pub midway : (w : Work) → IsDue parts x task w → IsMidway w number number before.host.registers old.words →
+      OnOk result (IsMidway w (number + 1) (number + 1) after.host.registers new.words)
+  pub step : (w : Work) → IsDue parts x task w → IsMidway w number number before.host.registers old.words →
+      IfOk result (λ step. step ≡ step_at w.doing number w.words)
+  pub ready : OnOk result (IsReady parts.rules after.program new.words)
+  pub keeps : KeepsMemory old new result
+
+-- All nine slices and eight modules, in turn.
+pub record RunLevels {E : Type 0} (parts : Level2Parts) (x : Effects) (task : Task) (before after : Level1)
+    (old new : ShownMemory) (result : Result Step E) : Type 0 where
+  pub midway : (w : Work) → IsDue parts x task w → IsMidway w 0 0 before.host.registers old.words →
+      OnOk result (IsMidway w 9 8 after.host.registers new.words)
+  pub step : (w : Work) → IsDue parts x task w → IsMidway w 0 0 before.host.registers old.words →
+      IfOk result (λ step. step ≡ tick_step w.doing w.words)
+  pub nine : OnOk result (length task.slices ≡ 9)
+  pub ready : OnOk result (IsReady parts.rules after.program new.words)
+  pub keeps : KeepsMemory old new result

@@ -10,7 +10,7 @@ ghost use Rattle.eg_model.specs.Records.{NeverFails};
 ghost use Rattle.eg_fault.specs.Faults.{IsNoneOrValid};
 ghost use Rattle.eg_tick.specs.Stands.{Stands, IsController};
 ghost use Rattle.eg_tick.specs.Entering.{StaysOrBegins};
-ghost use Rattle.eg_tick.specs.Advancing.{effects_after, entry_of, world_before, StaysOrSteps, IsTrapped, HoldsOutputs, RowIsUnpowered, RowCutsSharply, RowReactsInTime, RowReactsAtOnce, RowCutsStandingExcess, HistoryHasShortExcess};
+ghost use Rattle.eg_tick.specs.Advancing.{world_before, IsTick, IsTrapped, HoldsOutputs, RowIsUnpowered, RowCutsSharply, RowReactsInTime, RowReactsAtOnce, RowCutsStandingExcess, HistoryHasShortExcess};
 ghost use Rattle.eg_tick.specs.Weights.{weight_of};
 
 use crate::Slices;
@@ -157,18 +157,7 @@ impl<E: Engine + Drop, M: Guarded + Drop> Controller<E, M> {
         steps: &mut Ticks,
     ) -> Result<Row, NoMemory>
         requires fewer { self.old.kept.ticks < 20000 }
-        // Whichever history it stood for, it stands for the history with this tick, whose row is the model's.
-        ensures stands { (s : Setting) (h : List Entry) → Stands s self.old.kept h
-            → OnOk result (Stands s self.new.kept (entry_of drive.now slices.now self.new.kept.shown ∷ h)) }
-        ensures row { (s : Setting) (h : List Entry) → Stands s self.old.kept h → IfOk result (λ row. row
-            ≡ row_of (length h) (next s (entry_of drive.now slices.now self.new.kept.shown) h)) }
-        // The engine made a step of its own, by the commands as the tick before left them in this span.
-        ensures engine { (s : Setting) (h : List Entry) → Stands s self.old.kept h → OnOk result
-            (E.steps self.old.engine (world_before s drive.now h).throttle
-            (world_before s drive.now h).ignition
-            (next s (entry_of drive.now slices.now self.new.kept.shown) h).on
-            (effects_after s h).held_plate self.new.engine) }
-        ensures shows { self.new.kept.shown ≡ E.shows self.new.engine }
+        ensures made { IsTick E.shows E.steps drive.now slices.now self.old self.new result }
         // Once it is trapped level 1 changes nothing any more in this span: its outputs hold.
         ensures trapped { (s : Setting) (h : List Entry) → Stands s self.old.kept h
             → IsTrapped (world_before s drive.now h)
@@ -190,26 +179,6 @@ impl<E: Engine + Drop, M: Guarded + Drop> Controller<E, M> {
         ensures weight { IfOk result (λ row.
             steps.new.weights ≡ (steps.old.weights + weight_of row) % 2 ^ 64) }
         ensures no_weight { OnErr result (steps.new.weights ≡ steps.old.weights) }
-        ensures ticks { OnOk result (self.new.kept.ticks ≡ self.old.kept.ticks + 1) }
-        // Once memory has run out every later tick says so. Over a sure memory it never does.
-        ensures lost { self.old.kept.lost ≡ true → IsErr result }
-        ensures loses { OnErr result (self.new.kept.lost ≡ true) }
-        ensures rests { self.old.kept.lost ≡ true → self.new ≡ self.old }
-        ensures same_ticks { OnErr result (self.new.kept.ticks ≡ self.old.kept.ticks) }
-        ensures same_trap { OnErr result (self.new.kept.trap ≡ self.old.kept.trap) }
-        // In a tick in which memory runs out the engine stays, or makes its one step; and what is kept of the
-        // span, the latches of the paths too, stays as it was, or is the span that begins with this tick.
-        ensures same_or_stepped { (s : Setting) (h : List Entry) → Stands s self.old.kept h → OnErr result
-            (StaysOrSteps E.steps s drive.now slices.now self.new.kept.shown h
-            self.old.engine self.new.engine) }
-        ensures same_or_begun { OnErr result
-            (StaysOrBegins drive.now.reset self.old.kept.span self.new.kept.span) }
-        ensures sure { IsTrue self.old.kept.memory.sure → IsOk result }
-        ensures stays_sure { self.new.kept.memory.sure ≡ self.old.kept.memory.sure }
-        // It stays a controller of its run.
-        ensures fault { self.new.kept.fault ≡ self.old.kept.fault }
-        ensures cal { self.new.kept.cal ≡ self.old.kept.cal }
-        ensures keeps { IsController self.new.kept }
     {
         steps.raise();
         let row = self.advance(drive, slices)?;
@@ -221,32 +190,7 @@ impl<E: Engine + Drop, M: Guarded + Drop> Controller<E, M> {
     #[inline(always)]
     fn advance(&mut self, drive: &Drive, slices: &Slices) -> Result<Row, NoMemory>
         requires fewer { self.old.kept.ticks < 20000 }
-        ensures stands { (s : Setting) (h : List Entry) → Stands s self.old.kept h
-            → OnOk result (Stands s self.new.kept (entry_of drive.now slices.now self.new.kept.shown ∷ h)) }
-        ensures row { (s : Setting) (h : List Entry) → Stands s self.old.kept h → IfOk result (λ row. row
-            ≡ row_of (length h) (next s (entry_of drive.now slices.now self.new.kept.shown) h)) }
-        ensures engine { (s : Setting) (h : List Entry) → Stands s self.old.kept h → OnOk result
-            (E.steps self.old.engine (world_before s drive.now h).throttle
-            (world_before s drive.now h).ignition
-            (next s (entry_of drive.now slices.now self.new.kept.shown) h).on
-            (effects_after s h).held_plate self.new.engine) }
-        ensures shows { self.new.kept.shown ≡ E.shows self.new.engine }
-        ensures ticks { OnOk result (self.new.kept.ticks ≡ self.old.kept.ticks + 1) }
-        ensures fault { self.new.kept.fault ≡ self.old.kept.fault }
-        ensures cal { self.new.kept.cal ≡ self.old.kept.cal }
-        ensures keeps { IsController self.new.kept }
-        ensures lost { self.old.kept.lost ≡ true → IsErr result }
-        ensures loses { OnErr result (self.new.kept.lost ≡ true) }
-        ensures rests { self.old.kept.lost ≡ true → self.new ≡ self.old }
-        ensures same_ticks { OnErr result (self.new.kept.ticks ≡ self.old.kept.ticks) }
-        ensures same_trap { OnErr result (self.new.kept.trap ≡ self.old.kept.trap) }
-        ensures same_or_stepped { (s : Setting) (h : List Entry) → Stands s self.old.kept h → OnErr result
-            (StaysOrSteps E.steps s drive.now slices.now self.new.kept.shown h
-            self.old.engine self.new.engine) }
-        ensures same_or_begun { OnErr result
-            (StaysOrBegins drive.now.reset self.old.kept.span self.new.kept.span) }
-        ensures sure { IsTrue self.old.kept.memory.sure → IsOk result }
-        ensures stays_sure { self.new.kept.memory.sure ≡ self.old.kept.memory.sure }
+        ensures { IsTick E.shows E.steps drive.now slices.now self.old self.new result }
     {
         if self.lost {
             return Err(NoMemory);

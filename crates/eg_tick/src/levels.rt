@@ -13,7 +13,7 @@ ghost use Rattle.eg_level2.specs.Words.{words_of, AreMirrored, AreWithin};
 ghost use Rattle.eg_level2.specs.Inputs.{IsLookup};
 ghost use Rattle.eg_fault.specs.Faults.{IsNoneOrValid};
 ghost use Rattle.eg_tick.specs.Midway;
-ghost use Rattle.eg_tick.specs.Midway.{Work, IsMidway, IsReady, Meets, IsDue, step_at, tick_step};
+ghost use Rattle.eg_tick.specs.Midway.{Work, IsMidway, IsReady, IsTurn, RunLevels, Meets, step_at};
 
 use crate::board::flip;
 use crate::working::{Level1, Task};
@@ -142,17 +142,8 @@ fn turn<M: Guarded>(
     requires fault { IsNoneOrValid (option_copied fault) }
     requires lookup { IsLookup level2.now.rules task.now.lookup }
     requires ready { IsReady level2.now.rules level1.old.program (M.shows memory.old).words }
-    ensures midway { (w : Work)
-        → IsDue level2.now (effects (option_copied fault.entry) task.now.tick) task.now w
-        → IsMidway w number number level1.old.host.registers (M.shows memory.old).words
-        → OnOk result (IsMidway w (number + 1) (number + 1) level1.new.host.registers
-        (M.shows memory.new).words) }
-    ensures step { (w : Work)
-        → IsDue level2.now (effects (option_copied fault.entry) task.now.tick) task.now w
-        → IsMidway w number number level1.old.host.registers (M.shows memory.old).words
-        → IfOk result (λ step. step ≡ step_at w.doing number w.words) }
-    ensures ready { OnOk result (IsReady level2.now.rules level1.new.program (M.shows memory.new).words) }
-    ensures keeps { KeepsMemory (M.shows memory.old) (M.shows memory.new) result }
+    ensures { IsTurn level2.now (effects (option_copied fault.entry) task.now.tick) task.now number
+        level1.old level1.new (M.shows memory.old) (M.shows memory.new) result }
 {
     let budget = task.slices.budget_of(number);
     slice(level1_runs(fault, task.tick), level1, memory, budget)?;
@@ -177,17 +168,8 @@ pub(crate) fn run_levels<E: Engine + Drop, M: Guarded + Drop>(
     requires fault { IsNoneOrValid (option_copied fault) }
     requires lookup { IsLookup level2.now.rules task.now.lookup }
     requires ready { IsReady level2.now.rules level1.old.program (M.shows memory.old).words }
-    ensures midway { (w : Work)
-        → IsDue level2.now (effects (option_copied fault.entry) task.now.tick) task.now w
-        → IsMidway w 0 0 level1.old.host.registers (M.shows memory.old).words
-        → OnOk result (IsMidway w 9 8 level1.new.host.registers (M.shows memory.new).words) }
-    ensures step { (w : Work)
-        → IsDue level2.now (effects (option_copied fault.entry) task.now.tick) task.now w
-        → IsMidway w 0 0 level1.old.host.registers (M.shows memory.old).words
-        → IfOk result (λ step. step ≡ tick_step w.doing w.words) }
-    ensures nine { OnOk result (length task.now.slices ≡ 9) }
-    ensures ready { OnOk result (IsReady level2.now.rules level1.new.program (M.shows memory.new).words) }
-    ensures keeps { KeepsMemory (M.shows memory.old) (M.shows memory.new) result }
+    ensures { RunLevels level2.now (effects (option_copied fault.entry) task.now.tick) task.now
+        level1.old level1.new (M.shows memory.old) (M.shows memory.new) result }
 {
     match fault_of_levels(fault, task.tick) {
         None => run_turns::<E, M, false>(level2, None, task, level1, memory),
@@ -209,17 +191,8 @@ fn run_turns<E: Engine + Drop, M: Guarded + Drop, const FAULTY: bool>(
     requires quiet { IsFalse FAULTY → option_copied fault ≡ None }
     requires lookup { IsLookup level2.now.rules task.now.lookup }
     requires ready { IsReady level2.now.rules level1.old.program (M.shows memory.old).words }
-    ensures midway { (w : Work)
-        → IsDue level2.now (effects (option_copied fault.entry) task.now.tick) task.now w
-        → IsMidway w 0 0 level1.old.host.registers (M.shows memory.old).words
-        → OnOk result (IsMidway w 9 8 level1.new.host.registers (M.shows memory.new).words) }
-    ensures step { (w : Work)
-        → IsDue level2.now (effects (option_copied fault.entry) task.now.tick) task.now w
-        → IsMidway w 0 0 level1.old.host.registers (M.shows memory.old).words
-        → IfOk result (λ step. step ≡ tick_step w.doing w.words) }
-    ensures nine { OnOk result (length task.now.slices ≡ 9) }
-    ensures ready { OnOk result (IsReady level2.now.rules level1.new.program (M.shows memory.new).words) }
-    ensures keeps { KeepsMemory (M.shows memory.old) (M.shows memory.new) result }
+    ensures { RunLevels level2.now (effects (option_copied fault.entry) task.now.tick) task.now
+        level1.old level1.new (M.shows memory.old) (M.shows memory.new) result }
 {
     let fault = acting::<FAULTY>(fault);
     let whole = Step::quiet();

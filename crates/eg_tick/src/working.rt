@@ -56,38 +56,11 @@ impl Level1 {
     }
 }
 
-/// What level 1 and level 2 do at a tick (docs/CONCEPT.md, "A run, tick by tick"). But for the begin of a
-/// span, nothing else stores to the memory at a tick.
+/// What level 1 and level 2 do at a tick: the readings are written to the input ports and the number of the
+/// question to the link, and then slices of level 1 and modules of level 2 run in turn (docs/CONCEPT.md, "A
+/// run, tick by tick"). But for the begin of a span, nothing else stores to the memory at a tick.
 #[inline(always)]
 pub(crate) fn work<E: Engine + Drop, M: Guarded + Drop>(
-    level2: &Level2,
-    fault: Option<&Fault>,
-    task: &Task,
-    level1: &mut Level1,
-    memory: &mut M,
-) -> Result<Step, NoMemory>
-    requires ready { IsReady level2.now.rules level1.old.program (M.shows memory.old).words }
-    requires fault { IsNoneOrValid (option_copied fault) }
-    requires lookup { IsLookup level2.now.rules task.now.lookup }
-    ensures served { (kind : SpanKind) (s : Setting) (x : Tick) (h : List Tick)
-        → Serves kind s x h level2.now (option_copied fault.entry) task.now level1.old.host.registers
-        (M.shows memory.old).words
-        → OnOk result (Served kind s x h level1.new.host.registers (M.shows memory.new).words) }
-    ensures step { (kind : SpanKind) (s : Setting) (x : Tick) (h : List Tick)
-        → Serves kind s x h level2.now (option_copied fault.entry) task.now level1.old.host.registers
-        (M.shows memory.old).words
-        → IfOk result (IsStep kind s x h) }
-    ensures program { OnOk result (IsProgramOf (M.shows memory.new).words level1.new.program) }
-    ensures keeps { KeepsMemory (M.shows memory.old) (M.shows memory.new) result }
-{
-    show_and_run::<E, M>(level2, fault, task, level1, memory)
-}
-
-/// Writes the readings to the input ports and the number of the question to the link; then slices of level 1
-/// and modules of level 2 run in turn (docs/CONCEPT.md, "A run, tick by tick"). It is apart from `work`,
-/// so that a must-fail edit can give `work` another body: the answers belong to this one.
-#[inline(always)]
-fn show_and_run<E: Engine + Drop, M: Guarded + Drop>(
     level2: &Level2,
     fault: Option<&Fault>,
     task: &Task,

@@ -1,6 +1,5 @@
-use Rattle.std.proofs.Common.{◌≡◌, ◌∙◌, refl, sym, ap, subst, ◌+◌, ◌<◌, Some, None, List, ◌∷◌, length, slice_index, true, false, arith}
+use Rattle.std.proofs.Common.{◌≡◌, ◌∙◌, refl, sym, ap, subst, ◌+◌, ◌<◌, Some, None, List, ◌∷◌, length, slice_index, true, false, arith, rules}
 use Rattle.std.specs.Option.{option_copied}
-use Rattle.std.proofs.lemmas.Result.{IfOk-from_err}
 use Rattle.eg_answer.specs.declared.rules.Rules.{Rules}
 use Rattle.eg_num.specs.Interpolation.{grid_at}
 use Rattle.eg_torque.specs.Permit.{drive_permits}
@@ -20,7 +19,7 @@ use Rattle.eg_tick.specs.declared.span.Span.{Span}
 use Rattle.eg_tick.specs.Advancing.{effects_after, entry_of, world_before}
 use Rattle.eg_tick.specs.declared.working.Task.{Task}
 use Rattle.eg_tick.proofs.StandsLemmas.{Enters, entered, enters, next_stands}
-use Rattle.eg_tick.proofs.AdvanceLemmas.{of_setting, held-within, within, few-in, period-in, later-in, stepped, Advance, makes, row-told, step-told}
+use Rattle.eg_tick.proofs.AdvanceLemmas.{of_setting, held-within, within, few-in, period-in, later-in, stepped, unmade, Advance, makes, row-told, step-told}
 use Rattle.eg_tick.proofs.controller.Controller.advance.Given.{Over}
 use Rattle.eg_tick.proofs.controller.Controller.advance.Goals as goal
 
@@ -215,9 +214,6 @@ invariant_of-self-2 g c = record {
   keeps = still g c;
 }
 
-pub returns-clause-stands : goal.returns-clause-stands
-returns-clause-stands g c = stood g c
-
 -- what is permitted, by what the permit table says of the effective drive row
 permits : (g : Over) (c : goal.After-row g) → c.look_up-lookup.result.torque ≡ grid_at (old g c).cal.rules.permit c.look_up-lookup.result.pedal c.look_up-lookup.result.speed
     → c.limit.result ≡ limit_at (old g c).cal c.args.drive.now
@@ -225,68 +221,45 @@ unfolding limit_at
 permits g c looked = c.limit.ensures.limit (old g c).cal looked
     ∙ ap (drive_permits (old g c).cal.rules.permit) (c.effective-effective.ensures (old g c).cal (sym c.brake-brake.ensures.brake))
 
-pub returns-clause-row : goal.returns-clause-row
-returns-clause-row g c s h stands =
-    of_setting (λ t. c.row.result ≡ row_of (length h) (next t (entry g c) h)) (before g c) h
-    (λ image so. row-told (old g c) (new g c) _ _ _ _ _ (task g c) _ _ (advance g c) image h (enter g c _ h so) c.row.result c.limit.result
-    (permits g c (c.look_up-lookup.ensures.torque
-    ∙ ap (λ (rules : Rules). grid_at rules.permit c.look_up-lookup.result.pedal c.look_up-lookup.result.speed) c.rules.ensures.rules)) c.row.ensures)
-    s (was g c s h stands)
+pub returns : goal.returns
+returns g c = record {
+  stands = stood g c;
+  row = λ s h stands. of_setting (λ t. c.row.result ≡ row_of (length h) (next t (entry g c) h)) (before g c) h
+      (λ image so. row-told (old g c) (new g c) _ _ _ _ _ (task g c) _ _ (advance g c) image h (enter g c _ h so) c.row.result c.limit.result
+      (permits g c (c.look_up-lookup.ensures.torque
+      ∙ ap (λ (rules : Rules). grid_at rules.permit c.look_up-lookup.result.pedal c.look_up-lookup.result.speed) c.rules.ensures.rules)) c.row.ensures)
+      s (was g c s h stands);
+  engine = λ s h stands. of_setting (λ t. g.E.Engine.steps c.args.self.now.engine (world_before t c.args.drive.now h).throttle (world_before t c.args.drive.now h).ignition
+      (next t (entry g c) h).on (effects_after t h).held_plate c.step_engine.new.engine) (before g c) h
+      (λ image so. step-told (old g c) (new g c) _ _ _ _ _ (task g c) _ _ (advance g c) image h (enter g c _ h so)
+      (λ throttle ignition on held. g.E.Engine.steps c.args.self.now.engine throttle ignition on held c.step_engine.new.engine)
+      (steps g c))
+      s (was g c s h stands);
+  shown = search rules;
+  ticks = search rules;
+  fault = search rules;
+  cal = search rules;
+  keeps = still g c;
+  lost = search rules;
+  loses = tt;
+  rests = search rules;
+  same_ticks = tt;
+  same_trap = tt;
+  sure = search rules;
+  stays_sure = search rules;
+  same_or_stepped = λ s h stands. tt;
+  same_or_begun = tt;
+}
 
-pub returns-clause-engine : goal.returns-clause-engine
-returns-clause-engine g c s h stands =
-    of_setting (λ t. g.E.Engine.steps c.args.self.now.engine (world_before t c.args.drive.now h).throttle (world_before t c.args.drive.now h).ignition
-    (next t (entry g c) h).on (effects_after t h).held_plate c.step_engine.new.engine) (before g c) h
-    (λ image so. step-told (old g c) (new g c) _ _ _ _ _ (task g c) _ _ (advance g c) image h (enter g c _ h so)
-    (λ throttle ignition on held. g.E.Engine.steps c.args.self.now.engine throttle ignition on held c.step_engine.new.engine)
-    (steps g c))
-    s (was g c s h stands)
+pub returns-in_err-enter : goal.returns-in_err-enter
+returns-in_err-enter g c = unmade c.from_residual.result c.from_residual.ensures.0 (search rules) (search rules) (search rules) (search rules) (search rules)
+    (search rules) (search rules) (search rules) (search rules) (search rules) (search rules) (search rules)
 
-pub returns-clause-keeps : goal.returns-clause-keeps
-returns-clause-keeps g c = still g c
-
-pub returns-in_err-step-clause-same_or_stepped : goal.returns-in_err-step-clause-same_or_stepped
-returns-in_err-step-clause-same_or_stepped g c s h stands =
-    stepped _ g.E.Engine.steps s c.args.drive.now c.args.slices.now _ h c.args.self.now.kept _ c.enter.new.span c.enter.new.level1.host.registers
+pub returns-in_err-step : goal.returns-in_err-step
+returns-in_err-step g c = unmade c.from_residual-in_err-step.result c.from_residual-in_err-step.ensures.0 (search rules) (search rules) (search rules) (search rules)
+    (search rules) (search rules) (search rules) (search rules) (search rules) (search rules)
+    (λ s h stands. stepped g.E.Engine.steps s c.args.drive.now c.args.slices.now _ h c.args.self.now.kept _ c.enter.new.span c.enter.new.level1.host.registers
     (g.M.Guarded.shows c.enter.new.memory) _ c.at.result _ c.held-held_plate.result _ _ c.step_engine.new.engine (ap (λ v. v.kept) c.self.view_is)
     c.as_ref-fault.ensures.value (ap (λ v. v.engine) c.self.view_is) stands c.reset.ensures.reset c.in_ok-enter.ensures.holds c.at.ensures.path1 c.at.ensures.path2
-    c.at.ensures.on c.held-held_plate.ensures c.step_engine.ensures.steps
-
-pub returns-in_err-enter-clause-stands : goal.returns-in_err-enter-clause-stands
-returns-in_err-enter-clause-stands g c s h is = IfOk-from_err c.from_residual.result _ c.from_residual.ensures.0
-
-pub returns-in_err-enter-clause-row : goal.returns-in_err-enter-clause-row
-returns-in_err-enter-clause-row g c s h is = IfOk-from_err c.from_residual.result _ c.from_residual.ensures.0
-
-pub returns-in_err-enter-clause-engine : goal.returns-in_err-enter-clause-engine
-returns-in_err-enter-clause-engine g c s h is = IfOk-from_err c.from_residual.result _ c.from_residual.ensures.0
-
-pub returns-in_err-enter-clause-ticks : goal.returns-in_err-enter-clause-ticks
-returns-in_err-enter-clause-ticks g c = IfOk-from_err c.from_residual.result _ c.from_residual.ensures.0
-
-pub returns-in_err-step-clause-stands : goal.returns-in_err-step-clause-stands
-returns-in_err-step-clause-stands g c s h is = IfOk-from_err c.from_residual-in_err-step.result _ c.from_residual-in_err-step.ensures.0
-
-pub returns-in_err-step-clause-row : goal.returns-in_err-step-clause-row
-returns-in_err-step-clause-row g c s h is = IfOk-from_err c.from_residual-in_err-step.result _ c.from_residual-in_err-step.ensures.0
-
-pub returns-in_err-step-clause-engine : goal.returns-in_err-step-clause-engine
-returns-in_err-step-clause-engine g c s h is = IfOk-from_err c.from_residual-in_err-step.result _ c.from_residual-in_err-step.ensures.0
-
-pub returns-in_err-step-clause-ticks : goal.returns-in_err-step-clause-ticks
-returns-in_err-step-clause-ticks g c = IfOk-from_err c.from_residual-in_err-step.result _ c.from_residual-in_err-step.ensures.0
-
-pub returns-clause-loses : goal.returns-clause-loses
-returns-clause-loses g c = tt
-
-pub returns-clause-same_ticks : goal.returns-clause-same_ticks
-returns-clause-same_ticks g c = tt
-
-pub returns-clause-same_trap : goal.returns-clause-same_trap
-returns-clause-same_trap g c = tt
-
-pub returns-clause-same_or_stepped : goal.returns-clause-same_or_stepped
-returns-clause-same_or_stepped g c s h is = tt
-
-pub returns-clause-same_or_begun : goal.returns-clause-same_or_begun
-returns-clause-same_or_begun g c = tt
+    c.at.ensures.on c.held-held_plate.ensures c.step_engine.ensures.steps)
+    (search rules)

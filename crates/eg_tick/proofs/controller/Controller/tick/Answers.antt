@@ -1,8 +1,8 @@
 use Rattle.std.proofs.Common.{subst}
 use Rattle.std.proofs.lemmas.Result.{IfOk-from_err}
-use Rattle.eg_base.proofs.ResultLemmas.{at_err}
 use Rattle.eg_values.specs.Calibration.{IsAccepted}
 use Rattle.eg_tick.specs.Advancing.{entry_of}
+use Rattle.eg_tick.proofs.AdvanceLemmas.{refused}
 use Rattle.eg_tick.proofs.TrapLemmas.{outputs-hold}
 use Rattle.eg_tick.proofs.ReactionLemmas.{passes, sharp, unpowered, reacts, at_once, cuts, short}
 use Rattle.eg_tick.proofs.controller.Controller.tick.Given.{Over}
@@ -37,14 +37,11 @@ unfolding entry_of
 returns-clause-trapped g c s h stands trapped =
     outputs-hold s (entry_of c.args.drive.now c.args.slices.now c.advance.new.self.kept.shown) h c.in_ok-row.row trapped (c.in_ok-row.ensures.row s h stands)
 
-pub returns-in_err-row-clause-stands : goal.returns-in_err-row-clause-stands
-returns-in_err-row-clause-stands g c s h is = IfOk-from_err c.from_residual.result _ c.from_residual.ensures.0
+pub returns-clause-made : goal.returns-clause-made
+returns-clause-made g c = c.in_ok-row.ensures
 
-pub returns-in_err-row-clause-row : goal.returns-in_err-row-clause-row
-returns-in_err-row-clause-row g c s h is = IfOk-from_err c.from_residual.result _ c.from_residual.ensures.0
-
-pub returns-in_err-row-clause-engine : goal.returns-in_err-row-clause-engine
-returns-in_err-row-clause-engine g c s h is = IfOk-from_err c.from_residual.result _ c.from_residual.ensures.0
+pub returns-in_err-row-clause-made : goal.returns-in_err-row-clause-made
+returns-in_err-row-clause-made g c = refused c.from_residual.result c.from_residual.ensures.0 c.in_err-row.ensures
 
 pub returns-in_err-row-clause-trapped : goal.returns-in_err-row-clause-trapped
 returns-in_err-row-clause-trapped g c s h is was = IfOk-from_err c.from_residual.result _ c.from_residual.ensures.0
@@ -70,38 +67,5 @@ returns-in_err-row-clause-lapses g c s = IfOk-from_err c.from_residual.result _ 
 pub returns-in_err-row-clause-weight : goal.returns-in_err-row-clause-weight
 returns-in_err-row-clause-weight g c = IfOk-from_err c.from_residual.result _ c.from_residual.ensures.0
 
-pub returns-in_err-row-clause-ticks : goal.returns-in_err-row-clause-ticks
-returns-in_err-row-clause-ticks g c = IfOk-from_err c.from_residual.result _ c.from_residual.ensures.0
-
-pub returns-in_err-row-clause-loses : goal.returns-in_err-row-clause-loses
-returns-in_err-row-clause-loses g c = at_err c.from_residual.result c.in_err-row.ensures.loses
-
-pub returns-in_err-row-clause-same_ticks : goal.returns-in_err-row-clause-same_ticks
-returns-in_err-row-clause-same_ticks g c = at_err c.from_residual.result c.in_err-row.ensures.same_ticks
-
-pub returns-in_err-row-clause-same_trap : goal.returns-in_err-row-clause-same_trap
-returns-in_err-row-clause-same_trap g c = at_err c.from_residual.result c.in_err-row.ensures.same_trap
-
-pub returns-in_err-row-clause-same_or_begun : goal.returns-in_err-row-clause-same_or_begun
-returns-in_err-row-clause-same_or_begun g c = at_err c.from_residual.result c.in_err-row.ensures.same_or_begun
-
-pub returns-in_err-row-clause-same_or_stepped : goal.returns-in_err-row-clause-same_or_stepped
-returns-in_err-row-clause-same_or_stepped g c s h is = at_err c.from_residual.result (c.in_err-row.ensures.same_or_stepped s h is)
-
 pub returns-clause-no_weight : goal.returns-clause-no_weight
 returns-clause-no_weight g c = tt
-
-pub returns-clause-loses : goal.returns-clause-loses
-returns-clause-loses g c = tt
-
-pub returns-clause-same_ticks : goal.returns-clause-same_ticks
-returns-clause-same_ticks g c = tt
-
-pub returns-clause-same_trap : goal.returns-clause-same_trap
-returns-clause-same_trap g c = tt
-
-pub returns-clause-same_or_stepped : goal.returns-clause-same_or_stepped
-returns-clause-same_or_stepped g c s h is = tt
-
-pub returns-clause-same_or_begun : goal.returns-clause-same_or_begun
-returns-clause-same_or_begun g c = tt

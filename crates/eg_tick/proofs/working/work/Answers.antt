@@ -3,7 +3,7 @@ use Rattle.eg_tick.specs.Midway.{work_at}
 use Rattle.eg_tick.proofs.FrameLemmas.{ready-board}
 use Rattle.eg_tick.proofs.WorkLemmas.{due, midway, served, stepped, on_ok_both}
 use Rattle.eg_guard.proofs.KeepsLemmas.{keeps_then, keeps_refused}
-use Rattle.eg_tick.proofs.working.show_and_run.Goals as goal
+use Rattle.eg_tick.proofs.working.work.Goals as goal
 
 pub run_levels-requires-clause-ready : goal.run_levels-requires-clause-ready
 run_levels-requires-clause-ready g c =
