@@ -1,3 +1,4 @@
+pub mod AppendLemmas
 pub mod NamedFilesLemmas
 pub mod PutLemmas
 pub mod ResultLemmas

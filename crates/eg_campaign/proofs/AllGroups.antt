@@ -2,8 +2,8 @@
 use Rattle.std.proofs.Common.{◌≡◌, ◌∙◌, refl, sym, ap, ap₂, subst, ℕ, zero, suc, ◌+◌, ◌<◌, ◌≤◌, Bool, true, false, ◌||◌, List, [], ◌∷◌, ◌++◌, map, take, drop, get_or, length, length-append, arith, Option, Some, None}
 use Rattle.std.specs.Prelude.{All, IsSome, is_some, replicate, filter, if◌then◌else◌, slice_set}
 use Rattle.std.specs.List.{flat_map, list_any}
-use Rattle.std.proofs.lemmas.List.{map-append, take-append-drop, get_or-map, get_or_default, drop_all, take_all, append-nil, length-map}
-use Rattle.std.proofs.lemmas.List.Elements.{filter-append}
+use Rattle.std.proofs.lemmas.List.{map-append, take-append-drop, get_or-map, get_or_default, drop_all, take_all, append-nil, length-map, nil_from_length}
+use Rattle.std.proofs.lemmas.List.Elements.{All-head, All-map, filter-append, filter_passes}
 use Rattle.std.proofs.lemmas.Map.Steps.{list_any_congr}
 use Rattle.std.proofs.lemmas.Simd.{splat_is_map}
 use borrow.Author.Count.{below_more}
@@ -22,8 +22,7 @@ use Rattle.eg_campaign.proofs.OneGroup.{Counted, said, more, stopped, ended, nex
 -- ---- lists ----
 
 pub map_same : {X Y : Type 0} (f g : X → Y) → ((x : X) → f x ≡ g x) → (xs : List X) → map f xs ≡ map g xs
-map_same f g h [] = refl
-map_same f g h (x ∷ xs) = ap₂ (λ y ys. y ∷ ys) (h x) (map_same f g h xs)
+map_same f g h xs = λ i. map (λ x. h x i) xs
 
 pub map_same_at : {X Y : Type 0} (f g : X → Y) (xs : List X) → ((i : ℕ) (d : X) → i < length xs → f (get_or xs i d) ≡ g (get_or xs i d)) →
     map f xs ≡ map g xs
@@ -38,17 +37,13 @@ module _ {X : Type 0} (p : X → Bool) where
       ∙ ap (λ l. filter p (take i xs) ++ filter p l) (next xs i x below is)
       ∙ ap (λ b. filter p (take i xs) ++ (if b then x ∷ filter p (drop (i + 1) xs) else filter p (drop (i + 1) xs))) so
 
-  empty : (xs : List X) → length xs ≤ 0 → xs ≡ []
-  empty [] h = refl
-  empty (x ∷ xs) h = absurd (omega (arith, h))
-
   -- where an item alone passes, nothing before it does, and nothing behind it
   before_none : (xs : List X) (i : ℕ) (x : X) → i < length xs → x ≡ get_or xs i x → p x ≡ true → length (filter p xs) < 2 → filter p (take i xs) ≡ []
-  before_none xs i x below is so few = empty (filter p (take i xs))
+  before_none xs i x below is so few = nil_from_length (filter p (take i xs))
       (omega (arith, few, ap length (filter-around xs i x below is so), length-append (filter p (take i xs)) (x ∷ filter p (drop (i + 1) xs))))
 
   after_none : (xs : List X) (i : ℕ) (x : X) → i < length xs → x ≡ get_or xs i x → p x ≡ true → length (filter p xs) < 2 → filter p (drop (i + 1) xs) ≡ []
-  after_none xs i x below is so few = empty (filter p (drop (i + 1) xs))
+  after_none xs i x below is so few = nil_from_length (filter p (drop (i + 1) xs))
       (omega (arith, few, ap length (filter-around xs i x below is so), length-append (filter p (take i xs)) (x ∷ filter p (drop (i + 1) xs))))
 
   pub alone : (xs : List X) (i : ℕ) (x : X) → i < length xs → x ≡ get_or xs i x → p x ≡ true → length (filter p xs) < 2 → filter p xs ≡ x ∷ []
@@ -77,12 +72,7 @@ module _ {X : Type 0} (p : X → Bool) where
 
   -- the first that passes passes
   pub head_passes : (xs : List X) (y : X) (l : List X) → filter p xs ≡ y ∷ l → p y ≡ true
-  head_passes [] y l is = cc
-  head_passes (x ∷ xs) y l is = go (p x) refl is (head_passes xs y l)
-    where
-      go : (b : Bool) → p x ≡ b → (if b then x ∷ filter p xs else filter p xs) ≡ y ∷ l → (filter p xs ≡ y ∷ l → p y ≡ true) → p y ≡ true
-      go true so h rest = let same : x ≡ y = cc in ap p (sym same) ∙ so
-      go false so h rest = rest h
+  head_passes xs y l is = All-head (λ z. p z ≡ true) y l (subst (All (λ z. p z ≡ true)) is (filter_passes p xs))
 
   -- two functions that are one where p passes are one on what passes
   pub flat_map_same : {A : Type 0} (f g : X → List A) → ((y : X) → p y ≡ true → f y ≡ g y) → (xs : List X) → flat_map f (filter p xs) ≡ flat_map g (filter p xs)
@@ -191,7 +181,7 @@ goes-begin cal inputs told was none counts = record {
   earlier = [];
   told_are = none;
   so_far = λ j d below. absurd (omega (arith, below));
-  counts = said was was (rows_made cal inputs) (rows_left cal inputs [] inputs) (rows_made cal inputs) (sym (rows_all cal inputs)) counts;
+  counts = said _ _ _ _ _ (sym (rows_all cal inputs)) counts;
 }
 
 module _ (cal : CalibrationParts) (inputs : List RunInput) (earlier : List RunInput) (i : ℕ) (x : RunInput) (below : i < length inputs) (is : x ≡ get_or inputs i x) where
@@ -236,8 +226,7 @@ module _ (cal : CalibrationParts) (inputs : List RunInput) (i : ℕ) (x : RunInp
     earlier = x ∷ so_far.earlier;
     told_are = so_far.told_are ∙ map_same (told_after cal so_far.earlier) (told_after cal (x ∷ so_far.earlier)) (told-old cal inputs so_far.earlier i x below is so) inputs;
     so_far = so_far_more inputs so_far.earlier i x below is so_far.so_far;
-    counts = said was mid (rows_left cal inputs so_far.earlier (drop i inputs)) (rows_left cal inputs (x ∷ so_far.earlier) (drop (i + 1) inputs)) (rows_made cal inputs)
-        (left-old cal inputs so_far.earlier i x below is so) so_far.counts;
+    counts = said _ _ _ _ _ (left-old cal inputs so_far.earlier i x below is so) so_far.counts;
   }
 
   -- an input whose group is played now
@@ -250,20 +239,14 @@ module _ (cal : CalibrationParts) (inputs : List RunInput) (i : ℕ) (x : RunInp
     told_are = written ∙ map_same (written_over (told_with cal) x (told_after cal so_far.earlier)) (told_after cal (x ∷ so_far.earlier))
         (told-new cal inputs so_far.earlier i x below is) inputs;
     so_far = so_far_more inputs so_far.earlier i x below is so_far.so_far;
-    counts = more was mid new (rows_of_group cal (group_of inputs x)) (rows_left cal inputs (x ∷ so_far.earlier) (drop (i + 1) inputs)) (rows_made cal inputs)
-        (said was mid (rows_left cal inputs so_far.earlier (drop i inputs))
-        (rows_of_group cal (group_of inputs x) ++ rows_left cal inputs (x ∷ so_far.earlier) (drop (i + 1) inputs)) (rows_made cal inputs)
-        (left-new cal inputs so_far.earlier i x below is so) so_far.counts) counted;
+    counts = more _ _ _ _ _ _ (said _ _ _ _ _ (left-new cal inputs so_far.earlier i x below is so) so_far.counts) counted;
   }
 
   -- it is stopped there
   pub goes-stopped : (told : List (Option RunFacts)) (was mid new : TickCount) (so_far : Goes cal inputs i told was mid) →
       list_any (is_alike x) so_far.earlier ≡ false → RanOutAmong (rows_of_group cal (group_of inputs x)) mid new → RanOutAmong (rows_made cal inputs) was new
   goes-stopped told was mid new so_far so within =
-      stopped was mid new (rows_of_group cal (group_of inputs x)) (rows_left cal inputs (x ∷ so_far.earlier) (drop (i + 1) inputs)) (rows_made cal inputs)
-      (said was mid (rows_left cal inputs so_far.earlier (drop i inputs))
-      (rows_of_group cal (group_of inputs x) ++ rows_left cal inputs (x ∷ so_far.earlier) (drop (i + 1) inputs)) (rows_made cal inputs)
-      (left-new cal inputs so_far.earlier i x below is so) so_far.counts) within
+      stopped _ _ _ _ _ _ (said _ _ _ _ _ (left-new cal inputs so_far.earlier i x below is so) so_far.counts) within
 
   -- whether its group was played is told by its place
   pub place-some : (told : List (Option RunFacts)) (was mid : TickCount) (so_far : Goes cal inputs i told was mid)
@@ -282,20 +265,13 @@ goes-end-told cal inputs i told was mid end so_far = so_far.told_are ∙ map_sam
 pub goes-end-counted : (cal : CalibrationParts) (inputs : List RunInput) (i : ℕ) (told : List (Option RunFacts)) (was mid : TickCount) →
     length inputs ≤ i → Goes cal inputs i told was mid → mid ≡ count_with was (rows_made cal inputs)
 unfolding rows_left firsts_after
-goes-end-counted cal inputs i told was mid end so_far = ended was mid (rows_made cal inputs)
-    (said was mid (rows_left cal inputs so_far.earlier (drop i inputs)) [] (rows_made cal inputs)
-    (ap (rows_left cal inputs so_far.earlier) (drop_all i inputs end)) so_far.counts)
+goes-end-counted cal inputs i told was mid end so_far =
+    ended _ _ _ (said _ _ _ _ _ (ap (rows_left cal inputs so_far.earlier) (drop_all i inputs end)) so_far.counts)
 
 -- ---- what is told at a place ----
 
-some_there : {X T : Type 0} (t : X → T) (xs : List X) (k : ℕ) (d : Option T) → k < length (map (λ (x : X). Some (t x)) xs) →
-    IsSome (get_or (map (λ (x : X). Some (t x)) xs) k d)
-some_there t [] k d below = absurd (omega (arith, below))
-some_there t (x ∷ xs) zero d below = refl
-some_there t (x ∷ xs) (suc k) d below = some_there t xs k d (omega (arith, below))
-
 pub all_some : {X T : Type 0} (t : X → T) (xs : List X) (told : List (Option T)) → told ≡ map (λ (x : X). Some (t x)) xs → All IsSome told
-all_some {X} {T} t xs told is = subst (λ (l : List (Option T)). All IsSome l) (sym is) (some_there t xs)
+all_some {X} {T} t xs told is = subst (λ (l : List (Option T)). All IsSome l) (sym is) (All-map IsSome (λ (x : X). Some (t x)) xs (λ k d below. refl))
 
 pub told_there : {X T : Type 0} (t : X → T) (xs : List X) (i : ℕ) (x : X) (told : List (Option T)) (one : T) → i < length xs →
     told ≡ map (λ (y : X). Some (t y)) xs → get_or told i None ≡ Some one → one ≡ t (get_or xs i x)

@@ -1,5 +1,6 @@
 -- What was played of a run, tick by tick: its rows and what they count, and what is kept of it.
-use Rattle.std.proofs.Common.{◌≡◌, ◌∙◌, refl, sym, ap, ap₂, subst, ℕ, zero, suc, ◌+◌, ◌-◌, ◌*◌, ◌/◌, ◌%◌, ◌^◌, ◌<◌, ◌≤◌, false, List, [], ◌∷◌, ◌++◌, take, drop, length, add-one, arith, Option, Some, None}
+use Rattle.std.proofs.Common.{◌≡◌, ◌∙◌, refl, sym, ap, ap₂, subst, ℕ, zero, suc, ◌+◌, ◌-◌, ◌*◌, ◌/◌, ◌%◌, ◌^◌, ◌<◌, ◌≤◌, false, List, [], ◌∷◌, ◌++◌, take, drop, length, add-one, arith, Bor, Option, Some, None}
+use Rattle.std.specs.Option.{option_copied}
 use Rattle.std.specs.Prelude.{slice_index_or, if◌then◌else◌, nat_lt, reverse}
 use Rattle.std.proofs.Math.Seq.{take-length}
 use Rattle.std.proofs.lemmas.Bool.{lt-ltb}
@@ -22,7 +23,7 @@ use Rattle.eg_tick.specs.Benched.{ComeTo}
 use Rattle.eg_tick.specs.Kept.{Kept}
 use Rattle.eg_tick.specs.Weights.{TickCount, weight_of}
 use Rattle.eg_tick.specs.Run.{run_by, IsAt}
-use Rattle.eg_tick.proofs.RunLemmas.{counted, counted-none, drive-at}
+use Rattle.eg_tick.proofs.RunLemmas.{counted, drive-at}
 use Rattle.eg_tick.proofs.FactLaws.{counted-next}
 use Rattle.eg_tick.proofs.BranchLemmas.{branch_of}
 use Rattle.eg_tick.proofs.BranchedRuns.{branch_at}
@@ -38,8 +39,8 @@ use Rattle.eg_tick.proofs.CountLemmas.{front-take, counts_reverse}
 -- ---- counts ----
 
 -- no rows
-pub counted_none : (was : TickCount) (rows : List Row) → rows ≡ [] → was.count < 2 ^ 64 → was.weights < 2 ^ 64 → was ≡ count_with was rows
-counted_none was rows none count weights = counted-none was rows none count weights ∙ ap (λ n. counted was n rows) (sym (ap length none))
+pub counted_none : (was : TickCount) (rows : List Row) → rows ≡ [] → was ≡ count_with was [] → was ≡ count_with was rows
+counted_none was rows none same = same ∙ ap (count_with was) (sym none)
 
 -- one row more
 counted_next : (was is now : TickCount) (rows : List Row) (row : Row) → is ≡ count_with was rows →
@@ -72,25 +73,19 @@ module _ {S E : Type 0} (b : BenchEngine S) (come_to : ComeTo S E) (r : Run) whe
 
   rows_between-none : (t : ℕ) → rows_between b r t t ≡ []
   unfolding rows_between
-  rows_between-none t = ap (λ n. take n (rows_to b r t)) (no_more t)
-    where
-      no_more : (t : ℕ) → t - t ≡ 0
-      no_more t = omega arith
+  rows_between-none t = let none : t - t ≡ 0 = omega arith in ap (λ n. take n (rows_to b r t)) none
 
   rows_between-next : (from t : ℕ) → from ≤ t → row_at b r t ∷ rows_between b r from t ≡ rows_between b r from (t + 1)
   unfolding rows_between
-  rows_between-next from t least = ap (λ rows. take (suc (t - from)) rows) (sym (rows_to-suc b r t))
-      ∙ ap₂ (λ n m. take n (rows_to b r m)) (more from t least) (one_more t)
-    where
-      more : (from t : ℕ) → from ≤ t → suc (t - from) ≡ t + 1 - from
-      more from t least = omega arith
+  rows_between-next from t least =
+      let more : suc (t - from) ≡ t + 1 - from = omega (arith, least) in
+      ap (λ rows. take (suc (t - from)) rows) (sym (rows_to-suc b r t)) ∙ ap₂ (λ n m. take n (rows_to b r m)) more (one_more t)
 
   rows_between-all : (t : ℕ) → rows_between b r 0 t ≡ rows_to b r t
   unfolding rows_between
-  rows_between-all t = ap (λ n. take n (rows_to b r t)) (all t ∙ sym (records_are_rows b r t).1) ∙ take-length (rows_to b r t)
-    where
-      all : (t : ℕ) → t - 0 ≡ t
-      all t = omega arith
+  rows_between-all t =
+      let all : t - 0 ≡ t = omega arith in
+      ap (λ n. take n (rows_to b r t)) (all ∙ sym (records_are_rows b r t).1) ∙ take-length (rows_to b r t)
 
   -- in the order of time they are what is left behind those before
   between-in_time : (from t : ℕ) → from ≤ t → drop from (reverse (rows_to b r t)) ≡ reverse (rows_between b r from t)
@@ -98,13 +93,11 @@ module _ {S E : Type 0} (b : BenchEngine S) (come_to : ComeTo S E) (r : Run) whe
   between-in_time from t least =
       let some = take (t - from) (rows_to b r t) in
       let rest = drop (t - from) (rows_to b r t) in
+      let before : t - (t - from) ≡ from = omega (arith, least) in
       ap (λ l. drop from (reverse l)) (sym (take-append-drop (t - from) (rows_to b r t)))
       ∙ ap (drop from) (reverse-append some rest)
       ∙ drop_at (reverse rest) (reverse some) from
-      (length-reverse rest ∙ length-drop (t - from) (rows_to b r t) ∙ ap (λ n. n - (t - from)) (records_are_rows b r t).1 ∙ before from t least)
-    where
-      before : (from t : ℕ) → from ≤ t → t - (t - from) ≡ from
-      before from t least = omega arith
+      (length-reverse rest ∙ length-drop (t - from) (rows_to b r t) ∙ ap (λ n. n - (t - from)) (records_are_rows b r t).1 ∙ before)
 
   -- those that a run under a fault makes
   pub under-is : (fault : Fault) → fault.onset < length r.drive →
@@ -112,12 +105,10 @@ module _ {S E : Type 0} (b : BenchEngine S) (come_to : ComeTo S E) (r : Run) whe
       ≡ reverse (rows_between b r (fault.onset / checkpoint_ticks * checkpoint_ticks) (length r.drive))
   unfolding own_under checkpoint
   under-is fault within =
+      let before : fault.onset / checkpoint_ticks * checkpoint_ticks ≤ length r.drive = omega (arith, within) in
       ap (λ t. if t then drop (fault.onset / checkpoint_ticks * checkpoint_ticks) (reverse (record_rows b r)) else []) (lt-ltb fault.onset (length r.drive) within)
       ∙ ap (λ l. drop (fault.onset / checkpoint_ticks * checkpoint_ticks) (reverse l)) (record_rows-is b r)
-      ∙ between-in_time (fault.onset / checkpoint_ticks * checkpoint_ticks) (length r.drive) (before fault.onset (length r.drive) within)
-    where
-      before : (onset ticks : ℕ) → onset < ticks → onset / checkpoint_ticks * checkpoint_ticks ≤ ticks
-      before onset ticks within = omega arith
+      ∙ between-in_time (fault.onset / checkpoint_ticks * checkpoint_ticks) (length r.drive) before
 
   -- ---- what was played ----
 
@@ -135,12 +126,12 @@ module _ {S E : Type 0} (b : BenchEngine S) (come_to : ComeTo S E) (r : Run) whe
         (stands (rows_to b r t) played.tally);
   }
 
-  pub made_none : {M : Type 0} (t : ℕ) (played : Played E M) (was : TickCount) → was.count < 2 ^ 64 → was.weights < 2 ^ 64 → HasPlayed b come_to r t played →
+  pub made_none : {M : Type 0} (t : ℕ) (played : Played E M) (was : TickCount) → was ≡ count_with was [] → HasPlayed b come_to r t played →
       HasMade b come_to r t t played was was
-  made_none t played was count weights is = record {
+  made_none t played was same is = record {
     least = omega arith;
     to = is;
-    counted = counted_none was (rows_between b r t t) (rows_between-none t) count weights;
+    counted = counted_none was (rows_between b r t t) (rows_between-none t) same;
   }
 
   pub made_next : {M : Type 0} (from t : ℕ) (old new : Played E M) (was is now : TickCount) (row : Row) → HasMade b come_to r from t old was is →
@@ -182,15 +173,12 @@ module _ {S E : Type 0} (b : BenchEngine S) (come_to : ComeTo S E) (r : Run) whe
       HasPlayed b come_to r t one → AreCheckpoints b come_to r t kept → AreCheckpoints b come_to r (t + 1) after
   kept_more t kept after one pushed whole played are =
       let long : length (kept ++ one ∷ []) ≡ length kept + 1 = length-append kept (one ∷ []) in
-      let here : t ≡ length kept * checkpoint_ticks = place t (length kept) whole are.enough are.no_more in
+      let here : t ≡ length kept * checkpoint_ticks = omega (arith, whole, are.enough, are.no_more) in
       subst (AreCheckpoints b come_to r (t + 1)) (sym pushed) (record {
         enough = omega (arith, long, here);
         no_more = omega (arith, long, here);
         each = each-more (λ k. HasPlayed b come_to r (k * checkpoint_ticks)) kept one are.each (subst (λ n. HasPlayed b come_to r n one) here played);
       })
-    where
-      place : (t n : ℕ) → t % checkpoint_ticks ≡ 0 → t ≤ n * checkpoint_ticks → n * checkpoint_ticks < t + checkpoint_ticks → t ≡ n * checkpoint_ticks
-      place t n whole enough no_more = omega arith
 
 -- ---- branches ----
 
@@ -226,14 +214,12 @@ module _ {S E : Type 0} (b : BenchEngine S) (come_to : ComeTo S E) (cal : Calibr
       HasPlayed b come_to (run_with cal input).run (fault.onset / checkpoint_ticks * checkpoint_ticks) branch
   played_under shared kept copy same from branch at branched =
       let place : ℕ = fault.onset / checkpoint_ticks in
+      let below : place < length shared.checkpoints.items = omega (arith, within, kept.checkpoints.enough) in
       subst (λ f. HasPlayed b come_to (run_by cal input.image f input.plan.plan input.drive) (place * checkpoint_ticks) branch)
       (ap (λ f. Some f) same ∙ sym is)
       (branched (run_with cal (faultless input)).run (place * checkpoint_ticks)
       (subst (HasPlayed b come_to (run_with cal (faultless input)).run (place * checkpoint_ticks)) (sym at)
-      (kept.checkpoints.each place (below fault.onset (length input.drive) (length shared.checkpoints.items) within kept.checkpoints.enough) from)))
-    where
-      below : (onset ticks n : ℕ) → onset < ticks → ticks ≤ n * checkpoint_ticks → onset / checkpoint_ticks < n
-      below onset ticks n within enough = omega arith
+      (kept.checkpoints.each place below from)))
 
   -- the rows that are made for it
   pub rows-are : (rows : List Row) → rows ≡ reverse (record_rows b (run_with cal input).run) →
@@ -245,7 +231,7 @@ module _ {S E : Type 0} (b : BenchEngine S) (come_to : ComeTo S E) (cal : Calibr
 -- ---- runs that aren't played ----
 
 -- where there is no fault, none begins within the run
-pub never_begins : (ticks : ℕ) (fault : Option Fault) → ((f : Fault) → fault ≡ Some f → ⊥) → BeginsFrom ticks fault
+pub never_begins : (ticks : ℕ) (fault : Option (Bor Fault)) → ((f : Bor Fault) → fault ≡ Some f → ⊥) → BeginsFrom ticks (option_copied fault)
 never_begins ticks None none = tt
 never_begins ticks (Some f) none = absurd (none f refl)
 

@@ -5,5 +5,5 @@ pub mod CheckpointLemmas
 pub mod AlikeLemmas
 pub mod OneGroup
 pub mod AllGroups
-pub mod OnlyGroup
+pub mod UnderLemmas
 mod WorkedGroups

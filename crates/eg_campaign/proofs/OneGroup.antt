@@ -1,5 +1,5 @@
 -- Runs that are played group by group: what is counted, and what is written at their places.
-use Rattle.std.proofs.Common.{◌≡◌, ◌∙◌, refl, sym, ap, ap₂, subst, ℕ, ◌+◌, ◌^◌, ◌<◌, ◌≤◌, Bool, true, false, List, [], ◌∷◌, ◌++◌, map, take, drop, get_or, length, add-one, append_assoc, arith, Option}
+use Rattle.std.proofs.Common.{◌≡◌, ◌∙◌, refl, sym, ap, ap₂, subst, ℕ, ◌+◌, ◌<◌, ◌≤◌, Bool, true, List, [], ◌∷◌, ◌++◌, map, take, drop, get_or, length, add-one, append_assoc, arith, Option}
 use Rattle.std.specs.Prelude.{filter, if◌then◌else◌, Some, slice_set}
 use Rattle.std.specs.List.{flat_map}
 use Rattle.std.proofs.Math.Seq.{drop-cons}
@@ -16,7 +16,7 @@ use Rattle.eg_campaign.specs.Plays.{EngineRun, run_with}
 use Rattle.eg_campaign.specs.Groups.{is_alike, faultless, written_over}
 use Rattle.eg_campaign.specs.Checkpoints.{IsSharedBy}
 use Rattle.eg_campaign.proofs.AlikeLemmas.{alike, faultless-same}
-use Rattle.eg_tick.proofs.CountLemmas.{counts_none, counts_more, out_among}
+use Rattle.eg_tick.proofs.CountLemmas.{counts_more, out_among, out_behind}
 use Rattle.eg_campaign.proofs.PlayLemmas.{map-more}
 
 -- ---- counting ----
@@ -27,8 +27,8 @@ pub record Counted (was is : TickCount) (rest whole : List Row) : Type 0 where
   pub parts : done ++ rest ≡ whole
   pub counts : is ≡ count_with was done
 
-pub begun : (was : TickCount) (whole : List Row) → was.count < 2 ^ 64 → was.weights < 2 ^ 64 → Counted was was whole whole
-begun was whole count weights = record { done = []; parts = refl; counts = counts_none was count weights }
+pub begun : (was : TickCount) (whole : List Row) → was ≡ count_with was [] → Counted was was whole whole
+begun was whole none = record { done = []; parts = refl; counts = none }
 
 -- some rows more
 pub more : (was mid is : TickCount) (own rest whole : List Row) → Counted was mid (own ++ rest) whole → is ≡ count_with mid own →
@@ -47,6 +47,13 @@ said was is rest rest' whole e so_far = record { done = so_far.done; parts = ap 
 pub stopped : (was mid is : TickCount) (own rest whole : List Row) → Counted was mid (own ++ rest) whole → RanOutAmong own mid is → RanOutAmong whole was is
 stopped was mid is own rest whole so_far out = out_among was mid is so_far.done own rest whole so_far.parts so_far.counts out
 
+-- memory ran out before all of them, and between two of them
+pub out_none : (was : TickCount) (rows : List Row) → was ≡ count_with was [] → RanOutAmong rows was was
+out_none was rows none = out_behind was was [] rows rows refl none
+
+pub between : (was is : TickCount) (rest whole : List Row) → Counted was is rest whole → RanOutAmong whole was is
+between was is rest whole so_far = out_behind was is so_far.done rest whole so_far.parts so_far.counts
+
 -- all were counted
 pub ended : (was is : TickCount) (whole : List Row) → Counted was is [] whole → is ≡ count_with was whole
 ended was is whole so_far = so_far.counts ∙ ap (count_with was) (sym (append-nil so_far.done) ∙ so_far.parts)
@@ -56,15 +63,16 @@ ended was is whole so_far = so_far.counts ∙ ap (count_with was) (sym (append-n
 pub next : {X : Type 0} (xs : List X) (i : ℕ) (x : X) → i < length xs → x ≡ get_or xs i x → drop i xs ≡ x ∷ drop (i + 1) xs
 next xs i x below is = drop-cons xs i x below ∙ ap₂ (λ y ys. y ∷ ys) (sym is) (ap (λ n. drop n xs) (sym (add-one i)))
 
-module _ {X A : Type 0} (f : X → List A) (p : X → Bool) where
-  pub rest-in : (xs : List X) (i : ℕ) (x : X) → i < length xs → x ≡ get_or xs i x → p x ≡ true →
-      flat_map f (filter p (drop i xs)) ≡ f x ++ flat_map f (filter p (drop (i + 1) xs))
-  rest-in xs i x below is so = ap (λ l. flat_map f (filter p l)) (next xs i x below is)
-      ∙ ap (λ b. flat_map f (if b then x ∷ filter p (drop (i + 1) xs) else filter p (drop (i + 1) xs))) so
+-- the rows of one item more
+pub one_more : {X : Type 0} (f : X → List Row) (xs : List X) (i : ℕ) (x : X) → i < length xs → x ≡ get_or xs i x → (was mid is : TickCount) (whole : List Row) →
+    Counted was mid (flat_map f (drop i xs)) whole → is ≡ count_with mid (f x) → Counted was is (flat_map f (drop (i + 1) xs)) whole
+one_more f xs i x below at was mid is whole so_far now = more was mid is (f x) (flat_map f (drop (i + 1) xs)) whole
+    (said was mid (flat_map f (drop i xs)) (f x ++ flat_map f (drop (i + 1) xs)) whole (ap (flat_map f) (next xs i x below at)) so_far) now
 
-  pub rest-out : (xs : List X) (i : ℕ) (x : X) → i < length xs → x ≡ get_or xs i x → p x ≡ false →
-      flat_map f (filter p (drop i xs)) ≡ flat_map f (filter p (drop (i + 1) xs))
-  rest-out xs i x below is so = ap (λ l. flat_map f (filter p l)) (next xs i x below is)
+module _ {X A : Type 0} (f : X → List A) (p : X → Bool) where
+  pub rest-when : {b : Bool} (xs : List X) (i : ℕ) (x : X) → i < length xs → x ≡ get_or xs i x → p x ≡ b →
+      flat_map f (filter p (drop i xs)) ≡ flat_map f (if b then x ∷ filter p (drop (i + 1) xs) else filter p (drop (i + 1) xs))
+  rest-when xs i x below is so = ap (λ l. flat_map f (filter p l)) (next xs i x below is)
       ∙ ap (λ b. flat_map f (if b then x ∷ filter p (drop (i + 1) xs) else filter p (drop (i + 1) xs))) so
 
 -- ---- what is written ----
@@ -111,10 +119,6 @@ pub shared_of : {S E : Type 0} (b : BenchEngine S) (come_to : ComeTo S E) (share
 shared_of b come_to shared cal x y so is =
     subst (λ (r : EngineRun). IsSharedBy b come_to r.run shared) (faultless-same cal x y (alike x y so)) is
 
-pub written-in : {T : Type 0} (tells : RunInput → T) (x : RunInput) (before : RunInput → Option T) (y : RunInput) → is_alike x y ≡ true →
-    Some (tells y) ≡ written_over tells x before y
-written-in tells x before y so = sym (ap (λ b. if b then Some (tells y) else before y) so)
-
-pub written-out : {T : Type 0} (tells : RunInput → T) (x : RunInput) (before : RunInput → Option T) (y : RunInput) → is_alike x y ≡ false →
-    before y ≡ written_over tells x before y
-written-out tells x before y so = sym (ap (λ b. if b then Some (tells y) else before y) so)
+pub written-when : {T : Type 0} {b : Bool} (tells : RunInput → T) (x : RunInput) (before : RunInput → Option T) (y : RunInput) → is_alike x y ≡ b →
+    (if b then Some (tells y) else before y) ≡ written_over tells x before y
+written-when tells x before y so = sym (ap (λ b. if b then Some (tells y) else before y) so)

@@ -1,6 +1,6 @@
 -- Runs that are played one after another.
 use Rattle.std.proofs.Common.{◌≡◌, ◌∙◌, sym, ap, ap₂, ℕ, ◌+◌, ◌<◌, List, [], ◌∷◌, ◌++◌, map, take, get_or, length, add-one}
-use Rattle.std.specs.Prelude.{Option}
+use Rattle.std.specs.Prelude.{Option, reverse}
 use Rattle.std.proofs.Math.Seq.{take-suc}
 use Rattle.std.proofs.lemmas.List.{map-append}
 use Rattle.eg_num.specs.Drive.{DriveRow}
@@ -10,9 +10,10 @@ use Rattle.eg_answer.specs.Times.{reaction_of}
 use Rattle.eg_word.specs.declared.registers.Trap.{Trap}
 use Rattle.eg_record.specs.declared.summary.Summary.{Summary}
 use Rattle.eg_record.specs.Summaries.{summary_of}
-use Rattle.eg_model.specs.Rows.{record_trap, report_of}
+use Rattle.eg_model.specs.Rows.{record_rows, record_trap, report_of}
 use Rattle.eg_tick.specs.Run.{run_by}
-use Rattle.eg_campaign.specs.Plays.{EngineRun, bench_of, rows_of_run, report_of_run}
+use Rattle.eg_plan.specs.declared.engine.EngineKind.{EngineKind}
+use Rattle.eg_campaign.specs.Plays.{EngineRun, bench_of, rows_of_run, rows_in_time, report_of_run}
 
 -- ---- runs ----
 
@@ -21,6 +22,11 @@ pub same_run : (cal cal' : CalibrationParts) (image image' : List ℕ) (fault fa
     (plan plan' : List (List ℕ)) (drive drive' : List DriveRow) → cal ≡ cal' → image ≡ image' → fault ≡ fault' →
     plan ≡ plan' → drive ≡ drive' → run_by cal image fault plan drive ≡ run_by cal' image' fault' plan' drive'
 same_run cal cal' image image' fault fault' plan plan' drive drive' a b c d e = cc
+
+-- the rows that the engine of a run makes are those of the engine that it names
+pub rows_by : (r : EngineRun) (k : EngineKind) → r.engine ≡ k → reverse (record_rows (bench_of k) r.run) ≡ rows_in_time r
+unfolding rows_in_time
+rows_by r k is = ap (λ engine. reverse (record_rows (bench_of engine) r.run)) (sym is)
 
 -- what the report says of a run whose facts and trap are told
 pub report_is : (name name' : List ℕ) (r : EngineRun) (trap : Option (Trap × ℕ)) (bound : ℕ) (summary : Summary) → name ≡ name' →

@@ -1,10 +1,11 @@
 -- A record that is written as its ticks are made.
-use Rattle.std.proofs.Common.{◌≡◌, ◌∙◌, refl, sym, ap, subst, ℕ, suc, ◌+◌, ◌%◌, ◌^◌, ◌<◌, ◌≤◌, List, [], ◌∷◌, ◌++◌, Option, Some, None, map, take, length, append_assoc, append-nil, arith}
-use Rattle.std.specs.Prelude.{option_map, reverse}
+use Rattle.std.proofs.Common.{◌≡◌, ◌∙◌, refl, sym, ap, subst, ℕ, suc, ◌+◌, ◌%◌, ◌^◌, ◌<◌, ◌≤◌, List, [], ◌∷◌, ◌++◌, map, length, append_assoc, append-nil, arith}
+use Rattle.std.specs.Prelude.{reverse}
 use Rattle.std.specs.List.{concat}
 use Rattle.std.proofs.lemmas.List.{map-append}
 use Rattle.std.proofs.lemmas.List.Folds.{concat-append}
 use Rattle.eg_base.specs.Outside.{ShownSink, Appends, AppendsPrefix}
+use Rattle.eg_base.proofs.AppendLemmas.{Appends-append, Appends-nil}
 use Rattle.eg_record.specs.declared.row.Row.{Row}
 use Rattle.eg_record.specs.Texts.{record_header, row_line}
 use Rattle.eg_model.specs.Engines.{BenchEngine}
@@ -14,22 +15,12 @@ use Rattle.eg_model.specs.Records.{row_at, rows_to}
 use Rattle.eg_model.proofs.RecordTicks.{no_rows, record_rows-is}
 use Rattle.eg_model.proofs.WholeRecord.{rows-suc}
 use Rattle.eg_tick.specs.Weights.{TickCount, weight_of}
-use Rattle.eg_tick.proofs.RunLemmas.{counted, counted-none}
+use Rattle.eg_tick.proofs.RunLemmas.{counted}
 use Rattle.eg_tick.proofs.FactLaws.{counted-next, rows-next}
 use Rattle.eg_tick.specs.Counting.{count_with}
 use Rattle.eg_campaign.specs.Texts.{text_of}
 use Rattle.eg_campaign.specs.Recording.{HasLines, IsStopped}
 use Rattle.eg_tick.proofs.CountLemmas.{long, front, front-take, counts_front, counts_record}
-
--- ---- pieces that are appended ----
-
-appended : (before : Option (List ℕ)) (x y : List ℕ) → option_map (λ old. old ++ y) (option_map (λ old. old ++ x) before) ≡ option_map (λ old. old ++ (x ++ y)) before
-appended None x y = refl
-appended (Some old) x y = ap (λ new. Some new) (append_assoc old x y)
-
--- one after another
-appends-more : (before mid now : ShownSink) (x y : List ℕ) → Appends before mid x → Appends mid now y → Appends before now (x ++ y)
-appends-more before mid now x y first second = second ∙ ap (option_map (λ old. old ++ y)) first ∙ appended before.written x y
 
 one_more : (n : ℕ) → suc n ≡ n + 1
 one_more n = omega arith
@@ -65,12 +56,12 @@ pub record HasWritten {S : Type 0} (b : BenchEngine S) (r : Run) (t : ℕ) (out 
 
 -- behind the header
 pub has_header : {S : Type 0} (b : BenchEngine S) (r : Run) (out now : ShownSink) (was : TickCount) (header : List ℕ) → header ≡ record_header → Appends out now header →
-    now.faults ≡ out.faults → now.sure ≡ out.sure → was.count < 2 ^ 64 → was.weights < 2 ^ 64 → HasWritten b r 0 out now was was
-has_header b r out now was header is put faults sure count weights = record {
+    now.faults ≡ out.faults → now.sure ≡ out.sure → was ≡ count_with was [] → HasWritten b r 0 out now was was
+has_header b r out now was header is put faults sure same = record {
   put = subst (Appends out now) (is ∙ sym text-none ∙ ap (λ (l : List Row). text_of (reverse l)) (sym (no_rows b r))) put;
   faults = faults;
   sure = sure;
-  counts = counted-none was (rows_to b r 0) (no_rows b r) count weights;
+  counts = same ∙ ap (counted was 0) (sym (no_rows b r));
 }
 
 -- what a tick counts
@@ -85,7 +76,7 @@ pub has_more : {S : Type 0} (b : BenchEngine S) (r : Run) (t : ℕ) (out mid now
     new.weights ≡ (old.weights + weight_of row) % 2 ^ 64 → HasWritten b r (t + 1) out now was new
 has_more b r t out mid now was old new row is so_far put faults sure count weight = record {
   put = subst (Appends out now) (sym (text-next b r t))
-      (appends-more out mid now (text_of (reverse (rows_to b r t))) (row_line (row_at b r t)) so_far.put (subst (λ (x : Row). Appends mid now (row_line x)) is put));
+      (Appends-append out mid now (text_of (reverse (rows_to b r t))) (row_line (row_at b r t)) so_far.put (subst (λ (x : Row). Appends mid now (row_line x)) is put));
   faults = faults ∙ so_far.faults;
   sure = sure ∙ so_far.sure;
   counts = counts-next b r t was old new row is so_far.counts count weight;
@@ -109,30 +100,22 @@ module _ {S : Type 0} (b : BenchEngine S) (r : Run) where
 
   -- at the header: no tick was made
   pub stopped_at_header : (out now : ShownSink) (was : TickCount) (header : List ℕ) → header ≡ record_header → AppendsPrefix out now header →
-      was.count < 2 ^ 64 → was.weights < 2 ^ 64 → IsStopped (reverse (record_rows b r)) out now was was
+      was ≡ count_with was [] → IsStopped (reverse (record_rows b r)) out now was was
   unfolding text_of
-  stopped_at_header out now was header is (some, rest, parts, put) count weights = record {
+  stopped_at_header out now was header is (some, rest, parts, put) same = record {
     front = some;
     rest = rest ++ concat (map row_line (reverse (record_rows b r)));
     ticks = 0;
     parts = ap (λ h. h ++ concat (map row_line (reverse (record_rows b r)))) (sym is ∙ parts) ∙ append_assoc some rest (concat (map row_line (reverse (record_rows b r))));
     appended = put;
-    most = least (length (reverse (record_rows b r)));
+    most = omega arith;
     lines = tt;
-    counted = counts_front b r 0 was was (least (length r.drive))
-        (counted-none was (rows_to b r 0) (no_rows b r) count weights);
+    counted = counts_front b r 0 was was (omega arith) (same ∙ ap (counted was 0) (sym (no_rows b r)));
   }
-    where
-      least : (n : ℕ) → 0 ≤ n
-      least n = omega arith
 
   -- before the header: nothing was written
-  pub stopped_before_header : (out : ShownSink) (was : TickCount) → was.count < 2 ^ 64 → was.weights < 2 ^ 64 → IsStopped (reverse (record_rows b r)) out out was was
-  stopped_before_header out was = stopped_at_header out out was record_header refl ([], record_header, refl, nothing out.written)
-    where
-      nothing : (written : Option (List ℕ)) → written ≡ option_map (λ old. old ++ []) written
-      nothing None = refl
-      nothing (Some old) = ap (λ new. Some new) (sym (append-nil old))
+  pub stopped_before_header : (out : ShownSink) (was : TickCount) → was ≡ count_with was [] → IsStopped (reverse (record_rows b r)) out out was was
+  stopped_before_header out was = stopped_at_header out out was record_header refl ([], record_header, refl, Appends-nil out)
 
   -- the text of a record, cut within the line of a tick
   cut : (t : ℕ) (some rest : List ℕ) → t < length r.drive → row_line (row_at b r t) ≡ some ++ rest →
@@ -163,15 +146,9 @@ module _ {S : Type 0} (b : BenchEngine S) (r : Run) where
         rest = back;
         ticks = t + 1;
         parts = whole;
-        appended = appends-more out mid now before some so_far.put put;
+        appended = Appends-append out mid now before some so_far.put put;
         most = subst (λ n. t + 1 ≤ n) (long b r) most;
-        lines = has_lines t (reverse (record_rows b r)) (before ++ some)
-            (some, ap (λ (l : List Row). text_of l ++ some) (sym (front-take b r t (under t (length r.drive) within))));
+        lines = subst (λ n. HasLines n (reverse (record_rows b r)) (before ++ some)) (one_more t)
+            (some, ap (λ (l : List Row). text_of l ++ some) (sym (front-take b r t (omega (arith, within)))));
         counted = counts_front b r (t + 1) was new most (counts-next b r t was old new row is so_far.counts count weight);
       }
-    where
-      under : (t n : ℕ) → t < n → t ≤ n
-      under t n l = omega arith
-
-      has_lines : (t : ℕ) (rows : List Row) (all : List ℕ) → (more : List ℕ) × (all ≡ text_of (take t rows) ++ more) → HasLines (t + 1) rows all
-      has_lines t rows all begins = subst (λ n. HasLines n rows all) (one_more t) begins

@@ -2,10 +2,12 @@
 -- tick of the run without one. Up to the onset of its fault each of them is the run without a fault. So where
 -- a group has more than one run, that run is kept at each hundredth tick, and a run with a fault is made from
 -- the last of these ticks on that isn't after the onset.
-use Rattle.std.specs.Prelude.{◌≡◌, ℕ, ◌*◌, ◌/◌, Bool, true, false, ◌==◌, ◌&&◌, nat_lt, nat_eq, List, [], ◌∷◌, ◌++◌, map, filter, drop, length, reverse, Option, Some, None, if◌then◌else◌}
+use Rattle.std.specs.Prelude.{◌≡◌, ℕ, ◌*◌, ◌/◌, Bool, true, false, ◌==◌, ◌&&◌, nat_lt, nat_eq, List, [], ◌∷◌, ◌++◌, map, filter, drop, length, reverse, Option, Some, None, if◌then◌else◌, Result, IfOk}
 use Rattle.std.specs.Bool.{beq}
 use Rattle.std.specs.List.{flat_map, list_any}
 use Rattle.std.specs.Cmp.Lexicographic.{pointwise}
+use Rattle.std.specs.declared.vec.Vec.{Vec}
+use Rattle.std.specs.declared.alloc.Global.{Global}
 use Rattle.eg_num.specs.Drive.{DriveRow}
 use Rattle.eg_fault.specs.declared.class.Fault.{Fault}
 use Rattle.eg_values.specs.Calibration.{CalibrationParts}
@@ -15,6 +17,8 @@ use Rattle.eg_record.specs.declared.run_facts.RunFacts.{RunFacts}
 use Rattle.eg_model.specs.Engines.{BenchEngine}
 use Rattle.eg_model.specs.Rows.{record_rows}
 use Rattle.eg_tick.specs.Facts.{record_facts, told_of}
+use Rattle.eg_tick.specs.Weights.{TickCount}
+use Rattle.eg_tick.specs.Counting.{AreCounted}
 use Rattle.eg_plan.specs.declared.engine.EngineKind.{EngineKind}
 use Rattle.eg_plan.specs.declared.engine.EngineKind.TheVariants as kind
 use Rattle.eg_campaign.specs.declared.play.RunInput.{RunInput}
@@ -63,9 +67,17 @@ groups_of inputs = map (group_of inputs) (firsts_after [] inputs)
 
 -- ---- what is made ----
 
+-- the same input under this fault in place of its own, or under none
+abbrev pub input_under : Option Fault → RunInput → RunInput
+input_under fault x = record x { plan = record x.plan { fault = fault } }
+
 -- the same input without its fault
 abbrev pub faultless : RunInput → RunInput
-faultless x = record x { plan = record x.plan { fault = None } }
+faultless x = input_under None x
+
+-- the runs of an input under each of these faults
+abbrev pub inputs_under : RunInput → List Fault → List RunInput
+inputs_under x faults = map (λ fault. input_under (Some fault) x) faults
 
 -- a run without a fault is kept at tick 0, and this many ticks later again, and so on
 abbrev pub checkpoint_ticks : ℕ
@@ -102,6 +114,11 @@ abbrev pub rows_shared : {S : Type 0} → BenchEngine S → CalibrationParts →
 rows_shared b cal inputs x =
     reverse (record_rows b (run_with cal (faultless x)).run) ++ flat_map (own_on b cal) (group_of inputs x)
 
+-- the same of the runs of input x under two faults or more
+abbrev pub rows_under : {S : Type 0} → BenchEngine S → CalibrationParts → RunInput → List Fault → List Row
+rows_under b cal x faults = reverse (record_rows b (run_with cal (faultless x)).run)
+    ++ flat_map (λ fault. own_on b cal (input_under (Some fault) x)) faults
+
 -- the rows that are made for a campaign, group by group
 unfoldable pub rows_made : CalibrationParts → List RunInput → List Row
 rows_made cal inputs = flat_map (rows_of_group cal) (groups_of inputs)
@@ -125,3 +142,10 @@ written_over tells x before y = if is_alike x y then Some (tells y) else before 
 -- the facts of the run of an input
 abbrev pub facts_by : CalibrationParts → RunInput → Facts
 facts_by cal x = record_facts (bench_of x.plan.engine) (run_with cal x).run
+
+-- The runs of these inputs were played: on Ok this is told of each, in their order. These rows were made for
+-- them and are counted, with their weights; where memory ran out, the first of them are.
+pub record AreTold {T E : Type 0} (tells : RunInput → T) (inputs : List RunInput) (rows : List Row)
+    (was is : TickCount) (result : Result (Vec T Global) E) : Type 0 where
+  pub told : IfOk result (λ all. all.items ≡ map tells inputs)
+  pub counted : AreCounted rows was is result

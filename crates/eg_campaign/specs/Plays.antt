@@ -1,6 +1,6 @@
 -- An input is a plan, a drive and an image, and by a calibration a run of the engine that its plan names,
 -- with a record and a report. Which inputs may be played is said here too.
-use Rattle.std.specs.Prelude.{ℕ, ◌≤◌, List, length, reverse, All}
+use Rattle.std.specs.Prelude.{◌≡◌, ℕ, ◌≤◌, List, length, reverse, All}
 use Rattle.std.specs.List.{flat_map}
 use Rattle.eg_guard.specs.declared.regions.TheConstants.{DATA as CODE_END}
 use Rattle.eg_num.specs.Drive.{IsDrive}
@@ -8,12 +8,16 @@ use Rattle.eg_plant.specs.Gasoline.{Gasoline}
 use Rattle.eg_diesel.specs.Diesel.{Diesel}
 use Rattle.eg_values.specs.Calibration.{CalibrationParts}
 use Rattle.eg_record.specs.declared.row.Row.{Row}
+use Rattle.eg_record.specs.declared.run_facts.RunFacts.{RunFacts}
 use Rattle.eg_record.specs.declared.summary.Summary.{Summary}
 use Rattle.eg_model.specs.Engines.{BenchEngine, gasoline, diesel}
 use Rattle.eg_model.specs.Bench.{Run}
 use Rattle.eg_model.specs.Rows.{record_rows, report_of}
 use Rattle.eg_fault.specs.Faults.{IsNoneOrValid}
 use Rattle.eg_tick.specs.Run.{run_by}
+use Rattle.eg_tick.specs.Facts.{IsToldOf}
+use Rattle.eg_tick.specs.Weights.{TickCount}
+use Rattle.eg_tick.specs.Counting.{count_with}
 use Rattle.eg_plan.specs.declared.engine.EngineKind.{EngineKind}
 use Rattle.eg_plan.specs.declared.engine.EngineKind.TheVariants as kind
 use Rattle.eg_campaign.specs.declared.play.RunInput.{RunInput}
@@ -70,3 +74,11 @@ run_with cal input = record {
 -- what the report says of it
 abbrev pub report_with : CalibrationParts → RunInput → Summary
 report_with cal input = report_of_run input.plan.name (run_with cal input)
+
+-- ---- what is told ----
+
+-- A run of this engine was played: this is told of it, and its rows were made and counted.
+pub record IsPlayed {S : Type 0} (b : BenchEngine S) (r : Run) (was is : TickCount) (all : RunFacts) :
+    Type 0 where
+  pub told : IsToldOf b r all
+  pub counted : is ≡ count_with was (reverse (record_rows b r))

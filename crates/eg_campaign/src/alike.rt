@@ -9,6 +9,7 @@ use eg_plan::EngineKind;
 
 /// Whether two runs are of one group: their engines, images, slice plans and drives are equal, so that
 /// without their faults they are one run (docs/CONCEPT.md, "The record of a run"). It takes no memory.
+#[tactic(auto, unfolding(crate::specs::Groups::is_alike))]
 pub(crate) fn is_alike(a: &RunInput, b: &RunInput) -> bool
     ensures { result ≡ is_alike a.now b.now }
 {

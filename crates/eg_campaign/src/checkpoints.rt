@@ -1,5 +1,6 @@
 // The run without a fault of a group, and runs under faults that go on from it.
 ghost use Rattle.std.specs.Prelude.{◌≡◌, ℕ, ◌+◌, ◌%◌, ◌^◌, ◌≤◌, ◌<◌, false, None, length, reverse, IfOk, OnOk, OnErr, IsOk, IsTrue};
+ghost use Rattle.std.specs.Option.{option_copied};
 ghost use Rattle.eg_fault.specs.Faults.{IsNoneOrValid};
 ghost use Rattle.eg_values.specs.Calibration.{CalibrationParts};
 ghost use Rattle.eg_model.specs.Bench.{Run};
@@ -9,10 +10,11 @@ ghost use Rattle.eg_tick.specs.Weights.{TickCount};
 ghost use Rattle.eg_tick.specs.Facts.{IsToldOf};
 ghost use Rattle.eg_tick.specs.Counting.{count_with, AreCounted};
 ghost use Rattle.eg_campaign.specs.Plays.{IsPlayable, run_with};
-ghost use Rattle.eg_campaign.specs.Groups.{faultless, checkpoint_ticks, own_on};
+ghost use Rattle.eg_campaign.specs.Groups.{faultless, checkpoint_ticks, input_under, own_on};
 ghost use Rattle.eg_campaign.specs.Checkpoints.{run_under, PlaysInput, HasPlayed, HasMade, AreCheckpoints, IsSharedFor};
 
 use crate::RunInput;
+use crate::counting::count_none;
 use eg_base::NoMemory;
 use eg_fault::Fault;
 use eg_guard::{FlatMemory, Guarded};
@@ -59,8 +61,8 @@ pub(crate) fn share<E: BenchedEngine + CopyEngine>(
         (reverse (record_rows E.bench (run_with calibration.now (faultless input.now)).run))
         steps.old steps.new result }
 {
-    // Called for its clause alone: both numbers are a u64.
-    let _numbers = (steps.count(), steps.sum());
+    // Called for its clause alone.
+    count_none(steps);
     let mut played = begin::<E>(alloc, calibration, input)?;
     let mut checkpoints = Vec::new(alloc);
     for tick in 0..input.drive.as_slice().len() {
@@ -179,28 +181,31 @@ fn play_tick<E: BenchedEngine + CopyEngine, M: Guarded + Drop>(
     Ok(())
 }
 
-/// Plays the run of another input of the group: from the last checkpoint on that isn't after the onset of
-/// its fault. Where it has no fault, or one that begins after the run, nothing is played, and what is told is
-/// what the run without a fault tells. The ticks are counted in `steps`. It takes no memory and refuses
-/// nothing.
+/// Plays the run of an input of the group under this fault in place of its own: from the last checkpoint on
+/// that isn't after the onset. Where there is no fault, or one that begins after the run, nothing is played,
+/// and what is told is what the run without a fault tells. The ticks are counted in `steps`. It takes no
+/// memory and refuses nothing.
 pub(crate) fn play_from<E: BenchedEngine + CopyEngine>(
     shared: &Shared<E>,
     input: &RunInput,
+    fault: Option<&Fault>,
     steps: &mut Ticks,
 ) -> RunFacts
     requires playable { IsPlayable input.now }
+    requires valid { IsNoneOrValid (option_copied fault) }
     requires shared { (cal : CalibrationParts)
         × IsSharedFor E.bench E.come_to cal input.now shared.now }
     ensures told { (cal : CalibrationParts) →
         IsSharedFor E.bench E.come_to cal input.now shared.now →
-        IsToldOf E.bench (run_with cal input.now).run result }
+        IsToldOf E.bench (run_with cal (input_under (option_copied fault.entry) input.now)).run result }
     ensures counted { (cal : CalibrationParts) →
         IsSharedFor E.bench E.come_to cal input.now shared.now →
-        steps.new ≡ count_with steps.old (own_on E.bench cal input.now) }
+        steps.new ≡ count_with steps.old
+        (own_on E.bench cal (input_under (option_copied fault.entry) input.now)) }
 {
-    // Called for its clause alone: both numbers are a u64.
-    let _numbers = (steps.count(), steps.sum());
-    let Some(fault) = &input.plan.fault else {
+    // Called for its clause alone.
+    count_none(steps);
+    let Some(fault) = fault else {
         return shared.told;
     };
     if fault.onset as usize >= input.drive.as_slice().len() {
@@ -238,8 +243,8 @@ fn play_on<E: BenchedEngine + CopyEngine>(
     ensures { (r : Run) → PlaysInput input.now r → HasPlayed E.bench E.come_to r from played.old →
         HasMade E.bench E.come_to r from (length r.drive) played.new steps.old steps.new }
 {
-    // Called for its clause alone: both numbers are a u64.
-    let _numbers = (steps.count(), steps.sum());
+    // Called for its clause alone.
+    count_none(steps);
     for tick in from..input.drive.as_slice().len() {
         play_row(played, input, tick, steps);
     }

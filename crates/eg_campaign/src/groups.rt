@@ -8,6 +8,7 @@ ghost use Rattle.eg_campaign.specs.Groups.{is_alike, group_of, rows_shared, rows
 use crate::RunInput;
 use crate::alike::is_alike;
 use crate::checkpoints::{play_from, share};
+use crate::counting::count_none;
 use crate::play::tell_one;
 use eg_base::NoMemory;
 use eg_diesel::DieselEngine;
@@ -31,8 +32,8 @@ pub(crate) fn tell_all(
         all.items ≡ map (λ x. Some (told_with calibration.now x)) inputs.now) }
     ensures counted { AreCounted (rows_made calibration.now inputs.now) steps.old steps.new result }
 {
-    // Called for its clause alone: both numbers are a u64.
-    let _numbers = (steps.count(), steps.sum());
+    // Called for its clause alone.
+    count_none(steps);
     let mut told = nothing_told(alloc, inputs.len())?;
     for i in 0..inputs.len() {
         let input = &inputs[i];
@@ -113,15 +114,15 @@ fn play_group<E: BenchedEngine + CopyEngine>(
     ensures counted { AreCounted (rows_shared E.bench calibration.now inputs.now input.now)
         steps.old steps.new result }
 {
-    // Called for its clause alone: both numbers are a u64.
-    let _numbers = (steps.count(), steps.sum());
+    // Called for its clause alone.
+    count_none(steps);
     let shared = share::<E>(alloc, calibration, input, steps)?;
     for i in 0..inputs.len() {
         let other = &inputs[i];
         if !is_alike(input, other) {
             continue;
         }
-        let one = play_from(&shared, other, steps);
+        let one = play_from(&shared, other, other.plan.fault.as_ref(), steps);
         told[i] = Some(one);
     }
     Ok(())

@@ -1,13 +1,15 @@
 //! Campaigns that are played: the runs of a campaign group by group, with what the report says of each, the
-//! facts of each, or what `table` tells of each; and the record of a run, written as its ticks are made. Runs
-//! of one group share the part before their faults.
+//! facts of each, or what `table` tells of each; one input under many faults; and the record of a run,
+//! written as its ticks are made. Runs of one group share the part before their faults.
 #![tactic(auto)]
 
 mod alike;
 mod checkpoints;
+mod counting;
 mod groups;
 mod play;
 mod recording;
+mod under;
 
 pub use eg_plan::{
     CampaignFault, EngineKind, RunKey, RunPlan, accepted_files_keep_the_rules, add_ticks,
@@ -15,3 +17,4 @@ pub use eg_plan::{
 };
 pub use play::{RunInput, facts_all, run_all, told_all};
 pub use recording::{RecordStop, record_into};
+pub use under::facts_under;

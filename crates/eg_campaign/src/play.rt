@@ -1,11 +1,8 @@
 // The runs of a campaign, played.
-ghost use Rattle.std.specs.Prelude.{◌≡◌, ◌<◌, All, List, map, length, reverse, slice_index_or, Option, Some, None, IsSome, IfOk};
+ghost use Rattle.std.specs.Prelude.{◌≡◌, ◌<◌, All, List, map, length, slice_index_or, Option, Some, None, IsSome, IfOk};
 ghost use Rattle.eg_record.specs.declared.run_facts.RunFacts.{RunFacts};
-ghost use Rattle.eg_model.specs.Rows.{record_rows};
-ghost use Rattle.eg_tick.specs.Facts.{IsToldOf};
-ghost use Rattle.eg_tick.specs.Counting.{count_with, AreCounted};
-ghost use Rattle.eg_campaign.specs.Plays.{IsPlayable, bench_of, run_with, report_with, rows_in_time};
-ghost use Rattle.eg_campaign.specs.Groups.{rows_made, told_with, facts_by};
+ghost use Rattle.eg_campaign.specs.Plays.{IsPlayable, IsPlayed, bench_of, run_with, report_with};
+ghost use Rattle.eg_campaign.specs.Groups.{AreTold, rows_made, told_with, facts_by};
 
 use crate::groups::tell_all;
 use eg_answer::reaction;
@@ -33,6 +30,7 @@ pub struct RunInput {
 /// Plays the runs of a campaign, and tells of each what the report says (docs/CONCEPT.md, "The report of a
 /// run"). Runs of one drive, one image, one slice plan and one engine share what comes before their faults.
 /// The ticks that are made are counted in `steps`. NoMemory is its one refusal.
+#[tactic(auto, using(eg_tick::proofs::CountLemmas::counted_all))]
 pub fn run_all(
     alloc: Global,
     calibration: &Calibration,
@@ -40,9 +38,8 @@ pub fn run_all(
     steps: &mut Ticks,
 ) -> Result<Vec<Summary>, NoMemory>
     requires { All IsPlayable inputs.now }
-    ensures summaries { IfOk result (λ all. all.items ≡ map (report_with calibration.now) inputs.now) }
-    // The rows that are made are counted, with their weights; where memory ran out, the first of them.
-    ensures counted { AreCounted (rows_made calibration.now inputs.now) steps.old steps.new result }
+    ensures { AreTold (report_with calibration.now) inputs.now (rows_made calibration.now inputs.now)
+        steps.old steps.new result }
 {
     let told = told_all(alloc, calibration, inputs, steps)?;
     summaries_of(alloc, calibration, inputs, &told)
@@ -57,8 +54,8 @@ pub fn facts_all(
     steps: &mut Ticks,
 ) -> Result<Vec<Facts>, NoMemory>
     requires { All IsPlayable inputs.now }
-    ensures facts { IfOk result (λ all. all.items ≡ map (facts_by calibration.now) inputs.now) }
-    ensures counted { AreCounted (rows_made calibration.now inputs.now) steps.old steps.new result }
+    ensures { AreTold (facts_by calibration.now) inputs.now (rows_made calibration.now inputs.now)
+        steps.old steps.new result }
 {
     let told = told_all(alloc, calibration, inputs, steps)?;
     facts_of_all(alloc, &told)
@@ -74,8 +71,8 @@ pub fn told_all(
     steps: &mut Ticks,
 ) -> Result<Vec<RunFacts>, NoMemory>
     requires { All IsPlayable inputs.now }
-    ensures told { IfOk result (λ all. all.items ≡ map (told_with calibration.now) inputs.now) }
-    ensures counted { AreCounted (rows_made calibration.now inputs.now) steps.old steps.new result }
+    ensures { AreTold (told_with calibration.now) inputs.now (rows_made calibration.now inputs.now)
+        steps.old steps.new result }
 {
     let told = tell_all(alloc, calibration, inputs, steps)?;
     each_told(alloc, &told)
@@ -154,10 +151,8 @@ fn told_at(told: &[Option<RunFacts>], index: usize) -> RunFacts
 /// Plays one run of the engine that it names, and tells of it.
 pub(crate) fn tell_one(calibration: &Calibration, input: &RunInput, steps: &mut Ticks) -> RunFacts
     requires { IsPlayable input.now }
-    ensures told { IsToldOf (bench_of input.now.plan.engine) (run_with calibration.now input.now).run
-        result }
-    ensures counted { steps.new ≡ count_with steps.old
-        (rows_in_time (run_with calibration.now input.now)) }
+    ensures { IsPlayed (bench_of input.now.plan.engine) (run_with calibration.now input.now).run
+        steps.old steps.new result }
 {
     match input.plan.engine {
         EngineKind::Gasoline => tell_on::<GasolineEngine>(calibration, input, steps),
@@ -172,9 +167,7 @@ fn tell_on<E: BenchedEngine>(
     steps: &mut Ticks,
 ) -> RunFacts
     requires { IsPlayable input.now }
-    ensures told { IsToldOf E.bench (run_with calibration.now input.now).run result }
-    ensures counted { steps.new ≡ count_with steps.old
-        (reverse (record_rows E.bench (run_with calibration.now input.now).run)) }
+    ensures { IsPlayed E.bench (run_with calibration.now input.now).run steps.old steps.new result }
 {
     let (image, drive) = (input.image.as_slice(), input.drive.as_slice());
     let (plan, fault) = (&input.plan.plan, input.plan.fault.as_ref());

@@ -1,9 +1,9 @@
 -- Where each run under a listed fault reacts in time, so do all rows but that of lapses.
-use Rattle.std.proofs.Common.{◌≡◌, refl, sym, subst, ℕ, ◌==◌, ◌≤◌, ◌<◌, Bool, true, false, List, [], ◌∷◌, All, map, take, Some, arith}
-use Rattle.std.specs.Prelude.{IfSome, if◌then◌else◌}
+use Rattle.std.proofs.Common.{◌≡◌, refl, sym, subst, ℕ, ◌==◌, ◌≤◌, ◌<◌, Bool, false, List, [], ◌∷◌, All, map, take, Some, arith}
+use Rattle.std.specs.Prelude.{IfSome}
 use Rattle.std.specs.List.{filter, zip}
 use Rattle.std.proofs.lemmas.Bool.{eqb-true}
-use Rattle.std.proofs.lemmas.List.Elements.{All-nil, All-cons, All-head, All-tail, All-map}
+use Rattle.std.proofs.lemmas.List.Elements.{All-nil, All-cons, All-head, All-tail, All-map, All-filter, filter_passes}
 use Rattle.eg_fault.specs.declared.class.Class.{Class}
 use Rattle.eg_fault.specs.declared.class.Class.TheVariants.{Lapse}
 use Rattle.eg_fault.specs.declared.class.Fault.{Fault}
@@ -29,22 +29,14 @@ no_lapse _ early = refl
 under_all : (P : Facts → Type 0) (class : Class) (runs : List (Fault × Facts)) →
     All (λ run. class_index run.0.class ≡ class_index class → P run.1) runs → All P (facts_under class runs)
 unfolding facts_under
-under_all P class runs each = All-map P (λ run. run.1) (filter of_class runs) (go runs each)
+under_all P class runs each = All-map P (λ run. run.1) (filter of_class runs)
+    (λ k d below. All-filter of_class Each runs each k d below (eqb-true _ _ (filter_passes of_class runs k d below)))
   where
     of_class : Fault × Facts → Bool
     of_class run = class_index run.0.class == class_index class
 
     Each : Fault × Facts → Type 0
     Each run = class_index run.0.class ≡ class_index class → P run.1
-
-    kept : (run : Fault × Facts) (b : Bool) (others : List (Fault × Facts)) → of_class run ≡ b → Each run →
-        All (λ run. P run.1) others → All (λ run. P run.1) (if b then run ∷ others else others)
-    kept run true others is here rest = All-cons (λ run. P run.1) run others (here (eqb-true _ _ is)) rest
-    kept run false others is here rest = rest
-
-    go : (runs : List (Fault × Facts)) → All Each runs → All (λ run. P run.1) (filter of_class runs)
-    go [] each = All-nil (λ run. P run.1)
-    go (run ∷ runs) each = kept run (of_class run) (filter of_class runs) refl (All-head Each run runs each) (go runs (All-tail Each run runs each))
 
 -- runs whose facts come from their faults
 zip_all : (P : Fault × Facts → Type 0) (facts : Fault → Facts) (faults : List Fault) →

@@ -29,48 +29,16 @@ each_all : (P : Class → Type 0) (classes : List Class) → Each P classes → 
 each_all P [] each = All-nil P
 each_all P (class ∷ classes) each = All-cons P class classes each.0 (each_all P classes each.1)
 
+also : {A B : Type 0} → A → B → A × B
+also a b = (a, b)
+
 classes_each : Each IsValidClass swept_classes
 unfolding swept_classes IsValidClass
-classes_each = (
-  (lit< tt, few, one (λ value. value ≤ 65535) 0 (lit≤ tt)),
-  (
-    (lit< tt, (lit≤ tt, lit≤ tt)),
-    (
-      bit,
-      (
-        lit≤ tt,
-        (
-          lit< tt,
-          (
-            (lit≤ tt, lit≤ tt, (lit≤ tt, lit≤ tt)),
-            (
-              (lit< tt, bit),
-              (
-                tt,
-                (
-                  lit≤ tt,
-                  (
-                    (few, one (λ question. question ≤ 65535) 65535 (lit≤ tt), few),
-                    (
-                      tt,
-                      (
-                        tt,
-                        (
-                          (lit≤ tt, lit≤ tt),
-                          ((few, one (λ k. k ≤ 19999) 0 (lit≤ tt), rises 0, lit≤ tt), tt),
-                        ),
-                      ),
-                    ),
-                  ),
-                ),
-              ),
-            ),
-          ),
-        ),
-      ),
-    ),
-  ),
-)
+classes_each =
+    also (lit< tt, few, one (λ value. value ≤ 65535) 0 (lit≤ tt)) (also (lit< tt, (lit≤ tt, lit≤ tt)) (also bit (also (lit≤ tt)
+    (also (lit< tt) (also (lit≤ tt, lit≤ tt, (lit≤ tt, lit≤ tt)) (also (lit< tt, bit) (also tt (also (lit≤ tt)
+    (also (few, one (λ question. question ≤ 65535) 65535 (lit≤ tt), few) (also tt (also tt (also (lit≤ tt, lit≤ tt)
+    (also (few, one (λ k. k ≤ 19999) 0 (lit≤ tt), rises 0, lit≤ tt) tt)))))))))))))
 
 classes_valid : All IsValidClass swept_classes
 classes_valid = each_all IsValidClass swept_classes classes_each

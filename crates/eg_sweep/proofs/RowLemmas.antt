@@ -6,7 +6,7 @@ use Rattle.std.proofs.lemmas.List.{length-append}
 use Rattle.std.proofs.lemmas.List.Sums.{sum_by-append, count_by-le-length}
 use Rattle.eg_record.specs.declared.facts.Facts.{Facts}
 use Rattle.eg_record.specs.declared.watch.Watch.{Watch}
-use Rattle.eg_record.specs.declared.watch.Watch.TheVariants.{Mirror, Pedal, Plate, Load, Speed, Torque, Answers, Start}
+use Rattle.eg_record.specs.declared.watch.Watch.TheVariants.{Mirror}
 use Rattle.eg_record.specs.Detection.{watches, rank, is_watch}
 use Rattle.eg_record.specs.Facts.{reaction_in}
 use Rattle.eg_sweep.specs.declared.row.SweepRow.{SweepRow}
@@ -106,13 +106,7 @@ none-most old runs are = subst (λ (row : SweepRow). row.none ≤ length runs) (
 first-most : (runs : List Facts) (watch : Watch) → get_or (row_of runs).by_watch (rank watch) 0 ≤ length runs
 unfolding row_of rank
 first-most runs Mirror = count_by-le-length (is_found_first Mirror) runs
-first-most runs Pedal = count_by-le-length (is_found_first Pedal) runs
-first-most runs Plate = count_by-le-length (is_found_first Plate) runs
-first-most runs Load = count_by-le-length (is_found_first Load) runs
-first-most runs Speed = count_by-le-length (is_found_first Speed) runs
-first-most runs Torque = count_by-le-length (is_found_first Torque) runs
-first-most runs Answers = count_by-le-length (is_found_first Answers) runs
-first-most runs Start = count_by-le-length (is_found_first Start) runs
+first-most runs _ = count_by-le-length (is_found_first _) runs
 
 pub watch-most : (old : SweepRow) (runs : List Facts) (watch : Watch) → old ≡ row_of runs → get_or old.by_watch (rank watch) 0 ≤ length runs
 watch-most old runs watch are = subst (λ (row : SweepRow). get_or row.by_watch (rank watch) 0 ≤ length runs) (sym are) (first-most runs watch)

@@ -10,7 +10,7 @@ use Rattle.eg_fault.specs.declared.class.Class.TheVariants.{Script}
 use Rattle.eg_fault.specs.declared.class.Fault.{Fault}
 use Rattle.eg_record.specs.declared.facts.Facts.{Facts}
 use Rattle.eg_record.specs.declared.watch.Watch.{Watch}
-use Rattle.eg_record.specs.declared.watch.Watch.TheVariants.{Mirror, Pedal, Plate as PlateWatch, Load, Speed, Torque, Answers, Start}
+use Rattle.eg_record.specs.declared.watch.Watch.TheVariants.{Mirror}
 use Rattle.eg_record.specs.Detection.{watches, rank, is_watch}
 use Rattle.eg_sweep.specs.declared.row.SweepRow.{SweepRow}
 use Rattle.eg_sweep.specs.Grid.{swept_classes}
@@ -146,13 +146,7 @@ one_watch : (first : Option (Watch × ℕ)) →
 unfolding is_watch rank
 one_watch None = refl
 one_watch (Some (Mirror, tick)) = refl
-one_watch (Some (Pedal, tick)) = refl
-one_watch (Some (PlateWatch, tick)) = refl
-one_watch (Some (Load, tick)) = refl
-one_watch (Some (Speed, tick)) = refl
-one_watch (Some (Torque, tick)) = refl
-one_watch (Some (Answers, tick)) = refl
-one_watch (Some (Start, tick)) = refl
+one_watch (Some (_, tick)) = refl
 
 each_once : (facts : List Facts) →
     count_by (λ facts. is_none facts.first) facts + sum_by (λ watch. count_by (is_found_first watch) facts) watches ≡ length facts

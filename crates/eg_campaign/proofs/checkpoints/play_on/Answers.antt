@@ -1,4 +1,4 @@
-use Rattle.std.proofs.Common.{◌≡◌, ◌∙◌, ◌<◌, ◌≤◌, sym, ap, subst, length, arith}
+use Rattle.std.proofs.Common.{◌≡◌, ◌∙◌, ◌≤◌, sym, ap, subst, length, arith}
 use Rattle.eg_campaign.specs.Checkpoints.{HasMade}
 use Rattle.eg_campaign.proofs.CheckpointLemmas.{made_none}
 use Rattle.eg_campaign.proofs.checkpoints.play_on.Goals as goal
@@ -7,9 +7,7 @@ pub loop-tick-init : goal.loop-tick-init
 loop-tick-init g c = record {
   sure = c.requires.sure;
   made = λ r goes played.
-      made_none g.E.BenchedEngine.bench g.E.BenchedEngine.come_to r c.args.from c.args.played.now c.args.steps.now
-      (let e = c.count.ensures in let l = c.count.type_inv in subst (λ n. n < 18446744073709551616) e l)
-      (let e = c.sum.ensures in let l = c.sum.type_inv in subst (λ n. n < 18446744073709551616) e l) played;
+      made_none g.E.BenchedEngine.bench g.E.BenchedEngine.come_to r c.args.from c.args.played.now c.args.steps.now c.count_none.ensures played;
 }
 
 pub play_row-requires-clause-run : goal.play_row-requires-clause-run

@@ -6,6 +6,7 @@ use Rattle.eg_record.specs.declared.row.Row.{Row}
 use Rattle.eg_plan.specs.declared.engine.EngineKind.TheVariants as kind
 use Rattle.eg_campaign.specs.declared.play.RunInput.{RunInput}
 use Rattle.eg_tick.specs.Counting.{count_with, AreCounted}
+use Rattle.eg_campaign.specs.Plays.{rows_in_time}
 use Rattle.eg_campaign.specs.Groups.{is_alike, group_of, rows_of_group, told_with}
 use Rattle.eg_campaign.proofs.AlikeLemmas.{is_alike-equality}
 use Rattle.eg_campaign.proofs.AllGroups.{alone, written_alone, shared_rows, written_by}
@@ -23,7 +24,7 @@ returns-then-count_alike-lt2-clause-told c =
     ∙ written_alone (is_alike x) (λ (y : RunInput). Some (told_with cal y)) before inputs c.args.index x c.requires.index c.requires.there (is_alike-equality.refl x) few
 
 pub returns-then-count_alike-lt2-clause-counted : goal.returns-then-count_alike-lt2-clause-counted
-unfolding rows_of_group
+unfolding rows_of_group rows_in_time
 returns-then-count_alike-lt2-clause-counted c =
     let cal = c.args.calibration.now in
     let x = c.args.input.now in

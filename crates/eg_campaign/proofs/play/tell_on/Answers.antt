@@ -1,23 +1,22 @@
 use Rattle.std.proofs.Common.{◌≡◌, refl, subst, length}
 use Rattle.eg_model.specs.Bench.{Run}
-use Rattle.eg_tick.specs.Facts.{IsToldOf}
 use Rattle.eg_model.specs.Rows.{record_rows}
+use Rattle.eg_tick.specs.Facts.{IsToldOf}
 use Rattle.eg_tick.proofs.RunLemmas.{counted}
-use Rattle.eg_campaign.specs.Plays.{run_with}
 use Rattle.eg_tick.proofs.CountLemmas.{counts_record}
+use Rattle.eg_campaign.specs.Plays.{run_with}
 use Rattle.eg_campaign.proofs.PlayLemmas.{same_run}
 use Rattle.eg_campaign.proofs.play.tell_on.Goals as goal
 
-pub returns-clause-told : goal.returns-clause-told
-returns-clause-told g c = subst (λ (r : Run). IsToldOf g.E.BenchedEngine.bench r c.bench_facts.result)
-    (same_run _ _ _ _ _ _ _ _ _ _ refl c.as_slice-image.ensures c.as_ref-fault.ensures.value refl c.as_slice-drive.ensures)
-    c.bench_facts.ensures.told
-
-pub returns-clause-counted : goal.returns-clause-counted
-returns-clause-counted g c =
+pub returns : goal.returns
+returns g c =
     let bench = g.E.BenchedEngine.bench in
+    let cal = c.args.calibration.now in
+    let plan = c.args.input.now.plan.plan in
     let was = c.args.steps.now in
-    counts_record bench (run_with c.args.calibration.now c.args.input.now).run was c.bench_facts.new.steps
-    (subst (λ (r : Run). c.bench_facts.new.steps ≡ counted was (length r.drive) (record_rows bench r))
-    (same_run _ _ _ _ _ _ _ _ _ _ refl c.as_slice-image.ensures c.as_ref-fault.ensures.value refl c.as_slice-drive.ensures)
-    c.bench_facts.ensures.counted)
+    let same = same_run cal cal _ _ _ _ plan plan _ _ refl c.as_slice-image.ensures c.as_ref-fault.ensures.value refl c.as_slice-drive.ensures in
+    record {
+      told = subst (λ (r : Run). IsToldOf bench r c.bench_facts.result) same c.bench_facts.ensures.told;
+      counted = counts_record bench (run_with cal c.args.input.now).run was c.bench_facts.new.steps
+          (subst (λ (r : Run). c.bench_facts.new.steps ≡ counted was (length r.drive) (record_rows bench r)) same c.bench_facts.ensures.counted);
+    }

@@ -18,15 +18,11 @@ returns-in_err-put_whole-clause-stopped g c =
     let bench = g.E.BenchedEngine.bench in
     at_err c.from_residual.result
     (stopped_at_header bench (run_with c.args.calibration.now c.args.input.now).run (shows c.args.out.now) (shows c.put_whole.new.out) c.args.steps.now c.as_bytes.result.now
-    (c.as_bytes.ensures.value ∙ c.record_header.ensures) c.in_err-put_whole.ensures.prefix
-    (let e = c.count.ensures in let l = c.count.type_inv in subst (λ n. n < 18446744073709551616) e l)
-    (let e = c.sum.ensures in let l = c.sum.type_inv in subst (λ n. n < 18446744073709551616) e l))
+    (c.as_bytes.ensures.value ∙ c.record_header.ensures) c.in_err-put_whole.ensures.prefix c.count_none.ensures)
 
 pub returns-in_default-clause-stopped : goal.returns-in_default-clause-stopped
 returns-in_default-clause-stopped g c =
-    stopped_before_header g.E.BenchedEngine.bench (run_with c.args.calibration.now c.args.input.now).run (g.K.Sink.shows c.args.out.now) c.args.steps.now
-    (let e = c.count.ensures in let l = c.count.type_inv in subst (λ n. n < 18446744073709551616) e l)
-    (let e = c.sum.ensures in let l = c.sum.type_inv in subst (λ n. n < 18446744073709551616) e l)
+    stopped_before_header g.E.BenchedEngine.bench (run_with c.args.calibration.now c.args.input.now).run (g.K.Sink.shows c.args.out.now) c.args.steps.now c.count_none.ensures
 
 pub loop-tick-init : goal.loop-tick-init
 loop-tick-init g c =
@@ -40,9 +36,7 @@ loop-tick-init g c =
           (same_run _ _ _ _ _ _ _ _ _ _ refl c.as_slice-image.ensures c.as_ref-fault.ensures.value refl refl)
           (c.bench_controller-controller.ensures.at c.args.input.now.plan.plan c.args.input.now.drive);
       written = has_header bench (run_with c.args.calibration.now c.args.input.now).run (shows c.args.out.now) (shows c.put_whole.new.out) c.args.steps.now c.as_bytes.result.now
-          (c.as_bytes.ensures.value ∙ c.record_header.ensures) c.in_ok-put_whole.ensures.ok c.in_ok-put_whole.ensures.no_fault c.in_ok-put_whole.ensures.stays_sure
-          (let e = c.count.ensures in let l = c.count.type_inv in subst (λ n. n < 18446744073709551616) e l)
-          (let e = c.sum.ensures in let l = c.sum.type_inv in subst (λ n. n < 18446744073709551616) e l);
+          (c.as_bytes.ensures.value ∙ c.record_header.ensures) c.in_ok-put_whole.ensures.ok c.in_ok-put_whole.ensures.no_fault c.in_ok-put_whole.ensures.stays_sure c.count_none.ensures;
     }
 
 pub returns-in_err-put_row-clause-stopped : goal.returns-in_err-put_row-clause-stopped
