@@ -1,5 +1,6 @@
-pub mod ExcessLemmas
+pub mod ChainLemmas
 pub mod FileLemmas
+pub mod InputLemmas
 pub mod PlayLemmas
 pub mod MissingLemmas
 pub mod EndsLemmas

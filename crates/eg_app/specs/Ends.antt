@@ -4,20 +4,17 @@
 -- So each outcome comes exactly if its case says (but where a count stands at the last value of a u64);
 -- running out of memory alone may come at any place. Where a call reads several files, the count doesn't tell
 -- which of the reads met a fault: over a sure store `FileComes` and `TellsMissing` do, else a test.
-use Rattle.std.specs.Prelude.{◌≡◌, ◌⊎◌, ◌↔◌, ℕ, List, Option, Some, None, Result, Ok, IsTrue}
-use Rattle.eg_num.specs.Places.{IsFirst}
+use Rattle.std.specs.Prelude.{◌≡◌, ℕ, List, Option, Some, None, Ok, IsTrue}
 use Rattle.eg_base.specs.Outside.{ShownStore, ShownSink, Rose, IsMissing}
-use Rattle.eg_answer.specs.declared.rules.Rules.{Rules}
-use Rattle.eg_input.specs.CheckFile.{CheckRow}
 use Rattle.eg_tick.specs.Weights.{TickCount}
 use Rattle.eg_plan.specs.declared.run.RunPlan.{RunPlan}
 use Rattle.eg_outcome.specs.declared.outcome.Outcome.{Outcome}
 use Rattle.eg_outcome.specs.declared.outcome.Outcome.TheVariants as outcome
 use Rattle.eg_outcome.specs.declared.outcome.Role.TheVariants as role
-use Rattle.eg_outcome.specs.Changes.{Change, Stays, MeetsNoFault}
-use Rattle.eg_outcome.specs.Outcomes.{LineEnds, WorkFollows, IsDoneOrMemory}
-use Rattle.eg_outcome.specs.Reads.{FileComes, ReadComes, Finds, Accepts}
-use Rattle.eg_outcome.specs.Calibrations.{CalibratedEnds, MissesCalibration, FindsCalibration, AcceptsCalibration}
+use Rattle.eg_outcome.specs.Changes.{Change, Stays}
+use Rattle.eg_outcome.specs.Outcomes.{IsDoneOrMemory}
+use Rattle.eg_outcome.specs.Reads.{ReadComes, Finds, Accepts, TellsMissingFile}
+use Rattle.eg_outcome.specs.Calibrations.{TellsMissingCalibration, FindsCalibration, AcceptsCalibration}
 use Rattle.eg_campaign.specs.Plays.{rows_of_runs}
 use Rattle.eg_play.specs.Files.{campaign_file}
 use Rattle.eg_play.specs.Inputs.{FindsRuns, AcceptsRuns}
@@ -25,28 +22,9 @@ use Rattle.eg_play.specs.Ends.{Call, Plays, CampaignCommandEnds, RecordCommandEn
 use Rattle.eg_soak.specs.Soak.{drawn_runs, soak_of}
 use Rattle.eg_soak.specs.Texts.{soak_text}
 use Rattle.eg_outcome.specs.Images.{image_file}
-use Rattle.eg_source.specs.Ends.{AsmEnds, DisEnds, AcceptsSource, read_alone}
-use Rattle.eg_tuning.specs.Ends.{BoundEnds, LimitsEnd, AnswersEnd, answers_file}
+use Rattle.eg_desk.specs.Check.{check_file}
+use Rattle.eg_desk.specs.Ends.{CheckEnds, TellsMissingCheck, BoundEnds, LimitsEnd, AnswersEnd, answers_file, AsmEnds, DisEnds, AcceptsSource, read_alone}
 use Rattle.eg_app.specs.Words.{Command, check, bound, limits, run, record_run, sweep, soak, answers, asm, dis}
-use Rattle.eg_app.specs.Check.{excesses, check_line, check_file}
-
--- ---- `check [--cal NAME] FILE` ----
-
--- once the rows are known: the line tells the first tick by which the excess is confirmed
-abbrev pub RowsEnd : Rules → List CheckRow → Change ShownSink → Outcome → Type 0
-RowsEnd rules rows out o = (first : Option ℕ) × IsFirst rules.torque (excesses rules rows) first
-    × LineEnds (check_line first) out o
-
--- by these rules: the rows of the file come, and their line is written, and no fault of reading was met; or
--- nothing is put
-abbrev pub CheckWorks : Rules → List ℕ → Change ShownStore → Change ShownSink → Outcome → Type 0
-CheckWorks rules file store out o = (come : Result (List CheckRow) Outcome)
-    × FileComes role.Check check_file file store come
-    × WorkFollows (λ rows end. MeetsNoFault store × RowsEnd rules rows out end) (Stays out) come o
-
-abbrev pub CheckEnds : Option (List ℕ) → List ℕ → Change ShownStore → Change ShownSink → Outcome → Type 0
-CheckEnds calibration file store out o =
-    CalibratedEnds calibration store (Stays out) (λ parts. CheckWorks parts.rules file store out) o
 
 -- ---- `soak SEED RUNS` ----
 
@@ -106,19 +84,6 @@ ReadsNothing None = Unit {0}
 
 -- ---- when a file is missing ----
 
--- over a sure store reading the calibration fails exactly if there is no such file
-abbrev pub TellsMissingCalibration : Option (List ℕ) → ShownStore → Outcome → Type 0
-TellsMissingCalibration calibration store o =
-    (o ≡ outcome.ReadFault role.Calibration) ↔ MissesCalibration calibration store
-
--- Over a sure store reading the check file fails exactly if there is no such file. Where a calibration is
--- read before, that has to be there and be accepted, and memory may run out first.
-abbrev pub TellsMissingCheck : Option (List ℕ) → List ℕ → ShownStore → Outcome → Type 0
-TellsMissingCheck None file store o = (o ≡ outcome.ReadFault role.Check) ↔ IsMissing store.files file
-TellsMissingCheck (Some name) file store o = ((o ≡ outcome.ReadFault role.Check) → IsMissing store.files file)
-    × (AcceptsCalibration (Some name) store → ¬ IsMissing store.files name → IsMissing store.files file
-    → (o ≡ outcome.ReadFault role.Check) ⊎ (o ≡ outcome.Memory))
-
 -- Over a sure store a missing calibration is told, and so is a missing campaign where no calibration is read
 -- before it. (That ReadFault of the campaign comes only where it is missing stands in `Ends`: `FileComes`.)
 pub record TellsMissingToPlay (calibration : Option (List ℕ)) (campaign : List ℕ) (store : ShownStore)
@@ -143,11 +108,11 @@ TellsMissing (Some (sweep calibration campaign name step)) store o =
     IsTrue store.sure → TellsMissingToPlay calibration campaign store o
 TellsMissing (Some (soak seed runs)) store o = Unit {0}
 TellsMissing (Some (answers file)) store o =
-    IsTrue store.sure → ((o ≡ outcome.ReadFault role.Calibration) ↔ IsMissing store.files file)
+    IsTrue store.sure → TellsMissingFile role.Calibration file store o
 TellsMissing (Some (asm file)) store o =
-    IsTrue store.sure → ((o ≡ outcome.ReadFault role.Source) ↔ IsMissing store.files file)
+    IsTrue store.sure → TellsMissingFile role.Source file store o
 TellsMissing (Some (dis file)) store o =
-    IsTrue store.sure → ((o ≡ outcome.ReadFault read_alone) ↔ IsMissing store.files file)
+    IsTrue store.sure → TellsMissingFile read_alone file store o
 TellsMissing None store o = Unit {0}
 
 -- ---- when the work is done ----

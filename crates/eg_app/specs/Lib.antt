@@ -1,5 +1,4 @@
 pub mod Words
-pub mod Check
 pub mod Notes
 pub mod Ends
 pub mod Headline

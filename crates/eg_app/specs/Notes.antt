@@ -20,7 +20,10 @@ use Rattle.eg_outcome.specs.declared.outcome.Refusal.{Refusal}
 use Rattle.eg_outcome.specs.declared.outcome.Refusal.TheVariants as refusal
 use Rattle.eg_outcome.specs.declared.outcome.Role.{Role}
 use Rattle.eg_outcome.specs.declared.outcome.Role.TheVariants as role
-use Rattle.eg_play.specs.Ends.{role_in, IsNameIn, NamesFile}
+use Rattle.eg_outcome.specs.Roles.{role_in}
+use Rattle.eg_play.specs.Ends.{IsNameIn, NamesFile}
+use Rattle.eg_app.specs.declared.says.Says.{Says}
+use Rattle.eg_app.specs.declared.says.Says.TheVariants as says
 use Rattle.eg_app.specs.Words.{Command, check, bound, limits, run, record_run, sweep, soak, answers, asm, dis}
 
 -- ---- the file that an outcome speaks of ----
@@ -38,55 +41,22 @@ calibration_name (answers file) = file
 calibration_name (asm file) = []
 calibration_name (dis file) = []
 
--- the name of the check file, empty where there is none
-abbrev pub check_name : Command → List ℕ
-check_name (check calibration file) = file
-check_name _ = []
+-- the name of the command's own file: the check file, the campaign, or the source or image that it
+-- translates; empty where there is none
+abbrev pub own_name : Command → List ℕ
+own_name (check calibration file) = file
+own_name (run telling calibration campaign) = campaign
+own_name (record_run calibration campaign name) = campaign
+own_name (sweep calibration campaign name step) = campaign
+own_name (asm file) = file
+own_name (dis file) = file
+own_name _ = []
 
--- the name of the campaign, empty where there is none
-abbrev pub campaign_name : Command → List ℕ
-campaign_name (run telling calibration campaign) = campaign
-campaign_name (record_run calibration campaign name) = campaign
-campaign_name (sweep calibration campaign name step) = campaign
-campaign_name _ = []
-
--- the name of the source or the image that a command translates, empty where there is none
-abbrev pub translated_name : Command → List ℕ
-translated_name (asm file) = file
-translated_name (dis file) = file
-translated_name _ = []
-
--- the name in the words of a command's file that has this role; they don't name the files of a run
-abbrev pub name_of : Command → Role → List ℕ
-name_of command role.Calibration = calibration_name command
-name_of command role.Check = check_name command
-name_of command role.Campaign = campaign_name command
-name_of command (role.Trace n) = []
-name_of command (role.Image n) = translated_name command
-name_of command role.Source = translated_name command
-
--- the role of the file that a refusal speaks of, if it speaks of one
-abbrev pub role_of : Refusal → Option Role
-role_of (refusal.Size file) = Some file
-role_of (refusal.Calibration _) = Some role.Calibration
-role_of (refusal.Check _) = Some role.Check
-role_of (refusal.Campaign _) = Some role.Campaign
-role_of (refusal.Trace n _) = Some (role.Trace n)
-role_of (refusal.Image n _) = Some (role.Image n)
-role_of refusal.NoRun = None
-role_of (refusal.Source _) = Some role.Source
-role_of refusal.Grid = None
-
--- the name in the words of the file that an outcome speaks of, empty where there is none
+-- the name in the words of the file of this role, empty where there is none: they name no file of a run
 abbrev pub name_in_words : Command → Option Role → List ℕ
-name_in_words command (Some file) = name_of command file
+name_in_words command (Some role.Calibration) = calibration_name command
+name_in_words command (Some _) = own_name command
 name_in_words command None = []
-
--- the role of the file that an outcome speaks of, if it speaks of one
-abbrev pub file_role : Outcome → Option Role
-file_role (outcome.ReadFault file) = Some file
-file_role (outcome.Refused r) = role_of r
-file_role _ = None
 
 -- The name of the file of this role: the name in the words. The trace and the image of a run have the name
 -- that the campaign gives, which the store has.
@@ -107,7 +77,7 @@ IsNameOf command store file name = name ≡ name_in_words command file
 
 -- the name of the file that an outcome speaks of, empty where it speaks of none
 abbrev pub IsFileName : Option Command → ShownStore → Outcome → List ℕ → Type 0
-IsFileName (Some command) store o name = IsNameOf command store (file_role o) name
+IsFileName (Some command) store o name = IsNameOf command store (role_in o) name
 IsFileName None store o name = name ≡ []
 
 -- what comes with the outcome of a command: the name of the trace or the image of a run that it speaks of
@@ -160,6 +130,15 @@ campaign_note (campaign_fault.TwoFaults n) = codes ": run " ++ decimal n ++ code
 campaign_note (campaign_fault.Name n) = codes ": run " ++ decimal n ++ codes " repeats a name\n"
 campaign_note campaign_fault.Many = codes ": more than 1000 runs\n"
 campaign_note (campaign_fault.Ticks n) = codes ": run " ++ decimal n ++ codes " passes 1000000 ticks\n"
+
+-- the line that says this of a file of this name
+abbrev pub line_said : Says → List ℕ → List ℕ
+line_said (says.Words words) file = file ++ words.now
+line_said (says.Number before number behind) file = file ++ (before.now ++ decimal number ++ behind.now)
+line_said (says.Key before key) file = file ++ (before.now ++ key.now ++ codes "\n")
+line_said (says.RunKey n key) file =
+    file ++ (codes ": run " ++ decimal n ++ codes " key " ++ key.now ++ codes "\n")
+line_said (says.Alone words) file = words.now
 
 -- the line that notes a refusal, for a file of this name
 abbrev pub refusal_note : Refusal → List ℕ → List ℕ

@@ -59,28 +59,19 @@ abbrev pub names_calibration : List (List ℕ) → Bool
 names_calibration words =
     nat_le 3 (length words) && bytes_eq (word words 1) (codes "--cal") && is_name (word words 2)
 
--- where the command's own words begin at place `own`: the words are `check FILE`
-abbrev pub is_check : List (List ℕ) → ℕ → Bool
-is_check words own =
-    (length words == own + 1) && bytes_eq (word words 0) (codes "check") && is_name (word words own)
-
--- likewise: the word is this one, alone
+-- where the command's own words begin at place `own`: the word is this one, alone
 abbrev pub is_alone : List ℕ → List (List ℕ) → ℕ → Bool
 is_alone command words own = (length words == own) && bytes_eq (word words 0) command
 
--- likewise: the words are this one and the name of a campaign
-abbrev pub is_on_campaign : List ℕ → List (List ℕ) → ℕ → Bool
-is_on_campaign command words own =
+-- likewise: the words are this one and the name of a file
+abbrev pub is_on_file : List ℕ → List (List ℕ) → ℕ → Bool
+is_on_file command words own =
     (length words == own + 1) && bytes_eq (word words 0) command && is_name (word words own)
 
--- likewise: the words are `record CAMPAIGN RUN`
-abbrev pub is_record : List (List ℕ) → ℕ → Bool
-is_record words own = (length words == own + 2) && bytes_eq (word words 0) (codes "record")
-    && is_name (word words own) && is_name (word words (own + 1))
-
--- likewise: the words are `sweep CAMPAIGN RUN STEP`
-abbrev pub is_sweep : List (List ℕ) → ℕ → Bool
-is_sweep words own = (length words == own + 3) && bytes_eq (word words 0) (codes "sweep")
+-- likewise: the words are this one and `count` of its own, the first of which are the names of a campaign and
+-- of a run
+abbrev pub is_on_run : List ℕ → List (List ℕ) → (own count : ℕ) → Bool
+is_on_run command words own count = (length words == own + count) && bytes_eq (word words 0) command
     && is_name (word words own) && is_name (word words (own + 1))
 
 -- the number n, where it is from `least` to `most`
@@ -95,21 +86,19 @@ number_in digits least most word = option_and_then (within least most) (decimal 
 abbrev pub step_in : List ℕ → Option ℕ
 step_in word = number_in 5 1 20000 word
 
--- what the words ask for by this calibration, where the command's own words begin at place `own`
+-- What the words ask for by this calibration, where the command's own words, if it has any, begin at place
+-- `own`.
 unfoldable pub form_of : List (List ℕ) → Option (List ℕ) → ℕ → Option Command
-form_of words calibration own = if is_check words own then Some (check calibration (word words own))
-    else if is_on_campaign (codes "run") words own then Some (run Report calibration (word words own))
-    else if is_on_campaign (codes "table") words own then Some (run Table calibration (word words own))
-    else if is_record words own then Some (record_run calibration (word words own) (word words (own + 1)))
-    else if is_sweep words own then option_map (sweep calibration (word words own) (word words (own + 1)))
-    (step_in (word words (own + 2)))
-    else None
-
--- likewise, where the command may have no words of its own
-abbrev pub alone_of : List (List ℕ) → Option (List ℕ) → ℕ → Option Command
-alone_of words calibration own = if is_alone (codes "bound") words own then Some (bound calibration)
+form_of words calibration own = if is_alone (codes "bound") words own then Some (bound calibration)
     else if is_alone (codes "limits") words own then Some (limits calibration)
-    else form_of words calibration own
+    else if is_on_file (codes "check") words own then Some (check calibration (word words own))
+    else if is_on_file (codes "run") words own then Some (run Report calibration (word words own))
+    else if is_on_file (codes "table") words own then Some (run Table calibration (word words own))
+    else if is_on_run (codes "record") words own 2 then
+    Some (record_run calibration (word words own) (word words (own + 1)))
+    else if is_on_run (codes "sweep") words own 3 then
+    option_map (sweep calibration (word words own) (word words (own + 1))) (step_in (word words (own + 2)))
+    else None
 
 -- a seed is any word of 32 bits; there are 1 to 500 runs
 abbrev pub seed_in : List ℕ → Option ℕ
@@ -132,25 +121,15 @@ abbrev pub soak_form : List (List ℕ) → Option Command
 soak_form words =
     if length words == 3 then soak_by (seed_in (word words 1)) (runs_in (word words 2)) else None
 
--- what they ask for, where the first is another: by the calibration behind `--cal`, or by none
-abbrev pub calibrated_of : List (List ℕ) → Option Command
-calibrated_of words = if names_calibration words then alone_of words (Some (word words 2)) 3
-    else alone_of words None 1
-
--- the words are this one and the name of a file
-abbrev pub is_on_file : List ℕ → List (List ℕ) → Bool
-is_on_file command words = (length words == 2) && bytes_eq (word words 0) command && is_name (word words 1)
-
--- what they ask for, where the first is `answers`, `asm` or `dis`, or another that takes a calibration
-abbrev pub of_file : List (List ℕ) → Option Command
-of_file words = if is_on_file (codes "answers") words then Some (answers (word words 1))
-    else if is_on_file (codes "asm") words then Some (asm (word words 1))
-    else if is_on_file (codes "dis") words then Some (dis (word words 1))
-    else calibrated_of words
-
--- what the words ask for, or none where they have no form of a command
-abbrev pub command_of : List (List ℕ) → Option Command
-command_of words = if is_soak words then soak_form words else of_file words
+-- What the words ask for, or none where they have no form of a command: `soak`, `answers`, `asm` or `dis`, or
+-- a command by the calibration behind `--cal`, or by none.
+unfoldable pub command_of : List (List ℕ) → Option Command
+command_of words = if is_soak words then soak_form words
+    else if is_on_file (codes "answers") words 1 then Some (answers (word words 1))
+    else if is_on_file (codes "asm") words 1 then Some (asm (word words 1))
+    else if is_on_file (codes "dis") words 1 then Some (dis (word words 1))
+    else if names_calibration words then form_of words (Some (word words 2)) 3
+    else form_of words None 1
 
 -- the numbers that a command asks for are within their limits
 abbrev pub KeepsLimits : Command → Type 0

@@ -10,17 +10,14 @@ ghost use Rattle.eg_outcome.specs.Outcomes.{EndsOrderly, TellsNoMemory, PutsNoth
 ghost use Rattle.eg_outcome.specs.declared.outcome.Outcome.TheVariants.{Done};
 ghost use Rattle.eg_play.specs.Ends.{call};
 
-use crate::check::check;
 use crate::command::Command;
 use crate::note::note;
-use crate::play::{play_campaign, play_run, play_sweep};
 use crate::soak::play_drawn;
 use eg_base::{Sink, Store};
+use eg_desk::{answers, asm, bound, check, dis, limits};
 use eg_outcome::Outcome;
-use eg_play::End;
-use eg_source::{asm, dis};
+use eg_play::{End, record, run, sweep};
 use eg_tick::Ticks;
-use eg_tuning::{answers, bound, limits};
 use std::alloc::Global;
 
 /// Does what the words ask for (docs/FORMATS.md, "Commands"): it reads files from `store`, writes its text to
@@ -65,7 +62,7 @@ pub fn egasim<S: Store, K: Sink, N: Sink>(
         note(&Outcome::Usage, "", notes);
         return Outcome::Usage;
     };
-    let end = run(alloc, command, store, out, steps);
+    let end = work(alloc, command, store, out, steps);
     let file = file_of(command, &end);
     note(&end.outcome, file, notes);
     end.outcome
@@ -83,32 +80,6 @@ fn file_of<'a>(command: Command<'a>, end: &'a End) -> &'a str
 }
 
 /// Does what a command asks for, but for its note.
-fn run<S: Store, K: Sink>(
-    alloc: Global,
-    command: Command<'_>,
-    store: &mut S,
-    out: &mut K,
-    steps: &mut Ticks,
-) -> End
-    requires limits { KeepsLimits (said command) }
-    ensures ends { Ends (Some (said command.entry)) (call (change_of S.shows store.old store.new)
-        (change_of K.shows out.old out.new) (change steps.old steps.new)) result.outcome }
-    ensures headline { result.outcome ≡ Done → TellsHeadline (Some (said command.entry)) (S.shows store.old)
-        (change_of K.shows out.old out.new) }
-    ensures names { Names (said command.entry) (S.shows store.old) result.outcome result.file }
-    ensures missing { TellsMissing (Some (said command.entry)) (S.shows store.old) result.outcome }
-    ensures completes { Completes (Some (said command.entry)) (change_of S.shows store.old store.new)
-        (change_of K.shows out.old out.new) result.outcome }
-    ensures nothing_read { ReadsNothing (Some (said command.entry)) → store.new ≡ store.old }
-    ensures orderly { EndsOrderly (change_of S.shows store.old store.new) (change out.old out.new)
-        (change steps.old steps.new) result.outcome }
-    ensures counts_nothing { CountsNothing (Some (said command.entry)) → steps.new ≡ steps.old }
-{
-    work(alloc, command, store, out, steps)
-}
-
-/// Does what a command asks for, but for its note. That the headline holds, and that the work is done where
-/// nothing hinders it, are clauses of `run`, which calls this.
 fn work<S: Store, K: Sink>(
     alloc: Global,
     command: Command<'_>,
@@ -127,39 +98,30 @@ fn work<S: Store, K: Sink>(
     ensures counts_nothing { CountsNothing (Some (said command.entry)) → steps.new ≡ steps.old }
 {
     match command {
-        Command::Check { calibration, file } => end_of(check(alloc, calibration, file, store, out)),
-        Command::Bound { calibration } => end_of(bound(alloc, calibration, store, out)),
-        Command::Limits { calibration } => end_of(limits(alloc, calibration, store, out)),
+        Command::Check { calibration, file } => {
+            End::of(check(alloc, calibration, file, store, out))
+        }
+        Command::Bound { calibration } => End::of(bound(alloc, calibration, store, out)),
+        Command::Limits { calibration } => End::of(limits(alloc, calibration, store, out)),
         Command::Run {
             telling,
             calibration,
             campaign,
-        } => play_campaign(alloc, telling, calibration, campaign, store, out, steps),
+        } => run(alloc, telling, calibration, campaign, store, out, steps),
         Command::Record {
             calibration,
             campaign,
             name,
-        } => play_run(alloc, calibration, campaign, name, store, out, steps),
+        } => record(alloc, calibration, campaign, name, store, out, steps),
         Command::Sweep {
             calibration,
             campaign,
             name,
             step,
-        } => play_sweep(alloc, calibration, campaign, name, step, store, out, steps),
-        Command::Answers { file } => end_of(answers(alloc, file, store, out)),
-        Command::Asm { file } => end_of(asm(alloc, file, store, out)),
-        Command::Dis { file } => end_of(dis(alloc, file, store, out)),
-        Command::Soak { seed, runs } => end_of(play_drawn(alloc, seed, runs, out, steps)),
-    }
-}
-
-/// An end that speaks of no file of a run.
-fn end_of(outcome: Outcome) -> End
-    ensures outcome { result.outcome ≡ outcome }
-    ensures file { result.file ≡ None }
-{
-    End {
-        outcome,
-        file: None,
+        } => sweep(alloc, calibration, campaign, name, step, store, out, steps),
+        Command::Answers { file } => End::of(answers(alloc, file, store, out)),
+        Command::Asm { file } => End::of(asm(alloc, file, store, out)),
+        Command::Dis { file } => End::of(dis(alloc, file, store, out)),
+        Command::Soak { seed, runs } => End::of(play_drawn(alloc, seed, runs, out, steps)),
     }
 }

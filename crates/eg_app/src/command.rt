@@ -1,11 +1,12 @@
 // The words of the command line.
-ghost use Rattle.std.specs.Prelude.{◌≡◌, ◌≤◌, ◌+◌, [], Some, length, option_map, unwrap_or, IfSome};
+ghost use Rattle.std.specs.Prelude.{◌≡◌, ◌≤◌, ◌+◌, length, option_map, IfSome};
 ghost use Rattle.std.specs.Option.{option_copied};
-ghost use Rattle.eg_app.specs.Notes.{calibration_name, check_name, campaign_name, translated_name, name_of, role_of, file_role, name_in_words};
-ghost use Rattle.eg_app.specs.Words.{word_bytes, is_name, names_calibration, is_check, is_alone, is_on_campaign, is_record, is_sweep, step_in, word, sweep, is_on_file, of_file, form_of, alone_of, is_soak, soak_form, calibrated_of, command_of, said, KeepsLimits};
+ghost use Rattle.eg_app.specs.Notes.{calibration_name, own_name, name_in_words};
+ghost use Rattle.eg_app.specs.Words.{word_bytes, is_name, names_calibration, is_soak, is_alone, is_on_file, is_on_run, step_in, word, sweep, form_of, soak_form, command_of, said, KeepsLimits};
+ghost use Rattle.eg_outcome.specs.Roles.{role_in};
 
 use crate::number::number_in;
-use eg_outcome::{Outcome, Refusal, Role};
+use eg_outcome::{Outcome, Role};
 use eg_play::Telling;
 
 /// What the words of the command line ask for (docs/FORMATS.md, "Commands"). A command with a `calibration`
@@ -65,6 +66,7 @@ pub(crate) enum Command<'a> {
 
 impl<'a> Command<'a> {
     /// What the words ask for, or None where they have no form of a command.
+    #[tactic(auto, unfolding(crate::specs::Words::command_of))]
     pub(crate) fn of(words: &'a [String]) -> Option<Command<'a>>
         ensures command { option_map said result ≡ command_of (word_bytes words.now) }
         ensures limits { IfSome result (λ command. KeepsLimits (said command)) }
@@ -72,41 +74,25 @@ impl<'a> Command<'a> {
         if is_soak(words) {
             return Command::of_soak(words);
         }
-        Command::of_file(words)
-    }
-
-    /// What the words ask for, the first of which isn't `soak`.
-    fn of_file(words: &'a [String]) -> Option<Command<'a>>
-        ensures command { option_map said result ≡ of_file (word_bytes words.now) }
-        ensures limits { IfSome result (λ command. KeepsLimits (said command)) }
-    {
-        if is_on_file("answers", words) {
+        if is_on_file("answers", words, 1) {
             return Some(Command::Answers {
                 file: words[1].as_str(),
             });
         }
-        if is_on_file("asm", words) {
+        if is_on_file("asm", words, 1) {
             return Some(Command::Asm {
                 file: words[1].as_str(),
             });
         }
-        if is_on_file("dis", words) {
+        if is_on_file("dis", words, 1) {
             return Some(Command::Dis {
                 file: words[1].as_str(),
             });
         }
-        Command::of_calibrated(words)
-    }
-
-    /// What the words ask for, where the first may be one that takes a calibration.
-    fn of_calibrated(words: &'a [String]) -> Option<Command<'a>>
-        ensures command { option_map said result ≡ calibrated_of (word_bytes words.now) }
-        ensures limits { IfSome result (λ command. KeepsLimits (said command)) }
-    {
         if names_calibration(words) {
-            return Command::of_alone(words, Some(words[2].as_str()), 3);
+            return Command::of_form(words, Some(words[2].as_str()), 3);
         }
-        Command::of_alone(words, None, 1)
+        Command::of_form(words, None, 1)
     }
 
     /// What the words ask for, the first of which is `soak`.
@@ -122,29 +108,8 @@ impl<'a> Command<'a> {
         Some(Command::Soak { seed, runs })
     }
 
-    /// What the words ask for by this calibration, where the command's own words begin at place `own`, if it
-    /// has any.
-    fn of_alone(
-        words: &'a [String],
-        calibration: Option<&'a str>,
-        own: usize,
-    ) -> Option<Command<'a>>
-        requires least { 1 ≤ own }
-        requires most { own ≤ 3 }
-        ensures command { option_map said result
-            ≡ alone_of (word_bytes words.now) (option_copied calibration.entry) own }
-        ensures limits { IfSome result (λ command. KeepsLimits (said command)) }
-    {
-        if is_alone("bound", words, own) {
-            return Some(Command::Bound { calibration });
-        }
-        if is_alone("limits", words, own) {
-            return Some(Command::Limits { calibration });
-        }
-        Command::of_form(words, calibration, own)
-    }
-
-    /// What the words ask for by this calibration, where the command's own words begin at place `own`.
+    /// What the words ask for by this calibration, where the command's own words, if it has any, begin at
+    /// place `own`.
     #[tactic(auto, unfolding(crate::specs::Words::form_of))]
     fn of_form(words: &'a [String], calibration: Option<&'a str>, own: usize) -> Option<Command<'a>>
         requires least { 1 ≤ own }
@@ -153,34 +118,40 @@ impl<'a> Command<'a> {
             ≡ form_of (word_bytes words.now) (option_copied calibration.entry) own }
         ensures limits { IfSome result (λ command. KeepsLimits (said command)) }
     {
-        if is_check(words, own) {
+        if is_alone("bound", words, own) {
+            return Some(Command::Bound { calibration });
+        }
+        if is_alone("limits", words, own) {
+            return Some(Command::Limits { calibration });
+        }
+        if is_on_file("check", words, own) {
             return Some(Command::Check {
                 calibration,
                 file: words[own].as_str(),
             });
         }
-        if is_on_campaign("run", words, own) {
+        if is_on_file("run", words, own) {
             return Some(Command::Run {
                 telling: Telling::Report,
                 calibration,
                 campaign: words[own].as_str(),
             });
         }
-        if is_on_campaign("table", words, own) {
+        if is_on_file("table", words, own) {
             return Some(Command::Run {
                 telling: Telling::Table,
                 calibration,
                 campaign: words[own].as_str(),
             });
         }
-        if is_record(words, own) {
+        if is_on_run("record", words, own, 2) {
             return Some(Command::Record {
                 calibration,
                 campaign: words[own].as_str(),
                 name: words[own + 1].as_str(),
             });
         }
-        if is_sweep(words, own) {
+        if is_on_run("sweep", words, own, 3) {
             return Command::of_sweep(words, calibration, own);
         }
         None
@@ -212,30 +183,18 @@ impl<'a> Command<'a> {
 
     /// The name in the words of the file that an outcome speaks of, or nothing where there is none.
     pub(crate) fn file_of(self, outcome: &Outcome) -> &'a str
-        ensures { result.now ≡ name_in_words (said self.entry) (file_role outcome.now) }
+        ensures { result.now ≡ name_in_words (said self.entry) (role_in outcome.now) }
     {
-        match file_role(outcome) {
-            Some(file) => self.name_of(file),
+        match outcome.role() {
+            Some(Role::Calibration) => self.calibration(),
+            Some(_) => self.own_file(),
             None => "",
         }
     }
 
-    /// The name of its file that has this role, or nothing where the words name none.
-    fn name_of(self, file: Role) -> &'a str
-        ensures { result.now ≡ name_of (said self.entry) file }
-    {
-        match file {
-            Role::Calibration => self.calibration().unwrap_or(""),
-            Role::Check => self.check_file(),
-            Role::Campaign => self.campaign(),
-            Role::Image { .. } | Role::Source => self.translated(),
-            Role::Trace { .. } => "",
-        }
-    }
-
-    /// The name behind `--cal`, or that of the file of `answers`, if there is one.
-    fn calibration(self) -> Option<&'a str>
-        ensures { unwrap_or (option_copied result) [] ≡ calibration_name (said self.entry) }
+    /// The name behind `--cal`, or that of the file of `answers`, or nothing.
+    fn calibration(self) -> &'a str
+        ensures { result.now ≡ calibration_name (said self.entry) }
     {
         match self {
             Command::Check { calibration, .. }
@@ -243,69 +202,23 @@ impl<'a> Command<'a> {
             | Command::Limits { calibration }
             | Command::Run { calibration, .. }
             | Command::Record { calibration, .. }
-            | Command::Sweep { calibration, .. } => calibration,
-            Command::Answers { file } => Some(file),
-            Command::Soak { .. } | Command::Asm { .. } | Command::Dis { .. } => None,
+            | Command::Sweep { calibration, .. } => calibration.unwrap_or(""),
+            Command::Answers { file } => file,
+            Command::Soak { .. } | Command::Asm { .. } | Command::Dis { .. } => "",
         }
     }
 
-    /// The name of the check file, or nothing.
-    fn check_file(self) -> &'a str
-        ensures { result.now ≡ check_name (said self.entry) }
+    /// The name of the command's own file, or nothing.
+    fn own_file(self) -> &'a str
+        ensures { result.now ≡ own_name (said self.entry) }
     {
         match self {
-            Command::Check { file, .. } => file,
-            _ => "",
-        }
-    }
-
-    /// The name of the source or the image that is translated, or nothing.
-    fn translated(self) -> &'a str
-        ensures { result.now ≡ translated_name (said self.entry) }
-    {
-        match self {
-            Command::Asm { file } | Command::Dis { file } => file,
-            _ => "",
-        }
-    }
-
-    /// The name of the campaign, or nothing.
-    fn campaign(self) -> &'a str
-        ensures { result.now ≡ campaign_name (said self.entry) }
-    {
-        match self {
+            Command::Check { file, .. } | Command::Asm { file } | Command::Dis { file } => file,
             Command::Run { campaign, .. }
             | Command::Record { campaign, .. }
             | Command::Sweep { campaign, .. } => campaign,
             _ => "",
         }
-    }
-}
-
-/// The role of the file that an outcome speaks of, if it speaks of one.
-fn file_role(outcome: &Outcome) -> Option<Role>
-    ensures { result ≡ file_role outcome.now }
-{
-    match outcome {
-        Outcome::ReadFault { file } => Some(*file),
-        Outcome::Refused(refusal) => role_of(refusal),
-        _ => None,
-    }
-}
-
-/// The role of the file that a refusal speaks of, if it speaks of one.
-fn role_of(refusal: &Refusal) -> Option<Role>
-    ensures { result ≡ role_of refusal.now }
-{
-    match refusal {
-        Refusal::Size { file } => Some(*file),
-        Refusal::Calibration(_) => Some(Role::Calibration),
-        Refusal::Check(_) => Some(Role::Check),
-        Refusal::Campaign(_) => Some(Role::Campaign),
-        Refusal::Trace { run, .. } => Some(Role::Trace { run: *run }),
-        Refusal::Image { run, .. } => Some(Role::Image { run: *run }),
-        Refusal::Source(_) => Some(Role::Source),
-        Refusal::NoRun | Refusal::Grid => None,
     }
 }
 
@@ -316,27 +229,11 @@ fn names_calibration(words: &[String]) -> bool
     words.len() >= 3 && words[1].as_str() == "--cal" && is_name(words[2].as_str())
 }
 
-/// Whether the words are this one and the name of a file.
-fn is_on_file(command: &str, words: &[String]) -> bool
-    ensures { result ≡ is_on_file command.now (word_bytes words.now) }
-{
-    words.len() == 2 && words[0].as_str() == command && is_name(words[1].as_str())
-}
-
 /// Whether the first word is `soak`.
 fn is_soak(words: &[String]) -> bool
     ensures { result ≡ is_soak (word_bytes words.now) }
 {
     !words.is_empty() && words[0].as_str() == "soak"
-}
-
-/// Whether the words are `check FILE`, where the command's own words begin at place `own`.
-fn is_check(words: &[String], own: usize) -> bool
-    requires least { 1 ≤ own }
-    requires most { own ≤ 3 }
-    ensures { result ≡ is_check (word_bytes words.now) own }
-{
-    words.len() == own + 1 && words[0].as_str() == "check" && is_name(words[own].as_str())
 }
 
 /// Whether the word is this one, alone, where the command's own words begin at place `own`.
@@ -348,37 +245,26 @@ fn is_alone(command: &str, words: &[String], own: usize) -> bool
     words.len() == own && words[0].as_str() == command
 }
 
-/// Whether the words are this one and the name of a campaign, where the command's own words begin at place
-/// `own`.
-fn is_on_campaign(command: &str, words: &[String], own: usize) -> bool
+/// Whether the words are this one and the name of a file, where the command's own words begin at place `own`.
+fn is_on_file(command: &str, words: &[String], own: usize) -> bool
     requires least { 1 ≤ own }
     requires most { own ≤ 3 }
-    ensures { result ≡ is_on_campaign command.now (word_bytes words.now) own }
+    ensures { result ≡ is_on_file command.now (word_bytes words.now) own }
 {
     words.len() == own + 1 && words[0].as_str() == command && is_name(words[own].as_str())
 }
 
-/// Whether the words are `record CAMPAIGN RUN`, where the command's own words begin at place `own`.
-fn is_record(words: &[String], own: usize) -> bool
+/// Whether the words are this one and `count` of its own, which begin at place `own` with the names of a
+/// campaign and of a run. What a third one says isn't looked at.
+fn is_on_run(command: &str, words: &[String], own: usize, count: usize) -> bool
     requires least { 1 ≤ own }
     requires most { own ≤ 3 }
-    ensures { result ≡ is_record (word_bytes words.now) own }
+    requires two { 2 ≤ count }
+    requires three { count ≤ 3 }
+    ensures { result ≡ is_on_run command.now (word_bytes words.now) own count }
 {
-    words.len() == own + 2
-        && words[0].as_str() == "record"
-        && is_name(words[own].as_str())
-        && is_name(words[own + 1].as_str())
-}
-
-/// Whether the words are `sweep CAMPAIGN RUN STEP`, where the command's own words begin at place `own`. What
-/// STEP says isn't looked at.
-fn is_sweep(words: &[String], own: usize) -> bool
-    requires least { 1 ≤ own }
-    requires most { own ≤ 3 }
-    ensures { result ≡ is_sweep (word_bytes words.now) own }
-{
-    words.len() == own + 3
-        && words[0].as_str() == "sweep"
+    words.len() == own + count
+        && words[0].as_str() == command
         && is_name(words[own].as_str())
         && is_name(words[own + 1].as_str())
 }

@@ -2,12 +2,10 @@
 #![tactic(auto)]
 
 mod call;
-mod check;
 mod command;
-mod monitoring;
 mod note;
 mod number;
-mod play;
+mod says;
 mod soak;
 
 pub use call::egasim;

@@ -1,2 +1,1 @@
-pub mod AppendLemmas
 pub mod LineLemmas

@@ -12,7 +12,7 @@ use Rattle.eg_outcome.specs.Changes.{change}
 use Rattle.eg_outcome.specs.Outcomes.{LineEnds}
 use Rattle.eg_outcome.specs.declared.outcome.Outcome.{Outcome}
 use Rattle.eg_outcome.specs.declared.outcome.Outcome.TheVariants as outcome
-use Rattle.eg_outcome.proofs.AppendLemmas.{Appends-nil, Appends-append, AppendsPrefix-append, concat-cut, concat-take_more}
+use Rattle.eg_base.proofs.AppendLemmas.{Appends-nil, Appends-append, AppendsPrefix-append, concat-cut, concat-take_more}
 
 -- ---- lines that are made ----
 

@@ -1,6 +1,6 @@
 -- The calibration of a command is what the file behind `--cal` says, or else the reference calibration; where
 -- that file can't be read or is refused, the call ends with that.
-use Rattle.std.specs.Prelude.{◌≡◌, ℕ, List, Option, Some, None, Result, Ok}
+use Rattle.std.specs.Prelude.{◌≡◌, ◌↔◌, ℕ, List, Option, Some, None, Result, Ok}
 use Rattle.eg_base.specs.Outside.{ShownStore, IsMissing}
 use Rattle.eg_toml.specs.Documents.{document_of}
 use Rattle.eg_values.specs.Calibration.{CalibrationParts}
@@ -53,6 +53,11 @@ CalibratedEnds calibration store nothing work o = (come : Result CalibrationPart
 abbrev pub MissesCalibration : Option (List ℕ) → ShownStore → Type 0
 MissesCalibration (Some name) store = IsMissing store.files name
 MissesCalibration None store = ⊥
+
+-- reading the calibration is told to fail exactly if there is no such file
+abbrev pub TellsMissingCalibration : Option (List ℕ) → ShownStore → Outcome → Type 0
+TellsMissingCalibration calibration store o =
+    (o ≡ outcome.ReadFault role.Calibration) ↔ MissesCalibration calibration store
 
 -- the file behind `--cal` is found
 abbrev pub FindsCalibration : Option (List ℕ) → Change ShownStore → Type 0

@@ -1,5 +1,6 @@
 // How a call of the program ends.
 ghost use Rattle.std.specs.Prelude.{◌≡◌};
+ghost use Rattle.eg_outcome.specs.Roles.{role_in};
 ghost use Rattle.eg_outcome.specs.Status.{status_of};
 
 use eg_asm::AsmFault;
@@ -79,6 +80,23 @@ impl Outcome {
             Outcome::Refused(_) => 4,
             Outcome::WriteFault => 5,
             Outcome::Memory => 6,
+        }
+    }
+
+    /// What the file is for that the outcome speaks of, if it speaks of one.
+    pub fn role(&self) -> Option<Role>
+        ensures { result ≡ role_in self.now }
+    {
+        match self {
+            Outcome::ReadFault { file } | Outcome::Refused(Refusal::Size { file }) => Some(*file),
+            Outcome::Refused(Refusal::Calibration(_)) => Some(Role::Calibration),
+            Outcome::Refused(Refusal::Check(_)) => Some(Role::Check),
+            Outcome::Refused(Refusal::Campaign(_)) => Some(Role::Campaign),
+            Outcome::Refused(Refusal::Trace { run, .. }) => Some(Role::Trace { run: *run }),
+            Outcome::Refused(Refusal::Image { run, .. }) => Some(Role::Image { run: *run }),
+            Outcome::Refused(Refusal::Source(_)) => Some(Role::Source),
+            Outcome::Refused(Refusal::NoRun | Refusal::Grid) => None,
+            Outcome::Done | Outcome::Usage | Outcome::WriteFault | Outcome::Memory => None,
         }
     }
 }

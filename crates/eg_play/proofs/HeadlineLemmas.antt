@@ -18,6 +18,7 @@ use Rattle.eg_model.specs.Records.{IsRun}
 use Rattle.eg_model.proofs.GasolineLaws.{gasoline_keeps, gasoline_shows_one_load}
 use Rattle.eg_model.proofs.DieselLaws.{diesel_keeps, diesel_shows_one_load}
 use Rattle.eg_model.proofs.RecordLaws.{records_react, records_react_at_once, records_cut_sharply, records_cut_sharply_before, records_find_sharply, records_cut_from_onset, records_cut_standing_excess, records_have_short_excess, records_test_unpowered, records_pass_tests}
+use Rattle.eg_laws.proofs.StretchRows.{records_end_stretches, records_end_stretches_at_once, records_are_sparse}
 use Rattle.eg_laws.proofs.AvailabilityRecords.{records_stay_available}
 use Rattle.eg_model.proofs.FindingRecords.{records_find_before_off, records_find_failures, records_find_from_onset, records_tell_flips}
 use Rattle.eg_model.proofs.FindingReports.{reports_name_what_cuts}
@@ -91,6 +92,9 @@ headline r run valid =
       tells_flips = records_tell_flips (bench_of r.engine) r.run;
       lapses = records_cut_standing_excess keeps r.run run valid;
       short = records_have_short_excess keeps r.run run valid;
+      stretches = records_end_stretches keeps r.run run;
+      stretches_at_once = records_end_stretches_at_once keeps r.run run;
+      bursts = records_are_sparse (bench_of r.engine) r.run run;
       stays_available = records_stay_available keeps (shows_one_load_of r.engine) r.run run valid;
       detects = detects r;
       tells_when_off = tells_when_off r;

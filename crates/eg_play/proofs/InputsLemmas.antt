@@ -1,7 +1,6 @@
 -- The files of all runs, one run after another.
 use Rattle.std.proofs.Common.{◌≡◌, ◌∙◌, refl, sym, ap, ap₂, subst, ℕ, suc, All, ◌+◌, ◌-◌, ◌≤◌, List, [], ◌∷◌, ◌++◌, length, Option, Some, None, Ok, Err, append_assoc, append-nil, length-append, arith}
 use Rattle.std.specs.Prelude.{Result, slice_get, option_map}
-use Rattle.std.proofs.lemmas.List.Elements.{All-push}
 use Rattle.eg_base.specs.Outside.{ShownStore}
 use Rattle.eg_num.specs.Drive.{DriveRow}
 use Rattle.eg_plan.specs.declared.run.RunPlan.{RunPlan}
@@ -99,13 +98,9 @@ named before plan rest plans n file parts is of = go file of
         ap₂ slice_get parts place ∙ get-behind before plan rest
 
     go : (file : Option Role) → IsOf n file → name_by plan file ≡ name_for plans file
-    go None of = refl
-    go (Some role.Calibration) of = refl
-    go (Some role.Check) of = refl
-    go (Some role.Campaign) of = refl
-    go (Some role.Source) of = refl
     go (Some (role.Trace run)) of = sym (ap (λ found. option_map (λ (p : RunPlan). p.trace) found) (here run of))
     go (Some (role.Image run)) of = sym (ap (λ found. option_map (λ (p : RunPlan). p.image) found) (here run of))
+    go _ of = refl
 
 -- ---- the runs one after another ----
 
@@ -118,9 +113,6 @@ some-sum sum x is within = subst (λ n. n ≤ 1000000) (let same : sum ≡ x = c
 
 pub one-longer : (before : List RunPlan) (plan : RunPlan) → length before + 1 + 1 ≡ length (before ++ plan ∷ []) + 1
 one-longer before plan = let long = length-append before (plan ∷ []) in omega arith
-
-pub all-behind : (inputs : List RunInput) (input : RunInput) → All IsPlayable inputs → IsPlayable input → All IsPlayable (inputs ++ input ∷ [])
-all-behind = All-push IsPlayable
 
 pub nothing-left : (items : List RunPlan) (count : ℕ) → count ≡ length items → count ≡ 0 → items ≡ []
 nothing-left [] count is none = refl

@@ -20,7 +20,7 @@ use Rattle.eg_outcome.specs.declared.outcome.Role.{Role}
 use Rattle.eg_outcome.specs.declared.outcome.Role.TheVariants as role
 use Rattle.eg_play.specs.declared.end.End.{End}
 use Rattle.eg_play.specs.Files.{campaign_file}
-use Rattle.eg_play.specs.Ends.{role_in, IsOf, IsNotOfRun, name_by, name_for, IsNamedIfOfRun, NamesFile, run_named}
+use Rattle.eg_play.specs.Ends.{role_in, IsOf, name_by, name_for, IsNamedIfOfRun, NamesFile, run_named}
 use Rattle.eg_play.proofs.InputsLemmas.{named}
 
 -- the whole of a file is refused for its size alone
@@ -31,25 +31,16 @@ too_long file bytes r refuses = go (is_too_long bytes) refuses
     go true e = cc
     go false e = absurd cc
 
-module _ (file : Role) (name : List ℕ) (store : Change ShownStore) where
-  -- a file of a run that can't be read, or is too long, is told as one of this run
-  pub of_run : (n : ℕ) (end : Outcome) → IsOf n (Some file) → FileComes file (whole file) name store (Err end) → IsOf n (role_in end)
-  of_run n (outcome.ReadFault role) of (is, rose, missing) = subst (λ r. IsOf n (Some r)) (sym is) of
-  of_run n (outcome.Refused r) of (same, (bytes, read, refuses)) = subst (λ why. IsOf n (role_in (outcome.Refused why))) (sym (too_long file bytes r refuses)) of
-  of_run n outcome.Memory of comes = tt
-  of_run n outcome.Done of (same, (bytes, read, never)) = absurd never
-  of_run n outcome.Usage of (same, (bytes, read, never)) = absurd never
-  of_run n outcome.WriteFault of (same, (bytes, read, never)) = absurd never
-
-  -- a file that isn't of a run is told as none
-  pub not_of_run : (end : Outcome) → IsNotOfRun (outcome.ReadFault file) → IsNotOfRun (outcome.Refused (refusal.Size file)) →
-      FileComes file (whole file) name store (Err end) → IsNotOfRun end
-  not_of_run (outcome.ReadFault role) unread long (is, rose, missing) = subst (λ r. IsNotOfRun (outcome.ReadFault r)) (sym is) unread
-  not_of_run (outcome.Refused r) unread long (same, (bytes, read, refuses)) = subst (λ why. IsNotOfRun (outcome.Refused why)) (sym (too_long file bytes r refuses)) long
-  not_of_run outcome.Memory unread long comes = tt
-  not_of_run outcome.Done unread long (same, (bytes, read, never)) = absurd never
-  not_of_run outcome.Usage unread long (same, (bytes, read, never)) = absurd never
-  not_of_run outcome.WriteFault unread long (same, (bytes, read, never)) = absurd never
+-- how a call ends without the bytes of a file speaks of this file, or of none
+pub of_file : (P : Option Role → Type 0) (file : Role) (name : List ℕ) (store : Change ShownStore) (end : Outcome)
+    → P (Some file) → P None → FileComes file (whole file) name store (Err end) → P (role_in end)
+of_file P file name store (outcome.ReadFault role) some none (is, rose, missing) = subst (λ r. P (Some r)) (sym is) some
+of_file P file name store (outcome.Refused r) some none (same, (bytes, read, refuses)) =
+    subst (λ why. P (role_in (outcome.Refused why))) (sym (too_long file bytes r refuses)) some
+of_file P file name store outcome.Memory some none comes = none
+of_file P file name store outcome.Done some none (same, (bytes, read, never)) = absurd never
+of_file P file name store outcome.Usage some none (same, (bytes, read, never)) = absurd never
+of_file P file name store outcome.WriteFault some none (same, (bytes, read, never)) = absurd never
 
 -- the refusal of an image is told as one of its run
 pub image_of_run : (n : ℕ) (bytes : List ℕ) (come : Result (List ℕ) Outcome) → BytesCome (image_or_refusal n) bytes come →
@@ -61,31 +52,20 @@ image_of_run n bytes (Err (outcome.Refused r)) comes = go (image_words bytes) co
     go : (read : Result (List ℕ) ImageFault) → refused (refusal.Image n) read ≡ Err r → IsOf n (role_in (outcome.Refused r))
     go (Ok words) same = absurd cc
     go (Err fault) same = subst (λ why. IsOf n (role_in (outcome.Refused why))) (let is : refusal.Image n fault ≡ r = cc in is) refl
-image_of_run n bytes (Err (outcome.ReadFault file)) comes = absurd comes
-image_of_run n bytes (Err outcome.Done) comes = absurd comes
-image_of_run n bytes (Err outcome.Usage) comes = absurd comes
-image_of_run n bytes (Err outcome.WriteFault) comes = absurd comes
+image_of_run n bytes (Err _) comes = absurd comes
 
 -- the plan of a run has a name for each of its files, and for no other
 pub by_plan : (plan : RunPlan) (file : Option Role) → IsNamedIfOfRun file (name_by plan file)
 by_plan plan None = refl
-by_plan plan (Some role.Calibration) = refl
-by_plan plan (Some role.Check) = refl
-by_plan plan (Some role.Campaign) = refl
-by_plan plan (Some role.Source) = refl
 by_plan plan (Some (role.Trace n)) = refl
-by_plan plan (Some (role.Image n)) = refl
+by_plan plan (Some _) = refl
 
 -- a name of the campaign's is the one that the campaign gives
 pub names-file : (campaign : List ℕ) (store : ShownStore) (plans : List RunPlan) (file : Option Role) (name : Option (List ℕ))
     → ReadComes campaign_file campaign store (Ok plans) → name ≡ name_for plans file → IsNamedIfOfRun file name → NamesFile campaign store file name
-names-file campaign store plans None name (bytes, read, says) is some = some
-names-file campaign store plans (Some role.Calibration) name (bytes, read, says) is some = some
-names-file campaign store plans (Some role.Check) name (bytes, read, says) is some = some
-names-file campaign store plans (Some role.Campaign) name (bytes, read, says) is some = some
-names-file campaign store plans (Some role.Source) name (bytes, read, says) is some = some
 names-file campaign store plans (Some (role.Trace n)) name (bytes, read, says) is some = (bytes, read, plans, says, some, is)
 names-file campaign store plans (Some (role.Image n)) name (bytes, read, says) is some = (bytes, read, plans, says, some, is)
+names-file campaign store plans _ name (bytes, read, says) is some = some
 
 -- so of what comes of the files of one of its runs
 pub names-files : (campaign : List ℕ) (store : ShownStore) (plans : List RunPlan) (result : Result RunInput End)

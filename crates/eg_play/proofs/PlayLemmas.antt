@@ -11,7 +11,7 @@ use Rattle.eg_outcome.specs.Changes.{Change, change, Stays}
 use Rattle.eg_outcome.specs.Outcomes.{LineEnds}
 use Rattle.eg_outcome.specs.declared.outcome.Outcome.{Outcome}
 use Rattle.eg_outcome.specs.declared.outcome.Outcome.TheVariants as outcome
-use Rattle.eg_outcome.proofs.AppendLemmas.{Appends-nil}
+use Rattle.eg_base.proofs.AppendLemmas.{Appends-nil}
 use Rattle.eg_tick.specs.Counting.{count_with, RanOutAmong}
 use Rattle.eg_campaign.specs.Plays.{EngineRun, rows_in_time, run_with, report_with}
 use Rattle.eg_campaign.specs.Groups.{told_with}
@@ -47,11 +47,7 @@ table_is cal inputs = refl
 -- all runs were counted, however the call ends
 ticked : (rows : List Row) (ticks : Change TickCount) (o : Outcome) → ticks.after ≡ count_with ticks.before rows → AreTicked rows ticks o
 ticked rows ticks outcome.Memory e = out_at_end ticks.before ticks.after rows e
-ticked rows ticks outcome.Done e = e
-ticked rows ticks outcome.WriteFault e = e
-ticked rows ticks outcome.Usage e = e
-ticked rows ticks (outcome.ReadFault file) e = e
-ticked rows ticks (outcome.Refused why) e = e
+ticked rows ticks _ e = e
 
 -- memory ran out before anything was put
 pub no_memory : (text : List ℕ) (runs : List EngineRun) (rows : List Row) (out : ShownSink) (ticks : Change TickCount) → RanOutAmong rows ticks.before ticks.after →
@@ -65,11 +61,7 @@ no_memory text runs rows out ticks counted headline = record {
 -- the runs were played, and memory ran out before anything was put
 pub no_lines : (text : List ℕ) (runs : List EngineRun) (rows : List Row) (out : ShownSink) (ticks : Change TickCount) → ticks.after ≡ count_with ticks.before rows →
     All KeepsHeadline runs → Plays text runs rows (change out out) ticks outcome.Memory
-no_lines text runs rows out ticks counted headline = record {
-  written = (([], text, refl, Appends-nil out), refl);
-  ticked = ticked rows ticks outcome.Memory counted;
-  headline = headline;
-}
+no_lines text runs rows out ticks counted = no_memory text runs rows out ticks (ticked rows ticks outcome.Memory counted)
 
 -- they were played, and their lines were put
 pub put : (text : List ℕ) (runs : List EngineRun) (rows : List Row) (out : Change ShownSink) (ticks : Change TickCount) (o : Outcome) →

@@ -1,7 +1,10 @@
--- The runs of a sweep: they may be played, they are one group, and under listed faults they react in time.
-use Rattle.std.proofs.Common.{◌≡◌, refl, sym, ap, subst, ℕ, ◌^◌, ◌≤◌, Bool, true, false, List, [], ◌∷◌, All, map, length, Some}
+-- The runs of a sweep: they may be played, and under listed faults they react in time.
+use Rattle.std.proofs.Common.{◌≡◌, ◌∙◌, refl, sym, ap, subst, ℕ, ◌*◌, ◌%◌, ◌^◌, ◌≤◌, Bool, true, false, List, All, map, length, Some, arith}
 use Rattle.std.specs.Prelude.{IfSome, ◌↔◌, ◌<◌, Result, Ok, Err, IsTrue}
+use Rattle.std.proofs.Math.Nat.{mul-mod_left}
 use Rattle.std.proofs.lemmas.List.{length-map}
+use Rattle.std.proofs.lemmas.List.FromFn.{length-map-range_with_len}
+use Rattle.std.proofs.lemmas.Simd.{map-map}
 use Rattle.std.proofs.lemmas.List.Elements.{All-map, All-weaker}
 use Rattle.eg_num.specs.Drive.{DriveRow, IsDrive}
 use Rattle.eg_answer.specs.Times.{reaction_of}
@@ -18,12 +21,13 @@ use Rattle.eg_plan.specs.declared.engine.EngineKind.{EngineKind}
 use Rattle.eg_plan.specs.declared.engine.EngineKind.TheVariants as kind
 use Rattle.eg_campaign.specs.declared.play.RunInput.{RunInput}
 use Rattle.eg_campaign.specs.Plays.{IsPlayable, EngineRun, bench_of, run_with}
-use Rattle.eg_campaign.specs.Groups.{AreAlike, groups_of, firsts_after, rows_of_group, rows_made, facts_by}
+use Rattle.eg_campaign.specs.Groups.{input_under, inputs_under, rows_of_group, facts_by}
 use Rattle.eg_tick.proofs.CountLemmas.{out_before}
-use Rattle.eg_campaign.proofs.OnlyGroup.{rows_of_one_group}
 use Rattle.eg_sweep.specs.declared.grid.SweepFault.{SweepFault}
 use Rattle.eg_sweep.specs.declared.grid.SweepFault.TheVariants as fault
-use Rattle.eg_sweep.specs.Grid.{swept_faults}
+use Rattle.eg_sweep.specs.Grid.{onset_count, onsets, swept_faults}
+use Rattle.eg_sweep.proofs.GridLemmas.{onsets_law}
+use Rattle.eg_sweep.proofs.ListedLemmas.{swept_valid}
 use Rattle.eg_sweep.specs.Table.{table_of}
 use Rattle.eg_sweep.specs.Laws.{ReactsIn, IsBounded}
 use Rattle.eg_sweep.proofs.BoundLemmas.{table_bounded}
@@ -35,7 +39,7 @@ use Rattle.eg_sweep.specs.Grid.{is_too_large}
 use Rattle.eg_sweep.specs.Texts.{sweep_text_of}
 use Rattle.eg_outcome.specs.Changes.{Change, change}
 use Rattle.eg_play.specs.Ends.{GridEnds, Plays, Sweeps}
-use Rattle.eg_play.specs.Sweeping.{without_reset, swept, faults_over, runs_over, table_over, swept_text}
+use Rattle.eg_play.specs.Sweeping.{without_reset, without_resets, faults_over, runs_over, table_over, swept_text}
 use Rattle.eg_play.proofs.HeadlineLemmas.{keep_headline}
 use Rattle.eg_play.proofs.PlayLemmas.{no_memory}
 
@@ -45,37 +49,32 @@ drives_without : (rows : List DriveRow) → All IsDrive rows → All IsDrive (ma
 drives_without rows drives = All-map IsDrive without_reset rows
     (All-weaker IsDrive (λ row. IsDrive (without_reset row)) (λ row is. is) rows drives)
 
-pub swept-playable : (input : RunInput) (fault : Fault) → IsPlayable input → IsValid fault → IsPlayable (swept input fault)
-unfolding swept IsNoneOrValid
-swept-playable input fault playable valid =
+pub playable-without : (input : RunInput) → IsPlayable input → IsPlayable (without_resets input)
+playable-without input playable =
     let long = length-map input.drive without_reset in
     record {
       some = subst (λ n. 1 ≤ n) (sym long) playable.some;
       most = subst (λ n. n ≤ 20000) (sym long) playable.most;
       drive = drives_without input.drive playable.drive;
       image = playable.image;
-      fault = valid;
+      fault = playable.fault;
     }
 
-pub all-playable : (input : RunInput) (faults : List Fault) → IsPlayable input → All IsValid faults → All IsPlayable (map (swept input) faults)
-all-playable input faults playable valid = All-map IsPlayable (swept input) faults
-    (All-weaker IsValid (λ fault. IsPlayable (swept input fault)) (λ fault is. swept-playable input fault playable is) faults valid)
+pub all-playable : (input : RunInput) (faults : List Fault) → IsPlayable input → All IsValid faults → All IsPlayable (inputs_under input faults)
+unfolding IsNoneOrValid
+all-playable input faults playable valid = All-map IsPlayable (λ (fault : Fault). input_under (Some fault) input) faults
+    (All-weaker IsValid (λ fault. IsPlayable (input_under (Some fault) input))
+    (λ fault is. record { some = playable.some; most = playable.most; drive = playable.drive; image = playable.image; fault = is }) faults valid)
 
--- ---- they are one group ----
-
-alike : (input : RunInput) (one other : Fault) → AreAlike (swept input one) (swept input other)
-unfolding swept
-alike input one other = record { engine = refl; image = refl; plan = refl; drive = refl }
-
-no_rows : (cal : CalibrationParts) → rows_made cal [] ≡ rows_of_group cal []
-unfolding rows_made groups_of firsts_after rows_of_group
-no_rows cal = refl
-
-pub one_group : (cal : CalibrationParts) (input : RunInput) (faults : List Fault) →
-    rows_made cal (map (swept input) faults) ≡ rows_of_group cal (map (swept input) faults)
-one_group cal input [] = no_rows cal
-one_group cal input (fault ∷ faults) = rows_of_one_group (swept input fault) cal (map (swept input) faults)
-    (All-map (AreAlike (swept input fault)) (swept input) faults (λ k d below. alike input fault _))
+-- there are two or more of them: onset 0 is in each grid
+pub are_more : (ticks step : ℕ) → 1 ≤ ticks → 1 ≤ step → 2 ≤ 14 * onset_count ticks step
+unfolding onsets
+are_more ticks step some least =
+    let none : 0 * step ≡ 0 = omega arith in
+    let first = (onsets_law ticks step least 0).1 (omega (arith, some), ap (λ n. n % step) (sym none) ∙ mul-mod_left 0 step) in
+    let below : first.0 < length (onsets ticks step) = first.1 in
+    let long : length (onsets ticks step) ≡ onset_count ticks step = length-map-range_with_len (λ i. i * step) 0 (onset_count ticks step) in
+    omega (arith, below, long)
 
 -- ---- they react in time ----
 
@@ -92,23 +91,19 @@ reacts_on r is reset_free listed = go r.engine
     go kind.Diesel = reaction_within diesel_keeps r.run is reset_free listed
 
 pub reacts : (cal : CalibrationParts) → IsAccepted cal → (input : RunInput) → IsPlayable input → (fault : Fault) → IsListed (Some fault) →
-    ReactsIn (reaction_of cal.times) (facts_by cal (swept input fault))
-unfolding swept
+    ReactsIn (reaction_of cal.times) (facts_by cal (input_under (Some fault) (without_resets input)))
 reacts cal accepted input playable fault listed =
-    reacts_on (run_with cal (swept input fault)) (record { accepted = accepted; drive = drives_without input.drive playable.drive })
+    reacts_on (run_with cal (input_under (Some fault) (without_resets input))) (record { accepted = accepted; drive = drives_without input.drive playable.drive })
     (never_reset input.drive) listed
-
-map-map : {X Y Z : Type 0} (f : X → Y) (g : Y → Z) (xs : List X) → map g (map f xs) ≡ map (λ x. g (f x)) xs
-map-map f g [] = refl
-map-map f g (x ∷ xs) = ap (λ l. g (f x) ∷ l) (map-map f g xs)
 
 pub in_time : (cal : CalibrationParts) → IsAccepted cal → (step : ℕ) → 1 ≤ step → (input : RunInput) → IsPlayable input →
     IsBounded (reaction_of cal.times) (table_over cal step input)
 unfolding table_over runs_over faults_over
 in_time cal accepted step some input playable =
     let faults = swept_faults (length input.drive) step in
-    subst (λ facts. IsBounded (reaction_of cal.times) (table_of faults facts)) (sym (map-map (swept input) (facts_by cal) faults))
-    (table_bounded (length input.drive) step (reaction_of cal.times) (λ fault. facts_by cal (swept input fault)) playable.most some
+    let under = λ (fault : Fault). input_under (Some fault) (without_resets input) in
+    subst (λ facts. IsBounded (reaction_of cal.times) (table_of faults facts)) (sym (map-map (facts_by cal) under faults))
+    (table_bounded (length input.drive) step (reaction_of cal.times) (λ fault. facts_by cal (under fault)) playable.most some
     (λ k d below. reacts cal accepted input playable _))
 
 -- ---- how a sweep ends ----
@@ -117,34 +112,35 @@ grid_is : (large : Bool) (nothing work : Type 0) (o : Outcome) → large ≡ fal
 grid_is true nothing work o small did = absurd cc
 grid_is false nothing work o small did = did
 
--- the runs were played, or memory ran out
+-- the runs of an input under these faults were played, or memory ran out
+abbrev pub PlaysUnder : CalibrationParts → RunInput → List Fault → Change ShownSink → Change TickCount → Outcome → Type 0
+PlaysUnder cal input faults out ticks o = Plays (sweep_text_of (table_of faults (map (facts_by cal) (inputs_under input faults))))
+    (map (run_with cal) (inputs_under input faults)) (rows_of_group cal (inputs_under input faults)) out ticks o
+
 pub swept-ends : (cal : CalibrationParts) → IsAccepted cal → (step : ℕ) → 1 ≤ step → (input : RunInput) → IsPlayable input →
     (out : Change ShownSink) (ticks : Change TickCount) (nothing : Type 0) (o : Outcome) → is_too_large (length input.drive) step ≡ false →
-    (faults : List Fault) (inputs : List RunInput) → faults ≡ swept_faults (length input.drive) step → inputs ≡ map (swept input) faults →
-    Plays (sweep_text_of (table_of faults (map (facts_by cal) inputs))) (map (run_with cal) inputs) (rows_made cal inputs) out ticks o →
-    GridEnds (is_too_large (length input.drive) step) nothing (Sweeps cal step input out ticks o) o
+    (plain : RunInput) (faults : List Fault) → plain ≡ without_resets input → faults ≡ swept_faults (length input.drive) step →
+    PlaysUnder cal plain faults out ticks o → GridEnds (is_too_large (length input.drive) step) nothing (Sweeps cal step input out ticks o) o
 unfolding swept_text table_over runs_over faults_over
-swept-ends cal accepted step some input playable out ticks nothing o small faults inputs faults_are inputs_are plays =
+swept-ends cal accepted step some input playable out ticks nothing o small plain faults is are plays =
     grid_is (is_too_large (length input.drive) step) nothing (Sweeps cal step input out ticks o) o small (record {
-      plays = subst (λ rows. Plays (swept_text cal step input) (map (run_with cal) (runs_over step input)) rows out ticks o)
-          (one_group cal input (swept_faults (length input.drive) step))
-          (subst (λ (fs : List Fault). Plays (sweep_text_of (table_of fs (map (facts_by cal) (map (swept input) fs)))) (map (run_with cal) (map (swept input) fs))
-          (rows_made cal (map (swept input) fs)) out ticks o) faults_are
-          (subst (λ (xs : List RunInput). Plays (sweep_text_of (table_of faults (map (facts_by cal) xs))) (map (run_with cal) xs) (rows_made cal xs) out ticks o)
-          inputs_are plays));
+      plays = subst (λ (fs : List Fault). PlaysUnder cal (without_resets input) fs out ticks o) are
+          (subst (λ (x : RunInput). PlaysUnder cal x faults out ticks o) is plays);
       in_time = in_time cal accepted step some input playable;
     })
 
 -- memory ran out before the first tick
 pub not-swept : (cal : CalibrationParts) → IsAccepted cal → (step : ℕ) → 1 ≤ step → (input : RunInput) → IsPlayable input →
-    (faults : List Fault) → All IsValid faults → faults ≡ swept_faults (length input.drive) step →
     (out : ShownSink) (was : TickCount) (nothing : Type 0) → was.count < 2 ^ 64 → was.weights < 2 ^ 64 → is_too_large (length input.drive) step ≡ false →
     GridEnds (is_too_large (length input.drive) step) nothing (Sweeps cal step input (change out out) (change was was) outcome.Memory) outcome.Memory
-not-swept cal accepted step some input playable faults valid are out was nothing count weights small =
-    let inputs = map (swept input) faults in
-    swept-ends cal accepted step some input playable (change out out) (change was was) nothing outcome.Memory small faults inputs are refl
-    (no_memory (sweep_text_of (table_of faults (map (facts_by cal) inputs))) (map (run_with cal) inputs) (rows_made cal inputs) out (change was was)
-    (out_before was (rows_made cal inputs) count weights) (keep_headline cal accepted inputs (all-playable input faults playable valid)))
+not-swept cal accepted step some input playable out was nothing count weights small =
+    let faults = swept_faults (length input.drive) step in
+    let plain = without_resets input in
+    let inputs = inputs_under plain faults in
+    swept-ends cal accepted step some input playable (change out out) (change was was) nothing outcome.Memory small plain faults refl refl
+    (no_memory (sweep_text_of (table_of faults (map (facts_by cal) inputs))) (map (run_with cal) inputs) (rows_of_group cal inputs) out (change was was)
+    (out_before was (rows_of_group cal inputs) count weights)
+    (keep_headline cal accepted inputs (all-playable plain faults (playable-without input playable) (swept_valid (length input.drive) step playable.most some))))
 
 -- a grid that isn't told as too large isn't
 pub small_grid : {T : Type 0} (result : Result T SweepFault) (large : Bool) → ((result ≡ Err fault.Grid) ↔ IsTrue large) → ¬ (result ≡ Err fault.Grid) →

@@ -15,6 +15,7 @@ use Rattle.eg_campaign.specs.declared.play.RunInput.{RunInput}
 use Rattle.eg_outcome.specs.Changes.{Change, Stays, MeetsNoFault}
 use Rattle.eg_outcome.specs.Files.{AreRead}
 use Rattle.eg_outcome.specs.Outcomes.{LineEnds, WorkFollows, Then}
+pub use Rattle.eg_outcome.specs.Roles.{role_in}
 use Rattle.eg_outcome.specs.Reads.{FileComes, ReadComes}
 use Rattle.eg_outcome.specs.Calibrations.{CalibratedEnds}
 use Rattle.eg_outcome.specs.declared.outcome.Outcome.{Outcome}
@@ -210,14 +211,6 @@ name_in plans (role.Trace n) = option_map (λ plan. plan.trace) (slice_get plans
 name_in plans (role.Image n) = option_map (λ plan. plan.image) (slice_get plans (n - 1))
 name_in plans _ = None
 
--- the role of the file that an outcome speaks of, if it speaks of one
-abbrev pub role_in : Outcome → Option Role
-role_in (outcome.ReadFault file) = Some file
-role_in (outcome.Refused (refusal.Size file)) = Some file
-role_in (outcome.Refused (refusal.Trace n fault)) = Some (role.Trace n)
-role_in (outcome.Refused (refusal.Image n fault)) = Some (role.Image n)
-role_in _ = None
-
 -- the name that the plan of a run gives to the file of this role
 abbrev pub name_by : RunPlan → Option Role → Option (List ℕ)
 name_by plan (Some (role.Trace n)) = Some plan.trace
@@ -235,14 +228,10 @@ IsOf n (Some (role.Trace run)) = run ≡ n
 IsOf n (Some (role.Image run)) = run ≡ n
 IsOf n _ = Unit {0}
 
--- the outcome speaks of no file of a run
-abbrev pub IsNotOfRun : Outcome → Type 0
-IsNotOfRun (outcome.ReadFault (role.Trace n)) = ⊥
-IsNotOfRun (outcome.ReadFault (role.Image n)) = ⊥
-IsNotOfRun (outcome.Refused (refusal.Size (role.Trace n))) = ⊥
-IsNotOfRun (outcome.Refused (refusal.Size (role.Image n))) = ⊥
-IsNotOfRun (outcome.Refused (refusal.Trace n fault)) = ⊥
-IsNotOfRun (outcome.Refused (refusal.Image n fault)) = ⊥
+-- the role isn't of a run
+abbrev pub IsNotOfRun : Option Role → Type 0
+IsNotOfRun (Some (role.Trace n)) = ⊥
+IsNotOfRun (Some (role.Image n)) = ⊥
 IsNotOfRun _ = Unit {0}
 
 -- there is a name exactly if there is a role and it is of a run

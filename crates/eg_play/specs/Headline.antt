@@ -22,6 +22,8 @@ use Rattle.eg_model.specs.Records.{CutSharplyBefore, CutStandingExcess, ExcessIs
 use Rattle.eg_model.specs.Findings.{FindsBeforeOff, FindsFailure, FindsFromOnset, FindsSharply, TellsFlips, NamesWhatCuts}
 use Rattle.eg_model.specs.Lapses.{IsLapse}
 use Rattle.eg_model.specs.Outputs.{with_level1, ActByOutputs}
+use Rattle.eg_laws.specs.Stretches.{ticks_to_confirm, longest_stretch, RowsEndStretches, RowsEndStretchesAtOnce}
+use Rattle.eg_laws.specs.Bursts.{RowsAreSparse}
 use Rattle.eg_laws.specs.Availability.{AvailableIfSpaced}
 use Rattle.eg_campaign.specs.Plays.{EngineRun, bench_of, rows_of_run, report_of_run}
 
@@ -79,6 +81,16 @@ pub record Headline {E : Type 0} (b : BenchEngine E) (s : Setting) (drive : List
       EachDriveSpan (CutStandingExcess s.cal) rows
   pub short : HasLapseBound s.cal.rules.torque s.cal.times → IsLapse s.fault →
       EachDriveSpan (ExcessIsShort s.cal) rows
+  -- How long an excess lasts: with no fault or a listed one each stretch of true excess in a drive span has
+  -- at most D - 1 + R rows, where D feeds confirm it; and at most D if the reaction is at once when it is
+  -- confirmed, as without a fault.
+  pub stretches : IsListed s.fault → EachDriveSpan (RowsEndStretches s.cal.rules.threshold
+      (longest_stretch s.cal)) rows
+  pub stretches_at_once : IsListed s.fault → EachDriveSpan (RowsEndStretchesAtOnce s.fault
+      s.cal.rules.threshold (ticks_to_confirm s.cal)) rows
+  -- How often it may come again: as long as a true excess isn't confirmed, of any n rows in a row of a drive
+  -- span at most `(limit - 1 + n*down)/(up + down)` have one, by the weights of the torque.
+  pub bursts : EachDriveSpan (RowsAreSparse s.cal.rules.torque s.cal.rules.threshold) rows
   -- Availability: in each drive span in which the misses of a lapse lie far enough apart wrong answers never
   -- cut before a trip. As long as no watch has tripped, wrong answers aren't found; so the stages are off
   -- only after a trip, and where no full-efficiency excess comes they are on at each tick.

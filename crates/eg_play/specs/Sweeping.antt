@@ -1,11 +1,11 @@
 -- A sweep plays one run of a campaign, without its resets, under a fault of each class at each onset of a
 -- grid, and writes the table of these runs.
-use Rattle.std.specs.Prelude.{ℕ, false, List, map, length, Some}
+use Rattle.std.specs.Prelude.{ℕ, false, List, map, length}
 use Rattle.eg_num.specs.Drive.{DriveRow}
 use Rattle.eg_fault.specs.declared.class.Fault.{Fault}
 use Rattle.eg_values.specs.Calibration.{CalibrationParts}
 use Rattle.eg_campaign.specs.declared.play.RunInput.{RunInput}
-use Rattle.eg_campaign.specs.Groups.{facts_by}
+use Rattle.eg_campaign.specs.Groups.{inputs_under, facts_by}
 use Rattle.eg_sweep.specs.declared.row.SweepRow.{SweepRow}
 use Rattle.eg_sweep.specs.Grid.{swept_faults}
 use Rattle.eg_sweep.specs.Table.{table_of}
@@ -15,20 +15,17 @@ use Rattle.eg_sweep.specs.Texts.{sweep_text_of}
 abbrev pub without_reset : DriveRow → DriveRow
 without_reset row = record row { reset = false }
 
--- the run of an input, but under this fault in place of its own, and without the resets of its trace
-unfoldable pub swept : RunInput → Fault → RunInput
-swept input fault = record {
-  plan = record input.plan { fault = Some fault };
-  drive = map without_reset input.drive;
-  image = input.image;
-}
+-- the same input without the resets of its trace
+abbrev pub without_resets : RunInput → RunInput
+without_resets input = record input { drive = map without_reset input.drive }
 
--- the faults of a sweep over an input, at each `step`th tick of its drive, and its runs under them
+-- the faults of a sweep over an input, at each `step`th tick of its drive, and its runs under them, without
+-- its resets
 unfoldable pub faults_over : (step : ℕ) → RunInput → List Fault
 faults_over step input = swept_faults (length input.drive) step
 
 unfoldable pub runs_over : (step : ℕ) → RunInput → List RunInput
-runs_over step input = map (swept input) (faults_over step input)
+runs_over step input = inputs_under (without_resets input) (faults_over step input)
 
 -- the table of these runs: a row for each class
 unfoldable pub table_over : CalibrationParts → (step : ℕ) → RunInput → List SweepRow

@@ -7,7 +7,7 @@ ghost use Rattle.eg_outcome.specs.Changes.{change_of};
 ghost use Rattle.eg_outcome.specs.Reads.{KeepsFiles, ReadsFile, Says};
 ghost use Rattle.eg_outcome.specs.declared.outcome.Role.TheVariants as role;
 ghost use Rattle.eg_play.specs.Files.{campaign_said, campaign_or_refusal, campaign_file};
-ghost use Rattle.eg_play.specs.Ends.{IsNotOfRun};
+ghost use Rattle.eg_play.specs.Ends.{IsNotOfRun, role_in};
 
 use eg_base::{Items, Store};
 use eg_outcome::{Outcome, Refusal, Role, file_bytes};
@@ -24,7 +24,7 @@ pub(crate) fn campaign_for<S: Store>(
         (change_of S.shows store.old store.new) result }
     ensures keeps { KeepsFiles (change_of S.shows store.old store.new) result }
     ensures rules { IfOk result AreRuns }
-    ensures of_campaign { IfErr result IsNotOfRun }
+    ensures of_campaign { IfErr result (λ outcome. IsNotOfRun (role_in outcome)) }
 {
     match file_bytes(alloc, Role::Campaign, file, store) {
         Ok(bytes) => campaign_in(alloc, bytes.as_slice()),
@@ -36,7 +36,7 @@ pub(crate) fn campaign_for<S: Store>(
 fn campaign_in(alloc: Global, bytes: &[u8]) -> Result<Items<RunPlan>, Outcome>
     ensures says { Says campaign_or_refusal bytes.now result }
     ensures rules { IfOk result AreRuns }
-    ensures of_campaign { IfErr result IsNotOfRun }
+    ensures of_campaign { IfErr result (λ outcome. IsNotOfRun (role_in outcome)) }
 {
     match campaign_said(alloc, bytes) {
         Ok(plans) => Ok(Items::new(plans)),

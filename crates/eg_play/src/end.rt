@@ -4,7 +4,7 @@ ghost use Rattle.std.specs.Prelude.{◌≡◌, None};
 use eg_base::Text;
 use eg_outcome::Outcome;
 
-/// How `run`, `table`, `record` or `sweep` ends (docs/FORMATS.md, "Outcomes").
+/// How a command ends (docs/FORMATS.md, "Outcomes").
 #[derive(Drop)]
 pub struct End {
     /// The outcome.
@@ -15,7 +15,7 @@ pub struct End {
 
 impl End {
     /// An end that speaks of no file of a run.
-    pub(crate) fn of(outcome: Outcome) -> End
+    pub fn of(outcome: Outcome) -> End
         ensures outcome { result.outcome ≡ outcome }
         ensures file { result.file ≡ None }
     {

@@ -84,24 +84,12 @@ fn ended(outcome: Outcome, plan: RunPlan) -> End
     ensures file { result.file ≡ name_by plan (role_in outcome) }
 {
     let (trace, image) = (plan.trace, plan.image);
-    let file = match role_of(&outcome) {
+    let file = match outcome.role() {
         Some(Role::Trace { .. }) => Some(trace),
         Some(Role::Image { .. }) => Some(image),
         _ => None,
     };
     End { outcome, file }
-}
-
-/// The role of the file that an outcome speaks of, if it speaks of one.
-fn role_of(outcome: &Outcome) -> Option<Role>
-    ensures { result ≡ role_in outcome.now }
-{
-    match outcome {
-        Outcome::ReadFault { file } | Outcome::Refused(Refusal::Size { file }) => Some(*file),
-        Outcome::Refused(Refusal::Trace { run, .. }) => Some(Role::Trace { run: *run }),
-        Outcome::Refused(Refusal::Image { run, .. }) => Some(Role::Image { run: *run }),
-        _ => None,
-    }
 }
 
 /// Adds the ticks of this drive to a sum, where one is kept; a sum of more than 1,000,000 is refused.
@@ -111,7 +99,7 @@ fn add(sum: Option<u32>, run: u32, drive: &Items<Drive>) -> Result<(), Outcome>
     ensures refused { MatchOption (refusing sum run (length drive.now)) (IsOk result)
         (λ r. result ≡ Err (Refused r)) }
     ensures added { IsOk result → ForSome sum (λ n. n + length drive.now ≤ 1000000) }
-    ensures role { IfErr result (λ outcome. role_in outcome ≡ None) }
+    ensures role { IfErr result (λ outcome. role_in outcome ≡ Some role.Campaign) }
     ensures no_memory { IfErr result TellsNoMemory }
 {
     let Some(sum) = sum else {

@@ -1,6 +1,7 @@
 // The table of a sweep is written.
-ghost use Rattle.std.specs.Prelude.{◌≡◌, ◌≤◌, All, map, length, Err};
-ghost use Rattle.eg_campaign.specs.Groups.{rows_made, facts_by};
+ghost use Rattle.std.specs.Prelude.{◌≡◌, ◌≤◌, All, map, length};
+ghost use Rattle.eg_fault.specs.Faults.{IsValid};
+ghost use Rattle.eg_campaign.specs.Groups.{inputs_under, rows_of_group, facts_by};
 ghost use Rattle.eg_campaign.specs.Plays.{IsPlayable, run_with};
 ghost use Rattle.eg_sweep.specs.Grid.{is_too_large};
 ghost use Rattle.eg_sweep.specs.Table.{table_of};
@@ -9,9 +10,9 @@ ghost use Rattle.eg_outcome.specs.Changes.{change, change_of};
 ghost use Rattle.eg_outcome.specs.Outcomes.{PutsNothing, TellsNoMemory};
 ghost use Rattle.eg_play.specs.Ends.{NothingPlayed, GridEnds, Plays, Sweeps};
 
-use crate::swept::swept_inputs;
+use crate::swept::without_resets;
 use eg_base::Sink;
-use eg_campaign::{RunInput, facts_all};
+use eg_campaign::{RunInput, facts_under};
 use eg_fault::Fault;
 use eg_outcome::{Outcome, Refusal, put_text};
 use eg_sweep::{SweepFault, sweep_faults, sweep_text, tabulate};
@@ -24,16 +25,16 @@ use std::alloc::Global;
 pub(crate) fn put_table<K: Sink>(
     alloc: Global,
     calibration: &Calibration,
-    input: &RunInput,
+    input: RunInput,
     step: u32,
     out: &mut K,
     steps: &mut Ticks,
 ) -> Outcome
-    requires playable { IsPlayable input.now }
+    requires playable { IsPlayable input }
     requires step { 1 ≤ step }
-    ensures ends { GridEnds (is_too_large (length input.now.drive) step)
+    ensures ends { GridEnds (is_too_large (length input.drive) step)
         (NothingPlayed (change_of K.shows out.old out.new) (change steps.old steps.new))
-        (Sweeps calibration.now step input.now (change_of K.shows out.old out.new)
+        (Sweeps calibration.now step input (change_of K.shows out.old out.new)
         (change steps.old steps.new) result) result }
     ensures no_memory { TellsNoMemory result }
     ensures nothing_put { PutsNothing result → out.new ≡ out.old }
@@ -47,32 +48,35 @@ pub(crate) fn put_table<K: Sink>(
         Err(SweepFault::Grid) => return Outcome::Refused(Refusal::Grid),
         Err(SweepFault::Memory) => return Outcome::Memory,
     };
-    let Ok(inputs) = swept_inputs(alloc, input, &faults) else {
+    let Ok(input) = without_resets(alloc, input) else {
         return Outcome::Memory;
     };
-    put_rows(alloc, calibration, &faults, &inputs, out, steps)
+    put_rows(alloc, calibration, &input, &faults, out, steps)
 }
 
-/// Plays these runs, each of which has the fault of its place, and puts their table.
+/// Plays one run under each of these faults, and puts the table of these runs.
 fn put_rows<K: Sink>(
     alloc: Global,
     calibration: &Calibration,
+    input: &RunInput,
     faults: &[Fault],
-    inputs: &[RunInput],
     out: &mut K,
     steps: &mut Ticks,
 ) -> Outcome
-    requires playable { All IsPlayable inputs.now }
-    requires same { length faults.now ≡ length inputs.now }
+    requires playable { IsPlayable input.now }
+    requires valid { All IsValid faults.now }
+    requires group { 2 ≤ length faults.now }
     requires most { length faults.now ≤ 1000 }
-    ensures plays { Plays (sweep_text_of (table_of faults.now (map (facts_by calibration.now) inputs.now)))
-        (map (run_with calibration.now) inputs.now) (rows_made calibration.now inputs.now)
+    ensures plays { Plays (sweep_text_of (table_of faults.now
+        (map (facts_by calibration.now) (inputs_under input.now faults.now))))
+        (map (run_with calibration.now) (inputs_under input.now faults.now))
+        (rows_of_group calibration.now (inputs_under input.now faults.now))
         (change_of K.shows out.old out.new) (change steps.old steps.new) result }
     ensures put { PutsNothing result → ⊥ }
 {
     // Called for its clause alone: the calibration is an accepted one.
     let _rules = calibration.rules();
-    let Ok(facts) = facts_all(alloc, calibration, inputs, steps) else {
+    let Ok(facts) = facts_under(alloc, calibration, input, faults, steps) else {
         return Outcome::Memory;
     };
     let rows = tabulate(faults, &facts);

@@ -76,7 +76,7 @@ fn sweep_by<S: Store, K: Sink>(
         (change steps.old steps.new) result.outcome }
 {
     match input_named(alloc, campaign, name, store) {
-        Ok(input) => End::of(put_table(alloc, calibration, &input, step, out, steps)),
+        Ok(input) => End::of(put_table(alloc, calibration, input, step, out, steps)),
         Err(end) => end,
     }
 }

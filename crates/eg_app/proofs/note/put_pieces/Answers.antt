@@ -2,7 +2,7 @@ use Rattle.std.proofs.Common.{◌∙◌, [], List, ℕ, arith, Bor, sym, subst, 
 use Rattle.std.specs.List.{concat}
 use Rattle.std.specs.Bool.{IsTrue}
 use Rattle.eg_base.specs.Outside.{Rose}
-use Rattle.eg_outcome.proofs.AppendLemmas.{Appends-append, AppendsPrefix-append, concat-cut, concat-take_more, fault_of_refusal, Rose-earlier}
+use Rattle.eg_base.proofs.AppendLemmas.{Appends-append, AppendsPrefix-append, concat-cut, concat-take_more, fault_of_refusal, Rose-earlier}
 use Rattle.eg_app.proofs.note.put_pieces.Goals as goal
 
 -- what was put before the piece at hand

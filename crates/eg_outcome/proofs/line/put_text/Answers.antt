@@ -1,6 +1,5 @@
 use Rattle.std.proofs.Common.{◌∙◌, sym, subst, refl}
 use Rattle.std.specs.Prelude.{IsTrue}
-use Rattle.eg_outcome.specs.declared.outcome.Outcome.TheVariants as outcome
 use Rattle.eg_outcome.proofs.LineLemmas.{HasPutFront-nothing, HasPutFront-more, HasPutFront-refused, HasPutFront-whole, shorter, nothing_left}
 use Rattle.eg_outcome.proofs.line.put_text.Goals as goal
 

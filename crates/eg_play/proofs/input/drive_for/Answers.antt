@@ -1,8 +1,10 @@
 use Rattle.std.proofs.Common.{refl}
 use Rattle.eg_outcome.specs.Changes.{change_of}
 use Rattle.eg_outcome.specs.declared.outcome.Role.TheVariants as role
-use Rattle.eg_play.proofs.NameLemmas.{of_run}
+use Rattle.eg_play.specs.Ends.{IsOf}
+use Rattle.eg_play.proofs.NameLemmas.{of_file}
 use Rattle.eg_play.proofs.input.drive_for.Goals as goal
 
 pub returns-in-Err-clause-role : goal.returns-in-Err-clause-role
-returns-in-Err-clause-role g c = of_run (role.Trace c.args.run) c.args.file.now (change_of g.S.Store.shows c.args.store.now c.file_bytes.new.store) c.args.run c.in-Err.end refl c.in-Err.ensures.reads.comes
+returns-in-Err-clause-role g c =
+    of_file (IsOf c.args.run) (role.Trace c.args.run) c.args.file.now (change_of g.S.Store.shows c.args.store.now c.file_bytes.new.store) c.in-Err.end refl tt c.in-Err.ensures.reads.comes

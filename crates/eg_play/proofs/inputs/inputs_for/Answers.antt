@@ -1,12 +1,12 @@
-use Rattle.std.proofs.Common.{◌≡◌, ◌∙◌, refl, sym, ap, subst, ◌+◌, ◌≤◌, ◌++◌, ◌∷◌, [], length, append_assoc, append-nil, All, arith}
+use Rattle.std.proofs.Common.{◌≡◌, ◌∙◌, refl, sym, ap, subst, ◌+◌, ◌≤◌, ◌++◌, ◌∷◌, [], length, append_assoc, append-nil, All, Ok, Err, arith}
+use Rattle.std.proofs.lemmas.List.Elements.{All-push}
 use Rattle.eg_base.specs.Outside.{ShownStore}
 use Rattle.eg_campaign.specs.Plays.{IsPlayable}
 use Rattle.eg_outcome.specs.Changes.{change}
 use Rattle.eg_play.specs.Inputs.{InputComes, InputsCome, too_many}
-use Rattle.std.proofs.Common.{Ok, Err}
 use Rattle.eg_play.specs.Ends.{IsNamedIfOfRun}
 use Rattle.eg_play.proofs.NameLemmas.{by_plan}
-use Rattle.eg_play.proofs.InputsLemmas.{Goes, goes-first, goes-on, goes-end, goes-memory, goes-all, named, one-behind, some-sum, one-longer, all-behind, nothing-left, any-later}
+use Rattle.eg_play.proofs.InputsLemmas.{Goes, goes-first, goes-on, goes-end, goes-memory, goes-all, named, one-behind, some-sum, one-longer, nothing-left, any-later}
 use Rattle.eg_play.proofs.inputs.inputs_for.Goals as goal
 
 pub loop-plan-init : goal.loop-plan-init
@@ -59,7 +59,7 @@ loop-plan-preserved g c =
       run = ap (λ n. n + 1) c.loop-plan.invariant.run ∙ one-longer c.loop-plan.yielded c.in-Some.plan;
       sum = subst (λ rows. c.loop-plan.sum + length rows ≤ 1000000) (sym drive) (c.in-Ok.ensures.sum c.loop-plan.sum refl);
       shown = c.in-Ok.ensures.keeps.shown refl ∙ c.loop-plan.invariant.shown;
-      playable = subst (All IsPlayable) (sym c.in-Ok-push.ensures.pushed) (all-behind c.loop-plan.inputs.items c.in-Ok.input c.loop-plan.invariant.playable c.in-Ok.ensures.playable);
+      playable = subst (All IsPlayable) (sym c.in-Ok-push.ensures.pushed) (All-push IsPlayable c.loop-plan.inputs.items c.in-Ok.input c.loop-plan.invariant.playable c.in-Ok.ensures.playable);
       goes = λ later.
           subst (Goes (change store later) (c.loop-plan.run + 1) (c.loop-plan.sum + length c.as_slice.result.now) (c.loop-plan.yielded ++ c.in-Some.plan ∷ []))
           (sym c.in-Ok-push.ensures.pushed)

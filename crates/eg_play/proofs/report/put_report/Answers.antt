@@ -26,7 +26,7 @@ returns-clause-plays g c =
     let out = change_of g.K.Sink.shows a.out.now c.put_lines.new.out in
     let text : concat (map string_bytes c.deref-2.result.now) ≡ report_text a.calibration.now a.inputs.now =
     ap (λ lines. concat (map string_bytes lines)) c.deref-2.ensures.value ∙ c.in-Ok-report_lines.ensures
-    ∙ report_is a.calibration.now a.inputs.now c.deref.result.now (c.deref.ensures.value ∙ c.in-Ok.ensures.summaries) in
+    ∙ report_is a.calibration.now a.inputs.now c.deref.result.now (c.deref.ensures.value ∙ c.in-Ok.ensures.told) in
     put _ _ _ out (change a.steps.now c.run_all.new.steps) c.put_lines.result c.in-Ok.ensures.counted
     (subst (λ t. LineEnds t out c.put_lines.result) text c.put_lines.ensures.ends)
     (keep_headline a.calibration.now c.rules-rules.ensures.accepted a.inputs.now c.requires)

@@ -1,0 +1,4 @@
+pub mod AnswersLemmas
+pub mod ExcessLemmas
+pub mod SourceLemmas
+mod Worked

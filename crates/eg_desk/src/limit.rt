@@ -1,0 +1,42 @@
+// What a calibration comes to.
+ghost use Rattle.eg_desk.specs.Limits.{AreLimits};
+
+use eg_answer::{feeds_to_confirm, lapse_bound, miss_spacing, reaction};
+use eg_module::test_ticks;
+use eg_values::Calibration;
+
+/// What a calibration comes to (docs/FORMATS.md, "The text of `limits`").
+#[derive(Clone, Copy)]
+pub struct Limits {
+    /// The worst-case reaction, in ticks.
+    pub reaction: u32,
+    /// The bound for lapses, in ticks, if there is one.
+    pub lapse: Option<u32>,
+    /// How many wrong verdicts in a row open path 2, from an empty counter.
+    pub verdicts: u32,
+    /// How many ticks of excess in a row confirm it, where level 2 runs at each, from an empty counter.
+    pub excess: u32,
+    /// The tick of its span at which a start-up test reads the shut-off paths back.
+    pub test: u32,
+    /// Missed runs of level 2 that lie so many ticks apart never make wrong answers cut before a watch trips.
+    /// It is the least number of whole periods that is proved to be enough, if there is one; fewer ticks may
+    /// be enough.
+    pub spacing: Option<u32>,
+}
+
+/// What a calibration comes to (docs/CONCEPT.md, "Worst-case reaction" and "Lapses").
+#[tactic(auto, unfolding(eg_answer::specs::Times::feeds_to_confirm))]
+pub fn limits_of(calibration: &Calibration) -> Limits
+    ensures { AreLimits calibration.now result }
+{
+    let torque = &calibration.rules().torque;
+    let times = calibration.times();
+    Limits {
+        reaction: reaction(times),
+        lapse: lapse_bound(torque, times),
+        verdicts: feeds_to_confirm(times.weights()),
+        excess: feeds_to_confirm(torque),
+        test: test_ticks(times),
+        spacing: miss_spacing(times),
+    }
+}

@@ -1,3 +1,0 @@
-pub mod Ends
-pub use Rattle.eg_base.specs.Outside
-pub use Rattle.eg_outcome.specs.Outcomes

@@ -1,2 +1,0 @@
-pub mod AnswersLemmas
-mod Worked
