@@ -5,14 +5,13 @@ work=$(mktemp -d) && trap 'rm -rf "$work"' EXIT && ln -s "$PWD/egasim" "$PWD/exa
 sed 's/^threshold = .*/threshold = 500/' examples/reference.toml >own.toml
 ./egasim run --cal own.toml examples/levels.toml
 
-# The right answers, put in in the order of the questions. (`R` of GNU sed takes the next line of a file.)
-./egasim answers own.toml | sed 's/.*: /answer = /' >right.txt
-sed -e '/^answer = /R right.txt' -e '//d' own.toml >answered.toml
+# The right answers, put in.
+tools/answer own.toml
 
 # What the calibration comes to.
-./egasim limits --cal answered.toml
+./egasim limits --cal own.toml
 
-# A run under two classes of fault, each at several onsets, and a row for each; tools/plot_table.gp makes a picture of them.
-tools/make_campaign examples/sweep.toml late halt,path1-closed 0-80/10 >faults.toml
-./egasim table --cal answered.toml faults.toml >table.csv
+# A run under two classes of fault, each at several onsets, and a row for each; tools/plot makes a picture of them.
+tools/study faults examples/sweep.toml late halt,path1-closed 0-80/10 >faults.toml
+./egasim table --cal own.toml faults.toml >table.csv
 cat table.csv

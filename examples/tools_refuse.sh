@@ -1,0 +1,24 @@
+# What tools say of a file that they can't take: one line, and a status that isn't 0. No file is changed.
+work=$(mktemp -d) && trap 'rm -rf "$work"' EXIT && ln -s "$PWD/egasim" "$PWD/examples" "$PWD/tools" "$work" && cd "$work" || exit
+: >empty.csv
+./egasim record examples/levels.toml short | sed '3s/,.*//' >cut.csv
+for file in empty.csv cut.csv gone.csv examples/late.hex; do
+  tools/plot picture.png $file && echo "status $?"
+done 2>&1
+tools/draw_record <cut.csv 2>&1
+printf 'torque\r\rlimit' | tools/draw_record 2>&1
+tools/plot picture.png cut.csv --cal examples/strict.toml 2>&1
+for file in empty.csv gone.toml examples/levels.toml /dev/zero; do tools/answer $file && echo "status $?"; done 2>&1
+echo 'drives = ["gone.csv"]' >plan.toml
+tools/study plan.toml study 2>&1
+printf 'drives = ["examples/late.csv"]\nimages = ["examples/late.hex"]\n[[fault]]\nclass = "halt"\nonset = []\n' >plan.toml
+tools/study plan.toml study 2>&1
+tools/study join study 2>&1
+tools/study faults examples/levels.toml full bus,bos 0 2>&1
+tools/study faults examples/levels.toml full bus 9-1 2>&1
+tools/install '' 2>&1
+ls
+
+# A name in a campaign is written as TOML has it, whatever its characters.
+printf '[[run]]\nname = "a"\ntrace = "\360\237\232\227\\u007f\\"'"'"'.csv"\nimage = "b"\n' >odd.toml
+tools/study faults odd.toml a bus 7 | od -c | sed -n '2,5p'

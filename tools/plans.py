@@ -1,0 +1,132 @@
+"""What a plan of tools/study holds, and the runs that it comes to."""
+
+import itertools
+import random
+import re
+
+from common import fail, toml_of, toml_text
+
+# The numbers of `sweep` for each class. A key with a list here takes lists.
+FAULTS = {
+    "script": {"track": 4, "values": [0]},
+    "offset": {"track": 0, "add": 200},
+    "bus": {"mask": 1},
+    "plate": {"at": 1000},
+    "skip": {"module": 3},
+    "disturb": {"module": 3, "mask": 4096},
+    "flip": {"word": 3, "mask": 1},
+    "halt": {},
+    "timing": {"offset": 99},
+    "wild": {"questions": [65535], "opens": [False]},
+    "path1-closed": {},
+    "path2-closed": {},
+    "path-open": {"path": 1},
+    "lapse": {"after": [0]},
+}
+PARAMETERS = sorted({"every", *(key for keys in FAULTS.values() for key in keys)})
+
+
+def checked_plan(name):
+    plan = {"engines": ["gasoline"], "slices": [None], "seed": 1, "calibration": None, **toml_of(name)}
+    for key in plan:
+        if key not in ("drives", "images", "engines", "slices", "calibration", "seed", "fault"):
+            fail(f"{name}: no plan has a key {key}")
+    for key in ("drives", "images", "engines", "slices", "fault"):
+        if not isinstance(plan.get(key), list) or not plan[key]:
+            fail(f"{name}: {key} must be a list, and not an empty one")
+    if type(plan["seed"]) is not int or not isinstance(plan["calibration"], str | None):
+        fail(f"{name}: seed must be a whole number, calibration the name of a file")
+    plan["fault"] = [one for number, fault in enumerate(plan["fault"], 1) for one in faults_of(name, number, fault)]
+    return plan
+
+
+def faults_of(name, number, fault):
+    """A fault of the plan for each of its classes, with all keys."""
+    if not isinstance(fault, dict) or "class" not in fault:
+        fail(f"{name}: fault {number} has no class")
+    kinds = fault["class"] if isinstance(fault["class"], list) else [fault["class"]]
+    if not kinds:
+        fail(f"{name}: fault {number} has no class")
+    for kind in kinds:
+        if kind not in ("none", *FAULTS):
+            fail(f"{name}: fault {number}: no class {kind}")
+        keys = {"class", "draw"} if kind == "none" else {"class", "draw", "onset", *FAULTS[kind]}
+        keys |= {"every"} if kind == "lapse" else set()
+        if set(fault) - keys:
+            fail(f"{name}: fault {number}: {kind} has no key {sorted(set(fault) - keys)[0]}")
+        if kind != "none" and "onset" not in fault:
+            fail(f"{name}: fault {number} has no onset")
+        if type(fault.get("draw", 1)) is not int or fault.get("draw", 1) < 1:
+            fail(f"{name}: fault {number}: draw must be a whole number from 1 on")
+        yield {"class": kind, **FAULTS.get(kind, {}), **{key: fault[key] for key in fault if key != "class"}}
+
+
+def numbers_of(value, last):
+    """The numbers of a range of the plan. `last` is its end where it names none."""
+    first, end, step = value.get("from", 0), value.get("to", last), value.get("step", 1)
+    if {type(first), type(end), type(step)} != {int} or step < 1 or end < first or set(value) - {"from", "to", "step"}:
+        fail(f"the plan has a range that is none: {toml_text(value)}")
+    return range(first, end + 1, step)
+
+
+def choices(kind, key, value, last):
+    """The values of a key that a fault of the plan allows."""
+    if value == []:
+        fail(f"{kind}: {key} is an empty list")
+    if isinstance(value, dict):
+        if "length" in value or isinstance(FAULTS[kind].get(key), list):
+            fail(f"{kind}: a list of {key} is drawn: its range needs length, and the fault draw")
+        return numbers_of(value, last if key == "onset" else None)
+    holds_list = isinstance(FAULTS[kind].get(key), list)
+    is_list = isinstance(value, list) and (not holds_list or all(isinstance(one, list) for one in value))
+    return value if is_list else [value]
+
+
+def drawn(draws, kind, key, value, last):
+    """One value of a key, by the generator `draws`."""
+    if isinstance(value, dict) and "length" in value:
+        rest = {name: number for name, number in value.items() if name != "length"}
+        numbers = [False, True] if key == "opens" else numbers_of(rest, None)
+        if value["length"] not in range(1, 65):
+            fail(f"{kind}: the length of {key} isn't one from 1 to 64")
+        values = [numbers[int(draws.random() * len(numbers))] for _ in range(value["length"])]
+        return sorted(set(values)) if key == "after" else values
+    allowed = choices(kind, key, value, last)
+    return allowed[int(draws.random() * len(allowed))]
+
+
+def faults_on(plan, draws, ticks):
+    """Each fault that is played on a drive of so many ticks, as campaigns have it; None is a run without one."""
+    for fault in plan["fault"]:
+        kind, count = fault["class"], fault.get("draw")
+        spec = {key: value for key, value in fault.items() if key not in ("class", "draw")}
+        if kind == "none":
+            yield None
+        elif count is None:
+            lists = [choices(kind, key, value, ticks - 1) for key, value in spec.items()]
+            for values in itertools.product(*lists):
+                yield {"class": kind, **dict(zip(spec, values))}
+        else:
+            for _ in range(count):
+                yield {"class": kind, **{key: drawn(draws, kind, key, value, ticks - 1) for key, value in spec.items()}}
+
+
+def runs_of(plan, ticks):
+    """The runs of the plan, those of one drive, image, slice plan and engine one after the other."""
+    draws = random.Random(plan["seed"])
+    groups = itertools.product(plan["drives"], plan["images"], range(len(plan["slices"])), plan["engines"])
+    for drive, image, number, engine in groups:
+        for fault in faults_on(plan, draws, ticks[drive]):
+            yield drive, image, number, engine, fault
+
+
+def onsets_of(text):
+    for part in text.split(","):
+        match = re.fullmatch(r"(\d+)(?:-(\d+)(?:/([1-9]\d*))?)?", part)
+        if not match:
+            fail(f"no onsets: {part}")
+        first, last, step = (int(number) if number else None for number in match.groups())
+        last = first if last is None else last
+        if last < first:
+            fail(f"no onsets: {part}")
+        yield from range(first, last + 1, step or 1)
