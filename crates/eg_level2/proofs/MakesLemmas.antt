@@ -7,7 +7,7 @@ use Rattle.eg_guard.specs.Memory.{ShownMemory, KeepsMemory}
 use Rattle.eg_guard.proofs.KeepsLemmas.{keeps_then, keeps_done, keeps_refused, clash}
 use Rattle.eg_level2.specs.declared.step.Step.{Step}
 use Rattle.eg_level2.specs.Words.{word_at}
-use Rattle.eg_level2.specs.Stores.{Store, store, put, both, both_where, both_from, after_stores, outside, AreFirst, Keeps, Makes, IsRun}
+use Rattle.eg_level2.specs.Stores.{Store, store, put, both, both_where, both_from, after_stores, outside, AreFirst, Makes, RunMakes}
 use Rattle.eg_level2.proofs.StoreLemmas.{Mirror, both-mirror}
 
 -- ---- some stores, with more behind them ----
@@ -85,14 +85,8 @@ done {a = a} {b = b} {x = x} {y = y} made = record {
   };
 }
 
-pub done_by : {T E U F : Type 0} {stores : List Store} {a b : ShownMemory} {x : T} {y : U} → word_at b.words ≡ after_stores stores (word_at a.words)
-    → (let done : Result T E = Ok x in Keeps a b done) → (let done : Result U F = Ok y in Makes stores a b done)
-done_by {T = T} {E = E} {stores = stores} {a = a} {b = b} {x = x} e keeps =
-    let made : (let done : Result T E = Ok x in Makes stores a b done) = record { stored = e; stopped = tt; keeps = keeps } in
-    done made
-
 -- a run that ended early
-pub ended : {E : Type 0} {stores : List Store} {step : Step} {a b : ShownMemory} (result : Result Step E) → IsErr result → Makes stores a b result → IsRun stores step a b result
+pub ended : {E : Type 0} {stores : List Store} {step : Step} {a b : ShownMemory} (result : Result Step E) → IsErr result → Makes stores a b result → RunMakes stores step a b result
 ended {step = step} result is made = record { makes = made; answers = IfOk-from_err result (λ answer. answer ≡ step) is }
 
 -- no store

@@ -12,8 +12,8 @@ use Rattle.eg_level2.specs.declared.phase.Phase.{Phase}
 use Rattle.eg_level2.specs.declared.step.Step.{Step}
 use Rattle.eg_level2.specs.Words.{Words, start, named, word_at, words_of, AreMirrored, AreWithin}
 use Rattle.eg_level2.specs.Inputs.{Level2Parts, Inputs, asked_of, inputs_of, row_of}
-use Rattle.eg_level2.specs.Modules.{feeds_now, check_step, given_up, pedal_bit, plate_bit, load_bit, speed_bit, torque_bit, counted, pedal_step, permitted_step, actual_step, excess_step, pairs_step, debounced, debounce_step, reaction, react_step, module_step, answer_after, order_after, no_watches, mirror_alone, found_by, step_of, finding, quiet_step}
-use Rattle.eg_level2.specs.Stores.{Store, IsRun}
+use Rattle.eg_level2.specs.Modules.{feeds_now, check_step, given_up, pedal_bit, plate_bit, load_bit, speed_bit, torque_bit, counted, pedal_step, permitted_step, actual_step, excess_step, pairs_step, debounced, debounce_step, reacted, react_step, module_step, answer_after, order_after, no_watches, mirror_alone, found_by, step_of, finding, quiet_step}
+use Rattle.eg_level2.specs.Stores.{Store, RunMakes}
 use Rattle.eg_level2.specs.Order.{check_stores, debounce_stores, react_stores, stores_of, given_up_stores}
 use Rattle.eg_level2.specs.Runs.{IsModuleRun}
 use Rattle.eg_level2.proofs.StoreLemmas.{same_outside}
@@ -25,16 +25,16 @@ same_rules one other e = ap (λ (parts : Level2Parts). parts.rules) e
 -- ---- a module by its number ----
 
 pub check_run : {E : Type 0} {a b : ShownMemory} {result : Result Step E} (parts : Level2Parts) (memory : List ℕ) (tick : ℕ) (phase : Phase) (d : ℕ) (words : Words) {n seed : ℕ} → n ≡ 0
-    → seed ≡ (row_of parts.questions (asked_of memory)).seed → IsRun (check_stores (check_step seed tick words)) quiet_step a b result
-    → (let inputs = inputs_of parts memory tick phase d in IsRun (stores_of inputs n words) (step_of inputs n words) a b result)
+    → seed ≡ (row_of parts.questions (asked_of memory)).seed → RunMakes (check_stores (check_step seed tick words)) quiet_step a b result
+    → (let inputs = inputs_of parts memory tick phase d in RunMakes (stores_of inputs n words) (step_of inputs n words) a b result)
 unfolding stores_of module_step inputs_of step_of order_after answer_after found_by
 check_run parts memory tick phase d words en es run = rw (en, sym es) run
 
-pub signal_run : {E : Type 0} {a b : ShownMemory} {result : Result Step E} {stores : List Store} (inputs : Inputs) (n : ℕ) (words : Words) → n ≤ 5 → IsRun stores quiet_step a b result
-    → IsRun stores (step_of inputs n words) a b result
+pub signal_run : {E : Type 0} {a b : ShownMemory} {result : Result Step E} {stores : List Store} (inputs : Inputs) (n : ℕ) (words : Words) → n ≤ 5 → RunMakes stores quiet_step a b result
+    → RunMakes stores (step_of inputs n words) a b result
 unfolding step_of order_after answer_after found_by
 signal_run {a = a} {b = b} {result = result} {stores = stores} inputs n words to run =
-    subst (λ step. IsRun stores step a b result) (by (n == 6) (n == 7) refl refl) run
+    subst (λ step. RunMakes stores step a b result) (by (n == 6) (n == 7) refl refl) run
   where
     by : (six seven : Bool) → (n == 6) ≡ six → (n == 7) ≡ seven → quiet_step ≡ step_of inputs n words
     by false false sixth seventh = rw (sixth, seventh) refl
@@ -42,15 +42,15 @@ signal_run {a = a} {b = b} {result = result} {stores = stores} inputs n words to
     by six true sixth seventh = absurd (let is = eqb-true n 7 seventh in omega arith)
 
 pub debounce_run : {E : Type 0} {a b : ShownMemory} {result : Result Step E} (parts : Level2Parts) (memory : List ℕ) (tick : ℕ) (phase : Phase) (d : ℕ) (words : Words) {n : ℕ} {rules : Rules} → n ≡ 6
-    → rules ≡ parts.rules → IsRun (debounce_stores rules phase words) (finding (debounced rules phase words)) a b result
-    → (let inputs = inputs_of parts memory tick phase d in IsRun (stores_of inputs n words) (step_of inputs n words) a b result)
+    → rules ≡ parts.rules → RunMakes (debounce_stores rules phase words) (finding (debounced rules phase words)) a b result
+    → (let inputs = inputs_of parts memory tick phase d in RunMakes (stores_of inputs n words) (step_of inputs n words) a b result)
 unfolding stores_of module_step inputs_of step_of order_after answer_after found_by
 debounce_run parts memory tick phase d words en er run = rw (en, sym er) run
 
 pub react_run : {E : Type 0} {a b : ShownMemory} {result : Result Step E} (parts : Level2Parts) (memory : List ℕ) (tick : ℕ) (phase : Phase) (d : ℕ) (words : Words) {n : ℕ} → n ≡ 7
-    → IsRun (react_stores (react_step phase words)) (reaction phase words) a b result
-    → (let inputs = inputs_of parts memory tick phase d in IsRun (stores_of inputs n words) (step_of inputs n words) a b result)
-unfolding stores_of module_step inputs_of step_of order_after answer_after found_by reaction
+    → RunMakes (react_stores (react_step phase words)) (reacted phase words) a b result
+    → (let inputs = inputs_of parts memory tick phase d in RunMakes (stores_of inputs n words) (step_of inputs n words) a b result)
+unfolding stores_of module_step inputs_of step_of order_after answer_after found_by reacted
 react_run parts memory tick phase d words en run = rw en run
 
 -- ---- no counter passes its limit ----
@@ -131,7 +131,7 @@ finds_no_mirror inputs n words = pick (n == 6)
 
 -- where each word has its complement
 pub orderly_run : {E : Type 0} {old new : ShownMemory} {result : Result Step E} (parts : Level2Parts) (tick : ℕ) (phase : Phase) (d n : ℕ) → n < 8 → AreMirrored old.words
-    → (let inputs = inputs_of parts old.words tick phase d in IsRun (stores_of inputs n (words_of old.words)) (step_of inputs n (words_of old.words)) old new result)
+    → (let inputs = inputs_of parts old.words tick phase d in RunMakes (stores_of inputs n (words_of old.words)) (step_of inputs n (words_of old.words)) old new result)
     → IsModuleRun parts n tick phase d old new result
 unfolding step_of
 orderly_run {old = old} {new = new} {result = result} parts tick phase d n within are run =
@@ -164,7 +164,7 @@ orderly_run {old = old} {new = new} {result = result} parts tick phase d n withi
 
 -- where one differs from it
 pub given_up_run : {E : Type 0} {old new : ShownMemory} {result : Result Step E} (parts : Level2Parts) (tick : ℕ) (phase : Phase) (d n : ℕ) → n ≡ 0 → ¬ AreMirrored old.words
-    → IsRun (given_up_stores tick) (finding mirror_alone) old new result → OnOk result (AreMirrored new.words) → IsModuleRun parts n tick phase d old new result
+    → RunMakes (given_up_stores tick) (finding mirror_alone) old new result → OnOk result (AreMirrored new.words) → IsModuleRun parts n tick phase d old new result
 unfolding answer_after order_after mirror_alone
 given_up_run {old = old} {new = new} {result = result} parts tick phase d n first differs run mirrored =
     let words : OnOk result (words_of new.words ≡ given_up tick) = on_ok_weaker result (λ e. ap named e ∙ given_up-make tick (word_at old.words)) run.makes.stored in

@@ -245,8 +245,8 @@ no_watches = record {
 }
 
 -- what react orders and answers; it finds nothing
-unfoldable pub reaction : Phase → Words → Step
-reaction phase words = record {
+unfoldable pub reacted : Phase → Words → Step
+reacted phase words = record {
   open_path = opens_now phase words;
   answer = answer_of phase words;
   found = no_watches;

@@ -1,5 +1,5 @@
--- Outside the headline. In which order a run of a module stores its words, and what is told where memory
--- ran out in between.
+-- Outside the headline. The stores of a run of a module, in their order, and what the words tell still where
+-- memory ran out between two of them.
 use Rattle.std.specs.Prelude.{◌⊎◌, ℕ, ◌-◌, Bool, ◌==◌, if◌then◌else◌, List, ◌++◌, slice_index, IsTrue}
 use Rattle.eg_answer.specs.declared.rules.Rules.{Rules}
 use Rattle.eg_answer.specs.declared.modules.TheConstants.{CHECK, DEBOUNCE, REACT}
@@ -10,7 +10,7 @@ use Rattle.eg_level2.specs.Inputs.{Inputs}
 use Rattle.eg_level2.specs.Modules.{given_up, feeds_now, debounced, limits, trips, debounce_step, module_step}
 use Rattle.eg_level2.specs.Stores.{Store, both, both_where, both_from}
 
--- ---- where each word has its complement: mostly by the words after the run ----
+-- ---- where each word has its complement: the values of the words after the run (`after`) ----
 
 -- module 0: the token, the flow, the tick, and the begin of the fold
 unfoldable pub check_stores : Words → List Store
@@ -37,6 +37,7 @@ debounced_stores feeding trip limit after =
     then both_where trip TRIP 1 ++ (both_where limit LIMP 1 ++ (counters_of after ++ both TOKEN after.token))
     else both TOKEN after.token
 
+-- module 6, by the words before its run: they say whether the counters are fed, and what is found
 unfoldable pub debounce_stores : Rules → Phase → Words → List Store
 debounce_stores rules phase words =
     let found = debounced rules phase words in

@@ -77,10 +77,6 @@ signalling number signal test disturbance word =
     both (number - 1) (written (named word) signal disturbance)
     ++ (both TOKEN (next_token_of (word TOKEN) number) ++ both SIGN (signed (named word) test disturbance))
 
-unfoldable pub signalled : ℕ → ℕ → ℕ → ℕ → (ℕ → ℕ) → ℕ → ℕ
-signalled number signal test disturbance word =
-    after_stores (signalling number signal test disturbance word) word
-
 -- a counter after a feed, and whether that feed brings it to its limit
 unfoldable pub fed_of : WeightParts → ℕ → Bool → Fed
 fed_of weights value bad = record {
@@ -141,7 +137,7 @@ pub record Makes {T E : Type 0} (stores : List Store) (old new : ShownMemory) (r
     pub keeps : Keeps old new result
 
 -- A run of a module makes these stores, and answers this step where it is done.
-pub record IsRun {E : Type 0} (stores : List Store) (step : Step) (old new : ShownMemory)
+pub record RunMakes {E : Type 0} (stores : List Store) (step : Step) (old new : ShownMemory)
     (result : Result Step E) : Type 0 where
   pub makes : Makes stores old new result
   pub answers : IfOk result (λ answer. answer ≡ step)

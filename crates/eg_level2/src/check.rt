@@ -2,7 +2,7 @@
 ghost use Rattle.std.specs.Prelude.{◌≡◌, ◌⊎◌, ◌+◌, ◌%◌, ◌==◌, OnOk, if◌then◌else◌};
 ghost use Rattle.eg_level2.specs.Words.{words_of, in_order, AreMirrored};
 ghost use Rattle.eg_level2.specs.Modules.{marked, check_step, given_up, mirror_alone, finding, quiet_step};
-ghost use Rattle.eg_level2.specs.Stores.{Makes, IsRun};
+ghost use Rattle.eg_level2.specs.Stores.{Makes, RunMakes};
 ghost use Rattle.eg_level2.specs.Order.{check_stores, given_up_stores};
 
 use crate::Step;
@@ -19,10 +19,10 @@ use eg_guard::Guarded;
 pub(crate) fn check<M: Guarded>(memory: &mut M, tick: u16, seed: u16) -> Result<Step, NoMemory>
     // Where each word has its complement it goes on, and else it gives all words up.
     ensures { (AreMirrored (M.shows memory.old).words
-        × IsRun (check_stores (check_step seed tick (words_of (M.shows memory.old).words))) quiet_step
+        × RunMakes (check_stores (check_step seed tick (words_of (M.shows memory.old).words))) quiet_step
         (M.shows memory.old) (M.shows memory.new) result)
         ⊎ ((¬ AreMirrored (M.shows memory.old).words)
-        × IsRun (given_up_stores tick) (finding mirror_alone)
+        × RunMakes (given_up_stores tick) (finding mirror_alone)
         (M.shows memory.old) (M.shows memory.new) result
         × OnOk result (AreMirrored (M.shows memory.new).words)) }
 {

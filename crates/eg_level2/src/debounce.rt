@@ -3,7 +3,7 @@ ghost use Rattle.std.specs.Prelude.{◌≡◌, ◌≤◌, ◌&&◌, nat_lt};
 ghost use Rattle.eg_sensor.specs.Readings.{has_bit};
 ghost use Rattle.eg_level2.specs.Words.{words_of, AreWithin};
 ghost use Rattle.eg_level2.specs.Modules.{feeds_now, debounced, trips, finding};
-ghost use Rattle.eg_level2.specs.Stores.{Makes, IsRun, fed_of, feeds_of, found_of, counting, fed_stores};
+ghost use Rattle.eg_level2.specs.Stores.{Makes, RunMakes, fed_of, feeds_of, found_of, counting, fed_stores};
 ghost use Rattle.eg_level2.specs.Order.{debounce_stores};
 
 use crate::step::no_watches;
@@ -46,7 +46,7 @@ pub(crate) fn debounce<M: Guarded>(
     phase: Phase,
 ) -> Result<Step, NoMemory>
     requires { AreWithin rules.now (words_of (M.shows memory.old).words) }
-    ensures { IsRun (debounce_stores rules.now phase (words_of (M.shows memory.old).words))
+    ensures { RunMakes (debounce_stores rules.now phase (words_of (M.shows memory.old).words))
         (finding (debounced rules.now phase (words_of (M.shows memory.old).words)))
         (M.shows memory.old) (M.shows memory.new) result }
 {

@@ -5,7 +5,7 @@ ghost use Rattle.eg_guard.specs.Memory.{AreWords, SameOutside};
 ghost use Rattle.eg_level2.specs.Words.{ChangeLaw, word_at, words_of, AreMirrored, AreWithin, is_level2_own, start};
 ghost use Rattle.eg_level2.specs.Inputs.{AreParts, IsLookup, inputs_of, asked_of, results_by, row_of};
 ghost use Rattle.eg_level2.specs.Modules.{quiet_step};
-ghost use Rattle.eg_level2.specs.Stores.{AreFirst, IsRun};
+ghost use Rattle.eg_level2.specs.Stores.{AreFirst, RunMakes};
 ghost use Rattle.eg_level2.specs.Order.{reset_stores, stores_of};
 ghost use Rattle.eg_level2.specs.Runs.{IsModuleRun};
 
@@ -185,7 +185,7 @@ impl Level2 {
         requires first { CHECK < number }
         requires last { number ≤ PAIRS }
         requires lookup { IsLookup self.now.rules lookup.now }
-        ensures { (tick : ℕ) (phase : Phase) → IsRun
+        ensures { (tick : ℕ) (phase : Phase) → RunMakes
             (stores_of (inputs_of self.now (M.shows memory.old).words tick phase disturbance) number
             (words_of (M.shows memory.old).words))
             quiet_step (M.shows memory.old) (M.shows memory.new) result }

@@ -1,8 +1,8 @@
 // Module 7: what comes of a trip, and the answer.
 ghost use Rattle.std.specs.Prelude.{◌≡◌, ◌+◌, ◌*◌, ◌==◌, if◌then◌else◌, Some, None};
 ghost use Rattle.eg_level2.specs.Words.{words_of};
-ghost use Rattle.eg_level2.specs.Modules.{marked, closed_flow, opens_now, answers_now, react_step, reaction};
-ghost use Rattle.eg_level2.specs.Stores.{IsRun};
+ghost use Rattle.eg_level2.specs.Modules.{marked, closed_flow, opens_now, answers_now, react_step, reacted};
+ghost use Rattle.eg_level2.specs.Stores.{RunMakes};
 ghost use Rattle.eg_level2.specs.Order.{react_stores};
 
 use crate::step::no_watches;
@@ -19,8 +19,8 @@ const WHOLE_TOKEN: u16 = 0x00ff;
 /// `Send` where no trip stands (docs/CONCEPT.md, "Level 2").
 #[inline(always)]
 pub(crate) fn react<M: Guarded>(memory: &mut M, phase: Phase) -> Result<Step, NoMemory>
-    ensures { IsRun (react_stores (react_step phase (words_of (M.shows memory.old).words)))
-        (reaction phase (words_of (M.shows memory.old).words))
+    ensures { RunMakes (react_stores (react_step phase (words_of (M.shows memory.old).words)))
+        (reacted phase (words_of (M.shows memory.old).words))
         (M.shows memory.old) (M.shows memory.new) result }
 {
     let opens = opens_now(memory, phase);

@@ -1,12 +1,12 @@
 // Modules 1 to 5: each computes a signal, and mixes a result of the question's row into the fold. The results
 // (`test`) were worked out by the same functions when level 2 was made.
-ghost use Rattle.std.specs.Prelude.{◌≡◌, ◌≤◌, OnOk, OnErr, bit_xor, if◌then◌else◌};
+ghost use Rattle.std.specs.Prelude.{◌≡◌, ◌≤◌, bit_xor, if◌then◌else◌};
 ghost use Rattle.eg_answer.specs.declared.modules.TheConstants.{PEDAL as PEDAL_MODULE, PAIRS as PAIRS_MODULE};
 ghost use Rattle.eg_answer.specs.Formulas.{permitted_torque as torque_of};
 ghost use Rattle.eg_answer.specs.Folds.{mixed};
 ghost use Rattle.eg_level2.specs.Words.{word_at, words_of};
 ghost use Rattle.eg_level2.specs.Inputs.{IsLookup, readings_of};
-ghost use Rattle.eg_level2.specs.Stores.{Keeps, AreFirst, signal_of, signalling, signalled};
+ghost use Rattle.eg_level2.specs.Stores.{Makes, signal_of, signalling};
 
 use crate::Lookup;
 use crate::ports::readings;
@@ -75,12 +75,8 @@ pub(crate) fn write<M: Guarded>(
 ) -> Result<(), NoMemory>
     requires first { PEDAL_MODULE ≤ number }
     requires last { number ≤ PAIRS_MODULE }
-    ensures stored { OnOk result (word_at (M.shows memory.new).words
-        ≡ signalled number signal test disturbance (word_at (M.shows memory.old).words)) }
-    ensures stopped { OnErr result (AreFirst
-        (signalling number signal test disturbance (word_at (M.shows memory.old).words))
-        (word_at (M.shows memory.old).words) (word_at (M.shows memory.new).words)) }
-    ensures keeps { Keeps (M.shows memory.old) (M.shows memory.new) result }
+    ensures { Makes (signalling number signal test disturbance (word_at (M.shows memory.old).words))
+        (M.shows memory.old) (M.shows memory.new) result }
 {
     let value = written(is_set(word(memory, TRIP)), signal, disturbance);
     let token = next_token(word(memory, TOKEN), number);
