@@ -38,52 +38,30 @@ impl Unanswered {
     pub(crate) fn checked(self) -> Result<Calibration, CalFault>
         ensures { Checks (answer_fault self) self result }
     {
-        checked(
-            self.rules,
-            self.plant,
-            self.times,
-            self.questions,
-            self.brake,
-        )
+        let Unanswered {
+            rules,
+            plant,
+            times,
+            questions,
+            brake,
+        } = self;
+        match Calibration::of_parts(rules, plant, times, questions, brake) {
+            Ok(calibration) => Ok(calibration),
+            Err(Apart::Answer { index }) => Err(CalFault::Answer { index }),
+            Err(Apart::Torque) => unreachable!(),
+            Err(Apart::Few) => unreachable!(),
+        }
     }
 
     /// The questions, each with the right answer.
     pub(crate) fn right_answers(&self) -> Questions
         ensures { result ≡ answered_in self.now }
     {
-        right_answers(&self.rules, &self.questions)
+        let mut answered = Questions::new();
+        for i in 0..self.questions.len() {
+            let row = self.questions.row(i);
+            answered.push(row.copy(), expected(&self.rules, row));
+        }
+        answered
     }
-}
-
-/// The calibration of these parts, where each question's answer is the fold of its row.
-fn checked(
-    rules: Rules,
-    plant: PlantData,
-    times: Times,
-    questions: Questions,
-    brake: bool,
-) -> Result<Calibration, CalFault>
-    requires kt { rules.kt ≡ plant.kt }
-    requires count { 2 ≤ length questions }
-    ensures { let parts = made_of rules plant times questions brake in
-        Checks (answer_fault parts) parts result }
-{
-    match Calibration::of_parts(rules, plant, times, questions, brake) {
-        Ok(calibration) => Ok(calibration),
-        Err(Apart::Answer { index }) => Err(CalFault::Answer { index }),
-        Err(Apart::Torque) => unreachable!(),
-        Err(Apart::Few) => unreachable!(),
-    }
-}
-
-/// These questions, each with the right answer.
-fn right_answers(rules: &Rules, questions: &Questions) -> Questions
-    ensures { result ≡ map (answered rules.now) questions.now }
-{
-    let mut answered = Questions::new();
-    for i in 0..questions.len() {
-        let row = questions.row(i);
-        answered.push(row.copy(), expected(rules, row));
-    }
-    answered
 }

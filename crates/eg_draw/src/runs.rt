@@ -20,22 +20,13 @@ pub struct DrawnRun {
 }
 
 impl Generator {
-    /// Draws the next run (docs/CONCEPT.md, "The generator of `soak`"). NoMemory is its one refusal; after it
-    /// nothing is said of the generator's state.
-    #[tactic(auto, using(crate::proofs::ProperLemmas::proper_of))]
+    /// Draws the next run: its image, then its drive, then its fault (docs/CONCEPT.md, "The generator of
+    /// `soak`"). NoMemory is its one refusal; after it nothing is said of the generator's state.
+    #[tactic(auto, unfolding(crate::specs::Runs::drawn_run, crate::specs::Runs::state_after))]
     pub fn run(&mut self, alloc: Global) -> Result<DrawnRun, NoMemory>
         ensures run { IfOk result (λ run. run ≡ drawn_run self.old) }
         ensures state { OnOk result (self.new ≡ state_after self.old) }
         ensures proper { IfOk result IsDrawn }
-    {
-        self.draw_run(alloc)
-    }
-
-    /// Draws the image, then the drive, then the fault.
-    #[tactic(auto, unfolding(crate::specs::Runs::drawn_run, crate::specs::Runs::state_after))]
-    fn draw_run(&mut self, alloc: Global) -> Result<DrawnRun, NoMemory>
-        ensures run { IfOk result (λ run. run ≡ drawn_run self.old) }
-        ensures state { OnOk result (self.new ≡ state_after self.old) }
     {
         let kind = self.below(4);
         let image = self.image(alloc, kind)?;

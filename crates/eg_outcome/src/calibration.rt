@@ -56,10 +56,11 @@ fn calibration_of<S: Store>(
 }
 
 /// The calibration that these bytes of a file say, or how the call ends without one.
+#[tactic(auto, unfolding(crate::specs::Calibrations::calibration_said))]
 fn calibration_in(alloc: Global, bytes: &[u8]) -> Result<Calibration, Outcome>
     ensures { Says calibration_or_refusal bytes.now result }
 {
-    hand_on(calibration_said(alloc, bytes))
+    hand_on(read_calibration(alloc, bytes))
 }
 
 /// What a reader of a calibration file says, with a fault as how the call ends: Memory comes only where the
@@ -72,12 +73,4 @@ pub fn hand_on<T>(said: Result<T, CalFault>) -> Result<T, Outcome>
         Err(CalFault::Memory) => Err(Outcome::Memory),
         Err(fault) => Err(Outcome::Refused(Refusal::Calibration(fault))),
     }
-}
-
-/// The calibration that the bytes of a file say, or why they are refused.
-#[tactic(auto, unfolding(crate::specs::Calibrations::calibration_said))]
-fn calibration_said(alloc: Global, bytes: &[u8]) -> Result<Calibration, CalFault>
-    ensures { IsRead Memory (calibration_said bytes.now) result }
-{
-    read_calibration(alloc, bytes)
 }

@@ -15,7 +15,7 @@ pub enum Role {
     Calibration,
     /// The file of `check`.
     Check,
-    /// The campaign file of `run`, `table`, `record` or `sweep`.
+    /// The campaign file of `run`, `table`, `margins`, `record` or `sweep`.
     Campaign,
     /// The drive trace of a run of the campaign, the first being 1.
     Trace { run: u32 },

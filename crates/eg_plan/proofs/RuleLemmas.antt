@@ -11,7 +11,7 @@ use Rattle.toml.specs.Data.{Data, array, table, Members, Items, no_items, item, 
 use Rattle.eg_toml.specs.Values.{◌>>=◌}
 use Rattle.eg_toml.specs.Arrays.{count}
 use Rattle.eg_toml.specs.Names.{all_names, is_among}
-use Rattle.eg_toml.specs.Refusals.{unless_some, unless_true, IsRead, seen}
+use Rattle.eg_toml.specs.Refusals.{unless_some, unless_true, Reads, seen}
 use Rattle.eg_toml.specs.Held.{MayHoldValue, items_of, array_of, IsBetween, AreMany}
 use Rattle.eg_toml.proofs.RefusalLemmas.{or-none, none-or, first_of-none, unless_true-none, unless-ok}
 use Rattle.eg_toml.proofs.HeldLemmas.{unless_some-none, kept, number-exact, number-up, numbers-exact, as_table-is, as_array-is, items_of-count}
@@ -33,7 +33,7 @@ use Rattle.eg_plan.specs.Checks.{key_refusal, keys_refusal}
 use Rattle.eg_plan.specs.Classes.{class_in, own_keys, class_of}
 use Rattle.eg_plan.specs.Faults.{class_at, fault_refusal, fault_of, names_with, has_own_names}
 use Rattle.eg_plan.specs.Runs.{all_items, is_table, are_tables, is_one_at_most, array_refusal, faults_refusal, fault_table, table_refusal, run_names, table_is_known, is_all_known, run_of, has_name, run_refusal}
-use Rattle.eg_plan.specs.Campaign.{runs_of, runs_refusal, run_items, are_runs, is_top_known, refusal_of, campaign_of}
+use Rattle.eg_plan.specs.Campaign.{runs_of, runs_refusal, run_items, are_runs, is_top_known, refusal_of}
 use Rattle.eg_plan.specs.Rules.{IsRunPlan, AreRuns}
 use Rattle.eg_plan.specs.Accepted.{Holds, IsHeld, IsFaultTable, IsRunTable, AreRunTables, KeepsRules, AcceptedLaw, RunsLaw}
 use Rattle.eg_plan.proofs.HeldLemmas.{content-held, may-kept, name-kept, file-kept, slices-exact, usual-kept, shift-exact, ticks-exact, truths-exact}
@@ -377,7 +377,7 @@ runs_law (Some ms) runs e =
     subst AreRuns (sym (same ∙ ap runs_of (items-are ms keeps) ∙ runs_of-tables keeps.runs.value)) (runs-plain keeps.runs.value keeps.runs.keeps)
 
 -- so what was read keeps them, whatever holds the list of runs
-pub read-keeps : {B : Type 0} (items : B → List RunPlan) (document : Option Members) (result : Result B CampaignFault)
-    → IsRead Memory (campaign_of document) (seen items result) → IfOk result (λ runs. AreRuns (items runs))
-read-keeps items document (Ok runs) e = runs_law document (items runs) e
-read-keeps items document (Err f) e = tt
+pub read-keeps : {B : Type 0} (items : B → List RunPlan) (ms : Members) (result : Result B CampaignFault)
+    → Reads Memory (refusal_of ms) (runs_of (run_items ms)) (seen items result) → IfOk result (λ runs. AreRuns (items runs))
+read-keeps items ms (Ok runs) (none, same) = runs_law (Some ms) (items runs) (rw none (ap Ok (sym same)))
+read-keeps items ms (Err f) e = tt

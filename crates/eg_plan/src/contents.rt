@@ -131,12 +131,6 @@ fn ticks_in(value: &Value) -> Option<Script>
 fn is_rising(numbers: &[u16]) -> bool
     ensures { result ≡ is_rising numbers.now }
 {
-    are_rising(numbers)
-}
-
-fn are_rising(numbers: &[u16]) -> bool
-    ensures { IsTrue result ↔ IsStrictlyIncreasing numbers.now }
-{
     numbers.windows(2).all(|pair| pair[0] < pair[1])
 }
 

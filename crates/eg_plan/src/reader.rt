@@ -26,14 +26,6 @@ pub fn read_campaign(alloc: Global, bytes: &[u8]) -> Result<Vec<RunPlan>, Campai
     // A document that weighs too much isn't read, and counts as one for which there is no memory.
     ensures heavy { is_too_heavy bytes.now ≡ true → result ≡ Err Memory }
 {
-    campaign_of(alloc, bytes)
-}
-
-/// The runs that these bytes say, or the first rule that they break.
-fn campaign_of(alloc: Global, bytes: &[u8]) -> Result<Vec<RunPlan>, CampaignFault>
-    ensures read { IsRead Memory (campaign_of (document_of bytes.now)) (seen (λ runs. runs.items) result) }
-    ensures heavy { is_too_heavy bytes.now ≡ true → result ≡ Err Memory }
-{
     let root = read_document(alloc, bytes)?;
     campaign_in(alloc, &root)
 }
