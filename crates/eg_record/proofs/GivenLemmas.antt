@@ -33,7 +33,7 @@ Contains-cons_cases x xs y (suc k, below, same) = inr (k, (omega arith), same)
 
 -- ---- nothing is given ----
 
-option_or-none : {X : Type 0} (o p : Option X) → option_or o p ≡ None → (o ≡ None) × (p ≡ None)
+pub option_or-none : {X : Type 0} (o p : Option X) → option_or o p ≡ None → (o ≡ None) × (p ≡ None)
 option_or-none None p none = (refl, none)
 option_or-none (Some x) p none = absurd (none-some x (sym none))
 

@@ -2,13 +2,15 @@
 use Rattle.std.proofs.Common.{◌≡◌, ◌∙◌, ◌<◌, ◌⊎◌, ◌&&◌, not, inl, inr, List, [], ◌∷◌, ℕ, Bool, true, false, None, Some, refl, sym, ap, ap₂, subst}
 use Rattle.std.specs.Prelude.{Option, IsTrue, option_map, if◌then◌else◌}
 use Rattle.std.proofs.lemmas.List.Elements.{All-weaker, All-head, All-tail}
-use Rattle.std.proofs.lemmas.Bool.{false_from_ne_true, both_ways}
+use Rattle.std.proofs.lemmas.Bool.{false_from_ne_true, both_ways, false≢true}
 use Rattle.std.proofs.lemmas.Option.{none-some, same_Some, some_pair_parts}
 use Rattle.eg_record.specs.declared.row.Row.{Row}
+use Rattle.eg_num.specs.declared.watches.Watches.{Watches}
 use Rattle.eg_record.specs.declared.watch.Watch.{Watch}
+use Rattle.eg_record.specs.declared.watch.Watch.TheVariants.{Mirror, Pedal, Plate, Load, Speed, Torque, Answers, Start}
 use Rattle.std.specs.List.{All}
 use Rattle.eg_record.specs.Rows.{first_given}
-use Rattle.eg_record.specs.Detection.{is_found, first_watch, detected_at, first_detection, FindsNothing, IsDetectedFirst, DetectionLaw}
+use Rattle.eg_record.specs.Detection.{is_found, first_watch, detected_at, first_detection, cutting, cutting_at, FindsNothing, IsDetectedFirst, DetectionLaw}
 use Rattle.eg_record.specs.Stages.{is_off, off_at, first_off, IsOnOrTested, IsOffFirst, OffLaw}
 use Rattle.eg_record.proofs.FirstLemmas.{off_at-none, off_at-off, detected_at-none, detected_at-found}
 use Rattle.eg_record.proofs.WatchLemmas.{first_watch-some, first_watch-none, first_watch-nothing, first_watch-is}
@@ -71,6 +73,21 @@ detection_law rows whole (Some d) = (
   λ first. sym (first_given-some detected_at rows d whole (given_detection rows d.0 d.1 first)),
   λ first. detection_given rows d.0 d.1 (given_first detected_at rows d whole (sym first)),
 )
+
+-- where nothing is detected at a row, no watch that cuts is found there
+pub nothing_cuts : (row : Row) → detected_at row ≡ None → detected_at (cutting_at row) ≡ None
+unfolding cutting_at is_found cutting
+nothing_cuts row none = nothing_detected (cutting_at row) (λ w found. finds_nothing row none w (is_cutting row.found w found))
+  where
+    is_cutting : (found : Watches) (w : Watch) → is_found (cutting found) w ≡ true → is_found found w ≡ true
+    is_cutting found Mirror is = is
+    is_cutting found Pedal is = absurd (false≢true is)
+    is_cutting found Plate is = is
+    is_cutting found Load is = is
+    is_cutting found Speed is = is
+    is_cutting found Torque is = is
+    is_cutting found Answers is = is
+    is_cutting found Start is = absurd (false≢true is)
 
 -- a watch that is found at no row isn't the first
 pub first_detection-never : (rows : List Row) (w : Watch) → All (λ row. is_found row.found w ≡ false) rows → (tick : ℕ) → first_detection rows ≡ Some (w, tick) → ⊥

@@ -10,6 +10,9 @@ pub mod LawLemmas
 pub mod LastOnLemmas
 pub mod FactLemmas
 pub mod ReactionLemmas
+pub mod StretchLemmas
 pub mod TallyLemmas
+pub mod MarginLemmas
 mod Worked
+mod MarginsWorked
 pub mod AsciiLemmas

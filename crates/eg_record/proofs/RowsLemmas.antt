@@ -49,7 +49,7 @@ AreRows-tick rows i row stands below whole =
 
 -- ---- what the first row gives ----
 
-option_or-None : {X : Type 0} (o : Option X) → option_or o None ≡ o
+pub option_or-None : {X : Type 0} (o : Option X) → option_or o None ≡ o
 option_or-None None = refl
 option_or-None (Some x) = refl
 

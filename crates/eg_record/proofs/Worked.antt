@@ -4,7 +4,7 @@ use Rattle.std.specs.Prelude.{Option, ◌+◌, ◌==◌, length, count_by}
 use Rattle.std.specs.Fmt.{digits}
 use Rattle.eg_num.specs.Drive.{driven}
 use Rattle.eg_num.specs.declared.watches.Watches.{Watches}
-use Rattle.eg_num.specs.Windows.{WeightParts, weight, windows, is_reached, is_confirmed}
+use Rattle.eg_num.specs.Windows.{WeightParts, weight, windows, is_reached, is_confirmed, greatest_of}
 use Rattle.eg_torque.specs.Excess.{is_excess}
 use Rattle.eg_answer.specs.declared.marks.AnswerMark.TheVariants.{Absent, Good, Bad}
 use Rattle.eg_answer.specs.declared.marks.Verdict.TheVariants.{Right, Wrong}
@@ -14,12 +14,12 @@ use Rattle.eg_record.specs.declared.facts.Facts.{Facts}
 use Rattle.eg_record.specs.declared.row.Row.{Row}
 use Rattle.eg_record.specs.declared.summary.Summary.{Summary}
 use Rattle.eg_record.specs.declared.watch.Watch.{Watch}
-use Rattle.eg_record.specs.declared.watch.Watch.TheVariants.{Mirror, Pedal, Torque, Start}
+use Rattle.eg_record.specs.declared.watch.Watch.TheVariants.{Mirror, Pedal, Load, Torque, Start}
 use Rattle.eg_record.specs.Rows.{first_given}
-use Rattle.eg_record.specs.Spans.{this_span, IsDriveSpan, IsTestSpan}
+use Rattle.eg_record.specs.Spans.{this_span, in_last, spans_of, IsDriveSpan, IsTestSpan}
 use Rattle.eg_record.proofs.SpanLemmas.{drive_span-begins, drive_span-goes_on, test_span-begins, test_span-goes_on}
-use Rattle.eg_record.specs.Excess.{true_excess, full_excess, is_excess_confirmed, first_confirmed}
-use Rattle.eg_record.specs.Detection.{is_found, is_watch, rank, first_watch, detected_at, first_detection}
+use Rattle.eg_record.specs.Excess.{true_excess, full_excess, is_excess_confirmed, first_confirmed, lasting, longest_in, stretch_of, above, peak_of}
+use Rattle.eg_record.specs.Detection.{is_found, is_watch, rank, first_watch, detected_at, first_detection, cutting, cutting_at, first_cut}
 use Rattle.eg_record.specs.Stages.{is_off, off_at, first_off, last_on}
 use Rattle.eg_record.specs.Facts.{facts_of, off_from, reaction_in}
 use Rattle.eg_record.specs.Summaries.{summary_of}
@@ -28,7 +28,9 @@ use Rattle.eg_record.specs.Texts.{comma, bit, watch_name, names, found_text, ans
 -- every definition that these need
 unfoldable recording : ℕ
 unfolding weight windows is_reached is_confirmed is_excess first_given true_excess full_excess this_span
-    is_excess_confirmed first_confirmed is_found is_watch rank first_watch detected_at first_detection is_off off_at first_off last_on facts_of off_from reaction_in summary_of bit watch_name names found_text answer_text
+    is_excess_confirmed first_confirmed in_last spans_of lasting longest_in stretch_of above peak_of greatest_of
+    is_found is_watch rank first_watch detected_at first_detection cutting cutting_at first_cut is_off off_at
+    first_off last_on facts_of off_from reaction_in summary_of bit watch_name names found_text answer_text
     verdict_text drive_columns engine_columns path_columns signal_columns command_columns value_columns event_columns columns row_line
     record_header at_text first_text trap_name trap_text summary_line report_end digits
 recording = 0
@@ -217,7 +219,16 @@ on_again =
     fallen 10 ∷ fallen 9 ∷ record (exceeding 8) { found = record nothing { torque = true } } ∷ exceeding 7 ∷ exceeding 6 ∷ exceeding 5 ∷ exceeding 4 ∷ exceeding 3
     ∷ fallen 2 ∷ record (rising 1) { found = record nothing { pedal = true } } ∷ rising 0 ∷ []
 
-facts_on_again : facts_of torque_weights 200 on_again ≡ record { first = Some (Pedal, 1); off = Some 2; last_on = Some 8; confirmed = Some 7; ticks = 11 }
+facts_on_again : facts_of torque_weights 200 on_again ≡ record {
+  first = Some (Pedal, 1);
+  cut = Some (Torque, 8);
+  off = Some 2;
+  last_on = Some 8;
+  confirmed = Some 7;
+  stretch = 6;
+  peak = 100;
+  ticks = 11;
+}
 unfolding recording
 facts_on_again = refl
 
@@ -226,15 +237,56 @@ abbrev across : List Row
 across =
     exceeding 9 ∷ exceeding 8 ∷ exceeding 7 ∷ record (exceeding 6) { fresh = true } ∷ tested 5 ∷ record (tested 4) { fresh = true } ∷ four
 
-facts_across : (facts_of torque_weights 200 (tested 5 ∷ record (tested 4) { fresh = true } ∷ four) ≡ record { first = None; off = None; last_on = Some 3; confirmed = None; ticks = 6 })
-    × (facts_of torque_weights 200 across ≡ record { first = None; off = None; last_on = Some 9; confirmed = None; ticks = 10 })
-    × (facts_of torque_weights 200 (exceeding 10 ∷ across) ≡ record { first = None; off = None; last_on = Some 10; confirmed = Some 10; ticks = 11 })
+abbrev undetected : (last_on confirmed : Option ℕ) (stretch ticks : ℕ) → Facts
+undetected last_on confirmed stretch ticks = record {
+  first = None;
+  cut = None;
+  off = None;
+  last_on = last_on;
+  confirmed = confirmed;
+  stretch = stretch;
+  peak = 100;
+  ticks = ticks;
+}
+
+facts_across : (facts_of torque_weights 200 (tested 5 ∷ record (tested 4) { fresh = true } ∷ four) ≡ undetected (Some 3) None 4 6)
+    × (facts_of torque_weights 200 across ≡ undetected (Some 9) None 4 10)
+    × (facts_of torque_weights 200 (exceeding 10 ∷ across) ≡ undetected (Some 10) (Some 10) 5 11)
 unfolding recording
 facts_across = (refl, refl, refl)
 
-facts_of_none : facts_of torque_weights 200 [] ≡ record { first = None; off = None; last_on = None; confirmed = None; ticks = 0 }
+facts_of_none : facts_of torque_weights 200 [] ≡ record { first = None; cut = None; off = None; last_on = None; confirmed = None; stretch = 0; peak = 0; ticks = 0 }
 unfolding recording
 facts_of_none = refl
+
+-- an excess of four ticks and one of two, with a tie between them
+abbrev two_stretches : List Row
+two_stretches =
+    exceeding 6 ∷ record (exceeding 5) { torque = 601; limit = 400 } ∷ record (exceeding 4) { torque = 400 } ∷ four
+
+longer_stretch : (stretch_of 200 two_stretches ≡ 4) × (lasting 200 two_stretches ≡ 2) × (peak_of 200 two_stretches ≡ 100)
+unfolding recording
+longer_stretch = (refl, refl, refl)
+
+-- across two spans: four ticks and four; within one six
+stretches_by_span : (stretch_of 200 four_and_four ≡ 4) × (longest_in 200 four_and_four ≡ 8) × (stretch_of 200 (exceeding 5 ∷ exceeding 4 ∷ four) ≡ 6)
+unfolding recording
+stretches_by_span = (refl, refl, refl)
+
+-- the peak is what lies above permitted torque and threshold, at whichever tick; a tie is none
+peaks : (peak_of 200 (exceeding 2 ∷ record (exceeding 1) { torque = 701 } ∷ exceeding 0 ∷ []) ≡ 301)
+    × (peak_of 200 (record (exceeding 0) { torque = 400 } ∷ []) ≡ 0) × (peak_of 200 (record (exceeding 0) { torque = 401 } ∷ []) ≡ 1)
+unfolding recording
+peaks = (refl, refl, refl)
+
+-- neither the pedal nor a start-up test cuts; each of the others does
+abbrev finds : (tick : ℕ) → Watches → Row
+finds tick found = record (rising tick) { found = found }
+
+no_cuts : (first_cut (finds 1 (record nothing { start = true }) ∷ finds 0 (record nothing { pedal = true }) ∷ []) ≡ None)
+    × (first_cut (finds 1 (record nothing { pedal = true; load = true; answers = true }) ∷ finds 0 (record nothing { pedal = true }) ∷ []) ≡ Some (Load, 1))
+unfolding recording
+no_cuts = (refl, refl)
 
 one_watch : (is_watch Pedal (Some Pedal) ≡ true) × (is_watch Pedal (Some Mirror) ≡ false) × (is_watch Pedal None ≡ false)
 unfolding recording
@@ -244,7 +296,7 @@ one_watch = (refl, refl, refl)
 
 -- the facts of a run of 2,000 ticks that has a reaction only if these two ticks give it one
 abbrev long_run : (confirmed last_on : Option ℕ) → Facts
-long_run confirmed last_on = record { first = None; off = None; last_on = last_on; confirmed = confirmed; ticks = 2000 }
+long_run confirmed last_on = record { first = None; cut = None; off = None; last_on = last_on; confirmed = confirmed; stretch = 0; peak = 0; ticks = 2000 }
 
 -- on up to tick 14: they are off for good 5 ticks after the excess is confirmed
 some_ticks : reaction_in (long_run (Some 10) (Some 14)) ≡ Some 5

@@ -1,6 +1,6 @@
 -- The first detection of a run is the least tick at which a watch is found, with the first watch in their
--- order that is found at it.
-use Rattle.std.specs.Prelude.{◌≡◌, ◌↔◌, ℕ, ◌<◌, ◌==◌, Bool, false, IsTrue, List, [], ◌∷◌, Option, Some, None, option_map}
+-- order that is found at it. The first cut is the same among the watches that cut.
+use Rattle.std.specs.Prelude.{◌≡◌, ◌↔◌, ℕ, ◌<◌, ◌==◌, Bool, false, ◌||◌, IsTrue, List, [], ◌∷◌, map, Option, Some, None, option_map}
 use Rattle.std.specs.List.{All, Contains, find}
 use Rattle.eg_num.specs.declared.watches.Watches.{Watches}
 use Rattle.eg_record.specs.declared.row.Row.{Row}
@@ -34,6 +34,22 @@ detected_at row = option_map (λ watch. (watch, row.tick)) (first_watch row.foun
 -- the first detection, or none
 unfoldable pub first_detection : List Row → Option (Watch × ℕ)
 first_detection rows = first_given detected_at rows
+
+-- of these watches those that cut: all but those of the pedal and of a start-up test
+unfoldable pub cutting : Watches → Watches
+cutting found = record found { pedal = false; start = false }
+
+-- one of these watches trips: level 2 opens path 1 by itself. All that cut do but that of the answers.
+unfoldable pub is_trip : Watches → Bool
+is_trip found = found.mirror || found.plate || found.load || found.speed || found.torque
+
+-- a row with the watches that cut alone
+unfoldable pub cutting_at : Row → Row
+cutting_at row = record row { found = cutting row.found }
+
+-- the first detection among the watches that cut, or none
+unfoldable pub first_cut : List Row → Option (Watch × ℕ)
+first_cut rows = first_detection (map cutting_at rows)
 
 -- ---- the same in words ----
 

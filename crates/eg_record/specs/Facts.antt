@@ -1,22 +1,26 @@
--- The facts of a run are its first detection, first tick off, last tick on, first confirmed true excess, and
--- how many ticks it has. They are what is told of its rows once they are gone.
+-- The facts of a run are its first detection, first cut, first tick off, last tick on, first confirmed true
+-- excess, longest stretch of excess, its peak, and how many ticks it has. They are what is told of its rows
+-- once they are gone.
 use Rattle.std.specs.Prelude.{ℕ, ◌+◌, ◌-◌, nat_lt, List, length, Option, Some, None, option_map, if◌then◌else◌}
 use Rattle.eg_num.specs.Windows.{WeightParts}
 use Rattle.eg_word.specs.declared.registers.Trap.{Trap}
 use Rattle.eg_record.specs.declared.row.Row.{Row}
 use Rattle.eg_record.specs.declared.facts.Facts.{Facts}
 use Rattle.eg_record.specs.declared.summary.Summary.{Summary}
-use Rattle.eg_record.specs.Detection.{first_detection}
-use Rattle.eg_record.specs.Excess.{first_confirmed}
+use Rattle.eg_record.specs.Detection.{first_detection, first_cut}
+use Rattle.eg_record.specs.Excess.{first_confirmed, stretch_of, peak_of}
 use Rattle.eg_record.specs.Stages.{first_off, last_on}
 
 -- the facts of these rows, where the true excess uses these weights and this threshold
 unfoldable pub facts_of : WeightParts → (threshold : ℕ) → List Row → Facts
 facts_of weights threshold rows = record {
   first = first_detection rows;
+  cut = first_cut rows;
   off = first_off rows;
   last_on = last_on rows;
   confirmed = first_confirmed weights threshold rows;
+  stretch = stretch_of threshold rows;
+  peak = peak_of threshold rows;
   ticks = length rows;
 }
 

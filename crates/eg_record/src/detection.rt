@@ -1,12 +1,13 @@
 // What is first in the rows of a run.
-ghost use Rattle.std.specs.Prelude.{◌≡◌, reverse, if◌then◌else◌};
+ghost use Rattle.std.specs.Prelude.{◌≡◌, ◌<◌, reverse, if◌then◌else◌};
 ghost use Rattle.eg_record.specs.Rows.{AreRows};
-ghost use Rattle.eg_record.specs.Detection.{first_detection, DetectionLaw};
+ghost use Rattle.eg_record.specs.Detection.{cutting, first_detection, is_trip, DetectionLaw};
 ghost use Rattle.eg_record.specs.Stages.{is_off, first_off, OffLaw, LastOnLaw};
-ghost use Rattle.eg_record.specs.Excess.{true_excess, first_confirmed};
+ghost use Rattle.eg_record.specs.Excess.{above, true_excess, first_confirmed};
+ghost use Rattle.eg_record.specs.RowMore.{lasts_with};
 
 use crate::{Row, Watch};
-use eg_num::{Counter, Weights};
+use eg_num::{Counter, Watches, Weights};
 use eg_torque::excess;
 
 /// The first detection in these rows, which stand in the order of time.
@@ -92,4 +93,48 @@ pub(crate) fn counter_at(row: &Row, counter: Counter) -> Counter
     ensures { result.value ≡ if row.now.fresh then 0 else counter.value }
 {
     if row.fresh { Counter::new() } else { counter }
+}
+
+/// How many rows in a row have a true excess up to this one, where `lasts` of them had one up to the row
+/// before it. None does where a span begins with this row.
+#[tactic(auto, unfolding(crate::specs::RowMore::lasts_with))]
+pub(crate) fn lasts_at(row: &Row, threshold: u16, lasts: u32) -> u32
+    requires { lasts < 20000 }
+    ensures { result ≡ lasts_with threshold row.now lasts }
+{
+    if !is_excess(row, threshold) {
+        return 0;
+    }
+    let before = if row.fresh { 0 } else { lasts };
+    before + 1
+}
+
+/// How far the torque of a row lies above what is permitted and the threshold together, in tenths of Nm.
+#[tactic(auto, unfolding(crate::specs::Excess::above))]
+pub(crate) fn above(row: &Row, threshold: u16) -> u16
+    ensures { result ≡ above threshold row.now }
+{
+    row.torque
+        .saturating_sub(row.limit)
+        .saturating_sub(threshold)
+}
+
+/// Whether one of these watches trips.
+#[tactic(auto, unfolding(crate::specs::Detection::is_trip))]
+pub(crate) fn is_trip(found: &Watches) -> bool
+    ensures { result ≡ is_trip found.now }
+{
+    found.mirror || found.plate || found.load || found.speed || found.torque
+}
+
+/// Of these watches those that cut.
+#[tactic(auto, unfolding(crate::specs::Detection::cutting))]
+pub(crate) fn cutting(found: &Watches) -> Watches
+    ensures { result ≡ cutting found.now }
+{
+    Watches {
+        pedal: false,
+        start: false,
+        ..*found
+    }
 }

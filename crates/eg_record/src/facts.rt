@@ -1,16 +1,18 @@
 // The facts of a run.
-ghost use Rattle.std.specs.Prelude.{◌≡◌, ℕ, ◌<◌, List, [], IfOk, if◌then◌else◌, Some, None};
+ghost use Rattle.std.specs.Prelude.{◌≡◌, ℕ, ◌<◌, List, [], IfOk, IsFalse, if◌then◌else◌, Some, None};
+ghost use Rattle.std.specs.Prelude.{option_map};
 ghost use Rattle.std.specs.Option.{option_or};
 ghost use Rattle.eg_num.specs.Windows.{WeightParts};
-ghost use Rattle.eg_record.specs.Detection.{detected_at};
+ghost use Rattle.eg_record.specs.Detection.{cutting_at, detected_at, first_watch};
 ghost use Rattle.eg_record.specs.Stages.{off_at};
 ghost use Rattle.eg_record.specs.Facts.{facts_of, reaction_by, reaction_in, summary_with};
 ghost use Rattle.eg_record.specs.RowMore.{facts_with};
 ghost use Rattle.eg_record.specs.Summaries.{summary_of};
 
-use crate::detection::is_off;
+use crate::detection::{above, cutting, is_off};
 use crate::{Row, Summary, Watch};
 use eg_base::{NoMemory, Text};
+use eg_num::Watches;
 use eg_word::Trap;
 use std::alloc::Global;
 
@@ -20,12 +22,20 @@ use std::alloc::Global;
 pub struct Facts {
     /// The first watch that is found, and the tick at which it is, or None.
     pub first: Option<(Watch, u32)>,
+    /// The first watch that cuts (any but the pedal's and a start-up test's) and is found, and its tick, or
+    /// None.
+    pub cut: Option<(Watch, u32)>,
     /// The first tick at which the power stages are off and no start-up test is running, or None.
     pub off: Option<u32>,
     /// The last tick at which the power stages are on, or None.
     pub last_on: Option<u32>,
     /// The first tick at which the true excess is confirmed within its span, or None.
     pub confirmed: Option<u32>,
+    /// The greatest number of ticks in a row with a true excess in one span.
+    pub stretch: u32,
+    /// The most that the torque lies above what is permitted and the threshold together at a tick, in tenths
+    /// of Nm; 0 where there is no true excess.
+    pub peak: u16,
     /// How many rows there are, one a tick.
     pub ticks: u32,
 }
@@ -74,23 +84,30 @@ impl Facts {
     {
         Facts {
             first: None,
+            cut: None,
             off: None,
             last_on: None,
             confirmed: None,
+            stretch: 0,
+            peak: 0,
             ticks: 0,
         }
     }
 
-    /// One row more, at which the true excess is confirmed or isn't.
+    /// One row more, at which the true excess is confirmed or isn't, and up to which `lasts` rows in a row
+    /// have one.
     #[tactic(auto, unfolding(crate::specs::RowMore::facts_with, crate::specs::Stages::off_at))]
-    pub(crate) fn add(&mut self, row: &Row, is_confirmed: bool)
+    pub(crate) fn add(&mut self, row: &Row, threshold: u16, is_confirmed: bool, lasts: u32)
         requires { self.old.ticks < 20000 }
-        ensures { self.new ≡ facts_with row.now is_confirmed self.old }
+        ensures { self.new ≡ facts_with threshold row.now is_confirmed lasts self.old }
     {
-        note_detection(&mut self.first, row);
+        note_detection(&mut self.first, &row.found, row.tick);
+        note_cut(&mut self.cut, row, self.first.is_some());
         note_tick(&mut self.off, row.tick, is_off(row));
         note_on(&mut self.last_on, row);
         note_tick(&mut self.confirmed, row.tick, is_confirmed);
+        self.stretch = self.stretch.max(lasts);
+        self.peak = self.peak.max(above(row, threshold));
         self.ticks += 1;
     }
 }
@@ -109,15 +126,25 @@ pub(crate) fn reaction_by(last_on: Option<u32>, confirmed: Option<u32>, end: u32
     }
 }
 
-/// Notes what is detected at a row, unless something is noted already.
-#[tactic(auto, unfolding(crate::specs::Detection::detected_at))]
-fn note_detection(first: &mut Option<(Watch, u32)>, row: &Row)
-    ensures { first.new ≡ option_or first.old (detected_at row.now) }
+/// Notes what is found at a tick, unless something is noted already.
+fn note_detection(first: &mut Option<(Watch, u32)>, found: &Watches, tick: u32)
+    ensures { first.new ≡ option_or first.old (option_map (λ watch. (watch, tick)) (first_watch found.now)) }
 {
     if first.is_none() {
-        if let Some(watch) = Watch::first_among(&row.found) {
-            *first = Some((watch, row.tick));
+        if let Some(watch) = Watch::first_among(found) {
+            *first = Some((watch, tick));
         }
+    }
+}
+
+/// Notes which watch that cuts is found at a row, unless one is noted already. Where nothing was detected up
+/// to the row, nothing need be looked for.
+fn note_cut(cut: &mut Option<(Watch, u32)>, row: &Row, is_detected: bool)
+    requires { IsFalse is_detected → detected_at row.now ≡ None }
+    ensures { cut.new ≡ option_or cut.old (detected_at (cutting_at row.now)) }
+{
+    if is_detected {
+        note_detection(cut, &cutting(&row.found), row.tick);
     }
 }
 

@@ -5,6 +5,7 @@
 
 mod detection;
 mod facts;
+mod margins;
 mod reactions;
 mod row;
 mod row_line;
@@ -19,6 +20,7 @@ pub use detection::{detections_are_first, off_ticks_are_first, on_ticks_are_last
 pub use eg_answer::{AnswerMark, Verdict};
 pub use eg_num::{Drive, Watches};
 pub use facts::Facts;
+pub use margins::{Counters, MarginTally, Margins};
 pub use reactions::Reactions;
 pub use row::Row;
 pub use row_line::{ROW_ROOM, push_row, record_header, row_text};

@@ -4,7 +4,7 @@ ghost use Rattle.eg_record.specs.Facts.{facts_of};
 ghost use Rattle.eg_record.specs.Reactions.{reactions_of};
 ghost use Rattle.eg_record.specs.Tallies.{IsTallyOf, IsTally};
 
-use crate::detection::{counter_at, is_excess};
+use crate::detection::{counter_at, is_excess, lasts_at};
 use crate::span_tally::SpanTally;
 use crate::{Facts, Reactions, Row};
 use eg_num::{Counter, Weights};
@@ -19,6 +19,7 @@ pub struct Tally {
     weights: Weights,
     facts: Facts,
     counter: Counter,
+    lasts: u32,
     spans: SpanTally,
 }
 
@@ -32,6 +33,7 @@ impl Model for Tally {
       weights = t.weights;
       facts = t.facts;
       value = t.counter.value;
+      lasts = t.lasts;
       spans = t.spans;
     } };
 
@@ -40,6 +42,7 @@ impl Model for Tally {
       weights = t.weights;
       facts = t.facts;
       value = t.counter.value;
+      lasts = t.lasts;
       spans = t.spans;
     }) };
 
@@ -48,6 +51,7 @@ impl Model for Tally {
       weights = p.weights;
       facts = p.facts;
       counter = record { value = p.value };
+      lasts = p.lasts;
       spans = p.spans;
     } };
 }
@@ -68,6 +72,7 @@ impl Tally {
             weights,
             facts: Facts::new(),
             counter: Counter::new(),
+            lasts: 0,
             spans: SpanTally::new(),
         }
     }
@@ -86,7 +91,9 @@ impl Tally {
         let mut counter = counter_at(row, self.counter);
         let is_confirmed = counter.feed(&self.weights, is_excess(row, self.threshold));
         self.counter = counter;
-        self.facts.add(row, is_confirmed);
+        self.lasts = lasts_at(row, self.threshold, self.lasts);
+        self.facts
+            .add(row, self.threshold, is_confirmed, self.lasts);
         self.spans.add(row, is_confirmed);
     }
 

@@ -75,7 +75,16 @@ longest_run = (refl, refl)
 
 -- the facts of a run of 60 ticks
 abbrev told : (first : Option (Watch × ℕ)) → (confirmed last_on : Option ℕ) → Facts
-told first confirmed last_on = record { first = first; off = None; last_on = last_on; confirmed = confirmed; ticks = 60 }
+told first confirmed last_on = record {
+  first = first;
+  cut = None;
+  off = None;
+  last_on = last_on;
+  confirmed = confirmed;
+  stretch = 0;
+  peak = 0;
+  ticks = 60;
+}
 
 greatest_numbers : (greatest_number [] ≡ None) × (greatest_number (0 ∷ []) ≡ Some 0) × (greatest_number (3 ∷ 7 ∷ 5 ∷ []) ≡ Some 7) × (greatest_number (7 ∷ 5 ∷ []) ≡ Some 7)
 unfolding sweeping

@@ -1,4 +1,4 @@
-use Rattle.std.proofs.Common.{◌∙◌, [], ap, arith}
+use Rattle.std.proofs.Common.{◌∙◌, [], refl, ap, arith}
 use Rattle.eg_record.specs.declared.facts.Facts.{Facts}
 use Rattle.eg_record.specs.Tallies.{AreSpansOf}
 use Rattle.eg_record.proofs.ReactionLemmas.{spans-none}
@@ -13,11 +13,12 @@ pub invariant_of-result : goal.invariant_of-result
 invariant_of-result c = record {
   weights = c.limit-limit.ensures.weights;
   within = let zero = c.new-2.ensures in omega arith;
-  some = ([], new_tally c.args.weights c.args.threshold c.new-2.result.value c.new.result c.new-3.result (c.new.ensures c.args.weights c.args.threshold) c.new-2.ensures (none_kept c));
+  few = omega arith;
+  some = ([], new_tally c.args.weights c.args.threshold c.new-2.result.value 0 c.new.result c.new-3.result (c.new.ensures c.args.weights c.args.threshold) c.new-2.ensures refl (none_kept c));
 }
 
 pub returns-clause-ticks : goal.returns-clause-ticks
 returns-clause-ticks c = ap (λ (f : Facts). f.ticks) (c.new.ensures c.args.weights c.args.threshold) ∙ ticks_of c.args.weights c.args.threshold []
 
 pub returns-clause-stands : goal.returns-clause-stands
-returns-clause-stands c = new_tally c.args.weights c.args.threshold c.new-2.result.value c.new.result c.new-3.result (c.new.ensures c.args.weights c.args.threshold) c.new-2.ensures (none_kept c)
+returns-clause-stands c = new_tally c.args.weights c.args.threshold c.new-2.result.value 0 c.new.result c.new-3.result (c.new.ensures c.args.weights c.args.threshold) c.new-2.ensures refl (none_kept c)
