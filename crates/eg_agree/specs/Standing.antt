@@ -1,6 +1,5 @@
--- Outside the headline. What the words of level 2 stand for after a history: its signals, its counters,
--- whether the operation is limited, and whether a trip came. The words that tell of its program flow stand
--- in `Replies`.
+-- What the words of level 2 stand for after a history: its signals, its counters, whether the operation is
+-- limited, and whether a trip came. The words that tell of its program flow stand in `Replies`.
 use Rattle.std.specs.Prelude.{◌≡◌, ℕ, Bool, List, if◌then◌else◌}
 use Rattle.std.specs.List.{list_any}
 use Rattle.eg_num.specs.Windows.{WeightParts}

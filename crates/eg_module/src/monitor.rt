@@ -3,7 +3,7 @@ ghost use Rattle.std.specs.Prelude.{◌≡◌, ◌↔◌, ◌+◌, ◌<◌, ◌�
 ghost use Rattle.std.specs.Prelude.{IfSome, IfNone, IsTrue};
 ghost use Rattle.std.specs.Option.{SomeIff};
 ghost use Rattle.eg_num.specs.Windows.{is_confirmed};
-ghost use Rattle.eg_num.specs.Counting.{fed};
+ghost use Rattle.eg_num.specs.Counting.{counted, fed};
 ghost use Rattle.eg_answer.specs.Periods.{period_of, is_last_tick, is_in_window, asked};
 ghost use Rattle.eg_answer.specs.Periods.{verdict_over, IsAnswered, with_verdict, is_wrong};
 ghost use Rattle.eg_answer.specs.declared.marks.Verdict.{Verdict};
@@ -173,6 +173,16 @@ impl Monitor {
             → result ≡ is_confirmed self.now.times.weights (map is_wrong verdicts) }
     {
         self.counter.value == self.times.weights().limit()
+    }
+
+    /// What the wrong verdicts weigh (docs/CONCEPT.md, "Debouncing"): the limit once they are confirmed, and
+    /// until then the greatest weight of a window of them.
+    pub fn weight(&self) -> u16
+        ensures value { result ≡ self.now.value }
+        ensures verdicts { (verdicts : List Verdict) → HasGiven self.now verdicts
+            → result ≡ counted self.now.times.weights (map is_wrong verdicts) }
+    {
+        self.counter.value
     }
 
     /// The number that is expected to be heard in the period of a tick.

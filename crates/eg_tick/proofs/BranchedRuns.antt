@@ -1,6 +1,7 @@
 -- A controller of a run on the bench, and its branch: where the one has come to in the run without a fault the
 -- other has come to in the run under it.
-use Rattle.std.proofs.Common.{◌≡◌, ◌∙◌, sym, ap, subst, ℕ, length, Option, None}
+use Rattle.std.proofs.Common.{◌≡◌, ◌∙◌, sym, ap, subst, ℕ, Bool, length, Option, None}
+use Rattle.std.specs.Prelude.{if◌then◌else◌}
 use Rattle.eg_fault.specs.declared.class.Fault.{Fault}
 use Rattle.eg_guard.specs.Memory.{ShownMemory}
 use Rattle.eg_record.specs.Facts.{facts_of}
@@ -16,6 +17,8 @@ use Rattle.eg_tick.specs.Kept.{ControllerParts}
 use Rattle.eg_tick.specs.Run.{IsAt}
 use Rattle.eg_record.specs.declared.run_facts.RunFacts.{RunFacts}
 use Rattle.eg_record.specs.Reactions.{reactions_of}
+use Rattle.eg_record.specs.Margins.{margins_of, no_margins}
+use Rattle.eg_tick.specs.Margins.{weighed_of, record_margins}
 use Rattle.eg_tick.specs.Facts.{record_facts, IsToldOf}
 use Rattle.eg_tick.specs.Stands.{Stands}
 use Rattle.eg_tick.proofs.BranchLemmas.{proper_run-under, branch_of, branch_stands}
@@ -36,13 +39,14 @@ module _ {S E : Type 0} (b : BenchEngine S) (come_to : ComeTo S E) (r : Run) (no
       alike = records_branch b r none fault t from
 
   -- and where the fault begins after the run, what the one comes to the other does
-  pub told_under : (is_told : RunFacts) → BeginsFrom (length r.drive) fault → IsToldOf b r is_told →
-      IsToldOf b (record r { setting = under fault r.setting }) is_told
-  unfolding record_facts record_rows record_trap
-  told_under is_told from told = record {
+  pub told_under : (weighed : Bool) (is_told : RunFacts) → BeginsFrom (length r.drive) fault → IsToldOf weighed b r is_told →
+      IsToldOf weighed b (record r { setting = under fault r.setting }) is_told
+  unfolding record_facts record_rows record_trap record_margins
+  told_under weighed is_told from told = record {
     is = told.is ∙ ap (λ past. record {
       facts = facts_of r.setting.cal.rules.torque r.setting.cal.rules.threshold (rows_of past);
       reactions = reactions_of r.setting.cal.rules.torque r.setting.cal.rules.threshold (rows_of past);
+      margins = if weighed then margins_of (weighed_of r.setting.cal past) else no_margins;
       trap = first_trap past;
     }) (sym alike.moments_are);
     proper = subst (IsProperRun (under fault r.setting)) (sym alike.entries_are)

@@ -39,9 +39,12 @@ use Rattle.eg_tick.specs.Weights.{TickCount, weight_of}
 use Rattle.eg_tick.specs.Run.{IsAt}
 use Rattle.eg_record.specs.declared.run_facts.RunFacts.{RunFacts}
 use Rattle.eg_record.specs.Reactions.{reactions_of}
+use Rattle.eg_record.specs.Margins.{margins_of}
 use Rattle.eg_record.specs.Tallies.{TallyParts}
 use Rattle.eg_tick.specs.Facts.{record_facts, IsToldOf, IsWithoutReset, FactsReactWithin, FactsReactAtOnce, GoOffOnce}
+use Rattle.eg_tick.specs.Margins.{weighed_to}
 use Rattle.eg_tick.proofs.RunLemmas.{counted, more-mod}
+use Rattle.eg_tick.proofs.WeighLemmas.{margins_told}
 
 -- ---- the reaction ----
 
@@ -208,39 +211,43 @@ rows-next b r n row is = ap (λ (x : Row). x ∷ rows_to b r n) is ∙ sym (rows
 
 -- ---- the whole run ----
 
--- what is told of the first n rows of a run, where this is its trap
-abbrev pub told_to : {S : Type 0} (b : BenchEngine S) (r : Run) (n : ℕ) (trap : Option (Trap × ℕ)) → RunFacts
-told_to b r n trap = record {
+-- what is told of the first n rows of a run that is weighed or isn't, where this is its trap
+abbrev pub told_to : {S : Type 0} (weighed : Bool) (b : BenchEngine S) (r : Run) (n : ℕ) (trap : Option (Trap × ℕ)) → RunFacts
+told_to weighed b r n trap = record {
   facts = facts_of r.setting.cal.rules.torque r.setting.cal.rules.threshold (rows_to b r n);
   reactions = reactions_of r.setting.cal.rules.torque r.setting.cal.rules.threshold (rows_to b r n);
+  margins = margins_of (weighed_to weighed b r n);
   trap = trap;
 }
 
-pub told : {S E : Type 0} (b : BenchEngine S) (come_to : ComeTo S E) (r : Run) (c : ControllerParts E) (is_told : RunFacts) →
-    IsAt b come_to r (length r.drive) c → is_told ≡ told_to b r (length r.drive) c.kept.trap → IsToldOf b r is_told
+pub told : {S E : Type 0} (weighed : Bool) (b : BenchEngine S) (come_to : ComeTo S E) (r : Run) (c : ControllerParts E) (is_told : RunFacts) →
+    IsAt b come_to r (length r.drive) c → is_told ≡ told_to weighed b r (length r.drive) c.kept.trap → IsToldOf weighed b r is_told
 unfolding record_facts record_trap
-told b come_to r c is_told at are = record {
-  is = are ∙ ap₂ (λ (rows : List Row) (trap : Option (Trap × ℕ)). record {
-    facts = facts_of r.setting.cal.rules.torque r.setting.cal.rules.threshold rows;
-    reactions = reactions_of r.setting.cal.rules.torque r.setting.cal.rules.threshold rows;
-    trap = trap;
-  }) (sym (record_rows-is b r)) (at.stands.trap ∙ ap first_trap (sym (records_are_histories b r (length r.drive))));
+told weighed b come_to r c is_told at are = record {
+  is = are ∙ (λ i. record {
+    facts = facts_of r.setting.cal.rules.torque r.setting.cal.rules.threshold (sym (record_rows-is b r) i);
+    reactions = reactions_of r.setting.cal.rules.torque r.setting.cal.rules.threshold (sym (record_rows-is b r) i);
+    margins = margins_told weighed b r i;
+    trap = (at.stands.trap ∙ ap first_trap (sym (records_are_histories b r (length r.drive)))) i;
+  });
   proper = at.stands.engine.proper;
 }
 
--- what a tally of the first n rows tells, with this trap
-pub tallied : {S : Type 0} (b : BenchEngine S) (r : Run) (n : ℕ) (tally : TallyParts) (is_told : RunFacts) (trap : Option (Trap × ℕ)) →
+-- what tallies of the first n rows tell, with this trap
+pub tallied : {S : Type 0} (weighed : Bool) (b : BenchEngine S) (r : Run) (n : ℕ) (tally : TallyParts) (is_told : RunFacts) (trap : Option (Trap × ℕ)) →
     tally.weights ≡ r.setting.cal.rules.torque → tally.threshold ≡ r.setting.cal.rules.threshold →
     is_told.facts ≡ facts_of tally.weights tally.threshold (rows_to b r n) →
-    is_told.reactions ≡ reactions_of tally.weights tally.threshold (rows_to b r n) → is_told.trap ≡ trap → is_told ≡ told_to b r n trap
-tallied b r n tally is_told trap weights threshold facts reactions is = λ i. record {
+    is_told.reactions ≡ reactions_of tally.weights tally.threshold (rows_to b r n) →
+    is_told.margins ≡ margins_of (weighed_to weighed b r n) → is_told.trap ≡ trap → is_told ≡ told_to weighed b r n trap
+tallied weighed b r n tally is_told trap weights threshold facts reactions margins is = λ i. record {
   facts = (facts ∙ ap₂ (λ w t. facts_of w t (rows_to b r n)) weights threshold) i;
   reactions = (reactions ∙ ap₂ (λ w t. reactions_of w t (rows_to b r n)) weights threshold) i;
+  margins = margins i;
   trap = is i;
 }
 
-pub is_run : {S : Type 0} (b : BenchEngine S) (r : Run) (is_told : RunFacts) → IsAccepted r.setting.cal → IsToldOf b r is_told → IsRun r
-is_run b r is_told accepted told = record {
+pub is_run : {S : Type 0} (weighed : Bool) (b : BenchEngine S) (r : Run) (is_told : RunFacts) → IsAccepted r.setting.cal → IsToldOf weighed b r is_told → IsRun r
+is_run weighed b r is_told accepted told = record {
   accepted = accepted;
   drive = drive_keeps b r told.proper;
 }

@@ -11,7 +11,7 @@ use Rattle.eg_tick.specs.Facts.{FactsReactWithin, FactsReactAtOnce, GoOffOnce}
 
 -- a run of 60 ticks at full throttle, whose stages are off at tick 10 and last on at this one
 abbrev full_until : Option ℕ → Facts
-full_until last = record { first = Some (Torque, 9); off = Some 10; last_on = last; confirmed = Some 9; ticks = 60 }
+full_until last = record { first = Some (Torque, 9); cut = Some (Torque, 9); off = Some 10; last_on = last; confirmed = Some 9; stretch = 5; peak = 500; ticks = 60 }
 
 abbrev from : ℕ → Class → Option Fault
 from onset class = Some (record { onset = onset; class = class })

@@ -1,9 +1,8 @@
 -- Module 0 at the tick at which a word is flipped: it gives all up, and finds that alone.
-use Rattle.std.proofs.Common.{◌≡◌, ◌∙◌, refl, sym, ap, ℕ, ◌<◌, ◌≤◌, Bool, true, false, List}
-use Rattle.std.specs.Prelude.{if◌then◌else◌, is_some, Option, Some, None, Result, Ok, Err, OnOk, IfOk, IfSome}
+use Rattle.std.proofs.Common.{◌≡◌, ◌∙◌, refl, sym, ap, ℕ, Bool, true, false, List}
+use Rattle.std.specs.Prelude.{if◌then◌else◌, is_some, Option, Result, Ok, Err, OnOk, IfOk}
 use Rattle.eg_guard.specs.Memory.{AreWords, SameOutside}
 use Rattle.eg_word.specs.declared.registers.Registers.{Registers}
-use Rattle.eg_fault.specs.Classes.{IsFlip}
 use Rattle.eg_fault.specs.Faults.{effects}
 use Rattle.eg_fault.specs.declared.class.Fault.{Fault}
 use Rattle.eg_level2.specs.declared.step.Step.{Step}
@@ -15,18 +14,6 @@ use Rattle.eg_fault.proofs.ClassLemmas.{faults_check_flips}
 use Rattle.eg_tick.specs.declared.working.Task.{Task}
 use Rattle.eg_tick.specs.Midway.{Work, IsMidway, Meets, step_at}
 use Rattle.eg_tick.proofs.MidwayLemmas.{module-midway}
-
--- ---- what is flipped ----
-
-pub some-word : (flip : Option (ℕ × ℕ)) → IfSome flip IsFlip → IfSome flip (λ flipped. flipped.0 < 32)
-some-word None are = tt
-some-word (Some flipped) are = are.0
-
-pub some-mask : (flip : Option (ℕ × ℕ)) → IfSome flip IsFlip → IfSome flip (λ flipped. 1 ≤ flipped.1)
-some-mask None are = tt
-some-mask (Some flipped) are = are.1
-
--- ---- what module 0 makes of it ----
 
 runs-flipped : {A : Type 0} (ran up : Bool) (gone plain idle : A) → ran ≡ true → up ≡ true → gone ≡ (if ran then (if up then gone else plain) else idle)
 runs-flipped true true gone plain idle r u = refl

@@ -16,6 +16,7 @@ pub mod ReactionLemmas
 pub mod RunLemmas
 pub mod CountLemmas
 pub mod RunLaws
+pub mod WeighLemmas
 pub mod FactLaws
 pub mod TrapLemmas
 pub mod BranchLemmas

@@ -11,6 +11,7 @@ pub mod Advancing
 pub mod Inside
 pub mod Benched
 pub mod Run
+pub mod Margins
 pub mod Facts
 pub use Rattle.eg_answer.specs.Times
 pub use Rattle.eg_fault.specs.Faults

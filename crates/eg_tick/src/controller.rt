@@ -11,6 +11,7 @@ ghost use Rattle.eg_fault.specs.Faults.{IsNoneOrValid};
 ghost use Rattle.eg_tick.specs.Stands.{Stands, IsController};
 ghost use Rattle.eg_tick.specs.Entering.{StaysOrBegins};
 ghost use Rattle.eg_tick.specs.Advancing.{world_before, IsTick, IsTrapped, HoldsOutputs, RowIsUnpowered, RowCutsSharply, RowReactsInTime, RowReactsAtOnce, RowCutsStandingExcess, HistoryHasShortExcess};
+ghost use Rattle.eg_tick.specs.Margins.{counters_in_run};
 ghost use Rattle.eg_tick.specs.Weights.{weight_of};
 
 use crate::Slices;
@@ -20,6 +21,7 @@ use crate::paths::Paths;
 use crate::plant::{readings, step_engine};
 use crate::row::{Beginning, effective, limit, look_up, row};
 use crate::span::{Span, enter};
+use crate::weighing::counters;
 use crate::working::{Level1, Task, work};
 use eg_base::NoMemory;
 use eg_fault::{Fault, held};
@@ -29,7 +31,7 @@ use eg_level2::Level2;
 use eg_module::{Monitor, test_ticks};
 use eg_num::Drive;
 use eg_plant::Engine;
-use eg_record::Row;
+use eg_record::{Counters, Row};
 use eg_values::Calibration;
 use eg_word::{Program, State, Trap};
 use std::marker::Model;
@@ -249,6 +251,15 @@ impl<E: Engine + Drop, M: Guarded + Drop> Controller<E, M> {
             → result ≡ first_trap (moments s h) }
     {
         self.trap
+    }
+
+    /// What the debouncers weigh after the ticks that were made (docs/CONCEPT.md, "Debouncing"): of each span
+    /// anew.
+    pub fn counters(&self) -> Counters
+        ensures { (s : Setting) (h : List Entry) → Stands s self.now.kept h
+            → result ≡ counters_in_run s.cal (moments s h) }
+    {
+        counters(&self.memory, &self.span.monitor)
     }
 }
 

@@ -13,11 +13,12 @@ ghost use Rattle.eg_tick.specs.Run.{run_by};
 ghost use Rattle.eg_tick.specs.Facts.{IsToldOf, IsWithoutReset, FactsReactWithin, FactsReactAtOnce, GoOffOnce};
 
 use crate::bench::{bench_controller, bench_row};
-use crate::{BenchedEngine, SlicePlan, Ticks};
+use crate::{BenchedEngine, SlicePlan, Ticks, weigh};
 use eg_fault::Fault;
+use eg_guard::FlatMemory;
 use eg_num::Drive;
 use eg_plant::GasolineEngine;
-use eg_record::{Facts, RunFacts, Tally};
+use eg_record::{Facts, MarginTally, RunFacts, Tally};
 use eg_values::Calibration;
 use eg_word::Trap;
 
@@ -26,8 +27,8 @@ use eg_word::Trap;
 /// "A run, tick by tick" and "The report of a run"). The ticks are counted in `steps`. It keeps no row, takes
 /// no memory and refuses nothing.
 ///
-/// Facts know no full-efficiency excess, so they can't say at which tick the sharp cut comes, and no stretch
-/// of true excess, so they say nothing of lapses. `run_one` does.
+/// Facts know no full-efficiency excess, so they can't say at which tick the sharp cut comes, and not where
+/// an excess stands, so they say nothing of lapses. `run_one` does.
 pub fn run_facts(
     calibration: &Calibration,
     image: &[u16],
@@ -63,16 +64,16 @@ pub fn run_facts(
 {
     // Called for its clause alone: the calibration is an accepted one.
     let _rules = calibration.rules();
-    let told = bench_facts::<GasolineEngine>(calibration, image, plan, drive, fault, steps);
+    let told = bench_facts::<GasolineEngine, false>(calibration, image, plan, drive, fault, steps);
     (told.facts, told.trap)
 }
 
 /// Runs an engine of either kind, which the caller names by its type, as `run_facts` runs a gasoline engine.
-/// It tells the facts of the run, the reactions in its spans and its trap (docs/CONCEPT.md, "The report of a
-/// run" and "`table`"), keeps no row, takes no memory and refuses nothing. That the facts show a reaction in
-/// time is a clause of `run_facts` alone. Of either engine `eg_model::spans_react_in_time` says it by the
-/// reactions, and the headline by the rows.
-pub fn bench_facts<E: BenchedEngine>(
+/// It tells the facts of the run, the reactions in its spans, its trap, and, where it is `WEIGHED`, how near
+/// it came to a cut (docs/CONCEPT.md, "The report of a run", "`table`" and "`margins`"), keeps no row, takes
+/// no memory and refuses nothing. That the facts show a reaction in time is a clause of `run_facts` alone. Of
+/// either engine `eg_model::spans_react_in_time` says it by the reactions, and the headline by the rows.
+pub fn bench_facts<E: BenchedEngine, const WEIGHED: bool>(
     calibration: &Calibration,
     image: &[u16],
     plan: &SlicePlan,
@@ -83,7 +84,7 @@ pub fn bench_facts<E: BenchedEngine>(
     requires most { length drive.now ≤ 20000 }
     requires image { length image.now ≤ CODE_END }
     requires fault { IsNoneOrValid (option_copied fault) }
-    ensures told { IsToldOf E.bench
+    ensures told { IsToldOf WEIGHED E.bench
         (run_by calibration.now image.now (option_copied fault.entry) plan.now drive.now) result }
     ensures counted { steps.new ≡ record {
       count = (steps.old.count + length drive.now) % 2 ^ 64;
@@ -95,14 +96,17 @@ pub fn bench_facts<E: BenchedEngine>(
     let _numbers = (steps.count(), steps.sum());
     let rules = calibration.rules();
     let mut tally = Tally::new(rules.threshold, rules.torque);
+    let mut margins = MarginTally::new();
     let mut controller = bench_controller::<E>(calibration, image, fault);
     for tick in 0..drive.len() {
         let row = bench_row(&mut controller, plan, &drive[tick], tick as u32, steps);
         tally.feed(&row);
+        weigh::<E, FlatMemory, WEIGHED>(&mut margins, &row, &controller);
     }
     RunFacts {
         facts: tally.facts(),
         reactions: tally.reactions(),
+        margins: margins.margins(),
         trap: controller.trap(),
     }
 }

@@ -1,10 +1,9 @@
 // The slices of level 1 and the modules of level 2, in turn over one memory.
-ghost use Rattle.std.specs.Prelude.{◌≡◌, ℕ, ◌+◌, ◌<◌, ◌==◌, ◌&&◌, ◌≤◌, List, length, slice_index, false, IsFalse, OnOk, IfOk, IfSome, None};
+ghost use Rattle.std.specs.Prelude.{◌≡◌, ℕ, ◌+◌, ◌<◌, ◌==◌, ◌&&◌, ◌≤◌, List, length, slice_index, false, IsFalse, OnOk, IfOk, None};
 ghost use Rattle.std.specs.Option.{option_copied};
 ghost use Rattle.eg_guard.specs.Memory.{KeepsMemory};
 ghost use Rattle.eg_answer.specs.declared.rules.Rules.{Rules};
 ghost use Rattle.eg_answer.specs.declared.modules.TheConstants.{MODULES};
-ghost use Rattle.eg_answer.specs.declared.words.TheConstants.{STORED_WORDS};
 ghost use Rattle.eg_word.specs.declared.instruction.Instruction.{Instruction};
 ghost use Rattle.eg_word.specs.declared.registers.Registers.{Registers};
 ghost use Rattle.eg_word.specs.Program.{IsProgramOf};
@@ -109,22 +108,12 @@ fn first_module<M: Guarded>(
         → OnOk result (IsReady level2.now.rules program (M.shows memory.new).words) }
     ensures keeps { KeepsMemory (M.shows memory.old) (M.shows memory.new) result }
 {
-    let Some((word, mask)) = scheduled_flip(fault, task.tick) else {
+    let Some((word, mask)) = eg_fault::flip(fault, task.tick) else {
         return module(level2, fault, task, 0, memory);
     };
     flip(memory, word, mask)?;
     // No fault that flips a word leaves module 0 out, or disturbs it.
     level2.module_with_lookup(0, memory, task.local, task.phase, 0, &task.lookup)
-}
-
-/// The word of level 2 that is flipped at a tick, and its bits.
-fn scheduled_flip(fault: Option<&Fault>, tick: u32) -> Option<(u8, u16)>
-    requires fault { IsNoneOrValid (option_copied fault) }
-    ensures flip { result ≡ (effects (option_copied fault.entry) tick).flip }
-    ensures word { IfSome result (λ flipped. flipped.0 < STORED_WORDS) }
-    ensures some { IfSome result (λ flipped. 1 ≤ flipped.1) }
-{
-    eg_fault::flip(fault, tick)
 }
 
 /// The slice of level 1 of that number, and then the module of level 2 of the same number (docs/CONCEPT.md,

@@ -19,6 +19,7 @@ mod plant;
 mod row;
 mod run;
 mod span;
+mod weighing;
 mod working;
 
 pub use bench::{bench_begin, bench_controller, bench_row, bench_tick};
@@ -27,3 +28,4 @@ pub use controller::{Controller, Ticks};
 pub use eg_host::{SlicePlan, Slices};
 pub use facts::{bench_facts, run_facts};
 pub use run::{RunRecord, run_one};
+pub use weighing::weigh;

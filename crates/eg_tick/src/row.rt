@@ -107,7 +107,7 @@ pub(crate) fn limit(lookup: &Lookup, drive: &Drive) -> u16
 
 /// A word of level 2, as it stands in the memory.
 #[tactic(auto, using(crate::proofs::BoardLemmas::board), unfolding(eg_level2::specs::Words::word_at))]
-fn word<M: Guarded>(memory: &M, number: u8) -> u16
+pub(crate) fn word<M: Guarded>(memory: &M, number: u8) -> u16
     requires { number < STORED_WORDS }
     ensures { result ≡ word_at (M.shows memory.now).words number }
 {

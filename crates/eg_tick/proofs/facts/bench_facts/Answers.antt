@@ -1,14 +1,18 @@
-use Rattle.std.proofs.Common.{◌≡◌, ◌∙◌, sym, ap, subst, refl, ◌+◌, ◌<◌, length, arith}
+use Rattle.std.proofs.Common.{◌≡◌, ◌∙◌, sym, ap, subst, refl, ◌+◌, ◌<◌, length, not, arith}
+use Rattle.std.specs.Prelude.{◌==◌}
 use Rattle.std.specs.Option.{option_copied}
 use Rattle.eg_answer.specs.declared.rules.Rules.{Rules}
 use Rattle.eg_record.specs.declared.row.Row.{Row}
 use Rattle.eg_record.specs.Tallies.{IsTallyOf}
+use Rattle.eg_record.specs.Margins.{IsMarginTallyOf}
 use Rattle.eg_model.specs.Bench.{Run, drive_at}
 use Rattle.eg_model.specs.Records.{row_at, rows_to}
 use Rattle.eg_model.proofs.RecordTicks.{no_rows, row_tick, record_rows-is}
 use Rattle.eg_tick.specs.Run.{run_by, IsAt}
+use Rattle.eg_tick.specs.Margins.{weighed_to}
 use Rattle.eg_tick.proofs.RunLemmas.{counted, counted-none, drive-at}
 use Rattle.eg_tick.proofs.FactLaws.{told, told_to, tallied, counted-next, rows-next}
+use Rattle.eg_tick.proofs.WeighLemmas.{none_weighed}
 use Rattle.eg_tick.proofs.facts.bench_facts.Goals as goal
 
 pub loop-tick-init : goal.loop-tick-init
@@ -23,6 +27,7 @@ loop-tick-init g c =
       threshold = c.new-tally.ensures.threshold ∙ ap (λ (rules : Rules). rules.threshold) c.rules-rules.ensures.rules;
       weights = c.new-tally.ensures.weights ∙ ap (λ (rules : Rules). rules.torque) c.rules-rules.ensures.rules;
       stands = subst (IsTallyOf c.new-tally.result) (sym (no_rows bench r)) c.new-tally.ensures.stands;
+      weighs = subst (IsMarginTallyOf c.new-margins.result) (sym (none_weighed (not (g.row.WEIGHED == 0)) bench r)) c.new-margins.ensures;
       counts = counted-none c.args.steps.now (rows_to bench r 0) (no_rows bench r)
           (let e = c.count.ensures in let l = c.count.type_inv in subst (λ n. n < 18446744073709551616) e l)
           (let e = c.sum.ensures in let l = c.sum.type_inv in subst (λ n. n < 18446744073709551616) e l);
@@ -55,6 +60,7 @@ loop-tick-preserved g c =
       threshold = c.feed.ensures.threshold ∙ c.loop-tick.invariant.threshold;
       weights = c.feed.ensures.weights ∙ c.loop-tick.invariant.weights;
       stands = subst (IsTallyOf c.feed.new.self) more (c.feed.ensures.stands (rows_to bench r c.loop-tick.tick) c.loop-tick.invariant.stands);
+      weighs = c.weigh.ensures r c.loop-tick.tick row (c.bench_row-row.ensures.at r refl drive c.loop-tick.invariant.at) c.loop-tick.invariant.weighs;
       counts = counted-next c.args.steps.now c.loop-tick.steps c.bench_row-row.new.steps c.loop-tick.tick (rows_to bench r c.loop-tick.tick) c.bench_row-row.result
           c.loop-tick.invariant.counts c.bench_row-row.ensures.count c.bench_row-row.ensures.weight
           ∙ ap (counted c.args.steps.now (c.loop-tick.tick + 1)) more;
@@ -65,11 +71,12 @@ returns-clause-told g c =
     let bench = g.E.BenchedEngine.bench in
     let r : Run = run_by c.args.calibration.now c.args.image.now (option_copied c.args.fault) c.args.plan.now c.args.drive.now in
     let end : c.loop-tick.tick ≡ length c.args.drive.now = omega (arith, c.loop-tick-test.false, c.loop-tick.auto.tick-end) in
-    told bench g.E.BenchedEngine.come_to r c.loop-tick.controller _ (subst (λ n. IsAt bench g.E.BenchedEngine.come_to r n c.loop-tick.controller) end c.loop-tick.invariant.at)
-    (tallied bench r c.loop-tick.tick c.loop-tick.tally _ _ c.loop-tick.invariant.weights c.loop-tick.invariant.threshold
+    told (not (g.row.WEIGHED == 0)) bench g.E.BenchedEngine.come_to r c.loop-tick.controller _ (subst (λ n. IsAt bench g.E.BenchedEngine.come_to r n c.loop-tick.controller) end c.loop-tick.invariant.at)
+    (tallied (not (g.row.WEIGHED == 0)) bench r c.loop-tick.tick c.loop-tick.tally _ _ c.loop-tick.invariant.weights c.loop-tick.invariant.threshold
     (c.facts.ensures.facts (rows_to bench r c.loop-tick.tick) c.loop-tick.invariant.stands)
-    (c.reactions.ensures.reactions (rows_to bench r c.loop-tick.tick) c.loop-tick.invariant.stands) c.trap.ensures.trap
-    ∙ ap (λ n. told_to bench r n c.loop-tick.controller.kept.trap) end)
+    (c.reactions.ensures.reactions (rows_to bench r c.loop-tick.tick) c.loop-tick.invariant.stands)
+    (c.margins.ensures (weighed_to (not (g.row.WEIGHED == 0)) bench r c.loop-tick.tick) c.loop-tick.invariant.weighs) c.trap.ensures.trap
+    ∙ ap (λ n. told_to (not (g.row.WEIGHED == 0)) bench r n c.loop-tick.controller.kept.trap) end)
 
 pub returns-clause-counted : goal.returns-clause-counted
 returns-clause-counted g c =

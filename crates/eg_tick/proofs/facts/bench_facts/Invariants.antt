@@ -1,13 +1,16 @@
-use Rattle.std.proofs.Common.{◌≡◌, true}
+use Rattle.std.proofs.Common.{◌≡◌, true, not}
+use Rattle.std.specs.Prelude.{◌==◌}
 use Rattle.std.specs.Option.{option_copied}
 use Rattle.eg_record.specs.Tallies.{IsTallyOf}
+use Rattle.eg_record.specs.Margins.{IsMarginTallyOf}
 use Rattle.eg_model.specs.Bench.{Run}
 use Rattle.eg_model.specs.Records.{rows_to}
 use Rattle.eg_tick.specs.Run.{run_by, IsAt}
+use Rattle.eg_tick.specs.Margins.{weighed_to}
 use Rattle.eg_tick.proofs.RunLemmas.{counted}
 use Rattle.eg_tick.proofs.facts.bench_facts.Given as goal
 
--- the controller stands for the ticks so far, the tally for their rows, and they are counted
+-- the controller stands for the ticks so far, the tallies for their rows, and they are counted
 abbrev pub invariant-loop-tick : goal.invariant-loop-tick
 invariant-loop-tick g l =
     let bench = g.E.BenchedEngine.bench in
@@ -20,5 +23,6 @@ invariant-loop-tick g l =
       threshold : l.tally.threshold ≡ r.setting.cal.rules.threshold;
       weights : l.tally.weights ≡ r.setting.cal.rules.torque;
       stands : IsTallyOf l.tally (rows_to bench r l.tick);
+      weighs : IsMarginTallyOf l.margins (weighed_to (not (g.row.WEIGHED == 0)) bench r l.tick);
       counts : l.steps ≡ counted l.fn.steps l.tick (rows_to bench r l.tick);
     }

@@ -1,4 +1,4 @@
-use Rattle.std.proofs.Common.{ap, subst, sym}
+use Rattle.std.proofs.Common.{ap, subst, sym, false}
 use Rattle.eg_record.specs.declared.run_facts.RunFacts.{RunFacts}
 use Rattle.std.specs.Option.{option_copied}
 use Rattle.eg_answer.specs.Times.{reaction_of}
@@ -19,18 +19,18 @@ returns-clause-reacts c = λ listed reset_free.
     let r : Run = run_by c.args.calibration.now c.args.image.now (option_copied c.args.fault) c.args.plan.now c.args.drive.now in
     let told = c.bench_facts-told.ensures.told in
     subst (FactsReactWithin (reaction_of r.setting.cal.times)) (sym (ap (λ (t : RunFacts). t.facts) told.is))
-    (facts_react gasoline_keeps r (is_run gasoline r _ c.rules-rules.ensures.accepted told) reset_free c.requires.some listed)
+    (facts_react gasoline_keeps r (is_run false gasoline r _ c.rules-rules.ensures.accepted told) reset_free c.requires.some listed)
 
 pub returns-clause-at_once : goal.returns-clause-at_once
 returns-clause-at_once c = λ listed reset_free.
     let r : Run = run_by c.args.calibration.now c.args.image.now (option_copied c.args.fault) c.args.plan.now c.args.drive.now in
     let told = c.bench_facts-told.ensures.told in
     subst (FactsReactAtOnce r.setting.fault) (sym (ap (λ (t : RunFacts). t.facts) told.is))
-    (facts_react_at_once gasoline_keeps r (is_run gasoline r _ c.rules-rules.ensures.accepted told) reset_free c.requires.some listed)
+    (facts_react_at_once gasoline_keeps r (is_run false gasoline r _ c.rules-rules.ensures.accepted told) reset_free c.requires.some listed)
 
 pub returns-clause-once : goal.returns-clause-once
 returns-clause-once c = λ none reset_free.
     let r : Run = run_by c.args.calibration.now c.args.image.now (option_copied c.args.fault) c.args.plan.now c.args.drive.now in
     let told = c.bench_facts-told.ensures.told in
     subst GoOffOnce (sym (ap (λ (t : RunFacts). t.facts) told.is))
-    (facts_go_off_once gasoline_keeps r (is_run gasoline r _ c.rules-rules.ensures.accepted told) reset_free c.requires.some gasoline_shows_one_load none)
+    (facts_go_off_once gasoline_keeps r (is_run false gasoline r _ c.rules-rules.ensures.accepted told) reset_free c.requires.some gasoline_shows_one_load none)
