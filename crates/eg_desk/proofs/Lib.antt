@@ -1,4 +1,5 @@
 pub mod AnswersLemmas
 pub mod ExcessLemmas
+pub mod LimitLemmas
 pub mod SourceLemmas
 mod Worked

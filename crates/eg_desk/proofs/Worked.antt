@@ -6,9 +6,19 @@ use Rattle.eg_desk.specs.declared.limit.Limits.{Limits}
 use Rattle.eg_desk.specs.Texts.{number_or_none, limits_text, answer_lines, answers_text}
 
 abbrev some_limits : Limits
-some_limits = record { reaction = 34; lapse = None; verdicts = 3; excess = 5; test = 30; spacing = Some 80 }
+some_limits = record {
+  reaction = 34;
+  lapse = None;
+  verdicts = 3;
+  excess = 5;
+  test = 30;
+  spacing = Some 80;
+  stretch = 38;
+  peak = 2300;
+}
 
-limits_known : limits_text some_limits ≡ codes "reaction 34\nlapse none\nverdicts 3\nexcess 5\ntest 30\nspacing 80\n"
+limits_known : limits_text some_limits
+    ≡ codes "reaction 34\nlapse none\nverdicts 3\nexcess 5\ntest 30\nspacing 80\nstretch 38\npeak 2300\n"
 unfolding digits number_or_none
 limits_known = refl
 

@@ -1,4 +1,4 @@
--- `bound` writes a line for the worst-case reaction and one for the bound for lapses, `limits` these and four
+-- `bound` writes a line for the worst-case reaction and one for the bound for lapses, `limits` these and six
 -- more, and `answers` a line for each question.
 use Rattle.std.specs.Prelude.{ℕ, ◌+◌, List, [], ◌∷◌, ◌++◌, codes, decimal, Option, Some, None}
 use Rattle.eg_answer.specs.declared.questions.Question.{Question}
@@ -15,14 +15,21 @@ bound_text limits =
     (codes "reaction " ++ decimal limits.reaction ++ codes "\n")
     ++ (codes "lapse " ++ number_or_none limits.lapse ++ codes "\n")
 
--- the lines of all limits: those two, and four more
-abbrev pub limits_text : Limits → List ℕ
-limits_text limits =
+-- the lines of what is counted: those two, and four more
+abbrev pub counts_text : Limits → List ℕ
+counts_text limits =
     bound_text limits
     ++ (codes "verdicts " ++ decimal limits.verdicts ++ codes "\n")
     ++ (codes "excess " ++ decimal limits.excess ++ codes "\n")
     ++ (codes "test " ++ decimal limits.test ++ codes "\n")
     ++ (codes "spacing " ++ number_or_none limits.spacing ++ codes "\n")
+
+-- the lines of all limits: those six, and two of how long an excess lasts and how great it is
+abbrev pub limits_text : Limits → List ℕ
+limits_text limits =
+    counts_text limits
+    ++ (codes "stretch " ++ decimal limits.stretch ++ codes "\n")
+    ++ (codes "peak " ++ decimal limits.peak ++ codes "\n")
 
 -- the line of the answer to question n
 abbrev pub answer_line : (n answer : ℕ) → List ℕ

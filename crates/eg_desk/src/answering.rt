@@ -58,18 +58,11 @@ fn questions_of<S: Store>(alloc: Global, file: &str, store: &mut S) -> Result<Qu
 
 /// The questions that these bytes of a calibration file say, each with the right answer, or how the call ends
 /// without them.
+#[tactic(auto, unfolding(crate::specs::Ends::answers_said))]
 fn questions_in(alloc: Global, bytes: &[u8]) -> Result<Questions, Outcome>
     ensures { Says answers_or_refusal bytes.now result }
 {
-    hand_on(answers_said(alloc, bytes))
-}
-
-/// The questions that these bytes say, each with the right answer, or why the bytes are refused.
-#[tactic(auto, unfolding(crate::specs::Ends::answers_said))]
-fn answers_said(alloc: Global, bytes: &[u8]) -> Result<Questions, CalFault>
-    ensures { IsRead Memory (answers_said bytes.now) result }
-{
-    read_answers(alloc, bytes)
+    hand_on(read_answers(alloc, bytes))
 }
 
 /// Puts a line for each question.

@@ -9,6 +9,7 @@ mod answering;
 mod assembling;
 mod checking;
 mod disassembling;
+mod excess;
 mod limit;
 mod monitoring;
 mod telling;

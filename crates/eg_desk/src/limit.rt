@@ -1,6 +1,7 @@
 // What a calibration comes to.
 ghost use Rattle.eg_desk.specs.Limits.{AreLimits};
 
+use crate::excess::{greatest_excess, longest_stretch};
 use eg_answer::{feeds_to_confirm, lapse_bound, miss_spacing, reaction};
 use eg_module::test_ticks;
 use eg_values::Calibration;
@@ -22,9 +23,14 @@ pub struct Limits {
     /// It is the least number of whole periods that is proved to be enough, if there is one; fewer ticks may
     /// be enough.
     pub spacing: Option<u32>,
+    /// How many ticks in a row an excess lasts at the most, without a fault or under a listed one.
+    pub stretch: u32,
+    /// How far the torque of an engine on the bench lies above what is permitted and the threshold together
+    /// at the most, in tenths of Nm; 0 where no excess is possible.
+    pub peak: u16,
 }
 
-/// What a calibration comes to (docs/CONCEPT.md, "Worst-case reaction" and "Lapses").
+/// What a calibration comes to (docs/CONCEPT.md, "Worst-case reaction", "Lapses" and "Why the unit reacts").
 #[tactic(auto, unfolding(eg_answer::specs::Times::feeds_to_confirm))]
 pub fn limits_of(calibration: &Calibration) -> Limits
     ensures { AreLimits calibration.now result }
@@ -38,5 +44,7 @@ pub fn limits_of(calibration: &Calibration) -> Limits
         excess: feeds_to_confirm(torque),
         test: test_ticks(times),
         spacing: miss_spacing(times),
+        stretch: longest_stretch(calibration),
+        peak: greatest_excess(calibration),
     }
 }

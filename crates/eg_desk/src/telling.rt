@@ -5,7 +5,7 @@ ghost use Rattle.eg_outcome.specs.Calibrations.{TellsMissingCalibration};
 ghost use Rattle.eg_outcome.specs.Changes.{change_of};
 ghost use Rattle.eg_outcome.specs.Outcomes.{LineEnds, WorkFollows, TellsNoMemory, PutsNothing};
 ghost use Rattle.eg_desk.specs.Ends.{BoundEnds, LimitsEnd, TellsLimits};
-ghost use Rattle.eg_desk.specs.Texts.{bound_text, limits_text, number_or_none};
+ghost use Rattle.eg_desk.specs.Texts.{bound_text, counts_text, limits_text, number_or_none};
 
 use crate::{Limits, limits_of};
 use eg_base::{NoMemory, Sink, Store};
@@ -101,14 +101,24 @@ fn bound_text(alloc: Global, limits: &Limits) -> Result<String, NoMemory>
     Ok(text)
 }
 
-/// The lines of all limits.
-fn limits_text(alloc: Global, limits: &Limits) -> Result<String, NoMemory>
-    ensures { IfOk result (λ text. string_bytes text ≡ limits_text limits.now) }
+/// The lines of what is counted.
+fn counts_text(alloc: Global, limits: &Limits) -> Result<String, NoMemory>
+    ensures { IfOk result (λ text. string_bytes text ≡ counts_text limits.now) }
 {
     let mut text = bound_text(alloc, limits)?;
     write!(text, "verdicts {}\n", limits.verdicts)?;
     write!(text, "excess {}\ntest {}\n", limits.excess, limits.test)?;
     push_line(&mut text, "spacing ", limits.spacing)?;
+    Ok(text)
+}
+
+/// The lines of all limits.
+fn limits_text(alloc: Global, limits: &Limits) -> Result<String, NoMemory>
+    ensures { IfOk result (λ text. string_bytes text ≡ limits_text limits.now) }
+{
+    let mut text = counts_text(alloc, limits)?;
+    write!(text, "stretch {}\n", limits.stretch)?;
+    write!(text, "peak {}\n", limits.peak)?;
     Ok(text)
 }
 

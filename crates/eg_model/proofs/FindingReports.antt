@@ -41,7 +41,7 @@ first_begins read_back rows turns newer first is =
     ]
 
 -- a row and those before it begin with a span, or its part up to that row
-record SpanOf (row : Row) (older : List Row) : Type 0 where
+pub record SpanOf (row : Row) (older : List Row) : Type 0 where
   pub before : List Row
   pub rest : List Row
   pub is : older ≡ before ++ rest
@@ -69,7 +69,7 @@ longer row other older later s = record {
   };
 }
 
-span_of : (row : Row) (older : List Row) → FirstBegins (row ∷ older) → SpanOf row older
+pub span_of : (row : Row) (older : List Row) → FirstBegins (row ∷ older) → SpanOf row older
 span_of row [] first = alone row [] (first [] row refl)
 span_of row (other ∷ older) first = elim (cases_Bool row.fresh) [
   | inl fresh ↦ alone row (other ∷ older) fresh

@@ -23,7 +23,7 @@ unfolding at_rest
 kept_at_first plant are = record {
   parts = are;
   plate = omega arith;
-  charge = curve_at-most plant.charge 0 are.charges;
+  charge = curve_at-most 1000 plant.charge 0 are.charges;
   torque = omega arith;
 }
 

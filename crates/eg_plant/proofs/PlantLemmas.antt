@@ -33,11 +33,11 @@ value_at-most most (x0 ∷ x1 ∷ xs) value x under =
     choice false true e f rest = lerp-most most x0 (value 0) x1 (value 1) x (let h = leb-false _ _ e in omega arith) (leb-true _ _ f) (under 0) (under 1)
     choice false false e f rest = rest
 
--- the charge of a plate angle is at most 1000
-pub curve_at-most : (c : Curve) (x : ℕ) → All (λ charge. charge ≤ 1000) c.values → curve_at c x ≤ 1000
-curve_at-most c x charges = value_at-most 1000 c.axis (slice_index c.values) x (at c.values charges)
+-- the charge of a plate angle is at most what no charge of the table exceeds
+pub curve_at-most : (most : ℕ) (c : Curve) (x : ℕ) → All (λ charge. charge ≤ most) c.values → curve_at c x ≤ most
+curve_at-most most c x charges = value_at-most most c.axis (slice_index c.values) x (at c.values charges)
   where
-    at : (values : List ℕ) → All (λ charge. charge ≤ 1000) values → (i : ℕ) → slice_index values i ≤ 1000
+    at : (values : List ℕ) → All (λ charge. charge ≤ most) values → (i : ℕ) → slice_index values i ≤ most
     at values charges i = elim (cases_lt i (length values)) [
       | inl within ↦ charges i 0 within
       | inr past ↦ (let nothing = get_or_past values i 0 past in omega arith)
@@ -50,7 +50,7 @@ moved_toward-most most now target step h k = grind (arith, nat_tests)
 -- the charge stays at most 1000
 pub next_charge-most : (p : PlantParts) (plate charge : ℕ) → ArePlantParts p → charge ≤ 1000 → next_charge p plate charge ≤ 1000
 unfolding next_charge
-next_charge-most p plate charge parts h = moved_toward-most 1000 charge _ p.fill h (curve_at-most p.charge plate parts.charges)
+next_charge-most p plate charge parts h = moved_toward-most 1000 charge _ p.fill h (curve_at-most 1000 p.charge plate parts.charges)
 
 -- the torque of a charge isn't more than its estimate
 pub torque_of-covered : (kt charge ignition : ℕ) (on : Bool) → charge ≤ 1000 → kt ≤ 10000 → torque_of kt charge ignition on ≤ estimate kt charge

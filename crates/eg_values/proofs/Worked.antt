@@ -1,7 +1,10 @@
--- Values of the reference calibration between the points of its tables, computed from the definitions.
-use Rattle.std.proofs.Common.{◌≡◌, refl}
+-- Values of the reference calibration between the points of its tables, and how long and how great an excess can be
+-- by it, computed from the definitions.
+use Rattle.std.proofs.Common.{◌≡◌, [], ◌∷◌, refl}
 use Rattle.eg_num.specs.Interpolation.{value_at, curve_at, row_at, grid_at}
-use Rattle.eg_values.specs.Reference.{reference_permit, reference_plant}
+use Rattle.eg_answer.specs.Times.{feeds_to_confirm, reaction_of}
+use Rattle.eg_values.specs.Excess.{ticks_to_confirm, longest_stretch, greatest_torque, least_permitted, greatest_excess}
+use Rattle.eg_values.specs.Reference.{reference_permit, reference_plant, reference_parts}
 
 -- along the speeds first, in each of the two rows, and rounded down there (190.9 and 1018.1)
 row-0 : row_at reference_permit 1000 0 ≡ 190
@@ -21,3 +24,24 @@ between-both = refl
 charge-199 : curve_at reference_plant.charge 199 ≡ 298
 unfolding value_at
 charge-199 = refl
+
+-- ---- how long and how great an excess can be ----
+
+longest : longest_stretch reference_parts ≡ 38
+unfolding longest_stretch ticks_to_confirm feeds_to_confirm reaction_of
+longest = refl
+
+-- the torque of a charge of 1000 is 2500; at 6000 rpm and pedal 0 nothing is permitted, and the threshold is 200
+greatest : greatest_excess reference_parts ≡ 2300
+unfolding greatest_excess greatest_torque least_permitted
+greatest = refl
+
+-- the torque of a charge is rounded down (202.5)
+greatest_torque-81 : greatest_torque (record reference_plant { charge = record { axis = 0 ∷ 1000 ∷ []; values = 81 ∷ 40 ∷ [] } }) ≡ 202
+unfolding greatest_torque
+greatest_torque-81 = refl
+
+-- the least of the first row stands anywhere in it
+least_permitted-30 : least_permitted (record reference_permit { values = 200 ∷ 30 ∷ 50 ∷ 1000 ∷ 1200 ∷ 900 ∷ 2000 ∷ 2400 ∷ 1800 ∷ [] }) ≡ 30
+unfolding least_permitted
+least_permitted-30 = refl

@@ -1,2 +1,3 @@
 pub mod Calibration
+pub mod Excess
 pub mod Reference
