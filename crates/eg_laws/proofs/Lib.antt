@@ -14,4 +14,6 @@ pub mod StretchLaws
 pub mod LongestStretch
 pub mod BurstLaws
 pub mod StretchRows
+pub mod PeakLaws
+pub mod LimitLaws
 pub mod SeenExcess

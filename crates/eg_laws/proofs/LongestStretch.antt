@@ -12,7 +12,8 @@ use Rattle.eg_model.specs.Reaction.{is_at_once}
 use Rattle.eg_model.specs.Lapses.{Exceeds}
 use Rattle.eg_laws.specs.LeastReaction.{CanExceed, giving, quiet, exceeding, last_excess, until_confirmed, closed_setting}
 use Rattle.eg_laws.specs.LeastLapse.{Lasts}
-use Rattle.eg_laws.specs.Stretches.{ticks_to_confirm, longest_stretch, IsStretch, exceeding_after, faultless_setting, ExcessLasts, ExcessLastsUntilConfirmed, StretchIsLeast, StretchAtOnceIsLeast}
+use Rattle.eg_values.specs.Excess.{ticks_to_confirm, longest_stretch}
+use Rattle.eg_laws.specs.Stretches.{IsStretch, exceeding_after, faultless_setting, ExcessLasts, ExcessLastsUntilConfirmed, StretchIsLeast, StretchAtOnceIsLeast}
 use Rattle.eg_model.proofs.LapseRuns.{AllExceed}
 use Rattle.eg_laws.proofs.ExcessTicks.{follows_none, more_exceed, all_plain, all_exceed, loaded_proper, all_go_on, all_words, all_proper, many_positive, size}
 use Rattle.eg_laws.proofs.LeastLaw.{MayFollow, room, last_is, reaction_long, size_whole, goes_on_after, words_after, follows_on, after_proper, listed}

@@ -11,7 +11,8 @@ use Rattle.eg_model.specs.Moments.{moments_of}
 use Rattle.eg_model.specs.Rows.{row_of, rows_of}
 use Rattle.eg_model.specs.Premises.{AreProper, Follows, is_on_after, true_excesses, IsExcessConfirmed}
 use Rattle.eg_model.specs.Reaction.{OffFrom, is_at_once}
-use Rattle.eg_laws.specs.Stretches.{ticks_to_confirm, longest_stretch, IsStretch, StretchesEnd, StretchesEndAtOnce}
+use Rattle.eg_values.specs.Excess.{ticks_to_confirm, longest_stretch}
+use Rattle.eg_laws.specs.Stretches.{IsStretch, StretchesEnd, StretchesEndAtOnce}
 use Rattle.eg_model.proofs.Silence.{TrueRun, run_confirms}
 use Rattle.eg_model.proofs.LapseRuns.{AllExceed}
 use Rattle.eg_model.proofs.LapseWeights.{rounded_up}
@@ -113,8 +114,10 @@ module _ (s : Setting) (accepted : IsAccepted s.cal) where
       let a = some in omega (arith, short, a)
 
 pub stretches_end : StretchesEnd
-stretches_end cal accepted s is listed start stretch before whole = subst (λ c. length stretch ≤ longest_stretch c) is
-    (stretch_ends s (subst IsAccepted (sym is) accepted) listed start stretch before whole)
+stretches_end cal accepted s is listed start stretch before whole =
+    let short = stretch_ends s (subst IsAccepted (sym is) accepted) listed start stretch before whole in
+    let same = ap longest_stretch is in
+    omega (arith, short, same)
 
 pub stretches_end_at_once : StretchesEndAtOnce
 stretches_end_at_once cal accepted s is listed start stretch before soon whole = subst (λ c. length stretch ≤ ticks_to_confirm c) is

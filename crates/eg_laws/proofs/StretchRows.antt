@@ -19,7 +19,8 @@ use Rattle.eg_model.specs.Reaction.{is_at_once}
 use Rattle.eg_model.specs.Lapses.{Exceeds}
 use Rattle.eg_model.specs.Records.{ExceedLast}
 use Rattle.eg_model.specs.Engines.{BenchEngine, KeepsBenchLaws}
-use Rattle.eg_laws.specs.Stretches.{ticks_to_confirm, longest_stretch, IsStretch, AllExcess, RowsEndStretches, RowsEndStretchesAtOnce, RecordsEndStretches, RecordsEndStretchesAtOnce}
+use Rattle.eg_values.specs.Excess.{ticks_to_confirm, longest_stretch}
+use Rattle.eg_laws.specs.Stretches.{IsStretch, AllExcess, RowsEndStretches, RowsEndStretchesAtOnce, RecordsEndStretches, RecordsEndStretchesAtOnce}
 use Rattle.eg_laws.specs.Bursts.{bad_in, most_bad, RowsAreSparse, RecordsAreSparse}
 use Rattle.eg_model.proofs.TickLemmas.{length-moments}
 use Rattle.eg_model.proofs.SpanRows.{follows-end, proper-end, length-rows_after, SpanRows, Split, split, exceed}

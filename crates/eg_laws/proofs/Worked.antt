@@ -1,20 +1,24 @@
 -- The histories that show the two bounds to be the least, computed from the definitions.
-use Rattle.std.proofs.Common.{◌≡◌, ◌∙◌, ℕ, zero, suc, true, false, [], ◌∷◌, ◌++◌, map, replicate, reverse, Some, refl, sym, arith}
+use Rattle.std.proofs.Common.{◌≡◌, ◌∙◌, ℕ, Bool, true, false, ◌&&◌, ◌||◌, ◌==◌, nat_le, List, [], ◌∷◌, ◌++◌, map, replicate, reverse, Some, refl, sym}
+use Rattle.std.proofs.lemmas.Bool.{and_parts, leb-true, eqb-true, true≢false}
+use Rattle.eg_num.specs.Arithmetic.{estimate}
 use Rattle.eg_answer.specs.Times.{feeds_to_confirm, reaction_of, periods_to_confirm}
+use Rattle.eg_values.specs.Calibration.{CalibrationParts, IsAccepted}
 use Rattle.eg_values.specs.Reference.{reference_rules, reference_parts}
 use Rattle.eg_record.specs.Excess.{true_excess, first_confirmed}
 use Rattle.eg_model.specs.Rows.{rows_of}
-use Rattle.eg_fault.specs.Effects.{Effects}
 use Rattle.eg_model.specs.Paths.{both_conduct}
-use Rattle.eg_model.specs.Moments.{moments_of}
+use Rattle.eg_model.specs.History.{Tick}
+use Rattle.eg_model.specs.Moments.{moment, moments_of}
 use Rattle.eg_model.specs.Premises.{AreProper}
 use Rattle.eg_model.proofs.TickLemmas.{parts_of, fields}
 use Rattle.eg_model.proofs.WholeModel.{whole_model}
 use Rattle.eg_laws.specs.LeastReaction.{last_excess}
 use Rattle.eg_laws.specs.LeastLapse.{least_lapse_bound, lapse_onset}
-use Rattle.eg_laws.specs.Stretches.{ticks_to_confirm, longest_stretch, faultless_setting}
+use Rattle.eg_values.specs.Excess.{ticks_to_confirm, longest_stretch}
+use Rattle.eg_laws.specs.Stretches.{faultless_setting}
 use Rattle.eg_laws.specs.Bursts.{most_bad, densest, hasty}
-use Rattle.eg_laws.specs.Examples.{latest_cut, longest_excess, longest_closed, StaysOn, low_loads, left_out, both_closed, closed_and_wild, cut_late, loaded}
+use Rattle.eg_laws.specs.Examples.{latest_cut, longest_excess, longest_closed, StaysOn, Shows, high_pedal, low_loads, low_speeds, braked_parts, unseen_brake, left_out, disturbed_between, both_closed, closed_and_wild, missed_last, cut_late}
 
 -- ---- path 1 is closed right after an excess that is confirmed at the tick after a send tick ----
 
@@ -77,45 +81,102 @@ most_of_hasty = refl
 
 -- ---- several things are out of order ----
 
--- where the stages are on at each of some ticks of excess, what comes in at them is proper
-proper_while_on : (x : Effects) (n : ℕ) →
-    map (λ m. m.on) (moments_of (faultless_setting reference_parts) (replicate n (record { effects = x; entry = loaded }))) ≡ replicate n true →
-    AreProper (faultless_setting reference_parts) (replicate n (record { effects = x; entry = loaded }))
-unfolding AreProper moments_of
-proper_while_on x zero on = tt
-proper_while_on x (suc n) on = (
-  record {
-    drive = (omega arith, omega arith, omega arith);
-    engine = record { position = omega arith; load_1 = omega arith; load_2 = omega arith };
-    no_torque = λ off. absurd (let both : true ≡ false = sym now ∙ off in cc);
-  },
-  proper_while_on x n (parts_of on).1,
-)
+-- whether what comes in at these ticks is proper, by whether the stages are on at each of them
+unfoldable proper_by : ℕ → List Tick → List Bool → Bool
+proper_by kt [] ons = true
+proper_by kt (x ∷ before) [] = false
+proper_by kt (x ∷ before) (on ∷ ons) =
+    (nat_le x.entry.drive.pedal 1000 && (nat_le x.entry.drive.speed 8000 && nat_le x.entry.drive.raise 10000))
+    && ((nat_le x.entry.shown.position 1000
+    && (nat_le x.entry.shown.torque (estimate kt x.entry.shown.load_1) && nat_le x.entry.shown.torque (estimate kt x.entry.shown.load_2)))
+    && ((on || x.entry.shown.torque == 0) && proper_by kt before ons))
+
+proper : (cal : CalibrationParts) (h : List Tick) (ons : List Bool) → map (λ m. m.on) (moments_of (faultless_setting cal) h) ≡ ons → proper_by cal.rules.kt h ons ≡ true
+    → AreProper (faultless_setting cal) h
+unfolding AreProper moments_of proper_by
+proper cal [] ons e is = tt
+proper cal (x ∷ before) [] e is = absurd (true≢false (sym is))
+proper cal (x ∷ before) (on ∷ ons) e is =
+    let (drive, rest) = and_parts _ _ is in
+    let (pedal, drives) = and_parts _ _ drive in
+    let (speed, raise) = and_parts _ _ drives in
+    let (engine, still) = and_parts _ _ rest in
+    let (position, loads) = and_parts _ _ engine in
+    let (load_1, load_2) = and_parts _ _ loads in
+    let (none, others) = and_parts _ _ still in (
+      record {
+        drive = (leb-true _ _ pedal, leb-true _ _ speed, leb-true _ _ raise);
+        engine = record { position = leb-true _ _ position; load_1 = leb-true _ _ load_1; load_2 = leb-true _ _ load_2 };
+        no_torque = λ off. eqb-true _ _ (unless (sym (parts_of e).0 ∙ same ∙ off) none);
+      },
+      proper cal before ons (parts_of e).1 others,
+    )
   where
-    now : both_conduct x (moments_of (faultless_setting reference_parts) (replicate n (record { effects = x; entry = loaded }))) ≡ true
-    now = sym (fields (faultless_setting reference_parts) x loaded _).on ∙ (parts_of on).0
+    unless : {b zero : Bool} → b ≡ false → (b || zero) ≡ true → zero ≡ true
+    unless {b = true} {zero = zero} off either = absurd (true≢false off)
+    unless {b = false} {zero = zero} off either = either
 
-pub low_loads_stay : StaysOn low_loads
-unfolding whole_model
-low_loads_stay = record { proper = proper_while_on low_loads 60 refl; excess = refl; on = refl }
+    same : (moment (faultless_setting cal) x.effects x.entry (moments_of (faultless_setting cal) before)).on
+        ≡ both_conduct x.effects (moments_of (faultless_setting cal) before)
+    same = (fields (faultless_setting cal) x.effects x.entry _).on
 
-pub left_out_stays : StaysOn left_out
-unfolding whole_model
-left_out_stays = record { proper = proper_while_on left_out 60 refl; excess = refl; on = refl }
+-- the stages are on at each of sixty ticks
+stays : (cal : CalibrationParts) (h : List Tick) → proper_by cal.rules.kt h (replicate 60 true) ≡ true
+    → map (true_excess cal.rules.threshold) (rows_of (moments_of (faultless_setting cal) h)) ≡ replicate 60 true
+    → map (λ m. m.on) (moments_of (faultless_setting cal) h) ≡ replicate 60 true → StaysOn cal h
+stays cal h is excess on = record { proper = proper cal h (replicate 60 true) on is; excess = excess; on = on }
 
-pub both_closed_stay : StaysOn both_closed
-unfolding whole_model
-both_closed_stay = record { proper = proper_while_on both_closed 60 refl; excess = refl; on = refl }
+pub high_pedal_stays : StaysOn reference_parts high_pedal
+unfolding whole_model proper_by
+high_pedal_stays = stays reference_parts high_pedal refl refl refl
 
-pub closed_and_wild_stays : StaysOn closed_and_wild
-unfolding whole_model
-closed_and_wild_stays = record { proper = proper_while_on closed_and_wild 60 refl; excess = refl; on = refl }
+pub low_loads_stay : StaysOn reference_parts low_loads
+unfolding whole_model proper_by
+low_loads_stay = stays reference_parts low_loads refl refl refl
 
-pub late-confirmed : first_confirmed reference_rules.torque reference_rules.threshold (rows_of cut_late)
-    ≡ Some 15
-unfolding whole_model
-late-confirmed = refl
+pub low_speeds_stay : StaysOn reference_parts low_speeds
+unfolding whole_model proper_by
+low_speeds_stay = stays reference_parts low_speeds refl refl refl
 
-pub late-stages : map (λ m. m.on) (reverse cut_late) ≡ replicate 50 true ++ false ∷ []
-unfolding whole_model
-late-stages = refl
+pub unseen_brake_stays : StaysOn braked_parts unseen_brake
+unfolding whole_model proper_by
+unseen_brake_stays = stays braked_parts unseen_brake refl refl refl
+
+pub left_out_stays : StaysOn reference_parts left_out
+unfolding whole_model proper_by
+left_out_stays = stays reference_parts left_out refl refl refl
+
+pub disturbed_stays : StaysOn reference_parts disturbed_between
+unfolding whole_model proper_by
+disturbed_stays = stays reference_parts disturbed_between refl refl refl
+
+pub both_closed_stay : StaysOn reference_parts both_closed
+unfolding whole_model proper_by
+both_closed_stay = stays reference_parts both_closed refl refl refl
+
+pub closed_and_wild_stays : StaysOn reference_parts closed_and_wild
+unfolding whole_model proper_by
+closed_and_wild_stays = stays reference_parts closed_and_wild refl refl refl
+
+pub missed_last_shows : Shows missed_last 14 (replicate 51 true)
+unfolding whole_model proper_by
+missed_last_shows = record { proper = proper reference_parts missed_last (replicate 51 true) refl refl; confirms = refl; on = refl }
+
+pub cut_late_shows : Shows cut_late 15 (replicate 50 true ++ false ∷ [])
+unfolding whole_model proper_by
+cut_late_shows = record { proper = proper reference_parts cut_late (false ∷ replicate 50 true) refl refl; confirms = refl; on = refl }
+
+pub braked_accepted : IsAccepted reference_parts → IsAccepted braked_parts
+braked_accepted a = record {
+  grid = a.grid;
+  permit = a.permit;
+  pair = a.pair;
+  torque = a.torque;
+  plant = a.plant;
+  charge = a.charge;
+  times = a.times;
+  answers = a.answers;
+  at_most_64 = a.at_most_64;
+  together = record { one_kt = a.together.one_kt; two_questions = a.together.two_questions; answered = a.together.answered };
+  words = record { seeds = a.words.seeds; values = a.words.values };
+}

@@ -10,8 +10,8 @@ use Rattle.eg_model.specs.Bench.{Run}
 use Rattle.eg_model.specs.Rows.{record_rows}
 use Rattle.eg_model.specs.Records.{IsRun}
 
--- The most of n feeds in a row that can be bad while the limit isn't reached: what they add, `up` each, is
--- less than the limit and what the good ones take, `down` each, together.
+-- A bound for the bad ones of n feeds in a row by which the limit isn't reached: what the bad ones add, `up`
+-- each, is less than the limit and what the good ones take, `down` each, together.
 unfoldable pub most_bad : WeightParts → ℕ → ℕ
 most_bad w n = (w.limit - 1 + n * w.down) / (w.up + w.down)
 
@@ -19,8 +19,8 @@ most_bad w n = (w.limit - 1 + n * w.down) / (w.up + w.down)
 unfoldable pub bad_in : List Bool → ℕ
 bad_in window = count_by (λ bad. bad) window
 
--- The law: where the limit wasn't reached by the last feed of a window, no more of its feeds are bad,
--- whatever came before it.
+-- The law: where the limit wasn't reached by the last feed of a window, at most `most_bad` of its feeds are
+-- bad, whatever came before it.
 abbrev pub BurstsAreSparse : Type 0
 BurstsAreSparse =
     (w : WeightParts) → AreWeights w → (window before : List Bool) →
@@ -44,7 +44,7 @@ SoManyCanBeBad =
 abbrev pub hasty : WeightParts
 hasty = record { up = 1; down = 2; limit = 2 }
 
--- Elsewhere fewer may do, since what a good feed would take below 0 is lost. By these weights half of the
+-- Elsewhere it may be fewer, since what a good feed would take below 0 is lost. By these weights half of the
 -- feeds can be bad at most, or one more than the good ones; the law's number is two thirds.
 abbrev pub FewerMayDo : Type 0
 FewerMayDo =
@@ -53,7 +53,7 @@ FewerMayDo =
 
 -- ---- the rows of a drive span, or of its part up to any tick ----
 
--- of the rows of any window by which the true excess isn't confirmed no more have true excess
+-- of the rows of any window by which the true excess isn't confirmed at most `most_bad` have true excess
 abbrev pub RowsAreSparse : WeightParts → (threshold start : ℕ) → List Row → Type 0
 RowsAreSparse weights threshold start rows =
     (later window before : List Row) → rows ≡ later ++ (window ++ before) →

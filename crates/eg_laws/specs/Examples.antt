@@ -1,12 +1,16 @@
 -- Outside the headline. The histories of this crate with the reference calibration.
-use Rattle.std.specs.Prelude.{◌≡◌, ◌==◌, ◌||◌, true, not, ◌∷◌, ◌++◌, map, replicate, List, Some, if◌then◌else◌}
+use Rattle.std.specs.Prelude.{◌≡◌, ℕ, ◌==◌, Bool, true, not, List, ◌∷◌, ◌++◌, map, replicate, reverse, Some, if◌then◌else◌}
+use Rattle.std.specs.List.{flat_map}
 use Rattle.eg_num.specs.Arithmetic.{estimate}
-use Rattle.eg_answer.specs.declared.modules.TheConstants.{EXCESS}
+use Rattle.eg_num.specs.Drive.{DriveRow, driven}
+use Rattle.eg_sensor.specs.declared.tracks.TheConstants.{PEDAL_1, PEDAL_2, LOAD_1, LOAD_2, SPEED_1, SPEED_2, BRAKE_1, BRAKE_2}
+use Rattle.eg_answer.specs.declared.modules.TheConstants.{EXCESS, DEBOUNCE}
+use Rattle.eg_values.specs.Calibration.{CalibrationParts}
 use Rattle.eg_values.specs.Reference.{reference_rules, reference_parts}
 use Rattle.eg_fault.specs.Effects.{Effects, no_effects}
 use Rattle.eg_fault.specs.Faults.{effects_of}
 use Rattle.eg_fault.specs.declared.class.Class.TheVariants.{Path1Closed, Path2Closed}
-use Rattle.eg_record.specs.Excess.{true_excess}
+use Rattle.eg_record.specs.Excess.{true_excess, first_confirmed}
 use Rattle.eg_model.specs.History.{Entry, Tick, Moment}
 use Rattle.eg_model.specs.Moments.{moments_of}
 use Rattle.eg_model.specs.Rows.{rows_of}
@@ -41,39 +45,87 @@ longest_closed =
 
 -- ---- several things are out of order ----
 
--- a load of 1000, with all its torque
-abbrev pub loaded : Entry
-loaded = giving at_rest 1000 (estimate reference_rules.kt 1000)
+-- a load, with all its torque by the reference rules, where this drive row comes in
+abbrev pub loaded : DriveRow → (load : ℕ) → Entry
+loaded drive load = giving drive load (estimate reference_rules.kt load)
 
--- 60 ticks at which this comes in, and this is out of order; and their moments
-abbrev pub sixty : Effects → List Tick
-sixty x = replicate 60 (record { effects = x; entry = loaded })
+-- a tick with the pedal at rest and a load of 1000
+abbrev pub excess_under : Effects → Tick
+excess_under x = record { effects = x; entry = loaded at_rest 1000 }
 
-abbrev pub moments_under : Effects → List Moment
-moments_under x = moments_of (faultless_setting reference_parts) (sixty x)
+-- By this calibration what comes in at these 60 ticks is proper, there is excess at each, and the stages stay
+-- on.
+pub record StaysOn (cal : CalibrationParts) (h : List Tick) : Type 0 where
+  pub proper : AreProper (faultless_setting cal) h
+  pub excess : map (true_excess cal.rules.threshold) (rows_of (moments_of (faultless_setting cal) h))
+      ≡ replicate 60 true
+  pub on : map (λ m. m.on) (moments_of (faultless_setting cal) h) ≡ replicate 60 true
 
--- Where this is out of order what comes in at these ticks is proper, there is excess at each, and the stages
--- stay on.
-pub record StaysOn (x : Effects) : Type 0 where
-  pub proper : AreProper (faultless_setting reference_parts) (sixty x)
-  pub excess : map (true_excess reference_rules.threshold) (rows_of (moments_under x)) ≡ replicate 60 true
-  pub on : map (λ m. m.on) (moments_under x) ≡ replicate 60 true
+-- these two tracks read these two values, whatever is true
+abbrev pub reading : (track_1 track_2 : ℕ) → (value_1 value_2 : ℕ) → Effects
+reading track_1 track_2 value_1 value_2 = record no_effects {
+  track = λ i v. if i == track_1 then value_1 else if i == track_2 then value_2 else v;
+}
 
--- both tracks of the load, 4 and 5, read 0
-abbrev pub low_loads : Effects
-low_loads = record no_effects { track = λ i v. if (i == 4) || (i == 5) then 0 else v }
+-- both tracks of the pedal read that it is pressed down, while it is at rest: 200.0 Nm of torque, where 20.0
+-- are permitted
+abbrev pub high_pedal : List Tick
+high_pedal =
+    replicate 60 (record { effects = reading PEDAL_1 PEDAL_2 1000 0; entry = loaded at_rest 800 })
+
+-- both tracks of the load read 0
+abbrev pub low_loads : List Tick
+low_loads = replicate 60 (excess_under (reading LOAD_1 LOAD_2 0 0))
+
+-- both tracks of the speed read 800 rpm at 6000 rpm: 37.5 Nm, where nothing is permitted
+abbrev pub low_speeds : List Tick
+low_speeds = replicate 60 (record {
+  effects = reading SPEED_1 SPEED_2 800 800;
+  entry = loaded (driven 0 6000 0) 150;
+})
+
+-- the reference calibration, but that the brake counts
+abbrev pub braked_parts : CalibrationParts
+braked_parts = record reference_parts { brake = true }
+
+-- both contacts of the brake read that it isn't pressed, while the driver presses pedal and brake: 200.0 Nm,
+-- where 20.0 are permitted
+abbrev pub unseen_brake : List Tick
+unseen_brake = replicate 60 (record {
+  effects = reading BRAKE_1 BRAKE_2 0 1;
+  entry = loaded (record (driven 1000 800 0) { brake = true }) 800;
+})
 
 -- the module that compares the torque is left out, and path 2 is closed
-abbrev pub left_out : Effects
-left_out = record (effects_of Path2Closed 0) { ran = λ i. not (i == EXCESS) }
+abbrev pub left_out : List Tick
+left_out = replicate 60 (excess_under (record (effects_of Path2Closed 0) { ran = λ i. not (i == EXCESS) }))
+
+-- the signal of this module is disturbed: it says that there is no excess where there is
+abbrev pub disturbed : Effects
+disturbed = record no_effects { disturbance = λ i. if i == EXCESS then 1 else 0 }
+
+-- six periods of ten ticks, at each of which it is disturbed but at the send tick, the sixth
+abbrev pub disturbed_between : List Tick
+disturbed_between = flat_map (λ period. period) (replicate 6
+    (replicate 4 (excess_under disturbed)
+    ++ (excess_under no_effects ∷ replicate 5 (excess_under disturbed))))
 
 -- both paths are closed
-abbrev pub both_closed : Effects
-both_closed = record no_effects { conducts = λ path is_open. true }
+abbrev pub both_closed : List Tick
+both_closed = replicate 60 (excess_under (record no_effects { conducts = λ path is_open. true }))
 
 -- path 1 is closed, and the monitoring module is wild, and never orders path 2 open
-abbrev pub closed_and_wild : Effects
-closed_and_wild = record (effects_of Path1Closed 0) { wild = Some 0 }
+abbrev pub closed_and_wild : List Tick
+closed_and_wild = replicate 60 (excess_under (record (effects_of Path1Closed 0) { wild = Some 0 }))
+
+-- Nothing is out of order but at the last tick of the excess, at which the module that debounces is left out:
+-- 10 quiet ticks, 5 of excess, and 36 quiet ones.
+abbrev pub missed_last : List Tick
+missed_last =
+    replicate 36 (quiet no_effects at_rest)
+    ++ (excess_under (record no_effects { ran = λ i. not (i == DEBOUNCE) })
+    ∷ replicate 4 (excess_under no_effects))
+    ++ replicate 10 (quiet no_effects at_rest)
 
 -- path 1 is closed, and answers are sent at the tick before the usual one
 abbrev pub closed_and_early : Effects
@@ -81,9 +133,16 @@ closed_and_early = record (effects_of Path1Closed 0) { send = Some 4 }
 
 -- under that: 11 quiet ticks, 5 of excess that end right after a tick at which an answer is sent, and 35
 -- quiet ones
-abbrev pub cut_late : List Moment
+abbrev pub cut_late : List Tick
 cut_late =
-    moments_of (faultless_setting reference_parts)
-    (replicate 35 (quiet closed_and_early at_rest)
-    ++ replicate 5 (record { effects = closed_and_early; entry = loaded })
-    ++ replicate 11 (quiet closed_and_early at_rest))
+    replicate 35 (quiet closed_and_early at_rest)
+    ++ replicate 5 (excess_under closed_and_early)
+    ++ replicate 11 (quiet closed_and_early at_rest)
+
+-- By the reference calibration what comes in at these ticks is proper; they confirm the excess at tick
+-- `confirmed`, and never before; and the stages are on as told, in the order of time.
+pub record Shows (h : List Tick) (confirmed : ℕ) (stages : List Bool) : Type 0 where
+  pub proper : AreProper (faultless_setting reference_parts) h
+  pub confirms : first_confirmed reference_rules.torque reference_rules.threshold
+      (rows_of (moments_of (faultless_setting reference_parts) h)) ≡ Some confirmed
+  pub on : map (λ m. m.on) (reverse (moments_of (faultless_setting reference_parts) h)) ≡ stages

@@ -16,7 +16,7 @@ use Rattle.eg_model.specs.Seeing.{SeesExcess}
 abbrev pub Obeys : (path : ℕ) → Effects → Type 0
 Obeys path x = x.conducts path true ≡ false
 
--- In a history with these ticks what comes in is proper, level 2 sees an excess at each of them, and the
+-- In a history with these ticks what comes in is proper, level 2 would see an excess at each of them, and the
 -- true excess is confirmed by the last.
 pub record IsSeenExcess (s : Setting) (h : List Tick) : Type 0 where
   pub proper : AreProper s h

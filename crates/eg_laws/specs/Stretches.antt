@@ -1,11 +1,12 @@
 -- How long a true excess lasts: with no fault or a listed one each stretch of ticks in a row with excess
 -- has D - 1 + R ticks at most, where D feeds confirm it; and D ticks where the reaction is at once. No
--- smaller numbers serve. In a stretch of ticks or rows the newest stands first.
+-- smaller numbers serve where an excess can be confirmed at all. In a stretch the newest stands first.
 use Rattle.std.specs.Prelude.{◌≡◌, ℕ, ◌+◌, ◌-◌, ◌≤◌, true, List, [], ◌++◌, All, length, replicate, Option, None}
 use Rattle.eg_num.specs.Arithmetic.{estimate}
 use Rattle.eg_num.specs.Drive.{DriveRow}
-use Rattle.eg_answer.specs.Times.{feeds_to_confirm, reaction_of}
+use Rattle.eg_answer.specs.Times.{reaction_of}
 use Rattle.eg_values.specs.Calibration.{CalibrationParts, IsAccepted}
+use Rattle.eg_values.specs.Excess.{ticks_to_confirm, longest_stretch}
 use Rattle.eg_fault.specs.Faults.{effects_of, IsListed}
 use Rattle.eg_fault.specs.declared.class.Class.TheVariants.{Path1Closed}
 use Rattle.eg_fault.specs.declared.class.Fault.{Fault}
@@ -22,14 +23,6 @@ use Rattle.eg_model.specs.Rows.{record_rows}
 use Rattle.eg_model.specs.Records.{IsRun}
 use Rattle.eg_laws.specs.LeastReaction.{CanExceed, giving, until_confirmed, closed_setting}
 use Rattle.eg_laws.specs.LeastLapse.{Lasts}
-
--- how many ticks of excess in a row confirm it, D
-unfoldable pub ticks_to_confirm : CalibrationParts → ℕ
-ticks_to_confirm cal = feeds_to_confirm cal.rules.torque
-
--- The longest stretch in ticks: D - 1 by which it isn't confirmed yet, and R from the tick by which it is.
-unfoldable pub longest_stretch : CalibrationParts → ℕ
-longest_stretch cal = ticks_to_confirm cal - 1 + reaction_of cal.times
 
 -- These ticks, after the ticks `before`, are a stretch with true excess at each, in a history that begins
 -- at tick `start` of a run.
@@ -66,8 +59,8 @@ abbrev pub exceeding_after : CalibrationParts → DriveRow → (load : ℕ) → 
 exceeding_after cal drive load =
     record { effects = effects_of Path1Closed 0; entry = giving drive load (estimate cal.rules.kt load) }
 
--- path 1 is held closed from the tick on that comes after the confirmed excess, which lasts as long as it
--- can
+-- The excess is confirmed, and path 1 is held closed from the next tick on: then it lasts for as many ticks
+-- as the first law allows.
 abbrev pub ExcessLasts : Type 0
 ExcessLasts =
     (cal : CalibrationParts) → IsAccepted cal → (can : CanExceed cal) →
@@ -86,7 +79,7 @@ ExcessLastsUntilConfirmed =
     (cal : CalibrationParts) → IsAccepted cal → (can : CanExceed cal) →
     Lasts (faultless_setting cal) (until_confirmed cal can.drive can.load) (ticks_to_confirm cal)
 
--- so any number that serves in one of the two laws is the number there or more
+-- So a number that bounds each stretch, in place of that of the first law or of the second, isn't smaller.
 abbrev pub StretchIsLeast : Type 0
 StretchIsLeast =
     (cal : CalibrationParts) → IsAccepted cal → CanExceed cal → (longest : ℕ) →
@@ -103,7 +96,7 @@ StretchAtOnceIsLeast =
 abbrev pub AllExcess : (threshold : ℕ) → List Row → Type 0
 AllExcess threshold stretch = All (λ row. true_excess threshold row ≡ true) stretch
 
--- each stretch of rows in a row with true excess has `longest` rows at most
+-- where there is true excess at each of some consecutive rows, these are `longest` rows at most
 abbrev pub RowsEndStretches : (threshold longest start : ℕ) → List Row → Type 0
 RowsEndStretches threshold longest start rows =
     (later stretch before : List Row) → rows ≡ later ++ (stretch ++ before) → AllExcess threshold stretch →

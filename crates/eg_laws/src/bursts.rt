@@ -6,8 +6,9 @@ ghost use Rattle.eg_laws.specs.Bursts.{most_bad, densest, hasty, BurstsAreSparse
 
 /// How often an excess may come again and not be confirmed (docs/CONCEPT.md, "Why the unit reacts"): of any
 /// n ticks in a row at most `(limit - 1 + n*down)/(up + down)`, rounded down, have excess, by the weights
-/// of the torque. So many may have it where `up` and `down` together are at most the limit; elsewhere fewer
-/// may. It does nothing when it runs.
+/// of the torque. So many may have it where `up` and `down` together are at most the limit. Elsewhere good
+/// feeds may be lost below 0, and then it is fewer: by 1, 2 and 2 half of the ticks, where the number says
+/// two thirds. It does nothing when it runs.
 pub fn bursts_are_sparse()
     ensures sparse { BurstsAreSparse }
     ensures reached { SoManyCanBeBad }
@@ -20,9 +21,9 @@ pub fn records_are_sparse()
     ensures { RecordsAreSparse gasoline × RecordsAreSparse diesel }
 {}
 
-/// `bursts_are_sparse` worked out with the reference calibration (1, 1 and 5): 52 of 100 ticks may have
-/// excess. The densest ticks are four of excess, and then every other one. By 1, 2 and 2 the law's number
-/// is 3 of 4. It does nothing when it runs.
+/// `bursts_are_sparse` worked out with the reference calibration, whose weights are 1, 1 and 5 (`up`, `down`
+/// and the limit): 52 of 100 ticks may have excess. The densest ticks are four of excess, and then every
+/// other one. By weights of 1, 2 and 2 the law's number is 3 of 4. It does nothing when it runs.
 pub fn densest_feeds()
     ensures most { most_bad reference_rules.torque 100 ≡ 52 }
     ensures densest { densest reference_rules.torque 8 ≡ true ∷ false ∷ true ∷ false ∷ replicate 4 true }

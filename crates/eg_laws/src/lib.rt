@@ -9,6 +9,7 @@ mod availability;
 mod bursts;
 mod least_lapse;
 mod least_reaction;
+mod limits;
 mod seeing;
 mod stretches;
 
@@ -16,5 +17,6 @@ pub use availability::{far_misses_never_cut, records_stay_available};
 pub use bursts::{bursts_are_sparse, densest_feeds, records_are_sparse};
 pub use least_lapse::{lapse_bound_is_least, longest_excess_run};
 pub use least_reaction::{latest_cut_run, reaction_is_least};
+pub use limits::records_keep_limits;
 pub use seeing::{premises_are_needed, seen_excess_is_cut};
 pub use stretches::{excess_ends, longest_stretch_run, records_end_excess};

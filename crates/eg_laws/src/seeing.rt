@@ -1,10 +1,9 @@
 // Several faults at once.
-ghost use Rattle.std.specs.Prelude.{◌≡◌, false, true, [], ◌∷◌, ◌++◌, map, replicate, reverse, Some};
-ghost use Rattle.eg_values.specs.Reference.{reference_rules};
-ghost use Rattle.eg_record.specs.Excess.{first_confirmed};
-ghost use Rattle.eg_model.specs.Rows.{rows_of};
+ghost use Rattle.std.specs.Prelude.{false, true, [], ◌∷◌, ◌++◌, replicate};
+ghost use Rattle.eg_values.specs.Calibration.{IsAccepted};
+ghost use Rattle.eg_values.specs.Reference.{reference_parts};
 ghost use Rattle.eg_laws.specs.Seeing.{SeenExcessIsCut, SeenExcessIsCutInTime};
-ghost use Rattle.eg_laws.specs.Examples.{StaysOn, low_loads, left_out, both_closed, closed_and_wild, cut_late};
+ghost use Rattle.eg_laws.specs.Examples.{StaysOn, Shows, high_pedal, low_loads, low_speeds, braked_parts, unseen_brake, left_out, disturbed_between, both_closed, closed_and_wild, missed_last, cut_late};
 
 /// The reaction under several faults at once, whatever they are (docs/CONCEPT.md, "Why the unit reacts"):
 /// where level 2 sees each excess up to the tick that confirms one, the stages are off from the next tick
@@ -15,17 +14,23 @@ pub fn seen_excess_is_cut()
     ensures in_time { SeenExcessIsCutInTime }
 {}
 
-/// What `seen_excess_is_cut` asks is needed, by runs with the reference calibration. There is excess at 60
-/// ticks, and the stages are on at each, where both tracks of the load read 0; where path 2 is closed and
-/// module 4 left out; where both paths are closed; or where path 1 is closed and the monitoring module is
-/// wild. Where path 1 is closed and answers are sent a tick earlier, the stages are still on R ticks after
-/// tick 15, by which the excess is confirmed. It does nothing when it runs.
+/// Of what `seen_excess_is_cut` asks these are needed, each by a run with the reference calibration. There is
+/// excess at 60 ticks, and the stages are on at each: where both tracks of pedal, of load or of speed read
+/// wrongly, or both contacts of a brake that counts; where module 4 is left out and path 2 is closed, or it
+/// is disturbed at all ticks but the send ticks; where both paths are closed; or where path 1 is closed and
+/// the monitoring module is wild. Where module 6 is left out once, at the tick by which the excess is
+/// confirmed, the stages stay on. Where path 1 is closed and answers are sent a tick earlier, they are still
+/// on R ticks after the excess is confirmed. It does nothing when it runs.
 pub fn premises_are_needed()
-    ensures loads { StaysOn low_loads }
-    ensures runs { StaysOn left_out }
-    ensures paths { StaysOn both_closed }
-    ensures wild { StaysOn closed_and_wild }
-    ensures confirmed { first_confirmed reference_rules.torque reference_rules.threshold (rows_of cut_late)
-        ≡ Some 15 }
-    ensures sends { map (λ m. m.on) (reverse cut_late) ≡ replicate 50 true ++ false ∷ [] }
+    ensures pedal { StaysOn reference_parts high_pedal }
+    ensures loads { StaysOn reference_parts low_loads }
+    ensures speeds { StaysOn reference_parts low_speeds }
+    ensures brake { StaysOn braked_parts unseen_brake }
+    ensures runs { StaysOn reference_parts left_out }
+    ensures undisturbed { StaysOn reference_parts disturbed_between }
+    ensures paths { StaysOn reference_parts both_closed }
+    ensures wild { StaysOn reference_parts closed_and_wild }
+    ensures up_to_confirmed { Shows missed_last 14 (replicate 51 true) }
+    ensures sends { Shows cut_late 15 (replicate 50 true ++ false ∷ []) }
+    ensures accepted { IsAccepted reference_parts → IsAccepted braked_parts }
 {}

@@ -1,10 +1,11 @@
 // How long an excess lasts.
 ghost use Rattle.std.specs.Prelude.{◌≡◌, true, false, [], ◌∷◌, ◌++◌, map, replicate, reverse};
+ghost use Rattle.eg_values.specs.Excess.{ticks_to_confirm, longest_stretch};
 ghost use Rattle.eg_values.specs.Reference.{reference_rules, reference_parts};
 ghost use Rattle.eg_record.specs.Excess.{true_excess};
 ghost use Rattle.eg_model.specs.Rows.{rows_of};
 ghost use Rattle.eg_model.specs.Engines.{gasoline, diesel};
-ghost use Rattle.eg_laws.specs.Stretches.{ticks_to_confirm, longest_stretch, StretchesEnd, StretchesEndAtOnce, ExcessLasts, ExcessLastsUntilConfirmed, StretchIsLeast, StretchAtOnceIsLeast, RecordsEndStretches, RecordsEndStretchesAtOnce};
+ghost use Rattle.eg_laws.specs.Stretches.{StretchesEnd, StretchesEndAtOnce, ExcessLasts, ExcessLastsUntilConfirmed, StretchIsLeast, StretchAtOnceIsLeast, RecordsEndStretches, RecordsEndStretchesAtOnce};
 ghost use Rattle.eg_laws.specs.Examples.{longest_closed};
 
 /// How long an excess lasts (docs/CONCEPT.md, "Why the unit reacts"): with no fault or a listed one a

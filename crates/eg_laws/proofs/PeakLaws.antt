@@ -1,0 +1,210 @@
+-- How far torque lies above what is permitted and the threshold together at the most: the engines give no more than
+-- the torque of the greatest charge, and no drive row permits less than the least of the first row of the table.
+use Rattle.std.proofs.Common.{◌≡◌, ℕ, zero, suc, ◌+◌, ◌-◌, ◌*◌, ◌/◌, ◌≤◌, ◌<◌, Bool, true, false, nat_le, List, [], ◌∷◌, length, map, take, All, max, min, get_or, refl, ap, ◌∙◌, subst, arith, add-one, Option}
+use Rattle.std.specs.Prelude.{if◌then◌else◌, slice_index}
+use Rattle.std.specs.List.{fold}
+use Rattle.std.proofs.Math.Nat.{div-mul-le_self, mul-le-mul}
+use Rattle.std.proofs.lemmas.Nat.{le-div}
+use Rattle.std.proofs.lemmas.Bool.{leb-true, leb-false}
+use Rattle.std.proofs.lemmas.List.{get_or-take, length-take-le}
+use Rattle.std.proofs.lemmas.List.Elements.{All-nil, All-cons, All-head, All-tail}
+use Rattle.eg_num.specs.Windows.{greatest_of}
+use Rattle.eg_num.specs.Interpolation.{Grid, IsGrid, lerp, value_at, cell, row_at, grid_at}
+use Rattle.eg_torque.specs.Permit.{DoesNotFall, drive_permits}
+use Rattle.eg_plant.specs.PlantParts.{PlantParts}
+use Rattle.eg_plant.specs.Gasoline.{Gasoline, at_rest, next_charge, torque_of, gasoline_step}
+use Rattle.eg_plant.proofs.PlantLemmas.{curve_at-most, moved_toward-most}
+use Rattle.eg_diesel.specs.Diesel.{Diesel, quantity_of, diesel_step}
+use Rattle.eg_diesel.specs.Diesel as of_diesel
+use Rattle.eg_values.specs.Calibration.{IsAccepted}
+use Rattle.eg_values.specs.Excess.{greatest_torque, least_permitted, greatest_excess}
+use Rattle.eg_record.specs.declared.row.Row.{Row}
+use Rattle.eg_record.specs.Excess.{above, peak_of}
+use Rattle.eg_model.specs.History.{Setting}
+use Rattle.eg_model.specs.Moments.{effective_drive, limit_at}
+use Rattle.eg_model.specs.Engines.{BenchEngine, gasoline, diesel}
+use Rattle.eg_model.specs.Showing.{engine_by, ShowEngine}
+
+-- ---- the torque of an engine ----
+
+-- no number is more than the greatest
+greatest_covers : (ns : List ℕ) (n : ℕ) → (n ≤ fold max n ns) × All (λ m. m ≤ fold max n ns) ns
+greatest_covers [] n = (omega arith, All-nil (λ m. m ≤ n))
+greatest_covers (m ∷ ns) n =
+    let rest = greatest_covers ns (max n m) in
+    let here = rest.0 in
+    (omega (arith, here), All-cons (λ k. k ≤ fold max (max n m) ns) m ns (omega (arith, here)) rest.1)
+
+-- the greatest charge of a plant
+abbrev greatest_charge : PlantParts → ℕ
+greatest_charge plant = fold max 0 plant.charge.values
+
+charge-most : (plant : PlantParts) (x : ℕ) → value_at plant.charge.axis (slice_index plant.charge.values) x ≤ greatest_charge plant
+charge-most plant x = curve_at-most (greatest_charge plant) plant.charge x (greatest_covers plant.charge.values 0).1
+
+-- the torque of a charge that isn't above the greatest
+torque_of-most : (plant : PlantParts) (charge ignition : ℕ) (on : Bool) → charge ≤ greatest_charge plant →
+    torque_of plant.kt charge ignition on ≤ greatest_torque plant
+unfolding torque_of greatest_torque
+torque_of-most plant charge ignition false few = omega arith
+torque_of-most plant charge ignition true few =
+    let same : plant.kt ≤ plant.kt = omega arith in
+    within (charge * plant.kt) (greatest_charge plant * plant.kt) (min ignition 1000) (mul-le-mul few same) (omega arith)
+  where
+    within : (full most efficiency : ℕ) → full ≤ most → efficiency ≤ 1000 → full * efficiency / 1000000 ≤ most / 1000
+    within full most efficiency less low =
+        let scaled : full * efficiency ≤ most * 1000 = mul-le-mul less low in
+        let back = div-mul-le_self (full * efficiency) 1000000 in
+        le-div (full * efficiency / 1000000) most 1000 (omega arith) (omega (arith, scaled, back))
+
+-- What an engine brings: a statement about a state that stays true from step to step, by which it shows no more
+-- torque than that of the greatest charge.
+pub record GivesAtMost {E : Type 0} (b : BenchEngine E) (Within : PlantParts → E → Type 0) : Type 0 where
+  at_first : (plant : PlantParts) → Within plant (b.rest plant)
+  goes_on : (plant : PlantParts) (e : E) → Within plant e → (throttle ignition : ℕ) (on : Bool) (held : Option ℕ) →
+      Within plant (b.step plant e throttle ignition on held)
+  most : (plant : PlantParts) (e : E) → Within plant e → (b.shows e).torque ≤ greatest_torque plant
+
+pub record GasolineWithin (plant : PlantParts) (g : Gasoline) : Type 0 where
+  charge : g.charge ≤ greatest_charge plant
+  torque : g.torque ≤ greatest_torque plant
+
+pub gasoline_gives : GivesAtMost gasoline GasolineWithin
+unfolding gasoline at_rest gasoline_step next_charge
+gasoline_gives = record {
+  at_first = λ plant. record { charge = charge-most plant 0; torque = omega arith };
+  goes_on = λ plant g within throttle ignition on held.
+      let charge = moved_toward-most (greatest_charge plant) g.charge _ plant.fill within.charge (charge-most plant g.plate) in
+      record { charge = charge; torque = torque_of-most plant _ ignition on charge };
+  most = λ plant g within. within.torque;
+}
+
+abbrev pub DieselWithin : PlantParts → Diesel → Type 0
+DieselWithin plant d = d.torque ≤ greatest_torque plant
+
+quantity_of-most : (plant : PlantParts) (rack boost : ℕ) (on : Bool) → quantity_of plant rack boost on ≤ greatest_charge plant
+unfolding quantity_of
+quantity_of-most plant rack boost false = omega arith
+quantity_of-most plant rack boost true = let most = charge-most plant boost in omega (arith, most)
+
+pub diesel_gives : GivesAtMost diesel DieselWithin
+unfolding diesel of_diesel.at_rest diesel_step
+diesel_gives = record {
+  at_first = λ plant. omega arith;
+  goes_on = λ plant d within command ignition on held. torque_of-most plant _ ignition on (quantity_of-most plant _ _ on);
+  most = λ plant d within. within;
+}
+
+-- ---- what is permitted ----
+
+-- on the line between two points no value lies below what neither value is below
+lerp-least : (least x0 y0 x1 y1 x : ℕ) → x0 < x → x ≤ x1 → least ≤ y0 → least ≤ y1 → least ≤ lerp x0 y0 x1 y1 x
+lerp-least least x0 y0 x1 y1 x from to left right =
+    le-div least _ (x1 - x0) (omega (arith, from, to)) (sums y0 y1 (x1 - x) (x - x0) (x1 - x0) left right (omega (arith, from, to)))
+  where
+    sums : (a b u v w : ℕ) → least ≤ a → least ≤ b → w ≡ u + v → least * w ≤ a * u + b * v
+    sums a b u v w l m e = rw e (grind arith)
+
+-- and so it is at each place of a table
+value_at-least : (least : ℕ) (points : List ℕ) (value : ℕ → ℕ) (x : ℕ) → 1 ≤ length points →
+    ((i : ℕ) → i < length points → least ≤ value i) → least ≤ value_at points value x
+unfolding value_at
+value_at-least least [] value x some above = absurd (omega (arith, some))
+value_at-least least (x0 ∷ []) value x some above = above 0 (omega arith)
+value_at-least least (x0 ∷ x1 ∷ xs) value x some above =
+    choice (nat_le x x0) (nat_le x x1) refl refl (above 0 (omega arith)) (above 1 (omega arith))
+    (value_at-least least (x1 ∷ xs) (λ i. value (suc i)) x (omega arith) (λ i within. above (suc i) (omega (arith, within))))
+  where
+    choice : (p q : Bool) → nat_le x x0 ≡ p → nat_le x x1 ≡ q → least ≤ value 0 → least ≤ value 1 →
+        least ≤ value_at (x1 ∷ xs) (λ i. value (suc i)) x →
+        least ≤ (if p then value 0 else if q then lerp x0 (value 0) x1 (value 1) x else value_at (x1 ∷ xs) (λ i. value (suc i)) x)
+    choice true q e f first second rest = first
+    choice false true e f first second rest =
+        let after = leb-false _ _ e in
+        lerp-least least x0 (value 0) x1 (value 1) x (omega (arith, after)) (leb-true _ _ f) first second
+    choice false false e f first second rest = rest
+
+-- no number is less than the least
+least_covers : (ns : List ℕ) (n : ℕ) → (fold min n ns ≤ n) × All (λ m. fold min n ns ≤ m) ns
+least_covers [] n = (omega arith, All-nil (λ m. n ≤ m))
+least_covers (m ∷ ns) n =
+    let rest = least_covers ns (min n m) in
+    let here = rest.0 in
+    (omega (arith, here), All-cons (λ k. fold min (min n m) ns ≤ k) m ns (omega (arith, here)) rest.1)
+
+module _ (g : Grid) (grid : IsGrid g) (rises : DoesNotFall g) where
+  in_first : (j : ℕ) → j < length g.columns → least_permitted g ≤ cell g 0 j
+  unfolding least_permitted
+  in_first j within =
+      let size : length first ≡ length g.columns = length-take-le (length g.columns) g.values columns_fit in
+      subst (λ n. fold min (cell g 0 0) first ≤ n) is
+      ((least_covers first (cell g 0 0)).1 j 0 (omega (arith, size, within)))
+    where
+      first : List ℕ
+      first = take (length g.columns) g.values
+
+      columns_fit : length g.columns ≤ length g.values
+      columns_fit = let rows = grid.0.0 in let are = grid.2 in grind arith
+
+      place : (n : ℕ) → j ≡ 0 * n + j
+      place n = omega arith
+
+      is : get_or first j 0 ≡ cell g 0 j
+      is = get_or-take (length g.columns) g.values j 0 within ∙ ap (slice_index g.values) (place (length g.columns))
+
+  in_each : (i j : ℕ) → i < length g.rows → j < length g.columns → least_permitted g ≤ cell g i j
+  in_each zero j row column = in_first j column
+  in_each (suc i) j row column =
+      let before = in_each i j (omega (arith, row)) column in
+      let rise = rises i j (omega (arith, row)) column in
+      subst (λ n. least_permitted g ≤ cell g n j) (add-one i) (omega (arith, before, rise))
+
+  grid_at-least : (pedal speed : ℕ) → least_permitted g ≤ grid_at g pedal speed
+  grid_at-least pedal speed = value_at-least (least_permitted g) g.rows (row_at g speed) pedal (let rows = grid.0.0 in omega (arith, rows))
+      (λ i row. value_at-least (least_permitted g) g.columns (cell g i) speed (let columns = grid.1.0 in omega (arith, columns))
+      (λ j column. in_each i j row column))
+
+-- ---- the rows of a record ----
+
+greatest_of-most : (most : ℕ) (ns : List ℕ) → All (λ n. n ≤ most) ns → greatest_of ns ≤ most
+unfolding greatest_of
+greatest_of-most most [] all = omega arith
+greatest_of-most most (n ∷ ns) all =
+    let here = All-head (λ m. m ≤ most) n ns all in
+    let rest = greatest_of-most most ns (All-tail (λ m. m ≤ most) n ns all) in
+    omega (arith, here, rest)
+
+module _ (s : Setting) (accepted : IsAccepted s.cal) where
+  limit_at-least : (row : Row) → row.limit ≡ limit_at s.cal row.drive → least_permitted s.cal.rules.permit ≤ row.limit
+  unfolding limit_at drive_permits
+  limit_at-least row is =
+      let drive = effective_drive s.cal row.drive in
+      let table = grid_at-least s.cal.rules.permit accepted.grid accepted.permit drive.pedal drive.speed in
+      omega (arith, is, table)
+
+  above-most : (row : Row) → row.torque ≤ greatest_torque s.cal.plant → least_permitted s.cal.rules.permit ≤ row.limit →
+      above s.cal.rules.threshold row ≤ greatest_excess s.cal
+  unfolding above greatest_excess
+  above-most row most least = omega (arith, most, least)
+
+module _ {E : Type 0} {b : BenchEngine E} {Within : PlantParts → E → Type 0} (gives : GivesAtMost b Within) (s : Setting)
+    (accepted : IsAccepted s.cal) where
+  within : (rows : List Row) → Within s.cal.plant (engine_by b s rows)
+  unfolding engine_by
+  within [] = gives.at_first s.cal.plant
+  within (row ∷ before) = gives.goes_on s.cal.plant (engine_by b s before) (within before) _ _ _ _
+
+  pub all_below : (rows : List Row) → ShowEngine b s rows → All (λ row. row.limit ≡ limit_at s.cal row.drive) rows →
+      peak_of s.cal.rules.threshold rows ≤ greatest_excess s.cal
+  unfolding peak_of
+  all_below rows shows permitted = greatest_of-most (greatest_excess s.cal) (map (above s.cal.rules.threshold) rows) (each rows shows permitted)
+    where
+      each : (rows : List Row) → ShowEngine b s rows → All (λ row. row.limit ≡ limit_at s.cal row.drive) rows →
+          All (λ n. n ≤ greatest_excess s.cal) (map (above s.cal.rules.threshold) rows)
+      each [] shows permitted = All-nil (λ n. n ≤ greatest_excess s.cal)
+      each (row ∷ before) shows permitted = All-cons (λ n. n ≤ greatest_excess s.cal) (above s.cal.rules.threshold row)
+          (map (above s.cal.rules.threshold) before)
+          (above-most s accepted row
+          (let is = shows.0.torque in let most = gives.most s.cal.plant (engine_by b s (row ∷ before)) (within (row ∷ before)) in omega (arith, is, most))
+          (limit_at-least s accepted row (All-head (λ r. r.limit ≡ limit_at s.cal r.drive) row before permitted)))
+          (each before shows.1 (All-tail (λ r. r.limit ≡ limit_at s.cal r.drive) row before permitted))

@@ -1,0 +1,40 @@
+-- What `table` tells of a run keeps the limits of its calibration, as `limits` tells them: the longest
+-- reaction R, the longest stretch of excess D - 1 + R, and its peak.
+use Rattle.std.specs.Prelude.{◌≡◌, ℕ, ◌≤◌, true, Option}
+use Rattle.eg_answer.specs.Times.{reaction_of}
+use Rattle.eg_values.specs.Excess.{ticks_to_confirm, longest_stretch, greatest_excess}
+use Rattle.eg_fault.specs.Faults.{IsNoneOrValid, IsListed}
+use Rattle.eg_fault.specs.declared.class.Fault.{Fault}
+use Rattle.eg_record.specs.declared.facts.Facts.{Facts}
+use Rattle.eg_record.specs.declared.reactions.Reactions.{Reactions}
+use Rattle.eg_record.specs.Facts.{facts_of}
+use Rattle.eg_record.specs.Reactions.{reactions_of}
+use Rattle.eg_model.specs.History.{Setting}
+use Rattle.eg_model.specs.Reaction.{is_at_once}
+use Rattle.eg_model.specs.InTime.{IsInTime}
+use Rattle.eg_model.specs.Engines.{BenchEngine}
+use Rattle.eg_model.specs.Bench.{Run}
+use Rattle.eg_model.specs.Rows.{record_rows}
+use Rattle.eg_model.specs.Records.{IsRun}
+
+-- by this fault, or without one, the reaction is at once whenever the excess is confirmed
+abbrev pub IsAlwaysAtOnce : Option Fault → Type 0
+IsAlwaysAtOnce fault = (tick : ℕ) → is_at_once fault tick ≡ true
+
+-- what is told of a run in this setting keeps the limits of its calibration
+pub record KeepsLimits (s : Setting) (facts : Facts) (reactions : Reactions) : Type 0 where
+  -- With no fault or a listed one: its longest reaction takes R ticks at most; in no span has a stretch of
+  -- excess more than D - 1 + R ticks, where D ticks confirm it; nor more than D where the reaction is always
+  -- at once, as without a fault.
+  pub reaction : IsListed s.fault → IsInTime (reaction_of s.cal.times) reactions
+  pub stretch : IsListed s.fault → facts.stretch ≤ longest_stretch s.cal
+  pub at_once : IsListed s.fault → IsAlwaysAtOnce s.fault → facts.stretch ≤ ticks_to_confirm s.cal
+  -- and under each fault no torque lies further above what is permitted and the threshold than it can
+  pub peak : facts.peak ≤ greatest_excess s.cal
+
+-- the law: so it is of the record of each run without a fault or under a valid one
+abbrev pub RecordsKeepLimits : {E : Type 0} → BenchEngine E → Type 0
+RecordsKeepLimits b =
+    (r : Run) → IsRun r → IsNoneOrValid r.setting.fault → KeepsLimits r.setting
+    (facts_of r.setting.cal.rules.torque r.setting.cal.rules.threshold (record_rows b r))
+    (reactions_of r.setting.cal.rules.torque r.setting.cal.rules.threshold (record_rows b r))
