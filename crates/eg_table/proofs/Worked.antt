@@ -1,24 +1,31 @@
--- Rows of `table`, computed from the definitions.
-use Rattle.std.proofs.Common.{◌≡◌, refl, ℕ, Bool, true, false, [], ◌∷◌, Some, None, codes}
-use Rattle.std.specs.Prelude.{Option}
+-- Rows of `table` and of `margins`, computed from the definitions.
+use Rattle.std.proofs.Common.{◌≡◌, refl, ℕ, pos, negsuc, Bool, true, false, [], ◌∷◌, Some, None, codes}
+use Rattle.std.specs.Prelude.{ℤ, Option}
 use Rattle.std.specs.Fmt.{digits}
 use Rattle.eg_fault.specs.declared.class.Class.{Class}
 use Rattle.eg_fault.specs.declared.class.Class.TheVariants as classes
 use Rattle.eg_fault.specs.Faults.{is_left_out}
 use Rattle.eg_record.specs.declared.run_facts.RunFacts.{RunFacts}
-use Rattle.eg_record.specs.declared.watch.Watch.TheVariants.{Torque}
+use Rattle.eg_record.specs.declared.watch.Watch.TheVariants.{Pedal, Torque}
 use Rattle.eg_record.specs.Reactions.{is_settled, settled_by}
 use Rattle.eg_record.specs.Texts.{bit, trap_name, watch_name}
 use Rattle.eg_sweep.specs.Table.{class_index}
 use Rattle.eg_sweep.specs.Texts.{class_name, class_names}
 use Rattle.eg_word.specs.declared.registers.Trap.TheVariants as traps
 use Rattle.eg_table.specs.Acting.{has_effect, acts_at, acts_within, has_acted}
-use Rattle.eg_table.specs.Texts.{acted_column, class_column, fault_columns, first_columns, number_column, reaction_columns, table_line, tick_columns, trap_columns}
+use Rattle.eg_table.specs.Keys.{keys_text, number_item, number_items, truth_item, truth_items}
+use Rattle.eg_record.specs.declared.margins.Margins.{Margins}
+use Rattle.eg_record.specs.Margins.{no_margins}
+use Rattle.eg_table.specs.Margins.{margins_line, pair_columns, surplus_column, weight_columns}
+use Rattle.eg_table.specs.Texts.{bit_column, class_column, class_columns, excess_columns, fault_columns, keys_column}
+use Rattle.eg_table.specs.Texts.{number_column, reaction_columns, settled_column, table_line, tick_columns, trap_columns, watch_columns}
 
 -- every definition that these need
 unfoldable rows : ℕ
-unfolding has_effect acts_at acts_within has_acted is_left_out acted_column class_column fault_columns first_columns number_column
-    reaction_columns table_line tick_columns trap_columns class_index class_name class_names is_settled settled_by bit trap_name watch_name digits
+unfolding has_effect acts_at acts_within has_acted is_left_out bit_column class_column class_columns excess_columns
+    fault_columns keys_column keys_text number_item number_items truth_item truth_items number_column reaction_columns
+    settled_column table_line watch_columns tick_columns trap_columns margins_line pair_columns surplus_column
+    weight_columns class_index class_name class_names is_settled settled_by bit trap_name watch_name digits
 rows = 0
 
 -- ---- what has acted ----
@@ -56,36 +63,80 @@ no_fault = refl
 -- what is told of a run of 60 ticks in which each thing comes
 abbrev everything : RunFacts
 everything = record {
-  facts = record { first = Some (Torque, 9); off = Some 12; last_on = Some 40; confirmed = Some 37; ticks = 60 };
+  facts = record {
+    first = Some (Pedal, 8);
+    cut = Some (Torque, 9);
+    off = Some 12;
+    last_on = Some 40;
+    confirmed = Some 37;
+    stretch = 6;
+    peak = 301;
+    ticks = 60;
+  };
   reactions = record { longest = Some 4; followed = Some 22 };
   trap = Some (traps.Illegal, 7);
+  margins = no_margins;
 }
 
 -- and of one in which nothing does
 abbrev nothing : RunFacts
 nothing = record {
-  facts = record { first = None; off = None; last_on = None; confirmed = None; ticks = 60 };
+  facts = record {
+    first = None;
+    cut = None;
+    off = None;
+    last_on = None;
+    confirmed = None;
+    stretch = 0;
+    peak = 0;
+    ticks = 60;
+  };
   reactions = record { longest = None; followed = None };
   trap = None;
+  margins = no_margins;
 }
 
 -- a worst-case reaction of 22 ticks is shown by the 22 that follow, and one of 23 isn't
 full : table_line (codes "held-open-1") (Some (record { onset = 5; class = classes.Path1Closed })) 22 everything
-    ≡ codes "held-open-1,path1-closed,5,1,torque,9,12,40,37,4,1,illegal,7\n"
+    ≡ codes "held-open-1,path1-closed,5,,1,pedal,8,torque,9,12,40,37,6,301,4,1,22,illegal,7\n"
 unfolding rows
 full = refl
 
 unsettled : table_line (codes "held-open-1") (Some (record { onset = 5; class = classes.Path1Closed })) 23 everything
-    ≡ codes "held-open-1,path1-closed,5,1,torque,9,12,40,37,4,0,illegal,7\n"
+    ≡ codes "held-open-1,path1-closed,5,,1,pedal,8,torque,9,12,40,37,6,301,4,0,23,illegal,7\n"
 unfolding rows
 unsettled = refl
 
-empty : table_line (codes "idle") None 22 nothing ≡ codes "idle,none,,,,,,,,,1,,\n"
+empty : table_line (codes "idle") None 22 nothing ≡ codes "idle,none,,,,,,,,,,,0,0,,,22,,\n"
 unfolding rows
 empty = refl
 
 -- an onset past the end
 never : table_line (codes "late") (Some (record { onset = 60; class = classes.Lapse (0 ∷ []) 0 })) 22 nothing
-    ≡ codes "late,lapse,60,0,,,,,,,1,,\n"
+    ≡ codes "late,lapse,60,after 0 every 0,0,,,,,,,,0,0,,,22,,\n"
 unfolding rows
 never = refl
+
+-- the own keys of each class that has any
+keys : (keys_text (classes.Script 4 (0 ∷ 1000 ∷ [])) ≡ codes "track 4 values 0 1000")
+    × (keys_text (classes.Offset 4 (negsuc 4)) ≡ codes "track 4 add -5")
+    × (keys_text (classes.Wild (65535 ∷ []) (false ∷ true ∷ [])) ≡ codes "questions 65535 opens false true")
+    × (keys_text (classes.Lapse (0 ∷ 3 ∷ []) 10) ≡ codes "after 0 3 every 10")
+    × (keys_text (classes.Flip 3 1) ≡ codes "word 3 mask 1") × (keys_text classes.Halt ≡ [])
+unfolding rows
+keys = (refl, refl, refl, refl, refl, refl)
+
+-- ---- rows of `margins` ----
+
+-- the weights are those of pedal, plate, load, speed, torque and answers
+abbrev near : Option ℤ → Margins
+near surplus = record {
+  greatest = record { pedal = 10; plate = 2; load = 4; speed = 6; torque = 5; answers = 9 };
+  surplus = surplus;
+}
+
+margins_lines : (margins_line (codes "a") (Some (record { onset = 5; class = classes.Flip 3 1 })) (near (Some (pos 225))) ≡ codes "a,flip,5,10,2,4,6,5,9,225\n")
+    × (margins_line (codes "a") None (near (Some (negsuc 99))) ≡ codes "a,none,,10,2,4,6,5,9,-100\n")
+    × (margins_line (codes "a") None (near None) ≡ codes "a,none,,10,2,4,6,5,9,\n")
+unfolding rows
+margins_lines = (refl, refl, refl)

@@ -1,10 +1,13 @@
--- Outside the headline. What "has acted" means: what a fault does at some tick of the run isn't nothing.
-use Rattle.std.specs.Prelude.{◌≡◌, ◌≢◌, ◌↔◌, ℕ, ◌<◌, true, false, Some}
+-- Outside the headline. What "has acted" means: what a fault does at some tick of the run isn't nothing. And
+-- a fault is told in one column.
+use Rattle.std.specs.Prelude.{◌≡◌, ◌≢◌, ◌↔◌, ℕ, ◌<◌, ◌==◌, Bool, true, false, not, List, Some}
+use Rattle.std.specs.List.{list_all}
 use Rattle.eg_fault.specs.Effects.{no_effects}
 use Rattle.eg_fault.specs.declared.class.Class.{Class}
 use Rattle.eg_fault.specs.declared.class.Fault.{Fault}
 use Rattle.eg_fault.specs.Faults.{effects_of, effects, IsValid, IsValidClass}
 use Rattle.eg_table.specs.Acting.{has_effect, has_acted}
+use Rattle.eg_table.specs.Keys.{keys_text}
 
 -- where a class has no effect, nothing is out of order
 abbrev pub OthersDoNothing : Type 0
@@ -34,3 +37,11 @@ abbrev pub UnactedLaw : Type 0
 UnactedLaw =
     (fault : Fault) → IsValid fault → (ticks : ℕ) →
     (has_acted (Some fault) ticks ≡ Some false) ↔ DoesNothing fault ticks
+
+-- no byte of a text is a comma
+unfoldable pub has_no_comma : List ℕ → Bool
+has_no_comma text = list_all (λ byte. not (byte == 44)) text
+
+-- the own keys of a valid class have none, so that they stand in one column
+abbrev pub KeysHaveNoComma : Type 0
+KeysHaveNoComma = (class : Class) → IsValidClass class → has_no_comma (keys_text class) ≡ true

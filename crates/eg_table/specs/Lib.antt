@@ -1,3 +1,5 @@
 pub mod Acting
 pub mod Laws
+pub mod Keys
 pub mod Texts
+pub mod Margins

@@ -1,5 +1,5 @@
-// The laws of what a fault does within a run.
-ghost use Rattle.eg_table.specs.Laws.{OthersDoNothing, EffectsDoSomething, ActedLaw, UnactedLaw};
+// The laws of what a fault does within a run, and of how it is told.
+ghost use Rattle.eg_table.specs.Laws.{OthersDoNothing, EffectsDoSomething, ActedLaw, UnactedLaw, KeysHaveNoComma};
 
 /// Does nothing when it runs. Its contract has the laws of `acted` (docs/CONCEPT.md, "`table`"): at a tick at
 /// which a class has no effect nothing is out of order, and at one at which a valid class has one something
@@ -10,4 +10,10 @@ pub fn acting_is_doing_something()
     ensures something { EffectsDoSomething }
     ensures acted { ActedLaw }
     ensures unacted { UnactedLaw }
+{}
+
+/// The own keys of a fault stand in one column of a row of `table` (docs/FORMATS.md, "The rows of `table`"):
+/// no comma is in them. It does nothing when it runs.
+pub fn keys_stand_in_one_column()
+    ensures { KeysHaveNoComma }
 {}
