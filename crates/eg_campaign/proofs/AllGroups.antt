@@ -1,12 +1,13 @@
 -- The groups of a campaign: a run that is alone, a group of more, and the groups one after another.
-use Rattle.std.proofs.Common.{◌≡◌, ◌∙◌, refl, sym, ap, ap₂, subst, ℕ, zero, suc, ◌+◌, ◌<◌, ◌≤◌, Bool, true, false, ◌||◌, List, [], ◌∷◌, ◌++◌, map, take, drop, get_or, length, length-append, arith, Option, Some, None}
-use Rattle.std.specs.Prelude.{All, IsSome, is_some, replicate, filter, if◌then◌else◌, slice_set}
+use Rattle.std.proofs.Common.{◌≡◌, ◌∙◌, refl, sym, ap, ap₂, subst, ℕ, zero, suc, ◌+◌, ◌<◌, ◌≤◌, Bool, true, false, ◌||◌, List, [], ◌∷◌, ◌++◌, map, take, drop, get_or, length, length-append, arith}
+use Rattle.std.specs.Prelude.{All, Result, IsErr, replicate, filter, if◌then◌else◌, slice_set}
 use Rattle.std.specs.List.{flat_map, list_any}
-use Rattle.std.proofs.lemmas.List.{map-append, take-append-drop, get_or-map, get_or_default, drop_all, take_all, append-nil, length-map, nil_from_length}
-use Rattle.std.proofs.lemmas.List.Elements.{All-head, All-map, filter-append, filter_passes}
-use Rattle.std.proofs.lemmas.Map.Steps.{list_any_congr}
+use Rattle.std.proofs.lemmas.List.{map-append, take-append-drop, drop_all, take_all, append-nil, length-map, nil_from_length}
+use Rattle.std.proofs.lemmas.List.Elements.{All-head, filter-append, filter_passes}
 use Rattle.std.proofs.lemmas.Simd.{splat_is_map}
-use borrow.Author.Count.{below_more}
+use Rattle.std.proofs.lemmas.Result.{IfOk-from_err}
+use Rattle.std.specs.declared.vec.Vec.{Vec}
+use Rattle.std.specs.declared.alloc.Global.{Global}
 use Rattle.eg_values.specs.Calibration.{CalibrationParts}
 use Rattle.eg_record.specs.declared.row.Row.{Row}
 use Rattle.eg_record.specs.declared.run_facts.RunFacts.{RunFacts}
@@ -15,8 +16,11 @@ use Rattle.eg_plan.specs.declared.engine.EngineKind.{EngineKind}
 use Rattle.eg_campaign.specs.declared.play.RunInput.{RunInput}
 use Rattle.eg_tick.specs.Counting.{count_with, RanOutAmong}
 use Rattle.eg_campaign.specs.Plays.{EngineRun, bench_of, rows_in_time, run_with}
-use Rattle.eg_campaign.specs.Groups.{is_alike, group_of, firsts_after, groups_of, faultless, own_on, own_rows, rows_of_group, rows_shared, rows_made, told_on, told_with, written_over}
-use Rattle.eg_campaign.proofs.AlikeLemmas.{alike, is_alike-equality, faultless-same}
+use Rattle.eg_tick.proofs.CountLemmas.{counted_err}
+use Rattle.eg_campaign.specs.Groups.{AreTold, is_alike, group_of, firsts_after, groups_of, faultless, own_on, own_rows, rows_of_group, rows_shared, rows_made, told_on, told_by, written_over}
+use Rattle.eg_campaign.specs.Keys.{is_alike-equality}
+use Rattle.eg_campaign.proofs.AlikeLemmas.{alike, faultless-same}
+use Rattle.eg_campaign.proofs.LeaderLemmas.{is_led, led-by_none, led-by_all, led-more, led-old}
 use Rattle.eg_campaign.proofs.OneGroup.{Counted, said, more, stopped, ended, next, wrote}
 
 -- ---- lists ----
@@ -106,64 +110,39 @@ shared_rows cal inputs x k long is = ap (λ (k : EngineKind). rows_shared (bench
     ∙ sym (more_rows cal x (group_of inputs x) long (head_passes (is_alike x) inputs))
 
 -- what is written by the engine of the group is written by each that a run names
-pub written_by : (cal : CalibrationParts) (x : RunInput) (k : EngineKind) (before : RunInput → Option RunFacts) (inputs : List RunInput) →
-    x.plan.engine ≡ k → map (written_over (told_on (bench_of k) cal) x before) inputs ≡ map (written_over (told_with cal) x before) inputs
-written_by cal x k before inputs is = map_same (written_over (told_on (bench_of k) cal) x before) (written_over (told_with cal) x before) each inputs
+pub written_by : (weighed : Bool) (cal : CalibrationParts) (x : RunInput) (k : EngineKind) (before : RunInput → RunFacts) (inputs : List RunInput) →
+    x.plan.engine ≡ k → map (written_over (told_on weighed (bench_of k) cal) x before) inputs ≡ map (written_over (told_by weighed cal) x before) inputs
+written_by weighed cal x k before inputs is = map_same (written_over (told_on weighed (bench_of k) cal) x before) (written_over (told_by weighed cal) x before) each inputs
   where
-    each : (y : RunInput) → written_over (told_on (bench_of k) cal) x before y ≡ written_over (told_with cal) x before y
+    each : (y : RunInput) → written_over (told_on weighed (bench_of k) cal) x before y ≡ written_over (told_by weighed cal) x before y
     each y = go (is_alike x y) refl
       where
-        go : (b : Bool) → is_alike x y ≡ b → (if b then Some (told_on (bench_of k) cal y) else before y) ≡ (if b then Some (told_with cal y) else before y)
-        go true so = ap (λ (e : EngineKind). Some (told_on (bench_of e) cal y)) (sym is ∙ (alike x y so).engine)
+        go : (b : Bool) → is_alike x y ≡ b → (if b then told_on weighed (bench_of k) cal y else before y) ≡ (if b then told_by weighed cal y else before y)
+        go true so = ap (λ (e : EngineKind). told_on weighed (bench_of e) cal y) (sym is ∙ (alike x y so).engine)
         go false so = refl
 
 -- ---- the groups of a campaign ----
 
--- what stands at the place of an input once the groups of these were played
-unfoldable pub told_after : CalibrationParts → List RunInput → RunInput → Option RunFacts
-told_after cal earlier y = if list_any (is_alike y) earlier then Some (told_with cal y) else None
+-- what stands at the place of an input once the groups that are led by the first i runs were played
+unfoldable pub told_after : (weighed : Bool) → CalibrationParts → (none : RunFacts) → (inputs : List RunInput) → ℕ → RunInput → RunFacts
+told_after weighed cal none inputs i y = if is_led inputs i y then told_by weighed cal y else none
 
 -- the rows of the groups that are still to be played
 unfoldable pub rows_left : CalibrationParts → (inputs earlier later : List RunInput) → List Row
 rows_left cal inputs earlier later = flat_map (rows_of_group cal) (map (group_of inputs) (firsts_after earlier later))
 
--- Up to this place all runs were told, and the groups of the earlier ones were counted.
-pub record Goes (cal : CalibrationParts) (inputs : List RunInput) (i : ℕ) (told : List (Option RunFacts)) (was is : TickCount) : Type 0 where
+-- The groups that are led by the first i runs were played: each of their runs is told, and they are counted.
+pub record Goes (weighed : Bool) (cal : CalibrationParts) (inputs : List RunInput) (i : ℕ) (told : List RunFacts) (was is : TickCount) : Type 0 where
+  pub none : RunFacts
+  pub told_are : told ≡ map (told_after weighed cal none inputs i) inputs
   pub earlier : List RunInput
-  pub told_are : told ≡ map (told_after cal earlier) inputs
-  pub so_far : (j : ℕ) (d : RunInput) → j < i → list_any (is_alike (get_or inputs j d)) earlier ≡ true
+  pub led : (y : RunInput) → list_any (is_alike y) earlier ≡ is_led inputs i y
   pub counts : Counted was is (rows_left cal inputs earlier (drop i inputs)) (rows_made cal inputs)
 
-pub rows_all : (cal : CalibrationParts) (inputs : List RunInput) → rows_left cal inputs [] inputs ≡ rows_made cal inputs
-unfolding rows_left rows_made groups_of
-rows_all cal inputs = refl
-
--- a place is told where its group was played
-told_place : (cal : CalibrationParts) (inputs earlier : List RunInput) (i : ℕ) (x : RunInput) (told : List (Option RunFacts))
-    (d : Option RunFacts) → i < length inputs → x ≡ get_or inputs i x → told ≡ map (told_after cal earlier) inputs → get_or told i d ≡ told_after cal earlier x
-told_place cal inputs earlier i x told d below is so_far = ap (λ l. get_or l i d) so_far
-    ∙ get_or-map (told_after cal earlier) inputs i x d below ∙ ap (told_after cal earlier) (sym is)
-
-kept : (a b : Bool) → b ≡ true → (a || b) ≡ true
-kept true b h = refl
-kept false b h = h
-
-told_if : {T : Type 0} (b : Bool) (t : T) → is_some (if b then Some t else None) ≡ b
-told_if true t = refl
-told_if false t = refl
-
-so_far_more : (inputs earlier : List RunInput) (i : ℕ) (x : RunInput) → i < length inputs → x ≡ get_or inputs i x →
-    ((j : ℕ) (d : RunInput) → j < i → list_any (is_alike (get_or inputs j d)) earlier ≡ true) →
-    (j : ℕ) (d : RunInput) → j < i + 1 → list_any (is_alike (get_or inputs j d)) (x ∷ earlier) ≡ true
-so_far_more inputs earlier i x below is so_far j d within =
-    let P : ℕ → Type 0 = λ (j : ℕ). (d : RunInput) → list_any (is_alike (get_or inputs j d)) (x ∷ earlier) ≡ true in
-    below_more P i (λ k l d. kept (is_alike (get_or inputs k d) x) (list_any (is_alike (get_or inputs k d)) earlier) (so_far k d l))
-    (λ d. ap (λ (z : RunInput). is_alike z x || list_any (is_alike z) earlier) (get_or_default inputs i d x below ∙ sym is)
-    ∙ ap (λ b. b || list_any (is_alike x) earlier) (is_alike-equality.refl x)) j within d
-
-pub nowhere : (inputs : List RunInput) (told : List (Option RunFacts)) → told ≡ replicate (length inputs) None →
-    told ≡ map (λ (y : RunInput). None) inputs
-nowhere inputs told is = is ∙ splat_is_map inputs (length inputs) None refl
+-- the places of what is told are as many as the runs
+pub places : (weighed : Bool) (cal : CalibrationParts) (inputs : List RunInput) (i : ℕ) (told : List RunFacts) (was is : TickCount) →
+    Goes weighed cal inputs i told was is → length told ≡ length inputs
+places weighed cal inputs i told was is goes = ap length goes.told_are ∙ length-map inputs (told_after weighed cal goes.none inputs i)
 
 -- a slice of a vector's items goes back into it
 pub wrote_back : {X T : Type 0} (len : ℕ) (now items : List T) (xs : List X) (f : X → T) → now ≡ map f xs → length items ≡ length xs → len ≡ length items →
@@ -173,107 +152,95 @@ wrote_back len now items xs f is places all =
     ap (λ l. take len (now ++ l)) (drop_all (length now) items (omega (arith, long, places))) ∙ ap (take len) (append-nil now)
     ∙ take_all len now (omega (arith, long, places, all))
 
--- no place is told yet
-pub goes-begin : (cal : CalibrationParts) (inputs : List RunInput) (told : List (Option RunFacts)) (was : TickCount) →
-    told ≡ map (λ (y : RunInput). None) inputs → Counted was was (rows_made cal inputs) (rows_made cal inputs) → Goes cal inputs 0 told was was
-unfolding told_after
-goes-begin cal inputs told was none counts = record {
+-- where memory ran out nothing is told
+pub not_told : {T E : Type 0} (tells : RunInput → T) (inputs : List RunInput) (rows : List Row) (was is : TickCount) (result : Result (Vec T Global) E) →
+    IsErr result → RanOutAmong rows was is → AreTold tells inputs rows was is result
+not_told tells inputs rows was is result err out = record { told = IfOk-from_err result _ err; counted = counted_err rows was is result err out }
+
+-- no group is played yet
+pub goes-begin : (weighed : Bool) (cal : CalibrationParts) (inputs : List RunInput) (told : List RunFacts) (none : RunFacts) (was : TickCount) →
+    told ≡ replicate (length inputs) none → Counted was was (rows_made cal inputs) (rows_made cal inputs) → Goes weighed cal inputs 0 told was was
+unfolding told_after rows_left rows_made groups_of
+goes-begin weighed cal inputs told none was same counts = record {
+  none = none;
+  told_are = same ∙ splat_is_map inputs (length inputs) none refl
+      ∙ map_same (λ (y : RunInput). none) (told_after weighed cal none inputs 0) (λ y. ap (λ b. if b then told_by weighed cal y else none) (sym (led-by_none inputs y))) inputs;
   earlier = [];
-  told_are = none;
-  so_far = λ j d below. absurd (omega (arith, below));
-  counts = said _ _ _ _ _ (sym (rows_all cal inputs)) counts;
+  led = λ y. sym (led-by_none inputs y);
+  counts = counts;
 }
 
-module _ (cal : CalibrationParts) (inputs : List RunInput) (earlier : List RunInput) (i : ℕ) (x : RunInput) (below : i < length inputs) (is : x ≡ get_or inputs i x) where
+module _ (weighed : Bool) (cal : CalibrationParts) (inputs : List RunInput) (earlier : List RunInput) (i : ℕ) (x : RunInput) (below : i < length inputs) (at : x ≡ get_or inputs i x) where
   -- a group that was played is none more
   left-old : list_any (is_alike x) earlier ≡ true → rows_left cal inputs earlier (drop i inputs) ≡ rows_left cal inputs (x ∷ earlier) (drop (i + 1) inputs)
   unfolding rows_left firsts_after
-  left-old so = ap (rows_left cal inputs earlier) (next inputs i x below is)
+  left-old so = ap (rows_left cal inputs earlier) (next inputs i x below at)
       ∙ ap (λ (b : Bool). flat_map (rows_of_group cal) (map (group_of inputs)
       (if b then firsts_after (x ∷ earlier) (drop (i + 1) inputs) else x ∷ firsts_after (x ∷ earlier) (drop (i + 1) inputs)))) so
 
-  pub left-new : list_any (is_alike x) earlier ≡ false →
+  left-new : list_any (is_alike x) earlier ≡ false →
       rows_left cal inputs earlier (drop i inputs) ≡ rows_of_group cal (group_of inputs x) ++ rows_left cal inputs (x ∷ earlier) (drop (i + 1) inputs)
   unfolding rows_left firsts_after
-  left-new so = ap (rows_left cal inputs earlier) (next inputs i x below is)
+  left-new so = ap (rows_left cal inputs earlier) (next inputs i x below at)
       ∙ ap (λ (b : Bool). flat_map (rows_of_group cal) (map (group_of inputs)
       (if b then firsts_after (x ∷ earlier) (drop (i + 1) inputs) else x ∷ firsts_after (x ∷ earlier) (drop (i + 1) inputs)))) so
 
-  seen : list_any (is_alike x) earlier ≡ true → (y : RunInput) → list_any (is_alike y) earlier ≡ (is_alike y x || list_any (is_alike y) earlier)
-  seen so y = go (is_alike y x) refl
-    where
-      go : (b : Bool) → is_alike y x ≡ b → list_any (is_alike y) earlier ≡ (b || list_any (is_alike y) earlier)
-      go true h = list_any_congr is_alike-equality y x earlier h ∙ so
-      go false h = refl
+  -- with x the runs that are led by one place more are those of a group of an earlier one
+  led-on : ((y : RunInput) → list_any (is_alike y) earlier ≡ is_led inputs i y) → (y : RunInput) → list_any (is_alike y) (x ∷ earlier) ≡ is_led inputs (i + 1) y
+  led-on led y = ap (λ b. is_alike y x || b) (led y) ∙ led-more inputs i x below at y
 
-  told-old : list_any (is_alike x) earlier ≡ true → (y : RunInput) → told_after cal earlier y ≡ told_after cal (x ∷ earlier) y
+  either : {T : Type 0} (a b l : Bool) (t none : T) → a ≡ b → (if a then t else (if l then t else none)) ≡ (if b || l then t else none)
+  either a true l t none e = ap (λ k. if k then t else (if l then t else none)) e
+  either a false l t none e = ap (λ k. if k then t else (if l then t else none)) e
+
+  told-new : (none : RunFacts) (y : RunInput) → written_over (told_by weighed cal) x (told_after weighed cal none inputs i) y ≡ told_after weighed cal none inputs (i + 1) y
   unfolding told_after
-  told-old so y = ap (λ b. if b then Some (told_with cal y) else None) (seen so y)
+  told-new none y = either (is_alike x y) (is_alike y x) (is_led inputs i y) (told_by weighed cal y) none (is_alike-equality.symm x y)
+      ∙ ap (λ b. if b then told_by weighed cal y else none) (led-more inputs i x below at y)
 
-  either : {T : Type 0} (a b l : Bool) (t : T) → a ≡ b → (if a then Some t else (if l then Some t else None)) ≡ (if b || l then Some t else None)
-  either a true l t e = ap (λ k. if k then Some t else (if l then Some t else None)) e
-  either a false l t e = ap (λ k. if k then Some t else (if l then Some t else None)) e
-
-  told-new : (y : RunInput) → written_over (told_with cal) x (told_after cal earlier) y ≡ told_after cal (x ∷ earlier) y
+  told-old : is_led inputs i x ≡ true → (none : RunFacts) (y : RunInput) → told_after weighed cal none inputs i y ≡ told_after weighed cal none inputs (i + 1) y
   unfolding told_after
-  told-new y = either (is_alike x y) (is_alike y x) (list_any (is_alike y) earlier) (told_with cal y) (is_alike-equality.symm x y)
+  told-old so none y = ap (λ b. if b then told_by weighed cal y else none) (led-old inputs i x below at so y)
 
-module _ (cal : CalibrationParts) (inputs : List RunInput) (i : ℕ) (x : RunInput) (below : i < length inputs) (is : x ≡ get_or inputs i x) where
-  -- an input whose group was played
-  pub goes-on : (told : List (Option RunFacts)) (was mid : TickCount) (so_far : Goes cal inputs i told was mid) →
-      list_any (is_alike x) so_far.earlier ≡ true → Goes cal inputs (i + 1) told was mid
-  goes-on told was mid so_far so = record {
+module _ (weighed : Bool) (cal : CalibrationParts) (inputs : List RunInput) (i : ℕ) (x : RunInput) (below : i < length inputs) (at : x ≡ get_or inputs i x) where
+  -- an input whose group was played, since one before it leads it
+  pub goes-on : (told : List RunFacts) (was mid : TickCount) → is_led inputs i x ≡ true → Goes weighed cal inputs i told was mid → Goes weighed cal inputs (i + 1) told was mid
+  goes-on told was mid so so_far = record {
+    none = so_far.none;
+    told_are = so_far.told_are ∙ map_same (told_after weighed cal so_far.none inputs i) (told_after weighed cal so_far.none inputs (i + 1)) (told-old weighed cal inputs so_far.earlier i x below at so so_far.none) inputs;
     earlier = x ∷ so_far.earlier;
-    told_are = so_far.told_are ∙ map_same (told_after cal so_far.earlier) (told_after cal (x ∷ so_far.earlier)) (told-old cal inputs so_far.earlier i x below is so) inputs;
-    so_far = so_far_more inputs so_far.earlier i x below is so_far.so_far;
-    counts = said _ _ _ _ _ (left-old cal inputs so_far.earlier i x below is so) so_far.counts;
+    led = led-on weighed cal inputs so_far.earlier i x below at so_far.led;
+    counts = said _ _ _ _ _ (left-old weighed cal inputs so_far.earlier i x below at (so_far.led x ∙ so)) so_far.counts;
   }
 
   -- an input whose group is played now
-  pub goes-new : (told now : List (Option RunFacts)) (was mid new : TickCount) (so_far : Goes cal inputs i told was mid) →
-      list_any (is_alike x) so_far.earlier ≡ false →
-      now ≡ map (written_over (told_with cal) x (told_after cal so_far.earlier)) inputs →
-      new ≡ count_with mid (rows_of_group cal (group_of inputs x)) → Goes cal inputs (i + 1) now was new
-  goes-new told now was mid new so_far so written counted = record {
+  pub goes-new : (told now : List RunFacts) (was mid new : TickCount) → is_led inputs i x ≡ false → (so_far : Goes weighed cal inputs i told was mid) →
+      now ≡ map (written_over (told_by weighed cal) x (told_after weighed cal so_far.none inputs i)) inputs →
+      new ≡ count_with mid (rows_of_group cal (group_of inputs x)) → Goes weighed cal inputs (i + 1) now was new
+  goes-new told now was mid new so so_far written counted = record {
+    none = so_far.none;
+    told_are = written ∙ map_same (written_over (told_by weighed cal) x (told_after weighed cal so_far.none inputs i)) (told_after weighed cal so_far.none inputs (i + 1))
+        (told-new weighed cal inputs so_far.earlier i x below at so_far.none) inputs;
     earlier = x ∷ so_far.earlier;
-    told_are = written ∙ map_same (written_over (told_with cal) x (told_after cal so_far.earlier)) (told_after cal (x ∷ so_far.earlier))
-        (told-new cal inputs so_far.earlier i x below is) inputs;
-    so_far = so_far_more inputs so_far.earlier i x below is so_far.so_far;
-    counts = more _ _ _ _ _ _ (said _ _ _ _ _ (left-new cal inputs so_far.earlier i x below is so) so_far.counts) counted;
+    led = led-on weighed cal inputs so_far.earlier i x below at so_far.led;
+    counts = more _ _ _ _ _ _ (said _ _ _ _ _ (left-new weighed cal inputs so_far.earlier i x below at (so_far.led x ∙ so)) so_far.counts) counted;
   }
 
   -- it is stopped there
-  pub goes-stopped : (told : List (Option RunFacts)) (was mid new : TickCount) (so_far : Goes cal inputs i told was mid) →
-      list_any (is_alike x) so_far.earlier ≡ false → RanOutAmong (rows_of_group cal (group_of inputs x)) mid new → RanOutAmong (rows_made cal inputs) was new
-  goes-stopped told was mid new so_far so within =
-      stopped _ _ _ _ _ _ (said _ _ _ _ _ (left-new cal inputs so_far.earlier i x below is so) so_far.counts) within
-
-  -- whether its group was played is told by its place
-  pub place-some : (told : List (Option RunFacts)) (was mid : TickCount) (so_far : Goes cal inputs i told was mid)
-      (d : Option RunFacts) (r : Bool) → r ≡ is_some (get_or told i d) → r ≡ list_any (is_alike x) so_far.earlier
-  unfolding told_after
-  place-some told was mid so_far d r e = e ∙ ap is_some (told_place cal inputs so_far.earlier i x told d below is so_far.told_are)
-      ∙ told_if (list_any (is_alike x) so_far.earlier) (told_with cal x)
+  pub goes-stopped : (told : List RunFacts) (was mid new : TickCount) → is_led inputs i x ≡ false → Goes weighed cal inputs i told was mid →
+      RanOutAmong (rows_of_group cal (group_of inputs x)) mid new → RanOutAmong (rows_made cal inputs) was new
+  goes-stopped told was mid new so so_far within =
+      stopped _ _ _ _ _ _ (said _ _ _ _ _ (left-new weighed cal inputs so_far.earlier i x below at (so_far.led x ∙ so)) so_far.counts) within
 
 -- all were played
-pub goes-end-told : (cal : CalibrationParts) (inputs : List RunInput) (i : ℕ) (told : List (Option RunFacts)) (was mid : TickCount) →
-    length inputs ≤ i → Goes cal inputs i told was mid → told ≡ map (λ (y : RunInput). Some (told_with cal y)) inputs
+pub goes-end-told : (weighed : Bool) (cal : CalibrationParts) (inputs : List RunInput) (i : ℕ) (told : List RunFacts) (was mid : TickCount) →
+    length inputs ≤ i → Goes weighed cal inputs i told was mid → told ≡ map (told_by weighed cal) inputs
 unfolding told_after
-goes-end-told cal inputs i told was mid end so_far = so_far.told_are ∙ map_same_at (told_after cal so_far.earlier) (λ (y : RunInput). Some (told_with cal y)) inputs
-    (λ j d below. ap (λ b. if b then Some (told_with cal (get_or inputs j d)) else None) (so_far.so_far j d (omega (arith, below, end))))
+goes-end-told weighed cal inputs i told was mid end so_far = so_far.told_are ∙ map_same_at (told_after weighed cal so_far.none inputs i) (told_by weighed cal) inputs
+    (λ j d below. ap (λ b. if b then told_by weighed cal (get_or inputs j d) else so_far.none) (led-by_all inputs i j d below end))
 
-pub goes-end-counted : (cal : CalibrationParts) (inputs : List RunInput) (i : ℕ) (told : List (Option RunFacts)) (was mid : TickCount) →
-    length inputs ≤ i → Goes cal inputs i told was mid → mid ≡ count_with was (rows_made cal inputs)
+pub goes-end-counted : (weighed : Bool) (cal : CalibrationParts) (inputs : List RunInput) (i : ℕ) (told : List RunFacts) (was mid : TickCount) →
+    length inputs ≤ i → Goes weighed cal inputs i told was mid → mid ≡ count_with was (rows_made cal inputs)
 unfolding rows_left firsts_after
-goes-end-counted cal inputs i told was mid end so_far =
+goes-end-counted weighed cal inputs i told was mid end so_far =
     ended _ _ _ (said _ _ _ _ _ (ap (rows_left cal inputs so_far.earlier) (drop_all i inputs end)) so_far.counts)
-
--- ---- what is told at a place ----
-
-pub all_some : {X T : Type 0} (t : X → T) (xs : List X) (told : List (Option T)) → told ≡ map (λ (x : X). Some (t x)) xs → All IsSome told
-all_some {X} {T} t xs told is = subst (λ (l : List (Option T)). All IsSome l) (sym is) (All-map IsSome (λ (x : X). Some (t x)) xs (λ k d below. refl))
-
-pub told_there : {X T : Type 0} (t : X → T) (xs : List X) (i : ℕ) (x : X) (told : List (Option T)) (one : T) → i < length xs →
-    told ≡ map (λ (y : X). Some (t y)) xs → get_or told i None ≡ Some one → one ≡ t (get_or xs i x)
-told_there {X} {T} t xs i x told one below is there =
-    let said : Some one ≡ Some (t (get_or xs i x)) = sym there ∙ ap (λ l. get_or l i None) is ∙ get_or-map (λ (y : X). Some (t y)) xs i x None below in cc

@@ -1,5 +1,5 @@
 -- What was played of a run, tick by tick: its rows and what they count, and what is kept of it.
-use Rattle.std.proofs.Common.{◌≡◌, ◌∙◌, refl, sym, ap, ap₂, subst, ℕ, zero, suc, ◌+◌, ◌-◌, ◌*◌, ◌/◌, ◌%◌, ◌^◌, ◌<◌, ◌≤◌, false, List, [], ◌∷◌, ◌++◌, take, drop, length, add-one, arith, Bor, Option, Some, None}
+use Rattle.std.proofs.Common.{◌≡◌, ◌∙◌, refl, sym, ap, ap₂, subst, ℕ, zero, suc, ◌+◌, ◌-◌, ◌*◌, ◌/◌, ◌%◌, ◌^◌, ◌<◌, ◌≤◌, Bool, false, List, [], ◌∷◌, ◌++◌, take, drop, length, add-one, arith, Bor, Option, Some, None}
 use Rattle.std.specs.Option.{option_copied}
 use Rattle.std.specs.Prelude.{slice_index_or, if◌then◌else◌, nat_lt, reverse}
 use Rattle.std.proofs.Math.Seq.{take-length}
@@ -12,6 +12,7 @@ use Rattle.eg_values.specs.Calibration.{CalibrationParts}
 use Rattle.eg_guard.specs.Memory.{ShownMemory}
 use Rattle.eg_record.specs.declared.row.Row.{Row}
 use Rattle.eg_record.specs.Tallies.{TallyParts, IsTallyOf}
+use Rattle.eg_record.specs.Margins.{IsMarginTallyOf}
 use Rattle.eg_model.specs.Engines.{BenchEngine}
 use Rattle.eg_model.specs.Bench.{Run, drive_at}
 use Rattle.eg_model.specs.Branching.{BeginsFrom}
@@ -23,6 +24,7 @@ use Rattle.eg_tick.specs.Benched.{ComeTo}
 use Rattle.eg_tick.specs.Kept.{Kept}
 use Rattle.eg_tick.specs.Weights.{TickCount, weight_of}
 use Rattle.eg_tick.specs.Run.{run_by, IsAt}
+use Rattle.eg_tick.specs.Margins.{weighed_of, weighed_to}
 use Rattle.eg_tick.proofs.RunLemmas.{counted, drive-at}
 use Rattle.eg_tick.proofs.FactLaws.{counted-next}
 use Rattle.eg_tick.proofs.BranchLemmas.{branch_of}
@@ -110,13 +112,15 @@ module _ {S E : Type 0} (b : BenchEngine S) (come_to : ComeTo S E) (r : Run) whe
       ∙ ap (λ l. drop (fault.onset / checkpoint_ticks * checkpoint_ticks) (reverse l)) (record_rows-is b r)
       ∙ between-in_time (fault.onset / checkpoint_ticks * checkpoint_ticks) (length r.drive) before
 
-  -- ---- what was played ----
+-- ---- what was played ----
 
-  pub played_next : {M : Type 0} (t : ℕ) (old new : Played E M) (row : Row) → HasPlayed b come_to r t old → row ≡ row_at b r t →
+module _ {S E : Type 0} (weighed : Bool) (b : BenchEngine S) (come_to : ComeTo S E) (r : Run) where
+  pub played_next : {M : Type 0} (t : ℕ) (old new : Played E M) (row : Row) → HasPlayed weighed b come_to r t old → row ≡ row_at b r t →
       IsAt b come_to r (t + 1) new.controller → new.controller.kept.ticks ≡ t + 1 →
       new.tally.threshold ≡ old.tally.threshold → new.tally.weights ≡ old.tally.weights → new.tally.facts.ticks ≡ old.tally.facts.ticks + 1 →
-      ((rows : List Row) → IsTallyOf old.tally rows → IsTallyOf new.tally (row ∷ rows)) → HasPlayed b come_to r (t + 1) new
-  played_next t old new row played is at ticks threshold weights fed stands = record {
+      ((rows : List Row) → IsTallyOf old.tally rows → IsTallyOf new.tally (row ∷ rows)) →
+      (IsMarginTallyOf old.margins (weighed_to weighed b r t) → IsMarginTallyOf new.margins (weighed_to weighed b r (t + 1))) → HasPlayed weighed b come_to r (t + 1) new
+  played_next t old new row played is at ticks threshold weights fed stands weighs = record {
     at = at;
     ticks = ticks;
     threshold = threshold ∙ played.threshold;
@@ -124,71 +128,74 @@ module _ {S E : Type 0} (b : BenchEngine S) (come_to : ComeTo S E) (r : Run) whe
     fed = fed ∙ ap (λ n. n + 1) played.fed;
     tally = subst (IsTallyOf new.tally) (ap (λ x. x ∷ rows_to b r t) is ∙ sym (rows_to-suc b r t) ∙ ap (rows_to b r) (one_more t))
         (stands (rows_to b r t) played.tally);
+    margins = weighs played.margins;
   }
 
-  pub made_none : {M : Type 0} (t : ℕ) (played : Played E M) (was : TickCount) → was ≡ count_with was [] → HasPlayed b come_to r t played →
-      HasMade b come_to r t t played was was
+  pub made_none : {M : Type 0} (t : ℕ) (played : Played E M) (was : TickCount) → was ≡ count_with was [] → HasPlayed weighed b come_to r t played →
+      HasMade weighed b come_to r t t played was was
   made_none t played was same is = record {
     least = omega arith;
     to = is;
-    counted = counted_none was (rows_between b r t t) (rows_between-none t) same;
+    counted = counted_none was (rows_between b r t t) (rows_between-none b come_to r t) same;
   }
 
-  pub made_next : {M : Type 0} (from t : ℕ) (old new : Played E M) (was is now : TickCount) (row : Row) → HasMade b come_to r from t old was is →
-      row ≡ row_at b r t → HasPlayed b come_to r (t + 1) new →
-      now.count ≡ (is.count + 1) % 2 ^ 64 → now.weights ≡ (is.weights + weight_of row) % 2 ^ 64 → HasMade b come_to r from (t + 1) new was now
+  pub made_next : {M : Type 0} (from t : ℕ) (old new : Played E M) (was is now : TickCount) (row : Row) → HasMade weighed b come_to r from t old was is →
+      row ≡ row_at b r t → HasPlayed weighed b come_to r (t + 1) new →
+      now.count ≡ (is.count + 1) % 2 ^ 64 → now.weights ≡ (is.weights + weight_of row) % 2 ^ 64 → HasMade weighed b come_to r from (t + 1) new was now
   made_next from t old new was is now row made here played count weight = record {
     least = let l = made.least in omega (arith, l);
     to = played;
     counted = counted_next was is now (rows_between b r from t) row made.counted count weight
-        ∙ ap (count_with was) (ap (λ x. x ∷ rows_between b r from t) here ∙ rows_between-next from t made.least);
+        ∙ ap (count_with was) (ap (λ x. x ∷ rows_between b r from t) here ∙ rows_between-next b come_to r from t made.least);
   }
 
   -- in the order of time
-  pub made_in_time : {M : Type 0} (from t : ℕ) (played : Played E M) (was is : TickCount) → HasMade b come_to r from t played was is →
+  pub made_in_time : {M : Type 0} (from t : ℕ) (played : Played E M) (was is : TickCount) → HasMade weighed b come_to r from t played was is →
       is ≡ count_with was (reverse (rows_between b r from t))
   made_in_time from t played was is made = counts_reverse was is (length (rows_between b r from t)) (rows_between b r from t) refl made.counted
 
   -- the run was played from its first tick on, up to one, and to its end
-  pub made_front : {M : Type 0} (t : ℕ) (played : Played E M) (was is : TickCount) → HasMade b come_to r 0 t played was is → t ≤ length r.drive →
+  pub made_front : {M : Type 0} (t : ℕ) (played : Played E M) (was is : TickCount) → HasMade weighed b come_to r 0 t played was is → t ≤ length r.drive →
       is ≡ count_with was (take t (reverse (record_rows b r)))
   made_front t played was is made within = made_in_time 0 t played was is made
-      ∙ ap (count_with was) (ap reverse (rows_between-all t) ∙ sym (front-take b r t within))
+      ∙ ap (count_with was) (ap reverse (rows_between-all b come_to r t) ∙ sym (front-take b r t within))
 
-  pub made_all : {M : Type 0} (played : Played E M) (was is : TickCount) → HasMade b come_to r 0 (length r.drive) played was is →
+  pub made_all : {M : Type 0} (played : Played E M) (was is : TickCount) → HasMade weighed b come_to r 0 (length r.drive) played was is →
       is ≡ count_with was (reverse (record_rows b r))
   made_all played was is made = made_in_time 0 (length r.drive) played was is made
-      ∙ ap (λ l. count_with was (reverse l)) (rows_between-all (length r.drive) ∙ sym (record_rows-is b r))
+      ∙ ap (λ l. count_with was (reverse l)) (rows_between-all b come_to r (length r.drive) ∙ sym (record_rows-is b r))
 
   -- ---- what is kept ----
 
-  pub kept_none : {M : Type 0} (kept : List (Played E M)) → kept ≡ [] → AreCheckpoints b come_to r 0 kept
-  kept_none kept none = subst (AreCheckpoints b come_to r 0) (sym none) (record {
+  pub kept_none : {M : Type 0} (kept : List (Played E M)) → kept ≡ [] → AreCheckpoints weighed b come_to r 0 kept
+  kept_none kept none = subst (AreCheckpoints weighed b come_to r 0) (sym none) (record {
     enough = omega arith;
     no_more = omega arith;
     each = λ k below d. absurd (omega (arith, below));
   })
 
   pub kept_more : {M : Type 0} (t : ℕ) (kept after : List (Played E M)) (one : Played E M) → after ≡ kept ++ one ∷ [] → t % checkpoint_ticks ≡ 0 →
-      HasPlayed b come_to r t one → AreCheckpoints b come_to r t kept → AreCheckpoints b come_to r (t + 1) after
+      HasPlayed weighed b come_to r t one → AreCheckpoints weighed b come_to r t kept → AreCheckpoints weighed b come_to r (t + 1) after
   kept_more t kept after one pushed whole played are =
       let long : length (kept ++ one ∷ []) ≡ length kept + 1 = length-append kept (one ∷ []) in
       let here : t ≡ length kept * checkpoint_ticks = omega (arith, whole, are.enough, are.no_more) in
-      subst (AreCheckpoints b come_to r (t + 1)) (sym pushed) (record {
+      subst (AreCheckpoints weighed b come_to r (t + 1)) (sym pushed) (record {
         enough = omega (arith, long, here);
         no_more = omega (arith, long, here);
-        each = each-more (λ k. HasPlayed b come_to r (k * checkpoint_ticks)) kept one are.each (subst (λ n. HasPlayed b come_to r n one) here played);
+        each = each-more (λ k. HasPlayed weighed b come_to r (k * checkpoint_ticks)) kept one are.each (subst (λ n. HasPlayed weighed b come_to r n one) here played);
       })
 
 -- ---- branches ----
 
-module _ {S E : Type 0} (b : BenchEngine S) (come_to : ComeTo S E) (r : Run) where
+module _ {S E : Type 0} (weighed : Bool) (b : BenchEngine S) (come_to : ComeTo S E) (r : Run) where
   -- a branch under a fault has played the run under it
   pub branched_at : {M N : Type 0} (t : ℕ) (fault : Option Fault) (memory : ShownMemory) (old : Played E M) (new : Played E N) →
       old.controller.kept.fault ≡ None → BeginsFrom old.controller.kept.ticks fault →
       new.controller.kept ≡ branch_of old.controller.kept fault memory → memory.words ≡ old.controller.kept.memory.words →
-      new.controller.engine ≡ old.controller.engine → new.tally ≡ old.tally → HasPlayed b come_to r t old → HasPlayed b come_to (run_under fault r) t new
-  branched_at t fault memory old new without from kept words engine same is =
+      new.controller.engine ≡ old.controller.engine → new.tally ≡ old.tally → new.margins ≡ old.margins →
+      HasPlayed weighed b come_to r t old → HasPlayed weighed b come_to (run_under fault r) t new
+  unfolding weighed_to
+  branched_at t fault memory old new without from kept words engine same weighs is =
       let none : r.setting.fault ≡ None = sym is.at.stands.fault ∙ without in
       let begins : BeginsFrom t fault = subst (λ n. BeginsFrom n fault) is.ticks from in
       record {
@@ -199,6 +206,9 @@ module _ {S E : Type 0} (b : BenchEngine S) (come_to : ComeTo S E) (r : Run) whe
         fed = ap (λ (p : TallyParts). p.facts.ticks) same ∙ is.fed;
         tally = subst (λ p. IsTallyOf p (rows_to b (run_under fault r) t)) (sym same)
             (subst (IsTallyOf old.tally) (sym (records_branch b r none fault t begins).rows_are) is.tally);
+        margins = subst (λ m. IsMarginTallyOf m (weighed_to weighed b (run_under fault r) t)) (sym weighs)
+            (subst (λ past. IsMarginTallyOf old.margins (if weighed then weighed_of r.setting.cal past else []))
+            (sym (records_branch b r none fault t begins).moments_are) is.margins);
       }
 
   -- and one without a fault the run itself
@@ -206,19 +216,19 @@ module _ {S E : Type 0} (b : BenchEngine S) (come_to : ComeTo S E) (r : Run) whe
   without-is none = ap (λ f. run_under f r) (sym none)
 
 -- the run of an input under its fault, from the last checkpoint on that isn't after the onset
-module _ {S E : Type 0} (b : BenchEngine S) (come_to : ComeTo S E) (cal : CalibrationParts) (input : RunInput) (fault : Fault)
+module _ {S E : Type 0} (weighed : Bool) (b : BenchEngine S) (come_to : ComeTo S E) (cal : CalibrationParts) (input : RunInput) (fault : Fault)
     (is : input.plan.fault ≡ Some fault) (within : fault.onset < length input.drive) where
-  pub played_under : (shared : Shared E) → IsSharedBy b come_to (run_with cal (faultless input)).run shared →
+  pub played_under : (shared : Shared E) → IsSharedBy weighed b come_to (run_with cal (faultless input)).run shared →
       (copy : Fault) → copy ≡ fault → {N : Type 0} (from : Played E (List ℕ)) (branch : Played E N) → from ≡ slice_index_or shared.checkpoints.items (fault.onset / checkpoint_ticks) from →
-      ((r : Run) (t : ℕ) → HasPlayed b come_to r t from → HasPlayed b come_to (run_under (Some copy) r) t branch) →
-      HasPlayed b come_to (run_with cal input).run (fault.onset / checkpoint_ticks * checkpoint_ticks) branch
+      ((r : Run) (t : ℕ) → HasPlayed weighed b come_to r t from → HasPlayed weighed b come_to (run_under (Some copy) r) t branch) →
+      HasPlayed weighed b come_to (run_with cal input).run (fault.onset / checkpoint_ticks * checkpoint_ticks) branch
   played_under shared kept copy same from branch at branched =
       let place : ℕ = fault.onset / checkpoint_ticks in
       let below : place < length shared.checkpoints.items = omega (arith, within, kept.checkpoints.enough) in
-      subst (λ f. HasPlayed b come_to (run_by cal input.image f input.plan.plan input.drive) (place * checkpoint_ticks) branch)
+      subst (λ f. HasPlayed weighed b come_to (run_by cal input.image f input.plan.plan input.drive) (place * checkpoint_ticks) branch)
       (ap (λ f. Some f) same ∙ sym is)
       (branched (run_with cal (faultless input)).run (place * checkpoint_ticks)
-      (subst (HasPlayed b come_to (run_with cal (faultless input)).run (place * checkpoint_ticks)) (sym at)
+      (subst (HasPlayed weighed b come_to (run_with cal (faultless input)).run (place * checkpoint_ticks)) (sym at)
       (kept.checkpoints.each place below from)))
 
   -- the rows that are made for it

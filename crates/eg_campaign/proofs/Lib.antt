@@ -3,6 +3,7 @@ pub mod RecordLemmas
 mod Worked
 pub mod CheckpointLemmas
 pub mod AlikeLemmas
+pub mod LeaderLemmas
 pub mod OneGroup
 pub mod AllGroups
 pub mod UnderLemmas

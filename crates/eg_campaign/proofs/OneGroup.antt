@@ -1,6 +1,6 @@
 -- Runs that are played group by group: what is counted, and what is written at their places.
-use Rattle.std.proofs.Common.{◌≡◌, ◌∙◌, refl, sym, ap, ap₂, subst, ℕ, ◌+◌, ◌<◌, ◌≤◌, Bool, true, List, [], ◌∷◌, ◌++◌, map, take, drop, get_or, length, add-one, append_assoc, arith, Option}
-use Rattle.std.specs.Prelude.{filter, if◌then◌else◌, Some, slice_set}
+use Rattle.std.proofs.Common.{◌≡◌, ◌∙◌, refl, sym, ap, ap₂, subst, ℕ, ◌+◌, ◌<◌, ◌≤◌, Bool, true, List, [], ◌∷◌, ◌++◌, map, take, drop, get_or, length, add-one, append_assoc, arith}
+use Rattle.std.specs.Prelude.{filter, if◌then◌else◌, slice_set}
 use Rattle.std.specs.List.{flat_map}
 use Rattle.std.proofs.Math.Seq.{drop-cons}
 use Rattle.std.proofs.lemmas.List.{append-nil, set_at, take_all, drop_all, length-take-le, length-map}
@@ -114,11 +114,11 @@ module _ {X T : Type 0} (after before : X → T) where
 -- ---- what one input tells ----
 
 -- what is shared of one run of a group is shared of each
-pub shared_of : {S E : Type 0} (b : BenchEngine S) (come_to : ComeTo S E) (shared : Shared E) (cal : CalibrationParts) (x y : RunInput) →
-    is_alike x y ≡ true → IsSharedBy b come_to (run_with cal (faultless x)).run shared → IsSharedBy b come_to (run_with cal (faultless y)).run shared
-shared_of b come_to shared cal x y so is =
-    subst (λ (r : EngineRun). IsSharedBy b come_to r.run shared) (faultless-same cal x y (alike x y so)) is
+pub shared_of : {S E : Type 0} (weighed : Bool) (b : BenchEngine S) (come_to : ComeTo S E) (shared : Shared E) (cal : CalibrationParts) (x y : RunInput) →
+    is_alike x y ≡ true → IsSharedBy weighed b come_to (run_with cal (faultless x)).run shared → IsSharedBy weighed b come_to (run_with cal (faultless y)).run shared
+shared_of weighed b come_to shared cal x y so is =
+    subst (λ (r : EngineRun). IsSharedBy weighed b come_to r.run shared) (faultless-same cal x y (alike x y so)) is
 
-pub written-when : {T : Type 0} {b : Bool} (tells : RunInput → T) (x : RunInput) (before : RunInput → Option T) (y : RunInput) → is_alike x y ≡ b →
-    (if b then Some (tells y) else before y) ≡ written_over tells x before y
-written-when tells x before y so = sym (ap (λ b. if b then Some (tells y) else before y) so)
+pub written-when : {T : Type 0} {b : Bool} (tells : RunInput → T) (x : RunInput) (before : RunInput → T) (y : RunInput) → is_alike x y ≡ b →
+    (if b then tells y else before y) ≡ written_over tells x before y
+written-when tells x before y so = sym (ap (λ b. if b then tells y else before y) so)

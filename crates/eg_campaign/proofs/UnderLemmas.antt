@@ -1,5 +1,5 @@
 -- The runs of one input under two faults or more are a group.
-use Rattle.std.proofs.Common.{◌≡◌, ◌∙◌, refl, sym, ap, subst, ◌≤◌, List, [], ◌∷◌, ◌++◌, map, length, arith, Some}
+use Rattle.std.proofs.Common.{◌≡◌, ◌∙◌, refl, sym, ap, subst, false, ◌≤◌, List, [], ◌∷◌, ◌++◌, map, length, arith, Some}
 use Rattle.std.specs.Prelude.{Result, IfOk}
 use Rattle.std.specs.List.{flat_map}
 use Rattle.std.specs.declared.vec.Vec.{Vec}
@@ -20,10 +20,10 @@ use Rattle.eg_campaign.specs.Groups.{AreTold, input_under, faultless, inputs_und
 
 module _ (cal : CalibrationParts) (x : RunInput) (faults : List Fault) (k : EngineKind) (is : x.plan.engine ≡ k) where
   -- what the engine of the input tells is told by the engine that it names
-  facts_of_each : map (λ (fault : Fault). (told_on (bench_of k) cal (input_under (Some fault) x)).facts) faults
+  facts_of_each : map (λ (fault : Fault). (told_on false (bench_of k) cal (input_under (Some fault) x)).facts) faults
       ≡ map (facts_by cal) (inputs_under x faults)
   facts_of_each =
-      ap (λ (e : EngineKind). map (λ (fault : Fault). (told_on (bench_of e) cal (input_under (Some fault) x)).facts) faults) (sym is)
+      ap (λ (e : EngineKind). map (λ (fault : Fault). (told_on false (bench_of e) cal (input_under (Some fault) x)).facts) faults) (sym is)
       ∙ sym (map-map (facts_by cal) (λ (fault : Fault). input_under (Some fault) x) faults)
 
   rows_are : 2 ≤ length faults → rows_under (bench_of k) cal x faults ≡ rows_of_group cal (inputs_under x faults)
@@ -41,7 +41,7 @@ module _ (cal : CalibrationParts) (x : RunInput) (faults : List Fault) (k : Engi
 
   -- so what is told by that engine is told of these inputs
   pub are_told : {E : Type 0} (was is : TickCount) (result : Result (Vec Facts Global) E) → 2 ≤ length faults →
-      IfOk result (λ all. all.items ≡ map (λ (fault : Fault). (told_on (bench_of k) cal (input_under (Some fault) x)).facts) faults) →
+      IfOk result (λ all. all.items ≡ map (λ (fault : Fault). (told_on false (bench_of k) cal (input_under (Some fault) x)).facts) faults) →
       AreCounted (rows_under (bench_of k) cal x faults) was is result →
       AreTold (facts_by cal) (inputs_under x faults) (rows_of_group cal (inputs_under x faults)) was is result
   are_told was is result many told counted = record {

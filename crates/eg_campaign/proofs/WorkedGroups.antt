@@ -1,5 +1,5 @@
 -- The groups of a campaign, worked out.
-use Rattle.std.proofs.Common.{◌≡◌, refl, ℕ, false, List, [], ◌∷◌, ◌++◌, map, Option, Some, None}
+use Rattle.std.proofs.Common.{◌≡◌, refl, ℕ, true, false, ◌==◌, List, [], ◌∷◌, ◌++◌, map, Option, Some, None}
 use Rattle.std.specs.Prelude.{replicate}
 use Rattle.eg_num.specs.Drive.{DriveRow, driven}
 use Rattle.eg_fault.specs.declared.class.Fault.{Fault}
@@ -8,7 +8,8 @@ use Rattle.eg_record.specs.declared.row.Row.{Row}
 use Rattle.eg_plan.specs.declared.engine.EngineKind.{EngineKind}
 use Rattle.eg_plan.specs.declared.engine.EngineKind.TheVariants as kind
 use Rattle.eg_campaign.specs.declared.play.RunInput.{RunInput}
-use Rattle.eg_campaign.specs.Groups.{is_alike, firsts_after, groups_of, checkpoint, own_under}
+use Rattle.eg_campaign.specs.Groups.{is_alike, leader_in, firsts_after, groups_of, checkpoint, own_under}
+use Rattle.eg_campaign.specs.Keys.{mixed, row_number, group_number}
 
 -- a run of this name by this drive and on this engine, with a fault at this tick or without one
 run : ℕ → List DriveRow → EngineKind → Option Fault → RunInput
@@ -46,6 +47,16 @@ two_groups = refl
 firsts : firsts_after [] (a ∷ b ∷ c ∷ []) ≡ a ∷ b ∷ []
 unfolding run short other a b c firsts_after is_alike
 firsts = refl
+
+-- the leader of each of four
+leaders : map (leader_in (a ∷ b ∷ c ∷ b ∷ [])) (a ∷ b ∷ c ∷ b ∷ []) ≡ 0 ∷ 1 ∷ 0 ∷ 1 ∷ []
+unfolding run short other a b c is_alike
+leaders = refl
+
+-- drives that differ in one row have two numbers, as have runs of two engines
+numbers : map (λ x. group_number x == group_number a) (a ∷ b ∷ c ∷ d ∷ []) ≡ true ∷ false ∷ true ∷ false ∷ []
+unfolding run short other a b c d group_number mixed row_number
+numbers = refl
 
 -- of one drive and of two engines
 engines : is_alike a d ≡ false

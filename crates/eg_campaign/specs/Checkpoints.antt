@@ -1,10 +1,11 @@
 -- Outside the headline. From where runs under faults go on: what was played of a run up to a tick, and
 -- what is kept of the run without a fault.
-use Rattle.std.specs.Prelude.{◌≡◌, ℕ, ◌+◌, ◌*◌, ◌-◌, ◌≤◌, ◌<◌, List, take, length, Option, slice_index_or}
+use Rattle.std.specs.Prelude.{◌≡◌, ℕ, Bool, ◌+◌, ◌*◌, ◌-◌, ◌≤◌, ◌<◌, List, take, length, Option, slice_index_or}
 use Rattle.eg_fault.specs.declared.class.Fault.{Fault}
 use Rattle.eg_values.specs.Calibration.{CalibrationParts}
 use Rattle.eg_record.specs.declared.row.Row.{Row}
 use Rattle.eg_record.specs.Tallies.{IsTallyOf}
+use Rattle.eg_record.specs.Margins.{IsMarginTallyOf}
 use Rattle.eg_model.specs.Engines.{BenchEngine}
 use Rattle.eg_model.specs.Bench.{Run}
 use Rattle.eg_model.specs.Records.{rows_to}
@@ -12,6 +13,7 @@ use Rattle.eg_model.specs.Branching.{under}
 use Rattle.eg_tick.specs.Weights.{TickCount}
 use Rattle.eg_tick.specs.Benched.{ComeTo}
 use Rattle.eg_tick.specs.Run.{IsAt}
+use Rattle.eg_tick.specs.Margins.{weighed_to}
 use Rattle.eg_tick.specs.Facts.{IsToldOf}
 use Rattle.eg_campaign.specs.declared.checkpoints.Played.{Played}
 use Rattle.eg_campaign.specs.declared.checkpoints.Shared.{Shared}
@@ -32,46 +34,49 @@ pub record PlaysInput (input : RunInput) (r : Run) : Type 0 where
   pub drive : r.drive ≡ input.drive
 
 -- The first t ticks of a run of this engine were played: the controller has come to the last of them, and the
--- tally, which uses the calibration of the run, stands for their rows.
-pub record HasPlayed {S E M : Type 0} (b : BenchEngine S) (come_to : ComeTo S E) (r : Run) (t : ℕ)
-    (played : Played E M) : Type 0 where
+-- tally, which uses the calibration of the run, stands for their rows. Where the run is weighed, the other
+-- tally stands for what the debouncers weigh after each of them.
+pub record HasPlayed {S E M : Type 0} (weighed : Bool) (b : BenchEngine S) (come_to : ComeTo S E) (r : Run)
+    (t : ℕ) (played : Played E M) : Type 0 where
   pub at : IsAt b come_to r t played.controller
   pub ticks : played.controller.kept.ticks ≡ t
   pub threshold : played.tally.threshold ≡ r.setting.cal.rules.threshold
   pub weights : played.tally.weights ≡ r.setting.cal.rules.torque
   pub fed : played.tally.facts.ticks ≡ t
   pub tally : IsTallyOf played.tally (rows_to b r t)
+  pub margins : IsMarginTallyOf played.margins (weighed_to weighed b r t)
 
 -- the rows of a run from tick `from` on, up to tick t: newest first
 unfoldable pub rows_between : {S : Type 0} → BenchEngine S → Run → (from t : ℕ) → List Row
 rows_between b r from t = take (t - from) (rows_to b r t)
 
 -- A run of this engine was played from tick `from` on, up to tick t, and these ticks were counted.
-pub record HasMade {S E M : Type 0} (b : BenchEngine S) (come_to : ComeTo S E) (r : Run) (from t : ℕ)
-    (played : Played E M) (was is : TickCount) : Type 0 where
+pub record HasMade {S E M : Type 0} (weighed : Bool) (b : BenchEngine S) (come_to : ComeTo S E) (r : Run)
+    (from t : ℕ) (played : Played E M) (was is : TickCount) : Type 0 where
   pub least : from ≤ t
-  pub to : HasPlayed b come_to r t played
+  pub to : HasPlayed weighed b come_to r t played
   pub counted : is ≡ count_with was (rows_between b r from t)
 
 -- ---- what is kept of it ----
 
 -- What is kept of the first n ticks of a run: what was played at tick 0, and at each hundredth tick below n.
-pub record AreCheckpoints {S E M : Type 0} (b : BenchEngine S) (come_to : ComeTo S E) (r : Run) (n : ℕ)
-    (kept : List (Played E M)) : Type 0 where
+pub record AreCheckpoints {S E M : Type 0} (weighed : Bool) (b : BenchEngine S) (come_to : ComeTo S E)
+    (r : Run) (n : ℕ) (kept : List (Played E M)) : Type 0 where
   pub enough : n ≤ length kept * checkpoint_ticks
   pub no_more : length kept * checkpoint_ticks < n + checkpoint_ticks
   pub each : (k : ℕ) → k < length kept → (d : Played E M) →
-      HasPlayed b come_to r (k * checkpoint_ticks) (slice_index_or kept k d)
+      HasPlayed weighed b come_to r (k * checkpoint_ticks) (slice_index_or kept k d)
 
 -- what is shared of a run: its checkpoints, and what is told of it
-pub record IsSharedBy {S E : Type 0} (b : BenchEngine S) (come_to : ComeTo S E) (r : Run)
+pub record IsSharedBy {S E : Type 0} (weighed : Bool) (b : BenchEngine S) (come_to : ComeTo S E) (r : Run)
     (shared : Shared E) : Type 0 where
-  pub checkpoints : AreCheckpoints b come_to r (length r.drive) shared.checkpoints.items
-  pub told : IsToldOf b r shared.told
+  pub checkpoints : AreCheckpoints weighed b come_to r (length r.drive) shared.checkpoints.items
+  pub told : IsToldOf weighed b r shared.told
 
 -- ---- runs of a group ----
 
 -- what is shared of the run of an input without its fault
-abbrev pub IsSharedFor : {S E : Type 0} → BenchEngine S → ComeTo S E → CalibrationParts → RunInput
-    → Shared E → Type 0
-IsSharedFor b come_to cal input shared = IsSharedBy b come_to (run_with cal (faultless input)).run shared
+abbrev pub IsSharedFor : {S E : Type 0} → (weighed : Bool) → BenchEngine S → ComeTo S E → CalibrationParts
+    → RunInput → Shared E → Type 0
+IsSharedFor weighed b come_to cal input shared =
+    IsSharedBy weighed b come_to (run_with cal (faultless input)).run shared

@@ -4,7 +4,7 @@
 -- the last of these ticks on that isn't after the onset.
 use Rattle.std.specs.Prelude.{◌≡◌, ℕ, ◌*◌, ◌/◌, Bool, true, false, ◌==◌, ◌&&◌, nat_lt, nat_eq, List, [], ◌∷◌, ◌++◌, map, filter, drop, length, reverse, Option, Some, None, if◌then◌else◌, Result, IfOk}
 use Rattle.std.specs.Bool.{beq}
-use Rattle.std.specs.List.{flat_map, list_any}
+use Rattle.std.specs.List.{flat_map, list_any, position_or_len}
 use Rattle.std.specs.Cmp.Lexicographic.{pointwise}
 use Rattle.std.specs.declared.vec.Vec.{Vec}
 use Rattle.std.specs.declared.alloc.Global.{Global}
@@ -54,6 +54,10 @@ pub record AreAlike (x y : RunInput) : Type 0 where
 -- the group of a run among these: the runs that are alike to it, in their order
 abbrev pub group_of : List RunInput → RunInput → List RunInput
 group_of inputs x = filter (is_alike x) inputs
+
+-- the leader of a run among these: the index of the first run of its group
+abbrev pub leader_in : List RunInput → RunInput → ℕ
+leader_in inputs x = position_or_len (is_alike x) inputs
 
 -- the runs of `later` that are the first of their groups, where the runs of `earlier` came before them
 unfoldable pub firsts_after : (earlier later : List RunInput) → List RunInput
@@ -126,18 +130,21 @@ rows_made cal inputs = flat_map (rows_of_group cal) (groups_of inputs)
 -- ---- what is told ----
 
 -- what is told of the run of an input, by an engine of the model
-abbrev pub told_on : {S : Type 0} → BenchEngine S → CalibrationParts → RunInput → RunFacts
-told_on b cal x = told_of b (run_with cal x).run
+abbrev pub told_on : {S : Type 0} → (weighed : Bool) → BenchEngine S → CalibrationParts → RunInput → RunFacts
+told_on weighed b cal x = told_of weighed b (run_with cal x).run
 
--- the same by the engine that the input names
+-- the same by the engine that the input names, and where it isn't weighed
+abbrev pub told_by : (weighed : Bool) → CalibrationParts → RunInput → RunFacts
+told_by weighed cal x = told_on weighed (bench_of x.plan.engine) cal x
+
 abbrev pub told_with : CalibrationParts → RunInput → RunFacts
-told_with cal x = told_on (bench_of x.plan.engine) cal x
+told_with cal x = told_by false cal x
 
 -- What stands at the place of input y once the group of input x was played, where `before` stood there: what
 -- y tells if it is of the group, and else the same.
-abbrev pub written_over : {T : Type 0} → (tells : RunInput → T) (x : RunInput) (before : RunInput → Option T)
-    → RunInput → Option T
-written_over tells x before y = if is_alike x y then Some (tells y) else before y
+abbrev pub written_over : {T : Type 0} → (tells : RunInput → T) (x : RunInput) (before : RunInput → T)
+    → RunInput → T
+written_over tells x before y = if is_alike x y then tells y else before y
 
 -- the facts of the run of an input
 abbrev pub facts_by : CalibrationParts → RunInput → Facts

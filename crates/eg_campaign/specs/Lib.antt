@@ -1,5 +1,6 @@
 pub mod Plays
 pub mod Groups
+pub mod Keys
 pub mod Checkpoints
 pub mod Texts
 pub mod Recording

@@ -1,6 +1,6 @@
 -- An input is a plan, a drive and an image, and by a calibration a run of the engine that its plan names,
 -- with a record and a report. Which inputs may be played is said here too.
-use Rattle.std.specs.Prelude.{◌≡◌, ℕ, ◌≤◌, List, length, reverse, All}
+use Rattle.std.specs.Prelude.{◌≡◌, ℕ, Bool, ◌≤◌, List, length, reverse, All}
 use Rattle.std.specs.List.{flat_map}
 use Rattle.eg_guard.specs.declared.regions.TheConstants.{DATA as CODE_END}
 use Rattle.eg_num.specs.Drive.{IsDrive}
@@ -78,7 +78,7 @@ report_with cal input = report_of_run input.plan.name (run_with cal input)
 -- ---- what is told ----
 
 -- A run of this engine was played: this is told of it, and its rows were made and counted.
-pub record IsPlayed {S : Type 0} (b : BenchEngine S) (r : Run) (was is : TickCount) (all : RunFacts) :
-    Type 0 where
-  pub told : IsToldOf b r all
+pub record IsPlayed {S : Type 0} (weighed : Bool) (b : BenchEngine S) (r : Run) (was is : TickCount)
+    (all : RunFacts) : Type 0 where
+  pub told : IsToldOf weighed b r all
   pub counted : is ≡ count_with was (reverse (record_rows b r))

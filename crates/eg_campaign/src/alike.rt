@@ -1,10 +1,8 @@
 // Runs that are of one group.
 ghost use Rattle.std.specs.Prelude.{◌≡◌};
-ghost use Rattle.std.specs.Cmp.Lexicographic.{pointwise};
-ghost use Rattle.eg_campaign.specs.Groups.{is_alike, is_same_engine, is_same_row};
+ghost use Rattle.eg_campaign.specs.Groups.{is_alike, is_same_engine};
 
 use crate::RunInput;
-use eg_num::Drive;
 use eg_plan::EngineKind;
 
 /// Whether two runs are of one group: their engines, images, slice plans and drives are equal, so that
@@ -22,17 +20,7 @@ pub(crate) fn is_alike(a: &RunInput, b: &RunInput) -> bool
     if a.plan.plan.rows() != b.plan.plan.rows() {
         return false;
     }
-    is_same_drive(a.drive.as_slice(), b.drive.as_slice())
-}
-
-/// Whether two drives are equal. Their last rows are compared first: long drives may differ there alone.
-fn is_same_drive(a: &[Drive], b: &[Drive]) -> bool
-    ensures { result ≡ pointwise is_same_row a.now b.now }
-{
-    if a.last() != b.last() {
-        return false;
-    }
-    a == b
+    a.drive.as_slice() == b.drive.as_slice()
 }
 
 /// Whether two engines are of one kind.

@@ -1,5 +1,5 @@
 // The run without a fault of a group, and runs under faults that go on from it.
-ghost use Rattle.std.specs.Prelude.{◌≡◌, ℕ, ◌+◌, ◌%◌, ◌^◌, ◌≤◌, ◌<◌, false, None, length, reverse, IfOk, OnOk, OnErr, IsOk, IsTrue};
+ghost use Rattle.std.specs.Prelude.{◌≡◌, ℕ, ◌+◌, ◌%◌, ◌^◌, ◌≤◌, ◌<◌, Bool, false, None, length, reverse, IfOk, OnOk, OnErr, IsOk, IsTrue};
 ghost use Rattle.std.specs.Option.{option_copied};
 ghost use Rattle.eg_fault.specs.Faults.{IsNoneOrValid};
 ghost use Rattle.eg_values.specs.Calibration.{CalibrationParts};
@@ -20,8 +20,8 @@ use eg_fault::Fault;
 use eg_guard::{FlatMemory, Guarded};
 use eg_pages::PagedMemory;
 use eg_plant::CopyEngine;
-use eg_record::{RunFacts, Tally};
-use eg_tick::{BenchedEngine, Controller, Ticks, bench_begin, bench_tick};
+use eg_record::{MarginTally, RunFacts, Tally};
+use eg_tick::{BenchedEngine, Controller, Ticks, bench_begin, bench_tick, weigh};
 use eg_values::Calibration;
 use std::alloc::Global;
 
@@ -29,11 +29,12 @@ use std::alloc::Global;
 /// (docs/CONCEPT.md, "The record of a run").
 pub(crate) const CHECKPOINT_TICKS: usize = 100;
 
-/// What was played of a run, up to a tick: the controller that goes on with it, and the tally of its rows.
+/// What was played of a run, up to a tick: the controller that goes on with it, and the tallies of its rows.
 #[derive(Drop)]
 pub(crate) struct Played<E: BenchedEngine + CopyEngine, M: Guarded + Drop> {
     controller: Controller<E, M>,
     tally: Tally,
+    margins: MarginTally,
 }
 
 /// What is kept of a run: its memory is in pages, so that what stays the same is meant to be kept once.
@@ -48,15 +49,15 @@ pub(crate) struct Shared<E: BenchedEngine + CopyEngine> {
 
 /// Plays the run of an input without its fault, and keeps it at each hundredth tick: up to its onset a run
 /// under a fault is the run without one (docs/CONCEPT.md, "Faults"). The ticks are counted in `steps`.
-/// NoMemory is its one refusal.
-pub(crate) fn share<E: BenchedEngine + CopyEngine>(
+/// NoMemory is its one refusal. Where the run is `WEIGHED`, it tells how near it came to a cut.
+pub(crate) fn share<E: BenchedEngine + CopyEngine, const WEIGHED: bool>(
     alloc: Global,
     calibration: &Calibration,
     input: &RunInput,
     steps: &mut Ticks,
 ) -> Result<Shared<E>, NoMemory>
     requires { IsPlayable input.now }
-    ensures shared { IfOk result (IsSharedFor E.bench E.come_to calibration.now input.now) }
+    ensures shared { IfOk result (IsSharedFor WEIGHED E.bench E.come_to calibration.now input.now) }
     ensures counted { AreCounted
         (reverse (record_rows E.bench (run_with calibration.now (faultless input.now)).run))
         steps.old steps.new result }
@@ -67,7 +68,7 @@ pub(crate) fn share<E: BenchedEngine + CopyEngine>(
     let mut checkpoints = Vec::new(alloc);
     for tick in 0..input.drive.as_slice().len() {
         keep(alloc, &mut checkpoints, &played, tick)?;
-        play_tick(&mut played, input, tick, steps)?;
+        play_tick::<E, PagedMemory, WEIGHED>(&mut played, input, tick, steps)?;
     }
     Ok(Shared {
         checkpoints,
@@ -82,7 +83,7 @@ fn begin<E: BenchedEngine + CopyEngine>(
     input: &RunInput,
 ) -> Result<Checkpoint<E>, NoMemory>
     requires { IsPlayable input.now }
-    ensures { IfOk result (HasPlayed E.bench E.come_to
+    ensures { (weighed : Bool) → IfOk result (HasPlayed weighed E.bench E.come_to
         (run_with calibration.now (faultless input.now)).run 0) }
 {
     let rules = calibration.rules();
@@ -94,7 +95,12 @@ fn begin<E: BenchedEngine + CopyEngine>(
         memory,
     )?;
     let tally = Tally::new(rules.threshold, rules.torque);
-    Ok(Checkpoint { controller, tally })
+    let margins = MarginTally::new();
+    Ok(Checkpoint {
+        controller,
+        tally,
+        margins,
+    })
 }
 
 /// Keeps what was played where the next tick is a hundredth.
@@ -105,9 +111,9 @@ fn keep<E: BenchedEngine + CopyEngine>(
     tick: usize,
 ) -> Result<(), NoMemory>
     requires { played.now.controller.kept.fault ≡ None }
-    ensures { (r : Run) → HasPlayed E.bench E.come_to r tick played.now →
-        AreCheckpoints E.bench E.come_to r tick kept.old.items →
-        OnOk result (AreCheckpoints E.bench E.come_to r (tick + 1) kept.new.items) }
+    ensures { (weighed : Bool) (r : Run) → HasPlayed weighed E.bench E.come_to r tick played.now →
+        AreCheckpoints weighed E.bench E.come_to r tick kept.old.items →
+        OnOk result (AreCheckpoints weighed E.bench E.come_to r (tick + 1) kept.new.items) }
 {
     if tick % CHECKPOINT_TICKS != 0 {
         return Ok(());
@@ -123,13 +129,18 @@ fn keep_copy<E: BenchedEngine + CopyEngine>(
     played: &Checkpoint<E>,
 ) -> Result<(), NoMemory>
     requires { played.now.controller.kept.fault ≡ None }
-    ensures { (r : Run) (t : ℕ) → t % checkpoint_ticks ≡ 0 → HasPlayed E.bench E.come_to r t played.now →
-        AreCheckpoints E.bench E.come_to r t kept.old.items →
-        OnOk result (AreCheckpoints E.bench E.come_to r (t + 1) kept.new.items) }
+    ensures { (weighed : Bool) (r : Run) (t : ℕ) → t % checkpoint_ticks ≡ 0 →
+        HasPlayed weighed E.bench E.come_to r t played.now →
+        AreCheckpoints weighed E.bench E.come_to r t kept.old.items →
+        OnOk result (AreCheckpoints weighed E.bench E.come_to r (t + 1) kept.new.items) }
 {
     let controller = played.controller.branch(alloc, None)?;
-    let tally = played.tally;
-    kept.push(Played { controller, tally })?;
+    let (tally, margins) = (played.tally, played.margins);
+    kept.push(Played {
+        controller,
+        tally,
+        margins,
+    })?;
     Ok(())
 }
 
@@ -143,20 +154,21 @@ fn go_on<E: BenchedEngine + CopyEngine>(
     requires valid { IsNoneOrValid fault }
     requires onset { BeginsFrom kept.now.controller.kept.ticks fault }
     requires held { kept.now.controller.kept.lost ≡ false }
-    ensures played { (r : Run) (t : ℕ) → HasPlayed E.bench E.come_to r t kept.now →
-        HasPlayed E.bench E.come_to (run_under fault r) t result }
+    ensures played { (weighed : Bool) (r : Run) (t : ℕ) → HasPlayed weighed E.bench E.come_to r t kept.now →
+        HasPlayed weighed E.bench E.come_to (run_under fault r) t result }
     ensures sure { IsTrue result.controller.kept.memory.sure }
 {
     let memory = kept.controller.memory().flat();
     Played {
         controller: kept.controller.branch_over(memory, fault),
         tally: kept.tally,
+        margins: kept.margins,
     }
 }
 
 /// Plays the next tick of the run of an input. NoMemory never comes over a sure memory.
 #[inline(always)]
-fn play_tick<E: BenchedEngine + CopyEngine, M: Guarded + Drop>(
+fn play_tick<E: BenchedEngine + CopyEngine, M: Guarded + Drop, const WEIGHED: bool>(
     played: &mut Played<E, M>,
     input: &RunInput,
     tick: usize,
@@ -164,10 +176,11 @@ fn play_tick<E: BenchedEngine + CopyEngine, M: Guarded + Drop>(
 ) -> Result<(), NoMemory>
     requires playable { IsPlayable input.now }
     requires within { tick < length input.now.drive }
-    requires run { (r : Run) × PlaysInput input.now r × HasPlayed E.bench E.come_to r tick played.old }
+    requires run { (r : Run) × PlaysInput input.now r
+        × HasPlayed WEIGHED E.bench E.come_to r tick played.old }
     ensures made { (r : Run) (from : ℕ) (was : TickCount) → PlaysInput input.now r →
-        HasMade E.bench E.come_to r from tick played.old was steps.old →
-        OnOk result (HasMade E.bench E.come_to r from (tick + 1) played.new was steps.new) }
+        HasMade WEIGHED E.bench E.come_to r from tick played.old was steps.old →
+        OnOk result (HasMade WEIGHED E.bench E.come_to r from (tick + 1) played.new was steps.new) }
     // Where memory runs out the tick is counted, but no row is weighed.
     ensures count { steps.new.count ≡ (steps.old.count + 1) % 2 ^ 64 }
     ensures no_weight { OnErr result (steps.new.weights ≡ steps.old.weights) }
@@ -178,6 +191,7 @@ fn play_tick<E: BenchedEngine + CopyEngine, M: Guarded + Drop>(
     let (plan, drive) = (&input.plan.plan, &input.drive.as_slice()[tick]);
     let row = bench_tick(&mut played.controller, plan, drive, tick as u32, steps)?;
     played.tally.feed(&row);
+    weigh::<E, M, WEIGHED>(&mut played.margins, &row, &played.controller);
     Ok(())
 }
 
@@ -185,7 +199,7 @@ fn play_tick<E: BenchedEngine + CopyEngine, M: Guarded + Drop>(
 /// that isn't after the onset. Where there is no fault, or one that begins after the run, nothing is played,
 /// and what is told is what the run without a fault tells. The ticks are counted in `steps`. It takes no
 /// memory and refuses nothing.
-pub(crate) fn play_from<E: BenchedEngine + CopyEngine>(
+pub(crate) fn play_from<E: BenchedEngine + CopyEngine, const WEIGHED: bool>(
     shared: &Shared<E>,
     input: &RunInput,
     fault: Option<&Fault>,
@@ -194,12 +208,13 @@ pub(crate) fn play_from<E: BenchedEngine + CopyEngine>(
     requires playable { IsPlayable input.now }
     requires valid { IsNoneOrValid (option_copied fault) }
     requires shared { (cal : CalibrationParts)
-        × IsSharedFor E.bench E.come_to cal input.now shared.now }
+        × IsSharedFor WEIGHED E.bench E.come_to cal input.now shared.now }
     ensures told { (cal : CalibrationParts) →
-        IsSharedFor E.bench E.come_to cal input.now shared.now →
-        IsToldOf E.bench (run_with cal (input_under (option_copied fault.entry) input.now)).run result }
+        IsSharedFor WEIGHED E.bench E.come_to cal input.now shared.now →
+        IsToldOf WEIGHED E.bench
+        (run_with cal (input_under (option_copied fault.entry) input.now)).run result }
     ensures counted { (cal : CalibrationParts) →
-        IsSharedFor E.bench E.come_to cal input.now shared.now →
+        IsSharedFor WEIGHED E.bench E.come_to cal input.now shared.now →
         steps.new ≡ count_with steps.old
         (own_on E.bench cal (input_under (option_copied fault.entry) input.now)) }
 {
@@ -213,24 +228,25 @@ pub(crate) fn play_from<E: BenchedEngine + CopyEngine>(
     }
     let index = fault.onset as usize / CHECKPOINT_TICKS;
     let mut played = go_on(&shared.checkpoints[index], Some(fault.copy()));
-    play_on(&mut played, input, index * CHECKPOINT_TICKS, steps);
+    play_on::<E, WEIGHED>(&mut played, input, index * CHECKPOINT_TICKS, steps);
     told_so_far(&played)
 }
 
 /// What is told of a run that was played to its end.
 fn told_so_far<E: BenchedEngine + CopyEngine, M: Guarded + Drop>(played: &Played<E, M>) -> RunFacts
-    ensures { (r : Run) → HasPlayed E.bench E.come_to r (length r.drive) played.now →
-        IsToldOf E.bench r result }
+    ensures { (weighed : Bool) (r : Run) → HasPlayed weighed E.bench E.come_to r (length r.drive) played.now →
+        IsToldOf weighed E.bench r result }
 {
     RunFacts {
         facts: played.tally.facts(),
         reactions: played.tally.reactions(),
+        margins: played.margins.margins(),
         trap: played.controller.trap(),
     }
 }
 
 /// Plays the ticks of the run of an input from tick `from` on, to its end.
-fn play_on<E: BenchedEngine + CopyEngine>(
+fn play_on<E: BenchedEngine + CopyEngine, const WEIGHED: bool>(
     played: &mut Played<E, FlatMemory>,
     input: &RunInput,
     from: usize,
@@ -239,20 +255,21 @@ fn play_on<E: BenchedEngine + CopyEngine>(
     requires playable { IsPlayable input.now }
     requires within { from ≤ length input.now.drive }
     requires sure { IsTrue played.old.controller.kept.memory.sure }
-    requires run { (r : Run) × PlaysInput input.now r × HasPlayed E.bench E.come_to r from played.old }
-    ensures { (r : Run) → PlaysInput input.now r → HasPlayed E.bench E.come_to r from played.old →
-        HasMade E.bench E.come_to r from (length r.drive) played.new steps.old steps.new }
+    requires run { (r : Run) × PlaysInput input.now r
+        × HasPlayed WEIGHED E.bench E.come_to r from played.old }
+    ensures { (r : Run) → PlaysInput input.now r → HasPlayed WEIGHED E.bench E.come_to r from played.old →
+        HasMade WEIGHED E.bench E.come_to r from (length r.drive) played.new steps.old steps.new }
 {
     // Called for its clause alone.
     count_none(steps);
     for tick in from..input.drive.as_slice().len() {
-        play_row(played, input, tick, steps);
+        play_row::<E, WEIGHED>(played, input, tick, steps);
     }
 }
 
 /// Plays the next tick of the run of an input over a sure memory.
 #[inline(always)]
-fn play_row<E: BenchedEngine + CopyEngine>(
+fn play_row<E: BenchedEngine + CopyEngine, const WEIGHED: bool>(
     played: &mut Played<E, FlatMemory>,
     input: &RunInput,
     tick: usize,
@@ -261,13 +278,14 @@ fn play_row<E: BenchedEngine + CopyEngine>(
     requires playable { IsPlayable input.now }
     requires within { tick < length input.now.drive }
     requires sure { IsTrue played.old.controller.kept.memory.sure }
-    requires run { (r : Run) × PlaysInput input.now r × HasPlayed E.bench E.come_to r tick played.old }
+    requires run { (r : Run) × PlaysInput input.now r
+        × HasPlayed WEIGHED E.bench E.come_to r tick played.old }
     ensures made { (r : Run) (from : ℕ) (was : TickCount) → PlaysInput input.now r →
-        HasMade E.bench E.come_to r from tick played.old was steps.old →
-        HasMade E.bench E.come_to r from (tick + 1) played.new was steps.new }
+        HasMade WEIGHED E.bench E.come_to r from tick played.old was steps.old →
+        HasMade WEIGHED E.bench E.come_to r from (tick + 1) played.new was steps.new }
     ensures stays_sure { IsTrue played.new.controller.kept.memory.sure }
 {
-    match play_tick(played, input, tick, steps) {
+    match play_tick::<E, FlatMemory, WEIGHED>(played, input, tick, steps) {
         Ok(()) => (),
         Err(_) => unreachable!("a sure memory never runs out"),
     }

@@ -1,129 +1,159 @@
 // The runs of a campaign, played group by group.
-ghost use Rattle.std.specs.Prelude.{◌≡◌, ◌<◌, All, Option, map, length, replicate, slice_index_or, IfOk, OnOk, Some, None};
+ghost use Rattle.std.specs.Prelude.{◌≡◌, ◌<◌, ◌==◌, All, filter, map, length, replicate, slice_index_or, IfOk, OnOk, None};
 ghost use Rattle.eg_record.specs.declared.run_facts.RunFacts.{RunFacts};
 ghost use Rattle.eg_tick.specs.Counting.{AreCounted};
 ghost use Rattle.eg_campaign.specs.Plays.{IsPlayable};
-ghost use Rattle.eg_campaign.specs.Groups.{is_alike, group_of, rows_shared, rows_of_group, rows_made, told_on, told_with, written_over};
+ghost use Rattle.eg_campaign.specs.Groups.{AreTold, group_of, leader_in, rows_shared, rows_of_group, rows_made, told_on, told_by, written_over};
 
 use crate::RunInput;
-use crate::alike::is_alike;
 use crate::checkpoints::{play_from, share};
 use crate::counting::count_none;
+use crate::leading::leaders;
 use crate::play::tell_one;
 use eg_base::NoMemory;
 use eg_diesel::DieselEngine;
 use eg_plan::EngineKind;
 use eg_plant::{CopyEngine, GasolineEngine};
-use eg_record::RunFacts;
+use eg_record::{MarginTally, RunFacts, Tally};
 use eg_tick::{BenchedEngine, Ticks};
 use eg_values::Calibration;
 use std::alloc::Global;
 
-/// Plays the runs of a campaign group by group, and answers what each tells, in their order
-/// (docs/CONCEPT.md, "The record of a run"). The ticks are counted in `steps`. NoMemory is its one refusal.
-pub(crate) fn tell_all(
+/// Plays the runs of a campaign as `run_all` does, and tells of each its facts, the reactions in its spans,
+/// its trap, and where they are `WEIGHED` how near it came to a cut (docs/CONCEPT.md, "The report of a run",
+/// "`table`" and "`margins`"). The ticks that are made are counted in `steps`. NoMemory is its one refusal.
+pub fn told_all<const WEIGHED: bool>(
     alloc: Global,
     calibration: &Calibration,
     inputs: &[RunInput],
     steps: &mut Ticks,
-) -> Result<Vec<Option<RunFacts>>, NoMemory>
+) -> Result<Vec<RunFacts>, NoMemory>
     requires { All IsPlayable inputs.now }
-    ensures told { IfOk result (λ all.
-        all.items ≡ map (λ x. Some (told_with calibration.now x)) inputs.now) }
-    ensures counted { AreCounted (rows_made calibration.now inputs.now) steps.old steps.new result }
+    ensures { AreTold (told_by WEIGHED calibration.now) inputs.now (rows_made calibration.now inputs.now)
+        steps.old steps.new result }
 {
     // Called for its clause alone.
     count_none(steps);
-    let mut told = nothing_told(alloc, inputs.len())?;
+    let leaders = leaders(alloc, inputs)?;
+    let mut told = untold(alloc, calibration, inputs.len())?;
     for i in 0..inputs.len() {
-        let input = &inputs[i];
-        if told[i].is_some() {
+        if leaders[i] != i {
             continue;
         }
-        play_first(alloc, calibration, inputs, input, i, &mut told, steps)?;
+        play_first::<WEIGHED>(alloc, calibration, inputs, &leaders, i, &mut told, steps)?;
     }
     Ok(told)
 }
 
-/// Places for what `count` runs tell, with nothing in them yet.
-fn nothing_told(alloc: Global, count: usize) -> Result<Vec<Option<RunFacts>>, NoMemory>
-    ensures { IfOk result (λ told. told.items ≡ replicate count None) }
+/// Places for what `count` runs tell. Until its group is played, what a run of no ticks tells stands at each.
+fn untold(alloc: Global, calibration: &Calibration, count: usize) -> Result<Vec<RunFacts>, NoMemory>
+    ensures { IfOk result (λ told. (none : RunFacts) × (told.items ≡ replicate count none)) }
 {
-    Ok(vec![in alloc; None; count]?)
+    let rules = calibration.rules();
+    let tally = Tally::new(rules.threshold, rules.torque);
+    let none = RunFacts {
+        facts: tally.facts(),
+        reactions: tally.reactions(),
+        margins: MarginTally::new().margins(),
+        trap: None,
+    };
+    Ok(vec![in alloc; none; count]?)
 }
 
-/// Plays the group of the input at this index, or its run alone where the group has no other. What each run
-/// of the group tells is written at its index.
-fn play_first(
+/// Plays the group of the run at this index, which leads it, or that run alone where the group has no other.
+/// What each run of the group tells is written at its index.
+fn play_first<const WEIGHED: bool>(
     alloc: Global,
     calibration: &Calibration,
     inputs: &[RunInput],
-    input: &RunInput,
+    leaders: &[usize],
     index: usize,
-    told: &mut [Option<RunFacts>],
+    told: &mut [RunFacts],
     steps: &mut Ticks,
 ) -> Result<(), NoMemory>
     requires playable { All IsPlayable inputs.now }
-    requires one { IsPlayable input.now }
     requires index { index < length inputs.now }
-    requires there { input.now ≡ slice_index_or inputs.now index input.now }
+    requires leaders { leaders.now ≡ map (leader_in inputs.now) inputs.now }
+    requires leads { slice_index_or leaders.now index 0 ≡ index }
     requires places { length told.old ≡ length inputs.now }
-    ensures told { (before : RunInput → Option RunFacts) →
+    ensures told { (x : RunInput) → x ≡ slice_index_or inputs.now index x → (before : RunInput → RunFacts) →
         told.old ≡ map before inputs.now → OnOk result
-        (told.new ≡ map (written_over (told_with calibration.now) input.now before) inputs.now) }
-    ensures counted { AreCounted (rows_of_group calibration.now (group_of inputs.now input.now))
-        steps.old steps.new result }
+        (told.new ≡ map (written_over (told_by WEIGHED calibration.now) x before) inputs.now) }
+    ensures counted { (x : RunInput) → x ≡ slice_index_or inputs.now index x →
+        AreCounted (rows_of_group calibration.now (group_of inputs.now x)) steps.old steps.new result }
 {
-    if count_alike(inputs, input) < 2 {
-        told[index] = Some(tell_one(calibration, input, steps));
+    let input = &inputs[index];
+    if count_led(leaders, index) < 2 {
+        told[index] = tell_one::<WEIGHED>(calibration, input, steps);
         return Ok(());
     }
     match input.plan.engine {
         EngineKind::Gasoline => {
-            play_group::<GasolineEngine>(alloc, calibration, inputs, input, told, steps)
+            play_group::<GasolineEngine, WEIGHED>(
+                alloc,
+                calibration,
+                inputs,
+                leaders,
+                index,
+                told,
+                steps,
+            )
         }
         EngineKind::Diesel => {
-            play_group::<DieselEngine>(alloc, calibration, inputs, input, told, steps)
+            play_group::<DieselEngine, WEIGHED>(
+                alloc,
+                calibration,
+                inputs,
+                leaders,
+                index,
+                told,
+                steps,
+            )
         }
     }
 }
 
-/// How many of these inputs are of the group of one.
-fn count_alike(inputs: &[RunInput], input: &RunInput) -> usize
-    ensures { result ≡ length (group_of inputs.now input.now) }
+/// How many runs this one leads, by the leader of each.
+fn count_led(leaders: &[usize], leader: usize) -> usize
+    ensures { result ≡ length (filter (λ other. other == leader) leaders.now) }
 {
-    inputs.iter().filter(|other| is_alike(input, other)).count()
+    leaders.iter().filter(|other| **other == leader).count()
 }
 
-/// Plays the group of an input on an engine of this type: the run without a fault once, and each run of the
-/// group from there. What each tells is written at its index.
-fn play_group<E: BenchedEngine + CopyEngine>(
+/// Plays the group of the run at this index, which leads it, on an engine of this type: the run without a
+/// fault once, and each run of the group from there. What each tells is written at its index.
+fn play_group<E: BenchedEngine + CopyEngine, const WEIGHED: bool>(
     alloc: Global,
     calibration: &Calibration,
     inputs: &[RunInput],
-    input: &RunInput,
-    told: &mut [Option<RunFacts>],
+    leaders: &[usize],
+    index: usize,
+    told: &mut [RunFacts],
     steps: &mut Ticks,
 ) -> Result<(), NoMemory>
     requires all { All IsPlayable inputs.now }
-    requires playable { IsPlayable input.now }
+    requires index { index < length inputs.now }
+    requires leaders { leaders.now ≡ map (leader_in inputs.now) inputs.now }
+    requires leads { slice_index_or leaders.now index 0 ≡ index }
     requires places { length told.old ≡ length inputs.now }
-    ensures told { (before : RunInput → Option RunFacts) →
+    ensures told { (x : RunInput) → x ≡ slice_index_or inputs.now index x → (before : RunInput → RunFacts) →
         told.old ≡ map before inputs.now → OnOk result
-        (told.new ≡ map (written_over (told_on E.bench calibration.now) input.now before) inputs.now) }
-    ensures counted { AreCounted (rows_shared E.bench calibration.now inputs.now input.now)
-        steps.old steps.new result }
+        (told.new ≡ map (written_over (told_on WEIGHED E.bench calibration.now) x before) inputs.now) }
+    ensures counted { (x : RunInput) → x ≡ slice_index_or inputs.now index x →
+        AreCounted (rows_shared E.bench calibration.now inputs.now x) steps.old steps.new result }
 {
     // Called for its clause alone.
     count_none(steps);
-    let shared = share::<E>(alloc, calibration, input, steps)?;
+    let input = &inputs[index];
+    let shared = share::<E, WEIGHED>(alloc, calibration, input, steps)?;
     for i in 0..inputs.len() {
-        let other = &inputs[i];
-        if !is_alike(input, other) {
+        if leaders[i] != index {
             continue;
         }
-        let one = play_from(&shared, other, other.plan.fault.as_ref(), steps);
-        told[i] = Some(one);
+        let other = &inputs[i];
+        let fault = other.plan.fault.as_ref();
+        let one = play_from::<E, WEIGHED>(&shared, other, fault, steps);
+        told[i] = one;
     }
     Ok(())
 }

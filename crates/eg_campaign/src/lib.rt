@@ -1,12 +1,15 @@
 //! Campaigns that are played: the runs of a campaign group by group, with what the report says of each, the
-//! facts of each, or what `table` tells of each; one input under many faults; and the record of a run,
-//! written as its ticks are made. Runs of one group share the part before their faults.
+//! facts of each, what `table` tells of each, or how near each came to a cut; one input under many faults;
+//! and the record of a run, written as its ticks are made. Runs of one group share the part before their
+//! faults.
 #![tactic(auto)]
 
 mod alike;
 mod checkpoints;
 mod counting;
 mod groups;
+mod key;
+mod leading;
 mod play;
 mod recording;
 mod under;
@@ -15,6 +18,7 @@ pub use eg_plan::{
     CampaignFault, EngineKind, RunKey, RunPlan, accepted_files_keep_the_rules, add_ticks,
     read_campaign, usual_slices,
 };
-pub use play::{RunInput, facts_all, run_all, told_all};
+pub use groups::told_all;
+pub use play::{RunInput, facts_all, run_all};
 pub use recording::{RecordStop, record_into};
 pub use under::facts_under;

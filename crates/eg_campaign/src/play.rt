@@ -1,10 +1,9 @@
 // The runs of a campaign, played.
-ghost use Rattle.std.specs.Prelude.{◌≡◌, ◌<◌, All, List, map, length, slice_index_or, Option, Some, None, IsSome, IfOk};
-ghost use Rattle.eg_record.specs.declared.run_facts.RunFacts.{RunFacts};
+ghost use Rattle.std.specs.Prelude.{◌≡◌, All, map, IfOk};
 ghost use Rattle.eg_campaign.specs.Plays.{IsPlayable, IsPlayed, bench_of, run_with, report_with};
 ghost use Rattle.eg_campaign.specs.Groups.{AreTold, rows_made, told_with, facts_by};
 
-use crate::groups::tell_all;
+use crate::groups::told_all;
 use eg_answer::reaction;
 use eg_base::{Items, NoMemory};
 use eg_diesel::DieselEngine;
@@ -41,7 +40,7 @@ pub fn run_all(
     ensures { AreTold (report_with calibration.now) inputs.now (rows_made calibration.now inputs.now)
         steps.old steps.new result }
 {
-    let told = told_all(alloc, calibration, inputs, steps)?;
+    let told = told_all::<false>(alloc, calibration, inputs, steps)?;
     summaries_of(alloc, calibration, inputs, &told)
 }
 
@@ -57,25 +56,8 @@ pub fn facts_all(
     ensures { AreTold (facts_by calibration.now) inputs.now (rows_made calibration.now inputs.now)
         steps.old steps.new result }
 {
-    let told = told_all(alloc, calibration, inputs, steps)?;
+    let told = told_all::<false>(alloc, calibration, inputs, steps)?;
     facts_of_all(alloc, &told)
-}
-
-/// Plays the runs of a campaign as `run_all` does, and tells of each its facts, the reactions in its spans
-/// and its trap (docs/CONCEPT.md, "The report of a run" and "`table`"). The ticks that are made are counted
-/// in `steps`. NoMemory is its one refusal.
-pub fn told_all(
-    alloc: Global,
-    calibration: &Calibration,
-    inputs: &[RunInput],
-    steps: &mut Ticks,
-) -> Result<Vec<RunFacts>, NoMemory>
-    requires { All IsPlayable inputs.now }
-    ensures { AreTold (told_with calibration.now) inputs.now (rows_made calibration.now inputs.now)
-        steps.old steps.new result }
-{
-    let told = tell_all(alloc, calibration, inputs, steps)?;
-    each_told(alloc, &told)
 }
 
 /// What the report says of each run of which this is told.
@@ -122,54 +104,33 @@ fn facts_of_all(alloc: Global, told: &[RunFacts]) -> Result<Vec<Facts>, NoMemory
     Ok(facts)
 }
 
-/// What is told at each of these places, at each of which something is.
-fn each_told(alloc: Global, told: &[Option<RunFacts>]) -> Result<Vec<RunFacts>, NoMemory>
-    requires { All IsSome told.now }
-    ensures { (all : List RunFacts) → told.now ≡ map (λ one. Some one) all →
-        IfOk result (λ each. each.items ≡ all) }
-{
-    let mut each = Vec::new(alloc);
-    for i in 0..told.len() {
-        let one = told_at(told, i);
-        each.push(one)?;
-    }
-    Ok(each)
-}
-
-/// What is told at an index at which something is.
-fn told_at(told: &[Option<RunFacts>], index: usize) -> RunFacts
-    requires index { index < length told.now }
-    requires some { IsSome (slice_index_or told.now index None) }
-    ensures { slice_index_or told.now index None ≡ Some result }
-{
-    match told[index] {
-        Some(one) => one,
-        None => unreachable!("something is told there"),
-    }
-}
-
 /// Plays one run of the engine that it names, and tells of it.
-pub(crate) fn tell_one(calibration: &Calibration, input: &RunInput, steps: &mut Ticks) -> RunFacts
-    requires { IsPlayable input.now }
-    ensures { IsPlayed (bench_of input.now.plan.engine) (run_with calibration.now input.now).run
-        steps.old steps.new result }
-{
-    match input.plan.engine {
-        EngineKind::Gasoline => tell_on::<GasolineEngine>(calibration, input, steps),
-        EngineKind::Diesel => tell_on::<DieselEngine>(calibration, input, steps),
-    }
-}
-
-/// Plays one run with an engine of this type, whichever the run names, and tells of it.
-fn tell_on<E: BenchedEngine>(
+pub(crate) fn tell_one<const WEIGHED: bool>(
     calibration: &Calibration,
     input: &RunInput,
     steps: &mut Ticks,
 ) -> RunFacts
     requires { IsPlayable input.now }
-    ensures { IsPlayed E.bench (run_with calibration.now input.now).run steps.old steps.new result }
+    ensures { IsPlayed WEIGHED (bench_of input.now.plan.engine) (run_with calibration.now input.now).run
+        steps.old steps.new result }
+{
+    match input.plan.engine {
+        EngineKind::Gasoline => tell_on::<GasolineEngine, WEIGHED>(calibration, input, steps),
+        EngineKind::Diesel => tell_on::<DieselEngine, WEIGHED>(calibration, input, steps),
+    }
+}
+
+/// Plays one run with an engine of this type, whichever the run names, and tells of it.
+fn tell_on<E: BenchedEngine, const WEIGHED: bool>(
+    calibration: &Calibration,
+    input: &RunInput,
+    steps: &mut Ticks,
+) -> RunFacts
+    requires { IsPlayable input.now }
+    ensures { IsPlayed WEIGHED E.bench (run_with calibration.now input.now).run
+        steps.old steps.new result }
 {
     let (image, drive) = (input.image.as_slice(), input.drive.as_slice());
     let (plan, fault) = (&input.plan.plan, input.plan.fault.as_ref());
-    bench_facts::<E>(calibration, image, plan, drive, fault, steps)
+    bench_facts::<E, WEIGHED>(calibration, image, plan, drive, fault, steps)
 }

@@ -4,10 +4,8 @@ ghost use Rattle.eg_base.specs.Outside.{Rose, Appends, AppendsPrefix};
 ghost use Rattle.eg_record.specs.declared.row_line.TheConstants.{ROW_ROOM};
 ghost use Rattle.eg_record.specs.Texts.{row_line};
 ghost use Rattle.eg_model.specs.Rows.{record_rows};
-ghost use Rattle.eg_tick.specs.Counting.{count_with};
 ghost use Rattle.eg_campaign.specs.Plays.{IsPlayable, run_with, rows_in_time};
-ghost use Rattle.eg_campaign.specs.Texts.{text_of, record_text};
-ghost use Rattle.eg_campaign.specs.Recording.{IsStopped};
+ghost use Rattle.eg_campaign.specs.Recording.{WritesRecord};
 ghost use Rattle.eg_campaign.specs.declared.recording.RecordStop.TheVariants.{Memory, Put};
 
 use crate::RunInput;
@@ -42,23 +40,8 @@ pub fn record_into<K: Sink>(
     steps: &mut Ticks,
 ) -> Result<(), RecordStop>
     requires { IsPlayable input.now }
-    // All of the record is appended, and all of its ticks are counted.
-    ensures whole { OnOk result
-        (Appends (K.shows out.old) (K.shows out.new) (record_text calibration.now input.now)) }
-    ensures counted { OnOk result
-        (steps.new ≡ count_with steps.old (rows_in_time (run_with calibration.now input.now))) }
-    ensures no_fault { OnOk result ((K.shows out.new).faults ≡ (K.shows out.old).faults) }
-    // Where it is stopped a front is appended, and no tick is made before the line of the one before stands.
-    ensures stopped { OnErr result (IsStopped (rows_in_time (run_with calibration.now input.now))
-        (K.shows out.old) (K.shows out.new) steps.old steps.new) }
-    // Put comes only where a fault of writing is counted, and Memory only where none is.
-    ensures cause { IsErrOf result Put → Rose (K.shows out.old).faults (K.shows out.new).faults }
-    ensures memory { IsErrOf result Memory → (K.shows out.new).faults ≡ (K.shows out.old).faults }
-    // Over a sure output memory runs out only before the header: nothing is written, and no tick is made.
-    ensures unwritten { IsTrue (K.shows out.old).sure → IsErrOf result Memory
-        → K.shows out.new ≡ K.shows out.old }
-    ensures no_tick { IsTrue (K.shows out.old).sure → IsErrOf result Memory → steps.new ≡ steps.old }
-    ensures stays_sure { (K.shows out.new).sure ≡ (K.shows out.old).sure }
+    ensures { WritesRecord (rows_in_time (run_with calibration.now input.now))
+        (K.shows out.old) (K.shows out.new) steps.old steps.new result }
 {
     match input.plan.engine {
         EngineKind::Gasoline => record_on::<GasolineEngine, K>(
@@ -81,20 +64,8 @@ fn record_on<E: BenchedEngine, K: Sink>(
     steps: &mut Ticks,
 ) -> Result<(), RecordStop>
     requires { IsPlayable input.now }
-    ensures whole { OnOk result (Appends (K.shows out.old) (K.shows out.new)
-        (text_of (reverse (record_rows E.bench (run_with calibration.now input.now).run)))) }
-    ensures counted { OnOk result (steps.new ≡ count_with steps.old
-        (reverse (record_rows E.bench (run_with calibration.now input.now).run))) }
-    ensures no_fault { OnOk result ((K.shows out.new).faults ≡ (K.shows out.old).faults) }
-    ensures stopped { OnErr result
-        (IsStopped (reverse (record_rows E.bench (run_with calibration.now input.now).run))
-        (K.shows out.old) (K.shows out.new) steps.old steps.new) }
-    ensures cause { IsErrOf result Put → Rose (K.shows out.old).faults (K.shows out.new).faults }
-    ensures memory { IsErrOf result Memory → (K.shows out.new).faults ≡ (K.shows out.old).faults }
-    ensures unwritten { IsTrue (K.shows out.old).sure → IsErrOf result Memory
-        → K.shows out.new ≡ K.shows out.old }
-    ensures no_tick { IsTrue (K.shows out.old).sure → IsErrOf result Memory → steps.new ≡ steps.old }
-    ensures stays_sure { (K.shows out.new).sure ≡ (K.shows out.old).sure }
+    ensures { WritesRecord (reverse (record_rows E.bench (run_with calibration.now input.now).run))
+        (K.shows out.old) (K.shows out.new) steps.old steps.new result }
 {
     // Called for its clause alone.
     count_none(steps);

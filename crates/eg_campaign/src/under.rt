@@ -1,5 +1,5 @@
 // The runs of one input under many faults.
-ghost use Rattle.std.specs.Prelude.{◌≡◌, ◌≤◌, All, map, length, IfOk, Some};
+ghost use Rattle.std.specs.Prelude.{◌≡◌, ◌≤◌, false, All, map, length, IfOk, Some};
 ghost use Rattle.eg_fault.specs.Faults.{IsValid};
 ghost use Rattle.eg_tick.specs.Counting.{AreCounted};
 ghost use Rattle.eg_campaign.specs.Plays.{IsPlayable};
@@ -20,8 +20,8 @@ use std::alloc::Global;
 
 /// Plays the runs of one input under each of these faults in place of its own, two or more, and tells the
 /// facts of each (docs/CONCEPT.md, "`sweep`"). It tells what `facts_all` tells of these runs, which are a
-/// group, and makes the same ticks, but the input is there once. The ticks are counted in `steps`. NoMemory
-/// is its one refusal.
+/// group, and makes the same ticks, but is handed one input in place of a copy for each fault. The ticks are
+/// counted in `steps`. NoMemory is its one refusal.
 pub fn facts_under(
     alloc: Global,
     calibration: &Calibration,
@@ -54,17 +54,17 @@ fn facts_on<E: BenchedEngine + CopyEngine>(
     requires playable { IsPlayable input.now }
     requires valid { All IsValid faults.now }
     ensures facts { IfOk result (λ all. all.items
-        ≡ map (λ fault. (told_on E.bench calibration.now (input_under (Some fault) input.now)).facts)
+        ≡ map (λ fault. (told_on false E.bench calibration.now (input_under (Some fault) input.now)).facts)
         faults.now) }
     ensures counted { AreCounted (rows_under E.bench calibration.now input.now faults.now)
         steps.old steps.new result }
 {
     // Called for its clause alone.
     count_none(steps);
-    let shared = share::<E>(alloc, calibration, input, steps)?;
+    let shared = share::<E, false>(alloc, calibration, input, steps)?;
     let mut facts = Vec::new(alloc);
     for fault in faults {
-        let told = play_from(&shared, input, Some(fault), steps);
+        let told = play_from::<E, false>(&shared, input, Some(fault), steps);
         facts.push(told.facts)?;
     }
     Ok(facts)

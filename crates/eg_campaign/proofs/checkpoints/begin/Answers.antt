@@ -1,6 +1,8 @@
 use Rattle.std.proofs.Common.{◌∙◌, sym, ap, subst}
 use Rattle.eg_answer.specs.declared.rules.Rules.{Rules}
 use Rattle.eg_record.specs.Tallies.{IsTallyOf}
+use Rattle.eg_record.specs.Margins.{IsMarginTallyOf}
+use Rattle.eg_tick.proofs.WeighLemmas.{none_weighed}
 use Rattle.eg_fault.specs.Faults.{IsNoneOrValid}
 use Rattle.eg_model.proofs.RecordTicks.{no_rows}
 use Rattle.eg_model.specs.Bench.{Run}
@@ -14,7 +16,7 @@ unfolding IsNoneOrValid
 bench_begin-requires-clause-fault g c = tt
 
 pub returns : goal.returns
-returns g c =
+returns g c = λ weighed.
     let bench = g.E.BenchedEngine.bench in
     let x = c.args.input.now in
     let r : Run = (run_with c.args.calibration.now (faultless x)).run in
@@ -26,4 +28,5 @@ returns g c =
       weights = c.new-tally.ensures.weights ∙ ap (λ (rules : Rules). rules.torque) c.rules-rules.ensures.rules;
       fed = c.new-tally.ensures.ticks;
       tally = subst (IsTallyOf c.new-tally.result) (sym (no_rows bench r)) c.new-tally.ensures.stands;
+      margins = subst (IsMarginTallyOf c.new-margins.result) (sym (none_weighed weighed bench r)) c.new-margins.ensures;
     }

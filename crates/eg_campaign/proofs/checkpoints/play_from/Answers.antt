@@ -1,4 +1,4 @@
-use Rattle.std.proofs.Common.{◌∙◌, ◌*◌, ◌/◌, ◌<◌, ◌≤◌, refl, sym, ap, subst, length}
+use Rattle.std.proofs.Common.{◌∙◌, ◌*◌, ◌/◌, ◌<◌, ◌≤◌, false, refl, sym, ap, subst, length, not, ◌==◌}
 use Rattle.std.specs.Prelude.{reverse}
 use Rattle.std.specs.Option.{option_copied}
 use Rattle.eg_model.specs.Branching.{BeginsFrom}
@@ -29,7 +29,8 @@ returns-then-fault-as_slice g c =
     let begins : BeginsFrom (length drive) fault = subst (BeginsFrom (length drive)) (sym (ap option_copied c.in-Some.is))
     (subst (λ d. length d ≤ c.in-Some.fault.now.onset) c.as_slice.ensures c.if-fault-as_slice.true) in
     record {
-      told = λ cal shared. told_under bench g.E.BenchedEngine.come_to (run_with cal (faultless c.args.input.now)).run refl fault c.args.shared.now.told begins shared.told;
+      told = λ cal shared. told_under bench g.E.BenchedEngine.come_to (run_with cal (faultless c.args.input.now)).run refl fault (not
+          (g.row.WEIGHED == 0)) c.args.shared.now.told begins shared.told;
       counted = λ cal shared.
           let rows = reverse (record_rows bench (run_with cal (input_under fault c.args.input.now)).run) in
           counted_none c.args.steps.now (own_under fault (length drive) rows) (makes_none (length drive) fault rows begins) c.count_none.ensures;
@@ -41,22 +42,27 @@ within g c = subst (λ d. c.in-Some.fault.now.onset < length d) c.as_slice.ensur
 
 -- the run was played from the checkpoint on
 made : (g : Over) (c : goal.After-drop-played g) (cal : CalibrationParts) →
-    IsSharedFor g.E.BenchedEngine.bench g.E.BenchedEngine.come_to cal c.args.input.now c.args.shared.now →
-    HasMade g.E.BenchedEngine.bench g.E.BenchedEngine.come_to (run_with cal (input_under (option_copied c.args.fault) c.args.input.now)).run (c.in-Some.fault.now.onset / checkpoint_ticks * checkpoint_ticks)
+    IsSharedFor (not (g.row.WEIGHED == 0)) g.E.BenchedEngine.bench g.E.BenchedEngine.come_to cal c.args.input.now c.args.shared.now →
+    HasMade (not (g.row.WEIGHED == 0)) g.E.BenchedEngine.bench g.E.BenchedEngine.come_to (run_with cal (input_under
+    (option_copied c.args.fault) c.args.input.now)).run (c.in-Some.fault.now.onset / checkpoint_ticks * checkpoint_ticks)
     (length c.args.input.now.drive) c.play_on.new.played c.args.steps.now c.play_on.new.steps
 made g c cal shared =
     let x = input_under (option_copied c.args.fault) c.args.input.now in
     c.play_on.ensures (run_with cal x).run (record { plan = refl; drive = refl })
-    (played_under g.E.BenchedEngine.bench g.E.BenchedEngine.come_to cal x c.in-Some.fault.now (ap option_copied c.in-Some.is) (within g c) c.args.shared.now shared
-    c.copy.result c.copy.ensures c.index.result.now c.go_on-played.result c.index.ensures c.go_on-played.ensures.played)
+    (played_under (not (g.row.WEIGHED == 0)) g.E.BenchedEngine.bench g.E.BenchedEngine.come_to cal x c.in-Some.fault.now
+    (ap option_copied c.in-Some.is) (within g c) c.args.shared.now shared
+    c.copy.result c.copy.ensures c.index.result.now c.go_on-played.result c.index.ensures (c.go_on-played.ensures.played (not (g.row.WEIGHED == 0))))
 
 pub returns-clause-told : goal.returns-clause-told
-returns-clause-told g c = λ cal shared. c.told_so_far.ensures (run_with cal (input_under (option_copied c.args.fault) c.args.input.now)).run (made g c cal shared).to
+returns-clause-told g c = λ cal shared. c.told_so_far.ensures (not (g.row.WEIGHED == 0)) (run_with cal (input_under
+    (option_copied c.args.fault) c.args.input.now)).run (made g c cal shared).to
 
 pub returns-clause-counted : goal.returns-clause-counted
 returns-clause-counted g c = λ cal shared.
     let x = input_under (option_copied c.args.fault) c.args.input.now in
     let r : Run = (run_with cal x).run in
-    made_in_time g.E.BenchedEngine.bench g.E.BenchedEngine.come_to r (c.in-Some.fault.now.onset / checkpoint_ticks * checkpoint_ticks) (length x.drive)
+    made_in_time (not (g.row.WEIGHED == 0)) g.E.BenchedEngine.bench g.E.BenchedEngine.come_to r
+    (c.in-Some.fault.now.onset / checkpoint_ticks * checkpoint_ticks) (length x.drive)
     c.play_on.new.played c.args.steps.now c.play_on.new.steps (made g c cal shared) ∙ ap (count_with c.args.steps.now)
-    (sym (rows-are g.E.BenchedEngine.bench g.E.BenchedEngine.come_to cal x c.in-Some.fault.now (ap option_copied c.in-Some.is) (within g c) (reverse (record_rows g.E.BenchedEngine.bench r)) refl))
+    (sym (rows-are (not (g.row.WEIGHED == 0)) g.E.BenchedEngine.bench g.E.BenchedEngine.come_to cal x c.in-Some.fault.now
+    (ap option_copied c.in-Some.is) (within g c) (reverse (record_rows g.E.BenchedEngine.bench r)) refl))

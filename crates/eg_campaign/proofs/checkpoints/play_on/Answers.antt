@@ -1,4 +1,4 @@
-use Rattle.std.proofs.Common.{◌≡◌, ◌∙◌, ◌≤◌, sym, ap, subst, length, arith}
+use Rattle.std.proofs.Common.{◌≡◌, ◌∙◌, ◌≤◌, sym, ap, subst, length, arith, not, ◌==◌}
 use Rattle.eg_campaign.specs.Checkpoints.{HasMade}
 use Rattle.eg_campaign.proofs.CheckpointLemmas.{made_none}
 use Rattle.eg_campaign.proofs.checkpoints.play_on.Goals as goal
@@ -7,7 +7,7 @@ pub loop-tick-init : goal.loop-tick-init
 loop-tick-init g c = record {
   sure = c.requires.sure;
   made = λ r goes played.
-      made_none g.E.BenchedEngine.bench g.E.BenchedEngine.come_to r c.args.from c.args.played.now c.args.steps.now c.count_none.ensures played;
+      made_none (not (g.row.WEIGHED == 0)) g.E.BenchedEngine.bench g.E.BenchedEngine.come_to r c.args.from c.args.played.now c.args.steps.now c.count_none.ensures played;
 }
 
 pub play_row-requires-clause-run : goal.play_row-requires-clause-run
@@ -26,5 +26,5 @@ returns g c = λ r goes played.
     let within = subst (λ d. c.args.from ≤ length d) (sym c.as_slice-tick-end.ensures) c.requires.within in
     let end : c.loop-tick.tick ≡ length c.as_slice-tick-end.result.now =
     let most = c.loop-tick.auto.tick-end within in omega (arith, c.loop-tick-test.false, most) in
-    subst (λ n. HasMade g.E.BenchedEngine.bench g.E.BenchedEngine.come_to r c.args.from n c.loop-tick.played c.args.steps.now c.loop-tick.steps)
+    subst (λ n. HasMade (not (g.row.WEIGHED == 0)) g.E.BenchedEngine.bench g.E.BenchedEngine.come_to r c.args.from n c.loop-tick.played c.args.steps.now c.loop-tick.steps)
     (end ∙ ap length (c.as_slice-tick-end.ensures ∙ sym goes.drive)) (c.loop-tick.invariant.made r goes played)

@@ -1,4 +1,4 @@
-use Rattle.std.proofs.Common.{IsTrue}
+use Rattle.std.proofs.Common.{IsTrue, not, ◌==◌}
 use Rattle.eg_model.specs.Bench.{Run}
 use Rattle.eg_campaign.specs.Checkpoints.{PlaysInput, HasPlayed, HasMade}
 use Rattle.eg_campaign.proofs.checkpoints.play_on.Given as goal
@@ -10,5 +10,5 @@ invariant-loop-tick g l =
     let come_to = g.E.BenchedEngine.come_to in
     record {
       sure : IsTrue l.played.controller.kept.memory.sure;
-      made : (r : Run) → PlaysInput l.input r → HasPlayed bench come_to r l.fn.from l.fn.played → HasMade bench come_to r l.fn.from l.tick l.played l.fn.steps l.steps;
+      made : (r : Run) → PlaysInput l.input r → HasPlayed (not (g.row.WEIGHED == 0)) bench come_to r l.fn.from l.fn.played → HasMade (not (g.row.WEIGHED == 0)) bench come_to r l.fn.from l.tick l.played l.fn.steps l.steps;
     }

@@ -1,4 +1,4 @@
-use Rattle.std.proofs.Common.{◌≡◌, ◌∙◌, ◌<◌, ◌≤◌, ap, subst, length, arith}
+use Rattle.std.proofs.Common.{◌≡◌, ◌∙◌, ◌<◌, ◌≤◌, ap, subst, length, arith, not, ◌==◌}
 use Rattle.eg_model.specs.Bench.{Run}
 use Rattle.eg_campaign.specs.Plays.{run_with}
 use Rattle.eg_campaign.specs.Groups.{faultless}
@@ -10,12 +10,13 @@ use Rattle.eg_campaign.proofs.checkpoints.share.Goals as goal
 
 pub loop-tick-init : goal.loop-tick-init
 loop-tick-init g c =
+    let weighed = not (g.row.WEIGHED == 0) in
     let bench = g.E.BenchedEngine.bench in
     let come_to = g.E.BenchedEngine.come_to in
     let r : Run = (run_with c.args.calibration.now (faultless c.args.input.now)).run in
     record {
-      made = made_none bench come_to r 0 c.in_ok-played.played c.args.steps.now c.count_none.ensures c.in_ok-played.ensures;
-      kept = kept_none bench come_to r c.new-checkpoints.result.items c.new-checkpoints.ensures.items;
+      made = made_none weighed bench come_to r 0 c.in_ok-played.played c.args.steps.now c.count_none.ensures (c.in_ok-played.ensures weighed);
+      kept = kept_none weighed bench come_to r c.new-checkpoints.result.items c.new-checkpoints.ensures.items;
     }
 
 pub returns-in_err-played-clause-counted : goal.returns-in_err-played-clause-counted
@@ -23,34 +24,37 @@ returns-in_err-played-clause-counted g c = counted_err _ _ _ _ c.from_residual.e
 
 pub returns-in_err-keep-clause-counted : goal.returns-in_err-keep-clause-counted
 returns-in_err-keep-clause-counted g c =
+    let weighed = not (g.row.WEIGHED == 0) in
     let bench = g.E.BenchedEngine.bench in
     let r : Run = (run_with c.args.calibration.now (faultless c.args.input.now)).run in
     let below : c.loop-tick.tick < length r.drive = subst (λ d. c.loop-tick.tick < length d) c.as_slice-tick-end.ensures c.loop-tick-test.true in
     let within : c.loop-tick.tick ≤ length r.drive = omega (arith, below) in
     counted_err _ _ _ _ c.from_residual-in_err-keep.ensures.0 (out_between _ _ _ c.loop-tick.tick (subst (λ n. c.loop-tick.tick ≤ n) (long bench r) within)
-    (made_front bench g.E.BenchedEngine.come_to r _ _ _ _ c.loop-tick.invariant.made within))
+    (made_front weighed bench g.E.BenchedEngine.come_to r _ _ _ _ c.loop-tick.invariant.made within))
 
 pub returns-in_err-play_tick-clause-counted : goal.returns-in_err-play_tick-clause-counted
 returns-in_err-play_tick-clause-counted g c =
+    let weighed = not (g.row.WEIGHED == 0) in
     let bench = g.E.BenchedEngine.bench in
     let r : Run = (run_with c.args.calibration.now (faultless c.args.input.now)).run in
     let below : c.loop-tick.tick < length r.drive = subst (λ d. c.loop-tick.tick < length d) c.as_slice-tick-end.ensures c.loop-tick-test.true in
     let within : c.loop-tick.tick ≤ length r.drive = omega (arith, below) in
     counted_err _ _ _ _ c.from_residual-in_err-play_tick.ensures.0 (out_within _ _ _ _ c.loop-tick.tick (subst (λ n. c.loop-tick.tick < n) (long bench r) below)
-    (made_front bench g.E.BenchedEngine.come_to r _ _ _ _ c.loop-tick.invariant.made within) c.in_err-play_tick.ensures.count c.in_err-play_tick.ensures.no_weight)
+    (made_front weighed bench g.E.BenchedEngine.come_to r _ _ _ _ c.loop-tick.invariant.made within) c.in_err-play_tick.ensures.count c.in_err-play_tick.ensures.no_weight)
 
 pub returns : goal.returns
 returns g c =
+    let weighed = not (g.row.WEIGHED == 0) in
     let bench = g.E.BenchedEngine.bench in
     let come_to = g.E.BenchedEngine.come_to in
     let r : Run = (run_with c.args.calibration.now (faultless c.args.input.now)).run in
     let end : c.loop-tick.tick ≡ length c.as_slice-tick-end.result.now = omega (arith, c.loop-tick-test.false, c.loop-tick.auto.tick-end) in
     let all : c.loop-tick.tick ≡ length r.drive = end ∙ ap length c.as_slice-tick-end.ensures in
-    let made = subst (λ n. HasMade bench come_to r 0 n c.loop-tick.played c.args.steps.now c.loop-tick.steps) all c.loop-tick.invariant.made in
+    let made = subst (λ n. HasMade weighed bench come_to r 0 n c.loop-tick.played c.args.steps.now c.loop-tick.steps) all c.loop-tick.invariant.made in
     record {
       shared = record {
-        checkpoints = subst (λ n. AreCheckpoints bench come_to r n c.loop-tick.checkpoints.items) all c.loop-tick.invariant.kept;
-        told = c.told_so_far.ensures r made.to;
+        checkpoints = subst (λ n. AreCheckpoints weighed bench come_to r n c.loop-tick.checkpoints.items) all c.loop-tick.invariant.kept;
+        told = c.told_so_far.ensures weighed r made.to;
       };
-      counted = made_all bench come_to r c.loop-tick.played c.args.steps.now c.loop-tick.steps made;
+      counted = made_all weighed bench come_to r c.loop-tick.played c.args.steps.now c.loop-tick.steps made;
     }

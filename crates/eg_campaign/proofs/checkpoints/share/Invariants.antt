@@ -1,3 +1,4 @@
+use Rattle.std.proofs.Common.{not, ◌==◌}
 use Rattle.eg_model.specs.Bench.{Run}
 use Rattle.eg_campaign.specs.Plays.{run_with}
 use Rattle.eg_campaign.specs.Groups.{faultless}
@@ -9,9 +10,10 @@ use Rattle.eg_campaign.proofs.checkpoints.share.Given as goal
 abbrev pub invariant-loop-tick : goal.invariant-loop-tick
 invariant-loop-tick g l =
     let bench = g.E.BenchedEngine.bench in
+    let weighed = not (g.row.WEIGHED == 0) in
     let come_to = g.E.BenchedEngine.come_to in
     let r : Run = (run_with l.calibration (faultless l.input)).run in
     record {
-      made : HasMade bench come_to r 0 l.tick l.played l.fn.steps l.steps;
-      kept : AreCheckpoints bench come_to r l.tick l.checkpoints.items;
+      made : HasMade weighed bench come_to r 0 l.tick l.played l.fn.steps l.steps;
+      kept : AreCheckpoints weighed bench come_to r l.tick l.checkpoints.items;
     }

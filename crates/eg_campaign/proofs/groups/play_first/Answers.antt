@@ -1,4 +1,4 @@
-use Rattle.std.proofs.Common.{◌∙◌, sym, ap, ap₂, subst, ◌<◌, ◌≤◌, List, Option, Some, length}
+use Rattle.std.proofs.Common.{◌≡◌, ◌∙◌, sym, ap, ap₂, subst, ◌<◌, ◌≤◌, List, map, get_or, length, not, ◌==◌}
 use Rattle.std.specs.Prelude.{slice_set}
 use Rattle.std.proofs.lemmas.Result.{on_ok_weaker}
 use Rattle.eg_record.specs.declared.run_facts.RunFacts.{RunFacts}
@@ -7,49 +7,65 @@ use Rattle.eg_plan.specs.declared.engine.EngineKind.TheVariants as kind
 use Rattle.eg_campaign.specs.declared.play.RunInput.{RunInput}
 use Rattle.eg_tick.specs.Counting.{count_with, AreCounted}
 use Rattle.eg_campaign.specs.Plays.{rows_in_time}
-use Rattle.eg_campaign.specs.Groups.{is_alike, group_of, rows_of_group, told_with}
-use Rattle.eg_campaign.proofs.AlikeLemmas.{is_alike-equality}
+use Rattle.eg_campaign.specs.Groups.{is_alike, group_of, rows_of_group, told_by, written_over}
+use Rattle.eg_campaign.specs.Keys.{is_alike-equality}
+use Rattle.eg_campaign.proofs.LeaderLemmas.{one_item, leader-at, count-led}
 use Rattle.eg_campaign.proofs.AllGroups.{alone, written_alone, shared_rows, written_by}
 use Rattle.eg_campaign.proofs.groups.play_first.Goals as goal
 
-pub returns-then-count_alike-lt2-clause-told : goal.returns-then-count_alike-lt2-clause-told
-returns-then-count_alike-lt2-clause-told c =
-    let cal = c.args.calibration.now in
-    let x = c.args.input.now in
-    let inputs = c.args.inputs.now in
-    let few : length (group_of inputs x) < 2 = subst (λ n. n < 2) c.count_alike.ensures c.if-count_alike-lt2.true in
-    λ before h.
-    ap₂ (λ (all : List (Option RunFacts)) (one : RunFacts). slice_set all c.args.index (Some one)) h
-    c.tell_one.ensures.told.is
-    ∙ written_alone (is_alike x) (λ (y : RunInput). Some (told_with cal y)) before inputs c.args.index x c.requires.index c.requires.there (is_alike-equality.refl x) few
-
-pub returns-then-count_alike-lt2-clause-counted : goal.returns-then-count_alike-lt2-clause-counted
+pub returns-then-count_led-lt2 : goal.returns-then-count_led-lt2
 unfolding rows_of_group rows_in_time
-returns-then-count_alike-lt2-clause-counted c =
+returns-then-count_led-lt2 g c =
     let cal = c.args.calibration.now in
-    let x = c.args.input.now in
     let inputs = c.args.inputs.now in
-    let few : length (group_of inputs x) < 2 = subst (λ n. n < 2) c.count_alike.ensures c.if-count_alike-lt2.true in
-    c.tell_one.ensures.counted
-    ∙ ap (λ (g : List RunInput). count_with c.args.steps.now (rows_of_group cal g))
-    (sym (alone (is_alike x) inputs c.args.index x c.requires.index c.requires.there (is_alike-equality.refl x) few))
+    let input = c.index-inputs-index.result in
+    let index = c.args.index in
+    let at = c.index-inputs-index.is in
+    let here = sym (leader-at inputs c.args.leaders.now c.requires.leaders index input 0 c.requires.index at) ∙ c.requires.leads in
+    let few : length (group_of inputs input) < 2 =
+    subst (λ n. n < 2) (c.count_led.ensures ∙ count-led inputs c.args.leaders.now c.requires.leaders index input c.requires.index at here) c.if-count_led-lt2.true in
+    record {
+      told = λ x there before h.
+          ap₂ (λ (all : List RunFacts) (one : RunFacts). slice_set all index one) h c.tell_one.ensures.told.is
+          ∙ written_alone (is_alike input) (told_by (not (g.row.WEIGHED == 0)) cal) before inputs index input c.requires.index at (is_alike-equality.refl input) few
+          ∙ ap (λ z. map (written_over (told_by (not (g.row.WEIGHED == 0)) cal) z before) inputs) (one_item inputs index input x c.requires.index at there);
+      counted = λ x there. c.tell_one.ensures.counted
+          ∙ ap (λ (g : List RunInput). count_with c.args.steps.now (rows_of_group cal g)) (sym (alone (is_alike input) inputs index input c.requires.index at (is_alike-equality.refl input) few))
+          ∙ ap (λ z. count_with c.args.steps.now (rows_of_group cal (group_of inputs z))) (one_item inputs index input x c.requires.index at there);
+    }
 
-pub returns-in-Gasoline-clause-told : goal.returns-in-Gasoline-clause-told
-returns-in-Gasoline-clause-told c = λ before h. on_ok_weaker c.play_group.result
-    (λ e. e ∙ written_by c.args.calibration.now c.args.input.now kind.Gasoline before c.args.inputs.now c.in-Gasoline.is) (c.play_group.ensures.told before h)
+pub returns-in-Gasoline : goal.returns-in-Gasoline
+returns-in-Gasoline g c =
+    let cal = c.args.calibration.now in
+    let inputs = c.args.inputs.now in
+    let index = c.args.index in
+    let engine : (x : RunInput) → x ≡ get_or inputs index x → x.plan.engine ≡ kind.Gasoline = λ x there.
+    ap (λ (z : RunInput). z.plan.engine) (one_item inputs index x c.index-inputs-index.result c.requires.index there c.index-inputs-index.is) ∙ c.in-Gasoline.is in
+    record {
+      told = λ x there before h. on_ok_weaker c.play_group.result
+          (λ e. e ∙ written_by (not (g.row.WEIGHED == 0)) cal x kind.Gasoline before inputs (engine x there)) (c.play_group.ensures.told x there before h);
+      counted = λ x there.
+          let here = sym (leader-at inputs c.args.leaders.now c.requires.leaders index x 0 c.requires.index there) ∙ c.requires.leads in
+          let long : 2 ≤ length (group_of inputs x) =
+          subst (λ n. 2 ≤ n) (c.count_led.ensures ∙ count-led inputs c.args.leaders.now c.requires.leaders index x c.requires.index there here) c.if-count_led-lt2.false in
+          subst (λ (rows : List Row). AreCounted rows c.args.steps.now c.play_group.new.steps c.play_group.result)
+          (shared_rows cal inputs x kind.Gasoline long (engine x there)) (c.play_group.ensures.counted x there);
+    }
 
-pub returns-in-Gasoline-clause-counted : goal.returns-in-Gasoline-clause-counted
-returns-in-Gasoline-clause-counted c =
-    let long : 2 ≤ length (group_of c.args.inputs.now c.args.input.now) = subst (λ n. 2 ≤ n) c.count_alike.ensures c.if-count_alike-lt2.false in
-    subst (λ (rows : List Row). AreCounted rows c.args.steps.now c.play_group.new.steps c.play_group.result)
-    (shared_rows c.args.calibration.now c.args.inputs.now c.args.input.now kind.Gasoline long c.in-Gasoline.is) c.play_group.ensures.counted
-
-pub returns-in-Diesel-clause-told : goal.returns-in-Diesel-clause-told
-returns-in-Diesel-clause-told c = λ before h. on_ok_weaker c.play_group-in-Diesel.result
-    (λ e. e ∙ written_by c.args.calibration.now c.args.input.now kind.Diesel before c.args.inputs.now c.in-Diesel.is) (c.play_group-in-Diesel.ensures.told before h)
-
-pub returns-in-Diesel-clause-counted : goal.returns-in-Diesel-clause-counted
-returns-in-Diesel-clause-counted c =
-    let long : 2 ≤ length (group_of c.args.inputs.now c.args.input.now) = subst (λ n. 2 ≤ n) c.count_alike.ensures c.if-count_alike-lt2.false in
-    subst (λ (rows : List Row). AreCounted rows c.args.steps.now c.play_group-in-Diesel.new.steps c.play_group-in-Diesel.result)
-    (shared_rows c.args.calibration.now c.args.inputs.now c.args.input.now kind.Diesel long c.in-Diesel.is) c.play_group-in-Diesel.ensures.counted
+pub returns-in-Diesel : goal.returns-in-Diesel
+returns-in-Diesel g c =
+    let cal = c.args.calibration.now in
+    let inputs = c.args.inputs.now in
+    let index = c.args.index in
+    let engine : (x : RunInput) → x ≡ get_or inputs index x → x.plan.engine ≡ kind.Diesel = λ x there.
+    ap (λ (z : RunInput). z.plan.engine) (one_item inputs index x c.index-inputs-index.result c.requires.index there c.index-inputs-index.is) ∙ c.in-Diesel.is in
+    record {
+      told = λ x there before h. on_ok_weaker c.play_group-in-Diesel.result
+          (λ e. e ∙ written_by (not (g.row.WEIGHED == 0)) cal x kind.Diesel before inputs (engine x there)) (c.play_group-in-Diesel.ensures.told x there before h);
+      counted = λ x there.
+          let here = sym (leader-at inputs c.args.leaders.now c.requires.leaders index x 0 c.requires.index there) ∙ c.requires.leads in
+          let long : 2 ≤ length (group_of inputs x) =
+          subst (λ n. 2 ≤ n) (c.count_led.ensures ∙ count-led inputs c.args.leaders.now c.requires.leaders index x c.requires.index there here) c.if-count_led-lt2.false in
+          subst (λ (rows : List Row). AreCounted rows c.args.steps.now c.play_group-in-Diesel.new.steps c.play_group-in-Diesel.result)
+          (shared_rows cal inputs x kind.Diesel long (engine x there)) (c.play_group-in-Diesel.ensures.counted x there);
+    }

@@ -1,5 +1,5 @@
-use Rattle.std.proofs.Common.{◌≡◌, map, drop, length, Option}
-use Rattle.std.specs.Prelude.{filter}
+use Rattle.std.proofs.Common.{◌≡◌, map, drop, length, not, ◌==◌}
+use Rattle.std.specs.Prelude.{filter, slice_index_or}
 use Rattle.std.specs.List.{flat_map}
 use Rattle.eg_record.specs.declared.run_facts.RunFacts.{RunFacts}
 use Rattle.eg_campaign.specs.declared.play.RunInput.{RunInput}
@@ -13,8 +13,9 @@ invariant-loop-i g l =
     let bench = g.E.BenchedEngine.bench in
     record {
       places : length l.told ≡ length l.inputs;
-      told : (before : RunInput → Option RunFacts) → l.fn.told ≡ map before l.inputs →
-          l.told ≡ written_to (written_over (told_on bench l.calibration) l.input before) before l.inputs l.i;
-      counts : Counted l.fn.steps l.steps (flat_map (own_on bench l.calibration) (filter (is_alike l.input) (drop l.i l.inputs)))
-          (rows_shared bench l.calibration l.inputs l.input);
+      told : (x : RunInput) → x ≡ slice_index_or l.inputs l.index x → (before : RunInput → RunFacts) → l.fn.told ≡ map before l.inputs →
+          l.told ≡ written_to (written_over (told_on (not (g.row.WEIGHED == 0)) bench l.calibration) x before) before l.inputs l.i;
+      counts : (x : RunInput) → x ≡ slice_index_or l.inputs l.index x →
+          Counted l.fn.steps l.steps (flat_map (own_on bench l.calibration) (filter (is_alike x) (drop l.i l.inputs)))
+          (rows_shared bench l.calibration l.inputs x);
     }

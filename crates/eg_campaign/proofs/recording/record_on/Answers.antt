@@ -1,4 +1,4 @@
-use Rattle.std.proofs.Common.{◌≡◌, ◌∙◌, refl, sym, ap, subst, ◌<◌, length, Err, arith}
+use Rattle.std.proofs.Common.{rules, ◌≡◌, ◌∙◌, refl, sym, ap, subst, ◌<◌, length, Err, arith}
 use Rattle.std.specs.Prelude.{IsTrue, IsErrOf}
 use Rattle.std.proofs.lemmas.Result.{err_from_is_err_and}
 use Rattle.eg_model.specs.Bench.{Run, drive_at}
@@ -12,17 +12,38 @@ use Rattle.eg_campaign.specs.declared.recording.RecordStop.TheVariants.{Memory}
 use Rattle.eg_campaign.proofs.recording.record_on.Given.{Over}
 use Rattle.eg_campaign.proofs.recording.record_on.Goals as goal
 
-pub returns-in_err-put_whole-clause-stopped : goal.returns-in_err-put_whole-clause-stopped
-returns-in_err-put_whole-clause-stopped g c =
+pub returns-in_err-put_whole : goal.returns-in_err-put_whole
+returns-in_err-put_whole g c =
     let shows = g.K.Sink.shows in
     let bench = g.E.BenchedEngine.bench in
-    at_err c.from_residual.result
-    (stopped_at_header bench (run_with c.args.calibration.now c.args.input.now).run (shows c.args.out.now) (shows c.put_whole.new.out) c.args.steps.now c.as_bytes.result.now
-    (c.as_bytes.ensures.value ∙ c.record_header.ensures) c.in_err-put_whole.ensures.prefix c.count_none.ensures)
+    record {
+      whole = search rules;
+      no_fault = search rules;
+      counted = search rules;
+      stopped = at_err c.from_residual.result
+          (stopped_at_header bench (run_with c.args.calibration.now c.args.input.now).run (shows c.args.out.now)
+          (shows c.put_whole.new.out) c.args.steps.now c.as_bytes.result.now
+          (c.as_bytes.ensures.value ∙ c.record_header.ensures) c.in_err-put_whole.ensures.prefix c.count_none.ensures);
+      cause = search rules;
+      memory = search rules;
+      unwritten = search rules;
+      no_tick = search rules;
+      stays_sure = search rules;
+    }
 
-pub returns-in_default-clause-stopped : goal.returns-in_default-clause-stopped
-returns-in_default-clause-stopped g c =
-    stopped_before_header g.E.BenchedEngine.bench (run_with c.args.calibration.now c.args.input.now).run (g.K.Sink.shows c.args.out.now) c.args.steps.now c.count_none.ensures
+pub returns-in_default : goal.returns-in_default
+returns-in_default g c = record {
+  whole = tt;
+  no_fault = tt;
+  counted = tt;
+  stopped = stopped_before_header g.E.BenchedEngine.bench (run_with c.args.calibration.now c.args.input.now).run
+      (g.K.Sink.shows c.args.out.now) c.args.steps.now c.count_none.ensures;
+  cause = search rules;
+  memory = λ is. refl;
+  unwritten = λ sure is. refl;
+  no_tick = λ sure is. refl;
+  stays_sure = refl;
+}
 
 pub loop-tick-init : goal.loop-tick-init
 loop-tick-init g c =
@@ -35,22 +56,11 @@ loop-tick-init g c =
       at = subst (λ (r : Run). IsAt bench g.E.BenchedEngine.come_to r 0 c.bench_controller-controller.result)
           (same_run _ _ _ _ _ _ _ _ _ _ refl c.as_slice-image.ensures c.as_ref-fault.ensures.value refl refl)
           (c.bench_controller-controller.ensures.at c.args.input.now.plan.plan c.args.input.now.drive);
-      written = has_header bench (run_with c.args.calibration.now c.args.input.now).run (shows c.args.out.now) (shows c.put_whole.new.out) c.args.steps.now c.as_bytes.result.now
-          (c.as_bytes.ensures.value ∙ c.record_header.ensures) c.in_ok-put_whole.ensures.ok c.in_ok-put_whole.ensures.no_fault c.in_ok-put_whole.ensures.stays_sure c.count_none.ensures;
+      written = has_header bench (run_with c.args.calibration.now c.args.input.now).run (shows c.args.out.now)
+          (shows c.put_whole.new.out) c.args.steps.now c.as_bytes.result.now
+          (c.as_bytes.ensures.value ∙ c.record_header.ensures) c.in_ok-put_whole.ensures.ok c.in_ok-put_whole.ensures.no_fault
+          c.in_ok-put_whole.ensures.stays_sure c.count_none.ensures;
     }
-
-pub returns-in_err-put_row-clause-stopped : goal.returns-in_err-put_row-clause-stopped
-returns-in_err-put_row-clause-stopped g c =
-    let shows = g.K.Sink.shows in
-    let bench = g.E.BenchedEngine.bench in
-    let r : Run = (run_with c.args.calibration.now c.args.input.now).run in
-    let drive : drive_at r c.loop-tick.tick ≡ c.index-drive-tick.result =
-    drive-at r c.as_slice-drive.result.now c.loop-tick.tick _ (sym c.as_slice-drive.ensures) c.loop-tick-test.true c.index-drive-tick.is in
-    let within : c.loop-tick.tick < length c.args.input.now.drive = subst (λ d. c.loop-tick.tick < length d) c.as_slice-drive.ensures c.loop-tick-test.true in
-    at_err c.from_residual-in_err-put_row.result
-    (stopped_at_line bench r c.loop-tick.tick (shows c.args.out.now) (shows c.loop-tick.out) (shows c.put_row.new.out)
-    c.args.steps.now c.loop-tick.steps c.bench_row-row.new.steps c.bench_row-row.result within (c.bench_row-row.ensures.row r refl drive c.loop-tick.invariant.at)
-    c.loop-tick.invariant.written c.in_err-put_row.ensures.prefix c.bench_row-row.ensures.count c.bench_row-row.ensures.weight)
 
 -- a row takes no memory over a sure output, since the buffer has room for its line
 has_room : (g : Over) (c : goal.After-drop-line-in_err-put_row g) → IsTrue (g.K.Sink.shows c.args.out.now).sure →
@@ -60,11 +70,28 @@ has_room g c sure is =
     c.in_err-put_row.ensures.sure (subst IsTrue (sym c.loop-tick.invariant.written.sure) sure) c.loop-tick.invariant.room
     (ap (λ e. Err e) (sym same) ∙ sym told ∙ is)
 
-pub returns-in_err-put_row-clause-unwritten : goal.returns-in_err-put_row-clause-unwritten
-returns-in_err-put_row-clause-unwritten g c = λ sure is. absurd (has_room g c sure is)
-
-pub returns-in_err-put_row-clause-no_tick : goal.returns-in_err-put_row-clause-no_tick
-returns-in_err-put_row-clause-no_tick g c = λ sure is. absurd (has_room g c sure is)
+pub returns-in_err-put_row : goal.returns-in_err-put_row
+returns-in_err-put_row g c =
+    let shows = g.K.Sink.shows in
+    let bench = g.E.BenchedEngine.bench in
+    let r : Run = (run_with c.args.calibration.now c.args.input.now).run in
+    let drive : drive_at r c.loop-tick.tick ≡ c.index-drive-tick.result =
+    drive-at r c.as_slice-drive.result.now c.loop-tick.tick _ (sym c.as_slice-drive.ensures) c.loop-tick-test.true c.index-drive-tick.is in
+    let within : c.loop-tick.tick < length c.args.input.now.drive = subst (λ d. c.loop-tick.tick < length d) c.as_slice-drive.ensures c.loop-tick-test.true in
+    record {
+      whole = search rules;
+      no_fault = search rules;
+      counted = search rules;
+      stopped = at_err c.from_residual-in_err-put_row.result
+          (stopped_at_line bench r c.loop-tick.tick (shows c.args.out.now) (shows c.loop-tick.out) (shows c.put_row.new.out)
+          c.args.steps.now c.loop-tick.steps c.bench_row-row.new.steps c.bench_row-row.result within (c.bench_row-row.ensures.row r refl drive c.loop-tick.invariant.at)
+          c.loop-tick.invariant.written c.in_err-put_row.ensures.prefix c.bench_row-row.ensures.count c.bench_row-row.ensures.weight);
+      cause = search rules;
+      memory = search rules;
+      unwritten = λ sure is. absurd (has_room g c sure is);
+      no_tick = λ sure is. absurd (has_room g c sure is);
+      stays_sure = search rules;
+    }
 
 pub loop-tick-preserved : goal.loop-tick-preserved
 loop-tick-preserved g c =
@@ -78,23 +105,30 @@ loop-tick-preserved g c =
       sure = c.bench_row-row.ensures.stays_sure;
       room = omega (arith, c.loop-tick.invariant.room, c.put_row.ensures.keeps_room);
       at = c.bench_row-row.ensures.at r refl drive c.loop-tick.invariant.at;
-      written = has_more bench r c.loop-tick.tick (shows c.args.out.now) (shows c.loop-tick.out) (shows c.put_row.new.out) c.args.steps.now c.loop-tick.steps c.bench_row-row.new.steps
+      written = has_more bench r c.loop-tick.tick (shows c.args.out.now) (shows c.loop-tick.out)
+          (shows c.put_row.new.out) c.args.steps.now c.loop-tick.steps c.bench_row-row.new.steps
           c.bench_row-row.result (c.bench_row-row.ensures.row r refl drive c.loop-tick.invariant.at) c.loop-tick.invariant.written
           c.in_ok-put_row.ensures.ok c.in_ok-put_row.ensures.no_fault c.in_ok-put_row.ensures.stays_sure c.bench_row-row.ensures.count c.bench_row-row.ensures.weight;
     }
 
-pub returns-clause-whole : goal.returns-clause-whole
-returns-clause-whole g c =
+pub returns : goal.returns
+returns g c =
     let shows = g.K.Sink.shows in
     let bench = g.E.BenchedEngine.bench in
     let end : c.loop-tick.tick ≡ length c.as_slice-drive.result.now = omega (arith, c.loop-tick-test.false, c.loop-tick.auto.tick-end) in
-    all_written bench (run_with c.args.calibration.now c.args.input.now).run c.loop-tick.tick (shows c.args.out.now) (shows c.loop-tick.out) c.args.steps.now c.loop-tick.steps
-    (subst (λ d. c.loop-tick.tick ≡ length d) c.as_slice-drive.ensures end) c.loop-tick.invariant.written
-
-pub returns-clause-counted : goal.returns-clause-counted
-returns-clause-counted g c =
-    let shows = g.K.Sink.shows in
-    let bench = g.E.BenchedEngine.bench in
-    let end : c.loop-tick.tick ≡ length c.as_slice-drive.result.now = omega (arith, c.loop-tick-test.false, c.loop-tick.auto.tick-end) in
-    all_counted bench (run_with c.args.calibration.now c.args.input.now).run c.loop-tick.tick (shows c.args.out.now) (shows c.loop-tick.out) c.args.steps.now c.loop-tick.steps
-    (subst (λ d. c.loop-tick.tick ≡ length d) c.as_slice-drive.ensures end) c.loop-tick.invariant.written
+    let all : c.loop-tick.tick ≡ length c.args.input.now.drive = subst (λ d. c.loop-tick.tick ≡ length d) c.as_slice-drive.ensures end in
+    record {
+      whole = all_written bench (run_with c.args.calibration.now c.args.input.now).run c.loop-tick.tick (shows c.args.out.now)
+          (shows c.loop-tick.out) c.args.steps.now c.loop-tick.steps
+          all c.loop-tick.invariant.written;
+      no_fault = c.loop-tick.invariant.written.faults;
+      counted = all_counted bench (run_with c.args.calibration.now c.args.input.now).run c.loop-tick.tick (shows c.args.out.now)
+          (shows c.loop-tick.out) c.args.steps.now c.loop-tick.steps
+          all c.loop-tick.invariant.written;
+      stopped = tt;
+      cause = search rules;
+      memory = search rules;
+      unwritten = search rules;
+      no_tick = search rules;
+      stays_sure = c.loop-tick.invariant.written.sure;
+    }

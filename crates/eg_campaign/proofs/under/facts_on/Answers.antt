@@ -1,4 +1,4 @@
-use Rattle.std.proofs.Common.{◌∙◌, sym, ap, ap₂, subst, List, [], ◌∷◌, ◌++◌, map, Some}
+use Rattle.std.proofs.Common.{◌∙◌, sym, ap, ap₂, subst, List, [], ◌∷◌, ◌++◌, map, Some, false}
 use Rattle.std.specs.List.{flat_map}
 use Rattle.std.proofs.lemmas.List.{take_all, drop_all}
 use Rattle.eg_fault.specs.declared.class.Fault.{Fault}
@@ -44,7 +44,7 @@ loop-fault-preserved g c =
     let cal = c.args.calibration.now in
     let x = c.args.input.now in
     let shared = c.in_ok-shared.ensures.shared in
-    let tells = λ (fault : Fault). (told_on bench cal (input_under (Some fault) x)).facts in
+    let tells = λ (fault : Fault). (told_on false bench cal (input_under (Some fault) x)).facts in
     record {
       facts = c.in_ok-push.ensures.items
           ∙ ap₂ (λ (all : List Facts) (one : RunFacts). all ++ one.facts ∷ []) c.loop-fault.invariant.facts (c.play_from-told.ensures.told cal shared).is
@@ -58,7 +58,7 @@ returns g c =
     let bench = g.E.BenchedEngine.bench in
     let cal = c.args.calibration.now in
     let x = c.args.input.now in
-    let tells = λ (fault : Fault). (told_on bench cal (input_under (Some fault) x)).facts in
+    let tells = λ (fault : Fault). (told_on false bench cal (input_under (Some fault) x)).facts in
     record {
       facts = c.loop-fault.invariant.facts ∙ ap (map tells) (take_all _ _ c.loop-fault-test.false);
       counted = ended _ _ _ (said _ _ _ _ _ (ap (flat_map (λ (fault : Fault). own_on bench cal (input_under (Some fault) x))) (drop_all _ _ c.loop-fault-test.false))

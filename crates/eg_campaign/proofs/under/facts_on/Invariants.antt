@@ -1,4 +1,4 @@
-use Rattle.std.proofs.Common.{◌≡◌, map, take, drop, Some}
+use Rattle.std.proofs.Common.{◌≡◌, map, take, drop, Some, false}
 use Rattle.std.specs.List.{flat_map}
 use Rattle.eg_campaign.specs.Groups.{input_under, own_on, rows_under, told_on}
 use Rattle.eg_campaign.proofs.OneGroup.{Counted}
@@ -9,7 +9,7 @@ abbrev pub invariant-loop-fault : goal.invariant-loop-fault
 invariant-loop-fault g l =
     let bench = g.E.BenchedEngine.bench in
     record {
-      facts : l.facts.items ≡ map (λ fault. (told_on bench l.calibration (input_under (Some fault) l.input)).facts) (take l.fault-index l.faults);
+      facts : l.facts.items ≡ map (λ fault. (told_on false bench l.calibration (input_under (Some fault) l.input)).facts) (take l.fault-index l.faults);
       counts : Counted l.fn.steps l.steps (flat_map (λ fault. own_on bench l.calibration (input_under (Some fault) l.input)) (drop l.fault-index l.faults))
           (rows_under bench l.calibration l.input l.faults);
     }

@@ -1,0 +1,131 @@
+// The key of a group: a run, with a number that is made of what the runs of its group share.
+ghost use Rattle.std.specs.Prelude.{◌≡◌, fold};
+ghost use Rattle.std.specs.Hash as fed;
+ghost use Rattle.std.specs.Cmp as equal;
+ghost use Rattle.eg_campaign.specs.Keys.{mixed, row_number, engine_number, group_number, is_same_key, is_same_key-equality, is_same_key-hashed};
+
+use crate::RunInput;
+use crate::alike::is_alike;
+use eg_num::Drive;
+use eg_plan::EngineKind;
+use eg_tick::Slices;
+use std::hash::{Hash, Hasher};
+
+/// A run as the key of its group: two keys are equal where their runs are of one group. Their numbers are
+/// compared first, so that items are compared only where the numbers are equal.
+#[derive(Clone, Copy)]
+pub(crate) struct GroupKey<'a> {
+    number: u64,
+    input: &'a RunInput,
+}
+
+impl<'a> GroupKey<'a> {
+    /// The key of the group of a run.
+    pub(crate) fn of(input: &'a RunInput) -> GroupKey<'a>
+        ensures number { result.number ≡ group_number input.now }
+        ensures input { result.input.now ≡ input.now }
+    {
+        GroupKey {
+            number: group_number(input),
+            input,
+        }
+    }
+}
+
+impl<'a> PartialEq for GroupKey<'a> {
+    ghost eq = { is_same_key };
+
+    ghost laws = { equal.partial_equiv_from_equiv is_same_key-equality };
+
+    fn eq(&self, other: &GroupKey<'a>) -> bool {
+        self.number == other.number && is_alike(self.input, other.input)
+    }
+}
+
+impl<'a> Eq for GroupKey<'a> {
+    ghost laws = { is_same_key-equality };
+}
+
+impl<'a> Hash for GroupKey<'a> {
+    ghost hash_input = { λ a. fed.u64 a.number };
+
+    ghost respects_eq = { is_same_key-hashed };
+
+    fn hash<H: Hasher>(&self, state: &mut H) {
+        self.number.hash(state);
+    }
+}
+
+/// A number made of the engine, the image, the slice plan and the drive of a run.
+#[tactic(auto, unfolding(crate::specs::Keys::group_number))]
+fn group_number(input: &RunInput) -> u64
+    ensures { result ≡ group_number input.now }
+{
+    let engine = engine_number(input.plan.engine);
+    let image = number_of_words(engine, input.image.as_slice());
+    let plan = number_of_plan(image, input.plan.plan.rows());
+    number_of_drive(plan, input.drive.as_slice())
+}
+
+/// The number of an engine.
+fn engine_number(engine: EngineKind) -> u64
+    ensures { result ≡ engine_number engine }
+{
+    match engine {
+        EngineKind::Gasoline => 0,
+        EngineKind::Diesel => 1,
+    }
+}
+
+/// A number and the next one, made one.
+#[tactic(auto, unfolding(crate::specs::Keys::mixed))]
+fn mixed(number: u64, next: u64) -> u64
+    ensures { result ≡ mixed number next }
+{
+    number
+        .wrapping_mul(6_364_136_223_846_793_005)
+        .wrapping_add(next)
+}
+
+/// A number and these words, made one.
+fn number_of_words(number: u64, words: &[u16]) -> u64
+    ensures { result ≡ fold mixed number words.now }
+{
+    let mut all = number;
+    for word in words {
+        all = mixed(all, u64::from(*word));
+    }
+    all
+}
+
+/// A number and the rows of a slice plan, made one.
+fn number_of_plan(number: u64, rows: &[Slices]) -> u64
+    ensures { result ≡ fold (fold mixed) number rows.now }
+{
+    let mut all = number;
+    for row in rows {
+        all = number_of_words(all, &row.budget());
+    }
+    all
+}
+
+/// A number and the rows of a drive, made one.
+fn number_of_drive(number: u64, rows: &[Drive]) -> u64
+    ensures { result ≡ fold (λ all row. mixed all (row_number row)) number rows.now }
+{
+    let mut all = number;
+    for row in rows {
+        all = mixed(all, row_number(row));
+    }
+    all
+}
+
+/// A drive row as one number.
+#[tactic(auto, unfolding(crate::specs::Keys::row_number))]
+fn row_number(row: &Drive) -> u64
+    ensures { result ≡ row_number row.now }
+{
+    let (pedal, speed, raise) = (row.pedal(), row.speed(), row.raise());
+    let numbers = (u64::from(pedal) * 65_536 + u64::from(speed)) * 65_536 + u64::from(raise);
+    numbers * 4 + 2 * u64::from(row.reset()) + u64::from(row.brake())
+}
