@@ -41,7 +41,7 @@ runs_tell telling calibration campaign cal plans call by says ends =
       files_say = inputs_tell call.store 1 0 plans inputs come;
       written = told.1.plays.written.0;
       headline = told.1.plays.headline;
-      in_time = told.1.in_time;
+      within_limits = told.1.within_limits;
     })
 
 -- a grid that isn't refused

@@ -19,7 +19,7 @@ use Rattle.eg_play.specs.declared.telling.Telling.{Telling}
 use Rattle.eg_play.specs.Texts.{runs_text}
 use Rattle.eg_play.specs.Sweeping.{runs_over, table_over, swept_text}
 use Rattle.eg_play.specs.Headline.{KeepsHeadline}
-use Rattle.eg_play.specs.Ends.{TellsInTime, run_named}
+use Rattle.eg_play.specs.Ends.{TellsWithinLimits, run_named}
 use Rattle.eg_soak.specs.Soak.{drawn_runs, soak_of}
 use Rattle.eg_soak.specs.Texts.{soak_text}
 use Rattle.eg_app.specs.Words.{Command, run, record_run, sweep, soak}
@@ -42,8 +42,9 @@ AreInputs store n (plan ∷ plans) (input ∷ inputs) =
     IsInput store n plan input × AreInputs store (n + 1) plans inputs
 AreInputs store n _ _ = ⊥
 
--- Of the runs of a campaign: the files say what the runs are, the report or the table of these runs was
--- written, each of them keeps the headline, and what `table` tells of the reactions of each is in time.
+-- Of the runs of a campaign: the files say what the runs are, the report or the rows of these runs were
+-- written, each of them keeps the headline, and what `table` tells of each keeps the limits of the
+-- calibration.
 pub record TellsRuns (telling : Telling) (calibration : Option (List ℕ)) (campaign : List ℕ)
     (store : ShownStore) (out : Change ShownSink) : Type 0 where
   pub cal : CalibrationParts
@@ -54,7 +55,7 @@ pub record TellsRuns (telling : Telling) (calibration : Option (List ℕ)) (camp
   pub files_say : AreInputs store 1 plans inputs
   pub written : Appends out.before out.after (runs_text telling cal inputs)
   pub headline : All KeepsHeadline (map (run_with cal) inputs)
-  pub in_time : All (TellsInTime cal) inputs
+  pub within_limits : All (TellsWithinLimits cal) inputs
 
 -- The files say that this is the input of one run of a campaign: the first of this name.
 pub record IsNamedInput (campaign name : List ℕ) (store : ShownStore) (input : RunInput) : Type 0 where

@@ -6,7 +6,8 @@ use Rattle.std.specs.declared.string.String.{String}
 use Rattle.std.specs.declared.alloc.Global.{Global}
 use Rattle.eg_input.specs.Fields.{decimal}
 use Rattle.eg_play.specs.declared.telling.Telling.{Telling}
-use Rattle.eg_play.specs.declared.telling.Telling.TheVariants.{Report, Table}
+use Rattle.eg_play.specs.declared.telling.Telling.TheVariants.{Report, Rows}
+use Rattle.eg_play.specs.declared.telling.Columns.TheVariants.{Table, Margins}
 use Rattle.eg_app.specs.declared.command.Command.{Command as Parsed}
 use Rattle.eg_app.specs.declared.command.Command.TheVariants as parsed
 
@@ -93,7 +94,9 @@ form_of words calibration own = if is_alone (codes "bound") words own then Some 
     else if is_alone (codes "limits") words own then Some (limits calibration)
     else if is_on_file (codes "check") words own then Some (check calibration (word words own))
     else if is_on_file (codes "run") words own then Some (run Report calibration (word words own))
-    else if is_on_file (codes "table") words own then Some (run Table calibration (word words own))
+    else if is_on_file (codes "table") words own then Some (run (Rows Table) calibration (word words own))
+    else if is_on_file (codes "margins") words own
+    then Some (run (Rows Margins) calibration (word words own))
     else if is_on_run (codes "record") words own 2 then
     Some (record_run calibration (word words own) (word words (own + 1)))
     else if is_on_run (codes "sweep") words own 3 then

@@ -2,12 +2,12 @@
 ghost use Rattle.std.specs.Prelude.{◌≡◌, ◌≤◌, ◌+◌, length, option_map, IfSome};
 ghost use Rattle.std.specs.Option.{option_copied};
 ghost use Rattle.eg_app.specs.Notes.{calibration_name, own_name, name_in_words};
-ghost use Rattle.eg_app.specs.Words.{word_bytes, is_name, names_calibration, is_soak, is_alone, is_on_file, is_on_run, step_in, word, sweep, form_of, soak_form, command_of, said, KeepsLimits};
+ghost use Rattle.eg_app.specs.Words.{word_bytes, is_name, names_calibration, is_soak, is_alone, is_on_file, is_on_run, step_in, word, run, sweep, form_of, soak_form, command_of, said, KeepsLimits};
 ghost use Rattle.eg_outcome.specs.Roles.{role_in};
 
 use crate::number::number_in;
 use eg_outcome::{Outcome, Role};
-use eg_play::Telling;
+use eg_play::{Columns, Telling};
 
 /// What the words of the command line ask for (docs/FORMATS.md, "Commands"). A command with a `calibration`
 /// uses the one in the file behind `--cal`, or the reference calibration where there is none.
@@ -26,7 +26,7 @@ pub(crate) enum Command<'a> {
     Limits {
         calibration: Option<&'a str>,
     },
-    /// `run [--cal NAME] CAMPAIGN`, or `table [--cal NAME] CAMPAIGN`.
+    /// `run [--cal NAME] CAMPAIGN`, and `table` and `margins` likewise.
     Run {
         telling: Telling,
         calibration: Option<&'a str>,
@@ -131,18 +131,16 @@ impl<'a> Command<'a> {
             });
         }
         if is_on_file("run", words, own) {
-            return Some(Command::Run {
-                telling: Telling::Report,
-                calibration,
-                campaign: words[own].as_str(),
-            });
+            let telling = Telling::Report;
+            return Some(Command::told(telling, calibration, words[own].as_str()));
         }
         if is_on_file("table", words, own) {
-            return Some(Command::Run {
-                telling: Telling::Table,
-                calibration,
-                campaign: words[own].as_str(),
-            });
+            let telling = Telling::Rows(Columns::Table);
+            return Some(Command::told(telling, calibration, words[own].as_str()));
+        }
+        if is_on_file("margins", words, own) {
+            let telling = Telling::Rows(Columns::Margins);
+            return Some(Command::told(telling, calibration, words[own].as_str()));
         }
         if is_on_run("record", words, own, 2) {
             return Some(Command::Record {
@@ -155,6 +153,17 @@ impl<'a> Command<'a> {
             return Command::of_sweep(words, calibration, own);
         }
         None
+    }
+
+    /// The command that tells the runs of a campaign in this way.
+    fn told(telling: Telling, calibration: Option<&'a str>, campaign: &'a str) -> Command<'a>
+        ensures { said result ≡ run telling (option_copied calibration.entry) campaign.now }
+    {
+        Command::Run {
+            telling,
+            calibration,
+            campaign,
+        }
     }
 
     /// What the words `sweep CAMPAIGN RUN STEP` ask for, where CAMPAIGN stands at place `own`; None where
@@ -181,7 +190,8 @@ impl<'a> Command<'a> {
         })
     }
 
-    /// The name in the words of the file that an outcome speaks of, or nothing where there is none.
+    /// The name that the words have for the file that an outcome speaks of, or nothing where it speaks of
+    /// none.
     pub(crate) fn file_of(self, outcome: &Outcome) -> &'a str
         ensures { result.now ≡ name_in_words (said self.entry) (role_in outcome.now) }
     {

@@ -5,7 +5,7 @@ use eg_input::TraceFault;
 use std::test::Fail;
 
 /// Words, and the files that a call with them reads, in their order.
-const READS: [(&str, &[Role]); 11] = [
+const READS: [(&str, &[Role]); 12] = [
     (
         "check --cal cal.toml in.csv",
         &[Role::Calibration, Role::Check],
@@ -26,6 +26,17 @@ const READS: [(&str, &[Role]); 11] = [
     ),
     (
         "table --cal cal.toml c.toml",
+        &[
+            Role::Calibration,
+            Role::Campaign,
+            Role::Trace { run: 1 },
+            Role::Image { run: 1 },
+            Role::Trace { run: 2 },
+            Role::Image { run: 2 },
+        ],
+    ),
+    (
+        "margins --cal cal.toml c.toml",
         &[
             Role::Calibration,
             Role::Campaign,
@@ -86,13 +97,14 @@ fn the_read_that_failed_is_told(rt: HostRuntime) -> Result<(), Fail> {
 const RECORD: &str = "record c.toml a";
 
 /// Words, and how many bytes stand where the put of a number fails: the lines before, and half of the next.
-const PUTS: [(&str, &[(u32, usize)]); 11] = [
+const PUTS: [(&str, &[(u32, usize)]); 12] = [
     ("check in.csv", &[(0, 2), (1, 5)]),
     ("bound", &[(0, 6), (1, 16), (2, 21)]),
-    ("limits", &[(0, 6), (2, 26), (5, 54), (6, 60)]),
+    ("limits", &[(0, 6), (2, 26), (6, 65), (7, 76), (8, 81)]),
     ("answers cal.toml", &[(0, 7), (1, 22), (2, 30)]),
     ("run c.toml", &[(0, 29), (1, 88), (2, 131), (3, 144)]),
-    ("table c.toml", &[(0, 46), (1, 102), (2, 122), (3, 132)]),
+    ("table c.toml", &[(0, 64), (1, 142), (2, 171), (3, 186)]),
+    ("margins c.toml", &[(0, 31), (1, 73), (2, 96), (3, 109)]),
     (RECORD, &[(0, 69), (1, 164), (3, 269), (4, 324), (5, 352)]),
     (
         "sweep c.toml a 4",

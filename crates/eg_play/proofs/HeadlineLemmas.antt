@@ -20,19 +20,21 @@ use Rattle.eg_model.proofs.DieselLaws.{diesel_keeps, diesel_shows_one_load}
 use Rattle.eg_model.proofs.RecordLaws.{records_react, records_react_at_once, records_cut_sharply, records_cut_sharply_before, records_find_sharply, records_cut_from_onset, records_cut_standing_excess, records_have_short_excess, records_test_unpowered, records_pass_tests}
 use Rattle.eg_laws.proofs.StretchRows.{records_end_stretches, records_end_stretches_at_once, records_are_sparse}
 use Rattle.eg_laws.proofs.AvailabilityRecords.{records_stay_available}
+use Rattle.eg_laws.proofs.PeakLaws.{GivesAtMost, GasolineWithin, DieselWithin, gasoline_gives, diesel_gives}
+use Rattle.eg_laws.proofs.LimitLaws.{records_keep_limits}
 use Rattle.eg_model.proofs.FindingRecords.{records_find_before_off, records_find_failures, records_find_from_onset, records_tell_flips}
 use Rattle.eg_model.proofs.FindingReports.{reports_name_what_cuts}
 use Rattle.eg_model.proofs.OutputRecords.{records_act_by_outputs}
-use Rattle.eg_model.proofs.InTimeLaws.{records_react_in_time}
 use Rattle.eg_model.proofs.PowerCycleLaws.{records_begin_in_turn}
 use Rattle.eg_model.proofs.ShowingLaws.{records_show_runs}
 use Rattle.eg_model.proofs.WholeRecord.{are_rows}
+use Rattle.eg_tick.specs.Facts.{record_facts}
 use Rattle.eg_plan.specs.declared.engine.EngineKind.{EngineKind}
 use Rattle.eg_plan.specs.declared.engine.EngineKind.TheVariants as kind
 use Rattle.eg_campaign.specs.Plays.{IsPlayable, EngineRun, state_of, bench_of, rows_of_run, report_of_run, run_with}
 use Rattle.eg_campaign.specs.declared.play.RunInput.{RunInput}
 use Rattle.eg_play.specs.Headline.{KeepsHeadline}
-use Rattle.eg_play.specs.Ends.{TellsInTime}
+use Rattle.eg_play.specs.Ends.{TellsWithinLimits}
 
 -- ---- the headline ----
 
@@ -69,6 +71,15 @@ keeps_of kind.Diesel = diesel_keeps
 shows_one_load_of : (engine : EngineKind) → ShowsOneLoad (bench_of engine)
 shows_one_load_of kind.Gasoline = gasoline_shows_one_load
 shows_one_load_of kind.Diesel = diesel_shows_one_load
+
+-- and what they keep so that no torque is more than that of the greatest charge
+abbrev within_of : (engine : EngineKind) → PlantParts → state_of engine → Type 0
+within_of kind.Gasoline = GasolineWithin
+within_of kind.Diesel = DieselWithin
+
+gives_of : (engine : EngineKind) → GivesAtMost (bench_of engine) (within_of engine)
+gives_of kind.Gasoline = gasoline_gives
+gives_of kind.Diesel = diesel_gives
 
 -- a run by an accepted calibration, over a drive within its limits, without a fault or under a valid one, keeps
 -- it
@@ -115,10 +126,12 @@ pub keep_headline : (cal : CalibrationParts) → IsAccepted cal → (inputs : Li
 keep_headline cal accepted inputs playable = All-map KeepsHeadline (run_with cal) inputs
     (All-weaker IsPlayable (λ input. KeepsHeadline (run_with cal input)) (keeps_headline cal accepted) inputs playable)
 
--- ---- what is told of the reactions ----
+-- ---- what is told of a run ----
 
-pub tell_in_time : (cal : CalibrationParts) → IsAccepted cal → (inputs : List RunInput) → All IsPlayable inputs → All (TellsInTime cal) inputs
-tell_in_time cal accepted inputs playable = All-weaker IsPlayable (TellsInTime cal) tells inputs playable
-  where
-    tells : (input : RunInput) → IsPlayable input → TellsInTime cal input
-    tells input is = records_react_in_time (keeps_of input.plan.engine) (run_with cal input).run (record { accepted = accepted; drive = is.drive })
+tells_within_limits : (cal : CalibrationParts) → IsAccepted cal → (input : RunInput) → IsPlayable input → TellsWithinLimits cal input
+unfolding record_facts
+tells_within_limits cal accepted input is = records_keep_limits (keeps_of input.plan.engine) (gives_of input.plan.engine) (run_with cal input).run
+    (record { accepted = accepted; drive = is.drive }) is.fault
+
+pub tell_within_limits : (cal : CalibrationParts) → IsAccepted cal → (inputs : List RunInput) → All IsPlayable inputs → All (TellsWithinLimits cal) inputs
+tell_within_limits cal accepted inputs playable = All-weaker IsPlayable (TellsWithinLimits cal) (tells_within_limits cal accepted) inputs playable

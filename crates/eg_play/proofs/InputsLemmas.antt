@@ -1,11 +1,10 @@
 -- The files of all runs, one run after another.
-use Rattle.std.proofs.Common.{◌≡◌, ◌∙◌, refl, sym, ap, ap₂, subst, ℕ, suc, All, ◌+◌, ◌-◌, ◌≤◌, List, [], ◌∷◌, ◌++◌, length, Option, Some, None, Ok, Err, append_assoc, append-nil, length-append, arith}
+use Rattle.std.proofs.Common.{◌≡◌, ◌∙◌, refl, sym, ap, ap₂, subst, ℕ, suc, ◌+◌, ◌-◌, ◌≤◌, List, [], ◌∷◌, ◌++◌, length, Option, Some, None, Ok, Err, append_assoc, append-nil, length-append, arith}
 use Rattle.std.specs.Prelude.{Result, slice_get, option_map}
 use Rattle.eg_base.specs.Outside.{ShownStore}
 use Rattle.eg_num.specs.Drive.{DriveRow}
 use Rattle.eg_plan.specs.declared.run.RunPlan.{RunPlan}
 use Rattle.eg_campaign.specs.declared.play.RunInput.{RunInput}
-use Rattle.eg_campaign.specs.Plays.{IsPlayable}
 use Rattle.eg_outcome.specs.declared.outcome.Outcome.{Outcome}
 use Rattle.eg_outcome.specs.declared.outcome.Outcome.TheVariants as outcome
 use Rattle.eg_outcome.specs.declared.outcome.Refusal.{Refusal}

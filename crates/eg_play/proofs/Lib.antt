@@ -4,4 +4,4 @@ pub mod HeadlineLemmas
 pub mod PlayLemmas
 pub mod SpellingLemmas
 pub mod SweepLemmas
-pub mod TableLemmas
+pub mod RowLemmas

@@ -7,20 +7,21 @@ use Rattle.eg_record.specs.declared.row.Row.{Row}
 use Rattle.eg_record.specs.Texts.{summary_line, report_end}
 use Rattle.eg_record.specs.declared.summary.Summary.{Summary}
 use Rattle.eg_tick.specs.Weights.{TickCount}
-use Rattle.eg_outcome.specs.Changes.{Change, change, Stays}
+use Rattle.eg_outcome.specs.Changes.{Change, change}
 use Rattle.eg_outcome.specs.Outcomes.{LineEnds}
 use Rattle.eg_outcome.specs.declared.outcome.Outcome.{Outcome}
 use Rattle.eg_outcome.specs.declared.outcome.Outcome.TheVariants as outcome
 use Rattle.eg_base.proofs.AppendLemmas.{Appends-nil}
 use Rattle.eg_tick.specs.Counting.{count_with, RanOutAmong}
 use Rattle.eg_campaign.specs.Plays.{EngineRun, rows_in_time, run_with, report_with}
-use Rattle.eg_campaign.specs.Groups.{told_with}
+use Rattle.eg_campaign.specs.Groups.{told_by}
 use Rattle.eg_campaign.specs.declared.play.RunInput.{RunInput}
-use Rattle.eg_campaign.specs.Texts.{record_text}
+use Rattle.eg_campaign.specs.Texts.{text_of, record_text}
 use Rattle.eg_campaign.specs.Recording.{IsStopped}
 use Rattle.eg_tick.proofs.CountLemmas.{out_at_end}
 use Rattle.eg_answer.specs.Times.{reaction_of}
-use Rattle.eg_play.specs.Texts.{report_text, table_by, table_text}
+use Rattle.eg_play.specs.declared.telling.Columns.{Columns}
+use Rattle.eg_play.specs.Texts.{report_text, rows_by, rows_text, weighs}
 use Rattle.eg_play.specs.Headline.{KeepsHeadline}
 use Rattle.eg_play.specs.Ends.{AreTicked, Plays, Records}
 
@@ -37,10 +38,10 @@ unfolding report_text
 report_is cal inputs all is = ap (λ l. concat (map summary_line l) ++ report_end l) is
     ∙ ap (λ l. concat l ++ report_end (map (report_with cal) inputs)) (told_each cal inputs)
 
-pub table_is : (cal : CalibrationParts) (inputs : List RunInput) →
-    table_by (reaction_of cal.times) inputs (map (told_with cal) inputs) ≡ table_text cal inputs
-unfolding table_text
-table_is cal inputs = refl
+pub rows_are : (columns : Columns) (cal : CalibrationParts) (inputs : List RunInput) →
+    rows_by columns (reaction_of cal.times) inputs (map (told_by (weighs columns) cal) inputs) ≡ rows_text columns cal inputs
+unfolding rows_text
+rows_are columns cal inputs = refl
 
 -- ---- what was put and counted ----
 
@@ -75,9 +76,10 @@ put text runs rows out ticks o counted ends headline = record {
 -- ---- a record ----
 
 -- all of it was put, and all ticks were counted
-pub recorded : (cal : CalibrationParts) (input : RunInput) (out : Change ShownSink) (ticks : Change TickCount) → Appends out.before out.after (record_text cal input) →
+pub recorded : (cal : CalibrationParts) (input : RunInput) (out : Change ShownSink) (ticks : Change TickCount) → Appends out.before out.after (text_of (rows_in_time (run_with cal input))) →
     out.after.faults ≡ out.before.faults → ticks.after ≡ count_with ticks.before (rows_in_time (run_with cal input)) → KeepsHeadline (run_with cal input) →
     Records cal input out ticks outcome.Done
+unfolding record_text
 recorded cal input out ticks put same counted headline = record {
   written = (put, same);
   ticked = counted;

@@ -1,12 +1,11 @@
--- On Done `run`, `table`, `record` and `sweep` have written their whole text on runs that keep the headline;
--- after a refusal or a failed read they put nothing. This is said by cases on the outcome, nested from the
--- outside in, as of `check` and `bound`.
+-- On Done `run`, `table`, `margins`, `record` and `sweep` have written their whole text on runs that keep
+-- the headline; after a refusal or a failed read they put nothing. This is said by cases on the outcome,
+-- nested from the outside in, as of `check` and `bound`.
 use Rattle.std.specs.Prelude.{◌≡◌, ℕ, Bool, true, false, ◌+◌, ◌-◌, length, List, [], ◌∷◌, map, All, Option, Some, None, option_map, Result, Ok, Err, IsSome, slice_get, bytes_eq, if◌then◌else◌}
 use Rattle.eg_base.specs.Outside.{ShownStore, ShownSink}
 use Rattle.eg_num.specs.Drive.{DriveRow}
 use Rattle.eg_answer.specs.Times.{reaction_of}
-use Rattle.eg_fault.specs.Faults.{IsListed}
-use Rattle.eg_model.specs.InTime.{IsInTime}
+use Rattle.eg_laws.specs.Limits.{KeepsLimits}
 use Rattle.eg_values.specs.Calibration.{CalibrationParts}
 use Rattle.eg_record.specs.declared.row.Row.{Row}
 use Rattle.eg_tick.specs.Weights.{TickCount}
@@ -66,20 +65,22 @@ pub record Plays (text : List ℕ) (runs : List EngineRun) (rows : List Row) (ou
 abbrev pub NothingPlayed : Change ShownSink → Change TickCount → Type 0
 NothingPlayed out ticks = Stays out × Stays ticks
 
--- ---- `run [--cal NAME] CAMPAIGN` and `table [--cal NAME] CAMPAIGN` ----
+-- ---- `run [--cal NAME] CAMPAIGN`, and `table` and `margins` likewise ----
 
--- of a run with at most one listed fault, what `table` tells of its reactions is in time
-abbrev pub TellsInTime : CalibrationParts → RunInput → Type 0
-TellsInTime cal input =
-    IsListed input.plan.fault → IsInTime (reaction_of cal.times) (told_with cal input).reactions
+-- What `table` tells of a run keeps the limits of the calibration: with at most one listed fault its
+-- reactions are in time, and its longest stretch of excess is no longer than it can be; and its peak isn't
+-- greater.
+abbrev pub TellsWithinLimits : CalibrationParts → RunInput → Type 0
+TellsWithinLimits cal input =
+    KeepsLimits (run_with cal input).run.setting (told_with cal input).facts (told_with cal input).reactions
 
 -- The runs of a campaign were played, and told in this way: on Done the whole text was written. What `table`
--- tells of their reactions is in time, whichever way they are told.
+-- tells of them keeps the limits of the calibration, whichever way they are told.
 pub record Tells (telling : Telling) (cal : CalibrationParts) (inputs : List RunInput)
     (out : Change ShownSink) (ticks : Change TickCount) (o : Outcome) : Type 0 where
   pub plays : Plays (runs_text telling cal inputs) (map (run_with cal) inputs) (rows_made cal inputs)
       out ticks o
-  pub in_time : All (TellsInTime cal) inputs
+  pub within_limits : All (TellsWithinLimits cal) inputs
 
 -- the inputs of all runs are known, and no fault of reading was met: they are told
 abbrev pub TellingEnds : Telling → CalibrationParts → List RunInput → Call → Outcome → Type 0

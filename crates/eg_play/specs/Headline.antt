@@ -6,6 +6,7 @@
 use Rattle.std.specs.Prelude.{◌≡◌, ℕ, List, All, None}
 use Rattle.eg_num.specs.Drive.{DriveRow}
 use Rattle.eg_answer.specs.Times.{reaction_of, test_ticks_of, HasLapseBound}
+use Rattle.eg_values.specs.Excess.{ticks_to_confirm, longest_stretch}
 use Rattle.eg_fault.specs.Faults.{IsListed}
 use Rattle.eg_record.specs.declared.row.Row.{Row}
 use Rattle.eg_record.specs.declared.summary.Summary.{Summary}
@@ -22,7 +23,7 @@ use Rattle.eg_model.specs.Records.{CutSharplyBefore, CutStandingExcess, ExcessIs
 use Rattle.eg_model.specs.Findings.{FindsBeforeOff, FindsFailure, FindsFromOnset, FindsSharply, TellsFlips, NamesWhatCuts}
 use Rattle.eg_model.specs.Lapses.{IsLapse}
 use Rattle.eg_model.specs.Outputs.{with_level1, ActByOutputs}
-use Rattle.eg_laws.specs.Stretches.{ticks_to_confirm, longest_stretch, RowsEndStretches, RowsEndStretchesAtOnce}
+use Rattle.eg_laws.specs.Stretches.{RowsEndStretches, RowsEndStretchesAtOnce}
 use Rattle.eg_laws.specs.Bursts.{RowsAreSparse}
 use Rattle.eg_laws.specs.Availability.{AvailableIfSpaced}
 use Rattle.eg_campaign.specs.Plays.{EngineRun, bench_of, rows_of_run, report_of_run}
@@ -88,8 +89,8 @@ pub record Headline {E : Type 0} (b : BenchEngine E) (s : Setting) (drive : List
       (longest_stretch s.cal)) rows
   pub stretches_at_once : IsListed s.fault → EachDriveSpan (RowsEndStretchesAtOnce s.fault
       s.cal.rules.threshold (ticks_to_confirm s.cal)) rows
-  -- How often it may come again: as long as a true excess isn't confirmed, of any n rows in a row of a drive
-  -- span at most `(limit - 1 + n*down)/(up + down)` have one, by the weights of the torque.
+  -- How often it may come again: as long as a true excess isn't confirmed, of any n consecutive rows of a
+  -- drive span at most `(limit - 1 + n*down)/(up + down)` have one, by the weights of the torque.
   pub bursts : EachDriveSpan (RowsAreSparse s.cal.rules.torque s.cal.rules.threshold) rows
   -- Availability: in each drive span in which the misses of a lapse lie far enough apart wrong answers never
   -- cut before a trip. As long as no watch has tripped, wrong answers aren't found; so the stages are off

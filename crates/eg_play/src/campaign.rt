@@ -33,23 +33,15 @@ pub(crate) fn campaign_for<S: Store>(
 }
 
 /// The runs that these bytes of a campaign file say, or how the call ends without them.
+#[tactic(auto, unfolding(crate::specs::Files::campaign_said))]
 fn campaign_in(alloc: Global, bytes: &[u8]) -> Result<Items<RunPlan>, Outcome>
     ensures says { Says campaign_or_refusal bytes.now result }
     ensures rules { IfOk result AreRuns }
     ensures of_campaign { IfErr result (λ outcome. IsNotOfRun (role_in outcome)) }
 {
-    match campaign_said(alloc, bytes) {
+    match read_campaign(alloc, bytes) {
         Ok(plans) => Ok(Items::new(plans)),
         Err(CampaignFault::Memory) => Err(Outcome::Memory),
         Err(fault) => Err(Outcome::Refused(Refusal::Campaign(fault))),
     }
-}
-
-/// The runs that the bytes of a campaign file say, or why they are refused.
-#[tactic(auto, unfolding(crate::specs::Files::campaign_said))]
-fn campaign_said(alloc: Global, bytes: &[u8]) -> Result<Vec<RunPlan>, CampaignFault>
-    ensures said { IsRead Memory (campaign_said bytes.now) (seen (λ plans. plans.items) result) }
-    ensures rules { IfOk result (λ plans. AreRuns plans.items) }
-{
-    read_campaign(alloc, bytes)
 }

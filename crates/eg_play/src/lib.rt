@@ -1,8 +1,8 @@
-//! The commands that play whole runs: `run`, `table`, `record` and `sweep`.
+//! The commands that play whole runs: `run`, `table`, `margins`, `record` and `sweep`.
 //!
 //! A campaign is read, then the drive trace and the image of each run that is played; then the runs are
-//! played tick by tick, and the report, the record or a table is written: a record while its ticks are made,
-//! the others after the last tick.
+//! played tick by tick, and the report, the record or the rows are written: a record while its ticks are
+//! made, the others after the last tick.
 #![tactic(auto)]
 
 mod campaign;
@@ -13,7 +13,7 @@ mod laws;
 mod named;
 mod recording;
 mod report;
-mod run_table;
+mod rows;
 mod running;
 mod sweep_table;
 mod sweeping;
@@ -26,4 +26,4 @@ pub use laws::classes_are_spelt_as_in_campaigns;
 pub use recording::record;
 pub use running::run;
 pub use sweeping::sweep;
-pub use telling::Telling;
+pub use telling::{Columns, Telling};

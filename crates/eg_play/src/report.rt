@@ -8,7 +8,7 @@ ghost use Rattle.eg_play.specs.Texts.{report_text};
 ghost use Rattle.eg_play.specs.Ends.{Plays, Records, Tells};
 
 use crate::Telling;
-use crate::run_table::put_run_table;
+use crate::rows::put_rows;
 use crate::texts::report_lines;
 use eg_base::Sink;
 use eg_campaign::{RecordStop, RunInput, record_into, run_all};
@@ -36,7 +36,7 @@ pub(crate) fn put_told<K: Sink>(
     let _rules = calibration.rules();
     match telling {
         Telling::Report => put_report(alloc, calibration, inputs, out, steps),
-        Telling::Table => put_run_table(alloc, calibration, inputs, out, steps),
+        Telling::Rows(columns) => put_rows(alloc, columns, calibration, inputs, out, steps),
     }
 }
 

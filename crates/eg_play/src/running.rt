@@ -1,4 +1,4 @@
-// `run [--cal NAME] CAMPAIGN` and `table [--cal NAME] CAMPAIGN`: the runs of a campaign are told.
+// `run [--cal NAME] CAMPAIGN`, and `table` and `margins` likewise: the runs of a campaign are told.
 ghost use Rattle.std.specs.Prelude.{◌≡◌, IsTrue, None};
 ghost use Rattle.std.specs.Option.{option_copied};
 ghost use Rattle.eg_base.specs.Outside.{IsMissing};
@@ -21,9 +21,9 @@ use eg_tick::Ticks;
 use eg_values::Calibration;
 use std::alloc::Global;
 
-/// Does `run [--cal NAME] CAMPAIGN` or `table [--cal NAME] CAMPAIGN`, but for its note (docs/FORMATS.md,
+/// Does `run [--cal NAME] CAMPAIGN`, or `table` or `margins` likewise, but for its note (docs/FORMATS.md,
 /// "Commands"): reads the campaign and the files of all its runs, plays the runs, and writes the report or
-/// the table on them. Ticks are counted in `steps`.
+/// the rows on them. Ticks are counted in `steps`.
 pub fn run<S: Store, K: Sink>(
     alloc: Global,
     telling: Telling,
