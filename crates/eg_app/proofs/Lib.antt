@@ -6,3 +6,4 @@ pub mod MissingLemmas
 pub mod EndsLemmas
 pub mod HeadlineLemmas
 pub mod SoakLemmas
+pub mod ShownLemmas

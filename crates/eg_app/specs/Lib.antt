@@ -1,4 +1,5 @@
 pub mod Words
+pub mod Shown
 pub mod Notes
 pub mod Ends
 pub mod Headline

@@ -24,6 +24,7 @@ use Rattle.eg_outcome.specs.Roles.{role_in}
 use Rattle.eg_play.specs.Ends.{IsNameIn, NamesFile}
 use Rattle.eg_app.specs.declared.says.Says.{Says}
 use Rattle.eg_app.specs.declared.says.Says.TheVariants as says
+use Rattle.eg_app.specs.Shown.{shown_name}
 use Rattle.eg_app.specs.Words.{Command, check, bound, limits, run, record_run, sweep, soak, answers, asm, dis}
 
 -- ---- the file that an outcome speaks of ----
@@ -52,7 +53,8 @@ own_name (asm file) = file
 own_name (dis file) = file
 own_name _ = []
 
--- the name in the words of the file of this role, empty where there is none: they name no file of a run
+-- The name that the command's words have for the file of this role, empty where no file is meant. (The traces
+-- and images of runs aren't named in the words.)
 abbrev pub name_in_words : Command → Option Role → List ℕ
 name_in_words command (Some role.Calibration) = calibration_name command
 name_in_words command (Some _) = own_name command
@@ -133,30 +135,31 @@ campaign_note (campaign_fault.Ticks n) = codes ": run " ++ decimal n ++ codes " 
 
 -- the line that says this of a file of this name
 abbrev pub line_said : Says → List ℕ → List ℕ
-line_said (says.Words words) file = file ++ words.now
-line_said (says.Number before number behind) file = file ++ (before.now ++ decimal number ++ behind.now)
-line_said (says.Key before key) file = file ++ (before.now ++ key.now ++ codes "\n")
+line_said (says.Words words) file = shown_name file ++ words.now
+line_said (says.Number before number behind) file =
+    shown_name file ++ (before.now ++ decimal number ++ behind.now)
+line_said (says.Key before key) file = shown_name file ++ (before.now ++ key.now ++ codes "\n")
 line_said (says.RunKey n key) file =
-    file ++ (codes ": run " ++ decimal n ++ codes " key " ++ key.now ++ codes "\n")
+    shown_name file ++ (codes ": run " ++ decimal n ++ codes " key " ++ key.now ++ codes "\n")
 line_said (says.Alone words) file = words.now
 
 -- the line that notes a refusal, for a file of this name
 abbrev pub refusal_note : Refusal → List ℕ → List ℕ
-refusal_note (refusal.Size _) file = file ++ codes ": longer than 4194304 bytes\n"
-refusal_note (refusal.Calibration fault) file = file ++ calibration_note fault
-refusal_note (refusal.Check fault) file = file ++ trace_note fault
-refusal_note (refusal.Campaign fault) file = file ++ campaign_note fault
-refusal_note (refusal.Trace _ fault) file = file ++ trace_note fault
-refusal_note (refusal.Image _ fault) file = file ++ image_note fault
+refusal_note (refusal.Size _) file = shown_name file ++ codes ": longer than 4194304 bytes\n"
+refusal_note (refusal.Calibration fault) file = shown_name file ++ calibration_note fault
+refusal_note (refusal.Check fault) file = shown_name file ++ trace_note fault
+refusal_note (refusal.Campaign fault) file = shown_name file ++ campaign_note fault
+refusal_note (refusal.Trace _ fault) file = shown_name file ++ trace_note fault
+refusal_note (refusal.Image _ fault) file = shown_name file ++ image_note fault
 refusal_note refusal.NoRun file = codes "no such run\n"
-refusal_note (refusal.Source fault) file = file ++ source_note fault
+refusal_note (refusal.Source fault) file = shown_name file ++ source_note fault
 refusal_note refusal.Grid file = codes "grid too large\n"
 
 -- the line that notes an outcome, for a file of this name
 abbrev pub note_of : Outcome → List ℕ → List ℕ
 note_of outcome.Done file = []
 note_of outcome.Usage file = codes "not a command of egasim\n"
-note_of (outcome.ReadFault _) file = codes "cannot read " ++ file ++ codes "\n"
+note_of (outcome.ReadFault _) file = codes "cannot read " ++ (shown_name file ++ codes "\n")
 note_of (outcome.Refused r) file = refusal_note r file
 note_of outcome.WriteFault file = codes "cannot write\n"
 note_of outcome.Memory file = codes "no memory\n"

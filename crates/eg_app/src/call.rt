@@ -11,7 +11,7 @@ ghost use Rattle.eg_outcome.specs.declared.outcome.Outcome.TheVariants.{Done};
 ghost use Rattle.eg_play.specs.Ends.{call};
 
 use crate::command::Command;
-use crate::note::note;
+use crate::note::put_note;
 use crate::soak::play_drawn;
 use eg_base::{Sink, Store};
 use eg_desk::{answers, asm, bound, check, dis, limits};
@@ -59,12 +59,12 @@ pub fn egasim<S: Store, K: Sink, N: Sink>(
     ensures no_note { result ≡ Done → notes.new ≡ notes.old }
 {
     let Some(command) = Command::of(words) else {
-        note(&Outcome::Usage, "", notes);
+        put_note(alloc, &Outcome::Usage, "", notes);
         return Outcome::Usage;
     };
     let end = work(alloc, command, store, out, steps);
     let file = file_of(command, &end);
-    note(&end.outcome, file, notes);
+    put_note(alloc, &end.outcome, file, notes);
     end.outcome
 }
 

@@ -6,6 +6,7 @@ mod command;
 mod note;
 mod number;
 mod says;
+mod shown;
 mod soak;
 
 pub use call::egasim;

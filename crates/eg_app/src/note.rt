@@ -1,67 +1,108 @@
 // The line that notes how a call ended.
-ghost use Rattle.std.specs.Prelude.{◌≡◌, map};
+ghost use Rattle.std.specs.Prelude.{◌≡◌, ◌++◌, map};
 ghost use Rattle.std.specs.List.{concat};
 ghost use Rattle.eg_app.specs.Notes.{PutsNote, note_of, line_said};
+ghost use Rattle.eg_app.specs.Shown.{Puts, shown_name};
 ghost use Rattle.eg_outcome.specs.Changes.{change_of};
 ghost use Rattle.eg_outcome.specs.declared.outcome.Outcome.TheVariants.{Done};
 
 use crate::says::{Says, refusal_says};
-use eg_base::Sink;
+use crate::shown::put_name;
+use eg_base::{MemorySink, PutRefusal, Sink};
 use eg_outcome::Outcome;
 use itoa::Buffer;
+use std::alloc::Global;
 
-/// Puts the line that notes this outcome, for a file of this name (docs/FORMATS.md, "Notes"). It is put in
-/// pieces, up to the first that is refused, and takes no memory.
-pub(crate) fn note<N: Sink>(outcome: &Outcome, file: &str, notes: &mut N)
+/// Puts the line that notes this outcome, for a file of this name (docs/FORMATS.md, "Notes"): in one put, or,
+/// where memory has run out, piece by piece up to the first that is refused.
+pub(crate) fn put_note<N: Sink>(alloc: Global, outcome: &Outcome, file: &str, notes: &mut N)
     ensures note { PutsNote (change_of N.shows notes.old notes.new) (note_of outcome.now file.now) }
     ensures done { outcome.now ≡ Done → notes.new ≡ notes.old }
 {
+    if let Outcome::Done = outcome {
+        return;
+    }
     let file = file.as_bytes();
+    let mut line = MemorySink::new(alloc);
+    let Ok(()) = put_line(outcome, file, &mut line) else {
+        let _ = put_line(outcome, file, notes);
+        return;
+    };
+    let _ = put_pieces(&[line.bytes()], notes);
+}
+
+/// Puts the line piece by piece.
+fn put_line<N: Sink>(outcome: &Outcome, file: &[u8], notes: &mut N) -> Result<(), PutRefusal>
+    ensures { Puts (N.shows notes.old) (N.shows notes.new) (note_of outcome.now file.now) result }
+{
     match outcome {
-        Outcome::Done => {}
-        Outcome::Usage => put_pieces(notes, &[b"not a command of egasim\n"]),
-        Outcome::ReadFault { .. } => put_pieces(notes, &[b"cannot read ", file, b"\n"]),
-        Outcome::Refused(refusal) => note_that(refusal_says(refusal), file, notes),
-        Outcome::WriteFault => put_pieces(notes, &[b"cannot write\n"]),
-        Outcome::Memory => put_pieces(notes, &[b"no memory\n"]),
+        Outcome::Done => Ok(()),
+        Outcome::Usage => notes.put(b"not a command of egasim\n"),
+        Outcome::ReadFault { .. } => put_around(b"cannot read ", file, &[b"\n"], notes),
+        Outcome::Refused(refusal) => put_said(refusal_says(refusal), file, notes),
+        Outcome::WriteFault => notes.put(b"cannot write\n"),
+        Outcome::Memory => notes.put(b"no memory\n"),
     }
 }
 
 /// Puts the line that says this of the file.
-fn note_that<N: Sink>(says: Says<'_>, file: &[u8], notes: &mut N)
-    ensures { PutsNote (change_of N.shows notes.old notes.new) (line_said says.entry file.now) }
+fn put_said<N: Sink>(says: Says<'_>, file: &[u8], notes: &mut N) -> Result<(), PutRefusal>
+    ensures { Puts (N.shows notes.old) (N.shows notes.new) (line_said says.entry file.now) result }
 {
     let mut digits = Buffer::new();
     match says {
-        Says::Words(words) => put_pieces(notes, &[file, words]),
-        Says::Alone(words) => put_pieces(notes, &[words]),
-        Says::Key { before, key } => put_pieces(notes, &[file, before, key.as_bytes(), b"\n"]),
+        Says::Words(words) => put_behind(file, &[words], notes),
+        Says::Alone(words) => notes.put(words),
+        Says::Key { before, key } => put_behind(file, &[before, key.as_bytes(), b"\n"], notes),
         Says::Number {
             before,
             number,
             behind,
         } => {
             let number = digits.format(number).as_bytes();
-            put_pieces(notes, &[file, before, number, behind]);
+            put_behind(file, &[before, number, behind], notes)
         }
         Says::RunKey { run, key } => {
             let run = digits.format(run).as_bytes();
-            put_pieces(
+            put_behind(
+                file,
+                &[b": run ", run, b" key ", key.as_bytes(), b"\n"],
                 notes,
-                &[file, b": run ", run, b" key ", key.as_bytes(), b"\n"],
-            );
+            )
         }
     }
 }
 
+/// Puts words, the name of the file, and the pieces behind it.
+fn put_around<N: Sink>(
+    words: &[u8],
+    file: &[u8],
+    pieces: &[&[u8]],
+    notes: &mut N,
+) -> Result<(), PutRefusal>
+    ensures { Puts (N.shows notes.old) (N.shows notes.new)
+        (words.now ++ (shown_name file.now ++ concat (map (λ piece. piece.now) pieces.now))) result }
+{
+    notes.put(words)?;
+    put_behind(file, pieces, notes)
+}
+
+/// Puts the name of the file, and the pieces behind it.
+fn put_behind<N: Sink>(file: &[u8], pieces: &[&[u8]], notes: &mut N) -> Result<(), PutRefusal>
+    ensures { Puts (N.shows notes.old) (N.shows notes.new)
+        (shown_name file.now ++ concat (map (λ piece. piece.now) pieces.now)) result }
+{
+    put_name(file, notes)?;
+    put_pieces(pieces, notes)
+}
+
 /// Puts these pieces, up to the first that is refused.
-fn put_pieces<N: Sink>(notes: &mut N, pieces: &[&[u8]])
-    ensures { PutsNote (change_of N.shows notes.old notes.new)
-        (concat (map (λ piece. piece.now) pieces.now)) }
+fn put_pieces<N: Sink>(pieces: &[&[u8]], notes: &mut N) -> Result<(), PutRefusal>
+    ensures { Puts (N.shows notes.old) (N.shows notes.new)
+        (concat (map (λ piece. piece.now) pieces.now)) result }
 {
     for piece in pieces {
-        let Ok(()) = notes.put(piece) else {
-            return;
-        };
+        notes.put(piece)?;
     }
+    Ok(())
 }

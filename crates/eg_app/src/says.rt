@@ -1,6 +1,7 @@
 // What a note says of a refusal.
 ghost use Rattle.std.specs.Prelude.{◌≡◌, ◌++◌, ℕ, List, decimal};
 ghost use Rattle.eg_app.specs.Notes.{line_said, refusal_note, calibration_note, trace_note, image_note, source_note, campaign_note};
+ghost use Rattle.eg_app.specs.Shown.{shown_name};
 
 use eg_asm::AsmFault;
 use eg_cal::CalFault;
@@ -8,7 +9,8 @@ use eg_input::{ImageFault, TraceFault};
 use eg_outcome::Refusal;
 use eg_plan::CampaignFault;
 
-/// What a note says: of a file, behind its name (docs/FORMATS.md, "Notes").
+/// The words of a note. Behind the name of the file they are about, if it is about a file (docs/FORMATS.md,
+/// "Notes").
 #[derive(Clone, Copy)]
 pub(crate) enum Says<'a> {
     /// These words.
@@ -52,7 +54,7 @@ pub(crate) fn refusal_says(refusal: &Refusal) -> Says<'_>
 
 /// What is said of a calibration's fault.
 fn calibration_says(fault: &CalFault) -> Says<'_>
-    ensures { (file : List ℕ) → line_said result file ≡ file ++ calibration_note fault.now }
+    ensures { (file : List ℕ) → line_said result file ≡ shown_name file ++ calibration_note fault.now }
 {
     match fault {
         CalFault::Memory => Says::Words(b": no memory\n"),
@@ -73,7 +75,7 @@ fn calibration_says(fault: &CalFault) -> Says<'_>
 
 /// What is said of a fault of the records of a check file or a trace.
 fn trace_says(fault: &TraceFault) -> Says<'_>
-    ensures { (file : List ℕ) → line_said result file ≡ file ++ trace_note fault.now }
+    ensures { (file : List ℕ) → line_said result file ≡ shown_name file ++ trace_note fault.now }
 {
     match fault {
         TraceFault::Memory => Says::Words(b": no memory\n"),
@@ -86,7 +88,7 @@ fn trace_says(fault: &TraceFault) -> Says<'_>
 
 /// What is said of an image's fault.
 fn image_says(fault: &ImageFault) -> Says<'_>
-    ensures { (file : List ℕ) → line_said result file ≡ file ++ image_note fault.now }
+    ensures { (file : List ℕ) → line_said result file ≡ shown_name file ++ image_note fault.now }
 {
     match fault {
         ImageFault::Memory => Says::Words(b": no memory\n"),
@@ -97,7 +99,7 @@ fn image_says(fault: &ImageFault) -> Says<'_>
 
 /// What is said of a source's fault.
 fn source_says(fault: &AsmFault) -> Says<'_>
-    ensures { (file : List ℕ) → line_said result file ≡ file ++ source_note fault.now }
+    ensures { (file : List ℕ) → line_said result file ≡ shown_name file ++ source_note fault.now }
 {
     match fault {
         AsmFault::Memory => Says::Words(b": no memory\n"),
@@ -109,7 +111,7 @@ fn source_says(fault: &AsmFault) -> Says<'_>
 
 /// What is said of a campaign's fault.
 fn campaign_says(fault: &CampaignFault) -> Says<'_>
-    ensures { (file : List ℕ) → line_said result file ≡ file ++ campaign_note fault.now }
+    ensures { (file : List ℕ) → line_said result file ≡ shown_name file ++ campaign_note fault.now }
 {
     match fault {
         CampaignFault::Memory => Says::Words(b": no memory\n"),
@@ -127,7 +129,8 @@ fn campaign_says(fault: &CampaignFault) -> Says<'_>
 
 /// A number between these words.
 fn numbered<'a>(before: &'a [u8], number: u32, behind: &'a [u8]) -> Says<'a>
-    ensures { (file : List ℕ) → line_said result file ≡ file ++ (before.now ++ decimal number ++ behind.now) }
+    ensures { (file : List ℕ) →
+        line_said result file ≡ shown_name file ++ (before.now ++ decimal number ++ behind.now) }
 {
     Says::Number {
         before,

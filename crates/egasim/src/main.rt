@@ -1,8 +1,11 @@
 //! `egasim` plays drive traces against three-level engine-torque monitoring.
 #![tactic(auto)]
 
+mod trusted_store;
+
+use crate::trusted_store::TrustedStore;
 use eg_app::egasim;
-use eg_base::{FileStore, StdSink};
+use eg_base::StdSink;
 use eg_tick::Ticks;
 use std::alloc::{AllocError, Global};
 use std::env::Env;
@@ -33,7 +36,7 @@ fn main(rt: HostRuntime) -> ExitCode {
     };
     let mut out = StdSink::new(rt.stdout());
     let mut notes = StdSink::new(rt.stderr());
-    let mut store = FileStore::new(rt);
+    let mut store = TrustedStore::new(&rt, &words);
     let mut steps = Ticks::new();
     let outcome = egasim(alloc, &words, &mut store, &mut out, &mut notes, &mut steps);
     ExitCode::from(outcome.status())
