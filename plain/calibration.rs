@@ -154,6 +154,18 @@ impl Calibration {
         let answer = results.iter().fold(row.seed, |sign, result| folded(sign, *result));
         Question { seed: row.seed, results, answer }
     }
+
+    /// The longest stretch of excess under a listed fault, in ticks.
+    pub fn stretch(&self) -> u32 {
+        self.torque.to_confirm() - 1 + self.times.reaction()
+    }
+
+    /// The most that the torque of an engine may lie above permitted torque and threshold.
+    pub fn peak(&self) -> u16 {
+        let charge = self.charge.values.iter().max().map_or(0, |charge| u32::from(*charge));
+        let torque = (charge * u32::from(self.kt) / 1000) as u16;
+        torque.saturating_sub(self.permit.least()).saturating_sub(self.threshold)
+    }
 }
 
 /// A fold with one result more.
@@ -255,6 +267,11 @@ impl Permit {
     fn at(&self, pedal: Spot, speed: u16) -> u16 {
         let speed = Spot::of(&self.speed, speed);
         pedal.between(speed.of_values(&self.rows[pedal.low]), speed.of_values(&self.rows[pedal.high]))
+    }
+
+    /// The least torque that it permits: the least of its first row.
+    fn least(&self) -> u16 {
+        self.rows[0][..self.speed.len()].iter().copied().min().unwrap_or(0)
     }
 
     /// The torque that a pedal and the lower of two speeds' values permit, or the raise.

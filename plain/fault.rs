@@ -97,6 +97,26 @@ impl Class {
         }
     }
 
+    /// Its own keys as campaigns spell them, each with its numbers or truth values.
+    pub fn keys(&self) -> String {
+        match self {
+            Class::Script { track, values } => format!("track {track} values {}", listed(values)),
+            Class::Offset { track, add } => format!("track {track} add {add}"),
+            Class::Bus { mask } => format!("mask {mask}"),
+            Class::Plate { at } => format!("at {at}"),
+            Class::Skip { module } => format!("module {module}"),
+            Class::Disturb { module, mask } => format!("module {module} mask {mask}"),
+            Class::Flip { word, mask } => format!("word {word} mask {mask}"),
+            Class::Timing { offset } => format!("offset {offset}"),
+            Class::Wild { questions, opens } => {
+                format!("questions {} opens {}", listed(questions), listed(opens))
+            }
+            Class::PathOpen { path } => format!("path {path}"),
+            Class::Lapse { after, every } => format!("after {} every {every}", listed(after)),
+            Class::Halt | Class::Path1Closed | Class::Path2Closed => String::new(),
+        }
+    }
+
     /// What is out of order so many ticks after the onset.
     fn effects(&self, since: u32) -> Effects {
         let mut effects = Effects::NONE;
@@ -126,6 +146,11 @@ impl Class {
         }
         effects
     }
+}
+
+/// The entries of a list with blanks between them.
+fn listed<T: ToString>(entries: &[T]) -> String {
+    entries.iter().map(T::to_string).collect::<Vec<String>>().join(" ")
 }
 
 /// The entry of a list that is used from its first again after its last.

@@ -3,9 +3,9 @@
 use std::fs::File;
 use std::io::Read;
 
-use crate::End;
 use crate::calibration::Drive;
 use crate::records::Records;
+use crate::{End, of_file};
 
 const MOST_BYTES: usize = 4_194_304;
 const MOST_ROWS: usize = 20_000;
@@ -21,10 +21,8 @@ pub fn bytes(name: &str) -> Result<Vec<u8>, End> {
     let length = file.metadata().map_or(0, |data| data.len() as usize);
     let mut bytes = Vec::with_capacity(length.min(MOST_BYTES) + 1);
     file.take(MOST_BYTES as u64 + 1).read_to_end(&mut bytes).map_err(fault)?;
-    if bytes.len() > MOST_BYTES {
-        return Err(End::Refused(format!("{name}: longer than {MOST_BYTES} bytes")));
-    }
-    Ok(bytes)
+    let too_long = bytes.len() > MOST_BYTES;
+    of_file(name, if too_long { Err(format!("longer than {MOST_BYTES} bytes")) } else { Ok(bytes) })
 }
 
 /// The rest of a file of plain records: of digits, commas and ends of lines alone.

@@ -18,7 +18,7 @@ const PERMITTED: usize = 2081;
 const ACTUAL: usize = 2082;
 const EXCESS: usize = 2083;
 const PAIRS: usize = 2084;
-const COUNTERS: usize = 2096;
+pub const COUNTERS: usize = 2096;
 const LIMP: usize = 2101;
 const TRIP: usize = 2102;
 const TOKEN: usize = 2103;
@@ -35,6 +35,9 @@ const BROKEN: u16 = 0x8000;
 /// The watches, in their order; `Watches` has a place for each.
 pub const WATCHES: [&str; 8] = ["mirror", "pedal", "plate", "load", "speed", "torque", "answers", "start"];
 pub type Watches = [bool; 8];
+
+/// Which of the watches trip: mirror, plate, load, speed and torque.
+pub const TRIPS: Watches = [true, false, true, true, true, true, false, false];
 
 /// Where a word stands, or, from 16 on, the complement of the word 16 below.
 fn address(word: usize) -> usize {

@@ -15,7 +15,7 @@ pub enum Mark {
 pub struct Monitor {
     heard: u16,
     right: bool,
-    counter: u16,
+    pub counter: u16,
 }
 
 /// What it says of a tick.

@@ -1,12 +1,12 @@
 //! The whole program as plain Rust, written to be fast: one array of words for all three levels, plain structs,
 //! and no allocation in a tick. No row of a run is kept, but for `table`, which looks at a run span by span: what a
-//! report or `soak` says is gathered as the ticks are made, and each line of a record is put as its tick is made, a
-//! line a write, as in the proved program. It takes the words and files that `egasim` takes, refuses what it refuses,
-//! and writes what it writes, notes too. It was written from docs/, is measured beside the proved program by
-//! `bench/unit` and `bench/all`, and compared with it by `bench/compare` and `bench/fuzz`. Nothing of it is proved.
+//! report, `margins` or `soak` says is gathered as the ticks are made, and each line of a record is put as its tick
+//! is made, a line a write, as in the proved program. It takes the words and files that `egasim` takes, refuses what
+//! it refuses, and writes what it writes, notes too. It was written from docs/, is measured beside the proved program
+//! by `bench/unit` and `bench/all`, and compared with it by `bench/compare` and `bench/fuzz`. Nothing of it is proved.
 //! Usage: check [--cal NAME] FILE, bound [--cal NAME], limits [--cal NAME], answers FILE, run [--cal NAME] CAMPAIGN,
-//! table [--cal NAME] CAMPAIGN, record [--cal NAME] CAMPAIGN RUN, sweep [--cal NAME] CAMPAIGN RUN STEP,
-//! soak SEED RUNS, asm FILE, dis FILE
+//! table [--cal NAME] CAMPAIGN, margins [--cal NAME] CAMPAIGN, record [--cal NAME] CAMPAIGN RUN,
+//! sweep [--cal NAME] CAMPAIGN RUN STEP, soak SEED RUNS, asm FILE, dis FILE
 
 mod calibration;
 mod calibration_file;
@@ -18,6 +18,7 @@ mod keys;
 mod level1;
 mod level2;
 mod level3;
+mod margins;
 mod record;
 mod records;
 mod report;
@@ -30,7 +31,7 @@ mod toml;
 mod unit;
 
 use std::env;
-use std::fs::File;
+use std::fs::{self, File};
 use std::hint::black_box;
 use std::io::{self, BufWriter, Write};
 use std::os::fd::AsFd;
@@ -48,6 +49,8 @@ pub enum End {
     /// With this note a file is refused, or there is no such run.
     Refused(String),
     Write,
+    /// A document weighs too much.
+    Memory,
 }
 
 impl End {
@@ -57,22 +60,39 @@ impl End {
             End::Read(_) => 3,
             End::Refused(_) => 4,
             End::Write => 5,
+            End::Memory => 6,
         }
     }
 
     fn note(&self) -> String {
         match self {
             End::Usage => "not a command of egasim".to_string(),
-            End::Read(name) => format!("cannot read {name}"),
+            End::Read(name) => format!("cannot read {}", noted(name)),
             End::Refused(note) => note.clone(),
             End::Write => "cannot write".to_string(),
+            End::Memory => "no memory".to_string(),
         }
     }
 }
 
+/// A name as a note has it: on one line, and without anything that a terminal would obey.
+pub fn noted(name: &str) -> String {
+    let mut noted = String::new();
+    for c in name.chars() {
+        match c {
+            '\\' => noted += "\\\\",
+            _ if c.is_control() => {
+                c.encode_utf8(&mut [0; 4]).bytes().for_each(|byte| noted += &format!("\\x{byte:02x}"));
+            }
+            _ => noted.push(c),
+        }
+    }
+    noted
+}
+
 /// What comes of a file of this name, or the note of its refusal.
-fn of_file<T>(name: &str, came: Result<T, String>) -> Result<T, End> {
-    came.map_err(|refusal| End::Refused(format!("{name}: {refusal}")))
+pub fn of_file<T>(name: &str, came: Result<T, String>) -> Result<T, End> {
+    came.map_err(|refusal| End::Refused(format!("{}: {refusal}", noted(name))))
 }
 
 impl From<io::Error> for End {
@@ -124,6 +144,8 @@ fn limits(cal: &Calibration, out: &mut Output) -> Result<(), End> {
     put(format!("excess {}\n", cal.torque.to_confirm()).as_bytes(), out)?;
     put(format!("test {}\n", times.test_ticks()).as_bytes(), out)?;
     put(format!("spacing {}\n", or_none(times.miss_spacing())).as_bytes(), out)?;
+    put(format!("stretch {}\n", cal.stretch()).as_bytes(), out)?;
+    put(format!("peak {}\n", cal.peak()).as_bytes(), out)?;
     Ok(())
 }
 
@@ -131,23 +153,24 @@ fn or_none(number: Option<u32>) -> String {
     number.map_or("none".to_string(), |number| number.to_string())
 }
 
+/// The bytes of a calibration or a campaign.
+fn document(name: &str) -> Result<Vec<u8>, End> {
+    let bytes = files::bytes(name)?;
+    if toml::is_too_heavy(&bytes) { Err(End::Memory) } else { Ok(bytes) }
+}
+
 /// The right answers to the questions of a calibration file.
 fn answers(file: &str, out: &mut Output) -> Result<(), End> {
-    let right = of_file(file, calibration_file::answers(&files::bytes(file)?))?;
+    let right = of_file(file, calibration_file::answers(&document(file)?))?;
     let line = |(place, answer)| put(format!("answer {place}: {answer}\n").as_bytes(), out);
     Ok(right.iter().enumerate().try_for_each(line)?)
 }
 
-fn campaign(file: &str) -> Result<Vec<Plan>, End> {
-    of_file(file, campaign::campaign(&files::bytes(file)?))
-}
-
-fn drives(plan: &Plan) -> Result<Vec<Drive>, End> {
-    of_file(&plan.trace, files::trace(&files::bytes(&plan.trace)?))
-}
-
-fn image(file: &str) -> Result<Vec<u16>, End> {
-    of_file(file, files::image(&files::bytes(file)?))
+/// A command over a campaign, with its words.
+struct Call<'a> {
+    words: &'a [&'a str],
+    cal: Calibration,
+    file: &'a str,
 }
 
 fn run_of<'a>(plan: &'a Plan, drives: &'a [Drive], image: &'a [u16]) -> Run<'a> {
@@ -156,58 +179,90 @@ fn run_of<'a>(plan: &'a Plan, drives: &'a [Drive], image: &'a [u16]) -> Run<'a> 
 
 const MOST_TICKS: usize = 1_000_000;
 
-/// Tells each run of a campaign with its name, in their order. Answers how many there are.
-fn each_run(file: &str, mut tell: impl FnMut(&str, &Run)) -> Result<usize, End> {
-    let plans = campaign(file)?;
-    let mut ticks = 0;
-    for (number, plan) in (1..).zip(&plans) {
-        let drives = drives(plan)?;
-        ticks += drives.len();
-        if ticks > MOST_TICKS {
-            return Err(End::Refused(format!("{file}: run {number} passes {MOST_TICKS} ticks")));
-        }
-        let image = image(&plan.image)?;
-        tell(&plan.name, &run_of(plan, &drives, &image));
+impl Call<'_> {
+    fn campaign(&self) -> Result<Vec<Plan>, End> {
+        of_file(self.file, campaign::campaign(&document(self.file)?))
     }
-    Ok(plans.len())
+
+    /// The bytes of a file that the campaign names. What isn't a regular one is opened only if the words name it too.
+    fn bytes(&self, name: &str) -> Result<Vec<u8>, End> {
+        if !self.words.contains(&name) && !fs::metadata(name).is_ok_and(|data| data.is_file()) {
+            return Err(End::Read(name.to_string()));
+        }
+        files::bytes(name)
+    }
+
+    fn drives(&self, plan: &Plan) -> Result<Vec<Drive>, End> {
+        of_file(&plan.trace, files::trace(&self.bytes(&plan.trace)?))
+    }
+
+    fn image(&self, plan: &Plan) -> Result<Vec<u16>, End> {
+        of_file(&plan.image, files::image(&self.bytes(&plan.image)?))
+    }
+
+    /// Tells each run of the campaign with its name, in their order. Answers how many there are.
+    fn each_run(&self, mut tell: impl FnMut(&str, &Run)) -> Result<usize, End> {
+        let plans = self.campaign()?;
+        let mut ticks = 0;
+        for (number, plan) in (1..).zip(&plans) {
+            let drives = self.drives(plan)?;
+            ticks += drives.len();
+            if ticks > MOST_TICKS {
+                return of_file(self.file, Err(format!("run {number} passes {MOST_TICKS} ticks")));
+            }
+            let image = self.image(plan)?;
+            tell(&plan.name, &run_of(plan, &drives, &image));
+        }
+        Ok(plans.len())
+    }
+
+    /// The run of that name, with its drive and its image.
+    fn loaded(&self, name: &str) -> Result<(Plan, Vec<Drive>, Vec<u16>), End> {
+        let named = self.campaign()?.into_iter().find(|plan| plan.name == name);
+        let plan = named.ok_or_else(|| End::Refused("no such run".to_string()))?;
+        let (drives, image) = (self.drives(&plan)?, self.image(&plan)?);
+        Ok((plan, drives, image))
+    }
 }
 
 /// The report on the runs of a campaign.
-fn run(cal: &Calibration, file: &str, out: &mut Output) -> Result<(), End> {
+fn run(call: &Call, out: &mut Output) -> Result<(), End> {
     let mut text = String::new();
     let (mut detected, mut off) = (0, 0);
-    let runs = each_run(file, |name, run| {
-        let summary = report::summary(cal, run);
+    let runs = call.each_run(|name, run| {
+        let summary = report::summary(&call.cal, run);
         detected += u32::from(summary.first.is_some());
         off += u32::from(summary.off.is_some());
-        text += &summary.line(name, cal);
+        text += &summary.line(name, &call.cal);
     })?;
     writeln!(out, "{text}runs {runs}; detected {detected}; off {off}")?;
     Ok(())
 }
 
-/// The table of the runs of a campaign.
-fn table(cal: &Calibration, file: &str, out: &mut Output) -> Result<(), End> {
-    let mut lines = vec![table::HEADER.to_string()];
-    each_run(file, |name, run| lines.push(table::line(cal, name, run)))?;
+/// A header, and below it the line of each run of a campaign.
+fn lines(call: &Call, header: &str, line: impl Fn(&str, &Run) -> String, out: &mut Output) -> Result<(), End> {
+    let mut lines = vec![header.to_string()];
+    call.each_run(|name, run| lines.push(line(name, run)))?;
     Ok(lines.iter().try_for_each(|line| put(line.as_bytes(), out))?)
 }
 
-/// The run of that name of a campaign, with its drive and its image.
-fn loaded(file: &str, name: &str) -> Result<(Plan, Vec<Drive>, Vec<u16>), End> {
-    let named = campaign(file)?.into_iter().find(|plan| plan.name == name);
-    let plan = named.ok_or_else(|| End::Refused("no such run".to_string()))?;
-    let (drives, image) = (drives(&plan)?, image(&plan.image)?);
-    Ok((plan, drives, image))
+/// The table of the runs of a campaign.
+fn table(call: &Call, out: &mut Output) -> Result<(), End> {
+    lines(call, table::HEADER, |name, run| table::line(&call.cal, name, run), out)
+}
+
+/// How near the runs of a campaign came to a cut.
+fn margins(call: &Call, out: &mut Output) -> Result<(), End> {
+    lines(call, margins::HEADER, |name, run| margins::line(&call.cal, name, run), out)
 }
 
 /// The record of a run of a campaign.
-fn record(cal: &Calibration, file: &str, name: &str, out: &mut Output) -> Result<(), End> {
-    let (plan, drives, image) = loaded(file, name)?;
+fn record(call: &Call, name: &str, out: &mut Output) -> Result<(), End> {
+    let (plan, drives, image) = call.loaded(name)?;
     put(record::HEADER.as_bytes(), out)?;
     let mut line = record::Line::new();
     let mut written = Ok(());
-    play(cal, &run_of(&plan, &drives, &image), |row| {
+    play(&call.cal, &run_of(&plan, &drives, &image), |row| {
         if written.is_ok() {
             written = put(line.row(row), out);
         }
@@ -222,9 +277,9 @@ fn put(line: &[u8], out: &mut Output) -> io::Result<()> {
 }
 
 /// What comes of a run of a campaign under every class of fault, each at every onset of a grid.
-fn sweep(cal: &Calibration, file: &str, name: &str, step: u32, out: &mut Output) -> Result<(), End> {
-    let (plan, drives, image) = loaded(file, name)?;
-    let lines = sweep::sweep(cal, &run_of(&plan, &drives, &image), step);
+fn sweep(call: &Call, name: &str, step: u32, out: &mut Output) -> Result<(), End> {
+    let (plan, drives, image) = call.loaded(name)?;
+    let lines = sweep::sweep(&call.cal, &run_of(&plan, &drives, &image), step);
     let lines = lines.ok_or_else(|| End::Refused("grid too large".to_string()))?;
     Ok(lines.iter().try_for_each(|line| put(line.as_bytes(), out))?)
 }
@@ -237,7 +292,7 @@ fn asm(file: &str, out: &mut Output) -> Result<(), End> {
 
 /// The source of an image.
 fn dis(file: &str, out: &mut Output) -> Result<(), End> {
-    let words = image(file)?;
+    let words = of_file(file, files::image(&files::bytes(file)?))?;
     Ok(words.iter().try_for_each(|word| put(source::line(*word).as_bytes(), out))?)
 }
 
@@ -263,7 +318,7 @@ fn soak(cal: &Calibration, seed: &str, runs: &str, out: &mut Output) -> Result<(
 /// The calibration of a file, or the reference calibration.
 fn calibration(name: Option<&str>) -> Result<Calibration, End> {
     match name {
-        Some(name) => of_file(name, calibration_file::calibration(&files::bytes(name)?)),
+        Some(name) => of_file(name, calibration_file::calibration(&document(name)?)),
         // The compiler is not to know the numbers of the calibration: the proved program takes any.
         None => Ok(black_box(reference())),
     }
@@ -276,31 +331,37 @@ fn is_name(word: &str) -> bool {
 
 /// Does the command of these words.
 fn command(words: &[&str]) -> Result<(), End> {
-    let out = &mut BufWriter::with_capacity(1 << 16, File::from(io::stdout().as_fd().try_clone_to_owned()?));
-    let (name, words) = match *words {
+    let mut out = BufWriter::with_capacity(1 << 16, File::from(io::stdout().as_fd().try_clone_to_owned()?));
+    let done = work(words, &mut out).and_then(|()| Ok(out.flush()?));
+    // What a write has left that failed is not tried again.
+    let _ = out.into_parts();
+    done
+}
+
+fn work(words: &[&str], out: &mut Output) -> Result<(), End> {
+    let (name, form) = match *words {
         [command, "--cal", name, ref rest @ ..] if is_name(name) => (Some(name), [&[command], rest].concat()),
         _ => (None, words.to_vec()),
     };
-    match (words.as_slice(), name) {
+    let called = |file| Ok::<Call, End>(Call { words, cal: calibration(name)?, file });
+    match (form.as_slice(), name) {
         (["bound"], _) => bound(&calibration(name)?, out),
         (["limits"], _) => limits(&calibration(name)?, out),
         (["check", file], _) if is_name(file) => check(&calibration(name)?, file, out),
-        (["run", file], _) if is_name(file) => run(&calibration(name)?, file, out),
-        (["table", file], _) if is_name(file) => table(&calibration(name)?, file, out),
-        (["record", file, run], _) if is_name(file) && is_name(run) => {
-            record(&calibration(name)?, file, run, out)
-        }
+        (["run", file], _) if is_name(file) => run(&called(file)?, out),
+        (["table", file], _) if is_name(file) => table(&called(file)?, out),
+        (["margins", file], _) if is_name(file) => margins(&called(file)?, out),
+        (["record", file, run], _) if is_name(file) && is_name(run) => record(&called(file)?, run, out),
         (["sweep", file, run, step], _) if is_name(file) && is_name(run) => {
             let step = step_of(step)?;
-            sweep(&calibration(name)?, file, run, step, out)
+            sweep(&called(file)?, run, step, out)
         }
         (["soak", seed, runs], None) => soak(&calibration(None)?, seed, runs, out),
         (["answers", file], None) if is_name(file) => answers(file, out),
         (["asm", file], None) if is_name(file) => asm(file, out),
         (["dis", file], None) if is_name(file) => dis(file, out),
         _ => Err(End::Usage),
-    }?;
-    Ok(out.flush()?)
+    }
 }
 
 fn main() {
@@ -311,8 +372,8 @@ fn main() {
         Err(_) => Err(End::Usage),
     };
     if let Err(end) = done {
-        // A note that can't be written changes nothing.
-        let _ = writeln!(io::stderr(), "{}", end.note());
+        // One write; a note that can't be written changes nothing.
+        let _ = io::stderr().write_all((end.note() + "\n").as_bytes());
         exit(end.status());
     }
 }

@@ -230,10 +230,10 @@ struct Scale {
 }
 
 impl Scale {
-    /// One byte more that stands outside. False where so many lists and inline tables are open that no more may be.
-    fn put(&mut self, byte: u8) -> bool {
+    /// One byte more that stands outside.
+    fn put(&mut self, byte: u8) {
         if matches!(byte, b' ' | b'\t' | b'\r' | b'\n' | b'#') {
-            return true;
+            return;
         }
         let due = std::mem::replace(&mut self.due, Due::Nothing);
         if due == Due::Item && byte != b']' && byte != b'}' {
@@ -247,6 +247,8 @@ impl Scale {
             }
             b'[' if due == Due::Heading => {}
             b'[' | b'{' => {
+                // One that stands too deep takes the place of the one around it.
+                self.open.truncate(MOST_DEPTH);
                 self.open.push(Counts::default());
                 if byte == b'[' {
                     self.due = Due::Item;
@@ -270,7 +272,6 @@ impl Scale {
             b'"' | b'\'' if matches!(due, Due::Value | Due::Item) => self.weight += 32,
             _ => {}
         }
-        self.open.len() <= MOST_DEPTH + 1
     }
 
     /// What the innermost of these has.
@@ -290,8 +291,7 @@ impl Scale {
 }
 
 /// Whether a document weighs too much to be read.
-fn is_too_heavy(text: &str) -> bool {
-    let bytes = text.as_bytes();
+pub fn is_too_heavy(bytes: &[u8]) -> bool {
     let mut scale = Scale { due: Due::Nothing, open: vec![Counts::default()], weight: 0 };
     let mut place = Place::Outside;
     let mut at = 0;
@@ -299,7 +299,8 @@ fn is_too_heavy(text: &str) -> bool {
         let byte = bytes[at];
         place = match place {
             Place::Outside => {
-                if !scale.put(byte) || scale.weight > MOST_WEIGHT {
+                scale.put(byte);
+                if scale.weight > MOST_WEIGHT {
                     return true;
                 }
                 match byte {
@@ -333,9 +334,6 @@ fn is_too_heavy(text: &str) -> bool {
 
 /// The table of a document, or None where it is refused.
 pub fn document(text: &str) -> Option<Table> {
-    if is_too_heavy(text) {
-        return None;
-    }
     let mut reader = Reader { rest: text.strip_prefix('\u{feff}').unwrap_or(text) };
     let mut table = Growing::new(Origin::Heading);
     let mut heading = Vec::new();

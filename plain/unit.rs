@@ -4,7 +4,7 @@ use crate::calibration::{Calibration, Drive, Question};
 use crate::engine::{Diesel, Engine, Gasoline, Kind, Shown};
 use crate::fault::{Effects, Fault, Reading};
 use crate::level1::{Machine, State, Trap, Words};
-use crate::level2::{self, DATA, IGNITION, Known, PORTS, Rules, SIGNALS, THROTTLE, Watches};
+use crate::level2::{self, COUNTERS, DATA, IGNITION, Known, PORTS, Rules, SIGNALS, THROTTLE, Watches};
 use crate::level3::{self, Judgement, Mark, Monitor};
 
 /// The ten tracks: those of the pairs, and the contacts of the brake.
@@ -56,9 +56,12 @@ pub struct Row {
     pub found: Watches,
     pub answer: Mark,
     pub verdict: Option<bool>,
-    /// Whether a test of the paths is running, and whether a span begins. Neither is printed.
+    /// Whether a test of the paths is running, whether a span begins, and whether the engine is driven in it.
+    /// None is printed, nor what the debouncers of pedal, plate, load, speed, torque and answers weigh.
     pub testing: bool,
     pub fresh: bool,
+    pub drives: bool,
+    pub weights: [u16; 6],
 }
 
 /// What level 2 says of a tick.
@@ -265,8 +268,10 @@ impl<'a, E: Engine> Unit<'a, E> {
     #[inline(always)]
     fn row(&self, drive: &Drive, limit: u16, paths: [bool; 3], found: Watches, judged: &Judgement) -> Row {
         let (shown, words) = (self.engine.shown(), &self.words);
-        let mut signals = [0; 5];
+        let (mut signals, mut weights) = ([0; 5], [0; 6]);
         signals.copy_from_slice(&words[SIGNALS..SIGNALS + 5]);
+        weights[..5].copy_from_slice(&words[COUNTERS..COUNTERS + 5]);
+        weights[5] = self.monitor.counter;
         Row {
             tick: self.ticks,
             drive: *drive,
@@ -285,6 +290,8 @@ impl<'a, E: Engine> Unit<'a, E> {
             verdict: judged.verdict,
             testing: false,
             fresh: self.local == 0,
+            drives: self.drives,
+            weights,
         }
     }
 

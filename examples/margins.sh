@@ -1,0 +1,1 @@
+./egasim margins examples/levels.toml
