@@ -2,17 +2,25 @@
 work=$(mktemp -d) && trap 'rm -rf "$work"' EXIT && ln -s "$PWD/egasim" "$PWD/examples" "$PWD/tools" "$work" && cd "$work" || exit
 : >empty.csv
 ./egasim record examples/levels.toml short | sed '3s/,.*//' >cut.csv
-for file in empty.csv cut.csv gone.csv examples/late.hex; do
+for file in /dev/zero empty.csv cut.csv gone.csv examples/late.hex; do
   tools/plot picture.png $file && echo "status $?"
 done 2>&1
 tools/draw_record <cut.csv 2>&1
 printf 'torque\r\rlimit' | tools/draw_record 2>&1
+tools/draw_record 2>&1 <&-
 tools/plot picture.png cut.csv --cal examples/strict.toml 2>&1
+tools/study faults examples/sweep.toml late bus 0 >one.toml
+./egasim table one.toml >one.csv
+./egasim table --cal examples/strict.toml one.toml | sed 1d | cat one.csv - >two.csv
+tools/plot picture.png two.csv 2>&1
+tools/plot picture.png --cal examples/strict.toml one.csv 2>&1
+rm one.toml one.csv two.csv
 for file in empty.csv gone.toml examples/levels.toml /dev/zero; do tools/answer $file && echo "status $?"; done 2>&1
 echo 'drives = ["gone.csv"]' >plan.toml
 tools/study plan.toml study 2>&1
 printf 'drives = ["examples/late.csv"]\nimages = ["examples/late.hex"]\n[[fault]]\nclass = "halt"\nonset = []\n' >plan.toml
 tools/study plan.toml study 2>&1
+mkfifo pipe && sed 's/[^"]*late.hex/pipe/; s/\[\]/1/' plan.toml >endless.toml && tools/study endless.toml study 2>&1
 tools/study join study 2>&1
 tools/study faults examples/levels.toml full bus,bos 0 2>&1
 tools/study faults examples/levels.toml full bus 9-1 2>&1

@@ -25,12 +25,14 @@ clean() {
   end_turn
 }
 
-# Tells of each crate that rt says it has proved, of $1 crates. All that rt says goes to standard output, and speaks
-# there of this repository, and not of its copy $2.
+# Tells of each crate that rt says it has proved, of $1 crates, and of each for which it waits. All that rt says goes to
+# standard output, and speaks there of this repository, and not of its copy $2.
 listen() {
   local line how proved=0 verdict='^rt: ([A-Za-z0-9_]+) (proved$|is kept: )'
+  local waits='^rt: ([A-Za-z0-9_]+)(: its tests)?: another (run|copy) .*; waiting for it'
   while IFS= read -r line || [ -n "$line" ]; do
     printf '%s\n' "${line//"$2"/"$top"}"
+    [[ ! $line =~ $waits ]] || say "another run on this machine is at ${BASH_REMATCH[1]}; waiting for it"
     [[ $line =~ $verdict ]] || continue
     how="$((SECONDS / 60)) min so far"
     [ "${BASH_REMATCH[2]}" = proved ] || how="by an earlier run"
@@ -39,16 +41,28 @@ listen() {
   done
 }
 
-# Prints what rt said in the file $1, without what it said of crates that are proved and of tests that passed.
+# Prints what rt said in the file $1, without what it said of crates that are proved, of those for which it waited, and
+# of tests that passed.
 complaints() {
   awk '
     /^== / || /^tests: [0-9]+$/ { inside = 1; held = "" }
     inside { held = held $0 "\n" }
-    !inside && !/^rt: [A-Za-z0-9_]+ is kept: / { print }
+    !inside && !/^rt: [A-Za-z0-9_]+ is kept: / && !/^rt: .*: another .*; waiting for it/ { print }
     inside && /^rt: .* (proved|its tests passed)$/ { inside = 0 }
     inside && /^rt: .* (NOT PROVED|its tests FAILED)$/ { inside = 0; printf "%s", held }
     END { if (inside) printf "%s", held }
   ' "$1"
+}
+
+# Tells how rt ended, with the status $1, if the last line of what it said in the file $2 isn't its verdict.
+tell_end() {
+  local verdict='^[0-9]+ passed, [0-9]+ failed'
+  [[ ! $(tail -n 1 -- "$2") =~ $verdict ]] || return
+  if [ "$1" -gt 128 ]; then
+    say "rt was ended by the signal $(kill -l "$1" 2>/dev/null || echo "$1") before it had a verdict"
+  else
+    say "rt ended with status $1 before it had a verdict"
+  fi
 }
 
 # Fails where no program can be kept, before one is built.
@@ -79,7 +93,7 @@ make_room() {
 # Proves and builds the program of the sources as they stand, and keeps it. rt ci builds it, over a repository that has
 # only the program's crate and those that it stands on, without must-fail edits.
 build() {
-  local repository sum crates
+  local repository sum crates status=0
   SECONDS=0
   make_room
   repository=$room/repository
@@ -91,8 +105,10 @@ build() {
   (cd "$repository" && exec rt ci) >"$room/said" 2>&1 </dev/null {lock}<&- &
   child=$!
   listen "$crates" "$repository" <"$room/said" >"$room/log"
-  if ! await; then
+  await || status=$?
+  if [ "$status" -ne 0 ]; then
     complaints "$room/log" >&2
+    tell_end "$status" "$room/log"
     return 1
   fi
   keep "$repository/crates/egasim/out/egasim" "$sum" && rm -rf -- "$room" && room=

@@ -6,10 +6,11 @@ lock=
 turn=
 child=
 
-# Waits for the child, and returns its status. A signal ends this call at once, and the child with it.
+# Waits for the child, and returns its status. A signal ends this call at once, and the child with it. (The shell would
+# say here that a signal ended the child.)
 await() {
   local status
-  wait "$child"
+  wait "$child" 2>/dev/null
   status=$?
   child=
   return "$status"

@@ -23,7 +23,7 @@ version() {
   is_kept && program=$(sha256sum <"$kept/egasim")
   echo "egasim $(cat -- "$top/VERSION")"
   commit
-  printf '%s\n' "sources ${sources%% *}" "kit ${kit:-none}" "program ${program%  -}"
+  printf '%s\n' "sources with kit ${sources%% *}" "kit ${kit:-none}" "program ${program%  -}"
 }
 
 check() {

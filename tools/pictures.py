@@ -1,0 +1,155 @@
+"""The pictures of a run and of a sweep."""
+
+from common import corners
+from svg import DARK, GRID, INK, MIDDLE, box, line, picture, shape, step_of, text, width_of
+
+WIDTH, LEFT, RIGHT = 400, 48, 10  # of each picture
+HEIGHT, STAGES = 180, 26  # of the torque, and of what stands below it about the stages
+MOST_ROWS = 6  # of what is written above a run
+SHADE = "#d9d9d9"
+
+
+# A run
+
+
+class Scale:
+    """Where ticks and torques of a run stand."""
+
+    def __init__(self, ticks, highest, top):
+        self.ticks, self.highest, self.top, self.bottom = ticks, highest, top, top + HEIGHT
+
+    def x(self, tick):
+        return LEFT + (WIDTH - LEFT - RIGHT) * tick / self.ticks
+
+    def y(self, torque):
+        return self.bottom - HEIGHT * torque / self.highest
+
+
+def stretches(values):
+    """Where these values are true: (first tick, tick behind the last)."""
+    begin = None
+    for tick, value in enumerate([*values, False]):
+        if value and begin is None:
+            begin = tick
+        elif not value and begin is not None:
+            yield begin, tick
+            begin = None
+
+
+def curve(values, scale):
+    """The points of a curve. Of those that stand above one another the first, lowest, highest and last are enough."""
+    columns = {}
+    for tick, value in corners(values):
+        columns.setdefault(round(scale.x(tick) * 2), []).append((scale.x(tick), scale.y(value)))
+    for points in columns.values():
+        lowest, highest = (choose(points, key=lambda point: point[1]) for choose in (min, max))
+        yield from dict.fromkeys([points[0], lowest, highest, points[-1]]) if len(points) > 4 else points
+
+
+def spans(values, scale):
+    """The places of the ticks at which these values are true, joined where no gap can be seen."""
+    joined = []
+    for first, end in stretches(values):
+        if joined and scale.x(first) - joined[-1][1] < 0.5:
+            joined[-1][1] = scale.x(end)
+        else:
+            joined.append([scale.x(first), scale.x(end)])
+    return joined
+
+
+def placed(marks, ticks):
+    """The rows in which the words of marks stand without touching: (tick, words, x of the words, row or None)."""
+    scale, ends = Scale(ticks, 1, 0), []
+    for tick, words in sorted(marks):
+        half = width_of(words, 10) / 2
+        x = min(max(scale.x(tick), half + 1), WIDTH - half - 1)
+        row = next((row for row, end in enumerate(ends) if end + 6 < x - half), len(ends))
+        if row < MOST_ROWS:
+            ends[row:row + 1] = [x + half]
+        yield tick, words, x, row if row < MOST_ROWS else None
+
+
+def mark_shapes(places, scale):
+    for tick, words, x, row in places:
+        yield line([(scale.x(tick), scale.top - 4), (scale.x(tick), scale.bottom)], INK, "2 2")
+        yield shape([(scale.x(tick) + side, scale.top - 4 + down) for side, down in ((-4, -5), (4, -5), (0, 1))], INK)
+        if row is not None:
+            yield text(x, scale.top - 13 - 13 * row, words, size=10)
+
+
+def axes(scale):
+    right, below = WIDTH - RIGHT, scale.bottom + STAGES
+    for value in range(0, int(scale.highest) + 1, step_of(scale.highest, 5)):
+        yield line([(LEFT, scale.y(value)), (right, scale.y(value))], GRID)
+        yield text(LEFT - 5, scale.y(value) + 4, value, "end", 10)
+    for tick in range(0, scale.ticks + 1, step_of(scale.ticks, 8)):
+        yield line([(scale.x(tick), scale.top), (scale.x(tick), below)], GRID)
+        yield text(min(scale.x(tick), WIDTH - width_of(tick, 10) / 2 - 1), below + 13, tick, size=10)
+    yield text(LEFT + (right - LEFT) / 2, below + 28, "tick", size=10)
+    middle = scale.top + HEIGHT / 2
+    yield f'<g transform="rotate(-90 10 {middle:.0f})">{text(10, middle, "torque, tenths of Nm", size=10)}</g>'
+
+
+def stage_shapes(on, scale):
+    y = scale.bottom + STAGES - 7
+    yield text(LEFT - 5, y + 1, "stages", "end", 10)
+    yield line([(LEFT, y), (WIDTH - RIGHT, y)], "#888888")
+    for first, end in spans(on, scale):
+        yield box(first, y - 6, end - first, 9, "#555555")
+
+
+def legend(y):
+    other, below = LEFT + 170, y + 16
+    for x, at, words, sample in (
+            (LEFT, y, "torque", line([(LEFT, y - 4), (LEFT + 22, y - 4)], DARK, "", 2.5)),
+            (LEFT, below, "permitted and threshold", line([(LEFT, below - 4), (LEFT + 22, below - 4)], MIDDLE, "6 3", 2)),
+            (other, y, "excess", box(other, y - 10, 22, 11, SHADE)),
+            (other, below, "stages on", box(other, below - 9, 22, 9, "#555555"))):
+        yield sample
+        yield text(x + 28, at, words, "start", 10)
+
+
+def record_picture(name, title, about, record, threshold, marks):
+    """Torque, permitted torque and threshold together, excess and power stages of a run. `marks` are ticks with what is
+    written above them."""
+    most = [limit + threshold for limit in record["limit"]]
+    ticks, places = len(most), list(placed(marks, len(most)))
+    rows = max([row + 1 for *_, row in places if row is not None], default=0)
+    scale = Scale(ticks, max(max(record["torque"]), max(most), 1) * 1.05, 14 + 13 * rows)
+    below = scale.bottom + STAGES
+    shapes = [box(first, scale.top, end - first, HEIGHT, SHADE)
+              for first, end in spans([torque > line for torque, line in zip(record["torque"], most)], scale)]
+    shapes += axes(scale)
+    shapes.append(line(curve(most, scale), MIDDLE, "6 3", 2))
+    shapes.append(line(curve(record["torque"], scale), DARK, "", 2.5))
+    shapes += [*stage_shapes(record["on"], scale), *mark_shapes(places, scale), *legend(below + 48)]
+    return picture(name, WIDTH, below + 72, title, about, shapes)
+
+
+# A sweep
+
+
+def sweep_picture(name, title, about, reactions, bound):
+    """The greatest reaction of each class of fault, a bar each, and R as a line. For lapses, whose bar is white, R is no
+    bound."""
+    left, right, top, each = 88, WIDTH - 46, 24, 18
+    highest = max([bound, 1, *(reaction or 0 for reaction in reactions.values())])
+    bottom = top + each * len(reactions)
+
+    def x_of(value):
+        return left + (right - left) * value / highest
+
+    shapes = []
+    for value in range(0, highest + 1, step_of(highest, 8)):
+        shapes += [line([(x_of(value), top), (x_of(value), bottom)], GRID), text(x_of(value), bottom + 14, value, size=10)]
+    shapes.append(text((left + right) / 2, bottom + 29, "greatest reaction, ticks", size=10))
+    for place, (kind, reaction) in enumerate(reactions.items()):
+        y = top + each * place
+        shapes.append(text(left - 6, y + 13, kind, "end"))
+        if reaction:
+            colours = ("white", INK) if kind == "lapse" else ("#5f7f9f",)
+            shapes.append(box(left, y + 3, x_of(reaction) - left, each - 6, *colours))
+        shapes.append(text(WIDTH - 4, y + 13, "none" if reaction is None else reaction, "end"))
+    shapes.append(line([(x_of(bound), top - 6), (x_of(bound), bottom)], INK, "6 3", 2))
+    shapes.append(text(x_of(bound), top - 10, f"R {bound}"))
+    return picture(name, WIDTH, bottom + 38, title, about, shapes)

@@ -1,0 +1,108 @@
+"""A campaign as a report needs it: what the program prints of it, and the checksums of all that this comes from."""
+
+import csv
+import datetime
+import io
+import os
+import re
+import shlex
+import sys
+
+from common import HERE, TOP, fail, period_of, printed_by, program, read, record_of, sum_of, text_in, threshold_of, toml_in
+from common import version_lines, weight_limits_of
+
+MOST_SWEEPS = 20
+DOCUMENTS = ("SAFETY.md", "PROVED.md", "FORMATS.md")  # of which parts stand in a page
+MOST_SWEPT_RUNS, MOST_SWEPT_TICKS, CLASSES = 1000, 1000000, 14  # of a grid: docs/CONCEPT.md, "`sweep`"
+SWEPT = re.compile(r"([a-z0-9-]+): runs (\d+); (.*); reaction (\d+|none)")
+
+
+class Swept:
+    """A sweep: its run, the runs with the same drive, image, engine and slices, its step, and a row for each class."""
+
+    def __init__(self, runs, step, lines):
+        self.runs, self.step = runs, step
+        matches = [SWEPT.fullmatch(line) for line in lines[:-1]]
+        self.counts = {match[1]: {"runs": match[2], **dict(part.split() for part in match[3].split("; "))}
+                       for match in matches}
+        self.reactions = {match[1]: None if match[4] == "none" else int(match[4]) for match in matches}
+
+
+class Played:
+    """All that the program prints of a campaign. Of whatever is refused its note is told, and there is no report."""
+
+    def __init__(self, campaign, calibration):
+        self.campaign, self.calibration = campaign, calibration
+        self.version, self.commands, self.sums = version_lines(), [], {}
+        self.date = datetime.datetime.now(datetime.timezone.utc).strftime("%Y-%m-%d %H:%M UTC")
+        for name in [program(), *(name for name in (calibration, campaign) if name)]:
+            self.add_sum(name)
+        for name in own_files(calibration):
+            self.add_sum(name, os.path.join(TOP, name))
+        self.limits = dict(line.split() for line in self.call("limits").splitlines())
+        self.rows = self.table("table", campaign)
+        self.margins = self.table("margins", campaign)
+        self.runs = {run["name"]: run for run in toml_in(campaign, text_in(campaign, read(campaign)))["run"]}
+        self.inputs = sorted({run[key] for run in self.runs.values() for key in ("trace", "image")})
+        for name in self.inputs:
+            self.add_sum(name)
+        self.threshold = threshold_of(calibration)
+        self.period = period_of(calibration)
+        self.weights = weight_limits_of(calibration)
+        self.records = {row["run"]: self.record(row["run"]) for row in self.rows}
+        self.sweeps = [self.sweep(runs) for runs in list(self.groups())[:MOST_SWEEPS]]
+
+    def add_sum(self, name, path=None):
+        content = read(path or name)
+        self.sums[name] = len(content), sum_of(content), path or name
+
+    def refuse_changes(self):
+        """Ends if a file isn't any more what it was when the first command read it."""
+        for name, (_, total, path) in self.sums.items():
+            if sum_of(read(path)) != total:
+                fail(f"{name} changed meanwhile")
+
+    def call(self, command, *words):
+        """What a command prints. It is noted with the checksum of that."""
+        calibration = ["--cal", self.calibration] if self.calibration else []
+        text = printed_by(command, *calibration, *words)
+        self.commands.append((shlex.join(["egasim", command, *calibration, *words]), sum_of(text.encode())))
+        return text
+
+    def table(self, *words):
+        return list(csv.DictReader(io.StringIO(self.call(*words))))
+
+    def record(self, name):
+        return record_of(name, io.StringIO(self.call("record", self.campaign, name)))
+
+    def resets(self, name):
+        """The ticks at which a run's drive resets the unit."""
+        rows = csv.DictReader(io.StringIO(text_in(name, read(self.runs[name]["trace"])), newline=""))
+        return [tick for tick, row in enumerate(rows) if row.get("reset") == "1"]
+
+    def groups(self):
+        """The names of runs that differ in their faults alone."""
+        groups = {}
+        for name, run in self.runs.items():
+            alike = (run["trace"], run["image"], run.get("engine", "gasoline"), str(run.get("slices")))
+            groups.setdefault(alike, []).append(name)
+        return groups.values()
+
+    def sweep(self, runs):
+        ticks = len(self.records[runs[0]]["on"])
+        onsets = min(MOST_SWEPT_RUNS // CLASSES, MOST_SWEPT_TICKS // (CLASSES * ticks))
+        step = -(-ticks // onsets)
+        return Swept(runs, step, self.call("sweep", self.campaign, runs[0], str(step)).splitlines())
+
+
+def own_files(calibration):
+    """What a page is made from beside the files of the call, by names from the top: documents, and the tool's own files."""
+    paths = (os.path.realpath(module.__file__) for module in list(sys.modules.values()) if getattr(module, "__file__", None))
+    modules = sorted(os.path.relpath(path, TOP) for path in paths if os.path.dirname(path) == HERE)
+    reference = [] if calibration else ["examples/reference.toml"]
+    return [*reference, *(f"docs/{name}" for name in DOCUMENTS), *modules, "tools/report_files/page.css"]
+
+
+def document(name):
+    """The text of a document of docs/."""
+    return read(os.path.join(HERE, "..", "docs", name)).decode()

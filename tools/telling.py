@@ -1,0 +1,301 @@
+"""What a report says, part by part, as HTML."""
+
+from common import WATCHES, is_own, own_warning
+from documents import blocks_of, cells_of, section_of
+from pages import Html, code, inline, of_document, paragraph, section, shown, table
+from pictures import record_picture, sweep_picture
+from playing import MOST_SWEEPS, document
+from runs import EXCESS, NO_EXCESS, about_run, events, finds, given_ticks, lacking
+
+MOST_EVENTS, MOST_MARKS, MOST_NAMES = 30, 12, 10
+PARTS = [("limits", "Limits of the calibration"), ("table", "Runs"), ("margins", "Margins"),
+         ("sweeps", "Every class of fault"), ("pictures", "Pictures of the runs"), ("assumptions", "Assumptions"),
+         ("claims", "What is proved"), ("not-claimed", "What isn't claimed"), ("provenance", "What this page was made from")]
+
+
+def parts(played, tolerant):
+    tellers = (limits, rows, margins, sweeps, pictures, assumptions, claims, not_claimed, provenance)
+    calibration = Html(f"calibration {code(played.calibration)}" if played.calibration else "the reference calibration")
+    yield paragraph(Html(f"Campaign {code(played.campaign)}, by {calibration}."))
+    yield verdict(played, tolerant)
+    yield tolerated(tolerant)
+    yield from warnings(played)
+    yield from summary(played)
+    yield "<nav><ul>" + "".join(f'<li><a href="#{name}">{shown(title)}</a></li>' for name, title in PARTS) + "</ul></nav>"
+    for (name, title), teller in zip(PARTS, tellers):
+        yield from section(name, title, teller(played))
+
+
+# The verdict
+
+
+def lapse_stretch(played):
+    """How many ticks in a row an excess may last under lapses; None if no number is known (docs/CALIBRATING.md, "What is
+    proved")."""
+    limits = played.limits
+    if int(limits["excess"]) <= played.period:
+        return int(limits["stretch"])
+    return None if limits["lapse"] == "none" else int(limits["lapse"]) - 1
+
+
+def verdict(played, tolerant):
+    """What `stretch`, and the number for lapses, say beside the tolerated ticks (docs/CALIBRATING.md, "Step by step")."""
+    stretch, lapse = int(played.limits["stretch"]), lapse_stretch(played)
+    lasts = ("by this calibration an excess of torque lasts "
+             f"{stretch} ticks in a row at the most, under at most one listed fault")
+    if played.limits["peak"] == "0":
+        head, text = "Nothing is shown.", "By this calibration no torque of the bench's engines is an excess (peak 0)."
+    elif tolerant is None:
+        head, text = "Not judged:", f"{lasts}, and how many are tolerated wasn't said."
+    elif stretch > tolerant:
+        head, text = "It doesn't fit:", f"{lasts}, and only {tolerant} are tolerated."
+    elif lapse is None or lapse > tolerant:
+        head = "It fits under listed faults, but not under lapses:"
+        text = f"{lasts}, and {tolerant} are tolerated. Under lapses, which aren't listed, {lapse_said(lapse)}."
+    else:
+        head, text = "It fits:", f"{lasts}, and {tolerant} are tolerated."
+    return paragraph(Html(f"<strong>{shown(head)}</strong> {shown(text)}"), "verdict")
+
+
+def tolerated(tolerant):
+    """T, and where it comes from."""
+    if tolerant is None:
+        said = f"wasn't said ({code('--tolerant TICKS')} says it)"
+    else:
+        said = f"is {tolerant}, as whoever made this page said by {code(f'--tolerant {tolerant}')}; nothing here checks it"
+    return paragraph(Html(f"T, how many ticks in a row are tolerated, {said}. docs/CALIBRATING.md, &quot;Step by step&quot;, "
+                          "works it out of the fault tolerant time."))
+
+
+def lapse_said(lapse):
+    return "no bound is known" if lapse is None else f"it is proved only that it lasts {lapse} at the most"
+
+
+def warnings(played):
+    lapse = lapse_stretch(played)
+    under = lapse_said(lapse) if lapse is None else f"an excess lasts {lapse} ticks in a row at the most"
+    yield paragraph(Html("The verdict holds of a unit that meets the <a href=\"#assumptions\">assumptions</a>. Under lapses, "
+                         f"which aren't listed, {under}. An excess in bursts may never be confirmed, and then it may go on "
+                         "(A11)."))
+    if is_own(played.version):
+        yield paragraph(own_warning("page"), "warning own")
+    beyond = list(beyond_limits(played))
+    if beyond:
+        yield paragraph(f"Against what is proved, more than limits allow: {named(beyond)}.", "warning")
+
+
+def beyond_limits(played):
+    """What is greater than a limit that is proved: there is none, unless the program isn't the proved one."""
+    for row in played.rows:
+        for name in ("peak",) if row["class"] == "lapse" else ("reaction", "stretch", "peak"):
+            if int(row[name] or 0) > int(played.limits[name]):
+                yield f"{name} of {row['run']}"
+    for sweep in played.sweeps:
+        for kind, reaction in sweep.reactions.items():
+            if kind != "lapse" and (reaction or 0) > int(played.limits["reaction"]):
+                yield f"reaction of {kind} in the sweep of {sweep.runs[0]}"
+
+
+def named(names):
+    names = list(names)
+    return ", ".join(names[:MOST_NAMES]) + (f" and {len(names) - MOST_NAMES} more" if len(names) > MOST_NAMES else "")
+
+
+def greatest(rows, column):
+    """The greatest number of a column, and the first run that has it."""
+    row = max(rows, key=lambda row: int(row[column] or -1), default=None)
+    return f"{row[column]} ({row['run']})" if row and row[column] else "none"
+
+
+def swept_most(sweeps):
+    reactions = (most for sweep in sweeps for kind, most in sweep.reactions.items() if kind != "lapse")
+    return max((most for most in reactions if most is not None), default="none")
+
+
+def summary(played):
+    """What the runs come to."""
+    listed = [row for row in played.rows if row["class"] not in ("none", "lapse")]
+    bounded = [row for row in played.rows if row["class"] != "lapse"]
+    sound = [row for row in bounded if row["class"] == "none"]
+    shows = [row["run"] for row in listed if not lacking(row)]
+    cut = [row["run"] for row in sound if row["cut"]]
+    limits = played.limits
+    yield "<ul>"
+    for line in (
+            f"Runs: {len(played.rows)}; without a fault {len(sound)}, under a listed fault {len(listed)}, "
+            f"under a lapse {len(played.rows) - len(bounded)}.",
+            f"Greatest reaction, without lapses: {greatest(bounded, 'reaction')}; of the sweeps {swept_most(played.sweeps)}; "
+            f"R is {limits['reaction']}.",
+            f"Longest excess, without lapses: {greatest(bounded, 'stretch')} ticks; {limits['stretch']} is the most.",
+            f"Greatest torque above permitted torque and threshold: {greatest(played.rows, 'peak')} tenths of Nm; "
+            f"{limits['peak']} is the most.",
+            f"Runs that show that R is kept under their fault: {len(shows)} of {len(played.rows)}"
+            + (f", {named(shows)}." if shows else "."),
+            f"Runs without a fault that were cut: {named(cut) or 'none'}."):
+        yield f"<li>{shown(line)}</li>"
+    yield "</ul>"
+
+
+# The numbers
+
+
+def meanings(heading):
+    """What a table of docs/FORMATS.md says: (its first words, the cells of a row), row by row."""
+    for kind, lines in blocks_of(section_of(document("FORMATS.md"), heading)):
+        for cells in map(cells_of, lines[2:] if kind == "table" else []):
+            yield [word.strip("`").split()[0] for word in cells[0].split(", ")], cells
+
+
+def limits(played):
+    said = {names[0]: cells[1] for names, cells in meanings("The text of `limits`")}
+    rows = [(code(name), number, inline(said.get(name, ""))) for name, number in played.limits.items()]
+    yield from table("limits", ("Line", "Number", "What it says"), rows)
+
+
+def pair(row, name):
+    return f"{row[name]} at {row[f'{name}_at']}" if row[name] else ""
+
+
+def rows(played):
+    names, watched = ("run", "class", "onset", "fault", "acted", "off_at", "last_on"), ("first", "cut", "trap")
+    yield from table("table: what was found, and cut", (*names, *watched),
+                     [[*(row[name] for name in names), *(pair(row, name) for name in watched)] for row in played.rows], "data")
+    names = ("run", "confirmed", "stretch", "peak", "reaction", "bound", "settled")
+    yield from table("table: how long it took", (*names, "shows that R is kept"),
+                     [[*(row[name] for name in names), evidence(row)] for row in played.rows], "data")
+    yield paragraph("Whether a row shows that R is kept is told of a drive of one power cycle; of one with resets see its "
+                    "picture.")
+    yield from columns("The rows of `table`", played.rows)
+
+
+def evidence(row):
+    reason = lacking(row)
+    return f"no: {reason}" if reason else "yes"
+
+
+def columns(heading, rows):
+    """What docs/FORMATS.md says of the columns of these rows."""
+    lines = [map(inline, cells) for names, cells in meanings(heading) if set(names) <= set(rows[0])]
+    if lines:
+        yield from table("The columns", ("Column", "What stands in it"), lines)
+
+
+def margins(played):
+    weights = [(Html("<em>limit of the calibration</em>"), "", "", *(played.weights[watch] for watch in WATCHES), "")]
+    yield from table("margins: the greatest weights, and the surplus", ("run", "class", "onset", *WATCHES, "surplus"),
+                     weights + [tuple(row.values()) for row in played.margins], "data")
+    yield paragraph(Html("After a trip no more answers are sent, and each verdict without one is wrong: <code>answers</code> "
+                         "then says nothing, also where it is at its limit."))
+    yield from columns("The rows of `margins`", played.margins)
+
+
+# The pictures
+
+
+def sweeps(played):
+    yield paragraph("One drive span under one fault of each class, from each tick of a grid on. The run's own fault, and resets "
+                    "of its drive, don't count. A bar is the greatest reaction of the runs of a class.")
+    for place, sweep in enumerate(played.sweeps):
+        yield from sweep_part(place, sweep, int(played.limits["reaction"]))
+    left = len(list(played.groups())) - len(played.sweeps)
+    if left:
+        yield paragraph(f"{left} more drives, images, engines and slice plans weren't swept; {MOST_SWEEPS} are the most.",
+                        "warning")
+
+
+def sweep_part(place, sweep, bound):
+    title = f"{sweep.runs[0]}, every {sweep.step} ticks" if sweep.step > 1 else f"{sweep.runs[0]}, every tick"
+    listed = {kind: reaction for kind, reaction in sweep.reactions.items() if kind != "lapse" and reaction is not None}
+    most = max(listed.values(), default=None)
+    about = (f"The greatest reaction but under lapses is {most} ticks, of "
+             f"{', '.join(kind for kind in listed if listed[kind] == most)}. R is {bound}.")
+    yield f'<div class="swept">\n<h3>{shown(title)}</h3>'
+    if len(sweep.runs) > 1:
+        yield paragraph(f"The same of {named(sweep.runs[1:])}.")
+    if most is None:
+        yield paragraph("No run has a reaction, so there is no picture.")
+    else:
+        yield "<figure>"
+        yield from sweep_picture(f"sweep{place}", f"Greatest reactions of a sweep: {title}", about, sweep.reactions, bound)
+        yield "</figure>"
+    heads = ("class", *next(iter(sweep.counts.values())), "reaction")
+    yield from table("sweep: runs by what finds first, and the greatest reaction", heads,
+                     [(kind, *counts.values(), "none" if sweep.reactions[kind] is None else sweep.reactions[kind])
+                      for kind, counts in sweep.counts.items()], "data")
+    yield "</div>"
+
+
+def pictures(played):
+    for place, (row, (name, record)) in enumerate(zip(played.rows, played.records.items())):
+        run, resets = played.runs[name], played.resets(name)
+        yield f'<div class="run" id="run-{name}">'
+        yield f"<h3>{shown(name)}</h3>"
+        yield paragraph(Html(f"Drive {code(run['trace'])}, image {code(run['image'])}, {run.get('engine', 'gasoline')} engine"
+                             + (f", slices {code(run['slices'])}" if "slices" in run else "")
+                             + (f"; {shown(fault_said(row))}." if row["class"] != "none" else ".")))
+        yield '<div class="parts">\n<figure>'
+        yield from record_picture(f"run{place}", f"Run {name}: torque, permitted torque and threshold, excess, stages",
+                                  about_run(record, played.threshold), record, played.threshold, marks(record, row, resets))
+        yield "</figure>\n<div>"
+        yield from event_table(record, played.threshold, events(record, played.threshold, row, resets))
+        yield "</div>\n</div>\n</div>"
+
+
+def fault_said(row):
+    return f"fault {row['class']} from {row['onset']} on{', ' if row['fault'] else ''}{row['fault']}"
+
+
+def marks(record, row, resets):
+    """What stands above the picture of a run; of many marks the first."""
+    short = {"the fault begins": "fault", "an excess is confirmed": "confirmed", "R has passed since": "R passed"}
+    given = [(tick, f"{short.get(words, 'trap')} {tick}") for tick, words in given_ticks(row) if tick < len(record["on"])]
+    found = [(first, f"{watch} {first}") for first, _, watch in finds(record)]
+    return [*given, *found, *((tick, f"reset {tick}") for tick in resets)][:MOST_MARKS]
+
+
+def event_table(record, threshold, told):
+    """What happens in a run. Of many ticks those at which an excess only begins or ends are left out, and then the last."""
+    said = {}
+    for tick, words in told:
+        said.setdefault(tick, []).append(words)
+    ticks = list(said)
+    if len(ticks) > MOST_EVENTS:
+        ticks = [tick for tick in ticks if set(said[tick]) - {EXCESS, NO_EXCESS}] or ticks
+    rows = [(tick, "; ".join(said[tick]), record["torque"][tick], record["limit"][tick] + threshold,
+             "on" if record["on"][tick] else "off") for tick in ticks[:MOST_EVENTS]]
+    if not rows:
+        yield paragraph("Nothing happens.")
+        return
+    yield from table("What happens", ("tick", "what", "torque", "permitted and threshold", "stages"), rows, "events")
+    if len(said) > len(rows):
+        yield paragraph(f"{len(said) - len(rows)} more ticks at which something happens: see the record.")
+
+
+# What it rests on
+
+
+def assumptions(_):
+    yield from of_document(section_of(document("SAFETY.md"), "The assumptions"), "The assumptions")
+
+
+def claims(_):
+    yield from of_document(section_of(document("PROVED.md"), "The claims"), "The claims")
+    yield "<h3>Under which fault what holds</h3>"
+    yield from of_document(section_of(document("PROVED.md"), "Under which fault what holds"), "Under which fault what holds")
+
+
+def not_claimed(_):
+    for heading in ("What the laws don't say", "What is proved, tested and trusted"):
+        yield f"<h3>{shown(heading)}</h3>"
+        yield from of_document(section_of(document("SAFETY.md"), heading), heading)
+
+
+def provenance(played):
+    yield f"<p>Made at <time>{shown(played.date)}</time> by</p>"
+    yield "<ul>" + "".join(f"<li>{code(line)}</li>" for line in played.version) + "</ul>"
+    if not played.calibration:
+        yield paragraph("By the reference calibration, which is a part of the program.")
+    yield from table("Files", ("file", "bytes", "SHA-256"),
+                     [(code(name), size, code(total)) for name, (size, total, _) in played.sums.items()], "sums")
+    yield from table("Commands, each of which ended with 0", ("command", "SHA-256 of what it printed"),
+                     [(code(command), code(total)) for command, total in played.commands], "sums")
