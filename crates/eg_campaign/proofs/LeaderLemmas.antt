@@ -53,6 +53,16 @@ led-by_none inputs y = grind (arith, nat_tests)
 leader-same : (inputs : List RunInput) (x y : RunInput) → is_alike x y ≡ true → leader_in inputs x ≡ leader_in inputs y
 leader-same inputs x y h = λ i. position_or_len (λ z. is_alike-equality.congr x y z h i) inputs
 
+-- a run that is alone leads itself
+pub leader-alone : (inputs : List RunInput) → length inputs ≡ 1 → 0 ∷ [] ≡ map (leader_in inputs) inputs
+leader-alone [] alone = absurd (omega arith)
+leader-alone (x ∷ []) alone = ap (λ (n : ℕ). n ∷ []) (leads (is_alike x x) (is_alike-equality.refl x))
+  where
+    leads : (test : Bool) → test ≡ true → ◌≡◌ {A = ℕ} 0 (if not test then 1 else 0)
+    leads true so = refl
+    leads false so = absurd (let clash : false ≡ true = so in cc)
+leader-alone (x ∷ y ∷ more) alone = absurd (omega arith)
+
 module _ (inputs : List RunInput) (i : ℕ) (x : RunInput) (below : i < length inputs) (at : x ≡ get_or inputs i x) where
   -- a run leads itself, or one before it does
   leader-most : leader_in inputs x ≤ i

@@ -16,8 +16,13 @@ use std::collections::HashMap;
 pub(crate) fn leaders(alloc: Global, inputs: &[RunInput]) -> Result<Vec<usize>, NoMemory>
     ensures { IfOk result (λ all. all.items ≡ map (leader_in inputs.now) inputs.now) }
 {
-    let mut firsts = HashMap::new(alloc);
     let mut leaders = Vec::new(alloc);
+    // A run that is alone needs no key.
+    if inputs.len() == 1 {
+        leaders.push(0)?;
+        return Ok(leaders);
+    }
+    let mut firsts = HashMap::new(alloc);
     for i in 0..inputs.len() {
         let leader = first_or(&mut firsts, GroupKey::of(&inputs[i]), i)?;
         leaders.push(leader)?;

@@ -1,11 +1,12 @@
 -- How long a true excess lasts, one row more.
 use Rattle.std.proofs.Common.{◌≡◌, ◌∙◌, ◌+◌, ◌≤◌, ◌∷◌, [], inl, inr, List, ℕ, Bool, true, false, max, map, refl, ap, arith}
 use Rattle.std.specs.Prelude.{drop, if◌then◌else◌}
-use Rattle.std.proofs.lemmas.Bool.{cases_Bool}
+use Rattle.std.proofs.lemmas.Bool.{cases_Bool, ltb-false}
 use Rattle.eg_num.specs.Windows.{greatest_of}
 use Rattle.eg_record.specs.declared.row.Row.{Row}
 use Rattle.eg_record.specs.Spans.{this_span, spans_of}
-use Rattle.eg_record.specs.Excess.{true_excess, lasting, longest_in, stretch_of}
+use Rattle.eg_torque.specs.Excess.{is_excess}
+use Rattle.eg_record.specs.Excess.{true_excess, lasting, longest_in, stretch_of, above}
 use Rattle.eg_record.specs.RowMore.{lasts_with}
 use Rattle.eg_record.proofs.SpanLemmas.{this_span-fresh, this_span-goes_on}
 use Rattle.eg_record.proofs.ReactionLemmas.{earlier-fresh, earlier-goes_on, spans_of-last}
@@ -25,6 +26,25 @@ lasting-more t row rows = begins row.fresh
         ≡ (if true_excess t row then lasting t (if fresh then [] else this_span rows) + 1 else 0)
     begins true = refl
     begins false = refl
+
+-- how many rows last up to one, by whether it has a true excess
+pub lasts_with-by : (t : ℕ) (row : Row) (lasts number : ℕ) (bad : Bool) → bad ≡ true_excess t row →
+    number ≡ (if bad then (if row.fresh then 0 else lasts) + 1 else 0) → number ≡ lasts_with t row lasts
+unfolding lasts_with
+lasts_with-by t row lasts number bad is so = so ∙ ap (λ (b : Bool). if b then (if row.fresh then 0 else lasts) + 1 else 0) is
+
+-- where no row lasts up to one, it has no true excess, and doesn't lie above what is permitted
+pub lasts_with-none : (t : ℕ) (row : Row) (lasts : ℕ) → lasts_with t row lasts ≡ 0 → true_excess t row ≡ false
+unfolding lasts_with
+lasts_with-none t row lasts = none (true_excess t row)
+  where
+    none : (bad : Bool) → (if bad then (if row.fresh then 0 else lasts) + 1 else 0) ≡ 0 → bad ≡ false
+    none true lasting = absurd (omega arith)
+    none false lasting = refl
+
+pub above-none : (t : ℕ) (row : Row) → true_excess t row ≡ false → above t row ≡ 0
+unfolding true_excess is_excess above
+above-none t row none = let least = ltb-false (row.limit + t) row.torque none in omega arith
 
 -- no more rows than there are
 pub lasts_with-few : (t : ℕ) (row : Row) (lasts ticks : ℕ) → lasts ≤ ticks → lasts_with t row lasts ≤ ticks + 1

@@ -1,10 +1,9 @@
 // What is first in the rows of a run.
-ghost use Rattle.std.specs.Prelude.{◌≡◌, ◌<◌, reverse, if◌then◌else◌};
+ghost use Rattle.std.specs.Prelude.{◌≡◌, ◌<◌, ◌+◌, reverse, if◌then◌else◌};
 ghost use Rattle.eg_record.specs.Rows.{AreRows};
 ghost use Rattle.eg_record.specs.Detection.{cutting, first_detection, is_trip, DetectionLaw};
 ghost use Rattle.eg_record.specs.Stages.{is_off, first_off, OffLaw, LastOnLaw};
 ghost use Rattle.eg_record.specs.Excess.{above, true_excess, first_confirmed};
-ghost use Rattle.eg_record.specs.RowMore.{lasts_with};
 
 use crate::{Row, Watch};
 use eg_num::{Counter, Watches, Weights};
@@ -95,14 +94,13 @@ pub(crate) fn counter_at(row: &Row, counter: Counter) -> Counter
     if row.fresh { Counter::new() } else { counter }
 }
 
-/// How many rows in a row have a true excess up to this one, where `lasts` of them had one up to the row
-/// before it. None does where a span begins with this row.
-#[tactic(auto, unfolding(crate::specs::RowMore::lasts_with))]
-pub(crate) fn lasts_at(row: &Row, threshold: u16, lasts: u32) -> u32
+/// How many rows in a row have a true excess up to this one, where it has one or not, and `lasts` of them had
+/// one up to the row before it. None does where a span begins with this row.
+pub(crate) fn lasts_at(row: &Row, is_excess: bool, lasts: u32) -> u32
     requires { lasts < 20000 }
-    ensures { result ≡ lasts_with threshold row.now lasts }
+    ensures { result ≡ if is_excess then (if row.now.fresh then 0 else lasts) + 1 else 0 }
 {
-    if !is_excess(row, threshold) {
+    if !is_excess {
         return 0;
     }
     let before = if row.fresh { 0 } else { lasts };

@@ -1,9 +1,10 @@
 // The facts of a run.
 ghost use Rattle.std.specs.Prelude.{◌≡◌, ℕ, ◌<◌, List, [], IfOk, IsFalse, if◌then◌else◌, Some, None};
-ghost use Rattle.std.specs.Prelude.{option_map};
+ghost use Rattle.std.specs.Prelude.{false, max, option_map};
 ghost use Rattle.std.specs.Option.{option_or};
 ghost use Rattle.eg_num.specs.Windows.{WeightParts};
 ghost use Rattle.eg_record.specs.Detection.{cutting_at, detected_at, first_watch};
+ghost use Rattle.eg_record.specs.Excess.{true_excess, above};
 ghost use Rattle.eg_record.specs.Stages.{off_at};
 ghost use Rattle.eg_record.specs.Facts.{facts_of, reaction_by, reaction_in, summary_with};
 ghost use Rattle.eg_record.specs.RowMore.{facts_with};
@@ -98,7 +99,8 @@ impl Facts {
     /// have one.
     #[tactic(auto, unfolding(crate::specs::RowMore::facts_with, crate::specs::Stages::off_at))]
     pub(crate) fn add(&mut self, row: &Row, threshold: u16, is_confirmed: bool, lasts: u32)
-        requires { self.old.ticks < 20000 }
+        requires fewer { self.old.ticks < 20000 }
+        requires lasts { lasts ≡ 0 → true_excess threshold row.now ≡ false }
         ensures { self.new ≡ facts_with threshold row.now is_confirmed lasts self.old }
     {
         note_detection(&mut self.first, &row.found, row.tick);
@@ -106,9 +108,23 @@ impl Facts {
         note_tick(&mut self.off, row.tick, is_off(row));
         note_on(&mut self.last_on, row);
         note_tick(&mut self.confirmed, row.tick, is_confirmed);
-        self.stretch = self.stretch.max(lasts);
-        self.peak = self.peak.max(above(row, threshold));
+        self.note_excess(row, threshold, lasts);
         self.ticks += 1;
+    }
+
+    /// Notes how long the excess of a row lasts, and how great it is. There is none where it lasts for no
+    /// row.
+    fn note_excess(&mut self, row: &Row, threshold: u16, lasts: u32)
+        requires { lasts ≡ 0 → true_excess threshold row.now ≡ false }
+        ensures { self.new ≡ record self.old {
+          stretch = max self.old.stretch lasts;
+          peak = max self.old.peak (above threshold row.now);
+        } }
+    {
+        if lasts > 0 {
+            self.stretch = self.stretch.max(lasts);
+            self.peak = self.peak.max(above(row, threshold));
+        }
     }
 }
 

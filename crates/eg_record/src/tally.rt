@@ -78,7 +78,8 @@ impl Tally {
     }
 
     /// Feeds the row of the next tick. Its tick is the number of rows that were fed before, which is less
-    /// than 20,000.
+    /// than 20,000. It is inlined, so that a row need not be written to memory.
+    #[inline(always)]
     pub fn feed(&mut self, row: &Row)
         requires tick { row.now.tick ≡ self.old.facts.ticks }
         requires fewer { self.old.facts.ticks < 20000 }
@@ -88,10 +89,11 @@ impl Tally {
         // It stands for the rows that it stood for, whichever they are, and this one.
         ensures stands { (rows : List Row) → IsTallyOf self.old rows → IsTallyOf self.new (row.now ∷ rows) }
     {
+        let exceeds = is_excess(row, self.threshold);
         let mut counter = counter_at(row, self.counter);
-        let is_confirmed = counter.feed(&self.weights, is_excess(row, self.threshold));
+        let is_confirmed = counter.feed(&self.weights, exceeds);
         self.counter = counter;
-        self.lasts = lasts_at(row, self.threshold, self.lasts);
+        self.lasts = lasts_at(row, exceeds, self.lasts);
         self.facts
             .add(row, self.threshold, is_confirmed, self.lasts);
         self.spans.add(row, is_confirmed);

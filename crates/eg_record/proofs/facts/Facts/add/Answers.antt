@@ -1,7 +1,9 @@
-use Rattle.std.proofs.Common.{rules, ◌≡◌, ◌∙◌, sym, ap, ◌+◌, Bool, false, None, Some, max, refl}
+use Rattle.std.proofs.Common.{◌≡◌, ◌∙◌, sym, ap, ◌+◌, Bool, false, None, Some, max, refl}
 use Rattle.std.specs.Prelude.{Option, is_some, if◌then◌else◌}
 use Rattle.std.specs.Option.{option_or}
 use Rattle.eg_record.specs.Detection.{detected_at}
+use Rattle.eg_record.specs.declared.facts.Facts.{Facts}
+use Rattle.eg_record.specs.Excess.{above}
 use Rattle.eg_record.specs.Stages.{off_at}
 use Rattle.eg_record.specs.RowMore.{facts_with}
 use Rattle.eg_record.proofs.GivenLemmas.{option_or-none}
@@ -19,16 +21,14 @@ note_cut-requires c none =
 
 pub returns : goal.returns
 unfolding facts_with detected_at off_at
-returns c =
-    let stretch : c.max-self.result ≡ max c.args.self.now.stretch c.args.lasts = search rules in
-    let peak : c.max-self-2.result ≡ max c.args.self.now.peak c.above.result = search rules in
-    λ i. record {
+returns c = ap (λ (f : Facts). record f { ticks = f.ticks + 1 }) c.note_excess.ensures
+    ∙ (λ i. record {
       first = c.note_detection.ensures i;
       cut = c.note_cut.ensures i;
       off = (c.note_tick.ensures ∙ ap (λ (b : Bool). option_or c.args.self.now.off (if b then Some c.args.row.now.tick else None)) c.is_off.ensures) i;
       last_on = c.note_on.ensures i;
       confirmed = c.note_tick-2.ensures i;
-      stretch = stretch i;
-      peak = (peak ∙ ap (max c.args.self.now.peak) c.above.ensures) i;
+      stretch = max c.args.self.now.stretch c.args.lasts;
+      peak = max c.args.self.now.peak (above c.args.threshold c.args.row.now);
       ticks = c.args.self.now.ticks + 1;
-    }
+    })
