@@ -45,6 +45,9 @@ plans-Decides a b = slice_eq-Decides numbers-Decides a b (pointwise (pointwise n
 drives-Decides : (a b : List DriveRow) → Decides (pointwise is_same_row a b) (a ≡ b)
 drives-Decides a b = slice_eq-Decides same_row-Decides a b (pointwise is_same_row a b) refl
 
+pub same_rows : (a b : List DriveRow) → pointwise is_same_row a b ≡ true → a ≡ b
+same_rows a b h = (drives-Decides a b).0 h
+
 -- it decides four equations
 pub is_alike-Decides : (x y : RunInput) → Decides (is_alike x y) (AreAlike x y)
 unfolding is_alike

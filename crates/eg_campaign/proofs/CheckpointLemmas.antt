@@ -1,7 +1,7 @@
 -- What was played of a run, tick by tick: its rows and what they count, and what is kept of it.
-use Rattle.std.proofs.Common.{◌≡◌, ◌∙◌, refl, sym, ap, ap₂, subst, ℕ, zero, suc, ◌+◌, ◌-◌, ◌*◌, ◌/◌, ◌%◌, ◌^◌, ◌<◌, ◌≤◌, Bool, false, List, [], ◌∷◌, ◌++◌, take, drop, length, add-one, arith, Bor, Option, Some, None}
+use Rattle.std.proofs.Common.{◌≡◌, ◌∙◌, refl, sym, ap, ap₂, subst, ℕ, zero, suc, ◌+◌, ◌-◌, ◌*◌, ◌/◌, ◌%◌, ◌^◌, ◌<◌, ◌≤◌, Bool, true, false, List, [], ◌∷◌, ◌++◌, take, drop, length, add-one, arith, Bor, Option, Some, None}
 use Rattle.std.specs.Option.{option_copied}
-use Rattle.std.specs.Prelude.{slice_index_or, if◌then◌else◌, nat_lt, reverse}
+use Rattle.std.specs.Prelude.{slice_index_or, slice_set, if◌then◌else◌, nat_lt, reverse}
 use Rattle.std.proofs.Math.Seq.{take-length}
 use Rattle.std.proofs.lemmas.Bool.{lt-ltb}
 use Rattle.std.proofs.lemmas.Bool.Decides.{nat_tests}
@@ -29,13 +29,15 @@ use Rattle.eg_tick.proofs.RunLemmas.{counted, drive-at}
 use Rattle.eg_tick.proofs.FactLaws.{counted-next}
 use Rattle.eg_tick.proofs.BranchLemmas.{branch_of}
 use Rattle.eg_tick.proofs.BranchedRuns.{branch_at}
+use Rattle.std.specs.declared.alloc.Global.{Global}
+use Rattle.std.specs.declared.boxed.Box.{Box}
 use Rattle.eg_campaign.specs.declared.checkpoints.Played.{Played}
 use Rattle.eg_campaign.specs.declared.checkpoints.Shared.{Shared}
 use Rattle.eg_campaign.specs.declared.play.RunInput.{RunInput}
 use Rattle.eg_tick.specs.Counting.{count_with}
 use Rattle.eg_campaign.specs.Plays.{run_with}
 use Rattle.eg_campaign.specs.Groups.{faultless, checkpoint_ticks, checkpoint, own_under}
-use Rattle.eg_campaign.specs.Checkpoints.{run_under, PlaysInput, HasPlayed, rows_between, HasMade, AreCheckpoints, IsSharedBy}
+use Rattle.eg_campaign.specs.Checkpoints.{run_under, PlaysInput, HasPlayed, rows_between, HasMade, IsKept, IsWantedAt, IsWantedFor, AreCheckpoints, IsSharedBy}
 use Rattle.eg_tick.proofs.CountLemmas.{front-take, counts_reverse}
 
 -- ---- counts ----
@@ -167,22 +169,28 @@ module _ {S E : Type 0} (weighed : Bool) (b : BenchEngine S) (come_to : ComeTo S
 
   -- ---- what is kept ----
 
-  pub kept_none : {M : Type 0} (kept : List (Played E M)) → kept ≡ [] → AreCheckpoints weighed b come_to r 0 kept
-  kept_none kept none = subst (AreCheckpoints weighed b come_to r 0) (sym none) (record {
+  pub kept_none : {M : Type 0} (wanted : List Bool) (kept : List (Option (Box (Played E M) Global))) → kept ≡ [] →
+      AreCheckpoints weighed b come_to r wanted 0 kept
+  kept_none wanted kept none = subst (AreCheckpoints weighed b come_to r wanted 0) (sym none) (record {
     enough = omega arith;
     no_more = omega arith;
-    each = λ k below d. absurd (omega (arith, below));
+    each = λ k below d wants. absurd (omega (arith, below));
   })
 
-  pub kept_more : {M : Type 0} (t : ℕ) (kept after : List (Played E M)) (one : Played E M) → after ≡ kept ++ one ∷ [] → t % checkpoint_ticks ≡ 0 →
-      HasPlayed weighed b come_to r t one → AreCheckpoints weighed b come_to r t kept → AreCheckpoints weighed b come_to r (t + 1) after
-  kept_more t kept after one pushed whole played are =
+  -- one more at tick t, where it is wanted
+  pub kept_more : {M : Type 0} (wanted : List Bool) (t : ℕ) (kept after : List (Option (Box (Played E M) Global))) (one : Option (Box (Played E M) Global)) →
+      after ≡ kept ++ one ∷ [] → t % checkpoint_ticks ≡ 0 →
+      (IsWantedAt wanted (t / checkpoint_ticks) → IsKept weighed b come_to r t one) →
+      AreCheckpoints weighed b come_to r wanted t kept → AreCheckpoints weighed b come_to r wanted (t + 1) after
+  kept_more wanted t kept after one pushed whole played are =
       let long : length (kept ++ one ∷ []) ≡ length kept + 1 = length-append kept (one ∷ []) in
       let here : t ≡ length kept * checkpoint_ticks = omega (arith, whole, are.enough, are.no_more) in
-      subst (AreCheckpoints weighed b come_to r (t + 1)) (sym pushed) (record {
+      let place : t / checkpoint_ticks ≡ length kept = omega (arith, here) in
+      subst (AreCheckpoints weighed b come_to r wanted (t + 1)) (sym pushed) (record {
         enough = omega (arith, long, here);
         no_more = omega (arith, long, here);
-        each = each-more (λ k. HasPlayed weighed b come_to r (k * checkpoint_ticks)) kept one are.each (subst (λ n. HasPlayed weighed b come_to r n one) here played);
+        each = each-more (λ k one. IsWantedAt wanted k → IsKept weighed b come_to r (k * checkpoint_ticks) one) kept one are.each
+            (λ wants. subst (λ n. IsKept weighed b come_to r n one) here (played (subst (IsWantedAt wanted) (sym place) wants)));
       })
 
 -- ---- branches ----
@@ -218,18 +226,24 @@ module _ {S E : Type 0} (weighed : Bool) (b : BenchEngine S) (come_to : ComeTo S
 -- the run of an input under its fault, from the last checkpoint on that isn't after the onset
 module _ {S E : Type 0} (weighed : Bool) (b : BenchEngine S) (come_to : ComeTo S E) (cal : CalibrationParts) (input : RunInput) (fault : Fault)
     (is : input.plan.fault ≡ Some fault) (within : fault.onset < length input.drive) where
-  pub played_under : (shared : Shared E) → IsSharedBy weighed b come_to (run_with cal (faultless input)).run shared →
-      (copy : Fault) → copy ≡ fault → {N : Type 0} (from : Played E (List ℕ)) (branch : Played E N) → from ≡ slice_index_or shared.checkpoints.items (fault.onset / checkpoint_ticks) from →
-      ((r : Run) (t : ℕ) → HasPlayed weighed b come_to r t from → HasPlayed weighed b come_to (run_under (Some copy) r) t branch) →
-      HasPlayed weighed b come_to (run_with cal input).run (fault.onset / checkpoint_ticks * checkpoint_ticks) branch
-  played_under shared kept copy same from branch at branched =
+  pub kept_under : (shared : Shared E) → IsSharedBy weighed b come_to (run_with cal (faultless input)).run shared →
+      IsWantedFor shared.wanted (Some fault) → (d : Option (Box (Played E (List ℕ)) Global)) →
+      IsKept weighed b come_to (run_with cal (faultless input)).run (fault.onset / checkpoint_ticks * checkpoint_ticks)
+      (slice_index_or shared.checkpoints.items (fault.onset / checkpoint_ticks) d)
+  kept_under shared kept wants d =
       let place : ℕ = fault.onset / checkpoint_ticks in
       let below : place < length shared.checkpoints.items = omega (arith, within, kept.checkpoints.enough) in
+      kept.checkpoints.each place below d wants
+
+  pub played_under : (copy : Fault) → copy ≡ fault → {N : Type 0} (from : Played E (List ℕ)) (branch : Played E N) →
+      HasPlayed weighed b come_to (run_with cal (faultless input)).run (fault.onset / checkpoint_ticks * checkpoint_ticks) from →
+      ((r : Run) (t : ℕ) → HasPlayed weighed b come_to r t from → HasPlayed weighed b come_to (run_under (Some copy) r) t branch) →
+      HasPlayed weighed b come_to (run_with cal input).run (fault.onset / checkpoint_ticks * checkpoint_ticks) branch
+  played_under copy same from branch played branched =
+      let place : ℕ = fault.onset / checkpoint_ticks in
       subst (λ f. HasPlayed weighed b come_to (run_by cal input.image f input.plan.plan input.drive) (place * checkpoint_ticks) branch)
       (ap (λ f. Some f) same ∙ sym is)
-      (branched (run_with cal (faultless input)).run (place * checkpoint_ticks)
-      (subst (HasPlayed weighed b come_to (run_with cal (faultless input)).run (place * checkpoint_ticks)) (sym at)
-      (kept.checkpoints.each place below from)))
+      (branched (run_with cal (faultless input)).run (place * checkpoint_ticks) played)
 
   -- the rows that are made for it
   pub rows-are : (rows : List Row) → rows ≡ reverse (record_rows b (run_with cal input).run) →
@@ -253,3 +267,16 @@ makes_none ticks (Some f) rows from = ap (λ t. if t then drop (checkpoint f.ons
   where
     not-lt : ticks ≤ f.onset → nat_lt f.onset ticks ≡ false
     not-lt l = grind (arith, nat_tests)
+
+-- ---- which are wanted ----
+
+-- once one is wanted, it is
+set_here : (wanted : List Bool) (k : ℕ) → k < length wanted → IsWantedAt (slice_set wanted k true) k
+set_here [] k below = absurd (omega (arith, below))
+set_here (x ∷ wanted) zero below = refl
+set_here (x ∷ wanted) (suc k) below = set_here wanted k (omega (arith, below))
+
+pub wants_here : (wanted after : List Bool) (fault : Fault) → fault.onset / checkpoint_ticks < length wanted →
+    after ≡ slice_set wanted (fault.onset / checkpoint_ticks) true → IsWantedFor after (Some fault)
+wants_here wanted after fault below is = subst (λ w. IsWantedAt w (fault.onset / checkpoint_ticks)) (sym is)
+    (set_here wanted (fault.onset / checkpoint_ticks) below)

@@ -1,6 +1,8 @@
 -- Outside the headline. From where runs under faults go on: what was played of a run up to a tick, and
 -- what is kept of the run without a fault.
-use Rattle.std.specs.Prelude.{◌≡◌, ℕ, Bool, ◌+◌, ◌*◌, ◌-◌, ◌≤◌, ◌<◌, List, take, length, Option, slice_index_or}
+use Rattle.std.specs.Prelude.{◌≡◌, ℕ, Bool, false, ◌+◌, ◌*◌, ◌-◌, ◌/◌, ◌≤◌, ◌<◌, List, take, length, Option, Some, None, IsTrue, slice_index_or}
+use Rattle.std.specs.declared.alloc.Global.{Global}
+use Rattle.std.specs.declared.boxed.Box.{Box}
 use Rattle.eg_fault.specs.declared.class.Fault.{Fault}
 use Rattle.eg_values.specs.Calibration.{CalibrationParts}
 use Rattle.eg_record.specs.declared.row.Row.{Row}
@@ -59,18 +61,39 @@ pub record HasMade {S E M : Type 0} (weighed : Bool) (b : BenchEngine S) (come_t
 
 -- ---- what is kept of it ----
 
--- What is kept of the first n ticks of a run: what was played at tick 0, and at each hundredth tick below n.
+-- what was played of a run up to tick t is kept here
+abbrev pub IsKept : {S E M : Type 0} → (weighed : Bool) → BenchEngine S → ComeTo S E → Run → (t : ℕ)
+    → Option (Box (Played E M) Global) → Type 0
+IsKept weighed b come_to r t (Some kept) = HasPlayed weighed b come_to r t kept.value
+IsKept weighed b come_to r t None = ⊥
+
+-- a checkpoint is wanted at the k-th hundredth tick
+abbrev pub IsWantedAt : List Bool → ℕ → Type 0
+IsWantedAt wanted k = IsTrue (slice_index_or wanted k false)
+
+-- one is wanted where a run under this fault goes on from
+abbrev pub IsWantedFor : List Bool → Option Fault → Type 0
+IsWantedFor wanted (Some fault) = IsWantedAt wanted (fault.onset / checkpoint_ticks)
+IsWantedFor wanted None = Unit {0}
+
+-- of the first n inputs, those that the run at this index leads have what they want
+abbrev pub AreWantedIn : List RunInput → (leaders : List ℕ) → (index n : ℕ) → (wanted : List Bool) → Type 0
+AreWantedIn inputs leaders index n wanted = (i : ℕ) → i < n → slice_index_or leaders i 0 ≡ index →
+    (input : RunInput) → input ≡ slice_index_or inputs i input → IsWantedFor wanted input.plan.fault
+
+-- What is kept of the first n ticks of a run: what was played at tick 0, and at each hundredth tick below n,
+-- where that is wanted.
 pub record AreCheckpoints {S E M : Type 0} (weighed : Bool) (b : BenchEngine S) (come_to : ComeTo S E)
-    (r : Run) (n : ℕ) (kept : List (Played E M)) : Type 0 where
+    (r : Run) (wanted : List Bool) (n : ℕ) (kept : List (Option (Box (Played E M) Global))) : Type 0 where
   pub enough : n ≤ length kept * checkpoint_ticks
   pub no_more : length kept * checkpoint_ticks < n + checkpoint_ticks
-  pub each : (k : ℕ) → k < length kept → (d : Played E M) →
-      HasPlayed weighed b come_to r (k * checkpoint_ticks) (slice_index_or kept k d)
+  pub each : (k : ℕ) → k < length kept → (d : Option (Box (Played E M) Global)) → IsWantedAt wanted k →
+      IsKept weighed b come_to r (k * checkpoint_ticks) (slice_index_or kept k d)
 
 -- what is shared of a run: its checkpoints, and what is told of it
 pub record IsSharedBy {S E : Type 0} (weighed : Bool) (b : BenchEngine S) (come_to : ComeTo S E) (r : Run)
     (shared : Shared E) : Type 0 where
-  pub checkpoints : AreCheckpoints weighed b come_to r (length r.drive) shared.checkpoints.items
+  pub checkpoints : AreCheckpoints weighed b come_to r shared.wanted (length r.drive) shared.checkpoints.items
   pub told : IsToldOf weighed b r shared.told
 
 -- ---- runs of a group ----

@@ -1,7 +1,7 @@
 -- Runs of one drive, image, slice plan and engine are a group, in which a run with a fault goes on from a
 -- tick of the run without one. Up to the onset of its fault each of them is the run without a fault. So where
--- a group has more than one run, that run is kept at each hundredth tick, and a run with a fault is made from
--- the last of these ticks on that isn't after the onset.
+-- a group has more than one run, that run is kept at hundredth ticks, and a run with a fault is made from the
+-- last of all hundredth ticks on that isn't after the onset.
 use Rattle.std.specs.Prelude.{◌≡◌, ℕ, ◌*◌, ◌/◌, Bool, true, false, ◌==◌, ◌&&◌, nat_lt, nat_eq, List, [], ◌∷◌, ◌++◌, map, filter, drop, length, reverse, Option, Some, None, if◌then◌else◌, Result, IfOk}
 use Rattle.std.specs.Bool.{beq}
 use Rattle.std.specs.List.{flat_map, list_any, position_or_len}
@@ -83,7 +83,7 @@ faultless x = input_under None x
 abbrev pub inputs_under : RunInput → List Fault → List RunInput
 inputs_under x faults = map (λ fault. input_under (Some fault) x) faults
 
--- a run without a fault is kept at tick 0, and this many ticks later again, and so on
+-- a run without a fault may be kept at tick 0, and this many ticks later again, and so on
 abbrev pub checkpoint_ticks : ℕ
 checkpoint_ticks = 100
 

@@ -1,5 +1,5 @@
 // The run without a fault of a group, and runs under faults that go on from it.
-ghost use Rattle.std.specs.Prelude.{◌≡◌, ℕ, ◌+◌, ◌%◌, ◌^◌, ◌≤◌, ◌<◌, Bool, false, None, length, reverse, IfOk, OnOk, OnErr, IsOk, IsTrue};
+ghost use Rattle.std.specs.Prelude.{◌≡◌, ℕ, ◌+◌, ◌%◌, ◌/◌, ◌^◌, ◌≤◌, ◌<◌, Bool, List, slice_index_or, false, None, length, reverse, IfOk, OnOk, OnErr, IsOk, IsTrue};
 ghost use Rattle.std.specs.Option.{option_copied};
 ghost use Rattle.eg_fault.specs.Faults.{IsNoneOrValid};
 ghost use Rattle.eg_values.specs.Calibration.{CalibrationParts};
@@ -11,10 +11,11 @@ ghost use Rattle.eg_tick.specs.Facts.{IsToldOf};
 ghost use Rattle.eg_tick.specs.Counting.{count_with, AreCounted};
 ghost use Rattle.eg_campaign.specs.Plays.{IsPlayable, run_with};
 ghost use Rattle.eg_campaign.specs.Groups.{faultless, checkpoint_ticks, input_under, own_on};
-ghost use Rattle.eg_campaign.specs.Checkpoints.{run_under, PlaysInput, HasPlayed, HasMade, AreCheckpoints, IsSharedFor};
+ghost use Rattle.eg_campaign.specs.Checkpoints.{run_under, PlaysInput, HasPlayed, HasMade, AreCheckpoints, IsSharedFor, IsWantedFor};
 
 use crate::RunInput;
 use crate::counting::count_none;
+use crate::wanted::{Wanted, is_wanted};
 use eg_base::NoMemory;
 use eg_fault::Fault;
 use eg_guard::{FlatMemory, Guarded};
@@ -43,21 +44,24 @@ pub(crate) type Checkpoint<E> = Played<E, PagedMemory>;
 /// The run without a fault of a group: what is told of it, and where runs under faults go on from.
 #[derive(Drop)]
 pub(crate) struct Shared<E: BenchedEngine + CopyEngine> {
-    pub(crate) checkpoints: Vec<Checkpoint<E>>,
+    pub(crate) checkpoints: Vec<Option<Box<Checkpoint<E>>>>,
+    pub(crate) wanted: Wanted,
     pub(crate) told: RunFacts,
 }
 
-/// Plays the run of an input without its fault, and keeps it at each hundredth tick: up to its onset a run
-/// under a fault is the run without one (docs/CONCEPT.md, "Faults"). The ticks are counted in `steps`.
-/// NoMemory is its one refusal. Where the run is `WEIGHED`, it tells how near it came to a cut.
+/// Plays the run of an input without its fault, and keeps it at each hundredth tick that is wanted: up to its
+/// onset a run under a fault is the run without one (docs/CONCEPT.md, "Faults"). The ticks are counted in
+/// `steps`. NoMemory is its one refusal. Where the run is `WEIGHED`, it tells how near it came to a cut.
 pub(crate) fn share<E: BenchedEngine + CopyEngine, const WEIGHED: bool>(
     alloc: Global,
     calibration: &Calibration,
     input: &RunInput,
+    wanted: &Wanted,
     steps: &mut Ticks,
 ) -> Result<Shared<E>, NoMemory>
     requires { IsPlayable input.now }
     ensures shared { IfOk result (IsSharedFor WEIGHED E.bench E.come_to calibration.now input.now) }
+    ensures wanted { IfOk result (λ shared. shared.wanted ≡ wanted.now) }
     ensures counted { AreCounted
         (reverse (record_rows E.bench (run_with calibration.now (faultless input.now)).run))
         steps.old steps.new result }
@@ -67,11 +71,12 @@ pub(crate) fn share<E: BenchedEngine + CopyEngine, const WEIGHED: bool>(
     let mut played = begin::<E>(alloc, calibration, input)?;
     let mut checkpoints = Vec::new(alloc);
     for tick in 0..input.drive.as_slice().len() {
-        keep(alloc, &mut checkpoints, &played, tick)?;
+        keep(alloc, wanted, &mut checkpoints, &played, tick)?;
         play_tick::<E, PagedMemory, WEIGHED>(&mut played, input, tick, steps)?;
     }
     Ok(Shared {
         checkpoints,
+        wanted: *wanted,
         told: told_so_far(&played),
     })
 }
@@ -103,44 +108,66 @@ fn begin<E: BenchedEngine + CopyEngine>(
     })
 }
 
-/// Keeps what was played where the next tick is a hundredth.
+/// Keeps what was played where the next tick is a hundredth at which that is wanted.
 fn keep<E: BenchedEngine + CopyEngine>(
     alloc: Global,
-    kept: &mut Vec<Checkpoint<E>>,
+    wanted: &Wanted,
+    kept: &mut Vec<Option<Box<Checkpoint<E>>>>,
     played: &Checkpoint<E>,
     tick: usize,
 ) -> Result<(), NoMemory>
     requires { played.now.controller.kept.fault ≡ None }
     ensures { (weighed : Bool) (r : Run) → HasPlayed weighed E.bench E.come_to r tick played.now →
-        AreCheckpoints weighed E.bench E.come_to r tick kept.old.items →
-        OnOk result (AreCheckpoints weighed E.bench E.come_to r (tick + 1) kept.new.items) }
+        AreCheckpoints weighed E.bench E.come_to r wanted.now tick kept.old.items →
+        OnOk result (AreCheckpoints weighed E.bench E.come_to r wanted.now (tick + 1) kept.new.items) }
 {
     if tick % CHECKPOINT_TICKS != 0 {
         return Ok(());
     }
-    keep_copy(alloc, kept, played)
+    if is_wanted(wanted, tick / CHECKPOINT_TICKS) {
+        keep_copy(alloc, kept, played)
+    } else {
+        keep_none(kept)
+    }
+}
+
+/// Keeps nothing at a hundredth tick.
+fn keep_none<E: BenchedEngine + CopyEngine>(
+    kept: &mut Vec<Option<Box<Checkpoint<E>>>>,
+) -> Result<(), NoMemory>
+    ensures { (weighed : Bool) (r : Run) (wanted : List Bool) (t : ℕ) → t % checkpoint_ticks ≡ 0 →
+        slice_index_or wanted (t / checkpoint_ticks) false ≡ false →
+        AreCheckpoints weighed E.bench E.come_to r wanted t kept.old.items →
+        OnOk result (AreCheckpoints weighed E.bench E.come_to r wanted (t + 1) kept.new.items) }
+{
+    kept.push(None)?;
+    Ok(())
 }
 
 /// Keeps what was played. It isn't inlined, so that its large locals are set to 0 at a hundredth tick alone.
 #[inline(never)]
 fn keep_copy<E: BenchedEngine + CopyEngine>(
     alloc: Global,
-    kept: &mut Vec<Checkpoint<E>>,
+    kept: &mut Vec<Option<Box<Checkpoint<E>>>>,
     played: &Checkpoint<E>,
 ) -> Result<(), NoMemory>
     requires { played.now.controller.kept.fault ≡ None }
-    ensures { (weighed : Bool) (r : Run) (t : ℕ) → t % checkpoint_ticks ≡ 0 →
+    ensures { (weighed : Bool) (r : Run) (wanted : List Bool) (t : ℕ) → t % checkpoint_ticks ≡ 0 →
         HasPlayed weighed E.bench E.come_to r t played.now →
-        AreCheckpoints weighed E.bench E.come_to r t kept.old.items →
-        OnOk result (AreCheckpoints weighed E.bench E.come_to r (t + 1) kept.new.items) }
+        AreCheckpoints weighed E.bench E.come_to r wanted t kept.old.items →
+        OnOk result (AreCheckpoints weighed E.bench E.come_to r wanted (t + 1) kept.new.items) }
 {
     let controller = played.controller.branch(alloc, None)?;
     let (tally, margins) = (played.tally, played.margins);
-    kept.push(Played {
-        controller,
-        tally,
-        margins,
-    })?;
+    let one = Box::new(
+        alloc,
+        Played {
+            controller,
+            tally,
+            margins,
+        },
+    )?;
+    kept.push(Some(one))?;
     Ok(())
 }
 
@@ -207,6 +234,7 @@ pub(crate) fn play_from<E: BenchedEngine + CopyEngine, const WEIGHED: bool>(
 ) -> RunFacts
     requires playable { IsPlayable input.now }
     requires valid { IsNoneOrValid (option_copied fault) }
+    requires wanted { IsWantedFor shared.now.wanted (option_copied fault) }
     requires shared { (cal : CalibrationParts)
         × IsSharedFor WEIGHED E.bench E.come_to cal input.now shared.now }
     ensures told { (cal : CalibrationParts) →
@@ -227,7 +255,10 @@ pub(crate) fn play_from<E: BenchedEngine + CopyEngine, const WEIGHED: bool>(
         return shared.told;
     }
     let index = fault.onset as usize / CHECKPOINT_TICKS;
-    let mut played = go_on(&shared.checkpoints[index], Some(fault.copy()));
+    let Some(kept) = &shared.checkpoints[index] else {
+        unreachable!("it is wanted")
+    };
+    let mut played = go_on(&**kept, Some(fault.copy()));
     play_on::<E, WEIGHED>(&mut played, input, index * CHECKPOINT_TICKS, steps);
     told_so_far(&played)
 }

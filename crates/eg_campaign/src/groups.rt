@@ -10,6 +10,7 @@ use crate::checkpoints::{play_from, share};
 use crate::counting::count_none;
 use crate::leading::leaders;
 use crate::play::tell_one;
+use crate::wanted::wanted_in;
 use eg_base::NoMemory;
 use eg_diesel::DieselEngine;
 use eg_plan::EngineKind;
@@ -145,7 +146,8 @@ fn play_group<E: BenchedEngine + CopyEngine, const WEIGHED: bool>(
     // Called for its clause alone.
     count_none(steps);
     let input = &inputs[index];
-    let shared = share::<E, WEIGHED>(alloc, calibration, input, steps)?;
+    let wanted = wanted_in(inputs, leaders, index);
+    let shared = share::<E, WEIGHED>(alloc, calibration, input, &wanted, steps)?;
     for i in 0..inputs.len() {
         if leaders[i] != index {
             continue;

@@ -110,7 +110,7 @@ fn number_of_plan(number: u64, rows: &[Slices]) -> u64
 }
 
 /// A number and the rows of a drive, made one.
-fn number_of_drive(number: u64, rows: &[Drive]) -> u64
+pub(crate) fn number_of_drive(number: u64, rows: &[Drive]) -> u64
     ensures { result ≡ fold (λ all row. mixed all (row_number row)) number rows.now }
 {
     let mut all = number;

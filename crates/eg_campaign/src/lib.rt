@@ -7,13 +7,17 @@
 mod alike;
 mod checkpoints;
 mod counting;
+mod drives;
 mod groups;
 mod key;
 mod leading;
 mod play;
 mod recording;
+mod shared_items;
 mod under;
+mod wanted;
 
+pub use drives::Drives;
 pub use eg_plan::{
     CampaignFault, EngineKind, RunKey, RunPlan, accepted_files_keep_the_rules, add_ticks,
     read_campaign, usual_slices,
@@ -21,4 +25,5 @@ pub use eg_plan::{
 pub use groups::told_all;
 pub use play::{RunInput, facts_all, run_all};
 pub use recording::{RecordStop, record_into};
+pub use shared_items::SharedItems;
 pub use under::facts_under;

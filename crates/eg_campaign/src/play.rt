@@ -3,6 +3,7 @@ ghost use Rattle.std.specs.Prelude.{◌≡◌, All, map, IfOk};
 ghost use Rattle.eg_campaign.specs.Plays.{IsPlayable, IsPlayed, bench_of, run_with, report_with};
 ghost use Rattle.eg_campaign.specs.Groups.{AreTold, rows_made, told_with, facts_by};
 
+use crate::SharedItems;
 use crate::groups::told_all;
 use eg_answer::reaction;
 use eg_base::{Items, NoMemory};
@@ -20,8 +21,8 @@ use std::alloc::Global;
 pub struct RunInput {
     /// What the campaign says of it.
     pub plan: RunPlan,
-    /// Its drive: a row for each tick, 1 to 20,000 of them.
-    pub drive: Items<Drive>,
+    /// Its drive: a row for each tick, 1 to 20,000 of them. Other runs may share it.
+    pub drive: SharedItems<Drive>,
     /// The words of level 1's image, at most 1,024 of them.
     pub image: Items<u16>,
 }

@@ -8,6 +8,7 @@ ghost use Rattle.eg_campaign.specs.Groups.{AreTold, input_under, inputs_under, r
 use crate::RunInput;
 use crate::checkpoints::{play_from, share};
 use crate::counting::count_none;
+use crate::wanted::wanted_under;
 use eg_base::NoMemory;
 use eg_diesel::DieselEngine;
 use eg_fault::Fault;
@@ -61,7 +62,8 @@ fn facts_on<E: BenchedEngine + CopyEngine>(
 {
     // Called for its clause alone.
     count_none(steps);
-    let shared = share::<E, false>(alloc, calibration, input, steps)?;
+    let wanted = wanted_under(faults);
+    let shared = share::<E, false>(alloc, calibration, input, &wanted, steps)?;
     let mut facts = Vec::new(alloc);
     for fault in faults {
         let told = play_from::<E, false>(&shared, input, Some(fault), steps);

@@ -1,7 +1,7 @@
 -- A campaign file says its runs, a trace file the drive of a run, or each has a first refusal: of its size,
 -- or by the rules of its kind. What an image file says stands in `eg_outcome`.
-use Rattle.std.specs.Prelude.{ℕ, List, Result}
-use Rattle.eg_num.specs.Drive.{DriveRow}
+use Rattle.std.specs.Prelude.{◌≡◌, ℕ, ◌≤◌, List, length, All, Result, Ok}
+use Rattle.eg_num.specs.Drive.{DriveRow, IsDrive}
 use Rattle.eg_toml.specs.Documents.{document_of}
 use Rattle.eg_input.specs.Records.{records_of}
 use Rattle.eg_input.specs.DriveTrace.{drive_rows}
@@ -20,6 +20,13 @@ campaign_said bytes = campaign_of (document_of bytes)
 -- the runs that the bytes of a campaign file say, or why they are refused
 abbrev pub campaign_or_refusal : List ℕ → Result (List RunPlan) Refusal
 campaign_or_refusal bytes = refused refusal.Campaign (campaign_said bytes)
+
+-- these bytes of a trace say this drive, and it may be played
+pub record IsTraceOf (bytes : List ℕ) (drive : List DriveRow) : Type 0 where
+  pub says : drive_rows (records_of bytes) ≡ Ok drive
+  pub some : 1 ≤ length drive
+  pub most : length drive ≤ 20000
+  pub within : All IsDrive drive
 
 -- the drive that the bytes of the trace of run n say, or why they are refused
 abbrev pub trace_or_refusal : ℕ → List ℕ → Result (List DriveRow) Refusal

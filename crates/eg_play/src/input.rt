@@ -16,9 +16,10 @@ ghost use Rattle.eg_play.specs.Inputs.{InputComes, ImageComes, refusing, outcome
 ghost use Rattle.eg_play.specs.Ends.{IsOf, role_in, name_by};
 
 use crate::End;
+use crate::traces::Traces;
 use eg_base::{Items, Store};
-use eg_campaign::RunInput;
-use eg_input::{TraceFault, read_trace};
+use eg_campaign::{RunInput, SharedItems};
+use eg_input::TraceFault;
 use eg_num::Drive;
 use eg_outcome::{Outcome, Refusal, Role, file_bytes, image_in};
 use eg_plan::{RunPlan, add_ticks};
@@ -26,12 +27,14 @@ use std::alloc::Global;
 
 /// The input of a run, the first run being 1: its trace is read, and then its image. `sum`, where it is
 /// given, is how many ticks the runs before have; where this run's ticks take it above 1,000,000, the run is
-/// refused before its image is read (docs/FORMATS.md, "Campaign files").
+/// refused before its image is read (docs/FORMATS.md, "Campaign files"). `traces` are those of the runs
+/// before, with which it may share its drive.
 pub(crate) fn input_for<S: Store>(
     alloc: Global,
     run: u32,
     sum: Option<u32>,
     plan: RunPlan,
+    traces: &mut Traces,
     store: &mut S,
 ) -> Result<RunInput, End>
     requires sum { ForSome sum (λ n. n ≤ 1000000) }
@@ -45,7 +48,7 @@ pub(crate) fn input_for<S: Store>(
     ensures no_memory { IfErr result (λ end. TellsNoMemory end.outcome) }
     ensures keeps { KeepsFiles (change_of S.shows store.old store.new) result }
 {
-    let drive = match drive_for(alloc, run, plan.trace.as_str(), store) {
+    let drive = match drive_for(alloc, run, plan.trace.as_str(), traces, store) {
         Ok(drive) => drive,
         Err(outcome) => return Err(ended(outcome, plan)),
     };
@@ -60,7 +63,7 @@ fn with_image<S: Store>(
     alloc: Global,
     run: u32,
     plan: RunPlan,
-    drive: Items<Drive>,
+    drive: SharedItems<Drive>,
     store: &mut S,
 ) -> Result<RunInput, End>
     ensures comes { ImageComes (change_of S.shows store.old store.new) run plan drive (outcomes result) }
@@ -93,7 +96,7 @@ fn ended(outcome: Outcome, plan: RunPlan) -> End
 }
 
 /// Adds the ticks of this drive to a sum, where one is kept; a sum of more than 1,000,000 is refused.
-fn add(sum: Option<u32>, run: u32, drive: &Items<Drive>) -> Result<(), Outcome>
+fn add(sum: Option<u32>, run: u32, drive: &SharedItems<Drive>) -> Result<(), Outcome>
     requires sum { ForSome sum (λ n. n ≤ 1000000) }
     requires drive { length drive.now ≤ 20000 }
     ensures refused { MatchOption (refusing sum run (length drive.now)) (IsOk result)
@@ -116,8 +119,9 @@ fn drive_for<S: Store>(
     alloc: Global,
     run: u32,
     file: &str,
+    traces: &mut Traces,
     store: &mut S,
-) -> Result<Items<Drive>, Outcome>
+) -> Result<SharedItems<Drive>, Outcome>
     ensures reads { ReadsFile (role.Trace run) (trace_file run) file.now
         (change_of S.shows store.old store.new) result }
     ensures keeps { KeepsFiles (change_of S.shows store.old store.new) result }
@@ -125,19 +129,24 @@ fn drive_for<S: Store>(
     ensures role { IfErr result (λ outcome. IsOf run (role_in outcome)) }
 {
     match file_bytes(alloc, Role::Trace { run }, file, store) {
-        Ok(bytes) => drive_in(alloc, run, bytes.as_slice()),
+        Ok(bytes) => drive_in(alloc, run, bytes, traces),
         Err(end) => Err(end),
     }
 }
 
 /// The drive that these bytes of a trace say, or how the call ends without it.
-fn drive_in(alloc: Global, run: u32, bytes: &[u8]) -> Result<Items<Drive>, Outcome>
-    ensures says { Says (trace_or_refusal run) bytes.now result }
+fn drive_in(
+    alloc: Global,
+    run: u32,
+    bytes: Items<u8>,
+    traces: &mut Traces,
+) -> Result<SharedItems<Drive>, Outcome>
+    ensures says { Says (trace_or_refusal run) bytes result }
     ensures drive { IfOk result (λ drive. (1 ≤ length drive) × (length drive ≤ 20000) × All IsDrive drive) }
     ensures role { IfErr result (λ outcome. IsOf run (role_in outcome)) }
 {
-    match read_trace(alloc, bytes) {
-        Ok(drive) => Ok(Items::new(drive)),
+    match traces.drive_of(alloc, bytes) {
+        Ok(drive) => Ok(drive),
         Err(TraceFault::Memory) => Err(Outcome::Memory),
         Err(fault) => Err(Outcome::Refused(Refusal::Trace { run, fault })),
     }

@@ -11,13 +11,15 @@ ghost use Rattle.eg_play.specs.Ends.{role_in, name_for, IsNamedIfOfRun};
 
 use crate::End;
 use crate::input::input_for;
+use crate::traces::Traces;
 use eg_base::{Items, Store};
 use eg_campaign::RunInput;
 use eg_outcome::Outcome;
 use eg_plan::RunPlan;
 use std::alloc::Global;
 
-/// The inputs of all runs of a campaign, in its order.
+/// The inputs of all runs of a campaign, in its order. A trace with the bytes of the one before is read, but
+/// isn't parsed again, and runs with equal drives share one.
 pub(crate) fn inputs_for<S: Store>(
     alloc: Global,
     plans: Items<RunPlan>,
@@ -33,10 +35,11 @@ pub(crate) fn inputs_for<S: Store>(
     ensures keeps { KeepsFiles (change_of S.shows store.old store.new) result }
 {
     let mut inputs = Vec::new(alloc);
+    let mut traces = Traces::new(alloc);
     let mut sum = 0;
     let mut run = 1;
     for plan in plans.into_vec() {
-        let input = match input_for(alloc, run, Some(sum), plan, store) {
+        let input = match input_for(alloc, run, Some(sum), plan, &mut traces, store) {
             Ok(input) => input,
             Err(end) => return Err(end),
         };

@@ -20,6 +20,7 @@ mod sweeping;
 mod swept;
 mod telling;
 mod texts;
+mod traces;
 
 pub use end::End;
 pub use laws::classes_are_spelt_as_in_campaigns;

@@ -14,6 +14,7 @@ ghost use Rattle.eg_play.specs.Ends.{FoundComes, NamedComes, run_named, NamesFil
 use crate::End;
 use crate::campaign::campaign_for;
 use crate::input::input_for;
+use crate::traces::Traces;
 use eg_base::{Items, Store};
 use eg_campaign::RunInput;
 use eg_outcome::{Outcome, Refusal};
@@ -63,7 +64,7 @@ fn input_among<S: Store>(
     let mut run = 1;
     for plan in plans.into_vec() {
         if has_name(&plan, name) {
-            return input_for(alloc, run, None, plan, store);
+            return input_for(alloc, run, None, plan, &mut Traces::new(alloc), store);
         }
         run += 1;
     }

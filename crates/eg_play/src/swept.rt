@@ -2,8 +2,8 @@
 ghost use Rattle.std.specs.Prelude.{◌≡◌, map, IfOk};
 ghost use Rattle.eg_play.specs.Sweeping.{without_reset, without_resets};
 
-use eg_base::{Items, NoMemory};
-use eg_campaign::RunInput;
+use eg_base::NoMemory;
+use eg_campaign::{RunInput, SharedItems};
 use eg_num::Drive;
 use std::alloc::Global;
 
@@ -17,14 +17,14 @@ pub(crate) fn without_resets(alloc: Global, input: RunInput) -> Result<RunInput,
 }
 
 /// The rows of a drive, but without their resets.
-fn rows_without_resets(alloc: Global, drive: &[Drive]) -> Result<Items<Drive>, NoMemory>
+fn rows_without_resets(alloc: Global, drive: &[Drive]) -> Result<SharedItems<Drive>, NoMemory>
     ensures { IfOk result (λ rows. rows ≡ map without_reset drive.now) }
 {
     let mut rows = Vec::new(alloc);
     for row in drive {
         rows.push(without_reset(row))?;
     }
-    Ok(Items::new(rows))
+    SharedItems::of(alloc, &rows)
 }
 
 /// This drive row, but without a reset of the unit.

@@ -1,4 +1,4 @@
-use Rattle.std.proofs.Common.{◌∙◌, ◌*◌, ◌/◌, ◌<◌, ◌≤◌, false, refl, sym, ap, subst, length, not, ◌==◌}
+use Rattle.std.proofs.Common.{◌≡◌, ◌∙◌, ◌*◌, ◌/◌, ◌<◌, ◌≤◌, Some, refl, sym, ap, subst, length, not, ◌==◌}
 use Rattle.std.specs.Prelude.{reverse}
 use Rattle.std.specs.Option.{option_copied}
 use Rattle.eg_model.specs.Branching.{BeginsFrom}
@@ -9,8 +9,8 @@ use Rattle.eg_tick.proofs.BranchedRuns.{told_under}
 use Rattle.eg_tick.specs.Counting.{count_with}
 use Rattle.eg_campaign.specs.Plays.{run_with}
 use Rattle.eg_campaign.specs.Groups.{faultless, checkpoint_ticks, input_under, own_under}
-use Rattle.eg_campaign.specs.Checkpoints.{HasMade, IsSharedFor}
-use Rattle.eg_campaign.proofs.CheckpointLemmas.{counted_none, never_begins, makes_none, made_in_time, played_under, rows-are}
+use Rattle.eg_campaign.specs.Checkpoints.{HasMade, HasPlayed, IsKept, IsSharedFor, IsWantedFor}
+use Rattle.eg_campaign.proofs.CheckpointLemmas.{counted_none, never_begins, makes_none, made_in_time, kept_under, played_under, rows-are}
 use Rattle.eg_campaign.proofs.checkpoints.play_from.Given.{Over}
 use Rattle.eg_campaign.proofs.checkpoints.play_from.Goals as goal
 
@@ -47,11 +47,18 @@ made : (g : Over) (c : goal.After-drop-played g) (cal : CalibrationParts) →
     (option_copied c.args.fault) c.args.input.now)).run (c.in-Some.fault.now.onset / checkpoint_ticks * checkpoint_ticks)
     (length c.args.input.now.drive) c.play_on.new.played c.args.steps.now c.play_on.new.steps
 made g c cal shared =
+    let weighed = not (g.row.WEIGHED == 0) in
+    let bench = g.E.BenchedEngine.bench in
+    let come_to = g.E.BenchedEngine.come_to in
+    let fault = c.in-Some.fault.now in
+    let is : option_copied c.args.fault ≡ Some fault = ap option_copied c.in-Some.is in
     let x = input_under (option_copied c.args.fault) c.args.input.now in
     c.play_on.ensures (run_with cal x).run (record { plan = refl; drive = refl })
-    (played_under (not (g.row.WEIGHED == 0)) g.E.BenchedEngine.bench g.E.BenchedEngine.come_to cal x c.in-Some.fault.now
-    (ap option_copied c.in-Some.is) (within g c) c.args.shared.now shared
-    c.copy.result c.copy.ensures c.index.result.now c.go_on-played.result c.index.ensures (c.go_on-played.ensures.played (not (g.row.WEIGHED == 0))))
+    (played_under weighed bench come_to cal x fault is (within g c) c.copy.result c.copy.ensures c.deref.result.now c.go_on-played.result
+    (subst (HasPlayed weighed bench come_to (run_with cal (faultless x)).run (fault.onset / checkpoint_ticks * checkpoint_ticks)) (sym c.deref.ensures)
+    (subst (IsKept weighed bench come_to (run_with cal (faultless x)).run (fault.onset / checkpoint_ticks * checkpoint_ticks)) (sym c.index.ensures ∙ c.in-Some-index.is)
+    (kept_under weighed bench come_to cal x fault is (within g c) c.args.shared.now shared (subst (IsWantedFor c.args.shared.now.wanted) is c.requires.wanted) c.index.result.now)))
+    (c.go_on-played.ensures.played weighed))
 
 pub returns-clause-told : goal.returns-clause-told
 returns-clause-told g c = λ cal shared. c.told_so_far.ensures (not (g.row.WEIGHED == 0)) (run_with cal (input_under

@@ -1,4 +1,4 @@
-use Rattle.std.proofs.Common.{◌≡◌, ◌∙◌, ◌<◌, ◌≤◌, ap, subst, length, arith, not, ◌==◌}
+use Rattle.std.proofs.Common.{◌≡◌, ◌∙◌, ◌<◌, ◌≤◌, refl, ap, subst, length, arith, not, ◌==◌}
 use Rattle.eg_model.specs.Bench.{Run}
 use Rattle.eg_campaign.specs.Plays.{run_with}
 use Rattle.eg_campaign.specs.Groups.{faultless}
@@ -16,7 +16,7 @@ loop-tick-init g c =
     let r : Run = (run_with c.args.calibration.now (faultless c.args.input.now)).run in
     record {
       made = made_none weighed bench come_to r 0 c.in_ok-played.played c.args.steps.now c.count_none.ensures (c.in_ok-played.ensures weighed);
-      kept = kept_none weighed bench come_to r c.new-checkpoints.result.items c.new-checkpoints.ensures.items;
+      kept = kept_none weighed bench come_to r c.args.wanted.now c.new-checkpoints.result.items c.new-checkpoints.ensures.items;
     }
 
 pub returns-in_err-played-clause-counted : goal.returns-in_err-played-clause-counted
@@ -53,8 +53,9 @@ returns g c =
     let made = subst (λ n. HasMade weighed bench come_to r 0 n c.loop-tick.played c.args.steps.now c.loop-tick.steps) all c.loop-tick.invariant.made in
     record {
       shared = record {
-        checkpoints = subst (λ n. AreCheckpoints weighed bench come_to r n c.loop-tick.checkpoints.items) all c.loop-tick.invariant.kept;
+        checkpoints = subst (λ n. AreCheckpoints weighed bench come_to r c.args.wanted.now n c.loop-tick.checkpoints.items) all c.loop-tick.invariant.kept;
         told = c.told_so_far.ensures weighed r made.to;
       };
+      wanted = refl;
       counted = made_all weighed bench come_to r c.loop-tick.played c.args.steps.now c.loop-tick.steps made;
     }

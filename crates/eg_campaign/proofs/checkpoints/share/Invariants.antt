@@ -6,7 +6,7 @@ use Rattle.eg_campaign.specs.Checkpoints.{HasMade, AreCheckpoints}
 use Rattle.eg_campaign.proofs.checkpoints.share.Given as goal
 
 -- the ticks so far of the run without a fault are played and counted, and it is kept at the hundredths among
--- them
+-- them where that is wanted
 abbrev pub invariant-loop-tick : goal.invariant-loop-tick
 invariant-loop-tick g l =
     let bench = g.E.BenchedEngine.bench in
@@ -15,5 +15,5 @@ invariant-loop-tick g l =
     let r : Run = (run_with l.calibration (faultless l.input)).run in
     record {
       made : HasMade weighed bench come_to r 0 l.tick l.played l.fn.steps l.steps;
-      kept : AreCheckpoints weighed bench come_to r l.tick l.checkpoints.items;
+      kept : AreCheckpoints weighed bench come_to r l.wanted l.tick l.checkpoints.items;
     }

@@ -1,4 +1,4 @@
-use Rattle.std.proofs.Common.{◌≡◌, refl, subst, false, length, not, ◌==◌}
+use Rattle.std.proofs.Common.{◌≡◌, refl, subst, length, not, ◌==◌}
 use Rattle.eg_model.specs.Bench.{Run}
 use Rattle.eg_model.specs.Rows.{record_rows}
 use Rattle.eg_tick.specs.Facts.{IsToldOf}
