@@ -1,8 +1,9 @@
 // What bench/explore puts in place of `main` of plain/main.rs, linked with libFuzzer: a command of the plain program is
 // done in this process, over and over. The first byte of an input says which one, by the lines of the file `commands`,
-// and whether standard output takes nothing; the rest is the file `f`, or, for the empty line, the words themselves. The
-// files that the commands name are held, so that the system isn't asked for them each time. With the variables INPUTS (a
-// file of names) and COVERED (one to be made) it tells which edges each of these inputs reaches.
+// and whether standard output takes nothing; the rest is the file `f`, which `<f` makes standard input, or, for the empty
+// line, the words themselves. The files that the commands name are held, so that the system isn't asked for them each
+// time. With the variables INPUTS (a file of names) and COVERED (one to be made) it tells which edges each of these
+// inputs reaches.
 
 use std::ffi::{c_char, c_int};
 use std::os::fd::AsRawFd;
@@ -43,7 +44,7 @@ impl Bench {
         let output = |name| File::options().write(true).open(name).unwrap();
         Bench {
             commands: fs::read_to_string("commands").unwrap().split('\n').map(str::to_string).collect(),
-            files: ["c", "h", "i", "k", "r", "t", "u"].map(|name| (name, fs::read(name).unwrap())).into(),
+            files: ["c", "b", "h", "i", "k", "r", "t", "u"].map(|name| (name, fs::read(name).unwrap())).into(),
             outputs: [output("/dev/null"), output("/dev/full")],
         }
     }
@@ -61,7 +62,7 @@ impl Bench {
             content.split(|byte| *byte == b'\n').map(std::str::from_utf8).collect()
         } else {
             self.put(content);
-            Ok(line.split(' ').collect())
+            Ok(line.split(' ').filter(|word| *word != "<f").collect())
         };
         // No system hands such words on, and a long soak takes too long.
         if line.is_empty() && (content.contains(&0) || content.starts_with(b"soak") && content.len() > 8) {
@@ -81,6 +82,12 @@ pub fn held(name: &str) -> Option<Vec<u8>> {
         return Some(INPUT.lock().unwrap().clone());
     }
     BENCH.get()?.files.iter().find(|(held, _)| *held == name).map(|(_, bytes)| bytes.clone())
+}
+
+/// The input as a file, in place of standard input.
+pub fn given() -> File {
+    fs::write("given", INPUT.lock().unwrap().as_slice()).unwrap();
+    File::open("given").unwrap()
 }
 
 extern "C" fn input(data: *const u8, size: usize) -> c_int {

@@ -2,6 +2,7 @@
 // each the least wall time in seconds and the greatest resident set in KiB. It is C to be small: a child's
 // resident set counts from that of its parent. Each run has its memory at the same addresses: at others, more or
 // fewer pages of the program and its libraries are read with those that it asks for, a tenth of a small program.
+// Each reads standard input, if that is a file, from its beginning.
 // Usage: measure TIMES PROGRAM PROGRAM WORD..
 #include <fcntl.h>
 #include <stdio.h>
@@ -37,6 +38,7 @@ static void run(char *program, char **words, struct measures *measures) {
     struct rusage usage;
     double start = now();
     words[0] = program;
+    lseek(0, 0, SEEK_SET);
     pid_t child = fork();
     if (child == 0) {
         become(program, words);

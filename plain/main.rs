@@ -1,12 +1,14 @@
 //! The whole program as plain Rust, written to be fast: one array of words for all three levels, plain structs,
 //! and no allocation in a tick. No row of a run is kept, but for `table`, which looks at a run span by span: what a
-//! report, `margins` or `soak` says is gathered as the ticks are made, and each line of a record is put as its tick
-//! is made, a line a write, as in the proved program. It takes the words and files that `egasim` takes, refuses what
-//! it refuses, and writes what it writes, notes too. It was written from docs/, is measured beside the proved program
-//! by `bench/unit` and `bench/all`, and compared with it by `bench/compare` and `bench/fuzz`. Nothing of it is proved.
+//! report, `margins`, `soak` or `replay` says is gathered as the ticks are made, and each line of a record and of
+//! `signals` is put as its tick is made, a line a write, as in the proved program. It takes the words and files that
+//! `egasim` takes, refuses what it refuses, and writes what it writes, notes too. It was written from docs/, is
+//! measured beside the proved program by `bench/unit` and `bench/all`, and compared with it by `bench/compare` and
+//! `bench/fuzz`. Nothing of it is proved.
 //! Usage: check [--cal NAME] FILE, bound [--cal NAME], limits [--cal NAME], answers FILE, run [--cal NAME] CAMPAIGN,
 //! table [--cal NAME] CAMPAIGN, margins [--cal NAME] CAMPAIGN, record [--cal NAME] CAMPAIGN RUN,
-//! sweep [--cal NAME] CAMPAIGN RUN STEP, soak SEED RUNS, asm FILE, dis FILE
+//! sweep [--cal NAME] CAMPAIGN RUN STEP, soak SEED RUNS, replay [--cal NAME], signals [--cal NAME], asm FILE,
+//! dis FILE
 
 mod calibration;
 mod calibration_file;
@@ -19,8 +21,10 @@ mod level1;
 mod level2;
 mod level3;
 mod margins;
+mod measurement;
 mod record;
 mod records;
+mod replay;
 mod report;
 mod soak;
 mod source;
@@ -39,6 +43,8 @@ use std::process::exit;
 
 use calibration::{Calibration, Drive, exceeds, reference};
 use campaign::Plan;
+use measurement::Measurement;
+use replay::{Level2, Summary};
 use unit::{Run, play};
 
 /// Why nothing was done.
@@ -284,6 +290,27 @@ fn sweep(call: &Call, name: &str, step: u32, out: &mut Output) -> Result<(), End
     Ok(lines.iter().try_for_each(|line| put(line.as_bytes(), out))?)
 }
 
+/// What level 2 alone makes of a measurement, put when it has been read to its end.
+fn replay(cal: &Calibration, out: &mut Output) -> Result<(), End> {
+    let mut measurement = Measurement::begin()?;
+    let (mut level2, mut summary) = (Level2::new(cal), Summary::default());
+    while let Some((read, brake)) = measurement.next()? {
+        summary.add(&level2.tick(read, brake));
+    }
+    Ok(summary.lines(cal).iter().try_for_each(|line| put(line.as_bytes(), out))?)
+}
+
+/// The same tick by tick: each line is put before the next one of the measurement is read.
+fn signals(cal: &Calibration, out: &mut Output) -> Result<(), End> {
+    let mut measurement = Measurement::begin()?;
+    put(replay::HEADER.as_bytes(), out)?;
+    let (mut level2, mut line) = (Level2::new(cal), record::Line::new());
+    while let Some((read, brake)) = measurement.next()? {
+        put(line.tick(&level2.tick(read, brake)), out)?;
+    }
+    Ok(())
+}
+
 /// The image of a source.
 fn asm(file: &str, out: &mut Output) -> Result<(), End> {
     let words = of_file(file, source::assemble(&files::bytes(file)?))?;
@@ -356,6 +383,8 @@ fn work(words: &[&str], out: &mut Output) -> Result<(), End> {
             let step = step_of(step)?;
             sweep(&called(file)?, run, step, out)
         }
+        (["replay"], _) => replay(&calibration(name)?, out),
+        (["signals"], _) => signals(&calibration(name)?, out),
         (["soak", seed, runs], None) => soak(&calibration(None)?, seed, runs, out),
         (["answers", file], None) if is_name(file) => answers(file, out),
         (["asm", file], None) if is_name(file) => asm(file, out),

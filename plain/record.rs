@@ -1,7 +1,8 @@
-//! The lines of records.
+//! The lines of records, and those of `signals`.
 
-use crate::level2::WATCHES;
+use crate::level2::{WATCHES, Watches};
 use crate::level3::Mark;
+use crate::replay::Tick;
 use crate::unit::Row;
 
 pub const HEADER: &str = "tick,pedal,speed,raise,plate,charge,torque,limit,path1,path2,on,used,permitted,actual,\
@@ -29,7 +30,7 @@ impl Line {
         self.length = end;
     }
 
-    /// A number of at most five digits, and a comma.
+    /// A number below 10^7, and a comma.
     #[inline(always)]
     fn number(&mut self, number: u32) {
         let (text, digits) = if number < 10 { (u64::from(number) + 0x30, 1) } else { digits(number) };
@@ -52,9 +53,9 @@ impl Line {
     }
 
     /// The names of the watches that are found, joined by `+`.
-    fn found(&mut self, row: &Row) {
+    fn found(&mut self, watches: &Watches) {
         let start = self.length;
-        for name in found(row) {
+        for name in found(watches) {
             if self.length > start {
                 self.byte(b'+');
             }
@@ -74,7 +75,7 @@ impl Line {
         self.truths(&[row.path1, row.path2, row.on]);
         self.numbers(&row.signals);
         self.numbers(&[row.throttle, row.ignition]);
-        self.found(row);
+        self.found(&row.found);
         self.text(match row.answer {
             Mark::None => ",-",
             Mark::Good => ",good",
@@ -85,6 +86,20 @@ impl Line {
             Some(true) => ",right\n",
             Some(false) => ",wrong\n",
         });
+        &self.bytes[..self.length]
+    }
+
+    /// The line of a tick of level 2 alone, with its line feed.
+    pub fn tick(&mut self, tick: &Tick) -> &[u8] {
+        self.length = 0;
+        match u32::try_from(tick.number) {
+            Ok(number @ 0..10_000_000) => self.number(number),
+            _ => self.text(&format!("{},", tick.number)),
+        }
+        self.numbers(&tick.signals);
+        self.numbers(&tick.weights);
+        self.found(&tick.found);
+        self.byte(b'\n');
         &self.bytes[..self.length]
     }
 }
@@ -104,7 +119,7 @@ fn digits(number: u32) -> (u64, usize) {
     ((ones | 0x3030_3030_3030_3030) >> (8 * zeros), 8 - zeros)
 }
 
-/// The watches that are found in a row, in their order.
-pub fn found(row: &Row) -> impl Iterator<Item = &'static str> {
-    WATCHES.into_iter().zip(row.found).filter(|watch| watch.1).map(|watch| watch.0)
+/// The watches that are found, in their order.
+fn found(found: &Watches) -> impl Iterator<Item = &'static str> {
+    WATCHES.into_iter().zip(*found).filter(|watch| watch.1).map(|watch| watch.0)
 }

@@ -1,5 +1,7 @@
 //! What is said of runs.
 
+use std::fmt::Display;
+
 use crate::calibration::{Calibration, exceeds};
 use crate::level1::Trap;
 use crate::level2::WATCHES;
@@ -87,7 +89,7 @@ impl Detections {
     }
 }
 
-fn at(tick: Option<u32>, none: &str) -> String {
+pub fn at<T: Display>(tick: Option<T>, none: &str) -> String {
     tick.map_or(none.to_string(), |tick| format!("at {tick}"))
 }
 

@@ -239,6 +239,16 @@ def corners(values):
     yield len(values), values[-1]
 
 
+def thinned(points, place_of):
+    """The points of a curve. Of those at one place of a picture the first, lowest, highest and last are enough."""
+    places = {}
+    for point in points:
+        places.setdefault(place_of(point), []).append(point)
+    for near in places.values():
+        lowest, highest = (choose(near, key=lambda point: point[1]) for choose in (min, max))
+        yield from dict.fromkeys([near[0], lowest, highest, near[-1]]) if len(near) > 4 else near
+
+
 def toml_text(value):
     """A text, number, truth value or list as TOML writes it. A table is written inline."""
     if isinstance(value, bool):

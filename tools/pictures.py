@@ -1,6 +1,6 @@
 """The pictures of a run and of a sweep."""
 
-from common import corners
+from common import corners, thinned
 from svg import DARK, GRID, INK, MIDDLE, box, line, picture, shape, step_of, text, width_of
 
 WIDTH, LEFT, RIGHT = 400, 48, 10  # of each picture
@@ -37,13 +37,9 @@ def stretches(values):
 
 
 def curve(values, scale):
-    """The points of a curve. Of those that stand above one another the first, lowest, highest and last are enough."""
-    columns = {}
-    for tick, value in corners(values):
-        columns.setdefault(round(scale.x(tick) * 2), []).append((scale.x(tick), scale.y(value)))
-    for points in columns.values():
-        lowest, highest = (choose(points, key=lambda point: point[1]) for choose in (min, max))
-        yield from dict.fromkeys([points[0], lowest, highest, points[-1]]) if len(points) > 4 else points
+    """The points of a curve that can be told apart."""
+    points = ((scale.x(tick), scale.y(value)) for tick, value in corners(values))
+    return thinned(points, lambda point: round(point[0] * 2))
 
 
 def spans(values, scale):

@@ -233,7 +233,7 @@ impl<'a> Command<'a> {
 }
 
 /// Whether `--cal NAME` stands right after the first word.
-fn names_calibration(words: &[String]) -> bool
+pub fn names_calibration(words: &[String]) -> bool
     ensures { result ≡ names_calibration (word_bytes words.now) }
 {
     words.len() >= 3 && words[1].as_str() == "--cal" && is_name(words[2].as_str())
@@ -247,7 +247,7 @@ fn is_soak(words: &[String]) -> bool
 }
 
 /// Whether the word is this one, alone, where the command's own words begin at place `own`.
-fn is_alone(command: &str, words: &[String], own: usize) -> bool
+pub fn is_alone(command: &str, words: &[String], own: usize) -> bool
     requires least { 1 ≤ own }
     requires most { own ≤ 3 }
     ensures { result ≡ is_alone command.now (word_bytes words.now) own }

@@ -15,7 +15,7 @@ use std::alloc::Global;
 
 /// Puts the line that notes this outcome, for a file of this name (docs/FORMATS.md, "Notes"): in one put, or,
 /// where memory has run out, piece by piece up to the first that is refused.
-pub(crate) fn put_note<N: Sink>(alloc: Global, outcome: &Outcome, file: &str, notes: &mut N)
+pub fn put_note<N: Sink>(alloc: Global, outcome: &Outcome, file: &str, notes: &mut N)
     ensures note { PutsNote (change_of N.shows notes.old notes.new) (note_of outcome.now file.now) }
     ensures done { outcome.now ≡ Done → notes.new ≡ notes.old }
 {

@@ -101,11 +101,7 @@ pub(crate) fn clear<M: Guarded>(memory: &mut M) -> Result<(), NoMemory>
 /// Writes the readings to the input ports, and the number of the question to the link (docs/FORMATS.md,
 /// "Memory map").
 #[tactic(auto, using(crate::proofs::BoardLemmas::board))]
-pub(crate) fn show<M: Guarded>(
-    memory: &mut M,
-    readings: &Readings,
-    asked: u16,
-) -> Result<(), NoMemory>
+pub fn show<M: Guarded>(memory: &mut M, readings: &Readings, asked: u16) -> Result<(), NoMemory>
     requires are_words { AreWords (M.shows memory.old).words }
     ensures readings { OnOk result (readings_of (M.shows memory.new).words ≡ by_tracks readings.now) }
     ensures asked { OnOk result (asked_of (M.shows memory.new).words ≡ asked) }

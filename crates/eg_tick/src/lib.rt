@@ -24,8 +24,10 @@ mod working;
 
 pub use bench::{bench_begin, bench_controller, bench_row, bench_tick};
 pub use benched_engine::BenchedEngine;
+pub use board::show;
 pub use controller::{Controller, Ticks};
 pub use eg_host::{SlicePlan, Slices};
 pub use facts::{bench_facts, run_facts};
+pub use row::{signals, word};
 pub use run::{RunRecord, run_one};
 pub use weighing::weigh;

@@ -105,17 +105,17 @@ pub(crate) fn limit(lookup: &Lookup, drive: &Drive) -> u16
     lookup.torque.max(drive.raise())
 }
 
-/// A word of level 2, as it stands in the memory.
+/// A word of level 2, as it stands in the memory, by its number (docs/FORMATS.md, "Words of level 2").
 #[tactic(auto, using(crate::proofs::BoardLemmas::board), unfolding(eg_level2::specs::Words::word_at))]
-pub(crate) fn word<M: Guarded>(memory: &M, number: u8) -> u16
+pub fn word<M: Guarded>(memory: &M, number: u8) -> u16
     requires { number < STORED_WORDS }
     ensures { result ≡ word_at (M.shows memory.now).words number }
 {
     load(memory, word_address(u16::from(number)))
 }
 
-/// The five signals of level 2, which are its first five words.
-fn signals<M: Guarded>(memory: &M) -> [u16; 5]
+/// The five signals of level 2, which are its first five words (docs/CONCEPT.md, "Level 2").
+pub fn signals<M: Guarded>(memory: &M) -> [u16; 5]
     ensures { result ≡ signal_list (signals_of (words_of (M.shows memory.now).words)) }
 {
     [

@@ -4,11 +4,14 @@
 mod trusted_store;
 
 use crate::trusted_store::TrustedStore;
-use eg_app::egasim;
+use eg_app::{Outcome, egasim, put_note};
 use eg_base::StdSink;
+use eg_lines::ReadLines;
+use eg_open::{egasim_on_lines, reads_lines};
 use eg_tick::Ticks;
 use std::alloc::{AllocError, Global};
 use std::env::Env;
+use std::io::BufReader;
 use std::process::ExitCode;
 use std::{env, io};
 
@@ -37,7 +40,16 @@ fn main(rt: HostRuntime) -> ExitCode {
     let mut out = StdSink::new(rt.stdout());
     let mut notes = StdSink::new(rt.stderr());
     let mut store = TrustedStore::new(&rt, &words);
-    let mut steps = Ticks::new();
-    let outcome = egasim(alloc, &words, &mut store, &mut out, &mut notes, &mut steps);
+    let outcome = if reads_lines(&words) {
+        let Ok(input) = BufReader::new(alloc, rt.stdin()) else {
+            put_note(alloc, &Outcome::Memory, "", &mut notes);
+            return ExitCode::from(NO_MEMORY);
+        };
+        let mut lines = ReadLines::new(input);
+        egasim_on_lines(alloc, &words, &mut store, &mut lines, &mut out, &mut notes)
+    } else {
+        let mut steps = Ticks::new();
+        egasim(alloc, &words, &mut store, &mut out, &mut notes, &mut steps)
+    };
     ExitCode::from(outcome.status())
 }

@@ -1,0 +1,4 @@
+pub mod TallyLemmas
+pub mod NameLemmas
+pub mod LineLemmas
+mod Worked

@@ -1,0 +1,4 @@
+pub mod Findings
+pub mod TickMore
+pub mod Tallies
+pub mod Texts

@@ -1,0 +1,8 @@
+//! The top call over lines that come one by one: `replay` and `signals`.
+#![tactic(auto)]
+
+mod call;
+mod command;
+
+pub use call::egasim_on_lines;
+pub use command::reads_lines;

@@ -1,0 +1,128 @@
+-- The first field of a text and the numbers behind it, and the field of a text that is its only one.
+use Rattle.std.proofs.Common.{◌≡◌, ◌∙◌, sym, ap, refl, ℕ, ◌+◌, ◌<◌, List, [], ◌∷◌, ◌++◌, length, take, drop, get_or, true, false, arith, Option, Some, None, Bor, append_assoc, subst, ◌≤◌, ◌-◌}
+use Rattle.std.specs.Prelude.{◌==◌, All, option_map, option_and_then, position, IfSome}
+use Rattle.std.specs.Char.{is_ascii_digit}
+use Rattle.std.specs.List.{list_all, slice_split, join_with_byte, position_or_len}
+use Rattle.std.proofs.lemmas.Bool.Decides.{nat_tests}
+use Rattle.std.proofs.lemmas.Grind.{common_steps}
+use Rattle.std.proofs.lemmas.List.Quantifiers.{position-Some}
+use Rattle.std.proofs.lemmas.List.Sums.{fails_before_first}
+use Rattle.std.proofs.lemmas.List.{take-append-drop, drop_more}
+use Rattle.std.proofs.lemmas.List.Elements.{All-nil, All-cons}
+use Rattle.std.proofs.lemmas.List.Splits.{slice_split_none, slice_split_at, length-slice_split, join_with_byte-slice_split}
+use Rattle.eg_input.specs.Fields.{number_of}
+use Rattle.eg_readings.specs.Recording.{fields_of, all_numbers, numbers_of}
+use Rattle.eg_readings.specs.Reading.{IsFirst, found_now, is_comma}
+
+-- these bytes hold no comma
+abbrev pub NoComma : List ℕ → Type 0
+NoComma = All (λ b. is_comma b ≡ false)
+
+digits-no_comma : (front : List ℕ) → list_all is_ascii_digit front ≡ true → NoComma front
+digits-no_comma [] e = All-nil (λ b. is_comma b ≡ false)
+digits-no_comma (b ∷ rest) e =
+    All-cons (λ b. is_comma b ≡ false) b rest (grind (arith, nat_tests)) (digits-no_comma rest (grind arith))
+
+-- a field that writes a number holds no comma
+pub number-no_comma : (field : List ℕ) (number : ℕ) → number_of 65535 field ≡ Some number → NoComma field
+unfolding number_of
+number-no_comma field number is = digits-no_comma field (grind (arith, nat_tests))
+
+-- the fields of a text whose first comma is here
+comma-fields : (text : List ℕ) (place d : ℕ) → place < length text → is_comma (get_or text place d) ≡ true → NoComma (take place text)
+    → fields_of text ≡ take place text ∷ fields_of (drop (place + 1) text)
+unfolding fields_of
+comma-fields text place d room comma none =
+    ap (slice_split is_comma) (sym (take-append-drop place text) ∙ ap (λ (l : List ℕ). take place text ++ l) (drop_more text place d room))
+    ∙ slice_split_at is_comma (take place text) (get_or text place d) (drop (place + 1) text) none comma
+
+-- a field more before fields
+more_fields : (field : List ℕ) (fields : List (List ℕ)) (n : ℕ) → (length (field ∷ fields) == n + 2) ≡ (length fields == n + 1)
+more_fields field fields n = grind (arith, nat_tests)
+
+-- what the first comma parts
+pub comma-first : (text : List ℕ) (place d : ℕ) → place < length text → is_comma (get_or text place d) ≡ true → NoComma (take place text)
+    → IsFirst text (option_map (λ number. (number, drop (place + 1) text)) (number_of 65535 (take place text)))
+unfolding numbers_of all_numbers
+comma-first text place d room comma none n =
+    let parts = comma-fields text place d room comma none in
+    rw (parts, more_fields (take place text) (fields_of (drop (place + 1) text)) n) grind arith
+
+-- the same where a number stands before a comma
+pub number-first : (text : List ℕ) (place d : ℕ) (found : Option (ℕ × Bor (List ℕ))) → place < length text → is_comma (get_or text place d) ≡ true
+    → found_now found ≡ option_map (λ number. (number, drop (place + 1) text)) (number_of 65535 (take place text))
+    → IfSome found (λ f. IsFirst text (Some (f.0, f.1.now)))
+number-first text place d None room comma is = tt
+number-first text place d (Some f) room comma is = at (number_of 65535 (take place text)) refl
+  where
+    at : (number : Option ℕ) → number_of 65535 (take place text) ≡ number → IsFirst text (Some (f.0, f.1.now))
+    at None e = absurd (let never : Some (f.0, f.1.now) ≡ None = is ∙ rw e refl in cc)
+    at (Some number) e = subst (IsFirst text) (sym is) (comma-first text place d room comma (number-no_comma (take place text) number e))
+
+-- a text with no comma has one field
+pub no_comma-first : (text : List ℕ) → NoComma text → IsFirst text None
+unfolding numbers_of fields_of
+no_comma-first text none n = rw (slice_split_none is_comma text none) grind (arith, nat_tests)
+
+-- the first comma, if there is one
+pub position-first : (text : List ℕ) (place : ℕ) → position is_comma text ≡ Some place → IsFirst text (option_map (λ number. (number, drop (place + 1) text)) (number_of 65535 (take place text)))
+position-first text place is =
+    let found = position-Some is_comma text place 0 is in
+    comma-first text place 0 found.0 found.1 (λ k e m. let no = found.2 k (grind (arith, common_steps)) in grind (arith, common_steps))
+
+pub no_position-first : (text : List ℕ) → position is_comma text ≡ None → IsFirst text None
+no_position-first text is =
+    let far : length text ≤ position_or_len is_comma text = grind (arith, common_steps) in
+    no_comma-first text (λ k e m. let no = fails_before_first is_comma text k e (grind (arith, common_steps)) in grind (arith, common_steps))
+
+-- of two parts that are put before the numbers
+put_both : (done : List ℕ) (number : ℕ) (read : Option (List ℕ))
+    → option_map (λ more. done ++ more) (option_map (λ numbers. number ∷ numbers) read) ≡ option_map (λ more. (done ++ number ∷ []) ++ more) read
+put_both done number None = refl
+put_both done number (Some more) = rw (append_assoc done (number ∷ []) more) refl
+
+-- the numbers of a line of n fields are those of the first i, which were read, and those of the text behind
+abbrev pub HasRead : ℕ → List ℕ → ℕ → List ℕ → List ℕ → Type 0
+HasRead n line i done text = numbers_of n line ≡ option_map (λ more. done ++ more) (numbers_of (n - i) text)
+
+-- what is found in the text behind, where two fields or more are left
+found : (n : ℕ) (line : List ℕ) (i : ℕ) (done text : List ℕ) (first : Option (ℕ × List ℕ)) → HasRead n line i done text → i + 1 < n → IsFirst text first → numbers_of n line
+    ≡ option_map (λ more. done ++ more) (option_and_then (λ f. option_map (λ numbers. f.0 ∷ numbers) (numbers_of (n - (i + 1)) f.1)) first)
+found n line i done text first h more is =
+    let two : n - i ≡ (n - (i + 2)) + 2 = omega arith in
+    let one : n - (i + 1) ≡ (n - (i + 2)) + 1 = omega arith in
+    h ∙ rw (two, one, is (n - (i + 2))) refl
+
+pub step : (n : ℕ) (line : List ℕ) (i : ℕ) (done text : List ℕ) (number : ℕ) (rest : List ℕ) → HasRead n line i done text → i + 1 < n → IsFirst text (Some (number, rest))
+    → HasRead n line (i + 1) (done ++ number ∷ []) rest
+step n line i done text number rest h more is = found n line i done text (Some (number, rest)) h more is ∙ put_both done number (numbers_of (n - (i + 1)) rest)
+
+pub spoiled : (n : ℕ) (line : List ℕ) (i : ℕ) (done text : List ℕ) → HasRead n line i done text → i + 1 < n → IsFirst text None → numbers_of n line ≡ None
+spoiled n line i done text = found n line i done text None
+
+-- the number of the only field
+pub numbers_of-one : (text : List ℕ) → numbers_of 1 text ≡ option_map (λ number. number ∷ []) (number_of 65535 text)
+unfolding numbers_of all_numbers fields_of
+numbers_of-one text = at (number_of 65535 text) refl (slice_split is_comma text) refl
+  where
+    at : (number : Option ℕ) → number_of 65535 text ≡ number → (fields : List (List ℕ)) → slice_split is_comma text ≡ fields → numbers_of 1 text ≡ option_map (λ number. number ∷ []) number
+    at (Some number) is fields parts = rw (slice_split_none is_comma text (number-no_comma text number is), is) refl
+    at None is [] parts = rw parts refl
+    at None is (field ∷ []) parts =
+        let whole : field ≡ text = sym (ap (join_with_byte 44) parts) ∙ join_with_byte-slice_split 44 text in
+        rw (parts, whole, is) refl
+    at None is (first ∷ second ∷ fields) parts = rw parts grind (arith, nat_tests)
+
+-- from the last field
+pub ended : (n : ℕ) (line : List ℕ) (i : ℕ) (done text : List ℕ) → HasRead n line i done text → i + 1 ≡ n → numbers_of n line ≡ option_map (λ number. done ++ number ∷ []) (number_of 65535 text)
+ended n line i done text h last =
+    let one : n - i ≡ 1 = omega arith in
+    h ∙ rw (one, numbers_of-one text) grind arith
+
+-- each line has a field
+pub numbers_of-none : (line : List ℕ) → numbers_of 0 line ≡ None
+unfolding numbers_of fields_of
+numbers_of-none line =
+    let some = length-slice_split is_comma line in
+    let no : (length (slice_split is_comma line) == 0) ≡ false = grind (arith, nat_tests, some) in
+    rw no refl

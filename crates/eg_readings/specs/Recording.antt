@@ -1,0 +1,71 @@
+-- Outside the headline. A recording of a vehicle or a test bench has a line for each tick, below a header
+-- that names its columns. A line has as many fields as there are columns, parted by commas, and each field
+-- writes a number of one to five digits, at most 65535. A line may end with a carriage return, which is no
+-- part of it; its line feed is taken off already.
+use Rattle.std.specs.Prelude.{ℕ, ◌-◌, ◌==◌, List, [], ◌∷◌, ◌++◌, length, drop, take, codes, Option, Some, None, option_map, option_and_then, if◌then◌else◌, false, slice_index}
+use Rattle.std.specs.Str.{byte, bytes_eq}
+use Rattle.std.specs.List.{slice_split}
+use Rattle.eg_input.specs.Fields.{number_of}
+use Rattle.eg_sensor.specs.Brake.{sound_contacts}
+use Rattle.eg_sensor.specs.declared.readings.Readings.{Readings}
+use Rattle.eg_readings.specs.declared.columns.Columns.{Columns}
+use Rattle.eg_readings.specs.declared.columns.Columns.TheVariants as columns
+use Rattle.eg_readings.specs.declared.recorded.Recorded.{Recorded}
+
+-- the line without the carriage return that it may end with
+unfoldable pub before_return : List ℕ → List ℕ
+before_return line =
+    if bytes_eq (drop (length line - 1) line) (codes "\r") then take (length line - 1) line else line
+
+-- the names of the columns where the brake isn't recorded
+unfoldable pub header : List ℕ
+header = codes "pedal1,pedal2,plate1,plate2,load1,load2,speed1,speed2,raise,check"
+
+-- the columns that a first line names
+unfoldable pub columns_of : List ℕ → Option Columns
+columns_of line =
+    if bytes_eq (before_return line) header then Some columns.WithoutBrake
+    else if bytes_eq (before_return line) (header ++ codes ",brake1,brake2") then Some columns.WithBrake
+    else None
+
+-- the fields of a line, which are parted by commas
+unfoldable pub fields_of : List ℕ → List (List ℕ)
+fields_of line = slice_split (λ b. b == byte ",") line
+
+-- the numbers that these fields write, if each of them writes one
+unfoldable pub all_numbers : List (List ℕ) → Option (List ℕ)
+all_numbers [] = Some []
+all_numbers (field ∷ fields) =
+    option_and_then (λ number. option_map (λ numbers. number ∷ numbers) (all_numbers fields))
+    (number_of 65535 field)
+
+-- the numbers that a line of this many fields writes
+unfoldable pub numbers_of : ℕ → List ℕ → Option (List ℕ)
+numbers_of width line =
+    if length (fields_of line) == width then all_numbers (fields_of line) else None
+
+-- the readings that stand in the first ten columns
+unfoldable pub readings_from : List ℕ → Readings
+readings_from numbers = record {
+  pedal = slice_index numbers 0 ∷ slice_index numbers 1 ∷ [];
+  plate = slice_index numbers 2 ∷ slice_index numbers 3 ∷ [];
+  load = slice_index numbers 4 ∷ slice_index numbers 5 ∷ [];
+  speed = slice_index numbers 6 ∷ slice_index numbers 7 ∷ [];
+  raise = slice_index numbers 8;
+  raise_check = slice_index numbers 9;
+}
+
+-- What a line below the header writes. Where the brake has no columns, its contacts are those of a sound
+-- brake that isn't pressed.
+unfoldable pub recorded_of : Columns → List ℕ → Option Recorded
+recorded_of columns.WithoutBrake line =
+    option_map
+    (λ numbers. record { readings = readings_from numbers; contacts = sound_contacts false })
+    (numbers_of 10 (before_return line))
+recorded_of columns.WithBrake line =
+    option_map
+    (λ numbers. record {
+      readings = readings_from numbers;
+      contacts = slice_index numbers 10 ∷ slice_index numbers 11 ∷ [];
+    })
+    (numbers_of 12 (before_return line))

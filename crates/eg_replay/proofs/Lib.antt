@@ -1,0 +1,8 @@
+pub mod TellLemmas
+pub mod RunLemmas
+pub mod LineLemmas
+pub mod ReadLemmas
+pub mod AgreeLemmas
+pub mod AgreeRuns
+pub mod OrderLemmas
+mod Worked

@@ -1,0 +1,193 @@
+// `replay [--cal NAME]` and `signals [--cal NAME]`: level 2 over lines that come one by one.
+ghost use Rattle.std.specs.Prelude.{◌≡◌, ◌==◌, IsTrue, None, Ok, Err, if◌then◌else◌};
+ghost use Rattle.std.specs.Option.{option_copied};
+ghost use Rattle.eg_input.specs.declared.fault.TraceFault.TheVariants.{Empty};
+ghost use Rattle.eg_outcome.specs.Calibrations.{TellsMissingCalibration};
+ghost use Rattle.eg_outcome.specs.Changes.{change_of};
+ghost use Rattle.eg_outcome.specs.Outcomes.{TellsNoMemory, PutsNothing};
+ghost use Rattle.eg_outcome.specs.declared.outcome.Outcome.TheVariants.{Refused};
+ghost use Rattle.eg_outcome.specs.declared.outcome.Refusal.TheVariants.{Check};
+ghost use Rattle.eg_findings.specs.Texts.{signals_line, replay_text};
+ghost use Rattle.eg_replay.specs.Streams.{StreamEnds, StreamCommandEnds, signals_writes, replay_writes};
+ghost use Rattle.eg_replay.specs.Reading.{FindingsCome, LinePut, end_of};
+
+use crate::Replay;
+use crate::recording::Recording;
+use eg_base::{NoMemory, Sink, Store};
+use eg_findings::{Findings, Tally, Told, push_signals, replay_text, signals_header};
+use eg_input::TraceFault;
+use eg_lines::Lines;
+use eg_outcome::{Outcome, Refusal, calibration_for, put_line, put_text};
+use eg_values::Calibration;
+use std::alloc::Global;
+
+/// How many lines below the header are read at the most. Behind them memory is said to have run out.
+const MOST_TICKS: u32 = u32::MAX - 1;
+
+/// Does `signals [--cal NAME]`, but for its note (docs/FORMATS.md, "Commands"): reads lines to their end, and
+/// writes the row of each before it reads the next.
+pub fn signals_stream<S: Store, L: Lines, K: Sink>(
+    alloc: Global,
+    calibration: Option<&str>,
+    store: &mut S,
+    lines: &mut L,
+    out: &mut K,
+) -> Outcome
+    ensures ends { StreamCommandEnds signals_writes ((lines.new ≡ lines.old) × (out.new ≡ out.old))
+        (option_copied calibration.entry) (change_of S.shows store.old store.new)
+        (change_of L.shows lines.old lines.new) (change_of K.shows out.old out.new) result }
+    ensures missing { IsTrue (S.shows store.old).sure
+        → TellsMissingCalibration (option_copied calibration.entry) (S.shows store.old) result }
+    ensures no_memory { TellsNoMemory result }
+    ensures unread { option_copied calibration.entry ≡ None → store.new ≡ store.old }
+    ensures files { (S.shows store.new).files ≡ (S.shows store.old).files }
+{
+    match calibration_for(alloc, calibration, store) {
+        Ok(calibration) => ended(put_signals(alloc, &calibration, lines, out)),
+        Err(end) => end,
+    }
+}
+
+/// Does `replay [--cal NAME]`, but for its note (docs/FORMATS.md, "Commands"): reads lines to their end, and
+/// then writes what level 2 finds on them.
+pub fn replay_stream<S: Store, L: Lines, K: Sink>(
+    alloc: Global,
+    calibration: Option<&str>,
+    store: &mut S,
+    lines: &mut L,
+    out: &mut K,
+) -> Outcome
+    ensures ends { StreamCommandEnds replay_writes ((lines.new ≡ lines.old) × (out.new ≡ out.old))
+        (option_copied calibration.entry) (change_of S.shows store.old store.new)
+        (change_of L.shows lines.old lines.new) (change_of K.shows out.old out.new) result }
+    ensures missing { IsTrue (S.shows store.old).sure
+        → TellsMissingCalibration (option_copied calibration.entry) (S.shows store.old) result }
+    ensures no_memory { TellsNoMemory result }
+    ensures nothing_put { PutsNothing result → out.new ≡ out.old }
+    ensures unread { option_copied calibration.entry ≡ None → store.new ≡ store.old }
+    ensures files { (S.shows store.new).files ≡ (S.shows store.old).files }
+{
+    match calibration_for(alloc, calibration, store) {
+        Ok(calibration) => ended(put_replay(alloc, &calibration, lines, out)),
+        Err(end) => end,
+    }
+}
+
+/// How a call ends with what its work answers.
+fn ended(done: Result<(), Outcome>) -> Outcome
+    ensures { result ≡ end_of done }
+{
+    match done {
+        Ok(()) => Outcome::Done,
+        Err(end) => end,
+    }
+}
+
+/// The rows of lines that come, each put before the next line is read.
+fn put_signals<L: Lines, K: Sink>(
+    alloc: Global,
+    calibration: &Calibration,
+    lines: &mut L,
+    out: &mut K,
+) -> Result<(), Outcome>
+    ensures { StreamEnds (signals_writes calibration.now) (change_of L.shows lines.old lines.new)
+        (change_of K.shows out.old out.new) (end_of result) }
+{
+    let mut recording = Recording::begin(alloc, lines)?;
+    put(signals_header().as_bytes(), out)?;
+    let mut replay = Replay::new(calibration);
+    let mut row = Vec::new(alloc);
+    for tick in 0..MOST_TICKS {
+        let Some(recorded) = recording.next(tick, lines)? else {
+            return unless_empty(tick, ());
+        };
+        put_row(&mut row, tick, &replay.feed(&recorded), out)?;
+    }
+    Err(Outcome::Memory)
+}
+
+/// Puts the row of a tick, which is made in this buffer.
+fn put_row<K: Sink>(row: &mut Vec<u8>, tick: u32, told: &Told, out: &mut K) -> Result<(), Outcome>
+    ensures { LinePut (signals_line tick told.now) (change_of K.shows out.old out.new) result }
+{
+    row.clear();
+    match push_signals(row, u64::from(tick), told) {
+        Ok(()) => put(row, out),
+        Err(NoMemory) => Err(Outcome::Memory),
+    }
+}
+
+/// Puts a line, or answers how the call ends where it is refused.
+fn put<K: Sink>(line: &[u8], out: &mut K) -> Result<(), Outcome>
+    ensures { LinePut line.now (change_of K.shows out.old out.new) result }
+{
+    match put_line(line, out) {
+        Outcome::Done => Ok(()),
+        end => Err(end),
+    }
+}
+
+/// What all lines come to, or the fault Empty where they are no ticks.
+fn unless_empty<T: Copy>(ticks: u32, whole: T) -> Result<T, Outcome>
+    ensures { result ≡ if ticks == 0 then Err (Refused (Check Empty)) else Ok whole }
+{
+    if ticks == 0 {
+        return Err(Outcome::Refused(Refusal::Check(TraceFault::Empty)));
+    }
+    Ok(whole)
+}
+
+/// What level 2 finds on lines that come, put behind the last.
+fn put_replay<L: Lines, K: Sink>(
+    alloc: Global,
+    calibration: &Calibration,
+    lines: &mut L,
+    out: &mut K,
+) -> Result<(), Outcome>
+    ensures ends { StreamEnds (replay_writes calibration.now) (change_of L.shows lines.old lines.new)
+        (change_of K.shows out.old out.new) (end_of result) }
+    ensures nothing_put { PutsNothing (end_of result) → out.new ≡ out.old }
+{
+    let findings = find(alloc, calibration, lines)?;
+    put_findings(alloc, calibration, &findings, out)
+}
+
+/// Puts the lines on these findings.
+fn put_findings<K: Sink>(
+    alloc: Global,
+    calibration: &Calibration,
+    findings: &Findings,
+    out: &mut K,
+) -> Result<(), Outcome>
+    ensures { LinePut (replay_text calibration.now.rules.pair calibration.now.rules.torque findings.now)
+        (change_of K.shows out.old out.new) result }
+{
+    let rules = calibration.rules();
+    match replay_text(alloc, &rules.pair, &rules.torque, findings) {
+        Ok(text) => match put_text(text.as_bytes(), out) {
+            Outcome::Done => Ok(()),
+            end => Err(end),
+        },
+        Err(NoMemory) => Err(Outcome::Memory),
+    }
+}
+
+/// What level 2 finds on lines that come.
+fn find<L: Lines>(
+    alloc: Global,
+    calibration: &Calibration,
+    lines: &mut L,
+) -> Result<Findings, Outcome>
+    ensures { FindingsCome calibration.now (change_of L.shows lines.old lines.new) result }
+{
+    let mut recording = Recording::begin(alloc, lines)?;
+    let mut replay = Replay::new(calibration);
+    let mut tally = Tally::new();
+    for tick in 0..MOST_TICKS {
+        let Some(recorded) = recording.next(tick, lines)? else {
+            return unless_empty(tick, tally.findings());
+        };
+        tally.feed(&replay.feed(&recorded));
+    }
+    Err(Outcome::Memory)
+}

@@ -1,0 +1,1 @@
+examples/measure | cmp - examples/measured.csv && ./egasim replay <examples/measured.csv

@@ -1,0 +1,1 @@
+./egasim signals <examples/measured.csv | grep -v ',0,0,0,0,0,-$'

@@ -1,0 +1,1 @@
+./egasim replay --cal examples/strict.toml <examples/measured.csv
