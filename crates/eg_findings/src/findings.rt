@@ -6,6 +6,7 @@ ghost use Rattle.eg_findings.specs.Findings.{findings_of, surplus_at};
 ghost use Rattle.eg_findings.specs.TickMore.{first_with, found_with, greater_counters, findings_with, surplus_with};
 
 use crate::{Counters, Told, Watches};
+use eg_record::{greater_than, is_trip};
 
 /// What the ticks of a replay come to (docs/CONCEPT.md, "`replay` and `signals`"). Ticks are told from 0.
 #[derive(Clone, Copy)]
@@ -100,14 +101,6 @@ fn note_first(first: &mut Option<u64>, is_such: bool, tick: u64)
     }
 }
 
-/// Whether one of these watches trips.
-#[tactic(auto, unfolding(eg_record::specs::Detection::is_trip))]
-fn is_trip(found: &Watches) -> bool
-    ensures { result ≡ is_trip found.now }
-{
-    found.mirror || found.plate || found.load || found.speed || found.torque
-}
-
 /// The greater of both, debouncer by debouncer.
 #[tactic(auto, unfolding(crate::specs::TickMore::greater_counters))]
 fn greater_counters(one: &Counters, other: &Counters) -> Counters
@@ -140,15 +133,4 @@ fn surplus_at(told: &Told) -> i32
     ensures { result ≡ surplus_at told.now }
 {
     i32::from(told.signals[2]) - i32::from(told.signals[1])
-}
-
-/// The greater of a number and of another, if there is another.
-#[tactic(auto, unfolding(eg_record::specs::Margins::greater_than))]
-fn greater_than(number: i32, other: Option<i32>) -> i32
-    ensures { result ≡ greater_than number other }
-{
-    match other {
-        Some(other) if number < other => other,
-        _ => number,
-    }
 }

@@ -7,7 +7,7 @@ ghost use Rattle.eg_findings.specs.Texts.{signal_columns, signals_header, signal
 
 use crate::{Told, Watches};
 use eg_base::NoMemory;
-use eg_record::Watch;
+use eg_record::{Watch, put_number};
 use itoa::write_digits;
 
 /// The line above the ticks, with its LF (docs/FORMATS.md, "The rows of `signals`").
@@ -33,9 +33,9 @@ pub fn push_signals(text: &mut Vec<u8>, tick: u64, told: &Told) -> Result<(), No
     Ok(())
 }
 
-/// How many bytes are room enough for the numbers of a line: eleven of at most 20 digits, and a comma behind
-/// each.
-const NUMBERS_ROOM: usize = 231;
+/// How many bytes are room enough for the numbers of a line: that of the tick has at most 20 digits, the ten
+/// others have at most ten, and a comma stands behind each.
+const NUMBERS_ROOM: usize = 131;
 
 /// Puts the numbers of a line to the end of an array, with a comma behind each, and tells where they start.
 /// They are put from the last to the first, since the digits of a number are found so.
@@ -47,54 +47,54 @@ fn put_numbers(tick: u64, told: &Told, line: &mut [u8; NUMBERS_ROOM]) -> usize
 {
     let start = put_weights(told, line, NUMBERS_ROOM);
     let start = put_signals(told, line, start);
-    put_number(tick, line, start)
+    put_tick(tick, line, start)
 }
 
 /// Puts the columns of the five signals.
 fn put_signals(told: &Told, line: &mut [u8], end: usize) -> usize
-    requires room { 105 ≤ end }
+    requires room { 55 ≤ end }
     requires within { end ≤ length line.old }
     ensures put { drop result line.new
         ≡ join_with_byte comma (signal_columns told.now) ++ codes "," ++ drop end line.old }
-    ensures few { end ≤ result + 105 }
+    ensures few { end ≤ result + 55 }
     ensures start { result ≤ end }
 {
     let [used, permitted, actual, excess, pairs] = told.signals;
-    let start = put_number(u64::from(pairs), line, end);
-    let start = put_number(u64::from(excess), line, start);
-    let start = put_number(u64::from(actual), line, start);
-    let start = put_number(u64::from(permitted), line, start);
-    put_number(u64::from(used), line, start)
+    let start = put_number(u32::from(pairs), line, end);
+    let start = put_number(u32::from(excess), line, start);
+    let start = put_number(u32::from(actual), line, start);
+    let start = put_number(u32::from(permitted), line, start);
+    put_number(u32::from(used), line, start)
 }
 
 /// Puts the columns of the five weights.
 fn put_weights(told: &Told, line: &mut [u8], end: usize) -> usize
-    requires room { 105 ≤ end }
+    requires room { 55 ≤ end }
     requires within { end ≤ length line.old }
     ensures put { drop result line.new
         ≡ join_with_byte comma (weight_columns told.now) ++ codes "," ++ drop end line.old }
-    ensures few { end ≤ result + 105 }
+    ensures few { end ≤ result + 55 }
     ensures start { result ≤ end }
 {
     let counters = &told.counters;
-    let start = put_number(u64::from(counters.torque), line, end);
-    let start = put_number(u64::from(counters.speed), line, start);
-    let start = put_number(u64::from(counters.load), line, start);
-    let start = put_number(u64::from(counters.plate), line, start);
-    put_number(u64::from(counters.pedal), line, start)
+    let start = put_number(u32::from(counters.torque), line, end);
+    let start = put_number(u32::from(counters.speed), line, start);
+    let start = put_number(u32::from(counters.load), line, start);
+    let start = put_number(u32::from(counters.plate), line, start);
+    put_number(u32::from(counters.pedal), line, start)
 }
 
-/// Puts a number and a comma before a place of a line, and tells where it starts.
-fn put_number(number: u64, line: &mut [u8], end: usize) -> usize
+/// Puts the number of the tick and a comma before a place of a line, and tells where it starts.
+fn put_tick(tick: u64, line: &mut [u8], end: usize) -> usize
     requires room { 21 ≤ end }
     requires within { end ≤ length line.old }
-    ensures put { drop result line.new ≡ decimal number ++ codes "," ++ drop end line.old }
+    ensures put { drop result line.new ≡ decimal tick ++ codes "," ++ drop end line.old }
     ensures few { end ≤ result + 21 }
     ensures start { result ≤ end }
 {
     let comma = end - 1;
     line[comma] = b',';
-    write_digits(number, line, comma)
+    write_digits(tick, line, comma)
 }
 
 /// Appends the names of the watches that are found, or `-`.

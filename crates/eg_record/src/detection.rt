@@ -119,7 +119,7 @@ pub(crate) fn above(row: &Row, threshold: u16) -> u16
 
 /// Whether one of these watches trips.
 #[tactic(auto, unfolding(crate::specs::Detection::is_trip))]
-pub(crate) fn is_trip(found: &Watches) -> bool
+pub fn is_trip(found: &Watches) -> bool
     ensures { result ≡ is_trip found.now }
 {
     found.mirror || found.plate || found.load || found.speed || found.torque

@@ -16,14 +16,14 @@ mod summary_line;
 mod tally;
 mod watch;
 
-pub use detection::{detections_are_first, off_ticks_are_first, on_ticks_are_last};
+pub use detection::{detections_are_first, is_trip, off_ticks_are_first, on_ticks_are_last};
 pub use eg_answer::{AnswerMark, Verdict};
 pub use eg_num::{Drive, Watches};
 pub use facts::Facts;
-pub use margins::{Counters, MarginTally, Margins};
+pub use margins::{Counters, MarginTally, Margins, greater_than};
 pub use reactions::Reactions;
 pub use row::Row;
-pub use row_line::{ROW_ROOM, push_row, record_header, row_text};
+pub use row_line::{ROW_ROOM, push_row, put_number, record_header, row_text};
 pub use run_facts::RunFacts;
 pub use summary::{Summary, summarize};
 pub use summary_line::{report_end_text, summary_text, trap_name};

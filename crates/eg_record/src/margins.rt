@@ -164,7 +164,7 @@ fn surplus_at(row: &Row) -> i32
 
 /// The greater of a number and of another, if there is another.
 #[tactic(auto, unfolding(crate::specs::Margins::greater_than))]
-fn greater_than(number: i32, other: Option<i32>) -> i32
+pub fn greater_than(number: i32, other: Option<i32>) -> i32
     ensures { result ≡ greater_than number other }
 {
     match other {

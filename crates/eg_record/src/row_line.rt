@@ -82,11 +82,12 @@ fn put_columns(row: &Row, line: &mut [u8], end: usize) -> usize
 }
 
 /// Puts a number and a comma before a place of a line, and tells where it starts.
-fn put_number(number: u32, line: &mut [u8], end: usize) -> usize
+pub fn put_number(number: u32, line: &mut [u8], end: usize) -> usize
     requires room { 11 ≤ end }
     requires within { end ≤ length line.old }
     ensures put { drop result line.new ≡ decimal number ++ codes "," ++ drop end line.old }
     ensures few { end ≤ result + 11 }
+    ensures start { result ≤ end }
     ensures ascii { IsAscii (decimal number) }
 {
     let comma = end - 1;

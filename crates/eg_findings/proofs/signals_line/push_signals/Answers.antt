@@ -6,5 +6,5 @@ use Rattle.eg_findings.proofs.signals_line.push_signals.Goals as goal
 pub returns-clause-line : goal.returns-clause-line
 returns-clause-line c =
     signals_line-is c.args.tick c.args.told.now _ _ _ _ _
-    (rest-whole 231 c.put_numbers-start.result c.put_numbers-start.new.line (omega arith) ∙ c.put_numbers-start.ensures.put)
+    (rest-whole 131 c.put_numbers-start.result c.put_numbers-start.new.line (omega arith) ∙ c.put_numbers-start.ensures.put)
     c.in_ok-extend_from_slice.ensures.items c.in_ok-push_found.ensures.found c.in_ok-push.ensures.items

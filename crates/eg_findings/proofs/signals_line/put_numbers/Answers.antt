@@ -9,5 +9,5 @@ groups a b c end one two all none last next first =
 
 pub returns-clause-put : goal.returns-clause-put
 returns-clause-put c =
-    groups _ _ _ _ _ _ _ (drop_of_length-le c.args.line.now {i = 231} (omega arith)) c.put_weights-start.ensures.put c.put_signals-start.ensures.put c.put_number.ensures.put
+    groups _ _ _ _ _ _ _ (drop_of_length-le c.args.line.now {i = 131} (omega arith)) c.put_weights-start.ensures.put c.put_signals-start.ensures.put c.put_tick.ensures.put
     ∙ simp append_assoc
