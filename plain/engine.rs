@@ -1,4 +1,4 @@
-//! The two engines: each makes one step a tick, by the plant of the calibration.
+//! The engines: two make one step a tick, by the plant of the calibration; the steps of a third are made elsewhere.
 
 use crate::calibration::{Calibration, moved_toward};
 
@@ -9,10 +9,11 @@ pub enum Kind {
     Diesel,
 }
 
-/// What an engine shows: its position, its load, which both tracks of the pair read, and its torque.
+/// What an engine shows: its position, the loads for both tracks, and its torque.
+#[derive(Clone, Copy)]
 pub struct Shown {
     pub position: u16,
-    pub load: u16,
+    pub loads: [u16; 2],
     pub torque: u16,
 }
 
@@ -40,6 +41,24 @@ pub struct Diesel {
     torque: u16,
 }
 
+/// An engine elsewhere, which tells after each of its steps what it shows.
+pub struct Foreign {
+    pub told: Shown,
+}
+
+impl Engine for Foreign {
+    fn at_rest(_: &Calibration) -> Foreign {
+        Foreign { told: Shown { position: 0, loads: [0; 2], torque: 0 } }
+    }
+
+    fn step(&mut self, _: &Calibration, _: [u16; 2], _: bool, _: Option<u16>) {}
+
+    #[inline(always)]
+    fn shown(&self) -> Shown {
+        self.told
+    }
+}
+
 impl Engine for Gasoline {
     fn at_rest(cal: &Calibration) -> Gasoline {
         Gasoline { plate: 0, charge: cal.charge.at(0), torque: 0 }
@@ -55,7 +74,7 @@ impl Engine for Gasoline {
 
     #[inline(always)]
     fn shown(&self) -> Shown {
-        Shown { position: self.plate, load: self.charge, torque: self.torque }
+        Shown { position: self.plate, loads: [self.charge; 2], torque: self.torque }
     }
 }
 
@@ -74,7 +93,7 @@ impl Engine for Diesel {
 
     #[inline(always)]
     fn shown(&self) -> Shown {
-        Shown { position: self.rack, load: self.quantity, torque: self.torque }
+        Shown { position: self.rack, loads: [self.quantity; 2], torque: self.torque }
     }
 }
 

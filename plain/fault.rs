@@ -63,6 +63,12 @@ impl Effects {
         path1: None,
         path2: None,
     };
+
+    /// Whether each path conducts, where the latches are open or not.
+    #[inline(always)]
+    pub fn conduct(&self, open1: bool, open2: bool) -> [bool; 2] {
+        [self.path1.unwrap_or(!open1), self.path2.unwrap_or(!open2)]
+    }
 }
 
 impl Fault {

@@ -7,12 +7,13 @@
 //! `bench/fuzz`. Nothing of it is proved.
 //! Usage: check [--cal NAME] FILE, bound [--cal NAME], limits [--cal NAME], answers FILE, run [--cal NAME] CAMPAIGN,
 //! table [--cal NAME] CAMPAIGN, margins [--cal NAME] CAMPAIGN, record [--cal NAME] CAMPAIGN RUN,
-//! sweep [--cal NAME] CAMPAIGN RUN STEP, soak SEED RUNS, replay [--cal NAME], signals [--cal NAME], asm FILE,
-//! dis FILE
+//! couple [--cal NAME] CAMPAIGN RUN, sweep [--cal NAME] CAMPAIGN RUN STEP, soak SEED RUNS, replay [--cal NAME],
+//! signals [--cal NAME], asm FILE, dis FILE
 
 mod calibration;
 mod calibration_file;
 mod campaign;
+mod couple;
 mod engine;
 mod fault;
 mod files;
@@ -20,6 +21,7 @@ mod keys;
 mod level1;
 mod level2;
 mod level3;
+mod lines;
 mod margins;
 mod measurement;
 mod record;
@@ -43,6 +45,7 @@ use std::process::exit;
 
 use calibration::{Calibration, Drive, exceeds, reference};
 use campaign::Plan;
+use couple::{Coupled, Partner};
 use measurement::Measurement;
 use replay::{Level2, Summary};
 use unit::{Run, play};
@@ -222,10 +225,15 @@ impl Call<'_> {
         Ok(plans.len())
     }
 
+    /// The run of that name.
+    fn named(&self, name: &str) -> Result<Plan, End> {
+        let named = self.campaign()?.into_iter().find(|plan| plan.name == name);
+        named.ok_or_else(|| End::Refused("no such run".to_string()))
+    }
+
     /// The run of that name, with its drive and its image.
     fn loaded(&self, name: &str) -> Result<(Plan, Vec<Drive>, Vec<u16>), End> {
-        let named = self.campaign()?.into_iter().find(|plan| plan.name == name);
-        let plan = named.ok_or_else(|| End::Refused("no such run".to_string()))?;
+        let plan = self.named(name)?;
         let (drives, image) = (self.drives(&plan)?, self.image(&plan)?);
         Ok((plan, drives, image))
     }
@@ -274,6 +282,23 @@ fn record(call: &Call, name: &str, out: &mut Output) -> Result<(), End> {
         }
     });
     Ok(written?)
+}
+
+/// The unit of a run around an engine that a partner has: each line is put before the partner's answer is read.
+fn couple(call: &Call, name: &str, out: &mut Output) -> Result<(), End> {
+    let plan = call.named(name)?;
+    let image = call.image(&plan)?;
+    let (mut coupled, mut partner) = (Coupled::new(&call.cal, &image, &plan), Partner::begin()?);
+    put(couple::header().as_bytes(), out)?;
+    let mut line = record::Line::new();
+    let mut next = coupled.commands();
+    put(line.coupled(None, &next), out)?;
+    while let Some(answer) = partner.next(call.cal.kt, next.on)? {
+        let row = coupled.tick(&answer);
+        next = coupled.commands();
+        put(line.coupled(row.as_ref(), &next), out)?;
+    }
+    Ok(())
 }
 
 /// Puts a line by a write of its own, as the proved program does.
@@ -379,6 +404,7 @@ fn work(words: &[&str], out: &mut Output) -> Result<(), End> {
         (["table", file], _) if is_name(file) => table(&called(file)?, out),
         (["margins", file], _) if is_name(file) => margins(&called(file)?, out),
         (["record", file, run], _) if is_name(file) && is_name(run) => record(&called(file)?, run, out),
+        (["couple", file, run], _) if is_name(file) && is_name(run) => couple(&called(file)?, run, out),
         (["sweep", file, run, step], _) if is_name(file) && is_name(run) => {
             let step = step_of(step)?;
             sweep(&called(file)?, run, step, out)

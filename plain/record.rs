@@ -1,9 +1,9 @@
-//! The lines of records, and those of `signals`.
+//! The lines of records, of `couple` and of `signals`.
 
 use crate::level2::{WATCHES, Watches};
 use crate::level3::Mark;
 use crate::replay::Tick;
-use crate::unit::Row;
+use crate::unit::{Commands, Row};
 
 pub const HEADER: &str = "tick,pedal,speed,raise,plate,charge,torque,limit,path1,path2,on,used,permitted,actual,\
     excess,pairs,throttle,ignition,found,answer,verdict\n";
@@ -68,6 +68,39 @@ impl Line {
 
     /// The line of a row, with its line feed.
     pub fn row(&mut self, row: &Row) -> &[u8] {
+        self.told(row);
+        self.ended()
+    }
+
+    /// The line of a row and of what is commanded next, with its line feed. Without a row it has `-` for each column.
+    pub fn coupled(&mut self, row: Option<&Row>, next: &Commands) -> &[u8] {
+        match row {
+            Some(row) => self.told(row),
+            None => self.no_row(),
+        }
+        self.byte(b',');
+        self.numbers(&[next.throttle, next.ignition]);
+        self.truths(&[next.on]);
+        match next.held {
+            Some(held) => self.text(&held.to_string()),
+            None => self.byte(b'-'),
+        }
+        self.ended()
+    }
+
+    fn ended(&mut self) -> &[u8] {
+        self.byte(b'\n');
+        &self.bytes[..self.length]
+    }
+
+    fn no_row(&mut self) {
+        self.length = 0;
+        HEADER.matches(',').for_each(|_| self.text("-,"));
+        self.byte(b'-');
+    }
+
+    /// The columns of a row.
+    fn told(&mut self, row: &Row) {
         self.length = 0;
         self.number(row.tick);
         self.numbers(&[row.drive.pedal, row.drive.speed, row.drive.raise]);
@@ -82,11 +115,10 @@ impl Line {
             Mark::Bad => ",bad",
         });
         self.text(match row.verdict {
-            None => ",-\n",
-            Some(true) => ",right\n",
-            Some(false) => ",wrong\n",
+            None => ",-",
+            Some(true) => ",right",
+            Some(false) => ",wrong",
         });
-        &self.bytes[..self.length]
     }
 
     /// The line of a tick of level 2 alone, with its line feed.

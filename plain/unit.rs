@@ -10,10 +10,10 @@ use crate::level3::{self, Judgement, Mark, Monitor};
 /// The ten tracks: those of the pairs, and the contacts of the brake.
 #[inline(always)]
 fn tracks(shown: &Shown, drive: &Drive, effects: &Effects) -> [u16; 10] {
-    let (pedal, position, load, speed) = (drive.pedal, shown.position, shown.load, drive.speed);
-    let brake = u16::from(drive.brake);
+    let (pedal, position, speed) = (drive.pedal, shown.position, drive.speed);
+    let ([first, second], brake) = (shown.loads, u16::from(drive.brake));
     let mut tracks =
-        [pedal, 1000 - pedal, position, 1000 - position, load, load, speed, speed, brake, 1 - brake];
+        [pedal, 1000 - pedal, position, 1000 - position, first, second, speed, speed, brake, 1 - brake];
     match effects.track {
         None => {}
         Some((track, Reading::Value(value))) => tracks[track] = value,
@@ -39,6 +39,7 @@ fn ports(cal: &Calibration, shown: &Shown, drive: &Drive, effects: &Effects) -> 
 }
 
 /// A row of the record.
+#[derive(Clone, Copy)]
 pub struct Row {
     pub tick: u32,
     pub drive: Drive,
@@ -64,6 +65,16 @@ pub struct Row {
     pub weights: [u16; 6],
 }
 
+/// What is commanded to the engine at a tick.
+pub struct Commands {
+    pub throttle: u16,
+    pub ignition: u16,
+    /// Whether the stages are on.
+    pub on: bool,
+    /// Where the plate is held, if it is.
+    pub held: Option<u16>,
+}
+
 /// What level 2 says of a tick.
 struct Orders {
     found: Watches,
@@ -75,7 +86,7 @@ pub struct Unit<'a, E> {
     cal: &'a Calibration,
     words: Words,
     machine: Machine,
-    engine: E,
+    pub engine: E,
     monitor: Monitor,
     /// The tick of the run.
     ticks: u32,
@@ -94,7 +105,7 @@ pub struct Unit<'a, E> {
 }
 
 impl<'a, E: Engine> Unit<'a, E> {
-    fn new(cal: &'a Calibration, image: &[u16]) -> Unit<'a, E> {
+    pub fn new(cal: &'a Calibration, image: &[u16]) -> Unit<'a, E> {
         let mut words = [0; 4096];
         words[..image.len()].copy_from_slice(image);
         level2::reset(&mut words);
@@ -130,9 +141,23 @@ impl<'a, E: Engine> Unit<'a, E> {
         (self.open1, self.open2) = (false, false);
     }
 
+    /// What the next tick will command, unless its drive row resets the unit: nothing yet where a span begins.
+    pub fn commands(&self, effects: &Effects) -> Commands {
+        let [open1, open2] = [self.open1 && !self.passed, self.open2 && !self.passed];
+        let [throttle, ignition] = if self.passed { [0, 0] } else { self.outputs() };
+        let on = (self.drives || self.passed) && effects.conduct(open1, open2) == [true, true];
+        Commands { throttle, ignition, on, held: effects.held }
+    }
+
+    /// Level 1's outputs as they stand.
+    #[inline(always)]
+    fn outputs(&self) -> [u16; 2] {
+        [self.words[THROTTLE], self.words[IGNITION]]
+    }
+
     /// One tick of all three levels: shows its row.
     #[inline(always)]
-    fn tick(&mut self, drive: &Drive, budget: &[u16; 9], effects: &Effects, show: &mut impl FnMut(&Row)) {
+    pub fn tick(&mut self, drive: &Drive, budget: &[u16; 9], effects: &Effects, show: &mut impl FnMut(&Row)) {
         if drive.reset || self.passed {
             self.begin_span(!drive.reset);
         }
@@ -152,11 +177,9 @@ impl<'a, E: Engine> Unit<'a, E> {
     /// A tick at which the engine is driven, or the paths are tested, and its row.
     #[inline(always)]
     fn tick_in<const DRIVES: bool>(&mut self, drive: &Drive, budget: &[u16; 9], effects: &Effects) -> Row {
-        let path1 = effects.path1.unwrap_or(!self.open1);
-        let path2 = effects.path2.unwrap_or(!self.open2);
+        let [path1, path2] = effects.conduct(self.open1, self.open2);
         let on = DRIVES && path1 && path2;
-        let commands = [self.words[THROTTLE], self.words[IGNITION]];
-        self.engine.step(self.cal, commands, on, effects.held);
+        self.engine.step(self.cal, self.outputs(), on, effects.held);
         let shown = self.engine.shown();
         self.words[PORTS..PORTS + 10].copy_from_slice(&ports(self.cal, &shown, drive, effects));
         let asked = self.asked(effects);
@@ -276,7 +299,7 @@ impl<'a, E: Engine> Unit<'a, E> {
             tick: self.ticks,
             drive: *drive,
             plate: shown.position,
-            charge: shown.load,
+            charge: shown.loads[0],
             torque: shown.torque,
             limit,
             path1: paths[0],

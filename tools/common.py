@@ -218,7 +218,9 @@ def record_of(name, lines):
     try:
         if not set(names) <= set(rows.fieldnames or ()):
             fail(f"{name} is {'no record' if rows.fieldnames else 'empty'}: was the run refused?")
-        ticks = [[*(int(row[column]) for column in names), row.get("found") or "-"] for row in rows]
+        # The first row of a record by `couple` has no tick: it only tells what is commanded.
+        ticks = [[*(int(row[column]) for column in names), row.get("found") or "-"]
+                 for row in rows if row["torque"] != "-"]
     except (TypeError, ValueError):
         fail(f"{name} is no record: line {rows.line_num} has no numbers of a tick")
     except csv.Error:

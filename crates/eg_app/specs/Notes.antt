@@ -16,6 +16,8 @@ use Rattle.eg_plan.specs.Keys.{text_of as run_key_text}
 use Rattle.eg_outcome.specs.Changes.{Change}
 use Rattle.eg_outcome.specs.declared.outcome.Outcome.{Outcome}
 use Rattle.eg_outcome.specs.declared.outcome.Outcome.TheVariants as outcome
+use Rattle.eg_outcome.specs.declared.outcome.AnswerFault.{AnswerFault}
+use Rattle.eg_outcome.specs.declared.outcome.AnswerFault.TheVariants as answer_fault
 use Rattle.eg_outcome.specs.declared.outcome.Refusal.{Refusal}
 use Rattle.eg_outcome.specs.declared.outcome.Refusal.TheVariants as refusal
 use Rattle.eg_outcome.specs.declared.outcome.Role.{Role}
@@ -109,6 +111,13 @@ trace_note (trace_fault.Row line) = codes ": record " ++ decimal line ++ codes "
 trace_note trace_fault.Empty = codes ": no records\n"
 trace_note trace_fault.Long = codes ": more than 20000 records\n"
 
+-- what is said of an answer that breaks a law of engines behind the name of the input
+abbrev pub answer_note : AnswerFault → List ℕ
+answer_note (answer_fault.LoadBelowTorque n) =
+    codes ": load below torque in record " ++ decimal n ++ codes "\n"
+answer_note (answer_fault.TorqueWhileOff n) =
+    codes ": torque with the stages off in record " ++ decimal n ++ codes "\n"
+
 -- what is said of an image's fault behind the file's name
 abbrev pub image_note : ImageFault → List ℕ
 image_note image_fault.Memory = codes ": no memory\n"
@@ -153,6 +162,7 @@ refusal_note (refusal.Trace _ fault) file = shown_name file ++ trace_note fault
 refusal_note (refusal.Image _ fault) file = shown_name file ++ image_note fault
 refusal_note refusal.NoRun file = codes "no such run\n"
 refusal_note (refusal.Source fault) file = shown_name file ++ source_note fault
+refusal_note (refusal.Answer fault) file = shown_name file ++ answer_note fault
 refusal_note refusal.Grid file = codes "grid too large\n"
 
 -- the line that notes an outcome, for a file of this name

@@ -266,7 +266,7 @@ fn is_on_file(command: &str, words: &[String], own: usize) -> bool
 
 /// Whether the words are this one and `count` of its own, which begin at place `own` with the names of a
 /// campaign and of a run. What a third one says isn't looked at.
-fn is_on_run(command: &str, words: &[String], own: usize, count: usize) -> bool
+pub fn is_on_run(command: &str, words: &[String], own: usize, count: usize) -> bool
     requires least { 1 ≤ own }
     requires most { own ≤ 3 }
     requires two { 2 ≤ count }

@@ -10,6 +10,6 @@ mod shown;
 mod soak;
 
 pub use call::egasim;
-pub use command::{is_alone, names_calibration};
+pub use command::{is_alone, is_on_run, names_calibration};
 pub use eg_outcome::{Outcome, Refusal, Role};
 pub use note::put_note;

@@ -1,12 +1,12 @@
 // What a note says of a refusal.
 ghost use Rattle.std.specs.Prelude.{◌≡◌, ◌++◌, ℕ, List, decimal};
-ghost use Rattle.eg_app.specs.Notes.{line_said, refusal_note, calibration_note, trace_note, image_note, source_note, campaign_note};
+ghost use Rattle.eg_app.specs.Notes.{line_said, refusal_note, calibration_note, trace_note, answer_note, image_note, source_note, campaign_note};
 ghost use Rattle.eg_app.specs.Shown.{shown_name};
 
 use eg_asm::AsmFault;
 use eg_cal::CalFault;
 use eg_input::{ImageFault, TraceFault};
-use eg_outcome::Refusal;
+use eg_outcome::{AnswerFault, Refusal};
 use eg_plan::CampaignFault;
 
 /// The words of a note. Behind the name of the file they are about, if it is about a file (docs/FORMATS.md,
@@ -48,6 +48,7 @@ pub(crate) fn refusal_says(refusal: &Refusal) -> Says<'_>
         Refusal::Image { fault, .. } => image_says(fault),
         Refusal::NoRun => Says::Alone(b"no such run\n"),
         Refusal::Source(fault) => source_says(fault),
+        Refusal::Answer(fault) => answer_says(fault),
         Refusal::Grid => Says::Alone(b"grid too large\n"),
     }
 }
@@ -83,6 +84,24 @@ fn trace_says(fault: &TraceFault) -> Says<'_>
         TraceFault::Row { line } => numbered(b": record ", *line, b"\n"),
         TraceFault::Empty => Says::Words(b": no records\n"),
         TraceFault::Long => Says::Words(b": more than 20000 records\n"),
+    }
+}
+
+/// What is said of an answer that breaks a law of engines.
+fn answer_says(fault: &AnswerFault) -> Says<'_>
+    ensures { (file : List ℕ) → line_said result file ≡ shown_name file ++ answer_note fault.now }
+{
+    match fault {
+        AnswerFault::LoadBelowTorque { record } => numbered(
+            b": load below torque in record ",
+            *record,
+            b"\n",
+        ),
+        AnswerFault::TorqueWhileOff { record } => numbered(
+            b": torque with the stages off in record ",
+            *record,
+            b"\n",
+        ),
     }
 }
 

@@ -1,12 +1,14 @@
 -- When the work on lines is done, from how the call ends.
 use Rattle.std.proofs.Common.{◌≡◌, ◌∙◌, refl, sym, ap, subst, ℕ, List, [], ◌∷◌, ◌++◌, length, Option, Some, None, inl, inr, append-nil, arith}
-use Rattle.std.specs.Prelude.{◌⊎◌, option_map, IfSome}
+use Rattle.std.specs.Prelude.{◌⊎◌, option_map, IfSome, Ok, Err}
 use Rattle.std.specs.List.{AllZip}
 use Rattle.eg_base.specs.Outside.{ShownStore, ShownSink}
 use Rattle.eg_lines.specs.Lines.{ShownLines}
 use Rattle.eg_input.specs.declared.fault.TraceFault.TheVariants as fault
 use Rattle.eg_outcome.specs.Changes.{Change}
+use Rattle.eg_outcome.specs.Lines.{Line, Come, IsAtEnd}
 use Rattle.eg_outcome.specs.Outcomes.{IsDoneOrMemory}
+use Rattle.eg_values.specs.Calibration.{CalibrationParts}
 use Rattle.eg_outcome.specs.declared.outcome.Outcome.{Outcome}
 use Rattle.eg_outcome.specs.declared.outcome.Outcome.TheVariants as outcome
 use Rattle.eg_outcome.specs.declared.outcome.Refusal.TheVariants as refusal
@@ -14,13 +16,15 @@ use Rattle.eg_outcome.specs.declared.outcome.Role.TheVariants as role
 use Rattle.eg_readings.specs.declared.columns.Columns.{Columns}
 use Rattle.eg_readings.specs.declared.recorded.Recorded.{Recorded}
 use Rattle.eg_readings.specs.Recording.{columns_of, recorded_of}
-use Rattle.eg_replay.specs.Streams.{Line, Come, IsAtEnd, Writes, LacksHeader, LacksRecords, HasBadLine, StreamEnds}
+use Rattle.eg_replay.specs.Streams.{Writes, LacksHeader, LacksRecords, HasBadLine, StreamEnds, StreamCommandEnds, replay_writes, signals_writes}
 use Rattle.eg_replay.proofs.ReadLemmas.{recording-long}
 use Rattle.eg_app.specs.Ends.{WritesWell}
 use Rattle.eg_app.proofs.ChainLemmas.{of_work}
 use Rattle.eg_app.proofs.FileLemmas.{calibration_done}
-use Rattle.eg_open.specs.Words.{LineCommand, calibration_of}
-use Rattle.eg_open.specs.Ends.{LinesEnd, LinesComplete, HoldsRecording, writes_of}
+use Rattle.eg_couple.specs.Streams.{Coupling}
+use Rattle.eg_open.specs.Words.{LineCommand, replay, signals, couple}
+use Rattle.eg_open.specs.Ends.{LinesEnd, LinesComplete, HoldsRecording, RecordingCompletes}
+use Rattle.eg_open.proofs.CoupleLemmas.{coupling_completes}
 
 -- of a recording in which a line has others on both sides, the line writes something
 no_bad_line : (columns : Columns) (front : List Line) (line : Line) (rest : List Line) (recorded : List Recorded) →
@@ -88,10 +92,28 @@ module _ (lines : Change ShownLines) (holds : HoldsRecording lines.before) where
   stream_done writes out (outcome.Refused (refusal.Check (fault.Row number))) ends still = absurd (has_no_bad_line ends.0)
   stream_done writes out _ ends still = absurd ends
 
+-- where nothing was done, this too is as it was
+pub recording_ends : (writes : CalibrationParts → Writes) (nothing more : Type 0) → (nothing → more) → (calibration : Option (List ℕ))
+    (store : Change ShownStore) (lines : Change ShownLines) (out : Change ShownSink) (o : Outcome)
+    → StreamCommandEnds writes nothing calibration store lines out o → StreamCommandEnds writes more calibration store lines out o
+recording_ends writes nothing more also calibration store lines out o (Ok cal, comes, works) = (Ok cal, comes, works)
+recording_ends writes nothing more also calibration store lines out o (Err end, comes, (is, same)) = (Err end, comes, (is, also same))
+
+-- a call over a recording that ends so completes its work
+recording_completes : (writes : CalibrationParts → Writes) (calibration : Option (List ℕ)) (nothing : Type 0) (store : Change ShownStore)
+    (lines : Change ShownLines) (out : Change ShownSink) (o : Outcome)
+    → StreamCommandEnds writes nothing calibration store lines out o → RecordingCompletes calibration store lines.before out o
+recording_completes writes calibration nothing store lines out o ends = λ finds accepts holds still.
+    of_work IsDoneOrMemory o ends (calibration_done calibration store finds accepts)
+    (λ cal come works. stream_done lines holds (writes cal) out o works.1 still)
+
 -- a call that ends so completes its work
-pub lines_complete : (command : Option LineCommand) (nothing : Type 0) (store : Change ShownStore) (lines : Change ShownLines)
-    (out : Change ShownSink) (o : Outcome) → LinesEnd command nothing store lines out o → LinesComplete command store lines.before out o
-lines_complete None nothing store lines out o ends = tt
-lines_complete (Some command) nothing store lines out o ends = λ finds accepts holds still.
-    of_work IsDoneOrMemory o ends (calibration_done (calibration_of command) store finds accepts)
-    (λ cal come works. stream_done lines holds (writes_of command cal) out o works.1 still)
+pub lines_complete : (command : Option LineCommand) (nothing : Type 0) (store : Change ShownStore) (call : Coupling) (o : Outcome)
+    → LinesEnd command nothing store call o → LinesComplete command store call.lines.before call.out o
+lines_complete None nothing store call o ends = tt
+lines_complete (Some (replay calibration)) nothing store call o ends =
+    recording_completes replay_writes calibration nothing store call.lines call.out o ends.1
+lines_complete (Some (signals calibration)) nothing store call o ends =
+    recording_completes signals_writes calibration nothing store call.lines call.out o ends.1
+lines_complete (Some (couple calibration campaign name)) nothing store call o ends =
+    coupling_completes calibration campaign name nothing store call o ends

@@ -1,28 +1,39 @@
 // The words of a command that reads lines.
-ghost use Rattle.std.specs.Prelude.{◌≡◌, ◌≤◌, option_map};
+ghost use Rattle.std.specs.Prelude.{◌≡◌, ◌≤◌, ◌||◌, bytes_eq, codes, option_map, Some};
 ghost use Rattle.std.specs.Option.{option_copied};
 ghost use Rattle.eg_app.specs.Words.{word_bytes};
 ghost use Rattle.eg_outcome.specs.Roles.{role_in};
+ghost use Rattle.eg_outcome.specs.declared.outcome.Role.TheVariants as role;
 ghost use Rattle.eg_open.specs.Words.{is_open, line_command_of, line_form, said, calibration_of, name_in_words};
 
-use eg_app::{is_alone, names_calibration};
+use eg_app::{is_alone, is_on_run, names_calibration};
 use eg_outcome::{Outcome, Role};
 
-/// What the words ask for (docs/FORMATS.md, "Commands"), by the calibration in the file behind `--cal`, or by
-/// the reference calibration where there is none.
+/// What the words ask for (docs/FORMATS.md, "Commands"), by the calibration in the file behind `--cal`, or
+/// by the reference calibration where there is none.
 #[derive(Clone, Copy)]
 pub(crate) enum LineCommand<'a> {
     /// `replay [--cal NAME]`.
-    Replay { calibration: Option<&'a str> },
+    Replay {
+        calibration: Option<&'a str>,
+    },
     /// `signals [--cal NAME]`.
-    Signals { calibration: Option<&'a str> },
+    Signals {
+        calibration: Option<&'a str>,
+    },
+    /// `couple [--cal NAME] CAMPAIGN RUN`.
+    Couple {
+        calibration: Option<&'a str>,
+        campaign: &'a str,
+        name: &'a str,
+    },
 }
 
-/// Whether the first word is `replay` or `signals`: such a command reads lines.
+/// Whether the first word is `replay`, `signals` or `couple`: such a command reads lines.
 pub fn reads_lines(words: &[String]) -> bool
     ensures { result ≡ is_open (word_bytes words.now) }
 {
-    !words.is_empty() && (words[0].as_str() == "replay" || words[0].as_str() == "signals")
+    !words.is_empty() && is_open(words[0].as_str())
 }
 
 impl<'a> LineCommand<'a> {
@@ -37,7 +48,7 @@ impl<'a> LineCommand<'a> {
         LineCommand::of_form(words, None, 1)
     }
 
-    /// The same, by this calibration, where the words are `own` in all.
+    /// The same, by this calibration, where the command's own words begin at place `own`.
     #[tactic(auto, unfolding(crate::specs::Words::line_form))]
     fn of_form(
         words: &'a [String],
@@ -55,6 +66,13 @@ impl<'a> LineCommand<'a> {
         if is_alone("signals", words, own) {
             return Some(LineCommand::Signals { calibration });
         }
+        if is_on_run("couple", words, own, 2) {
+            return Some(LineCommand::Couple {
+                calibration,
+                campaign: words[own].as_str(),
+                name: words[own + 1].as_str(),
+            });
+        }
         None
     }
 
@@ -65,6 +83,7 @@ impl<'a> LineCommand<'a> {
     {
         match outcome.role() {
             Some(Role::Calibration) => self.calibration().unwrap_or(""),
+            Some(Role::Campaign) => self.campaign(),
             Some(_) => "standard input",
             None => "",
         }
@@ -77,6 +96,26 @@ impl<'a> LineCommand<'a> {
         match self {
             LineCommand::Replay { calibration } | LineCommand::Signals { calibration } =>
                 calibration,
+            LineCommand::Couple { calibration, .. } => calibration,
         }
     }
+
+    /// The name of the campaign. Of a command without one it is that of standard input, of which no
+    /// outcome with such a role speaks.
+    fn campaign(self) -> &'a str
+        ensures { result.now ≡ name_in_words (said self.entry) (Some role.Campaign) }
+    {
+        match self {
+            LineCommand::Replay { .. } | LineCommand::Signals { .. } => "standard input",
+            LineCommand::Couple { campaign, .. } => campaign,
+        }
+    }
+}
+
+/// Whether this is the first word of a command that reads lines.
+fn is_open(word: &str) -> bool
+    ensures { result ≡ (bytes_eq word.now (codes "replay") || bytes_eq word.now (codes "signals")
+        || bytes_eq word.now (codes "couple")) }
+{
+    word == "replay" || word == "signals" || word == "couple"
 }

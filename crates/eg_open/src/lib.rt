@@ -1,4 +1,4 @@
-//! The top call over lines that come one by one: `replay` and `signals`.
+//! The top call over lines that come one by one: `replay`, `signals` and `couple`.
 #![tactic(auto)]
 
 mod call;

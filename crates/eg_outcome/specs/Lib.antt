@@ -3,6 +3,7 @@ pub mod Files
 pub mod Status
 pub mod Roles
 pub mod Outcomes
+pub mod Lines
 pub mod Reads
 pub mod Images
 pub mod Calibrations

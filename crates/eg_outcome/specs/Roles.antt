@@ -12,6 +12,7 @@ role_in (outcome.ReadFault file) = Some file
 role_in (outcome.Refused (refusal.Size file)) = Some file
 role_in (outcome.Refused (refusal.Calibration _)) = Some role.Calibration
 role_in (outcome.Refused (refusal.Check _)) = Some role.Check
+role_in (outcome.Refused (refusal.Answer _)) = Some role.Check
 role_in (outcome.Refused (refusal.Campaign _)) = Some role.Campaign
 role_in (outcome.Refused (refusal.Trace n _)) = Some (role.Trace n)
 role_in (outcome.Refused (refusal.Image n _)) = Some (role.Image n)

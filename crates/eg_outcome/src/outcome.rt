@@ -13,9 +13,9 @@ use eg_plan::CampaignFault;
 pub enum Role {
     /// The calibration file behind `--cal`, or that of `answers`.
     Calibration,
-    /// The file of `check`.
+    /// The file of `check`, or standard input for the commands that read lines.
     Check,
-    /// The campaign file of `run`, `table`, `margins`, `record` or `sweep`.
+    /// The campaign file of `run`, `table`, `margins`, `record`, `couple` or `sweep`.
     Campaign,
     /// The drive trace of a run of the campaign, the first being 1.
     Trace { run: u32 },
@@ -23,6 +23,16 @@ pub enum Role {
     Image { run: u32 },
     /// The source of `asm`.
     Source,
+}
+
+/// Why a line of a partner is refused that has the form of an answer: the law of engines that it breaks
+/// (docs/FORMATS.md, "The lines of `couple`"). The first record is 1.
+#[derive(Clone, Copy, PartialEq, Eq)]
+pub enum AnswerFault {
+    /// The estimate of one of the loads lies below the torque.
+    LoadBelowTorque { record: u32 },
+    /// There is torque, though the power stages are off.
+    TorqueWhileOff { record: u32 },
 }
 
 /// Why a file was refused: the first rule that it breaks, in the order of docs/FORMATS.md; or why a run or a
@@ -33,7 +43,8 @@ pub enum Refusal {
     Size { file: Role },
     /// A calibration file. Out of memory is `Outcome::Memory`, and never stands here.
     Calibration(CalFault),
-    /// The records of a check file. Out of memory is `Outcome::Memory`, and never stands here.
+    /// The records of a check file, or the lines of standard input. Out of memory is `Outcome::Memory`, and
+    /// never stands here.
     Check(TraceFault),
     /// A campaign file, or too many ticks of its runs in all. Out of memory never stands here.
     Campaign(CampaignFault),
@@ -45,6 +56,8 @@ pub enum Refusal {
     NoRun,
     /// The lines of a source. Out of memory never stands here.
     Source(AsmFault),
+    /// An answer of a partner that breaks a law of engines.
+    Answer(AnswerFault),
     /// A sweep would have more than 1,000 runs, or its runs more than 1,000,000 ticks in all.
     Grid,
 }
@@ -90,7 +103,7 @@ impl Outcome {
         match self {
             Outcome::ReadFault { file } | Outcome::Refused(Refusal::Size { file }) => Some(*file),
             Outcome::Refused(Refusal::Calibration(_)) => Some(Role::Calibration),
-            Outcome::Refused(Refusal::Check(_)) => Some(Role::Check),
+            Outcome::Refused(Refusal::Check(_) | Refusal::Answer(_)) => Some(Role::Check),
             Outcome::Refused(Refusal::Campaign(_)) => Some(Role::Campaign),
             Outcome::Refused(Refusal::Trace { run, .. }) => Some(Role::Trace { run: *run }),
             Outcome::Refused(Refusal::Image { run, .. }) => Some(Role::Image { run: *run }),

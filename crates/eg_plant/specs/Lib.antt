@@ -2,3 +2,4 @@ pub mod PlantParts
 pub mod Engine
 pub mod Gasoline
 pub mod Keeping
+pub mod Foreign

@@ -1,12 +1,15 @@
-//! The engine: what every engine shows and keeps, the gasoline engine, and the data of its plant.
+//! The engine: what every engine shows and keeps, the gasoline engine, the data of its plant, and an
+//! engine that makes its steps elsewhere.
 #![tactic(auto)]
 
 mod copy_engine;
 mod engine;
+mod foreign_engine;
 mod gasoline_engine;
 mod plant_data;
 
 pub use copy_engine::CopyEngine;
 pub use engine::Engine;
+pub use foreign_engine::{ForeignEngine, Told};
 pub use gasoline_engine::{GasolineEngine, next_plate, torque_of};
 pub use plant_data::PlantData;

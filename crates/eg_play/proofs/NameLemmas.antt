@@ -1,6 +1,6 @@
 -- The names of the files of runs.
-use Rattle.std.proofs.Common.{◌≡◌, ◌∙◌, refl, sym, ap, subst, ℕ, ◌+◌, List, ◌∷◌, ◌++◌, length, Bool, true, false, Option, Some, None, Ok, Err}
-use Rattle.std.specs.Prelude.{All, bytes_eq, if◌then◌else◌, Result, IfErr}
+use Rattle.std.proofs.Common.{◌≡◌, ◌∙◌, refl, sym, ap, subst, ℕ, ◌+◌, ◌<◌, List, [], ◌∷◌, ◌++◌, length, Bool, true, false, Option, Some, None, Ok, Err, length-append, arith}
+use Rattle.std.specs.Prelude.{All, bytes_eq, if◌then◌else◌, Result, IfErr, IfOk, slice_index_or}
 use Rattle.eg_base.specs.Outside.{ShownStore}
 use Rattle.eg_fault.specs.Faults.{IsNoneOrValid}
 use Rattle.eg_plan.specs.Rules.{AreRuns}
@@ -92,6 +92,22 @@ some-by-plan plan n (Err end) (is, of) = subst (IsNamedIfOfRun (role_in end.outc
 -- the faults of an accepted campaign are valid
 pub valid_faults : (plans : List RunPlan) → AreRuns plans → All (λ plan. IsNoneOrValid plan.fault) plans
 valid_faults plans rules = λ k d within. (rules.each k d within).fault
+
+-- the run at hand has a valid fault or none
+pub fault-among : (before : List RunPlan) (plan : RunPlan) (rest plans : List RunPlan) (result : Result RunInput End)
+    → plans ≡ before ++ plan ∷ rest → AreRuns plans → IfOk result (λ input. input.plan ≡ plan) → IfOk result (λ input. IsNoneOrValid input.plan.fault)
+fault-among before plan rest plans (Err end) parts rules same = tt
+fault-among before plan rest plans (Ok input) parts rules same = subst (λ p. IsNoneOrValid p.fault) (sym same) fault
+  where
+    here : (before : List RunPlan) → slice_index_or (before ++ plan ∷ rest) (length before) plan ≡ plan
+    here [] = refl
+    here (x ∷ before) = here before
+
+    fault : IsNoneOrValid plan.fault
+    fault =
+        let within : length before < length plans = (let long = ap length parts ∙ length-append before (plan ∷ rest) in omega arith) in
+        subst (λ p. IsNoneOrValid p.fault) (ap (λ runs. slice_index_or runs (length before) plan) parts ∙ here before)
+        (rules.each (length before) plan within).fault
 
 -- the first run of the list has the name
 pub found-now : (name : List ℕ) (n : ℕ) (plan : RunPlan) (rest : List RunPlan) → bytes_eq plan.name name ≡ true → run_named name n (plan ∷ rest) ≡ Some (n, plan)

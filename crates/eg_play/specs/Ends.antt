@@ -15,7 +15,8 @@ use Rattle.eg_outcome.specs.Changes.{Change, Stays, MeetsNoFault}
 use Rattle.eg_outcome.specs.Files.{AreRead}
 use Rattle.eg_outcome.specs.Outcomes.{LineEnds, WorkFollows, Then}
 pub use Rattle.eg_outcome.specs.Roles.{role_in}
-use Rattle.eg_outcome.specs.Reads.{FileComes, ReadComes}
+use Rattle.eg_outcome.specs.Images.{image_file}
+use Rattle.eg_outcome.specs.Reads.{FileComes, ReadComes, Finds, Accepts}
 use Rattle.eg_outcome.specs.Calibrations.{CalibratedEnds}
 use Rattle.eg_outcome.specs.declared.outcome.Outcome.{Outcome}
 use Rattle.eg_outcome.specs.declared.outcome.Outcome.TheVariants as outcome
@@ -25,7 +26,7 @@ use Rattle.eg_outcome.specs.declared.outcome.Role.TheVariants as role
 use Rattle.eg_sweep.specs.Grid.{is_too_large}
 use Rattle.eg_sweep.specs.Laws.{IsBounded}
 use Rattle.eg_play.specs.Files.{campaign_file, trace_file}
-use Rattle.eg_play.specs.Inputs.{InputComes, InputsCome, FindsInput, AcceptsInput}
+use Rattle.eg_play.specs.Inputs.{ImageComes, InputComes, InputsCome, FindsInput, AcceptsInput}
 use Rattle.eg_play.specs.Headline.{KeepsHeadline}
 use Rattle.eg_tick.specs.Counting.{count_with, RanOutAmong}
 use Rattle.eg_campaign.specs.Plays.{EngineRun, rows_in_time, run_with}
@@ -163,6 +164,19 @@ NamedComes campaign name store come = (plans : Result (List RunPlan) Outcome)
     × FileComes role.Campaign campaign_file campaign store plans
     × Then (λ found made. FoundComes (run_named name 1 found) store made) plans come
 
+-- ---- a run whose drive and engine come from elsewhere ----
+
+-- there is no run of that name, or its image is read, and no trace
+abbrev pub FoundUndriven : Option (ℕ × RunPlan) → Change ShownStore → Result RunInput Outcome → Type 0
+FoundUndriven None store come = (come ≡ Err (outcome.Refused refusal.NoRun)) × MeetsNoFault store
+FoundUndriven (Some found) store come = ImageComes store found.0 found.1 [] come
+
+-- the campaign is read, and then the image of its run of that name
+abbrev pub UndrivenComes : (campaign name : List ℕ) → Change ShownStore → Result RunInput Outcome → Type 0
+UndrivenComes campaign name store come = (plans : Result (List RunPlan) Outcome)
+    × FileComes role.Campaign campaign_file campaign store plans
+    × Then (λ found made. FoundUndriven (run_named name 1 found) store made) plans come
+
 -- the input of the run of that name comes, and the work follows with it
 abbrev pub NamedEnds :
     (campaign name : List ℕ) → (RunInput → Call → Outcome → Type 0) → Call → Outcome → Type 0
@@ -197,6 +211,12 @@ abbrev pub AcceptsNamed : Change ShownStore → Option (ℕ × RunPlan) → Type
 AcceptsNamed store None = ⊥
 AcceptsNamed store (Some found) =
     FindsInput store found.1 × AcceptsInput (λ count. None) store.before found.0 found.1
+
+-- the run is there, its image is found, and whatever a read of it may give is accepted
+abbrev pub AcceptsUndriven : Change ShownStore → Option (ℕ × RunPlan) → Type 0
+AcceptsUndriven store None = ⊥
+AcceptsUndriven store (Some found) =
+    Finds found.1.image store × Accepts (image_file found.0) found.1.image store.before
 
 -- whatever the trace of this run may say, the grid over it isn't too large
 abbrev pub AcceptsGrid : (step : ℕ) → ShownStore → Option (ℕ × RunPlan) → Type 0

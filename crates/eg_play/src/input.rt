@@ -1,5 +1,5 @@
 // The files of one run.
-ghost use Rattle.std.specs.Prelude.{◌≡◌, ◌+◌, ◌≤◌, All, length, Err, IfErr, IfOk, IsOk, None};
+ghost use Rattle.std.specs.Prelude.{◌≡◌, ◌+◌, ◌≤◌, All, [], length, Err, IfErr, IfOk, IsOk, None};
 ghost use Rattle.std.specs.Option.{ForSome, MatchOption};
 ghost use Rattle.eg_num.specs.Drive.{IsDrive};
 ghost use Rattle.eg_fault.specs.Faults.{IsNoneOrValid};
@@ -55,6 +55,29 @@ pub(crate) fn input_for<S: Store>(
     match add(sum, run, &drive) {
         Ok(()) => with_image(alloc, run, plan, drive, store),
         Err(outcome) => Err(ended(outcome, plan)),
+    }
+}
+
+/// The input of a run whose drive comes from elsewhere, and which has none here: its image is read, and no
+/// trace.
+pub(crate) fn undriven_for<S: Store>(
+    alloc: Global,
+    run: u32,
+    plan: RunPlan,
+    store: &mut S,
+) -> Result<RunInput, End>
+    ensures comes { ImageComes (change_of S.shows store.old store.new) run plan [] (outcomes result) }
+    ensures plan { IfOk result (λ input. input.plan ≡ plan) }
+    ensures image { IfOk result (λ input. length input.image ≤ MOST_WORDS) }
+    ensures named { IfErr result (λ end. (end.file ≡ name_by plan (role_in end.outcome))
+        × IsOf run (role_in end.outcome)) }
+    ensures no_memory { IfErr result (λ end. TellsNoMemory end.outcome) }
+    ensures keeps { KeepsFiles (change_of S.shows store.old store.new) result }
+{
+    let none: [Drive; 0] = [];
+    match SharedItems::of(alloc, &none) {
+        Ok(drive) => with_image(alloc, run, plan, drive, store),
+        Err(_) => Err(ended(Outcome::Memory, plan)),
     }
 }
 

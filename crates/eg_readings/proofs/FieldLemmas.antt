@@ -6,13 +6,19 @@ use Rattle.std.specs.List.{list_all, slice_split, join_with_byte, position_or_le
 use Rattle.std.proofs.lemmas.Bool.Decides.{nat_tests}
 use Rattle.std.proofs.lemmas.Grind.{common_steps}
 use Rattle.std.proofs.lemmas.List.Quantifiers.{position-Some}
-use Rattle.std.proofs.lemmas.List.Sums.{fails_before_first}
-use Rattle.std.proofs.lemmas.List.{take-append-drop, drop_more}
+use Rattle.std.proofs.lemmas.List.Sums.{fails_before_first, position_or_len_is}
+use Rattle.std.proofs.lemmas.List.{take-append-drop, drop_more, get_or-take, length-take}
 use Rattle.std.proofs.lemmas.List.Elements.{All-nil, All-cons}
 use Rattle.std.proofs.lemmas.List.Splits.{slice_split_none, slice_split_at, length-slice_split, join_with_byte-slice_split}
 use Rattle.eg_input.specs.Fields.{number_of}
 use Rattle.eg_readings.specs.Recording.{fields_of, all_numbers, numbers_of}
-use Rattle.eg_readings.specs.Reading.{IsFirst, found_now, is_comma}
+use Rattle.eg_readings.specs.Reading.{is_comma, found_now, first_field, first_said}
+
+-- The first number of a text, and what stands behind its comma: where the text has two fields or more, its
+-- numbers are this one and those behind. Where nothing is found such a text writes no numbers.
+abbrev pub IsFirst : List ℕ → Option (ℕ × List ℕ) → Type 0
+IsFirst text found = (n : ℕ) → numbers_of (n + 2) text ≡
+    option_and_then (λ f. option_map (λ numbers. f.0 ∷ numbers) (numbers_of (n + 1) f.1)) found
 
 -- these bytes hold no comma
 abbrev pub NoComma : List ℕ → Type 0
@@ -29,7 +35,7 @@ unfolding number_of
 number-no_comma field number is = digits-no_comma field (grind (arith, nat_tests))
 
 -- the fields of a text whose first comma is here
-comma-fields : (text : List ℕ) (place d : ℕ) → place < length text → is_comma (get_or text place d) ≡ true → NoComma (take place text)
+pub comma-fields : (text : List ℕ) (place d : ℕ) → place < length text → is_comma (get_or text place d) ≡ true → NoComma (take place text)
     → fields_of text ≡ take place text ∷ fields_of (drop (place + 1) text)
 unfolding fields_of
 comma-fields text place d room comma none =
@@ -41,39 +47,70 @@ more_fields : (field : List ℕ) (fields : List (List ℕ)) (n : ℕ) → (lengt
 more_fields field fields n = grind (arith, nat_tests)
 
 -- what the first comma parts
-pub comma-first : (text : List ℕ) (place d : ℕ) → place < length text → is_comma (get_or text place d) ≡ true → NoComma (take place text)
+comma-first : (text : List ℕ) (place d : ℕ) → place < length text → is_comma (get_or text place d) ≡ true → NoComma (take place text)
     → IsFirst text (option_map (λ number. (number, drop (place + 1) text)) (number_of 65535 (take place text)))
 unfolding numbers_of all_numbers
 comma-first text place d room comma none n =
     let parts = comma-fields text place d room comma none in
     rw (parts, more_fields (take place text) (fields_of (drop (place + 1) text)) n) grind arith
 
--- the same where a number stands before a comma
-pub number-first : (text : List ℕ) (place d : ℕ) (found : Option (ℕ × Bor (List ℕ))) → place < length text → is_comma (get_or text place d) ≡ true
-    → found_now found ≡ option_map (λ number. (number, drop (place + 1) text)) (number_of 65535 (take place text))
-    → IfSome found (λ f. IsFirst text (Some (f.0, f.1.now)))
-number-first text place d None room comma is = tt
-number-first text place d (Some f) room comma is = at (number_of 65535 (take place text)) refl
-  where
-    at : (number : Option ℕ) → number_of 65535 (take place text) ≡ number → IsFirst text (Some (f.0, f.1.now))
-    at None e = absurd (let never : Some (f.0, f.1.now) ≡ None = is ∙ rw e refl in cc)
-    at (Some number) e = subst (IsFirst text) (sym is) (comma-first text place d room comma (number-no_comma (take place text) number e))
-
 -- a text with no comma has one field
-pub no_comma-first : (text : List ℕ) → NoComma text → IsFirst text None
+no_comma-first : (text : List ℕ) → NoComma text → IsFirst text None
 unfolding numbers_of fields_of
 no_comma-first text none n = rw (slice_split_none is_comma text none) grind (arith, nat_tests)
 
 -- the first comma, if there is one
-pub position-first : (text : List ℕ) (place : ℕ) → position is_comma text ≡ Some place → IsFirst text (option_map (λ number. (number, drop (place + 1) text)) (number_of 65535 (take place text)))
+position-first : (text : List ℕ) (place : ℕ) → position is_comma text ≡ Some place → IsFirst text (option_map (λ number. (number, drop (place + 1) text)) (number_of 65535 (take place text)))
 position-first text place is =
     let found = position-Some is_comma text place 0 is in
     comma-first text place 0 found.0 found.1 (λ k e m. let no = found.2 k (grind (arith, common_steps)) in grind (arith, common_steps))
 
-pub no_position-first : (text : List ℕ) → position is_comma text ≡ None → IsFirst text None
+no_position-first : (text : List ℕ) → position is_comma text ≡ None → IsFirst text None
 no_position-first text is =
     let far : length text ≤ position_or_len is_comma text = grind (arith, common_steps) in
     no_comma-first text (λ k e m. let no = fails_before_first is_comma text k e (grind (arith, common_steps)) in grind (arith, common_steps))
+
+-- the first comma of a text is here
+pub position-at : (text : List ℕ) (place : ℕ) → place < length text → is_comma (get_or text place 0) ≡ true
+    → ((k : ℕ) → k < place → is_comma (get_or text k 0) ≡ false) → position is_comma text ≡ Some place
+position-at text place room comma none =
+    let at = position_or_len_is is_comma text place 0 (omega arith) none (λ within. comma) in
+    rw at grind (arith, nat_tests)
+
+-- where there is no comma, nothing is said first
+pub said-no_comma : {X : Type 0} (says : List ℕ → Option X) (text : List ℕ) → None ≡ position is_comma text → None ≡ first_said says text
+unfolding first_said first_field
+said-no_comma says text is = rw (sym is) refl
+
+pub said-at : {X : Type 0} (says : List ℕ → Option X) (text : List ℕ) (place : ℕ) (o : Option X) → Some place ≡ position is_comma text → o ≡ says (take place text)
+    → option_map (λ x. (x, drop (place + 1) text)) o ≡ first_said says text
+unfolding first_said first_field
+said-at says text place o is said = rw (sym is, said) refl
+
+-- a number before a comma is what is said first
+pub number-said : (text : List ℕ) (place : ℕ) (found : Option (ℕ × Bor (List ℕ))) → place < length text → is_comma (get_or text place 0) ≡ true
+    → found_now found ≡ option_map (λ number. (number, drop (place + 1) text)) (number_of 65535 (take place text))
+    → IfSome found (λ f. found_now (Some f) ≡ first_said (number_of 65535) text)
+number-said text place None room comma is = tt
+number-said text place (Some f) room comma is = at (number_of 65535 (take place text)) refl
+  where
+    at : (number : Option ℕ) → number_of 65535 (take place text) ≡ number → found_now (Some f) ≡ first_said (number_of 65535) text
+    at None e = absurd (let never : Some (f.0, f.1.now) ≡ None = is ∙ rw e refl in cc)
+    at (Some number) e =
+        let none = number-no_comma (take place text) number e in
+        is ∙ said-at (number_of 65535) text place (number_of 65535 (take place text)) (sym (position-at text place room comma (λ k lt. before none k lt))) refl
+      where
+        before : NoComma (take place text) → (k : ℕ) → k < place → is_comma (get_or text k 0) ≡ false
+        before none k lt = subst (λ b. is_comma b ≡ false) (get_or-take place text k 0 lt) (none k 0 (omega (arith, length-take place text)))
+
+-- what is said first is the first number
+pub said-first : (text : List ℕ) (found : Option (ℕ × List ℕ)) → found ≡ first_said (number_of 65535) text → IsFirst text found
+unfolding first_said first_field
+said-first text found is = subst (IsFirst text) (sym is) (at (position is_comma text) refl)
+  where
+    at : (place : Option ℕ) → position is_comma text ≡ place → IsFirst text (first_said (number_of 65535) text)
+    at None e = rw e (no_position-first text e)
+    at (Some place) e = rw e (position-first text place e)
 
 -- of two parts that are put before the numbers
 put_both : (done : List ℕ) (number : ℕ) (read : Option (List ℕ))

@@ -1,5 +1,5 @@
 -- A long line is no header and writes nothing, so that a front of it gives what the line gives.
-use Rattle.std.proofs.Common.{◌≡◌, ◌∙◌, sym, ap, refl, ℕ, ◌+◌, ◌-◌, ◌*◌, ◌<◌, ◌≤◌, List, [], ◌∷◌, ◌++◌, length, take, drop, false, arith, Option, Some, None, inl, inr}
+use Rattle.std.proofs.Common.{◌≡◌, ◌∙◌, sym, ap, refl, ℕ, ◌+◌, ◌-◌, ◌*◌, ◌<◌, ◌≤◌, List, [], ◌∷◌, ◌++◌, length, take, drop, Bool, false, arith, Option, Some, None, inl, inr}
 use Rattle.std.specs.Prelude.{◌==◌, codes}
 use Rattle.std.specs.Str.{bytes_eq}
 use Rattle.std.specs.List.{slice_split, onto_first, sum_by}
@@ -9,7 +9,10 @@ use Rattle.std.proofs.lemmas.List.{take_all, length-take}
 use Rattle.std.proofs.lemmas.List.Sums.{sum_by-cons}
 use Rattle.std.proofs.lemmas.List.Splits.{slice_split-cons_yes, slice_split-cons_no, length-slice_split}
 use Rattle.std.proofs.lemmas.Slice.Eq.{bytes_eq-Decides}
-use Rattle.eg_input.specs.Fields.{number_of}
+use Rattle.eg_input.specs.Fields.{number_of, truth_of}
+use Rattle.eg_readings.specs.Answering.{answer_of}
+use Rattle.eg_readings.specs.declared.answered.Answer.{Answer}
+use Rattle.eg_readings.proofs.AnswerLemmas.{said_first, said_last, made, row, from_pedal, from_speed, from_raise, from_reset, from_brake, from_position, from_load_1, from_load_2, from_torque, from_line}
 use Rattle.eg_readings.specs.Recording.{before_return, header, columns_of, fields_of, all_numbers, numbers_of, recorded_of}
 use Rattle.eg_readings.specs.declared.columns.Columns.{Columns}
 use Rattle.eg_readings.specs.declared.columns.Columns.TheVariants as columns
@@ -88,14 +91,81 @@ columns_of-long line long =
     rw (differs (before_return line) header (omega arith), differs (before_return line) (header ++ codes ",brake1,brake2") (omega arith)) refl
 
 -- a front of more bytes than any good line has gives what the line gives
-seen : {X : Type 0} (read : List ℕ → Option X) → ((line : List ℕ) → 80 < length line → read line ≡ None) → (line : List ℕ) (n : ℕ) → 80 < n → read (take n line) ≡ read line
-seen read never line n many = elim (cases_lt n (length line)) [
+seen : {X : Type 0} (most : ℕ) (read : List ℕ → Option X) → ((line : List ℕ) → most < length line → read line ≡ None) → (line : List ℕ) (n : ℕ) → most < n → read (take n line) ≡ read line
+seen most read never line n many = elim (cases_lt n (length line)) [
   | inl longer ↦ never (take n line) (omega (arith, length-take n line)) ∙ sym (never line (omega arith))
   | inr all ↦ ap read (take_all n line all)
 ]
 
 pub recorded_of-seen : (columns : Columns) (line : List ℕ) (n : ℕ) → 80 < n → recorded_of columns (take n line) ≡ recorded_of columns line
-recorded_of-seen columns = seen (recorded_of columns) (recorded_of-long columns)
+recorded_of-seen columns = seen 80 (recorded_of columns) (recorded_of-long columns)
 
 pub columns_of-seen : (line : List ℕ) (n : ℕ) → 80 < n → columns_of (take n line) ≡ columns_of line
-columns_of-seen = seen columns_of columns_of-long
+columns_of-seen = seen 80 columns_of columns_of-long
+
+-- ---- answers ----
+
+-- a field that writes a truth value has one byte
+truth_of-short : (field : List ℕ) (truth : Bool) → truth_of field ≡ Some truth → length field ≤ 1
+unfolding truth_of
+truth_of-short field truth is = elim (cases_Bool (bytes_eq field (codes "0"))) [
+  | inl zero ↦ let same : length field ≡ 1 = ap length ((bytes_eq-Decides field (codes "0")).0 zero) in omega arith
+  | inr other ↦ elim (cases_Bool (bytes_eq field (codes "1"))) [
+    | inl one ↦ let same : length field ≡ 1 = ap length ((bytes_eq-Decides field (codes "1")).0 one) in omega arith
+    | inr neither ↦ absurd (let never : None ≡ Some truth = rw (other, neither) at is in cc)
+  ]
+]
+
+number_of-five : (most : ℕ) (field : List ℕ) (number : ℕ) → number_of most field ≡ Some number → length field ≤ 5
+unfolding number_of
+number_of-five most field number is = grind (arith, nat_tests)
+
+-- what is said by fields of few bytes alone
+abbrev Few : {R : Type 0} → ℕ → (List (List ℕ) → Option R) → Type 0
+Few {R} most read = (fields : List (List ℕ)) (r : R) → read fields ≡ Some r → size fields ≤ most
+
+few_first : {X R : Type 0} (says : List ℕ → Option X) (behind : X → List (List ℕ) → Option R) (one more : ℕ)
+    → ((field : List ℕ) (x : X) → says field ≡ Some x → length field ≤ one) → ((x : X) → Few more (behind x)) → Few (one + 1 + more) (said_first says behind)
+unfolding said_first
+few_first says behind one more field few [] r is = absurd (let never : None ≡ Some r = is in cc)
+few_first says behind one more field few (first ∷ []) r is = absurd (let never : None ≡ Some r = is in cc)
+few_first {X} says behind one more field few (first ∷ next ∷ fields) r is = at (says first) refl
+  where
+    at : (o : Option X) → says first ≡ o → size (first ∷ next ∷ fields) ≤ one + 1 + more
+    at None e = absurd (let never : None ≡ Some r = rw e at is in cc)
+    at (Some x) e = omega (arith, field first x e, few x (next ∷ fields) r (rw e at is), sum_by-cons (λ l. length l + 1) first (next ∷ fields))
+
+few_last : {R : Type 0} (make : ℕ → R) → Few 6 (said_last make)
+unfolding said_last
+few_last make [] r is = absurd (let never : None ≡ Some r = is in cc)
+few_last make (first ∷ []) r is = at (number_of 65535 first) refl
+  where
+    at : (o : Option ℕ) → number_of 65535 first ≡ o → size (first ∷ []) ≤ 6
+    at None e = absurd (let never : None ≡ Some r = rw e at is in cc)
+    at (Some n) e = omega (arith, number_of-five 65535 first n e, sum_by-cons (λ l. length l + 1) first [])
+few_last make (first ∷ next ∷ fields) r is = absurd (let never : None ≡ Some r = is in cc)
+
+few_bytes : Few 46 from_pedal
+few_bytes =
+    few_first (number_of 1000) from_speed 5 40 (number_of-five 1000) (λ pedal.
+    few_first (number_of 8000) (from_raise pedal) 5 34 (number_of-five 8000) (λ speed.
+    few_first (number_of 10000) (from_reset pedal speed) 5 28 (number_of-five 10000) (λ raise.
+    few_first truth_of (from_brake pedal speed raise) 1 26 truth_of-short (λ reset.
+    few_first truth_of (λ brake. from_position (row pedal speed raise reset brake)) 1 24 truth_of-short (λ brake.
+    few_first (number_of 1000) (from_load_1 (row pedal speed raise reset brake)) 5 18 (number_of-five 1000) (λ position.
+    few_first (number_of 65535) (from_load_2 (row pedal speed raise reset brake) position) 5 12 (number_of-five 65535) (λ load_1.
+    few_first (number_of 65535) (from_torque (row pedal speed raise reset brake) position load_1) 5 6 (number_of-five 65535) (λ load_2.
+    few_last (made (row pedal speed raise reset brake) position load_1 load_2)))))))))
+
+pub answer_of-long : (line : List ℕ) → 46 < length line → answer_of line ≡ None
+unfolding fields_of
+answer_of-long line long = at (answer_of line) refl
+  where
+    at : (read : Option Answer) → answer_of line ≡ read → read ≡ None
+    at None is = refl
+    at (Some answer) is =
+        let few = few_bytes (fields_of (before_return line)) answer (sym (from_line line (before_return line) refl) ∙ is) in
+        absurd (omega (arith, few, size-split (before_return line), before_return-long line))
+
+pub answer_of-seen : (line : List ℕ) (n : ℕ) → 46 < n → answer_of (take n line) ≡ answer_of line
+answer_of-seen = seen 46 answer_of answer_of-long

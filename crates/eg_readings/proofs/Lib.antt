@@ -1,3 +1,4 @@
 pub mod FieldLemmas
+pub mod AnswerLemmas
 pub mod LengthLaws
 mod Worked

@@ -1,9 +1,14 @@
--- Some lines of a recording, from their bytes.
-use Rattle.std.proofs.Common.{◌≡◌, refl, ℕ, List, [], ◌∷◌, ◌++◌, Some, None}
+-- Some lines of a recording, and some answers of a partner, from their bytes.
+use Rattle.std.proofs.Common.{◌≡◌, refl, ℕ, true, false, List, [], ◌∷◌, ◌++◌, Some, None}
 use Rattle.std.specs.Prelude.{codes}
-use Rattle.eg_input.specs.Fields.{decimal_value, number_of}
+use Rattle.csv.specs.Records.{field_at}
+use Rattle.eg_num.specs.Drive.{DriveRow}
+use Rattle.eg_input.specs.Fields.{decimal_value, number_of, number_at, truth_of, truth_at}
+use Rattle.eg_input.specs.DriveTrace.{drive_from, drive_at}
 use Rattle.eg_sensor.specs.declared.readings.Readings.{Readings}
 use Rattle.eg_readings.specs.declared.columns.Columns.TheVariants as columns
+use Rattle.eg_readings.specs.Answering.{shown_from, shown_at, answer_from, answer_at, answer_of}
+use Rattle.eg_readings.specs.declared.answered.Answer.{Answer}
 use Rattle.eg_readings.specs.Recording.{before_return, header, columns_of, fields_of, all_numbers, numbers_of, readings_from, recorded_of}
 
 -- every definition of reading a line
@@ -91,3 +96,42 @@ first_braked = refl
 other : columns_of (codes "pedal1,pedal2,plate1,plate2,load1,load2,speed1,speed2,raise,check,brake1") ≡ None
 unfolding reading
 other = refl
+
+-- ---- answers ----
+
+-- every definition of reading an answer
+unfoldable answering : ℕ
+unfolding field_at decimal_value number_of number_at truth_of truth_at drive_from drive_at before_return fields_of shown_from shown_at answer_from answer_at answer_of
+answering = 0
+
+abbrev answer : DriveRow → (position load_1 load_2 torque : ℕ) → Answer
+answer drive position load_1 load_2 torque = record {
+  drive = drive;
+  told = record { position = position; load_1 = load_1; load_2 = load_2; torque = torque };
+}
+
+read_answer : answer_of (codes "300,01500,7,1,0,50,40,41,100")
+    ≡ Some (answer (record { pedal = 300; speed = 1500; raise = 7; reset = true; brake = false }) 50 40 41 100)
+unfolding answering
+read_answer = refl
+
+braked_answer : answer_of (codes "0,800,0,0,1,1000,65535,65535,65535" ++ 13 ∷ [])
+    ≡ Some (answer (record { pedal = 0; speed = 800; raise = 0; reset = false; brake = true }) 1000 65535 65535 65535)
+unfolding answering
+braked_answer = refl
+
+long_reset : answer_of (codes "0,800,0,00,0,0,40,40,0") ≡ None
+unfolding answering
+long_reset = refl
+
+high_position : answer_of (codes "0,800,0,0,0,1001,40,40,0") ≡ None
+unfolding answering
+high_position = refl
+
+few_fields : answer_of (codes "0,800,0,0,0,0,40,40") ≡ None
+unfolding answering
+few_fields = refl
+
+many_fields : answer_of (codes "0,800,0,0,0,0,40,40,0,0") ≡ None
+unfolding answering
+many_fields = refl

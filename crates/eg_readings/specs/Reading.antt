@@ -1,8 +1,7 @@
--- Outside the headline. The first number of a text, and what stands behind the comma that ends it.
-use Rattle.std.specs.Prelude.{◌≡◌, ℕ, ◌+◌, ◌==◌, Bool, List, ◌∷◌, Option, option_map, option_and_then}
+-- Outside the headline. What the first field of a text says, and what stands behind the comma that ends it.
+use Rattle.std.specs.Prelude.{ℕ, ◌+◌, ◌==◌, Bool, List, take, drop, position, Option, option_map, option_and_then}
 use Rattle.std.specs.Str.{byte}
 use Rattle.std.specs.Borrow.{Bor}
-use Rattle.eg_readings.specs.Recording.{numbers_of}
 
 -- whether a byte is a comma
 abbrev pub is_comma : ℕ → Bool
@@ -12,8 +11,11 @@ is_comma b = b == byte ","
 abbrev pub found_now : Option (ℕ × Bor (List ℕ)) → Option (ℕ × List ℕ)
 found_now found = option_map (λ f. (f.0, f.1.now)) found
 
--- The first number of a text, and what stands behind its comma: where the text has two fields or more, its
--- numbers are this one and those behind. Where nothing is found such a text writes no numbers.
-abbrev pub IsFirst : List ℕ → Option (ℕ × List ℕ) → Type 0
-IsFirst text found = (n : ℕ) → numbers_of (n + 2) text ≡
-    option_and_then (λ f. option_map (λ numbers. f.0 ∷ numbers) (numbers_of (n + 1) f.1)) found
+-- the field before the first comma, and what stands behind that comma; none where there is no comma
+unfoldable pub first_field : List ℕ → Option (List ℕ × List ℕ)
+first_field text = option_map (λ place. (take place text, drop (place + 1) text)) (position is_comma text)
+
+-- what that field says, if it says something, and what stands behind its comma
+unfoldable pub first_said : {X : Type 0} → (List ℕ → Option X) → List ℕ → Option (X × List ℕ)
+first_said says text =
+    option_and_then (λ parts. option_map (λ x. (x, parts.1)) (says parts.0)) (first_field text)

@@ -3,7 +3,7 @@ ghost use Rattle.std.specs.Prelude.{◌≡◌, ◌<◌, ◌≤◌, ◌+◌, ◌-
 ghost use Rattle.std.specs.Char.{is_ascii_digit};
 ghost use Rattle.eg_input.specs.Fields.{number_of};
 ghost use Rattle.eg_readings.specs.Recording.{numbers_of};
-ghost use Rattle.eg_readings.specs.Reading.{IsFirst, found_now, is_comma};
+ghost use Rattle.eg_readings.specs.Reading.{found_now, first_said, is_comma};
 
 /// The numbers of a line of exactly `N` fields, or None where it has another count of fields or a field that
 /// writes no number.
@@ -25,8 +25,8 @@ pub(crate) fn numbers<const N: usize>(line: &[u8]) -> Option<[u16; N]>
 /// The number before the first comma, and what stands behind that comma. None where there is no comma, or no
 /// number before it.
 #[inline(always)]
-fn first_number(text: &[u8]) -> Option<(u16, &[u8])>
-    ensures { IsFirst text.now (found_now result) }
+pub(crate) fn first_number(text: &[u8]) -> Option<(u16, &[u8])>
+    ensures { found_now result ≡ first_said (number_of 65535) text.now }
 {
     if let Some(found) = likely_first_number(text) {
         return Some(found);
@@ -39,7 +39,7 @@ fn first_number(text: &[u8]) -> Option<(u16, &[u8])>
 /// the text.
 #[inline(always)]
 fn likely_first_number(text: &[u8]) -> Option<(u16, &[u8])>
-    ensures { IfSome result (λ found. IsFirst text.now (found_now (Some found))) }
+    ensures { IfSome result (λ found. found_now (Some found) ≡ first_said (number_of 65535) text.now) }
 {
     if text.len() < 6 {
         return None;
@@ -63,7 +63,7 @@ fn likely_first_number(text: &[u8]) -> Option<(u16, &[u8])>
 #[inline(always)]
 fn number_before_comma(text: &[u8], place: usize) -> Option<(u16, &[u8])>
     requires { place < length text.now }
-    ensures { IfSome result (λ found. IsFirst text.now (found_now (Some found))) }
+    ensures { IfSome result (λ found. found_now (Some found) ≡ first_said (number_of 65535) text.now) }
 {
     if text[place] != b',' {
         return None;
@@ -91,7 +91,7 @@ fn first_comma(text: &[u8]) -> Option<usize>
 /// The number that a field writes, if it writes one.
 #[inline(always)]
 #[tactic(auto, unfolding(eg_input::specs::Fields::number_of, eg_input::specs::Fields::decimal_value))]
-fn number(field: &[u8]) -> Option<u16>
+pub(crate) fn number(field: &[u8]) -> Option<u16>
     ensures { result ≡ number_of 65535 field.now }
 {
     if field.is_empty() || field.len() > 5 {

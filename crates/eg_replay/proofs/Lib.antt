@@ -1,6 +1,5 @@
 pub mod TellLemmas
 pub mod RunLemmas
-pub mod LineLemmas
 pub mod ReadLemmas
 pub mod AgreeLemmas
 pub mod AgreeRuns

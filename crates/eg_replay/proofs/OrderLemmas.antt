@@ -8,6 +8,7 @@ use Rattle.eg_base.specs.Outside.{ShownSink, Appends, AppendsPrefix}
 use Rattle.eg_lines.specs.Lines.{ShownLines}
 use Rattle.eg_input.specs.declared.fault.TraceFault.TheVariants as fault
 use Rattle.eg_outcome.specs.Changes.{Change}
+use Rattle.eg_outcome.specs.Lines.{Line, Come, IsAtEnd}
 use Rattle.eg_outcome.specs.declared.outcome.Outcome.{Outcome}
 use Rattle.eg_outcome.specs.declared.outcome.Outcome.TheVariants as outcome
 use Rattle.eg_outcome.specs.declared.outcome.Refusal.{Refusal}
@@ -16,7 +17,7 @@ use Rattle.eg_outcome.specs.declared.outcome.Role.TheVariants as role
 use Rattle.eg_readings.specs.declared.columns.Columns.{Columns}
 use Rattle.eg_readings.specs.declared.recorded.Recorded.{Recorded}
 use Rattle.eg_readings.specs.Recording.{columns_of, recorded_of}
-use Rattle.eg_replay.specs.Streams.{Line, Come, IsAtEnd, IsRecording, Writes, HasBadLine, IsWrittenOf, LacksHeader, StopsEarly, StreamEnds}
+use Rattle.eg_replay.specs.Streams.{IsRecording, Writes, HasBadLine, IsWrittenOf, LacksHeader, StopsEarly, StreamEnds}
 use Rattle.eg_replay.specs.Order.{ReadsNoLineAhead}
 
 -- what some lines write by these columns

@@ -13,6 +13,8 @@ use Rattle.eg_model.specs.History.{Moment, Drive}
 use Rattle.eg_model.specs.Moments.{moments_in}
 use Rattle.eg_model.proofs.TickLemmas.{length-moments_in}
 use Rattle.eg_outcome.specs.Changes.{Change, change}
+use Rattle.eg_outcome.specs.Lines.{Line, Come, ReadsWell, LinePut, end_of}
+use Rattle.eg_outcome.proofs.ComingLemmas.{Come-then, Come-still, ReadsWell-then}
 use Rattle.eg_outcome.specs.declared.outcome.Outcome.{Outcome}
 use Rattle.eg_outcome.specs.declared.outcome.Outcome.TheVariants as outcome
 use Rattle.eg_outcome.specs.Outcomes.{PutsNothing, TellsNoMemory}
@@ -29,9 +31,8 @@ use Rattle.eg_findings.specs.Texts.{signals_header, signals_line, signals_lines,
 use Rattle.eg_replay.specs.Replay.{tick_of, alone, replayed, told_of, told_after}
 use Rattle.eg_replay.specs.Running.{ReplayParts, IsReplayOf}
 use Rattle.eg_replay.specs.declared.recording.Recording.{Recording}
-use Rattle.eg_replay.specs.Streams.{Line, Come, ReadsWell, IsRecording, told_in, signals_in, Writes, signals_writes, replay_writes, LacksHeader, StopsEarly, StreamEnds}
-use Rattle.eg_replay.specs.Reading.{NoHeaderComes, RecordingBegins, RecordingGoesOn, LinePut, FindingsCome, end_of}
-use Rattle.eg_replay.proofs.LineLemmas.{Come-then, Come-still, ReadsWell-then}
+use Rattle.eg_replay.specs.Streams.{IsRecording, told_in, signals_in, Writes, signals_writes, replay_writes, LacksHeader, StopsEarly, StreamEnds}
+use Rattle.eg_replay.specs.Reading.{NoHeaderComes, RecordingBegins, RecordingGoesOn, FindingsCome}
 
 -- ---- one line more ----
 
@@ -451,6 +452,7 @@ refusal_tells writes lines out (refusal.Trace run why) ends = absurd ends
 refusal_tells writes lines out (refusal.Image run why) ends = absurd ends
 refusal_tells writes lines out refusal.NoRun ends = absurd ends
 refusal_tells writes lines out (refusal.Source why) ends = absurd ends
+refusal_tells writes lines out (refusal.Answer why) ends = absurd ends
 refusal_tells writes lines out refusal.Grid ends = absurd ends
 
 -- nor does a refusal tell that memory ran out

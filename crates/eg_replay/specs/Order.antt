@@ -4,13 +4,14 @@ use Rattle.eg_base.specs.Outside.{ShownSink, Appends}
 use Rattle.eg_lines.specs.Lines.{ShownLines}
 use Rattle.eg_input.specs.declared.fault.TraceFault.TheVariants as fault
 use Rattle.eg_outcome.specs.Changes.{Change}
+use Rattle.eg_outcome.specs.Lines.{Line}
 use Rattle.eg_outcome.specs.declared.outcome.Outcome.{Outcome}
 use Rattle.eg_outcome.specs.declared.outcome.Outcome.TheVariants as outcome
 use Rattle.eg_outcome.specs.declared.outcome.Refusal.TheVariants as refusal
 use Rattle.eg_readings.specs.declared.columns.Columns.{Columns}
 use Rattle.eg_readings.specs.declared.recorded.Recorded.{Recorded}
 use Rattle.eg_readings.specs.Recording.{recorded_of}
-use Rattle.eg_replay.specs.Streams.{Line, IsRecording, Writes, StreamEnds}
+use Rattle.eg_replay.specs.Streams.{IsRecording, Writes, StreamEnds}
 
 -- Of what a source tells, a recording was read and the line behind it, which writes nothing. Then the call
 -- refused that line, and what is written of the recording was written: not even a fault of writing comes in

@@ -1,39 +1,23 @@
 -- Outside the headline. How one line of a recording is read, and what comes of it.
-use Rattle.std.specs.Prelude.{◌≡◌, ◌⊎◌, ℕ, ◌+◌, ◌≤◌, List, [], ◌∷◌, length, take, true, false, Bool, IsTrue, Option, Some, None, Result, Ok, Err}
-use Rattle.eg_base.specs.Outside.{ShownSink, Rose, Appends, AppendsPrefix}
+use Rattle.std.specs.Prelude.{◌≡◌, ◌⊎◌, ℕ, ◌+◌, ◌≤◌, List, [], ◌∷◌, length, Option, Some, None, Result, Ok, Err}
+use Rattle.eg_base.specs.Outside.{ShownSink}
 use Rattle.eg_lines.specs.Lines.{ShownLines}
 use Rattle.eg_input.specs.declared.fault.TraceFault.TheVariants as fault
 use Rattle.eg_values.specs.Calibration.{CalibrationParts}
 use Rattle.eg_outcome.specs.Changes.{Change, change}
+use Rattle.eg_outcome.specs.Lines.{Line, Come, IsAtEnd, ReadsWell, NoLineComes}
 use Rattle.eg_outcome.specs.declared.outcome.Outcome.{Outcome}
 use Rattle.eg_outcome.specs.declared.outcome.Outcome.TheVariants as outcome
 use Rattle.eg_outcome.specs.declared.outcome.Refusal.TheVariants as refusal
-use Rattle.eg_outcome.specs.declared.outcome.Role.TheVariants as role
 use Rattle.eg_readings.specs.declared.columns.Columns.{Columns}
 use Rattle.eg_readings.specs.declared.recorded.Recorded.{Recorded}
-use Rattle.eg_readings.specs.declared.recorded.TheConstants.{MOST_BYTES}
 use Rattle.eg_readings.specs.Recording.{columns_of, recorded_of}
 use Rattle.eg_findings.specs.Findings.{findings_of}
 use Rattle.eg_findings.specs.declared.findings.Findings.{Findings}
 use Rattle.eg_replay.specs.declared.recording.Recording.{Recording}
-use Rattle.eg_replay.specs.Streams.{Line, Come, IsAtEnd, IsRecording, ReadsWell, StreamEnds, replay_writes, told_in}
+use Rattle.eg_replay.specs.Streams.{IsRecording, StreamEnds, replay_writes, told_in}
 
 -- ---- a line ----
-
--- no line came, because reading failed, which a sure source never does, or because memory ran out
-abbrev pub NoLineComes : Change ShownLines → Outcome → Type 0
-NoLineComes lines end =
-    ((end ≡ outcome.ReadFault role.Check) × Come lines [] × Rose lines.before.faults lines.after.faults
-    × ¬ IsTrue lines.before.sure)
-    ⊎ ((end ≡ outcome.Memory) × Come lines [] × ReadsWell lines)
-
--- A line came, and the buffer holds as much of it as a good line may have, and one byte more; or none was
--- left; or none came.
-abbrev pub LineComes : Change ShownLines → List ℕ → Result Bool Outcome → Type 0
-LineComes lines buffer (Ok true) =
-    (line : Line) × Come lines (line ∷ []) × (buffer ≡ take (MOST_BYTES + 1) line) × ReadsWell lines
-LineComes lines buffer (Ok false) = Come lines [] × IsAtEnd lines × ReadsWell lines
-LineComes lines buffer (Err end) = NoLineComes lines end
 
 -- the first line is no header, or there is none
 abbrev pub NoHeaderComes : Change ShownLines → Type 0
@@ -60,21 +44,7 @@ RecordingGoesOn columns tick lines (Err end) =
     × (line : Line) × Come lines (line ∷ []) × (recorded_of columns line ≡ None) × ReadsWell lines)
     ⊎ NoLineComes lines end
 
--- ---- a line that is put ----
-
--- a line was put; or a prefix of it was, and then a fault of writing was met or memory ran out
-abbrev pub LinePut : List ℕ → Change ShownSink → Result (Unit {0}) Outcome → Type 0
-LinePut line out (Ok _) = Appends out.before out.after line × (out.after.faults ≡ out.before.faults)
-LinePut line out (Err end) = AppendsPrefix out.before out.after line
-    × (((end ≡ outcome.WriteFault) × Rose out.before.faults out.after.faults)
-    ⊎ ((end ≡ outcome.Memory) × (out.after.faults ≡ out.before.faults)))
-
 -- ---- all lines ----
-
--- how a call ends with what its work answers: Ok is Done
-abbrev pub end_of : Result (Unit {0}) Outcome → Outcome
-end_of (Ok _) = outcome.Done
-end_of (Err end) = end
 
 -- All lines came, at least two, and these are the findings on what they write. Or the call ends without them,
 -- and nothing is put to any output.

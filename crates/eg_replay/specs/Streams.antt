@@ -1,7 +1,7 @@
 -- Outside the headline. Lines come one by one: the first names the columns, and each behind it writes what
 -- was recorded at a tick. A command that reads them ends by the first line that doesn't, or behind the
 -- last. Lines and recordings stand here in the order of time.
-use Rattle.std.specs.Prelude.{◌≡◌, ◌⊎◌, ℕ, ◌+◌, ◌≤◌, List, [], ◌∷◌, ◌++◌, length, reverse, IsTrue, Option, Some, None, option_map, IfSome}
+use Rattle.std.specs.Prelude.{◌≡◌, ◌⊎◌, ℕ, ◌+◌, ◌≤◌, List, [], ◌∷◌, ◌++◌, length, reverse, IsTrue, Option, Some, None}
 use Rattle.std.specs.List.{AllZip}
 use Rattle.eg_base.specs.Outside.{ShownStore, ShownSink, Rose, Appends, AppendsPrefix}
 use Rattle.eg_lines.specs.Lines.{ShownLines}
@@ -9,6 +9,7 @@ use Rattle.eg_input.specs.declared.fault.TraceFault.TheVariants as fault
 use Rattle.eg_values.specs.Calibration.{CalibrationParts}
 use Rattle.eg_outcome.specs.Calibrations.{CalibratedEnds}
 use Rattle.eg_outcome.specs.Changes.{Change, MeetsNoFault}
+use Rattle.eg_outcome.specs.Lines.{Line, Come, IsAtEnd}
 use Rattle.eg_outcome.specs.declared.outcome.Outcome.{Outcome}
 use Rattle.eg_outcome.specs.declared.outcome.Outcome.TheVariants as outcome
 use Rattle.eg_outcome.specs.declared.outcome.Refusal.TheVariants as refusal
@@ -22,23 +23,6 @@ use Rattle.eg_findings.specs.declared.told.Told.{Told}
 use Rattle.eg_replay.specs.Replay.{replayed, told_of}
 
 -- ---- the lines ----
-
--- the lines of a source
-abbrev pub Line : Type 0
-Line = List ℕ
-
--- these lines came from a source, in this order
-abbrev pub Come : Change ShownLines → List Line → Type 0
-Come lines came = lines.before.lines ≡ option_map (λ rest. came ++ rest) lines.after.lines
-
--- no line is left, where the lines are told
-abbrev pub IsAtEnd : Change ShownLines → Type 0
-IsAtEnd lines = IfSome lines.after.lines (λ rest. rest ≡ [])
-
--- no fault of reading was met, and a source that is sure stays so
-pub record ReadsWell (lines : Change ShownLines) : Type 0 where
-  pub faults : lines.after.faults ≡ lines.before.faults
-  pub sure : lines.after.sure ≡ lines.before.sure
 
 -- The first of these lines names the columns, and each behind it writes what was recorded.
 pub record IsRecording (columns : Columns) (recorded : List Recorded) (lines : List Line) : Type 0 where

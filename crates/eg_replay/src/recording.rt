@@ -3,12 +3,11 @@ ghost use Rattle.std.specs.Prelude.{◌≡◌, ◌+◌, ◌<◌, ◌^◌};
 ghost use Rattle.eg_outcome.specs.Changes.{change_of};
 ghost use Rattle.eg_outcome.specs.declared.outcome.Outcome.TheVariants.{Refused};
 ghost use Rattle.eg_outcome.specs.declared.outcome.Refusal.TheVariants.{Check};
-ghost use Rattle.eg_replay.specs.Reading.{LineComes, RecordingBegins, RecordingGoesOn};
+ghost use Rattle.eg_replay.specs.Reading.{RecordingBegins, RecordingGoesOn};
 
-use eg_base::ReadRefusal;
 use eg_input::TraceFault;
 use eg_lines::Lines;
-use eg_outcome::{Outcome, Refusal, Role};
+use eg_outcome::{Outcome, Refusal, next_line};
 use eg_readings::{Columns, MOST_BYTES, Recorded, columns_of, recorded_of};
 use std::alloc::Global;
 
@@ -26,7 +25,7 @@ impl Recording {
         ensures { RecordingBegins (change_of L.shows lines.old lines.new) result }
     {
         let mut line = Vec::new(alloc);
-        if !next_line(lines, &mut line)? {
+        if !next_line(MOST_BYTES + 1, lines, &mut line)? {
             return Err(refused(TraceFault::Header));
         }
         match columns_of(&line) {
@@ -47,27 +46,13 @@ impl Recording {
         ensures next { RecordingGoesOn self.old.columns tick (change_of L.shows lines.old lines.new) result }
         ensures columns { self.new.columns ≡ self.old.columns }
     {
-        if !next_line(lines, &mut self.line)? {
+        if !next_line(MOST_BYTES + 1, lines, &mut self.line)? {
             return Ok(None);
         }
         match recorded_of(&self.line, self.columns) {
             Some(recorded) => Ok(Some(recorded)),
             None => Err(refused(TraceFault::Row { line: tick + 2 })),
         }
-    }
-}
-
-/// Reads the next line in place of what the buffer held, as much of it as a good line may have and one byte
-/// more. Answers whether there was one, or how the call ends.
-#[inline(always)]
-fn next_line<L: Lines>(lines: &mut L, line: &mut Vec<u8>) -> Result<bool, Outcome>
-    ensures { LineComes (change_of L.shows lines.old lines.new) line.new.items result }
-{
-    line.clear();
-    match lines.next(MOST_BYTES + 1, line) {
-        Ok(came) => Ok(came),
-        Err(ReadRefusal::Failed) => Err(Outcome::ReadFault { file: Role::Check }),
-        Err(ReadRefusal::Memory) => Err(Outcome::Memory),
     }
 }
 

@@ -4,12 +4,13 @@ ghost use Rattle.std.specs.Option.{option_copied};
 ghost use Rattle.eg_input.specs.declared.fault.TraceFault.TheVariants.{Empty};
 ghost use Rattle.eg_outcome.specs.Calibrations.{TellsMissingCalibration};
 ghost use Rattle.eg_outcome.specs.Changes.{change_of};
+ghost use Rattle.eg_outcome.specs.Lines.{LinePut, end_of};
 ghost use Rattle.eg_outcome.specs.Outcomes.{TellsNoMemory, PutsNothing};
 ghost use Rattle.eg_outcome.specs.declared.outcome.Outcome.TheVariants.{Refused};
 ghost use Rattle.eg_outcome.specs.declared.outcome.Refusal.TheVariants.{Check};
 ghost use Rattle.eg_findings.specs.Texts.{signals_line, replay_text};
 ghost use Rattle.eg_replay.specs.Streams.{StreamEnds, StreamCommandEnds, signals_writes, replay_writes};
-ghost use Rattle.eg_replay.specs.Reading.{FindingsCome, LinePut, end_of};
+ghost use Rattle.eg_replay.specs.Reading.{FindingsCome};
 
 use crate::Replay;
 use crate::recording::Recording;
@@ -17,7 +18,7 @@ use eg_base::{NoMemory, Sink, Store};
 use eg_findings::{Findings, Tally, Told, push_signals, replay_text, signals_header};
 use eg_input::TraceFault;
 use eg_lines::Lines;
-use eg_outcome::{Outcome, Refusal, calibration_for, put_line, put_text};
+use eg_outcome::{Outcome, Refusal, calibration_for, put_or_end, put_text};
 use eg_values::Calibration;
 use std::alloc::Global;
 
@@ -43,7 +44,7 @@ pub fn signals_stream<S: Store, L: Lines, K: Sink>(
     ensures files { (S.shows store.new).files ≡ (S.shows store.old).files }
 {
     match calibration_for(alloc, calibration, store) {
-        Ok(calibration) => ended(put_signals(alloc, &calibration, lines, out)),
+        Ok(calibration) => eg_outcome::end_of(put_signals(alloc, &calibration, lines, out)),
         Err(end) => end,
     }
 }
@@ -68,17 +69,7 @@ pub fn replay_stream<S: Store, L: Lines, K: Sink>(
     ensures files { (S.shows store.new).files ≡ (S.shows store.old).files }
 {
     match calibration_for(alloc, calibration, store) {
-        Ok(calibration) => ended(put_replay(alloc, &calibration, lines, out)),
-        Err(end) => end,
-    }
-}
-
-/// How a call ends with what its work answers.
-fn ended(done: Result<(), Outcome>) -> Outcome
-    ensures { result ≡ end_of done }
-{
-    match done {
-        Ok(()) => Outcome::Done,
+        Ok(calibration) => eg_outcome::end_of(put_replay(alloc, &calibration, lines, out)),
         Err(end) => end,
     }
 }
@@ -94,7 +85,7 @@ fn put_signals<L: Lines, K: Sink>(
         (change_of K.shows out.old out.new) (end_of result) }
 {
     let mut recording = Recording::begin(alloc, lines)?;
-    put(signals_header().as_bytes(), out)?;
+    put_or_end(signals_header().as_bytes(), out)?;
     let mut replay = Replay::new(calibration);
     let mut row = Vec::new(alloc);
     for tick in 0..MOST_TICKS {
@@ -112,18 +103,8 @@ fn put_row<K: Sink>(row: &mut Vec<u8>, tick: u32, told: &Told, out: &mut K) -> R
 {
     row.clear();
     match push_signals(row, u64::from(tick), told) {
-        Ok(()) => put(row, out),
+        Ok(()) => put_or_end(row, out),
         Err(NoMemory) => Err(Outcome::Memory),
-    }
-}
-
-/// Puts a line, or answers how the call ends where it is refused.
-fn put<K: Sink>(line: &[u8], out: &mut K) -> Result<(), Outcome>
-    ensures { LinePut line.now (change_of K.shows out.old out.new) result }
-{
-    match put_line(line, out) {
-        Outcome::Done => Ok(()),
-        end => Err(end),
     }
 }
 

@@ -8,6 +8,7 @@ pub mod StartLemmas
 pub mod WorkLemmas
 pub mod StandsLemmas
 pub mod AdvanceLemmas
+pub mod CommandLemmas
 pub mod MonitorLemmas
 pub mod FlipLemmas
 pub mod StepLemmas

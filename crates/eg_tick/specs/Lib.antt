@@ -8,6 +8,7 @@ pub mod Working
 pub mod Judging
 pub mod Entering
 pub mod Advancing
+pub mod Commanding
 pub mod Inside
 pub mod Benched
 pub mod Run

@@ -37,6 +37,7 @@ use eg_word::{Program, State, Trap};
 use std::marker::Model;
 
 mod branching;
+mod commanding;
 mod ticks;
 
 pub use ticks::Ticks;

@@ -10,6 +10,7 @@
 mod bench;
 mod benched_engine;
 mod board;
+mod commands;
 mod controller;
 mod facts;
 mod levels;
@@ -25,6 +26,7 @@ mod working;
 pub use bench::{bench_begin, bench_controller, bench_row, bench_tick};
 pub use benched_engine::BenchedEngine;
 pub use board::show;
+pub use commands::{Commands, rows_command_alike};
 pub use controller::{Controller, Ticks};
 pub use eg_host::{SlicePlan, Slices};
 pub use facts::{bench_facts, run_facts};

@@ -15,21 +15,21 @@ use eg_num::Drive;
 use eg_plant::Engine;
 use eg_sensor::{Readings, contacts, gate, pressed, sound};
 
-/// Level 1's commands to the throttle plate and to the ignition, as they stand in the memory.
+/// Level 1's outputs, its commands to the throttle plate and to the ignition, as they stand in the memory.
 #[derive(Clone, Copy)]
-pub(crate) struct Commands {
+pub(crate) struct Outputs {
     pub(crate) throttle: u16,
     pub(crate) ignition: u16,
 }
 
-impl Commands {
+impl Outputs {
     /// Those that stand now.
     #[tactic(auto, using(crate::proofs::BoardLemmas::board))]
-    pub(crate) fn of<M: Guarded>(memory: &M) -> Commands
+    pub(crate) fn of<M: Guarded>(memory: &M) -> Outputs
         ensures throttle { result.throttle ≡ slice_index (M.shows memory.now).words THROTTLE }
         ensures ignition { result.ignition ≡ slice_index (M.shows memory.now).words IGNITION }
     {
-        Commands {
+        Outputs {
             throttle: load(memory, THROTTLE),
             ignition: load(memory, IGNITION),
         }
@@ -51,8 +51,8 @@ pub(crate) fn step_engine<E: Engine, M: Guarded>(
     ensures kt { E.kt engine.new ≡ E.kt engine.old }
     ensures laws { KeepsLaws (E.kt engine.new) (E.shows engine.new) }
 {
-    let commands = Commands::of(memory);
-    engine.step(commands.throttle, commands.ignition, on, held);
+    let outputs = Outputs::of(memory);
+    engine.step(outputs.throttle, outputs.ignition, on, held);
 }
 
 /// The readings that both levels are given at a tick (docs/CONCEPT.md, "Sensors"). `brake` says whether the

@@ -16,7 +16,7 @@ ghost use Rattle.eg_tick.specs.Stands.{kind_of};
 use crate::board::load;
 use crate::monitoring::Judgement;
 use crate::paths::Paths;
-use crate::plant::Commands;
+use crate::plant::Outputs;
 use crate::span::SpanTick;
 use eg_guard::Guarded;
 use eg_level2::{Lookup, word_address};
@@ -159,7 +159,7 @@ pub(crate) fn row<E: Engine, M: Guarded>(
       fresh = begins.span_tick.fresh;
     } }
 {
-    let commands = Commands::of(memory);
+    let outputs = Outputs::of(memory);
     Row {
         tick: begins.tick,
         drive: begins.drive,
@@ -171,8 +171,8 @@ pub(crate) fn row<E: Engine, M: Guarded>(
         path2: begins.paths.path2,
         on: begins.paths.on,
         signals: signals(memory),
-        throttle: commands.throttle,
-        ignition: commands.ignition,
+        throttle: outputs.throttle,
+        ignition: outputs.ignition,
         found: Watches {
             answers: begins.finds(judgement.confirms),
             start: begins.fails(),

@@ -40,15 +40,17 @@ fn main(rt: HostRuntime) -> ExitCode {
     let mut out = StdSink::new(rt.stdout());
     let mut notes = StdSink::new(rt.stderr());
     let mut store = TrustedStore::new(&rt, &words);
+    let mut steps = Ticks::new();
     let outcome = if reads_lines(&words) {
         let Ok(input) = BufReader::new(alloc, rt.stdin()) else {
             put_note(alloc, &Outcome::Memory, "", &mut notes);
             return ExitCode::from(NO_MEMORY);
         };
         let mut lines = ReadLines::new(input);
-        egasim_on_lines(alloc, &words, &mut store, &mut lines, &mut out, &mut notes)
+        egasim_on_lines(
+            alloc, &words, &mut store, &mut lines, &mut out, &mut notes, &mut steps,
+        )
     } else {
-        let mut steps = Ticks::new();
         egasim(alloc, &words, &mut store, &mut out, &mut notes, &mut steps)
     };
     ExitCode::from(outcome.status())

@@ -1,6 +1,6 @@
 use Rattle.eg_outcome.specs.Changes.{change}
+use Rattle.eg_outcome.specs.Lines.{end_of}
 use Rattle.eg_replay.specs.Streams.{replay_writes, StreamEnds}
-use Rattle.eg_replay.specs.Reading.{end_of}
 use Rattle.eg_replay.proofs.ReadLemmas.{handed_on, findings-put, put-puts}
 use Rattle.eg_replay.proofs.stream.put_replay.Goals as goal
 

@@ -2,11 +2,12 @@ use Rattle.std.proofs.Common.{◌≡◌, ◌==◌, ◌∙◌, ◌+◌, sym, subs
 use Rattle.std.proofs.lemmas.Grind.{common_steps}
 use Rattle.std.proofs.lemmas.Bool.{eqb-true, eqb-false}
 use Rattle.eg_outcome.specs.Changes.{change}
+use Rattle.eg_outcome.specs.Lines.{end_of}
 use Rattle.eg_readings.specs.declared.columns.Columns.{Columns}
 use Rattle.eg_readings.specs.declared.recorded.Recorded.{Recorded}
 use Rattle.eg_replay.specs.Replay.{told_after}
 use Rattle.eg_replay.specs.Streams.{signals_writes, StreamEnds}
-use Rattle.eg_replay.specs.Reading.{end_of, RecordingGoesOn}
+use Rattle.eg_replay.specs.Reading.{RecordingGoesOn}
 use Rattle.eg_replay.proofs.ReadLemmas.{HasRead, handed_on, ends-at_begin, header-refused, read-first, header-written, ends-in_turn, read-more, row-written, row-refused, stops-early, by_ticks, ends-empty, signals-ends}
 use Rattle.eg_replay.proofs.stream.put_signals.Goals as goal
 
@@ -20,16 +21,16 @@ returns-in_err-recording g c =
     (λ result. StreamEnds (signals_writes c.args.calibration.now) (change began (lines c.begin.new.lines)) (change had had) (end_of result))
     c.from_residual.ensures.1 (ends-at_begin _ _ _ _ _ c.in_err-recording.ensures)
 
-pub returns-in_err-put : goal.returns-in_err-put
-returns-in_err-put g c =
+pub returns-in_err-put_or_end : goal.returns-in_err-put_or_end
+returns-in_err-put_or_end g c =
     let lines = g.L.Lines.shows in
     let began = lines c.args.lines.now in
     let out = g.K.Sink.shows in
     let had = out c.args.out.now in
-    handed_on c.from_residual-in_err-put.result c.in_err-put.field-0.0
-    (λ result. StreamEnds (signals_writes c.args.calibration.now) (change began (lines c.begin.new.lines)) (change had (out c.put.new.out)) (end_of result))
-    c.from_residual-in_err-put.ensures.1
-    (header-refused c.args.calibration.now c.in_ok-recording.recording c.as_bytes.result.now _ _ _ (search rules) c.in_ok-recording.ensures c.in_err-put.ensures)
+    handed_on c.from_residual-in_err-put_or_end.result c.in_err-put_or_end.field-0.0
+    (λ result. StreamEnds (signals_writes c.args.calibration.now) (change began (lines c.begin.new.lines)) (change had (out c.put_or_end.new.out)) (end_of result))
+    c.from_residual-in_err-put_or_end.ensures.1
+    (header-refused c.args.calibration.now c.in_ok-recording.recording c.as_bytes.result.now _ _ _ (search rules) c.in_ok-recording.ensures c.in_err-put_or_end.ensures)
 
 pub loop-tick-init : goal.loop-tick-init
 loop-tick-init g c =
@@ -40,7 +41,7 @@ loop-tick-init g c =
     let cal = c.args.calibration.now in (
       [],
       read-first cal c.in_ok-recording.recording c.new-replay.result began (lines c.begin.new.lines) c.in_ok-recording.ensures c.new-replay.ensures.cal c.new-replay.ensures.stands,
-      header-written cal c.as_bytes.result.now had (out c.put.new.out) (search rules) c.in_ok-put.ensures,
+      header-written cal c.as_bytes.result.now had (out c.put_or_end.new.out) (search rules) c.in_ok-put_or_end.ensures,
     )
 
 pub returns-in_err-recorded : goal.returns-in_err-recorded

@@ -1,11 +1,9 @@
 -- What comes of lines that are read one after another.
-use Rattle.std.proofs.Common.{◌≡◌, ◌∙◌, refl, sym, ap, subst, ℕ, ◌+◌, List, [], ◌∷◌, ◌++◌, take, Bool, true, false, Option, None, Some, Ok, append_assoc, append-nil}
+use Rattle.std.proofs.Common.{◌≡◌, ◌∙◌, refl, sym, ap, subst, ℕ, List, [], ◌∷◌, ◌++◌, take, Bool, true, false, Option, None, Some, Ok, append_assoc, append-nil}
 use Rattle.std.specs.Prelude.{option_map, IfSome}
 use Rattle.eg_lines.specs.Lines.{ShownLines, NextLine, EndsLines}
 use Rattle.eg_outcome.specs.Changes.{Change, change}
-use Rattle.eg_readings.specs.declared.recorded.TheConstants.{MOST_BYTES}
-use Rattle.eg_replay.specs.Streams.{Line, Come, ReadsWell}
-use Rattle.eg_replay.specs.Reading.{LineComes}
+use Rattle.eg_outcome.specs.Lines.{Line, Come, ReadsWell, LineComes}
 
 -- ---- lines that come ----
 
@@ -37,25 +35,25 @@ ReadsWell-then a b c first second = record { faults = second.faults ∙ first.fa
 -- ---- one line ----
 
 -- whether a line came or none was left
-pub line-comes : (a b : ShownLines) (came : Bool) (old new : List ℕ) → old ≡ [] →
-    (came ≡ true → NextLine (MOST_BYTES + 1) a b old new) →
-    (came ≡ false → EndsLines a b old new) → ReadsWell (change a b) → LineComes (change a b) new (Ok came)
-line-comes a b true old new empty line end well =
-    let next : NextLine (MOST_BYTES + 1) a b old new = line refl in
-    (next.0, next.1, next.2 ∙ ap (λ l. l ++ take (MOST_BYTES + 1) next.0) empty, well)
-line-comes a b false old new empty line end well =
+pub line-comes : (most : ℕ) (a b : ShownLines) (came : Bool) (old new : List ℕ) → old ≡ [] →
+    (came ≡ true → NextLine most a b old new) →
+    (came ≡ false → EndsLines a b old new) → ReadsWell (change a b) → LineComes most (change a b) new (Ok came)
+line-comes most a b true old new empty line end well =
+    let next : NextLine most a b old new = line refl in
+    (next.0, next.1, next.2 ∙ ap (λ l. l ++ take most next.0) empty, well)
+line-comes most a b false old new empty line end well =
     let ends : EndsLines a b old new = end refl in
     (Come-none a b ends.1, subst (λ lines. IfSome lines (λ l. l ≡ [])) (sym ends.1) ends.0, well)
 
-came_line : (lines : Change ShownLines) (buffer : List ℕ) (came : Bool) → LineComes lines buffer (Ok came) → came ≡ true →
-    (line : Line) × Come lines (line ∷ []) × (buffer ≡ take (MOST_BYTES + 1) line) × ReadsWell lines
-came_line lines buffer true comes is = comes
-came_line lines buffer false comes is = absurd cc
+came_line : (most : ℕ) (lines : Change ShownLines) (buffer : List ℕ) (came : Bool) → LineComes most lines buffer (Ok came) → came ≡ true →
+    (line : Line) × Come lines (line ∷ []) × (buffer ≡ take most line) × ReadsWell lines
+came_line most lines buffer true comes is = comes
+came_line most lines buffer false comes is = absurd cc
 
 -- what the buffer gives is what the line gives, which may be longer
-pub seen_line : {X : Type 0} (read : List ℕ → Option X) (lines : Change ShownLines) (buffer seen : List ℕ) (came : Bool) (x : Option X) →
-    ((line : List ℕ) → read (take (MOST_BYTES + 1) line) ≡ read line) → LineComes lines buffer (Ok came) → came ≡ true →
+pub seen_line : {X : Type 0} (read : List ℕ → X) (most : ℕ) (lines : Change ShownLines) (buffer seen : List ℕ) (came : Bool) (x : X) →
+    ((line : List ℕ) → read (take most line) ≡ read line) → LineComes most lines buffer (Ok came) → came ≡ true →
     seen ≡ buffer → read seen ≡ x → (line : Line) × Come lines (line ∷ []) × (read line ≡ x) × ReadsWell lines
-seen_line read lines buffer seen came x law comes is same gives =
-    let some = came_line lines buffer came comes is in
+seen_line read most lines buffer seen came x law comes is same gives =
+    let some = came_line most lines buffer came comes is in
     (some.0, some.1, sym (law some.0) ∙ ap read (sym some.2 ∙ sym same) ∙ gives, some.3)

@@ -1,0 +1,13 @@
+pub mod LineLemmas
+pub mod TakenLemmas
+pub mod PartnerLemmas
+pub mod TickingLemmas
+pub mod Spoken
+pub mod SpokenRuns
+pub mod RowLemmas
+pub mod HeadlineLemmas
+pub mod UsedLemmas
+pub mod CouplingLemmas
+pub mod EndLemmas
+pub mod OrderLemmas
+mod Worked

@@ -1,0 +1,184 @@
+-- What is true of an answer that was taken: it keeps the laws of engines, and its drive row the limits of drive rows.
+-- So what comes in at the ticks of a coupled run is proper.
+use Rattle.std.proofs.Common.{◌≡◌, ◌∙◌, sym, ap, refl, subst, ℕ, ◌≤◌, Bool, true, false, arith, Option, Some, None, List, [], ◌∷◌, length}
+use Rattle.std.specs.Prelude.{◌==◌, not, ◌&&◌, ◌||◌, Result, Ok, Err, if◌then◌else◌}
+use Rattle.std.proofs.lemmas.Bool.Decides.{nat_tests}
+use Rattle.std.proofs.lemmas.Option.{option_and_then_some}
+use Rattle.eg_num.specs.Drive.{DriveRow, IsDrive}
+use Rattle.eg_plant.specs.Engine.{Shown, KeepsLaws}
+use Rattle.eg_input.specs.Fields.{number_of, number_at, truth_at}
+use Rattle.eg_input.specs.DriveTrace.{drive_at, drive_of}
+use Rattle.eg_input.proofs.FieldLemmas.{drive_of-limits}
+use Rattle.eg_readings.specs.Recording.{before_return, fields_of}
+use Rattle.eg_readings.specs.Answering.{shown_from, shown_at, answer_from, answer_at, answer_of}
+use Rattle.eg_readings.specs.declared.answered.Answer.{Answer}
+use Rattle.eg_fault.specs.Faults.{effects}
+use Rattle.eg_model.specs.History.{Setting, Entry, Drive, Test, drives, Moment}
+use Rattle.eg_model.specs.Paths.{both_conduct}
+use Rattle.eg_model.specs.Moments.{moment_in}
+use Rattle.eg_model.specs.Spans.{span_so_far, span_kind, has_passed, kind_at, before_at, moment_at, moments, next_after, next}
+use Rattle.eg_model.specs.Premises.{IsProper, IsProperRun}
+use Rattle.eg_tick.specs.Commanding.{commands_after, commands_at, commands_next}
+use Rattle.eg_tick.specs.declared.commands.Commands.{Commands}
+use Rattle.eg_couple.specs.Coupled.{CoupledUnit, entry_by, entries_by, Fault, LoadBelowTorque, TorqueWhileOff, NoAnswer, covers, lawful, lawful_if_any, taken, AreTaken}
+
+-- ---- an answer keeps the limits of its fields ----
+
+number_of-most : (most : ℕ) (field : List ℕ) (n : ℕ) → number_of most field ≡ Some n → n ≤ most
+unfolding number_of
+number_of-most most field n is = grind (arith, nat_tests)
+
+number_at-most : (fields : List (List ℕ)) (i most n : ℕ) → number_at fields i most ≡ Some n → n ≤ most
+unfolding number_at
+number_at-most fields i most n is = option_and_then_some (number_of most) _ n is (λ field at read. number_of-most most field n read)
+
+shown_at-position : (fields : List (List ℕ)) (shown : Shown) → shown_at fields ≡ Some shown → shown.position ≤ 1000
+unfolding shown_at shown_from
+shown_at-position fields shown is = at (number_at fields 5 1000) (number_at fields 6 65535) (number_at fields 7 65535) (number_at fields 8 65535) refl is
+  where
+    at : (p a b t : Option ℕ) → number_at fields 5 1000 ≡ p → shown_from p a b t ≡ Some shown → shown.position ≤ 1000
+    at (Some position) (Some load_1) (Some load_2) (Some torque) p e =
+        let made : ◌≡◌ {A = Shown} (record { position = position; load_1 = load_1; load_2 = load_2; torque = torque }) shown = cc in
+        rw (← made) (number_at-most fields 5 1000 position p)
+    at None a b t p e = absurd cc
+    at (Some position) None b t p e = absurd cc
+    at (Some position) (Some load_1) None t p e = absurd cc
+    at (Some position) (Some load_1) (Some load_2) None p e = absurd cc
+
+-- the drive row of an answer, and its position, keep their limits
+pub record KeepsLimits (answer : Answer) : Type 0 where
+  pub drive : IsDrive answer.drive
+  pub position : answer.told.position ≤ 1000
+
+answer_at-limits : (fields : List (List ℕ)) (answer : Answer) → answer_at fields ≡ Some answer → KeepsLimits answer
+unfolding answer_at answer_from drive_of
+answer_at-limits fields answer is = at (length fields == 9) (drive_at fields (truth_at fields 3) (truth_at fields 4)) (shown_at fields) refl refl refl is
+  where
+    at : (nine : Bool) (d : Option DriveRow) (s : Option Shown) → (length fields == 9) ≡ nine → drive_at fields (truth_at fields 3) (truth_at fields 4) ≡ d
+        → shown_at fields ≡ s → (if nine then answer_from d s else None) ≡ Some answer → KeepsLimits answer
+    at true (Some drive) (Some shown) n d s e =
+        let made : ◌≡◌ {A = Answer} (record { drive = drive; told = shown }) answer = cc in
+        subst KeepsLimits made (record { drive = drive_of-limits 9 fields drive (rw n d); position = shown_at-position fields shown s })
+    at true None s n d' s' e = absurd cc
+    at true (Some drive) None n d s' e = absurd cc
+    at false d s n d' s' e = absurd cc
+
+pub answer_of-limits : (line : List ℕ) (answer : Answer) → answer_of line ≡ Some answer → KeepsLimits answer
+unfolding answer_of
+answer_of-limits line answer is = answer_at-limits (fields_of (before_return line)) answer is
+
+-- ---- an answer that was taken ----
+
+-- whether the stages are on is what was commanded
+pub on-commanded : (s : Setting) (e : Entry) (h : List Entry) → (next s e h).on ≡ (commands_at s e.drive h).on
+unfolding next next_after moment_at moment_in commands_at commands_after
+on-commanded s e h = refl
+
+pub on-answered : (unit : CoupledUnit) (t : ℕ) (answer : Answer) (before : List Answer)
+    → (next unit.setting (entry_by unit t answer) (entries_by unit before)).on ≡ (commands_at unit.setting answer.drive (entries_by unit before)).on
+unfolding entry_by
+on-answered unit t answer before = on-commanded unit.setting (entry_by unit t answer) (entries_by unit before)
+
+-- whether they are is known from what was told: a row that resets the unit has them off, and any other
+-- commands what was told
+on_by : Setting → List Moment → Bool → Bool
+on_by s past reset =
+    drives (if reset then Test else if has_passed past then Drive else span_kind past)
+    && both_conduct (effects s.fault (length past)) (if reset || has_passed past then [] else span_so_far past)
+
+pub on-told : (s : Setting) (drive : DriveRow) (h : List Entry) (told : Commands) (reset on : Bool)
+    → told ≡ commands_next s h → drive.reset ≡ reset → told.on ≡ on → (commands_at s drive h).on ≡ (on && not reset)
+unfolding commands_at commands_next commands_after kind_at before_at drives on_by
+on-told s drive h told true true is row was = ap (on_by s (moments s h)) row
+on-told s drive h told true false is row was = ap (on_by s (moments s h)) row
+on-told s drive h told false true is row was = ap (on_by s (moments s h)) row ∙ sym (ap (λ (c : Commands). c.on) is) ∙ was
+on-told s drive h told false false is row was = ap (on_by s (moments s h)) row ∙ sym (ap (λ (c : Commands). c.on) is) ∙ was
+
+-- What an answer after these keeps that was taken.
+pub record IsLawful (unit : CoupledUnit) (before : List Answer) (answer : Answer) : Type 0 where
+  pub drive : IsDrive answer.drive
+  pub engine : KeepsLaws unit.setting.cal.rules.kt answer.told
+  pub no_torque : (commands_at unit.setting answer.drive (entries_by unit before)).on ≡ false → answer.told.torque ≡ 0
+
+-- the laws at the door, by the two tests
+pub record PassesTests (unit : CoupledUnit) (before : List Answer) (answer : Answer) : Type 0 where
+  pub covered : covers unit.setting.cal.rules.kt answer.told ≡ true
+  pub no_torque : (commands_at unit.setting answer.drive (entries_by unit before)).on ≡ false → answer.told.torque ≡ 0
+
+-- what is answered where both laws are kept is the answer
+pub lawful-passes : (unit : CoupledUnit) (before : List Answer) (answer other : Answer) → lawful unit before answer ≡ Ok other
+    → PassesTests unit before answer × (answer ≡ other)
+unfolding lawful
+lawful-passes unit before answer other is =
+    at (covers unit.setting.cal.rules.kt answer.told) ((commands_at unit.setting answer.drive (entries_by unit before)).on) (answer.told.torque == 0) refl refl refl is
+  where
+    at : (covered on none : Bool) → covers unit.setting.cal.rules.kt answer.told ≡ covered
+        → (commands_at unit.setting answer.drive (entries_by unit before)).on ≡ on → (answer.told.torque == 0) ≡ none
+        → ◌≡◌ {A = Result Answer Fault} (if not covered then Err LoadBelowTorque else if not on && not none then Err TorqueWhileOff else Ok answer) (Ok other)
+        → PassesTests unit before answer × (answer ≡ other)
+    at false on none c o n e = absurd (let never : ◌≡◌ {A = Result Answer Fault} (Err LoadBelowTorque) (Ok other) = e in cc)
+    at true false false c o n e = absurd (let never : ◌≡◌ {A = Result Answer Fault} (Err TorqueWhileOff) (Ok other) = e in cc)
+    at true false true c o n e = (record { covered = c; no_torque = λ off. grind (arith, nat_tests) }, cc)
+    at true true none c o n e = (record { covered = c; no_torque = λ off. absurd (let never : true ≡ false = sym o ∙ off in cc) }, cc)
+
+-- both loads cover the torque
+pub covers-laws : (kt : ℕ) (shown : Shown) → shown.position ≤ 1000 → covers kt shown ≡ true → KeepsLaws kt shown
+unfolding covers
+covers-laws kt shown within covered = record { position = within; load_1 = grind (arith, nat_tests); load_2 = grind (arith, nat_tests) }
+
+-- so an answer that was taken is lawful, and it is what the line answers
+pub taken-answer : (unit : CoupledUnit) (before : List Answer) (line : List ℕ) (answer : Answer) → taken unit before line ≡ Ok answer
+    → (answer_of line ≡ Some answer) × PassesTests unit before answer
+unfolding taken lawful_if_any
+taken-answer unit before line answer is = at (answer_of line) refl is
+  where
+    at : (some : Option Answer) → answer_of line ≡ some → lawful_if_any unit before some ≡ Ok answer
+        → (answer_of line ≡ Some answer) × PassesTests unit before answer
+    at None e is = absurd (let never : ◌≡◌ {A = Result Answer Fault} (Err NoAnswer) (Ok answer) = is in cc)
+    at (Some other) e is =
+        let passes = lawful-passes unit before other answer is in
+        (e ∙ ap Some passes.1, subst (PassesTests unit before) passes.1 passes.0)
+
+pub taken-lawful : (unit : CoupledUnit) (before : List Answer) (line : List ℕ) (answer : Answer) → taken unit before line ≡ Ok answer
+    → IsLawful unit before answer
+taken-lawful unit before line answer is =
+    let known = taken-answer unit before line answer is in
+    let limits = answer_of-limits line answer known.0 in
+    record {
+      drive = limits.drive;
+      engine = covers-laws unit.setting.cal.rules.kt answer.told limits.position known.1.covered;
+      no_torque = known.1.no_torque;
+    }
+
+-- ---- all answers that were taken ----
+
+-- each of these answers is lawful after those before it
+unfoldable pub AreLawful : CoupledUnit → List Answer → Type 0
+AreLawful unit [] = Unit {0}
+AreLawful unit (answer ∷ before) = IsLawful unit before answer × AreLawful unit before
+
+pub taken-are-lawful : (unit : CoupledUnit) (lines : List (List ℕ)) (answers : List Answer) → AreTaken unit lines answers → AreLawful unit answers
+unfolding AreTaken AreLawful
+taken-are-lawful unit [] [] are = tt
+taken-are-lawful unit (line ∷ lines) (answer ∷ before) are = (taken-lawful unit before line answer are.0, taken-are-lawful unit lines before are.1)
+taken-are-lawful unit [] (answer ∷ before) are = absurd are
+taken-are-lawful unit (line ∷ lines) [] are = absurd are
+
+-- what comes in by a lawful answer is proper
+pub lawful-proper : (unit : CoupledUnit) (t : ℕ) (before : List Answer) (answer : Answer) → IsLawful unit before answer
+    → IsProper unit.setting (next unit.setting (entry_by unit t answer) (entries_by unit before)).on (entry_by unit t answer)
+lawful-proper unit t before answer is = unfold entry_by in record {
+  drive = is.drive;
+  engine = is.engine;
+  no_torque = λ off. is.no_torque (sym (on-answered unit t answer before) ∙ off);
+}
+
+pub lawful-proper_run : (unit : CoupledUnit) (answers : List Answer) → AreLawful unit answers → IsProperRun unit.setting (entries_by unit answers)
+unfolding AreLawful IsProperRun entries_by
+lawful-proper_run unit [] are = tt
+lawful-proper_run unit (answer ∷ before) are = (lawful-proper unit (length before) before answer are.0, lawful-proper_run unit before are.1)
+
+-- what comes in by answers that were taken is proper at each tick
+pub taken-proper_run : (unit : CoupledUnit) (lines : List (List ℕ)) (answers : List Answer) → AreTaken unit lines answers
+    → IsProperRun unit.setting (entries_by unit answers)
+taken-proper_run unit lines answers are = lawful-proper_run unit answers (taken-are-lawful unit lines answers are)

@@ -1,0 +1,182 @@
+// `couple [--cal NAME] CAMPAIGN RUN`: the unit of a run around a partner's engine.
+ghost use Rattle.std.specs.Prelude.{◌≡◌, ◌≤◌, length, IsTrue, None, Ok, Err, if◌then◌else◌};
+ghost use Rattle.std.specs.Option.{option_copied};
+ghost use Rattle.eg_base.specs.Outside.{IsMissing};
+ghost use Rattle.eg_guard.specs.declared.regions.TheConstants.{DATA as CODE_END};
+ghost use Rattle.eg_fault.specs.Faults.{IsNoneOrValid};
+ghost use Rattle.eg_input.specs.declared.fault.TraceFault.TheVariants.{Long};
+ghost use Rattle.eg_outcome.specs.Calibrations.{TellsMissingCalibration};
+ghost use Rattle.eg_outcome.specs.Changes.{change, change_of};
+ghost use Rattle.eg_outcome.specs.Lines.{LinePut, end_of};
+ghost use Rattle.eg_outcome.specs.Outcomes.{TellsNoMemory};
+ghost use Rattle.eg_outcome.specs.declared.outcome.Outcome.TheVariants.{ReadFault, Refused};
+ghost use Rattle.eg_outcome.specs.declared.outcome.Refusal.TheVariants.{Check};
+ghost use Rattle.eg_outcome.specs.declared.outcome.Role.TheVariants as role;
+ghost use Rattle.eg_play.specs.Ends.{NamesFile, role_in};
+ghost use Rattle.eg_couple.specs.Coupled.{unit_of};
+ghost use Rattle.eg_couple.specs.Texts.{first_line, coupled_line};
+ghost use Rattle.eg_couple.specs.Streams.{CoupleCommandEnds, CoupleNamedEnds, CouplingEnds, coupling};
+
+use crate::line::{coupled_header, push_coupled, push_first};
+use crate::partner::Partner;
+use crate::ticking::{answered_row, coupled_controller, next_commands};
+use eg_base::{NoMemory, Sink, Store};
+use eg_campaign::RunInput;
+use eg_input::TraceFault;
+use eg_lines::Lines;
+use eg_outcome::{Outcome, Refusal, calibration_for, end_of, put_or_end};
+use eg_play::{End, undriven_named};
+use eg_record::Row;
+use eg_tick::{Commands, Ticks};
+use eg_values::Calibration;
+use std::alloc::Global;
+
+/// The most answers of a run.
+const MOST_ANSWERS: u32 = 20_000;
+
+/// Which run of a campaign is asked for.
+#[derive(Clone, Copy)]
+pub struct NamedRun<'a> {
+    /// The name of the campaign's file.
+    pub campaign: &'a str,
+    /// The name of the run in it.
+    pub name: &'a str,
+}
+
+/// Does `couple [--cal NAME] CAMPAIGN RUN`, but for its note (docs/FORMATS.md, "Commands"): reads the
+/// campaign and the image of the run of that name, and then answers of a partner, of each of which it
+/// makes a tick and writes its row before it reads the next. Ticks are counted in `steps`.
+pub fn couple_stream<S: Store, L: Lines, K: Sink>(
+    alloc: Global,
+    calibration: Option<&str>,
+    run: NamedRun<'_>,
+    store: &mut S,
+    lines: &mut L,
+    out: &mut K,
+    steps: &mut Ticks,
+) -> End
+    ensures ends { CoupleCommandEnds ((lines.new ≡ lines.old) × (out.new ≡ out.old) × (steps.new ≡ steps.old))
+        (option_copied calibration.entry) run.entry.campaign.now run.entry.name.now
+        (change_of S.shows store.old store.new)
+        (coupling (change_of L.shows lines.old lines.new) (change_of K.shows out.old out.new)
+        (change steps.old steps.new)) result.outcome }
+    ensures named { NamesFile run.entry.campaign.now (S.shows store.old)
+        (role_in result.outcome) result.file }
+    // Over a sure store a missing calibration is told, and so is a missing campaign that is read first.
+    ensures missing { IsTrue (S.shows store.old).sure → TellsMissingCalibration
+        (option_copied calibration.entry) (S.shows store.old) result.outcome }
+    ensures missing_campaign { IsTrue (S.shows store.old).sure → option_copied calibration.entry ≡ None
+        → IsMissing (S.shows store.old).files run.entry.campaign.now
+        → result.outcome ≡ ReadFault role.Campaign }
+    ensures no_memory { TellsNoMemory result.outcome }
+    ensures files { (S.shows store.new).files ≡ (S.shows store.old).files }
+{
+    match calibration_for(alloc, calibration, store) {
+        Ok(calibration) => couple_by(alloc, &calibration, run, store, lines, out, steps),
+        Err(outcome) => End::of(outcome),
+    }
+}
+
+/// Couples the run of that name by this calibration.
+fn couple_by<S: Store, L: Lines, K: Sink>(
+    alloc: Global,
+    calibration: &Calibration,
+    run: NamedRun<'_>,
+    store: &mut S,
+    lines: &mut L,
+    out: &mut K,
+    steps: &mut Ticks,
+) -> End
+    ensures ends { CoupleNamedEnds calibration.now
+        ((lines.new ≡ lines.old) × (out.new ≡ out.old) × (steps.new ≡ steps.old))
+        run.entry.campaign.now run.entry.name.now (change_of S.shows store.old store.new)
+        (coupling (change_of L.shows lines.old lines.new) (change_of K.shows out.old out.new)
+        (change steps.old steps.new)) result.outcome }
+    ensures named { NamesFile run.entry.campaign.now (S.shows store.old)
+        (role_in result.outcome) result.file }
+    ensures missing_campaign { IsTrue (S.shows store.old).sure
+        → IsMissing (S.shows store.old).files run.entry.campaign.now
+        → result.outcome ≡ ReadFault role.Campaign }
+    ensures no_memory { TellsNoMemory result.outcome }
+    ensures files { (S.shows store.new).files ≡ (S.shows store.old).files }
+{
+    match undriven_named(alloc, run.campaign, run.name, store) {
+        Ok(input) => {
+            let done = couple(alloc, calibration, &input, lines, out, steps);
+            End::of(end_of(done))
+        }
+        Err(end) => end,
+    }
+}
+
+/// Couples a run: the header, the line before the first tick, and for each answer its row, put before the
+/// next answer is read.
+fn couple<L: Lines, K: Sink>(
+    alloc: Global,
+    calibration: &Calibration,
+    input: &RunInput,
+    lines: &mut L,
+    out: &mut K,
+    steps: &mut Ticks,
+) -> Result<(), Outcome>
+    requires image { length input.now.image ≤ CODE_END }
+    requires fault { IsNoneOrValid input.now.plan.fault }
+    ensures { CouplingEnds (unit_of calibration.now input.now)
+        (coupling (change_of L.shows lines.old lines.new) (change_of K.shows out.old out.new)
+        (change steps.old steps.new)) (end_of result) }
+{
+    // So that the proof knows that both counts fit 64 bits.
+    let _numbers = (steps.count(), steps.sum());
+    let mut controller = coupled_controller(calibration, input);
+    let mut partner = Partner::new(alloc, calibration.rules().kt);
+    let mut text = Vec::new(alloc);
+    put_or_end(coupled_header().as_bytes(), out)?;
+    let mut told = next_commands(&controller);
+    put_first(&mut text, &told, out)?;
+    for taken in 0..MOST_ANSWERS {
+        let Some(answer) = partner.next(taken + 1, &told, lines)? else {
+            return Ok(());
+        };
+        let row = answered_row(&mut controller, &input.plan.plan, &answer, steps);
+        told = next_commands(&controller);
+        put_row(&mut text, &row, &told, out)?;
+    }
+    unless_more(partner.read(lines)?)
+}
+
+/// Refuses a line that comes behind the last that may.
+fn unless_more(came: bool) -> Result<(), Outcome>
+    ensures { result ≡ if came then Err (Refused (Check Long)) else Ok tt }
+{
+    if came {
+        return Err(Outcome::Refused(Refusal::Check(TraceFault::Long)));
+    }
+    Ok(())
+}
+
+/// Puts the line before the first tick, which is made in this buffer.
+fn put_first<K: Sink>(text: &mut Vec<u8>, next: &Commands, out: &mut K) -> Result<(), Outcome>
+    ensures { LinePut (first_line next.now) (change_of K.shows out.old out.new) result }
+{
+    text.clear();
+    match push_first(text, next) {
+        Ok(()) => put_or_end(text, out),
+        Err(NoMemory) => Err(Outcome::Memory),
+    }
+}
+
+/// Puts the line of a row and of what is commanded next, which is made in this buffer.
+fn put_row<K: Sink>(
+    text: &mut Vec<u8>,
+    row: &Row,
+    next: &Commands,
+    out: &mut K,
+) -> Result<(), Outcome>
+    ensures { LinePut (coupled_line row.now next.now) (change_of K.shows out.old out.new) result }
+{
+    text.clear();
+    match push_coupled(text, row, next) {
+        Ok(()) => put_or_end(text, out),
+        Err(NoMemory) => Err(Outcome::Memory),
+    }
+}

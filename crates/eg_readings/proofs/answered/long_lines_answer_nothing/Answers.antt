@@ -1,0 +1,8 @@
+use Rattle.eg_readings.proofs.LengthLaws.{answer_of-long, answer_of-seen}
+use Rattle.eg_readings.proofs.answered.long_lines_answer_nothing.Goals as goal
+
+pub returns : goal.returns
+returns c = record {
+  none = answer_of-long;
+  seen = answer_of-seen;
+}
