@@ -11,7 +11,7 @@ use Rattle.eg_readings.specs.Answering.{answer_of}
 use Rattle.eg_readings.specs.declared.answered.Answer.{Answer}
 use Rattle.eg_readings.specs.declared.answered.TheConstants.{MOST_ANSWER_BYTES}
 use Rattle.eg_readings.proofs.LengthLaws.{answer_of-seen}
-use Rattle.eg_tick.specs.Commanding.{commands_at}
+use Rattle.eg_tick.specs.Commanding.{commanded_at}
 use Rattle.eg_couple.specs.Coupled.{CoupledUnit, Fault, NoAnswer, LoadBelowTorque, TorqueWhileOff, entries_by, covers, lawful, lawful_if_any, taken}
 use Rattle.eg_couple.specs.Running.{refusal_of, outcome_of, AnswerComes}
 
@@ -28,7 +28,7 @@ module _ (unit : CoupledUnit) (before : List Answer) (line : List ℕ) where
   taken-none none = ap (lawful_if_any unit before) none
 
   pub taken-judged : (answer : Answer) (covered on none : Bool) → answer_of line ≡ Some answer → covers unit.setting.cal.rules.kt answer.told ≡ covered
-      → (commands_at unit.setting answer.drive (entries_by unit before)).on ≡ on → (answer.told.torque == 0) ≡ none
+      → (commanded_at unit.setting answer.drive (entries_by unit before)).on ≡ on → (answer.told.torque == 0) ≡ none
       → taken unit before line ≡ judged answer covered on none
   unfolding taken lawful_if_any lawful
   taken-judged answer covered on none is c o n = ap (lawful_if_any unit before) is ∙ (λ i. judged answer (c i) (o i) (n i))
@@ -36,9 +36,9 @@ module _ (unit : CoupledUnit) (before : List Answer) (line : List ℕ) where
   -- without torque it is the same whether the stages are on
   pub taken-still : (answer : Answer) → answer_of line ≡ Some answer → covers unit.setting.cal.rules.kt answer.told ≡ true
       → (answer.told.torque == 0) ≡ true → taken unit before line ≡ Ok answer
-  taken-still answer is c n = by_on (commands_at unit.setting answer.drive (entries_by unit before)).on refl
+  taken-still answer is c n = by_on (commanded_at unit.setting answer.drive (entries_by unit before)).on refl
     where
-      by_on : (on : Bool) → (commands_at unit.setting answer.drive (entries_by unit before)).on ≡ on → taken unit before line ≡ Ok answer
+      by_on : (on : Bool) → (commanded_at unit.setting answer.drive (entries_by unit before)).on ≡ on → taken unit before line ≡ Ok answer
       by_on true o = taken-judged answer true true true is c o n
       by_on false o = taken-judged answer true false true is c o n
 

@@ -18,7 +18,7 @@ use Rattle.eg_model.specs.Rows.{rows_of, record_rows}
 use Rattle.eg_model.specs.Records.{IsRun}
 use Rattle.eg_model.proofs.SpanLemmas.{length-run_moments}
 use Rattle.eg_model.proofs.RecordTicks.{records_are_histories}
-use Rattle.eg_tick.specs.Commanding.{commands_after, commands_at}
+use Rattle.eg_tick.specs.Commanding.{commands_after, commanded_at}
 use Rattle.eg_couple.specs.Coupled.{CoupledUnit, entry_by, entries_by, coupled_moments, coupled_rows}
 use Rattle.eg_couple.proofs.TakenLemmas.{IsLawful, AreLawful}
 use Rattle.eg_couple.proofs.Spoken.{said, said-lawful, Spoken, speak, spoken}
@@ -127,8 +127,8 @@ module _ (unit : CoupledUnit) (through : Shown → Shown) (accepted : IsAccepted
       past-is : past ≡ moments s (entries_by unit before)
       past-is = records_are_histories b r t ∙ ap (moments s) so_far.entries
 
-      on-is : on ≡ (commands_at s answer.drive (entries_by unit before)).on
-      unfolding commands_at commands_after
+      on-is : on ≡ (commanded_at s answer.drive (entries_by unit before)).on
+      unfolding commanded_at commands_after
       on-is = λ i. drives (kind_at (drive-is i) (past-is i)) && both_conduct (effects s.fault (count-is i)) (before_at (drive-is i) (past-is i))
 
       said-is : said s.cal.plant.kt on answer.told ≡ answer.told

@@ -18,7 +18,7 @@ use Rattle.eg_model.specs.Paths.{both_conduct}
 use Rattle.eg_model.specs.Moments.{moment_in}
 use Rattle.eg_model.specs.Spans.{span_so_far, span_kind, has_passed, kind_at, before_at, moment_at, moments, next_after, next}
 use Rattle.eg_model.specs.Premises.{IsProper, IsProperRun}
-use Rattle.eg_tick.specs.Commanding.{commands_after, commands_at, commands_next}
+use Rattle.eg_tick.specs.Commanding.{commands_after, commanded_at, commands_next}
 use Rattle.eg_tick.specs.declared.commands.Commands.{Commands}
 use Rattle.eg_couple.specs.Coupled.{CoupledUnit, entry_by, entries_by, Fault, LoadBelowTorque, TorqueWhileOff, NoAnswer, covers, lawful, lawful_if_any, taken, AreTaken}
 
@@ -70,12 +70,12 @@ answer_of-limits line answer is = answer_at-limits (fields_of (before_return lin
 -- ---- an answer that was taken ----
 
 -- whether the stages are on is what was commanded
-pub on-commanded : (s : Setting) (e : Entry) (h : List Entry) → (next s e h).on ≡ (commands_at s e.drive h).on
-unfolding next next_after moment_at moment_in commands_at commands_after
+pub on-commanded : (s : Setting) (e : Entry) (h : List Entry) → (next s e h).on ≡ (commanded_at s e.drive h).on
+unfolding next next_after moment_at moment_in commanded_at commands_after
 on-commanded s e h = refl
 
 pub on-answered : (unit : CoupledUnit) (t : ℕ) (answer : Answer) (before : List Answer)
-    → (next unit.setting (entry_by unit t answer) (entries_by unit before)).on ≡ (commands_at unit.setting answer.drive (entries_by unit before)).on
+    → (next unit.setting (entry_by unit t answer) (entries_by unit before)).on ≡ (commanded_at unit.setting answer.drive (entries_by unit before)).on
 unfolding entry_by
 on-answered unit t answer before = on-commanded unit.setting (entry_by unit t answer) (entries_by unit before)
 
@@ -87,8 +87,8 @@ on_by s past reset =
     && both_conduct (effects s.fault (length past)) (if reset || has_passed past then [] else span_so_far past)
 
 pub on-told : (s : Setting) (drive : DriveRow) (h : List Entry) (told : Commands) (reset on : Bool)
-    → told ≡ commands_next s h → drive.reset ≡ reset → told.on ≡ on → (commands_at s drive h).on ≡ (on && not reset)
-unfolding commands_at commands_next commands_after kind_at before_at drives on_by
+    → told ≡ commands_next s h → drive.reset ≡ reset → told.on ≡ on → (commanded_at s drive h).on ≡ (on && not reset)
+unfolding commanded_at commands_next commands_after kind_at before_at drives on_by
 on-told s drive h told true true is row was = ap (on_by s (moments s h)) row
 on-told s drive h told true false is row was = ap (on_by s (moments s h)) row
 on-told s drive h told false true is row was = ap (on_by s (moments s h)) row ∙ sym (ap (λ (c : Commands). c.on) is) ∙ was
@@ -98,22 +98,22 @@ on-told s drive h told false false is row was = ap (on_by s (moments s h)) row �
 pub record IsLawful (unit : CoupledUnit) (before : List Answer) (answer : Answer) : Type 0 where
   pub drive : IsDrive answer.drive
   pub engine : KeepsLaws unit.setting.cal.rules.kt answer.told
-  pub no_torque : (commands_at unit.setting answer.drive (entries_by unit before)).on ≡ false → answer.told.torque ≡ 0
+  pub no_torque : (commanded_at unit.setting answer.drive (entries_by unit before)).on ≡ false → answer.told.torque ≡ 0
 
 -- the laws at the door, by the two tests
 pub record PassesTests (unit : CoupledUnit) (before : List Answer) (answer : Answer) : Type 0 where
   pub covered : covers unit.setting.cal.rules.kt answer.told ≡ true
-  pub no_torque : (commands_at unit.setting answer.drive (entries_by unit before)).on ≡ false → answer.told.torque ≡ 0
+  pub no_torque : (commanded_at unit.setting answer.drive (entries_by unit before)).on ≡ false → answer.told.torque ≡ 0
 
 -- what is answered where both laws are kept is the answer
 pub lawful-passes : (unit : CoupledUnit) (before : List Answer) (answer other : Answer) → lawful unit before answer ≡ Ok other
     → PassesTests unit before answer × (answer ≡ other)
 unfolding lawful
 lawful-passes unit before answer other is =
-    at (covers unit.setting.cal.rules.kt answer.told) ((commands_at unit.setting answer.drive (entries_by unit before)).on) (answer.told.torque == 0) refl refl refl is
+    at (covers unit.setting.cal.rules.kt answer.told) ((commanded_at unit.setting answer.drive (entries_by unit before)).on) (answer.told.torque == 0) refl refl refl is
   where
     at : (covered on none : Bool) → covers unit.setting.cal.rules.kt answer.told ≡ covered
-        → (commands_at unit.setting answer.drive (entries_by unit before)).on ≡ on → (answer.told.torque == 0) ≡ none
+        → (commanded_at unit.setting answer.drive (entries_by unit before)).on ≡ on → (answer.told.torque == 0) ≡ none
         → ◌≡◌ {A = Result Answer Fault} (if not covered then Err LoadBelowTorque else if not on && not none then Err TorqueWhileOff else Ok answer) (Ok other)
         → PassesTests unit before answer × (answer ≡ other)
     at false on none c o n e = absurd (let never : ◌≡◌ {A = Result Answer Fault} (Err LoadBelowTorque) (Ok other) = e in cc)

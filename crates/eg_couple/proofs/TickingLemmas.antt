@@ -14,7 +14,7 @@ use Rattle.eg_campaign.specs.declared.play.RunInput.{RunInput}
 use Rattle.eg_tick.specs.Kept.{ControllerParts}
 use Rattle.eg_tick.specs.Stands.{Stands}
 use Rattle.eg_tick.specs.Advancing.{entry_of, IsTick}
-use Rattle.eg_tick.specs.Commanding.{commands_at}
+use Rattle.eg_tick.specs.Commanding.{commanded_at}
 use Rattle.eg_couple.specs.Coupled.{CoupledUnit, unit_of, entry_by, entries_by, lawful}
 use Rattle.eg_couple.specs.Running.{IsCoupled}
 use Rattle.eg_couple.proofs.TakenLemmas.{on-commanded, lawful-passes}
@@ -57,7 +57,7 @@ module _ {X : Type 0} (unit : CoupledUnit) (before : List Answer) (answer : Answ
   stands : Stands s told.kept h
   stands = subst (λ k. Stands s k h) (sym kept) coupled.stands
 
-  on-is : (next s entry h).on ≡ (commands_at s answer.drive h).on
+  on-is : (next s entry h).on ≡ (commanded_at s answer.drive h).on
   unfolding entry_of
   on-is = on-commanded s entry h
 

@@ -10,7 +10,7 @@ use Rattle.eg_model.specs.Spans.{span_so_far, span_kind, has_passed, kind_at, be
 use Rattle.eg_model.proofs.SpanLemmas.{length-run_moments, before-begins}
 use Rattle.eg_model.proofs.WholeModel.{whole_model}
 use Rattle.eg_tick.specs.Advancing.{effects_after, world_before}
-use Rattle.eg_tick.specs.Commanding.{commands_after, commands_at, commands_next}
+use Rattle.eg_tick.specs.Commanding.{commands_after, commanded_at, commands_next}
 use Rattle.eg_tick.specs.declared.commands.Commands.{Commands}
 use Rattle.eg_couple.specs.Used.{CommandsAreUsed}
 use Rattle.eg_couple.proofs.TakenLemmas.{on-commanded}
@@ -26,8 +26,8 @@ first-ignition = refl
 
 module _ (s : Setting) (h : List Entry) where
   -- where the plate is held there is by how many entries came in
-  held : (drive : DriveRow) → (commands_at s drive h).held ≡ (effects_after s h).held_plate
-  unfolding commands_at commands_after effects_after
+  held : (drive : DriveRow) → (commanded_at s drive h).held ≡ (effects_after s h).held_plate
+  unfolding commanded_at commands_after effects_after
   held drive = ap (λ n. (effects s.fault n).held_plate) (length-run_moments s h)
 
   before : Bool → List Moment
@@ -43,14 +43,14 @@ module _ (s : Setting) (h : List Entry) where
     held = (effects s.fault (length (moments s h))).held_plate;
   }
 
-  at_reset : (drive : DriveRow) → drive.reset ≡ true → commands_at s drive h
+  at_reset : (drive : DriveRow) → drive.reset ≡ true → commanded_at s drive h
       ≡ record { throttle = 0; ignition = 0; on = false; held = (commands_next s h).held }
-  unfolding commands_at commands_next commands_after kind_at before_at before by_reset drives
+  unfolding commanded_at commands_next commands_after kind_at before_at before by_reset drives
   at_reset drive is = ap by_reset is
       ∙ λ i. record { throttle = first-throttle i; ignition = first-ignition i; on = false; held = (commands_next s h).held }
 
   pub commands_are_used : CommandsAreUsed s h
-  unfolding commands_at commands_next commands_after world_before
+  unfolding commanded_at commands_next commands_after world_before
   commands_are_used = record {
     on = λ e. sym (on-commanded s e h);
     throttle = λ drive. refl;

@@ -12,7 +12,7 @@ use Rattle.eg_model.specs.History.{Setting, Entry, Moment}
 use Rattle.eg_model.specs.Spans.{moments}
 use Rattle.eg_model.specs.Rows.{rows_of}
 use Rattle.eg_record.specs.declared.row.Row.{Row}
-use Rattle.eg_tick.specs.Commanding.{commands_at}
+use Rattle.eg_tick.specs.Commanding.{commanded_at}
 
 -- ---- what the unit is ----
 
@@ -69,7 +69,7 @@ covers kt shown =
 unfoldable pub lawful : CoupledUnit → List Answer → Answer → Result Answer Fault
 lawful unit before answer =
     if not (covers unit.setting.cal.rules.kt answer.told) then Err LoadBelowTorque
-    else if not (commands_at unit.setting answer.drive (entries_by unit before)).on
+    else if not (commanded_at unit.setting answer.drive (entries_by unit before)).on
     && not (answer.told.torque == 0) then Err TorqueWhileOff
     else Ok answer
 

@@ -7,7 +7,7 @@ ghost use Rattle.eg_outcome.specs.declared.outcome.Refusal.TheVariants as refusa
 ghost use Rattle.eg_readings.specs.declared.answered.Answer.{Answer as SomeAnswer};
 ghost use Rattle.eg_readings.specs.declared.answered.TheConstants.{MOST_ANSWER_BYTES};
 ghost use Rattle.eg_model.specs.History.{Setting, Entry};
-ghost use Rattle.eg_tick.specs.Commanding.{commands_at, commands_next};
+ghost use Rattle.eg_tick.specs.Commanding.{commanded_at, commands_next};
 ghost use Rattle.eg_couple.specs.Coupled.{CoupledUnit, entries_by, covers, taken};
 ghost use Rattle.eg_couple.specs.Running.{AnswerComes, outcome_of};
 
@@ -96,7 +96,7 @@ impl Partner {
 /// Whether the stages are on at a tick with this row, of which this was told.
 fn is_on(told: &Commands, drive: &Drive) -> bool
     ensures { (s : Setting) (h : List Entry) → told.now ≡ commands_next s h
-        → result ≡ (commands_at s drive.now h).on }
+        → result ≡ (commanded_at s drive.now h).on }
 {
     told.on && !drive.reset()
 }

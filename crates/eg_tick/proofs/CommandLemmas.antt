@@ -13,7 +13,7 @@ use Rattle.eg_model.proofs.SpanLemmas.{length-run_moments, kind-goes_on, ticks_b
 use Rattle.eg_tick.specs.Kept.{Kept}
 use Rattle.eg_tick.specs.Stands.{kind_of, HoldsSpan, Stands}
 use Rattle.eg_tick.specs.Advancing.{effects_after, entry_of, world_before}
-use Rattle.eg_tick.specs.Commanding.{commands_after, commands_at}
+use Rattle.eg_tick.specs.Commanding.{commands_after, commanded_at}
 use Rattle.eg_tick.specs.declared.commands.Commands.{Commands}
 use Rattle.eg_tick.specs.declared.paths.Paths.{Paths}
 use Rattle.eg_tick.proofs.StandsLemmas.{Enters}
@@ -46,15 +46,15 @@ module _ (s : Setting) (drive : DriveRow) (h : List Entry) where
       trap = stands.trap;
     }
 
-    on-are : of_parts (world_before s drive h).throttle (world_before s drive h).ignition (next s e h).on (effects_after s h).held_plate ≡ commands_at s drive h
-    unfolding commands_at commands_after world_before next next_after moment_at moment_in entry_of
+    on-are : of_parts (world_before s drive h).throttle (world_before s drive h).ignition (next s e h).on (effects_after s h).held_plate ≡ commanded_at s drive h
+    unfolding commanded_at commands_after world_before next next_after moment_at moment_in entry_of
     on-are = ap (of_parts (last_world (before_at drive (moments s h))).throttle (last_world (before_at drive (moments s h))).ignition
         (drives (kind_at drive (moments s h)) && both_conduct (effects s.fault (length (moments s h))) (before_at drive (moments s h)))) held-are
 
     pub goes-commands : (paths : Paths) → (drive.reset || k.span.passed) ≡ false
         → paths.path1 ≡ (effects k.fault k.ticks).conducts 1 k.span.open1 → paths.path2 ≡ (effects k.fault k.ticks).conducts 2 k.span.open2
         → paths.on ≡ (drives (kind_of k.span.tests) && (paths.path1 && paths.path2))
-        → of_parts (slice_index k.memory.words 2064) (slice_index k.memory.words 2065) paths.on (effects k.fault k.ticks).held_plate ≡ commands_at s drive h
+        → of_parts (slice_index k.memory.words 2064) (slice_index k.memory.words 2065) paths.on (effects k.fault k.ticks).held_plate ≡ commanded_at s drive h
     unfolding entry_of
     goes-commands paths goes path1 path2 on =
         step-begun s e h k paths (on-enters (ap (λ b. drive.reset || b) (sym stands.passed) ∙ goes)) path1 path2 on
@@ -73,8 +73,8 @@ module _ (s : Setting) (drive : DriveRow) (h : List Entry) where
 
     begun-are : (begins : (drive.reset || has_passed (moments s h)) ≡ true) → of_parts 0 0
         (not drive.reset && ((effects s.fault (length (moments s h))).conducts 1 false && (effects s.fault (length (moments s h))).conducts 2 false))
-        (effects s.fault (length (moments s h))).held_plate ≡ commands_at s drive h
-    unfolding commands_at commands_after
+        (effects s.fault (length (moments s h))).held_plate ≡ commanded_at s drive h
+    unfolding commanded_at commands_after
     begun-are begins =
         subst (λ before. of_parts 0 0
         (not drive.reset && ((effects s.fault (length (moments s h))).conducts 1 false && (effects s.fault (length (moments s h))).conducts 2 false))
@@ -90,7 +90,7 @@ module _ (s : Setting) (drive : DriveRow) (h : List Entry) where
 
     pub begun-commands : (drive.reset || k.span.passed) ≡ true → of_parts 0 0
         (not drive.reset && ((effects k.fault k.ticks).conducts 1 false && (effects k.fault k.ticks).conducts 2 false)) (effects k.fault k.ticks).held_plate
-        ≡ commands_at s drive h
+        ≡ commanded_at s drive h
     begun-commands begins =
         ap₂ (λ fault n. of_parts 0 0 (not drive.reset && ((effects fault n).conducts 1 false && (effects fault n).conducts 2 false)) (effects fault n).held_plate)
         stands.fault (stands.count ∙ sym (length-run_moments s h))

@@ -24,15 +24,15 @@ commands_after s drive past =
     }
 
 -- what the tick commands that comes after a history, with this drive row
-unfoldable pub commands_at : Setting → DriveRow → List Entry → Commands
-commands_at s drive h = commands_after s drive (moments s h)
+unfoldable pub commanded_at : Setting → DriveRow → List Entry → Commands
+commanded_at s drive h = commands_after s drive (moments s h)
 
 -- The same where that row doesn't reset the unit, whatever else it holds.
 unfoldable pub commands_next : Setting → List Entry → Commands
-commands_next s h = commands_at s (driven 0 0 0) h
+commands_next s h = commanded_at s (driven 0 0 0) h
 
 -- The law on that word: a row that doesn't reset the unit commands just this.
 abbrev pub RowsCommandAlike : Type 0
 RowsCommandAlike =
     (s : Setting) (drive : DriveRow) (h : List Entry) → drive.reset ≡ false →
-    commands_at s drive h ≡ commands_next s h
+    commanded_at s drive h ≡ commands_next s h

@@ -4,7 +4,7 @@ ghost use Rattle.eg_plant.specs.Engine.{KeepsLaws};
 ghost use Rattle.eg_fault.specs.Faults.{effects};
 ghost use Rattle.eg_model.specs.History.{Setting, Entry};
 ghost use Rattle.eg_tick.specs.Stands.{Stands};
-ghost use Rattle.eg_tick.specs.Commanding.{commands_at};
+ghost use Rattle.eg_tick.specs.Commanding.{commanded_at};
 
 use super::Controller;
 use crate::Commands;
@@ -17,10 +17,10 @@ use eg_plant::{Engine, ForeignEngine, Told};
 
 impl<E: Engine + Drop, M: Guarded + Drop> Controller<E, M> {
     /// What the next tick commands to the engine, with this drive row (docs/CONCEPT.md, "`couple`"). Of the
-    /// row only counts whether it resets the unit. Nothing changes.
+    /// row it only matters whether it resets the unit. Nothing changes.
     pub fn commands(&self, drive: &Drive) -> Commands
         ensures { (s : Setting) (h : List Entry) → Stands s self.now.kept h
-            → result ≡ commands_at s drive.now h }
+            → result ≡ commanded_at s drive.now h }
     {
         if drive.reset() || self.span.passed {
             return self.first_commands(drive.reset());

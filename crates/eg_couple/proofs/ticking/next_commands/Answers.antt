@@ -1,6 +1,6 @@
 use Rattle.std.proofs.Common.{◌≡◌, ◌∙◌, ap}
 use Rattle.eg_num.specs.Drive.{DriveRow, driven}
-use Rattle.eg_tick.specs.Commanding.{commands_at, commands_next}
+use Rattle.eg_tick.specs.Commanding.{commanded_at, commands_next}
 use Rattle.eg_couple.specs.Coupled.{entries_by}
 use Rattle.eg_couple.proofs.ticking.next_commands.Goals as goal
 
@@ -8,4 +8,4 @@ pub returns : goal.returns
 unfolding commands_next
 returns c = λ unit answers coupled.
     let drive : ◌≡◌ {A = DriveRow} c.in-Some.drive (driven 0 0 0) = c.in-Some.ensures.1 in
-    c.commands.ensures unit.setting (entries_by unit answers) coupled.stands ∙ ap (λ d. commands_at unit.setting d (entries_by unit answers)) drive
+    c.commands.ensures unit.setting (entries_by unit answers) coupled.stands ∙ ap (λ d. commanded_at unit.setting d (entries_by unit answers)) drive

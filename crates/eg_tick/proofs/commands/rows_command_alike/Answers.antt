@@ -5,7 +5,7 @@ use Rattle.eg_model.specs.History.{Setting, Drive, Test, drives, Moment}
 use Rattle.eg_model.specs.Paths.{both_conduct}
 use Rattle.eg_model.specs.Level1.{last_world}
 use Rattle.eg_model.specs.Spans.{span_so_far, span_kind, has_passed, kind_at, before_at, moments}
-use Rattle.eg_tick.specs.Commanding.{commands_after, commands_at, commands_next}
+use Rattle.eg_tick.specs.Commanding.{commands_after, commanded_at, commands_next}
 use Rattle.eg_tick.specs.declared.commands.Commands.{Commands}
 use Rattle.eg_tick.proofs.commands.rows_command_alike.Goals as goal
 
@@ -23,5 +23,5 @@ by_reset s past reset = record {
 }
 
 pub returns : goal.returns
-unfolding commands_at commands_next commands_after kind_at before_at before_by by_reset
+unfolding commanded_at commands_next commands_after kind_at before_at before_by by_reset
 returns c s drive h is = ap (by_reset s (moments s h)) is

@@ -2,7 +2,7 @@ use Rattle.std.proofs.Common.{◌≡◌, ◌∙◌, sym, ap, refl, true, false, 
 use Rattle.std.specs.Prelude.{◌==◌, Err}
 use Rattle.std.proofs.lemmas.Bool.Decides.{nat_tests}
 use Rattle.eg_readings.specs.Answering.{answer_of}
-use Rattle.eg_tick.specs.Commanding.{commands_at}
+use Rattle.eg_tick.specs.Commanding.{commanded_at}
 use Rattle.eg_couple.specs.Coupled.{NoAnswer, LoadBelowTorque, TorqueWhileOff, entries_by, covers}
 use Rattle.eg_couple.proofs.PartnerLemmas.{taken-none, taken-judged, taken-still, refuses, gives}
 use Rattle.eg_couple.proofs.partner.Partner.take.Goals.{else-torque-ne0-via-then-torque-ne0+else-not-is_on, else-torque-ne0-via-else-torque-ne0}
@@ -28,7 +28,7 @@ returns-then-not-is_on c = λ unit before told number kt.
     let line = c.args.self.now.line.items in
     let some : answer_of line ≡ Some c.in-Some.answer = ap answer_of (sym c.deref.ensures.value) ∙ sym c.answer_of.ensures ∙ c.in-Some.is in
     let covered : covers unit.setting.cal.rules.kt c.in-Some.answer.told ≡ true = ap (λ n. covers n c.in-Some.answer.told) kt ∙ sym c.covers.ensures ∙ c.if-not-covers.false in
-    let off : (commands_at unit.setting c.in-Some.answer.drive (entries_by unit before)).on ≡ false =
+    let off : (commanded_at unit.setting c.in-Some.answer.drive (entries_by unit before)).on ≡ false =
     sym (c.is_on.ensures unit.setting (entries_by unit before) told) ∙ (grind (arith, c.if-not-is_on.true)) in
     let some_torque : (c.in-Some.answer.told.torque == 0) ≡ false = grind (arith, nat_tests) in
     ap Err c.refused-then-not-is_on.ensures
