@@ -1,14 +1,14 @@
 -- Which modules of level 2 run under each class of faults.
 use Rattle.std.proofs.Common.{◌≡◌, ℕ, ◌-◌, ◌<◌, ◌⊎◌, inl, inr, Bool, true, false, refl, sym, subst}
-use Rattle.std.specs.Prelude.{not, Some, None}
+use Rattle.std.specs.Prelude.{◌==◌, not, if◌then◌else◌, Option, Some, None}
 use Rattle.eg_answer.specs.Modules.{AllRun, NoneRuns, OthersRun}
 use Rattle.eg_fault.specs.Effects.{Effects, no_effects}
 use Rattle.eg_fault.specs.Faults.{effects_of, effects, is_left_out}
-use Rattle.eg_fault.specs.Running.{LeavesOut, RunsWhole, RunningLaw, RunAlike, may_change_levels}
+use Rattle.eg_fault.specs.Running.{LeavesOut, RunsWhole, RunningLaw, RunAlike, may_change_levels, changes_levels}
 use Rattle.eg_fault.specs.declared.class.Class.{Class}
 use Rattle.eg_fault.specs.declared.class.Class.TheVariants.{Skip, Disturb, Flip, Halt, Lapse}
 use Rattle.eg_fault.specs.declared.class.Fault.{Fault}
-use Rattle.eg_fault.proofs.ActingLemmas.{before_onset, from_onset, of_class}
+use Rattle.eg_fault.proofs.ActingLemmas.{before_onset, from_onset, of_class, of_all}
 
 all-no_effects : AllRun no_effects.ran
 unfolding no_effects
@@ -78,3 +78,46 @@ spared _ k is = record { level1 = refl; ran = refl; disturbance = refl; flip = r
 pub same-spared : (fault : Fault) (tick : ℕ) → may_change_levels fault.class ≡ false → RunAlike (effects None tick) (effects (Some fault) tick)
 unfolding effects
 same-spared fault tick is = of_class (RunAlike no_effects) fault (same no_effects) (λ k. spared fault.class k is) tick
+
+-- ---- at one tick ----
+
+no_flip : (now : Bool) (flipped : ℕ × ℕ) → now ≡ false → None ≡ (if now then Some flipped else None)
+no_flip false flipped is = refl
+no_flip true flipped is = absurd (let clash : true ≡ false = is in cc)
+
+-- a class that changes nothing at a tick leaves them alone at it
+pub spared-now : (class : Class) (k : ℕ) → changes_levels class k ≡ false → RunAlike no_effects (effects_of class k)
+unfolding effects_of no_effects changes_levels
+spared-now (Skip one) k is = absurd (let clash : true ≡ false = is in cc)
+spared-now (Disturb one mask) k is = absurd (let clash : true ≡ false = is in cc)
+spared-now (Flip word mask) k is = record { level1 = refl; ran = refl; disturbance = refl; flip = no_flip (k == 0) (word, mask) is }
+spared-now Halt k is = absurd (let clash : true ≡ false = is in cc)
+spared-now (Lapse after every) k is = record {
+  level1 = refl;
+  ran = λ j i. not (sym is j);
+  disturbance = refl;
+  flip = refl;
+}
+spared-now _ k is = record { level1 = refl; ran = refl; disturbance = refl; flip = refl }
+
+-- so they run as without a fault where this is what is out of order
+pub same-now : (x : Effects) (tick : ℕ) → RunAlike no_effects x → RunAlike (effects None tick) x
+unfolding effects
+same-now x tick alike = alike
+
+-- ---- where level 1 doesn't run ----
+
+-- no module of level 2 runs, and no word is flipped
+pub record Stops (x : Effects) : Type 0 where
+  pub none : NoneRuns x.ran
+  pub flip : x.flip ≡ None
+
+stops-class : (class : Class) (k : ℕ) → (effects_of class k).level1 ≡ false → Stops (effects_of class k)
+unfolding effects_of no_effects
+stops-class Halt k is = record { none = λ i. refl; flip = refl }
+stops-class _ k is = absurd (let clash : true ≡ false = is in cc)
+
+-- where level 1 doesn't run level 2 doesn't either
+pub stops_both : (fault : Option Fault) (tick : ℕ) → (effects fault tick).level1 ≡ false → Stops (effects fault tick)
+stops_both = of_all (λ x. x.level1 ≡ false → Stops x)
+    (λ is. absurd (let clash : true ≡ false = (unfold no_effects in is) in cc)) stops-class

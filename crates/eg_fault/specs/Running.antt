@@ -1,9 +1,9 @@
 -- Outside the headline. Which modules of level 2 run under a fault. At each tick all of them run, or none
 -- does, or all but one; and where one is left out, it is the same one at each tick from the onset on.
-use Rattle.std.specs.Prelude.{ℕ, ◌≡◌, ◌≤◌, ◌<◌, ◌⊎◌, Bool, true, false, Option, Some, None}
+use Rattle.std.specs.Prelude.{ℕ, ◌≡◌, ◌≤◌, ◌<◌, ◌==◌, ◌⊎◌, Bool, true, false, Option, Some, None}
 use Rattle.eg_answer.specs.Modules.{AllRun, NoneRuns, OthersRun}
 use Rattle.eg_fault.specs.Effects.{Effects}
-use Rattle.eg_fault.specs.Faults.{effects}
+use Rattle.eg_fault.specs.Faults.{is_left_out, effects}
 use Rattle.eg_fault.specs.declared.class.Class.{Class}
 use Rattle.eg_fault.specs.declared.class.Class.TheVariants.{Skip, Disturb, Flip, Halt, Lapse}
 use Rattle.eg_fault.specs.declared.class.Fault.{Fault}
@@ -38,3 +38,13 @@ may_change_levels (Flip word mask) = true
 may_change_levels Halt = true
 may_change_levels (Lapse after every) = true
 may_change_levels _ = false
+
+-- whether a class makes level 1 and level 2 run otherwise than without a fault, k ticks after the onset: a flip
+-- does at the onset alone, and a lapse where it leaves level 2 out
+unfoldable pub changes_levels : Class → ℕ → Bool
+changes_levels (Skip index) k = true
+changes_levels (Disturb index mask) k = true
+changes_levels (Flip word mask) k = k == 0
+changes_levels Halt k = true
+changes_levels (Lapse after every) k = is_left_out after every k
+changes_levels _ k = false

@@ -3,7 +3,7 @@ ghost use Rattle.std.specs.Prelude.{◌≡◌, ◌<◌, false, option_map};
 ghost use Rattle.std.specs.Option.{option_map_or};
 ghost use Rattle.eg_fault.specs.Faults;
 ghost use Rattle.eg_fault.specs.Faults.{effects_of};
-ghost use Rattle.eg_fault.specs.Running.{may_change_levels};
+ghost use Rattle.eg_fault.specs.Running.{changes_levels};
 
 use crate::{Class, Opens, PATH_1, PATH_2, Script};
 
@@ -50,19 +50,20 @@ impl Class {
         !matches!(self, Class::Halt)
     }
 
-    /// Whether the class may change how level 1 and level 2 run.
-    #[tactic(auto, unfolding(crate::specs::Running::may_change_levels))]
-    pub(crate) fn may_change_levels(&self) -> bool
-        ensures { result ≡ may_change_levels self.now }
+    /// Whether the class changes how level 1 and level 2 run.
+    #[tactic(auto, unfolding(crate::specs::Running::changes_levels))]
+    pub(crate) fn changes_levels(&self, after: u32) -> bool
+        ensures { result ≡ changes_levels self.now after }
     {
-        matches!(
-            self,
-            Class::Skip { .. }
-                | Class::Disturb { .. }
-                | Class::Flip { .. }
-                | Class::Halt
-                | Class::Lapse { .. }
-        )
+        match self {
+            Class::Skip { .. } | Class::Disturb { .. } | Class::Halt => true,
+            Class::Flip { .. } => after == 0,
+            Class::Lapse {
+                after: ticks,
+                every,
+            } => is_left_out(ticks, *every, after),
+            _ => false,
+        }
     }
 
     /// Whether a module of level 2 runs.

@@ -108,20 +108,17 @@ pub fn flip(fault: Option<&Fault>, tick: u32) -> Option<(u8, u16)>
     class.flip(after)
 }
 
-/// The fault, where it may change at a tick how level 1 and level 2 run, else None: then both run, no module
-/// is disturbed, and no word is flipped (docs/CONCEPT.md, "Faults").
+/// The fault, where it changes at a tick how level 1 and level 2 run, else None: then both run, no module is
+/// disturbed, and no word is flipped (docs/CONCEPT.md, "Faults").
 pub fn fault_of_levels(fault: Option<&Fault>, tick: u32) -> Option<&Fault>
     ensures fault { IfSome (option_copied result) (λ found. option_copied fault.entry ≡ Some found) }
     ensures same { RunAlike (effects (option_copied result) tick) (effects (option_copied fault.entry) tick) }
 {
-    let fault = fault?;
-    if tick < fault.onset {
+    let (class, after) = acting(fault, tick)?;
+    if !class.changes_levels(after) {
         return None;
     }
-    if !fault.class.may_change_levels() {
-        return None;
-    }
-    Some(fault)
+    fault
 }
 
 /// Whether a tick is one at which level 2 sends its answer (docs/CONCEPT.md, "Faults"). `tick` is its number

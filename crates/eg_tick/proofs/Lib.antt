@@ -13,6 +13,7 @@ pub mod MonitorLemmas
 pub mod FlipLemmas
 pub mod StepLemmas
 pub mod TurnLemmas
+pub mod StoppedLemmas
 pub mod ReactionLemmas
 pub mod RunLemmas
 pub mod CountLemmas

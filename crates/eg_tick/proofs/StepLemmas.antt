@@ -54,7 +54,7 @@ found-more found = λ k. record {
 }
 
 -- a step that neither orders nor answers nor finds anything adds nothing
-quiet-after : (first : Step) → joined first quiet_step ≡ first
+pub quiet-after : (first : Step) → joined first quiet_step ≡ first
 unfolding joined
 quiet-after first = λ k. record {
   open_path = or-false first.open_path k;

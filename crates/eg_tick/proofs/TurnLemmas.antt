@@ -1,5 +1,5 @@
 -- The turns of a tick, one after another, where they are done and where memory runs out.
-use Rattle.std.proofs.Common.{◌≡◌, ◌∙◌, refl, sym, ap, subst, ℕ, ◌+◌, ◌<◌, Bool, length, slice_index, arith}
+use Rattle.std.proofs.Common.{◌≡◌, ◌∙◌, refl, sym, ap, subst, ℕ, ◌+◌, ◌<◌, true, length, slice_index, arith}
 use Rattle.std.specs.Prelude.{Result, Ok, Err, IsErr}
 use Rattle.std.proofs.lemmas.Result.{IfOk-from_err}
 use Rattle.eg_base.specs.declared.no_memory.NoMemory.{NoMemory}
@@ -59,15 +59,15 @@ module _ {parts : Level2Parts} {x : Effects} {task : Task} {before : Level1} {a 
   }
 
   -- the last slice is done
-  pub ended : {T : Type 0} {y : Effects} {whole : Step} {now after : Level1} {b d : ShownMemory} {made : T} {runs : Bool} {budget : ℕ} → x ≡ y → SoFar parts x task 8 whole before now a b
-      → runs ≡ x.level1 → length task.slices ≡ 9 → budget ≡ slice_index task.slices 8
-      → ((w : Work) (j : ℕ) → w.level1 ≡ runs → j < length w.slices → slice_index w.slices j ≡ budget → IsMidway w j j now.host.registers b.words
+  pub ended : {T : Type 0} {y : Effects} {whole : Step} {now after : Level1} {b d : ShownMemory} {made : T} {budget : ℕ} → x ≡ y → SoFar parts x task 8 whole before now a b
+      → x.level1 ≡ true → length task.slices ≡ 9 → budget ≡ slice_index task.slices 8
+      → ((w : Work) (j : ℕ) → w.level1 ≡ true → j < length w.slices → slice_index w.slices j ≡ budget → IsMidway w j j now.host.registers b.words
       → IsMidway w (j + 1) j after.host.registers d.words)
       → IsReady parts.rules after.program d.words → (let done : Result T NoMemory = Ok made in KeepsMemory b d done)
       → (let done : Result Step NoMemory = Ok whole in RunLevels parts y task before after a d done)
   ended {y = y} {whole = whole} {after = after} {b = b} {d = d} {made = made} same so_far level1 nine budget slice ready keeps =
       subst (λ y. (let done : Result Step NoMemory = Ok whole in RunLevels parts y task before after a d done)) same (record {
-        midway = λ w due midway. slice w 8 (due.level1 ∙ sym level1)
+        midway = λ w due midway. slice w 8 (due.level1 ∙ level1)
             (let long : length w.slices ≡ 9 = ap length due.budgets ∙ nine in omega arith)
             (ap (λ slices. slice_index slices 8) due.budgets ∙ sym budget) (so_far.midway w due midway);
         step = λ w due midway. so_far.step w due midway ∙ steps-all w.doing w.words;

@@ -1,5 +1,5 @@
 // The slices of level 1 and the modules of level 2, in turn over one memory.
-ghost use Rattle.std.specs.Prelude.{◌≡◌, ℕ, ◌+◌, ◌<◌, ◌==◌, ◌&&◌, ◌≤◌, List, length, slice_index, false, IsFalse, OnOk, IfOk, None};
+ghost use Rattle.std.specs.Prelude.{◌≡◌, ℕ, ◌+◌, ◌<◌, ◌==◌, ◌&&◌, ◌≤◌, List, length, slice_index, true, false, IsFalse, OnOk, IfOk, None};
 ghost use Rattle.std.specs.Option.{option_copied};
 ghost use Rattle.eg_guard.specs.Memory.{KeepsMemory};
 ghost use Rattle.eg_answer.specs.declared.rules.Rules.{Rules};
@@ -10,6 +10,7 @@ ghost use Rattle.eg_word.specs.Program.{IsProgramOf};
 ghost use Rattle.eg_fault.specs.Faults.{effects};
 ghost use Rattle.eg_level2.specs.Words.{words_of, AreMirrored, AreWithin};
 ghost use Rattle.eg_level2.specs.Inputs.{IsLookup};
+ghost use Rattle.eg_level2.specs.Modules.{quiet_step};
 ghost use Rattle.eg_fault.specs.Faults.{IsNoneOrValid};
 ghost use Rattle.eg_tick.specs.Midway;
 ghost use Rattle.eg_tick.specs.Midway.{Work, IsMidway, IsReady, IsTurn, RunLevels, Meets, step_at};
@@ -22,16 +23,11 @@ use eg_guard::Guarded;
 use eg_level2::{Level2, Step, Watches};
 use eg_plant::Engine;
 
-/// A slice of level 1, where it runs at this tick (docs/CONCEPT.md, "Level 1").
+/// A slice of level 1 at a tick at which it runs (docs/CONCEPT.md, "Level 1").
 #[inline(always)]
-fn slice<M: Guarded>(
-    runs: bool,
-    level1: &mut Level1,
-    memory: &mut M,
-    budget: u16,
-) -> Result<(), NoMemory>
+fn slice<M: Guarded>(level1: &mut Level1, memory: &mut M, budget: u16) -> Result<(), NoMemory>
     requires { IsProgramOf (M.shows memory.old).words level1.old.program }
-    ensures midway { (w : Work) (j : ℕ) → w.level1 ≡ runs → j < length w.slices
+    ensures midway { (w : Work) (j : ℕ) → w.level1 ≡ true → j < length w.slices
         → slice_index w.slices j ≡ budget
         → IsMidway w j j level1.old.host.registers (M.shows memory.old).words
         → OnOk result (IsMidway w (j + 1) j level1.new.host.registers (M.shows memory.new).words) }
@@ -39,9 +35,6 @@ fn slice<M: Guarded>(
         → IsReady rules level1.new.program (M.shows memory.new).words }
     ensures keeps { KeepsMemory (M.shows memory.old) (M.shows memory.new) result }
 {
-    if !runs {
-        return Ok(());
-    }
     level1.slice(memory, budget)
 }
 
@@ -116,8 +109,8 @@ fn first_module<M: Guarded>(
     level2.module_with_lookup(0, memory, task.local, task.phase, 0, &task.lookup)
 }
 
-/// The slice of level 1 of that number, and then the module of level 2 of the same number (docs/CONCEPT.md,
-/// "A run, tick by tick").
+/// The slice of level 1 of that number, and then the module of level 2 of the same number, at a tick at which
+/// level 1 runs (docs/CONCEPT.md, "A run, tick by tick").
 #[inline(always)]
 fn turn<M: Guarded>(
     level2: &Level2,
@@ -129,13 +122,14 @@ fn turn<M: Guarded>(
 ) -> Result<Step, NoMemory>
     requires number { number < MODULES }
     requires fault { IsNoneOrValid (option_copied fault) }
+    requires level1 { (effects (option_copied fault) task.now.tick).level1 ≡ true }
     requires lookup { IsLookup level2.now.rules task.now.lookup }
     requires ready { IsReady level2.now.rules level1.old.program (M.shows memory.old).words }
     ensures { IsTurn level2.now (effects (option_copied fault.entry) task.now.tick) task.now number
         level1.old level1.new (M.shows memory.old) (M.shows memory.new) result }
 {
     let budget = task.slices.budget_of(number);
-    slice(level1_runs(fault, task.tick), level1, memory, budget)?;
+    slice(level1, memory, budget)?;
     if number == 0 {
         return first_module(level2, fault, task, memory);
     }
@@ -144,7 +138,8 @@ fn turn<M: Guarded>(
 
 /// The nine slices of level 1 and the eight modules of level 2 of a tick, in turn: after each slice but the
 /// last comes the module of its number (docs/CONCEPT.md, "A run, tick by tick"). Answers what the modules
-/// order, answer and find. A tick at which no fault can act on the two levels takes a shorter form.
+/// order, answer and find. A tick at which no fault acts on the two levels takes a shorter form, and one at
+/// which neither runs none.
 #[inline(always)]
 #[tactic(auto, unfolding(eg_fault::specs::Faults::IsNoneOrValid))]
 pub(crate) fn run_levels<E: Engine + Drop, M: Guarded + Drop>(
@@ -160,10 +155,25 @@ pub(crate) fn run_levels<E: Engine + Drop, M: Guarded + Drop>(
     ensures { RunLevels level2.now (effects (option_copied fault.entry) task.now.tick) task.now
         level1.old level1.new (M.shows memory.old) (M.shows memory.new) result }
 {
-    match fault_of_levels(fault, task.tick) {
-        None => run_turns::<E, M, false>(level2, None, task, level1, memory),
-        some => run_turns::<E, M, true>(level2, some, task, level1, memory),
+    let fault = fault_of_levels(fault, task.tick);
+    if fault.is_none() {
+        return run_turns::<E, M, false>(level2, None, task, level1, memory);
     }
+    if !level1_runs(fault, task.tick) {
+        return Ok(stopped(task));
+    }
+    run_turns::<E, M, true>(level2, fault, task, level1, memory)
+}
+
+/// What a tick at which neither level 1 nor level 2 runs orders, answers and finds.
+#[inline(always)]
+fn stopped(task: &Task) -> Step
+    ensures quiet { result ≡ quiet_step }
+    ensures nine { length task.now.slices ≡ 9 }
+{
+    // Called for its clause alone: there are nine slices.
+    let _last = task.slices.budget_of(8);
+    Step::quiet()
 }
 
 /// `run_levels` in one of its two forms: compiled with what is asked of a fault at each turn, or without. The
@@ -178,6 +188,7 @@ fn run_turns<E: Engine + Drop, M: Guarded + Drop, const FAULTY: bool>(
 ) -> Result<Step, NoMemory>
     requires fault { IsNoneOrValid (option_copied fault) }
     requires quiet { IsFalse FAULTY → option_copied fault ≡ None }
+    requires level1 { (effects (option_copied fault) task.now.tick).level1 ≡ true }
     requires lookup { IsLookup level2.now.rules task.now.lookup }
     requires ready { IsReady level2.now.rules level1.old.program (M.shows memory.old).words }
     ensures { RunLevels level2.now (effects (option_copied fault.entry) task.now.tick) task.now
@@ -202,13 +213,13 @@ fn run_turns<E: Engine + Drop, M: Guarded + Drop, const FAULTY: bool>(
     let step = turn(level2, fault, task, 7, level1, memory)?;
     let whole = joined(&whole, &step);
     let last = task.slices.budget_of(8);
-    slice(level1_runs(fault, task.tick), level1, memory, last)?;
+    slice(level1, memory, last)?;
     Ok(whole)
 }
 
 /// The fault that may act, in the form with a fault; in the other there is none.
 #[inline(always)]
-fn acting<const FAULTY: bool>(fault: Option<&Fault>) -> Option<&Fault>
+pub(crate) fn acting<const FAULTY: bool>(fault: Option<&Fault>) -> Option<&Fault>
     requires { IsFalse FAULTY → option_copied fault ≡ None }
     ensures { option_copied result ≡ option_copied fault.entry }
 {

@@ -1,4 +1,4 @@
-use Rattle.std.proofs.Common.{ap}
+use Rattle.std.proofs.Common.{ap, ◌∙◌}
 use Rattle.eg_fault.specs.Faults.{effects}
 use Rattle.eg_tick.proofs.TurnLemmas.{begun, next, stops, ended}
 use Rattle.eg_tick.proofs.levels.run_turns.Goals as goal
@@ -94,5 +94,5 @@ returns g c = ended (ap (λ f. effects f c.args.task.now.tick) c.acting-fault.en
     c.in_ok-step-6.ensures c.joined-whole-6.ensures)
     c.in_ok-step-7.ensures c.joined-whole-7.ensures)
     c.in_ok-step-8.ensures c.joined-whole-8.ensures)
-    c.level1_runs.ensures c.budget_of-last.ensures.nine c.budget_of-last.ensures.budget c.in_ok-slice.ensures.midway
+    (ap (λ f. (effects f c.args.task.now.tick).level1) c.acting-fault.ensures ∙ c.requires.level1) c.budget_of-last.ensures.nine c.budget_of-last.ensures.budget c.in_ok-slice.ensures.midway
     (c.in_ok-slice.ensures.ready _ c.in_ok-step-8.ensures.ready) c.in_ok-slice.ensures.keeps

@@ -1,20 +1,13 @@
-use Rattle.std.proofs.Common.{rules, ◌≡◌, ◌∙◌, sym, subst, true, false, List}
+use Rattle.std.proofs.Common.{sym, subst, List}
 use Rattle.eg_word.specs.declared.instruction.Instruction.{Instruction}
 use Rattle.eg_tick.specs.Midway.{IsReady}
 use Rattle.eg_tick.proofs.FrameLemmas.{ready-level1}
-use Rattle.eg_tick.proofs.MidwayLemmas.{idle-midway}
 use Rattle.eg_tick.proofs.LevelLemmas.{slice_result}
 use Rattle.eg_tick.proofs.levels.slice.Goals as goal
 
-pub returns-then-not-runs-clause-midway : goal.returns-then-not-runs-clause-midway
-returns-then-not-runs-clause-midway g c w j runs within row is =
-    let idle : c.args.runs ≡ false = search rules in
-    idle-midway w j _ _ (runs ∙ idle) is
-
 pub returns-clause-midway : goal.returns-clause-midway
 returns-clause-midway g c w j runs within row is =
-    let going : c.args.runs ≡ true = search rules in
-    slice_result c.slice.result w j c.args.budget _ _ _ _ (runs ∙ going) within row
+    slice_result c.slice.result w j c.args.budget _ _ _ _ runs within row
     c.slice.ensures.slice.keeps.are_words c.slice.ensures.slice.outside c.slice.ensures.slice.world is
 
 pub returns-clause-ready : goal.returns-clause-ready
