@@ -1,5 +1,5 @@
 -- Outside the headline. What a diesel engine keeps from step to step.
-use Rattle.std.specs.Prelude.{◌≤◌}
+use Rattle.std.specs.Prelude.{◌≡◌, ℕ, ◌≤◌}
 use Rattle.eg_num.specs.Arithmetic.{estimate}
 use Rattle.eg_plant.specs.PlantParts.{PlantParts, ArePlantParts}
 use Rattle.eg_diesel.specs.Diesel.{Diesel, smoke_limit}
@@ -13,3 +13,8 @@ pub record IsKept (p : PlantParts) (d : Diesel) : Type 0 where
   pub metered : d.quantity ≤ d.rack
   pub burnt : d.quantity ≤ smoke_limit p d.boost
   pub torque : d.torque ≤ estimate p.kt d.quantity
+
+-- besides, the smoke limit of its boost, which it keeps from one step to the next, is that of the plant
+pub record KeepsSmokeLimit (p : PlantParts) (d : Diesel) (limit : ℕ) : Type 0 where
+  pub state : IsKept p d
+  pub limited : limit ≡ smoke_limit p d.boost

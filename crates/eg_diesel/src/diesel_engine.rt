@@ -1,17 +1,18 @@
 // The diesel engine.
-ghost use Rattle.std.specs.Prelude.{◌≡◌};
+ghost use Rattle.std.specs.Prelude.{◌≡◌, ℕ};
 ghost use Rattle.eg_plant.specs.Engine.{KeepsLaws};
+ghost use Rattle.eg_plant.specs.PlantParts.{PlantParts};
 ghost use Rattle.eg_diesel.specs.Diesel as diesel;
-ghost use Rattle.eg_diesel.specs.Diesel.{StepsAsDiesel, at_rest, shown_of};
+ghost use Rattle.eg_diesel.specs.Diesel.{StepsAsDiesel, at_rest, shown_of, smoke_limit};
 
 use eg_num::toward;
-use eg_plant::{CopyEngine, Engine, PlantData, next_plate, torque_of};
+use eg_plant::{CopyEngine, Engine, PlantData, charge_at, next_plate, torque_of};
 use std::marker::Model;
 
 /// A diesel engine (docs/CONCEPT.md, "Plant"). It uses the data of the gasoline plant: `slew` is the most
 /// that its rack moves in a tick, `fill` the most that its boost does, `charge` the smoke limit of each boost
-/// (all in per mille), and `kt` the torque of a quantity of 1000 (in tenths of Nm). Contracts see its
-/// `DieselPlant`.
+/// (all in per mille), and `kt` the torque of a quantity of 1000 (in tenths of Nm). `smoke` is the smoke
+/// limit of its boost: it is looked up only where the boost has moved. Contracts see its `DieselPlant`.
 #[derive(Drop)]
 pub struct DieselEngine {
     plant: PlantData,
@@ -19,6 +20,7 @@ pub struct DieselEngine {
     boost: u16,
     quantity: u16,
     torque: u16,
+    smoke: u16,
 }
 
 impl Model for DieselEngine {
@@ -26,7 +28,7 @@ impl Model for DieselEngine {
 
     ghost Value = { DieselPlant };
 
-    ghost use Rattle.eg_diesel.specs.Keeping.{IsKept};
+    ghost use Rattle.eg_diesel.specs.Keeping.{KeepsSmokeLimit};
 
     ghost view = { λ e. record {
       parts = e.plant;
@@ -38,12 +40,12 @@ impl Model for DieselEngine {
       };
     } };
 
-    ghost invariant = { λ e. IsKept e.plant (record {
+    ghost invariant = { λ e. KeepsSmokeLimit e.plant (record {
       rack = e.rack;
       boost = e.boost;
       quantity = e.quantity;
       torque = e.torque;
-    }) };
+    }) e.smoke };
 }
 
 impl DieselEngine {
@@ -55,12 +57,14 @@ impl DieselEngine {
         ensures kt { ⟦<DieselEngine as Engine>⟧.kt result ≡ plant.kt }
         ensures laws { KeepsLaws plant.kt (shown_of at_rest) }
     {
+        let smoke = plant.charge().at(0);
         DieselEngine {
             plant,
             rack: 0,
             boost: 0,
             quantity: 0,
             torque: 0,
+            smoke,
         }
     }
 }
@@ -77,11 +81,13 @@ impl Engine for DieselEngine {
     fn step(&mut self, plate: u16, ignition: u16, on: bool, held: Option<u16>) {
         let rack = next_plate(&self.plant, self.rack, plate, on, held);
         let boost = next_boost(&self.plant, self.rack, self.boost);
-        let quantity = quantity_of(&self.plant, rack, boost, on);
+        let smoke = charge_at(&self.plant, boost, self.boost, self.smoke);
+        let quantity = quantity_of(rack, smoke, on);
         self.torque = torque_of(self.plant.kt(), quantity, ignition, on);
         self.rack = rack;
         self.boost = boost;
         self.quantity = quantity;
+        self.smoke = smoke;
     }
 
     fn torque(&self) -> u16 {
@@ -109,6 +115,7 @@ impl CopyEngine for DieselEngine {
             boost: self.boost,
             quantity: self.quantity,
             torque: self.torque,
+            smoke: self.smoke,
         }
     }
 }
@@ -121,15 +128,12 @@ fn next_boost(plant: &PlantData, rack: u16, boost: u16) -> u16
     toward(boost, rack, plant.fill())
 }
 
-/// The quantity at a rack and a boost, in per mille: the rack, at most the smoke limit of the boost; 0 while
-/// the power stages are off.
+/// The quantity at a rack and at the smoke limit of a boost, in per mille: the rack, at most that limit; 0
+/// while the power stages are off.
 #[tactic(auto, unfolding(crate::specs::Diesel::quantity_of))]
-fn quantity_of(plant: &PlantData, rack: u16, boost: u16, on: bool) -> u16
-    ensures { result ≡ diesel.quantity_of plant.now rack boost on }
+fn quantity_of(rack: u16, smoke: u16, on: bool) -> u16
+    ensures { (p : PlantParts) (boost : ℕ) → smoke ≡ smoke_limit p boost
+        → result ≡ diesel.quantity_of p rack boost on }
 {
-    if on {
-        rack.min(plant.charge().at(boost))
-    } else {
-        0
-    }
+    if on { rack.min(smoke) } else { 0 }
 }

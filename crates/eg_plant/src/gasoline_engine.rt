@@ -1,6 +1,7 @@
 // The gasoline engine.
-ghost use Rattle.std.specs.Prelude.{◌≡◌, ◌≤◌};
+ghost use Rattle.std.specs.Prelude.{◌≡◌, ℕ, ◌≤◌};
 ghost use Rattle.std.specs.Option.{ForSome};
+ghost use Rattle.eg_num.specs.Interpolation.{curve_at};
 ghost use Rattle.eg_plant.specs.Engine.{KeepsLaws};
 ghost use Rattle.eg_plant.specs.Gasoline as gasoline;
 ghost use Rattle.eg_plant.specs.Gasoline.{StepsAsGasoline, at_rest, shown_of};
@@ -9,13 +10,15 @@ use crate::{CopyEngine, Engine, PlantData};
 use eg_num::toward;
 use std::marker::Model;
 
-/// A gasoline engine (docs/CONCEPT.md, "Plant"). Contracts see its `GasolinePlant`.
+/// A gasoline engine (docs/CONCEPT.md, "Plant"). `filling` is the charge of its plate: it is looked up only
+/// where the plate has moved. Contracts see its `GasolinePlant`.
 #[derive(Drop)]
 pub struct GasolineEngine {
     plant: PlantData,
     plate: u16,
     charge: u16,
     torque: u16,
+    filling: u16,
 }
 
 impl Model for GasolineEngine {
@@ -23,18 +26,18 @@ impl Model for GasolineEngine {
 
     ghost Value = { GasolinePlant };
 
-    ghost use Rattle.eg_plant.specs.Keeping.{IsKept};
+    ghost use Rattle.eg_plant.specs.Keeping.{KeepsFilling};
 
     ghost view = { λ e. record {
       parts = e.plant;
       state = record { plate = e.plate; charge = e.charge; torque = e.torque };
     } };
 
-    ghost invariant = { λ e. IsKept e.plant (record {
+    ghost invariant = { λ e. KeepsFilling e.plant (record {
       plate = e.plate;
       charge = e.charge;
       torque = e.torque;
-    }) };
+    }) e.filling };
 }
 
 impl GasolineEngine {
@@ -52,6 +55,7 @@ impl GasolineEngine {
             plate: 0,
             charge,
             torque: 0,
+            filling: charge,
         }
     }
 }
@@ -66,8 +70,10 @@ impl Engine for GasolineEngine {
     #[inline(always)]
     #[tactic(auto, using(crate::proofs::PlantLemmas::laws), unfolding(crate::specs::Gasoline::gasoline_step))]
     fn step(&mut self, plate: u16, ignition: u16, on: bool, held: Option<u16>) {
-        let charge = next_charge(&self.plant, self.plate, self.charge);
-        self.plate = next_plate(&self.plant, self.plate, plate, on, held);
+        let charge = next_charge(&self.plant, self.filling, self.charge);
+        let next = next_plate(&self.plant, self.plate, plate, on, held);
+        self.filling = charge_at(&self.plant, next, self.plate, self.filling);
+        self.plate = next;
         self.charge = charge;
         self.torque = torque_of(self.plant.kt(), charge, ignition, on);
     }
@@ -96,6 +102,7 @@ impl CopyEngine for GasolineEngine {
             plate: self.plate,
             charge: self.charge,
             torque: self.torque,
+            filling: self.filling,
         }
     }
 }
@@ -116,12 +123,27 @@ pub fn next_plate(plant: &PlantData, plate: u16, command: u16, on: bool, held: O
     toward(plate, target, plant.slew())
 }
 
+/// The charge of a plate angle, both in per mille, where the charge of another angle is known: that one, if
+/// both angles are the same.
+#[inline(always)]
+pub fn charge_at(plant: &PlantData, angle: u16, known_angle: u16, known: u16) -> u16
+    requires { known ≡ curve_at plant.now.charge known_angle }
+    ensures { result ≡ curve_at plant.now.charge angle }
+{
+    if angle == known_angle {
+        known
+    } else {
+        plant.charge().at(angle)
+    }
+}
+
 /// The charge after a step, in per mille: it moves toward the charge of the plate as it was before the step.
 #[tactic(auto, unfolding(crate::specs::Gasoline::next_charge))]
-fn next_charge(plant: &PlantData, plate: u16, charge: u16) -> u16
-    ensures { result ≡ gasoline.next_charge plant.now plate charge }
+fn next_charge(plant: &PlantData, filling: u16, charge: u16) -> u16
+    ensures { (plate : ℕ) → filling ≡ curve_at plant.now.charge plate
+        → result ≡ gasoline.next_charge plant.now plate charge }
 {
-    toward(charge, plant.charge().at(plate), plant.fill())
+    toward(charge, filling, plant.fill())
 }
 
 /// The torque of a charge (per mille) at what the ignition is commanded (per mille; 1000 is the most that

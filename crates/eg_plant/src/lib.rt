@@ -11,5 +11,5 @@ mod plant_data;
 pub use copy_engine::CopyEngine;
 pub use engine::Engine;
 pub use foreign_engine::{ForeignEngine, Told};
-pub use gasoline_engine::{GasolineEngine, next_plate, torque_of};
+pub use gasoline_engine::{GasolineEngine, charge_at, next_plate, torque_of};
 pub use plant_data::PlantData;

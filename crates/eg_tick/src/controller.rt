@@ -28,7 +28,7 @@ use eg_base::NoMemory;
 use eg_fault::{Fault, held};
 use eg_guard::Guarded;
 use eg_host::Host;
-use eg_level2::Level2;
+use eg_level2::{Level2, Lookup};
 use eg_module::{Monitor, test_ticks};
 use eg_num::Drive;
 use eg_plant::Engine;
@@ -58,6 +58,7 @@ pub struct Controller<E: Engine, M: Guarded> {
     ticks: u32,
     trap: Option<(Trap, u32)>,
     lost: bool,
+    lookup: Lookup,
 }
 
 impl<E: Engine, M: Guarded> Model for Controller<E, M> {
@@ -83,7 +84,7 @@ impl<E: Engine, M: Guarded> Model for Controller<E, M> {
       };
     } };
 
-    ghost invariant = { λ c. IsWhole c.calibration c.level2 c.test_ticks c.level1.program (record {
+    ghost invariant = { λ c. IsWhole c.calibration c.level2 c.test_ticks c.level1.program c.lookup (record {
       cal = c.calibration;
       fault = c.fault;
       ticks = c.ticks;
@@ -130,6 +131,7 @@ impl<E: Engine + Drop, M: Guarded + Drop> Controller<E, M> {
         level2.reset(&mut memory)?;
         let program = Program::new(image);
         let test_ticks = test_ticks(calibration.times());
+        let lookup = Lookup::new(calibration.rules(), 0, 0);
         let monitor = Monitor::new(calibration.times().copy(), calibration.questions().copy());
         let span = Span::new(monitor);
         Ok(Controller {
@@ -147,6 +149,7 @@ impl<E: Engine + Drop, M: Guarded + Drop> Controller<E, M> {
             ticks: 0,
             trap: None,
             lost: false,
+            lookup,
         })
     }
 
@@ -225,7 +228,7 @@ impl<E: Engine + Drop, M: Guarded + Drop> Controller<E, M> {
         let (questions, times) = (self.calibration.questions(), self.calibration.times());
         let brake = self.calibration.brake();
         let effective = effective(drive, brake);
-        let lookup = look_up(&self.calibration.rules().permit, &effective);
+        let lookup = look_up(&self.lookup, self.calibration.rules(), &effective);
         let begins = Beginning {
             tick,
             drive: *drive,
@@ -252,7 +255,7 @@ impl<E: Engine + Drop, M: Guarded + Drop> Controller<E, M> {
         self.span.note(step.open_path, judged, begins.passes());
         note_trap(&mut self.trap, self.level1.host.registers.state, tick);
         self.ticks += 1;
-        self.lost = false;
+        (self.lost, self.lookup) = (false, lookup);
         Ok(row(begins, &self.engine, &self.memory, step.found, judged))
     }
 

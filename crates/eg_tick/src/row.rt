@@ -4,6 +4,7 @@ ghost use Rattle.eg_guard.specs.declared.regions.TheConstants.{THROTTLE, IGNITIO
 ghost use Rattle.eg_num.specs.Drive.{IsDrive};
 ghost use Rattle.eg_num.specs.Interpolation.{grid_at};
 ghost use Rattle.eg_answer.specs.declared.words.TheConstants.{STORED_WORDS};
+ghost use Rattle.eg_level2.specs.Inputs.{IsLookup};
 ghost use Rattle.eg_level2.specs.Words.{word_at, words_of};
 ghost use Rattle.eg_torque.specs.Permit.{drive_permits};
 ghost use Rattle.eg_values.specs.Calibration.{CalibrationParts};
@@ -18,12 +19,12 @@ use crate::monitoring::Judgement;
 use crate::paths::Paths;
 use crate::plant::Outputs;
 use crate::span::SpanTick;
+use eg_answer::Rules;
 use eg_guard::Guarded;
 use eg_level2::{Lookup, word_address};
 use eg_num::{Drive, Watches};
 use eg_plant::Engine;
 use eg_record::Row;
-use eg_torque::Permit;
 
 /// What a tick begins with: its number, what the drive trace gives to it, what that permits, its place in its
 /// span, and the paths.
@@ -76,19 +77,20 @@ pub(crate) fn effective(drive: &Drive, brake: bool) -> Drive
     effective
 }
 
-/// What the permit table says of a drive row.
-pub(crate) fn look_up(permit: &Permit, drive: &Drive) -> Lookup
+/// What the permit table says of a drive row: what was looked up last, if that was at its pedal and speed.
+#[inline(always)]
+pub(crate) fn look_up(last: &Lookup, rules: &Rules, drive: &Drive) -> Lookup
+    requires last { IsLookup rules.now last.now }
     ensures pedal { result.pedal ≡ drive.now.pedal }
     ensures speed { result.speed ≡ drive.now.speed }
-    ensures torque { result.torque ≡ grid_at permit.now result.pedal result.speed }
+    ensures lookup { IsLookup rules.now result }
     ensures drive { IsDrive drive.now }
 {
     let (pedal, speed) = (drive.pedal(), drive.speed());
-    let torque = permit.table().at(pedal, speed);
-    Lookup {
-        pedal,
-        speed,
-        torque,
+    if pedal == last.pedal && speed == last.speed {
+        *last
+    } else {
+        Lookup::new(rules, pedal, speed)
     }
 }
 

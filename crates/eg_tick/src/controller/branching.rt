@@ -90,6 +90,7 @@ impl<E: CopyEngine + Drop, M: Guarded + Drop> Controller<E, M> {
             ticks: self.ticks,
             trap: self.trap,
             lost: self.lost,
+            lookup: self.lookup,
         }
     }
 }

@@ -8,7 +8,7 @@ use Rattle.eg_agree.specs.Doings.{phase_at}
 use Rattle.eg_fault.specs.Faults.{effects}
 use Rattle.eg_guard.specs.Memory.{AreWords}
 use Rattle.eg_level2.specs.Words.{words_of, AreWithin}
-use Rattle.eg_level2.specs.Inputs.{Level2Parts}
+use Rattle.eg_level2.specs.Inputs.{Level2Parts, IsLookup}
 use Rattle.eg_model.specs.History.{Setting, Entry}
 use Rattle.eg_model.specs.Moments.{limit_at}
 use Rattle.eg_model.specs.Spans.{next}
@@ -206,11 +206,16 @@ steps g c =
     (subst (λ o. g.E.Engine.steps c.self.inside.engine (slice_index words 2064) (slice_index words 2065) c.at.result.on o c.step_engine.new.engine) held
     c.step_engine.ensures.steps)
 
+-- what was looked up stands for what the calibration permits
+looked_up : (g : Over) (c : goal.After-row g) → IsLookup c.self.inside.calibration.rules c.look_up-lookup.result
+looked_up g c = subst (λ (rules : Rules). IsLookup rules c.look_up-lookup.result) c.rules.ensures.rules c.look_up-lookup.ensures.lookup
+
 pub invariant_of-self-2 : goal.invariant_of-self-2
 invariant_of-self-2 g c = record {
   parts = c.self.invariant.parts;
   test_ticks_are = c.self.invariant.test_ticks_are;
   decoded = λ held. c.in_ok-step.ensures.program;
+  looked_up = looked_up g c;
   keeps = still g c;
 }
 
@@ -226,8 +231,7 @@ returns g c = record {
   stands = stood g c;
   row = λ s h stands. of_setting (λ t. c.row.result ≡ row_of (length h) (next t (entry g c) h)) (before g c) h
       (λ image so. row-told (old g c) (new g c) _ _ _ _ _ (task g c) _ _ (advance g c) image h (enter g c _ h so) c.row.result c.limit.result
-      (permits g c (c.look_up-lookup.ensures.torque
-      ∙ ap (λ (rules : Rules). grid_at rules.permit c.look_up-lookup.result.pedal c.look_up-lookup.result.speed) c.rules.ensures.rules)) c.row.ensures)
+      (permits g c (looked_up g c)) c.row.ensures)
       s (was g c s h stands);
   engine = λ s h stands. of_setting (λ t. g.E.Engine.steps c.args.self.now.engine (world_before t c.args.drive.now h).throttle (world_before t c.args.drive.now h).ignition
       (next t (entry g c) h).on (effects_after t h).held_plate c.step_engine.new.engine) (before g c) h

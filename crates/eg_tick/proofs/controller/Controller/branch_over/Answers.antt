@@ -2,6 +2,7 @@ use Rattle.std.proofs.Common.{◌≡◌, ◌∙◌, true, false, sym, ap, ap₂,
 use Rattle.eg_answer.specs.Times.{test_ticks_of}
 use Rattle.eg_values.specs.Calibration.{CalibrationParts}
 use Rattle.eg_word.specs.Program.{IsProgramOf}
+use Rattle.eg_level2.specs.Inputs.{IsLookup}
 use Rattle.eg_model.specs.Branching.{BeginsFrom, under}
 use Rattle.eg_tick.specs.Kept.{Kept}
 use Rattle.eg_tick.specs.Stands.{Stands, IsController}
@@ -11,7 +12,7 @@ use Rattle.eg_tick.proofs.controller.Controller.branch_over.Given.{Over}
 use Rattle.eg_tick.proofs.controller.Controller.branch_over.Goals as goal
 
 -- what the controller keeps, and what the branch does
-abbrev old : (g : Over) → goal.After-result-1 g → Kept
+abbrev old : (g : Over) → goal.After-result-2-1 g → Kept
 old g c = record {
   cal = c.self.inside.calibration;
   fault = c.self.inside.fault;
@@ -25,7 +26,7 @@ old g c = record {
   lost = c.self.inside.lost;
 }
 
-abbrev new : (g : Over) → goal.After-result-1 g → Kept
+abbrev new : (g : Over) → goal.After-result-2-1 g → Kept
 new g c = record {
   cal = c.copy-calibration.result;
   fault = c.args.fault;
@@ -40,7 +41,7 @@ new g c = record {
 }
 
 -- it keeps the same but fault and memory
-alike : (g : Over) (c : goal.After-result-1 g) → new g c ≡ branch_of (old g c) c.args.fault (g.N.Guarded.shows c.args.memory)
+alike : (g : Over) (c : goal.After-result-2-1 g) → new g c ≡ branch_of (old g c) c.args.fault (g.N.Guarded.shows c.args.memory)
 alike g c = λ i. record (old g c) {
   cal = c.copy-calibration.ensures i;
   fault = c.args.fault;
@@ -51,13 +52,13 @@ alike g c = λ i. record (old g c) {
   shown = ap g.E.Engine.shows c.copy-engine.ensures i;
 }
 
-was : (g : Over) (c : goal.After-result-1 g) → c.args.self.now.kept ≡ old g c
+was : (g : Over) (c : goal.After-result-2-1 g) → c.args.self.now.kept ≡ old g c
 was g c = sym (ap (λ v. v.kept) c.self.view_is)
 
-words : (g : Over) (c : goal.After-result-1 g) → (g.N.Guarded.shows c.args.memory).words ≡ (old g c).memory.words
+words : (g : Over) (c : goal.After-result-2-1 g) → (g.N.Guarded.shows c.args.memory).words ≡ (old g c).memory.words
 words g c = c.requires.words ∙ ap (λ (k : Kept). k.memory.words) (was g c)
 
-from : (g : Over) (c : goal.After-result-1 g) → BeginsFrom (old g c).ticks c.args.fault
+from : (g : Over) (c : goal.After-result-2-1 g) → BeginsFrom (old g c).ticks c.args.fault
 from g c = subst (λ (k : Kept). BeginsFrom k.ticks c.args.fault) (was g c) c.requires.onset
 
 pub invariant_of-result : goal.invariant_of-result
@@ -68,6 +69,7 @@ invariant_of-result g c = record {
   decoded = λ held. subst (λ w. IsProgramOf w c.copy_of_level1.result.program) (sym (words g c))
       (subst (λ (l : Level1). IsProgramOf (g.M.Guarded.shows c.self.inside.memory).words l.program) (sym c.copy_of_level1.ensures)
       (c.self.invariant.decoded held));
+  looked_up = subst (λ (cal : CalibrationParts). IsLookup cal.rules c.self.inside.lookup) (sym c.copy-calibration.ensures) c.self.invariant.looked_up;
   keeps = subst IsController (sym (alike g c)) (branch_is (old g c) c.args.fault _ (sym (ap (λ (k : Kept). k.fault) (was g c)) ∙ c.requires.none)
       c.requires.valid (from g c) (words g c) (subst (λ (k : Kept). k.lost ≡ true → (g.N.Guarded.shows c.args.memory).sure ≡ false) (was g c) c.requires.unsure)
       c.self.invariant.keeps);

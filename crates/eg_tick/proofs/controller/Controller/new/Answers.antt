@@ -3,8 +3,10 @@ use Rattle.eg_guard.specs.Memory.{AreWords}
 use Rattle.eg_guard.proofs.WordsLemmas.{zeros_are_words}
 use Rattle.eg_word.specs.World.{world_of}
 use Rattle.eg_word.proofs.ProgramLemmas.{program-stays}
+use Rattle.eg_answer.specs.declared.rules.Rules.{Rules}
 use Rattle.eg_answer.specs.Times.{test_ticks_of}
 use Rattle.eg_answer.specs.Periods.{period_of}
+use Rattle.eg_level2.specs.Inputs.{IsLookup}
 use Rattle.eg_module.specs.Monitoring.{MonitorParts, HasGiven}
 use Rattle.eg_tick.specs.declared.span.Span.{Span}
 use Rattle.eg_tick.specs.Kept.{Kept}
@@ -69,6 +71,7 @@ invariant_of-result g c = record {
   parts = c.new-level2.ensures.parts ∙ ap₂ (λ a b. record { rules = a; questions = b }) (c.copy.ensures ∙ c.rules.ensures.rules) (c.copy-2.ensures ∙ c.questions.ensures.questions);
   test_ticks_are = c.test_ticks-test_ticks.ensures.number ∙ ap test_ticks_of c.times.ensures.times;
   decoded = λ held. program-stays c.args.image.now _ _ (made g c).span.level1.code c.new-program.ensures;
+  looked_up = subst (λ (rules : Rules). IsLookup rules c.new-lookup.result) c.rules-2.ensures.rules c.new-lookup.ensures.lookup;
   keeps = record { accepted = c.rules.ensures.accepted; fault = c.requires.fault; stands = λ held. (c.args.image.now, [], made g c); unsure = λ gone. absurd (let clash : false ≡ true = gone in cc) };
 }
 
