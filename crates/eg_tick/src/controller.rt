@@ -249,7 +249,7 @@ impl<E: Engine + Drop, M: Guarded + Drop> Controller<E, M> {
             slices: *slices,
         };
         let (level1, memory) = (&mut self.level1, &mut self.memory);
-        let step = work::<E, M>(&self.level2, fault, &task, level1, memory)?;
+        let step = work(&self.level2, fault, &task, level1, memory)?;
         let (monitor, answer) = (&mut self.span.monitor, step.answer);
         let judged = judge(monitor, questions, fault, tick, local, asked, answer);
         self.span.note(step.open_path, judged, begins.passes());

@@ -21,7 +21,6 @@ use eg_base::NoMemory;
 use eg_fault::{Fault, disturbance, fault_of_levels, level1_runs, module_runs};
 use eg_guard::Guarded;
 use eg_level2::{Level2, Step, Watches};
-use eg_plant::Engine;
 
 /// A slice of level 1 at a tick at which it runs (docs/CONCEPT.md, "Level 1").
 #[inline(always)]
@@ -142,7 +141,7 @@ fn turn<M: Guarded>(
 /// which neither runs none.
 #[inline(always)]
 #[tactic(auto, unfolding(eg_fault::specs::Faults::IsNoneOrValid))]
-pub(crate) fn run_levels<E: Engine + Drop, M: Guarded + Drop>(
+pub(crate) fn run_levels<M: Guarded + Drop>(
     level2: &Level2,
     fault: Option<&Fault>,
     task: &Task,
@@ -157,12 +156,12 @@ pub(crate) fn run_levels<E: Engine + Drop, M: Guarded + Drop>(
 {
     let fault = fault_of_levels(fault, task.tick);
     if fault.is_none() {
-        return run_turns::<E, M, false>(level2, None, task, level1, memory);
+        return run_turns::<M, false>(level2, None, task, level1, memory);
     }
     if !level1_runs(fault, task.tick) {
         return Ok(stopped(task));
     }
-    run_turns::<E, M, true>(level2, fault, task, level1, memory)
+    run_faulty_turns(level2, fault, task, level1, memory)
 }
 
 /// What a tick at which neither level 1 nor level 2 runs orders, answers and finds.
@@ -176,10 +175,29 @@ fn stopped(task: &Task) -> Step
     Step::quiet()
 }
 
+/// The turns of a tick at which a fault acts on them. They aren't compiled into each caller of a tick.
+#[inline(never)]
+fn run_faulty_turns<M: Guarded + Drop>(
+    level2: &Level2,
+    fault: Option<&Fault>,
+    task: &Task,
+    level1: &mut Level1,
+    memory: &mut M,
+) -> Result<Step, NoMemory>
+    requires fault { IsNoneOrValid (option_copied fault) }
+    requires level1 { (effects (option_copied fault) task.now.tick).level1 ≡ true }
+    requires lookup { IsLookup level2.now.rules task.now.lookup }
+    requires ready { IsReady level2.now.rules level1.old.program (M.shows memory.old).words }
+    ensures { RunLevels level2.now (effects (option_copied fault.entry) task.now.tick) task.now
+        level1.old level1.new (M.shows memory.old) (M.shows memory.new) result }
+{
+    run_turns::<M, true>(level2, fault, task, level1, memory)
+}
+
 /// `run_levels` in one of its two forms: compiled with what is asked of a fault at each turn, or without. The
-/// turns are written out, so that each is compiled for its own number. The body doesn't use the type E: it is
-/// there so that the turns are compiled apart for each type of controller, as a part of its tick.
-fn run_turns<E: Engine + Drop, M: Guarded + Drop, const FAULTY: bool>(
+/// turns are written out, so that each is compiled for its own number.
+#[inline(always)]
+fn run_turns<M: Guarded + Drop, const FAULTY: bool>(
     level2: &Level2,
     fault: Option<&Fault>,
     task: &Task,

@@ -18,7 +18,6 @@ use eg_fault::Fault;
 use eg_guard::Guarded;
 use eg_host::Host;
 use eg_level2::{Level2, Lookup, Phase, Step};
-use eg_plant::Engine;
 use eg_sensor::Readings;
 use eg_word::Program;
 
@@ -60,7 +59,7 @@ impl Level1 {
 /// question to the link, and then slices of level 1 and modules of level 2 run in turn (docs/CONCEPT.md, "A
 /// run, tick by tick"). But for the begin of a span, nothing else stores to the memory at a tick.
 #[inline(always)]
-pub(crate) fn work<E: Engine + Drop, M: Guarded + Drop>(
+pub(crate) fn work<M: Guarded + Drop>(
     level2: &Level2,
     fault: Option<&Fault>,
     task: &Task,
@@ -82,5 +81,5 @@ pub(crate) fn work<E: Engine + Drop, M: Guarded + Drop>(
     ensures keeps { KeepsMemory (M.shows memory.old) (M.shows memory.new) result }
 {
     show(memory, &task.readings, task.asked)?;
-    run_levels::<E, M>(level2, fault, task, level1, memory)
+    run_levels(level2, fault, task, level1, memory)
 }
