@@ -10,6 +10,7 @@ use Rattle.eg_answer.specs.Answers.{results_of}
 use Rattle.eg_num.specs.Interpolation.{grid_at}
 use Rattle.eg_level2.specs.declared.results.RowResults.{RowResults}
 use Rattle.eg_level2.specs.declared.lookup.Lookup.{Lookup}
+use Rattle.eg_level2.specs.declared.lookup.Prepared.{Prepared}
 use Rattle.eg_level2.specs.declared.phase.Phase.{Phase}
 
 -- what level 2 is made of: the rules that it follows, and the questions that it answers
@@ -70,3 +71,9 @@ IsLookup rules lookup = lookup.torque ≡ grid_at rules.permit lookup.pedal look
 -- the test row of the question that is asked, its number taken modulo the count of questions
 unfoldable pub row_of : List Question → ℕ → TestRow
 row_of questions asked = (question_at questions (asked % length questions)).row
+
+-- What is prepared for a run at which this number is asked: what was looked up stands in the permit table,
+-- and the results are those of the question's row.
+pub record IsPrepared (parts : Level2Parts) (asked : ℕ) (prepared : Prepared) : Type 0 where
+  pub lookup : IsLookup parts.rules prepared.lookup
+  pub row : prepared.row ≡ results_by parts.rules (row_of parts.questions asked)

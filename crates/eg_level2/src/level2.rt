@@ -3,7 +3,7 @@ ghost use Rattle.std.specs.Prelude.{◌≡◌, ℕ, ◌%◌, ◌<◌, ◌≤◌,
 ghost use Rattle.eg_answer.specs.declared.modules.TheConstants.{CHECK, MODULES, PAIRS};
 ghost use Rattle.eg_guard.specs.Memory.{AreWords, SameOutside};
 ghost use Rattle.eg_level2.specs.Words.{ChangeLaw, word_at, words_of, AreMirrored, AreWithin, is_level2_own, start};
-ghost use Rattle.eg_level2.specs.Inputs.{AreParts, IsLookup, inputs_of, asked_of, results_by, row_of};
+ghost use Rattle.eg_level2.specs.Inputs.{AreParts, IsLookup, IsPrepared, inputs_of, asked_of};
 ghost use Rattle.eg_level2.specs.Modules.{quiet_step};
 ghost use Rattle.eg_level2.specs.Stores.{AreFirst, RunMakes};
 ghost use Rattle.eg_level2.specs.Order.{reset_stores, stores_of};
@@ -16,7 +16,7 @@ use crate::react::react;
 use crate::results::{RowResults, results_of_all};
 use crate::signals::{signal, write};
 use crate::words::{WHOLE_FLOW, keep_all};
-use crate::{Lookup, Phase, Step};
+use crate::{Lookup, Phase, Prepared, Step};
 use arrayvec::ArrayVec;
 use eg_answer::{MIRRORED_WORDS, Questions, Rules};
 use eg_base::NoMemory;
@@ -139,11 +139,26 @@ impl Level2 {
             (M.shows memory.old) (M.shows memory.new) result }
     {
         let lookup = Lookup::new(self.rules(), 0, 0);
-        self.module_with_lookup(module, memory, tick, phase, disturbance, &lookup)
+        let prepared = self.prepared(asked(memory), lookup);
+        self.module_with_lookup(module, memory, tick, phase, disturbance, &prepared)
     }
 
-    /// Runs a module as `module` does, but doesn't ask the permit table for what `lookup` has already. The
-    /// unit calls it at every tick.
+    /// What the modules of a tick needn't look up: what the permit table says already, and the results of the
+    /// test row of the question with this number, which is taken modulo the count of questions.
+    #[inline(always)]
+    pub fn prepared(&self, asked: u16, lookup: Lookup) -> Prepared
+        requires { IsLookup self.now.rules lookup }
+        ensures prepared { IsPrepared self.now asked result }
+        ensures lookup { result.lookup ≡ lookup }
+    {
+        Prepared {
+            lookup,
+            row: self.tests[row_index(asked, self.tests.len())],
+        }
+    }
+
+    /// Runs a module as `module` does, but looks up nothing that is prepared already. The unit calls it at
+    /// every tick.
     #[inline(always)]
     pub fn module_with_lookup<M: Guarded>(
         &self,
@@ -152,20 +167,20 @@ impl Level2 {
         tick: u16,
         phase: Phase,
         disturbance: u16,
-        lookup: &Lookup,
+        prepared: &Prepared,
     ) -> Result<Step, NoMemory>
         requires number { number < MODULES }
-        requires lookup { IsLookup self.now.rules lookup.now }
+        requires prepared { IsPrepared self.now (asked_of (M.shows memory.old).words) prepared.now }
         requires mirrored { CHECK < number → AreMirrored (M.shows memory.old).words }
         requires within { CHECK < number → AreWithin self.now.rules (words_of (M.shows memory.old).words) }
         ensures { IsModuleRun self.now number tick phase disturbance
             (M.shows memory.old) (M.shows memory.new) result }
     {
         if number == eg_answer::CHECK {
-            return check(memory, tick, self.test(memory).seed);
+            return check(memory, tick, prepared.row.seed);
         }
         if number <= eg_answer::PAIRS {
-            return self.run_signal(number, memory, disturbance, lookup);
+            return self.run_signal(number, memory, disturbance, prepared);
         }
         if number == eg_answer::DEBOUNCE {
             return debounce(memory, &self.rules, phase);
@@ -180,28 +195,20 @@ impl Level2 {
         number: u8,
         memory: &mut M,
         disturbance: u16,
-        lookup: &Lookup,
+        prepared: &Prepared,
     ) -> Result<Step, NoMemory>
         requires first { CHECK < number }
         requires last { number ≤ PAIRS }
-        requires lookup { IsLookup self.now.rules lookup.now }
+        requires prepared { IsPrepared self.now (asked_of (M.shows memory.old).words) prepared.now }
         ensures { (tick : ℕ) (phase : Phase) → RunMakes
             (stores_of (inputs_of self.now (M.shows memory.old).words tick phase disturbance) number
             (words_of (M.shows memory.old).words))
             quiet_step (M.shows memory.old) (M.shows memory.new) result }
     {
-        let signal = signal(number, memory, &self.rules, lookup);
-        let test = self.test(memory).results[usize::from(number) - 1];
+        let signal = signal(number, memory, &self.rules, &prepared.lookup);
+        let test = prepared.row.results[usize::from(number) - 1];
         write(memory, number, signal, test, disturbance)?;
         Ok(Step::quiet())
-    }
-
-    /// The results of the test row of the question whose number stands at the link.
-    fn test<M: Guarded>(&self, memory: &M) -> &RowResults
-        ensures { result.now ≡ results_by self.now.rules
-            (row_of self.now.questions (asked_of (M.shows memory.now).words)) }
-    {
-        &self.tests[row_index(asked(memory), self.tests.len())]
     }
 }
 

@@ -21,7 +21,8 @@ mod words;
 
 pub use eg_num::Watches;
 pub use level2::{Level2, one_changed_word_is_found};
-pub use lookup::Lookup;
+pub use lookup::{Lookup, Prepared};
 pub use phase::Phase;
+pub use results::RowResults;
 pub use step::Step;
 pub use words::word_address;

@@ -1,7 +1,8 @@
-// A value of the permit table that was looked up already.
+// What was looked up already before a module runs.
 ghost use Rattle.std.specs.Prelude.{◌≡◌, ◌↔◌, IsTrue};
 ghost use Rattle.eg_level2.specs.Inputs.{IsLookup};
 
+use crate::RowResults;
 use eg_answer::Rules;
 
 /// The permit table's value at a pedal and a speed, looked up already (docs/CONCEPT.md, "Torque"). Mostly
@@ -14,6 +15,15 @@ pub struct Lookup {
     pub speed: u16,
     /// The torque, in tenths of Nm.
     pub torque: u16,
+}
+
+/// What a module needn't look up when it runs. It is the same for all modules of a tick (`Level2::prepared`).
+#[derive(Clone, Copy)]
+pub struct Prepared {
+    /// What the permit table says at one pedal and one speed.
+    pub lookup: Lookup,
+    /// The seed and the results of the test row of the question that is asked.
+    pub row: RowResults,
 }
 
 impl Lookup {

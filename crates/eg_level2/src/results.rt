@@ -5,11 +5,14 @@ ghost use Rattle.eg_level2.specs.Inputs.{results_by};
 use arrayvec::ArrayVec;
 use eg_answer::{Questions, Rules, TestRow, results};
 
-/// The seed of a test row, and its five results.
+/// The seed of a test row, and the results that modules 1 to 5 are to have on it (docs/CONCEPT.md, "Questions
+/// and answers").
 #[derive(Clone, Copy, Default)]
-pub(crate) struct RowResults {
-    pub(crate) seed: u16,
-    pub(crate) results: [u16; 5],
+pub struct RowResults {
+    /// The seed.
+    pub seed: u16,
+    /// The five results, in the order of the modules.
+    pub results: [u16; 5],
 }
 
 impl RowResults {

@@ -5,8 +5,8 @@ use Rattle.eg_guard.specs.Memory.{AreWords}
 use Rattle.eg_values.specs.Calibration.{CalibrationParts, IsAccepted}
 use Rattle.eg_level2.specs.declared.phase.Phase.TheVariants.{Quiet}
 use Rattle.eg_level2.specs.Words.{Words, words_of, AreMirrored, AreWithin}
-use Rattle.eg_level2.specs.declared.lookup.Lookup.{Lookup}
-use Rattle.eg_level2.specs.Inputs.{Level2Parts, IsLookup, readings_of, asked_of}
+use Rattle.eg_level2.specs.declared.lookup.Prepared.{Prepared}
+use Rattle.eg_level2.specs.Inputs.{Level2Parts, IsPrepared, readings_of, asked_of}
 use Rattle.eg_flow.specs.Ticks.{Doing, after_modules}
 use Rattle.eg_readings.specs.declared.recorded.Recorded.{Recorded}
 use Rattle.eg_agree.specs.Standing.{KeepsWords}
@@ -46,13 +46,13 @@ pub record ReplayParts : Type 0 where
   pub memory : List ℕ
 
 -- The parts of a replay go together: level 2 has the rules and the questions of the calibration, which is an
--- accepted one, and what was looked up stands in its permit table.
-pub record IsWhole (cal : CalibrationParts) (parts : Level2Parts) (lookup : Lookup) (memory : List ℕ)
+-- accepted one, and what is prepared is what question 0 needs.
+pub record IsWhole (cal : CalibrationParts) (parts : Level2Parts) (prepared : Prepared) (memory : List ℕ)
     : Type 0 where
   pub accepted : IsAccepted cal
   pub rules : parts.rules ≡ cal.rules
   pub questions : parts.questions ≡ cal.questions
-  pub looked_up : IsLookup cal.rules lookup
+  pub looked_up : IsPrepared parts 0 prepared
   pub sound : AreSound cal memory
 
 -- what the debouncers weigh, read from the words

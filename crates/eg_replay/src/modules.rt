@@ -4,14 +4,14 @@ ghost use Rattle.eg_answer.specs.declared.modules.TheConstants.{CHECK, MODULES};
 ghost use Rattle.eg_sensor.specs.declared.readings.Readings.{Readings as IsReadings};
 ghost use Rattle.eg_guard.specs.Memory.{AreWords};
 ghost use Rattle.eg_level2.specs.Words.{Words, words_of, AreMirrored, AreWithin};
-ghost use Rattle.eg_level2.specs.Inputs.{IsLookup, readings_of, asked_of};
+ghost use Rattle.eg_level2.specs.Inputs.{IsPrepared, readings_of, asked_of};
 ghost use Rattle.eg_level2.specs.Modules.{found_by};
 ghost use Rattle.eg_flow.specs.Ticks.{after_modules, after_tick, finds_at, inputs_for};
 ghost use Rattle.eg_tick.specs.Board.{by_tracks};
 ghost use Rattle.eg_replay.specs.Running.{meeting, HasRun};
 
 use eg_guard::FlatMemory;
-use eg_level2::{Level2, Lookup, Phase};
+use eg_level2::{Level2, Phase, Prepared};
 use eg_num::Watches;
 use eg_sensor::Readings;
 use eg_tick::show;
@@ -34,11 +34,11 @@ pub(crate) fn show_readings(memory: &mut FlatMemory, readings: &Readings)
 /// Runs the eight modules at a tick, over the readings at the input ports. Answers what they find.
 pub(crate) fn run_modules(
     level2: &Level2,
-    lookup: &Lookup,
+    prepared: &Prepared,
     tick: u16,
     memory: &mut FlatMemory,
 ) -> Watches
-    requires lookup { IsLookup level2.now.rules lookup.now }
+    requires prepared { IsPrepared level2.now (asked_of memory.old) prepared.now }
     requires are_words { AreWords memory.old }
     requires mirrored { AreMirrored memory.old }
     requires within { AreWithin level2.now.rules (words_of memory.old) }
@@ -52,14 +52,14 @@ pub(crate) fn run_modules(
     ensures mirrored { AreMirrored memory.new }
     ensures within { AreWithin level2.now.rules (words_of memory.new) }
 {
-    run_module(level2, lookup, tick, 0, memory);
-    run_module(level2, lookup, tick, 1, memory);
-    run_module(level2, lookup, tick, 2, memory);
-    run_module(level2, lookup, tick, 3, memory);
-    run_module(level2, lookup, tick, 4, memory);
-    run_module(level2, lookup, tick, 5, memory);
-    let found = run_module(level2, lookup, tick, eg_answer::DEBOUNCE, memory);
-    run_module(level2, lookup, tick, eg_answer::REACT, memory);
+    run_module(level2, prepared, tick, 0, memory);
+    run_module(level2, prepared, tick, 1, memory);
+    run_module(level2, prepared, tick, 2, memory);
+    run_module(level2, prepared, tick, 3, memory);
+    run_module(level2, prepared, tick, 4, memory);
+    run_module(level2, prepared, tick, 5, memory);
+    let found = run_module(level2, prepared, tick, eg_answer::DEBOUNCE, memory);
+    run_module(level2, prepared, tick, eg_answer::REACT, memory);
     found
 }
 
@@ -67,13 +67,13 @@ pub(crate) fn run_modules(
 #[inline(always)]
 fn run_module(
     level2: &Level2,
-    lookup: &Lookup,
+    prepared: &Prepared,
     tick: u16,
     number: u8,
     memory: &mut FlatMemory,
 ) -> Watches
     requires number { number < MODULES }
-    requires lookup { IsLookup level2.now.rules lookup.now }
+    requires prepared { IsPrepared level2.now (asked_of memory.old) prepared.now }
     requires are_words { AreWords memory.old }
     requires mirrored { AreMirrored memory.old }
     requires within { AreWithin level2.now.rules (words_of memory.old) }
@@ -84,11 +84,12 @@ fn run_module(
         HasRun (meeting level2.now reads asked tick) before number memory.old →
         result ≡ found_by (inputs_for (meeting level2.now reads asked tick) number) number
         (after_modules (meeting level2.now reads asked tick) number before) }
+    ensures prepared { IsPrepared level2.now (asked_of memory.new) prepared.now }
     ensures are_words { AreWords memory.new }
     ensures mirrored { AreMirrored memory.new }
     ensures within { AreWithin level2.now.rules (words_of memory.new) }
 {
-    match level2.module_with_lookup(number, memory, tick, Phase::Quiet, 0, lookup) {
+    match level2.module_with_lookup(number, memory, tick, Phase::Quiet, 0, prepared) {
         Ok(step) => step.found,
         Err(_) => unreachable!("a sure memory never runs out"),
     }

@@ -8,7 +8,7 @@ ghost use Rattle.eg_readings.specs.declared.recorded.Recorded.{Recorded as IsRec
 use crate::modules::{run_modules, show_readings};
 use eg_findings::{Counters, Told};
 use eg_guard::FlatMemory;
-use eg_level2::{Level2, Lookup};
+use eg_level2::{Level2, Lookup, Prepared};
 use eg_readings::Recorded;
 use eg_sensor::{Readings, gate, pressed};
 use eg_tick::{signals, word};
@@ -22,14 +22,13 @@ use std::marker::Model;
 pub struct Replay {
     calibration: Calibration,
     level2: Level2,
-    lookup: Lookup,
+    prepared: Prepared,
     memory: FlatMemory,
     tick: u16,
 }
 
 impl Model for Replay {
     ghost use Rattle.std.specs.Prelude.{◌≡◌, List};
-    ghost use Rattle.eg_level2.specs.Inputs.{IsLookup};
     ghost use Rattle.eg_values.specs.Calibration.{IsAccepted};
     ghost use Rattle.eg_replay.specs.Running.{ReplayParts, AreSound, IsWhole};
 
@@ -37,7 +36,7 @@ impl Model for Replay {
 
     ghost view = { λ r. record { cal = r.calibration; memory = r.memory } };
 
-    ghost invariant = { λ r. IsWhole r.calibration r.level2 r.lookup r.memory };
+    ghost invariant = { λ r. IsWhole r.calibration r.level2 r.prepared r.memory };
 }
 
 impl Replay {
@@ -48,12 +47,12 @@ impl Replay {
         ensures stands { IsReplayOf result [] }
     {
         let level2 = Level2::new(calibration.rules().copy(), calibration.questions().copy());
-        let lookup = Lookup::new(level2.rules(), 0, 0);
+        let prepared = level2.prepared(0, Lookup::new(level2.rules(), 0, 0));
         let memory = started(&level2);
         Replay {
             calibration: calibration.copy(),
             level2,
-            lookup,
+            prepared,
             memory,
             tick: 0,
         }
@@ -70,7 +69,7 @@ impl Replay {
     {
         let readings = self.given(recorded);
         show_readings(&mut self.memory, &readings);
-        let found = run_modules(&self.level2, &self.lookup, self.tick, &mut self.memory);
+        let found = run_modules(&self.level2, &self.prepared, self.tick, &mut self.memory);
         self.tick = self.tick.wrapping_add(1);
         Told {
             signals: signals(&self.memory),

@@ -15,7 +15,8 @@ use Rattle.eg_word.specs.Memory.{is_level1_own}
 use Rattle.eg_word.specs.World.{world_of}
 use Rattle.eg_word.proofs.WorldLemmas.{world_of-elsewhere}
 use Rattle.eg_level2.specs.Words.{address_of, word_at, named, words_of, AreMirrored, AreWithin, is_level2_own}
-use Rattle.eg_level2.specs.Inputs.{readings_of, asked_of}
+use Rattle.eg_level2.specs.Inputs.{Level2Parts, IsPrepared, readings_of, asked_of}
+use Rattle.eg_level2.specs.declared.lookup.Prepared.{Prepared}
 use Rattle.eg_level2.proofs.PlaceLemmas.{address_is}
 use Rattle.eg_tick.specs.Board.{is_board_own}
 use Rattle.eg_tick.specs.Midway.{Work, IsSet, IsReady}
@@ -89,7 +90,7 @@ module _ (is_own : Region → Bool) (leaves : LeavesBoard is_own) (old new : Lis
   pub code-stays : (k : ℕ) → k < 1024 → slice_index new k ≡ slice_index old k
   code-stays k within = same k (ap is_own (code-is k within) ∙ leaves.code)
 
-  asked-stays : asked_of new ≡ asked_of old
+  pub asked-stays : asked_of new ≡ asked_of old
   unfolding asked_of region_of
   asked-stays = same 2128 leaves.link
 
@@ -211,3 +212,14 @@ pub ready-level2 : {T E : Type 0} (result : Result T E) (rules : Rules) (program
 ready-level2 (Ok x) rules program old new same are mirrored within is =
     made-ready rules program old new are (code-stays is_level2_own level2_leaves old new same) mirrored within is
 ready-level2 (Err e) rules program old new same are mirrored within is = tt
+
+-- what is prepared stays so where the link stays
+pub prepared-asked : (parts : Level2Parts) (prepared : Prepared) (old new : List ℕ) → asked_of new ≡ asked_of old → IsPrepared parts (asked_of old) prepared
+    → IsPrepared parts (asked_of new) prepared
+prepared-asked parts prepared old new same = subst (λ asked. IsPrepared parts asked prepared) (sym same)
+
+-- after a module of level 2
+pub prepared-level2 : {T E : Type 0} (result : Result T E) (parts : Level2Parts) (prepared : Prepared) (old new : List ℕ) → SameOutside is_level2_own old new
+    → IsPrepared parts (asked_of old) prepared → OnOk result (IsPrepared parts (asked_of new) prepared)
+prepared-level2 (Ok x) parts prepared old new same is = prepared-asked parts prepared old new (asked-stays is_level2_own level2_leaves old new same) is
+prepared-level2 (Err e) parts prepared old new same is = tt

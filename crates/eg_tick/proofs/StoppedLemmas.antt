@@ -5,7 +5,7 @@ use Rattle.eg_base.specs.declared.no_memory.NoMemory.{NoMemory}
 use Rattle.eg_guard.specs.Memory.{ShownMemory}
 use Rattle.eg_fault.specs.Effects.{Effects}
 use Rattle.eg_fault.proofs.RunningLemmas.{Stops}
-use Rattle.eg_level2.specs.Inputs.{Level2Parts}
+use Rattle.eg_level2.specs.Inputs.{Level2Parts, IsPrepared, asked_of}
 use Rattle.eg_level2.specs.Modules.{quiet_step}
 use Rattle.eg_level2.specs.declared.step.Step.{Step}
 use Rattle.eg_tick.specs.Midway.{Work, IsMidway, IsReady, IsDue, IsTurn, RunLevels}
@@ -21,7 +21,7 @@ never true = refl
 never false = refl
 
 module _ (parts : Level2Parts) (x : Effects) (task : Task) (level1 : Level1) (a : ShownMemory) (still : x.level1 ≡ false) (stops : Stops x)
-    (ready : IsReady parts.rules level1.program a.words) where
+    (ready : IsReady parts.rules level1.program a.words) (prepared : IsPrepared parts (asked_of a.words) task.prepared) where
   plain : (w : Work) (j : ℕ) → IsDue parts x task w → (j == 0 && w.doing.differs) ≡ false
   plain w j due = ap (λ differs. j == 0 && differs) (due.meets.differs ∙ ap is_some stops.flip) ∙ never (j == 0)
 
@@ -33,6 +33,7 @@ module _ (parts : Level2Parts) (x : Effects) (task : Task) (level1 : Level1) (a 
     midway = λ w due midway. idle_module parts x task w (j + 1) j _ _ due.meets (plain w j due) (slice w j due midway) (stops.none j);
     step = λ w due midway. idle_step parts x task w j j _ _ due.meets (plain w j due) midway (stops.none j);
     ready = ready;
+    prepared = prepared;
     keeps = record { sure = λ sure. refl; stays_sure = refl; are_words = λ are. are };
   }
 

@@ -21,6 +21,7 @@ refused {a = a} {b = b} {e = e} result is keeps = record {
   midway = λ w due midway. IfOk-from_err result _ is;
   step = λ w due midway. IfOk-from_err result _ is;
   ready = IfOk-from_err result _ is;
+  prepared = IfOk-from_err result _ is;
   keeps = keeps_refused a b e result is keeps;
 }
 

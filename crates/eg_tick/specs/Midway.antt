@@ -12,7 +12,7 @@ use Rattle.eg_guard.specs.Memory.{ShownMemory, AreWords, KeepsMemory}
 use Rattle.eg_answer.specs.declared.modules.TheConstants.{CHECK}
 use Rattle.eg_answer.specs.declared.rules.Rules.{Rules}
 use Rattle.eg_level2.specs.Words.{Words, AreMirrored, AreWithin, words_of}
-use Rattle.eg_level2.specs.Inputs.{Level2Parts, readings_of, asked_of}
+use Rattle.eg_level2.specs.Inputs.{Level2Parts, IsPrepared, readings_of, asked_of}
 use Rattle.eg_level2.specs.declared.step.Step.{Step}
 use Rattle.eg_level2.specs.Modules.{step_of, finding, mirror_alone, quiet_step}
 use Rattle.eg_flow.specs.Ticks.{Doing, inputs_for, after_modules, answer_at, orders_at, finds_at}
@@ -146,6 +146,7 @@ pub record IsTurn {E : Type 0} (parts : Level2Parts) (x : Effects) (task : Task)
   pub step : (w : Work) → IsDue parts x task w → IsMidway w number number before.host.registers old.words →
       IfOk result (λ step. step ≡ step_at w.doing number w.words)
   pub ready : OnOk result (IsReady parts.rules after.program new.words)
+  pub prepared : OnOk result (IsPrepared parts (asked_of new.words) task.prepared)
   pub keeps : KeepsMemory old new result
 
 -- All nine slices and eight modules, in turn.

@@ -245,7 +245,7 @@ impl<E: Engine + Drop, M: Guarded + Drop> Controller<E, M> {
             phase: self.span.phase(fault, tick, times, begins.span_tick.told),
             asked,
             readings: readings(&self.engine, drive, brake, fault, tick),
-            lookup,
+            prepared: self.level2.prepared(asked, lookup),
             slices: *slices,
         };
         let (level1, memory) = (&mut self.level1, &mut self.memory);

@@ -9,7 +9,7 @@ ghost use Rattle.eg_word.specs.declared.registers.Registers.{Registers};
 ghost use Rattle.eg_word.specs.Program.{IsProgramOf};
 ghost use Rattle.eg_fault.specs.Faults.{effects};
 ghost use Rattle.eg_level2.specs.Words.{words_of, AreMirrored, AreWithin};
-ghost use Rattle.eg_level2.specs.Inputs.{IsLookup};
+ghost use Rattle.eg_level2.specs.Inputs.{IsPrepared, asked_of};
 ghost use Rattle.eg_level2.specs.Modules.{quiet_step};
 ghost use Rattle.eg_fault.specs.Faults.{IsNoneOrValid};
 ghost use Rattle.eg_tick.specs.Midway;
@@ -32,6 +32,7 @@ fn slice<M: Guarded>(level1: &mut Level1, memory: &mut M, budget: u16) -> Result
         → OnOk result (IsMidway w (j + 1) j level1.new.host.registers (M.shows memory.new).words) }
     ensures ready { (rules : Rules) → IsReady rules level1.old.program (M.shows memory.old).words
         → IsReady rules level1.new.program (M.shows memory.new).words }
+    ensures asked { asked_of (M.shows memory.new).words ≡ asked_of (M.shows memory.old).words }
     ensures keeps { KeepsMemory (M.shows memory.old) (M.shows memory.new) result }
 {
     level1.slice(memory, budget)
@@ -47,7 +48,7 @@ fn module<M: Guarded>(
     memory: &mut M,
 ) -> Result<Step, NoMemory>
     requires number { number < MODULES }
-    requires lookup { IsLookup level2.now.rules task.now.lookup }
+    requires prepared { IsPrepared level2.now (asked_of (M.shows memory.old).words) task.now.prepared }
     requires mirrored { AreMirrored (M.shows memory.old).words }
     requires within { AreWithin level2.now.rules (words_of (M.shows memory.old).words) }
     ensures midway { (w : Work) (i : ℕ) (m : Registers)
@@ -60,6 +61,8 @@ fn module<M: Guarded>(
         → IfOk result (λ step. step ≡ step_at w.doing number w.words) }
     ensures ready { (program : List Instruction) → IsReady level2.now.rules program (M.shows memory.old).words
         → OnOk result (IsReady level2.now.rules program (M.shows memory.new).words) }
+    ensures prepared { OnOk result
+        (IsPrepared level2.now (asked_of (M.shows memory.new).words) task.now.prepared) }
     ensures keeps { KeepsMemory (M.shows memory.old) (M.shows memory.new) result }
 {
     if !module_runs(fault, task.tick, number) {
@@ -72,7 +75,7 @@ fn module<M: Guarded>(
         task.local,
         task.phase,
         disturbance,
-        &task.lookup,
+        &task.prepared,
     )
 }
 
@@ -85,7 +88,7 @@ fn first_module<M: Guarded>(
     memory: &mut M,
 ) -> Result<Step, NoMemory>
     requires fault { IsNoneOrValid (option_copied fault) }
-    requires lookup { IsLookup level2.now.rules task.now.lookup }
+    requires prepared { IsPrepared level2.now (asked_of (M.shows memory.old).words) task.now.prepared }
     requires mirrored { AreMirrored (M.shows memory.old).words }
     requires within { AreWithin level2.now.rules (words_of (M.shows memory.old).words) }
     ensures midway { (w : Work) (i : ℕ) (m : Registers)
@@ -98,6 +101,8 @@ fn first_module<M: Guarded>(
         → IfOk result (λ step. step ≡ step_at w.doing 0 w.words) }
     ensures ready { (program : List Instruction) → IsReady level2.now.rules program (M.shows memory.old).words
         → OnOk result (IsReady level2.now.rules program (M.shows memory.new).words) }
+    ensures prepared { OnOk result
+        (IsPrepared level2.now (asked_of (M.shows memory.new).words) task.now.prepared) }
     ensures keeps { KeepsMemory (M.shows memory.old) (M.shows memory.new) result }
 {
     let Some((word, mask)) = eg_fault::flip(fault, task.tick) else {
@@ -105,7 +110,7 @@ fn first_module<M: Guarded>(
     };
     flip(memory, word, mask)?;
     // No fault that flips a word leaves module 0 out, or disturbs it.
-    level2.module_with_lookup(0, memory, task.local, task.phase, 0, &task.lookup)
+    level2.module_with_lookup(0, memory, task.local, task.phase, 0, &task.prepared)
 }
 
 /// The slice of level 1 of that number, and then the module of level 2 of the same number, at a tick at which
@@ -122,7 +127,7 @@ fn turn<M: Guarded>(
     requires number { number < MODULES }
     requires fault { IsNoneOrValid (option_copied fault) }
     requires level1 { (effects (option_copied fault) task.now.tick).level1 ≡ true }
-    requires lookup { IsLookup level2.now.rules task.now.lookup }
+    requires prepared { IsPrepared level2.now (asked_of (M.shows memory.old).words) task.now.prepared }
     requires ready { IsReady level2.now.rules level1.old.program (M.shows memory.old).words }
     ensures { IsTurn level2.now (effects (option_copied fault.entry) task.now.tick) task.now number
         level1.old level1.new (M.shows memory.old) (M.shows memory.new) result }
@@ -149,7 +154,7 @@ pub(crate) fn run_levels<M: Guarded + Drop>(
     memory: &mut M,
 ) -> Result<Step, NoMemory>
     requires fault { IsNoneOrValid (option_copied fault) }
-    requires lookup { IsLookup level2.now.rules task.now.lookup }
+    requires prepared { IsPrepared level2.now (asked_of (M.shows memory.old).words) task.now.prepared }
     requires ready { IsReady level2.now.rules level1.old.program (M.shows memory.old).words }
     ensures { RunLevels level2.now (effects (option_copied fault.entry) task.now.tick) task.now
         level1.old level1.new (M.shows memory.old) (M.shows memory.new) result }
@@ -186,7 +191,7 @@ fn run_faulty_turns<M: Guarded + Drop>(
 ) -> Result<Step, NoMemory>
     requires fault { IsNoneOrValid (option_copied fault) }
     requires level1 { (effects (option_copied fault) task.now.tick).level1 ≡ true }
-    requires lookup { IsLookup level2.now.rules task.now.lookup }
+    requires prepared { IsPrepared level2.now (asked_of (M.shows memory.old).words) task.now.prepared }
     requires ready { IsReady level2.now.rules level1.old.program (M.shows memory.old).words }
     ensures { RunLevels level2.now (effects (option_copied fault.entry) task.now.tick) task.now
         level1.old level1.new (M.shows memory.old) (M.shows memory.new) result }
@@ -207,7 +212,7 @@ fn run_turns<M: Guarded + Drop, const FAULTY: bool>(
     requires fault { IsNoneOrValid (option_copied fault) }
     requires quiet { IsFalse FAULTY → option_copied fault ≡ None }
     requires level1 { (effects (option_copied fault) task.now.tick).level1 ≡ true }
-    requires lookup { IsLookup level2.now.rules task.now.lookup }
+    requires prepared { IsPrepared level2.now (asked_of (M.shows memory.old).words) task.now.prepared }
     requires ready { IsReady level2.now.rules level1.old.program (M.shows memory.old).words }
     ensures { RunLevels level2.now (effects (option_copied fault.entry) task.now.tick) task.now
         level1.old level1.new (M.shows memory.old) (M.shows memory.new) result }

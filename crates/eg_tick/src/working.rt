@@ -4,7 +4,7 @@ ghost use Rattle.std.specs.Option.{option_copied};
 ghost use Rattle.eg_guard.specs.Memory.{KeepsMemory};
 ghost use Rattle.eg_word.specs.Program.{IsProgramOf};
 ghost use Rattle.eg_host.specs.Slices.{IsSlice};
-ghost use Rattle.eg_level2.specs.Inputs.{IsLookup};
+ghost use Rattle.eg_level2.specs.Inputs.{IsPrepared};
 ghost use Rattle.eg_model.specs.History.{Setting, Tick, SpanKind};
 ghost use Rattle.eg_fault.specs.Faults.{IsNoneOrValid};
 ghost use Rattle.eg_tick.specs.Midway.{IsReady};
@@ -17,13 +17,13 @@ use eg_base::NoMemory;
 use eg_fault::Fault;
 use eg_guard::Guarded;
 use eg_host::Host;
-use eg_level2::{Level2, Lookup, Phase, Step};
+use eg_level2::{Level2, Phase, Prepared, Step};
 use eg_sensor::Readings;
 use eg_word::Program;
 
 /// What level 1 and level 2 are handed at a tick: its number in the run, which a fault uses; its number in
 /// its span, which level 2 uses; what level 2 is to do at it, the number of the question, the readings, what
-/// the permit table says of the drive row, and the slices of level 1.
+/// is looked up already for it, and the slices of level 1.
 #[derive(Clone, Copy)]
 pub(crate) struct Task {
     pub(crate) tick: u32,
@@ -31,7 +31,7 @@ pub(crate) struct Task {
     pub(crate) phase: Phase,
     pub(crate) asked: u16,
     pub(crate) readings: Readings,
-    pub(crate) lookup: Lookup,
+    pub(crate) prepared: Prepared,
     pub(crate) slices: Slices,
 }
 
@@ -68,7 +68,7 @@ pub(crate) fn work<M: Guarded + Drop>(
 ) -> Result<Step, NoMemory>
     requires ready { IsReady level2.now.rules level1.old.program (M.shows memory.old).words }
     requires fault { IsNoneOrValid (option_copied fault) }
-    requires lookup { IsLookup level2.now.rules task.now.lookup }
+    requires prepared { IsPrepared level2.now task.now.asked task.now.prepared }
     ensures served { (kind : SpanKind) (s : Setting) (x : Tick) (h : List Tick)
         → Serves kind s x h level2.now (option_copied fault.entry) task.now level1.old.host.registers
         (M.shows memory.old).words

@@ -1,11 +1,11 @@
 use Rattle.std.proofs.Common.{rules, ◌≡◌, ◌∙◌, sym, subst, true}
 use Rattle.std.specs.Prelude.{is_some, IfSome}
 use Rattle.std.specs.Option.{option_copied}
-use Rattle.eg_level2.specs.Words.{AreMirrored}
+use Rattle.eg_level2.specs.Words.{AreMirrored, is_level2_own}
 use Rattle.eg_fault.specs.Classes.{IsFlip}
 use Rattle.eg_fault.specs.Faults.{effects}
 use Rattle.eg_fault.proofs.ClassLemmas.{flips_are_in_words}
-use Rattle.eg_tick.proofs.FrameLemmas.{ready-level2}
+use Rattle.eg_tick.proofs.FrameLemmas.{level2_leaves, asked-stays, ready-level2, prepared-asked, prepared-level2}
 use Rattle.eg_tick.proofs.FlipLemmas.{flipped_module, flipped_step}
 use Rattle.eg_tick.proofs.levels.first_module.Goals as goal
 
@@ -14,6 +14,10 @@ flip-requires-2-clause-word g c = (subst (λ flip. IfSome flip IsFlip) (sym c.fl
 
 pub flip-requires-2-clause-some : goal.flip-requires-2-clause-some
 flip-requires-2-clause-some g c = (subst (λ flip. IfSome flip IsFlip) (sym c.flip.ensures ∙ c.in-Some.is) (flips_are_in_words _ c.requires.fault _)).1
+
+pub module_with_lookup-requires-clause-prepared : goal.module_with_lookup-requires-clause-prepared
+module_with_lookup-requires-clause-prepared g c =
+    prepared-asked _ c.args.task.now.prepared _ _ (asked-stays is_level2_own level2_leaves _ _ c.in_ok-flip.ensures.outside) c.requires.prepared
 
 pub returns-clause-midway : goal.returns-clause-midway
 returns-clause-midway g c w i m meets is =
@@ -37,3 +41,8 @@ returns-clause-ready g c program is =
     (λ address outside. c.module_with_lookup.ensures.outside address outside ∙ c.in_ok-flip.ensures.outside address outside)
     (c.module_with_lookup.ensures.are_words (c.flip-2.ensures.keeps.are_words is.are_words))
     c.module_with_lookup.ensures.mirrored (c.module_with_lookup.ensures.within (λ are. absurd (gone are))) is
+
+pub returns-clause-prepared : goal.returns-clause-prepared
+returns-clause-prepared g c =
+    prepared-level2 c.module_with_lookup.result _ c.args.task.now.prepared _ _
+    (λ address outside. c.module_with_lookup.ensures.outside address outside ∙ c.in_ok-flip.ensures.outside address outside) c.requires.prepared

@@ -1,7 +1,7 @@
 use Rattle.std.proofs.Common.{rules, ◌≡◌, ◌∙◌, true, false}
 use Rattle.std.specs.Option.{option_copied}
 use Rattle.eg_fault.specs.Faults.{effects}
-use Rattle.eg_tick.proofs.FrameLemmas.{ready-level2}
+use Rattle.eg_tick.proofs.FrameLemmas.{ready-level2, prepared-level2}
 use Rattle.eg_tick.proofs.LevelLemmas.{module_result, step_result, idle_module, idle_step}
 use Rattle.eg_tick.proofs.levels.module.Goals as goal
 
@@ -33,3 +33,6 @@ pub returns-clause-ready : goal.returns-clause-ready
 returns-clause-ready g c program is =
     ready-level2 c.module_with_lookup.result _ program _ _ c.module_with_lookup.ensures.outside (c.module_with_lookup.ensures.are_words is.are_words)
     c.module_with_lookup.ensures.mirrored (c.module_with_lookup.ensures.within (λ are. is.within)) is
+
+pub returns-clause-prepared : goal.returns-clause-prepared
+returns-clause-prepared g c = prepared-level2 c.module_with_lookup.result _ c.args.task.now.prepared _ _ c.module_with_lookup.ensures.outside c.requires.prepared

@@ -15,4 +15,4 @@ pub returns-then-not-level1_runs : goal.returns-then-not-level1_runs
 returns-then-not-level1_runs g c =
     let still : (effects (option_copied c.args.fault) c.args.task.now.tick).level1 ≡ false =
     sym c.fault_of_levels-fault.ensures.same.level1 ∙ sym c.level1_runs.ensures ∙ c.if-not-level1_runs.true in
-    stopped_tick _ _ c.args.task.now c.args.level1.now _ still (stops_both _ _ still) c.requires.ready (ap Ok c.stopped.ensures.quiet) c.stopped.ensures.nine
+    stopped_tick _ _ c.args.task.now c.args.level1.now _ still (stops_both _ _ still) c.requires.ready c.requires.prepared (ap Ok c.stopped.ensures.quiet) c.stopped.ensures.nine

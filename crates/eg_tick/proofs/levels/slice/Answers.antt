@@ -1,7 +1,8 @@
 use Rattle.std.proofs.Common.{sym, subst, List}
 use Rattle.eg_word.specs.declared.instruction.Instruction.{Instruction}
+use Rattle.eg_word.specs.Memory.{is_level1_own}
 use Rattle.eg_tick.specs.Midway.{IsReady}
-use Rattle.eg_tick.proofs.FrameLemmas.{ready-level1}
+use Rattle.eg_tick.proofs.FrameLemmas.{level1_leaves, asked-stays, ready-level1}
 use Rattle.eg_tick.proofs.LevelLemmas.{slice_result}
 use Rattle.eg_tick.proofs.levels.slice.Goals as goal
 
@@ -14,3 +15,6 @@ pub returns-clause-ready : goal.returns-clause-ready
 returns-clause-ready g c rules is =
     subst (λ (program : List Instruction). IsReady rules program (g.M.Guarded.shows c.slice.new.memory).words) (sym c.slice.ensures.program)
     (ready-level1 _ _ _ _ c.slice.ensures.slice.outside (c.slice.ensures.slice.keeps.are_words is.are_words) is)
+
+pub returns-clause-asked : goal.returns-clause-asked
+returns-clause-asked g c = asked-stays is_level1_own level1_leaves _ _ c.slice.ensures.slice.outside

@@ -9,7 +9,7 @@ later n apart = omega arith
 pub returns-then-number-eq-CHECK : goal.returns-then-number-eq-CHECK
 returns-then-number-eq-CHECK g c = elim c.check.ensures [
   | inl clean ↦ orderly_run c.args.self.now c.args.tick c.args.phase c.args.disturbance c.args.number c.requires.number clean.0
-      (check_run c.args.self.now _ c.args.tick c.args.phase c.args.disturbance _ c.if-number-eq-CHECK.true (seed-kept _ _ _ c.test.ensures) clean.1)
+      (check_run c.args.self.now _ c.args.tick c.args.phase c.args.disturbance _ c.if-number-eq-CHECK.true (seed-kept _ _ _ c.requires.prepared.row) clean.1)
   | inr broken ↦ given_up_run c.args.self.now c.args.tick c.args.phase c.args.disturbance c.args.number c.if-number-eq-CHECK.true broken.0 broken.1 broken.2
 ]
 

@@ -106,7 +106,7 @@ task g c = record {
   phase = c.phase.result;
   asked = c.question-asked.result;
   readings = c.readings.result;
-  lookup = c.look_up-lookup.result;
+  prepared = c.prepared.result;
   slices = c.args.slices.now;
 }
 
