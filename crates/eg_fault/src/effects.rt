@@ -1,7 +1,7 @@
 // What a fault does at a tick.
-ghost use Rattle.std.specs.Prelude.{◌≡◌, false, option_map, Some, IfSome};
+ghost use Rattle.std.specs.Prelude.{◌≡◌, ℕ, false, option_map, Some, IfSome};
 ghost use Rattle.std.specs.Option.{option_copied, option_map_or};
-ghost use Rattle.eg_answer.specs.Periods;
+ghost use Rattle.eg_answer.specs.Periods.{place_of};
 ghost use Rattle.eg_fault.specs.Effects;
 ghost use Rattle.eg_fault.specs.Effects.{no_effects, readings_under, contacts_under, sends_at};
 ghost use Rattle.eg_fault.specs.Faults.{effects, effects_of};
@@ -122,12 +122,14 @@ pub fn fault_of_levels(fault: Option<&Fault>, tick: u32) -> Option<&Fault>
 }
 
 /// Whether a tick is one at which level 2 sends its answer (docs/CONCEPT.md, "Faults"). `tick` is its number
-/// in the run, by which the fault acts, and `local` its number in the span, by which periods are counted.
+/// in the run, by which the fault acts, and `place` is which tick of its period it is, by its number in the
+/// span.
 #[tactic(auto, unfolding(crate::specs::Effects::sends_at))]
-pub fn sends(fault: Option<&Fault>, tick: u32, local: u32, times: &Times) -> bool
-    ensures { result ≡ sends_at (effects (option_copied fault.entry) tick) times.now local }
+pub fn sends(fault: Option<&Fault>, tick: u32, place: u32, times: &Times) -> bool
+    ensures { (local : ℕ) → place ≡ place_of times.now local
+        → result ≡ sends_at (effects (option_copied fault.entry) tick) times.now local }
 {
-    sends_in(moved_send(fault, tick), local, times)
+    sends_in(moved_send(fault, tick), place, times)
 }
 
 /// What a wild monitoring module does at a tick: the number of the question that it asks, which is taken
@@ -187,24 +189,17 @@ fn moved_send(fault: Option<&Fault>, tick: u32) -> Option<u16>
     class.moved_send(after)
 }
 
-/// Whether a tick is one at which answers are sent: at the tick `moved` of each period, or at the usual one.
+/// Whether a tick at this place in its period is one at which answers are sent: at the place `moved` of each
+/// period, or at the usual one.
 #[tactic(auto, unfolding(crate::specs::Effects::sends_in, eg_answer::specs::Periods::is_send_tick))]
-fn sends_in(moved: Option<u16>, tick: u32, times: &Times) -> bool
-    ensures { result ≡ Effects.sends_in moved times.now tick }
+fn sends_in(moved: Option<u16>, place: u32, times: &Times) -> bool
+    ensures { (tick : ℕ) → place ≡ place_of times.now tick
+        → result ≡ Effects.sends_in moved times.now tick }
 {
-    let place = place_of(times, tick);
     match moved {
         Some(send) => place == u32::from(send),
         None => place == u32::from(times.send()),
     }
-}
-
-/// Which tick of its period it is.
-#[tactic(auto, unfolding(eg_answer::specs::Periods::place_of))]
-fn place_of(times: &Times, tick: u32) -> u32
-    ensures { result ≡ Periods.place_of times.now tick }
-{
-    tick % u32::from(times.period())
 }
 
 /// The class of a fault that acts at a tick, and how many ticks after the onset that is.

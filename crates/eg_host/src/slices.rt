@@ -112,7 +112,7 @@ impl SlicePlan {
         ensures least { 1 ≤ length self.now }
         ensures most { length self.now ≤ 64 }
     {
-        &self.rows[tick as usize % self.rows.len()]
+        &self.rows[in_turn(tick as usize, self.rows.len())]
     }
 
     /// The rows of the plan, in their order. It takes no memory.
@@ -132,4 +132,12 @@ impl SlicePlan {
             Err(_) => unreachable!(),
         }
     }
+}
+
+/// Which of so many rows, which come in turn, a tick has. Most plans have one, which costs no division.
+fn in_turn(tick: usize, count: usize) -> usize
+    requires { 1 ≤ count }
+    ensures { result ≡ tick % count }
+{
+    if count == 1 { 0 } else { tick % count }
 }

@@ -1,7 +1,7 @@
 -- Outside the headline. How a monitoring module is read from what the program holds.
-use Rattle.std.specs.Prelude.{List, map, reverse}
+use Rattle.std.specs.Prelude.{◌≡◌, ◌%◌, List, map, length, reverse}
 use Rattle.eg_answer.specs.Periods.{HeardAnswer}
-use Rattle.eg_module.specs.Monitoring.{MonitorParts}
+use Rattle.eg_module.specs.Monitoring.{MonitorParts, IsMonitor}
 use Rattle.eg_module.specs.declared.monitor.Heard.{Heard}
 use Rattle.eg_module.specs.declared.monitor.Monitor.TheInside.{Inside}
 
@@ -21,3 +21,8 @@ parts_of m = record {
   heard = newest_first m.heard.items;
   value = m.counter.value;
 }
+
+-- what the program keeps of it: also the number of the question of the period that has no verdict yet
+pub record IsKept (m : Inside) : Type 0 where
+  pub keeps : IsMonitor (parts_of m)
+  pub question : m.question ≡ m.verdicts % length m.questions

@@ -1,10 +1,10 @@
 // The monitoring module.
-ghost use Rattle.std.specs.Prelude.{◌≡◌, ◌↔◌, ◌+◌, ◌<◌, ◌≤◌, ◌==◌, ◌&&◌, List, [], ◌∷◌, All, length, map};
+ghost use Rattle.std.specs.Prelude.{◌≡◌, ◌↔◌, ℕ, ◌+◌, ◌/◌, ◌%◌, ◌<◌, ◌≤◌, ◌==◌, ◌&&◌, List, [], ◌∷◌, All, length, map};
 ghost use Rattle.std.specs.Prelude.{IfSome, IfNone, IsTrue};
 ghost use Rattle.std.specs.Option.{SomeIff};
 ghost use Rattle.eg_num.specs.Windows.{is_confirmed};
 ghost use Rattle.eg_num.specs.Counting.{counted, fed};
-ghost use Rattle.eg_answer.specs.Periods.{period_of, is_last_tick, is_in_window, asked};
+ghost use Rattle.eg_answer.specs.Periods.{period_of, place_of, is_last_tick, is_in_window, asked};
 ghost use Rattle.eg_answer.specs.Periods.{verdict_over, IsAnswered, with_verdict, is_wrong};
 ghost use Rattle.eg_answer.specs.declared.marks.Verdict.{Verdict};
 ghost use Rattle.eg_module.specs.Monitoring.{IsMonitor, HasGiven, expected_at};
@@ -34,20 +34,22 @@ pub struct Monitor {
     times: Times,
     questions: Questions,
     verdicts: u32,
+    // That of the period that has no verdict yet, so that nothing is divided at its ticks.
+    question: u16,
     heard: ArrayVec<Heard, 100>,
     counter: Counter,
 }
 
 impl Model for Monitor {
-    ghost use Rattle.eg_module.specs.Monitoring.{MonitorParts, IsMonitor};
+    ghost use Rattle.eg_module.specs.Monitoring.{MonitorParts};
 
     ghost Value = { MonitorParts };
 
-    ghost use Rattle.eg_module.specs.Inside.{parts_of};
+    ghost use Rattle.eg_module.specs.Inside.{parts_of, IsKept};
 
     ghost view = { parts_of };
 
-    ghost invariant = { λ m. IsMonitor (parts_of m) };
+    ghost invariant = { IsKept };
 }
 
 impl Monitor {
@@ -66,6 +68,7 @@ impl Monitor {
             times,
             questions,
             verdicts: 0,
+            question: 0,
             heard: ArrayVec::new(),
             counter: Counter::new(),
         }
@@ -79,6 +82,7 @@ impl Monitor {
         ensures keeps { IsMonitor self.new }
     {
         self.verdicts = 0;
+        self.question = 0;
         self.heard.clear();
         self.counter = Counter::new();
     }
@@ -94,6 +98,7 @@ impl Monitor {
                 times: self.times.copy(),
                 questions: self.questions.copy(),
                 verdicts: self.verdicts,
+                question: self.question,
                 heard,
                 counter: self.counter,
             },
@@ -109,8 +114,21 @@ impl Monitor {
         ensures within { result < length self.now.questions }
         ensures keeps { IsMonitor self.now }
     {
-        let period = tick / u32::from(self.times.period());
-        (period % self.questions.len() as u32) as u16
+        match place_in(self.verdicts, self.times.period(), tick) {
+            Some(_) => self.question,
+            None => question_of(&self.times, &self.questions, tick),
+        }
+    }
+
+    /// Which tick of its period a tick is, the first being 0 (docs/CONCEPT.md, "Questions and answers").
+    #[tactic(auto, unfolding(eg_answer::specs::Periods::place_of))]
+    pub fn place(&self, tick: u32) -> u32
+        ensures place { result ≡ place_of self.now.times tick }
+    {
+        match place_in(self.verdicts, self.times.period(), tick) {
+            Some(place) => place,
+            None => tick % u32::from(self.times.period()),
+        }
     }
 
     /// Keeps an answer that comes at a tick: one of the period that has no verdict yet, later than all
@@ -154,7 +172,7 @@ impl Monitor {
         ensures next { self.new.verdicts ≡ period_of self.new.times (tick + 1) }
         ensures keeps { IsMonitor self.new }
     {
-        if !is_last(&self.times, tick) {
+        if !is_last(&self.times, self.verdicts, tick) {
             return None;
         }
         let expected = self.expected(tick);
@@ -162,6 +180,7 @@ impl Monitor {
         self.counter.feed(self.times.weights(), is_bad(verdict));
         self.heard.clear();
         self.verdicts += 1;
+        self.question = question_after(self.question, self.questions.len());
         Some(verdict)
     }
 
@@ -185,12 +204,52 @@ impl Monitor {
         self.counter.value
     }
 
-    /// The number that is expected to be heard in the period of a tick.
+    /// The number that is expected to be heard in the period that has no verdict yet, in which a tick lies.
     fn expected(&self, tick: u32) -> u32
+        requires { self.now.verdicts ≡ period_of self.now.times tick }
         ensures { result ≡ expected_at self.now tick }
     {
-        let number = self.question(tick);
-        WHOLE_TOKEN + u32::from(self.questions.answer(usize::from(number)))
+        WHOLE_TOKEN + u32::from(self.questions.answer(usize::from(self.question)))
+    }
+}
+
+/// Which tick of the period with this number a tick is, or None if it lies in another one.
+fn place_in(number: u32, period: u16, tick: u32) -> Option<u32>
+    requires { 2 ≤ period }
+    ensures { IfSome result (λ place. (place ≡ tick % period) × (number ≡ tick / period)) }
+{
+    let begin = u64::from(number) * u64::from(period);
+    // Past `period` where the tick comes before it.
+    let place = u64::from(tick).wrapping_sub(begin);
+    if place < u64::from(period) {
+        Some(place as u32)
+    } else {
+        None
+    }
+}
+
+/// The number of the question of a tick, whichever it is.
+#[inline(never)]
+#[tactic(auto, unfolding(eg_answer::specs::Periods::asked, eg_answer::specs::Periods::period_of))]
+fn question_of(times: &Times, questions: &Questions, tick: u32) -> u16
+    requires { 2 ≤ length questions.now }
+    ensures number { result ≡ asked times.now (length questions.now) tick }
+    ensures within { result < length questions.now }
+{
+    let period = tick / u32::from(times.period());
+    (period % questions.len() as u32) as u16
+}
+
+/// The number of the question after this one: after the last one the first comes again.
+fn question_after(question: u16, count: usize) -> u16
+    requires question { question < count }
+    requires count { count ≤ 64 }
+    ensures { (number : ℕ) → question ≡ number % count → result ≡ (number + 1) % count }
+{
+    if usize::from(question) + 1 == count {
+        0
+    } else {
+        question + 1
     }
 }
 
@@ -225,13 +284,24 @@ fn in_window(times: &Times, tick: u32) -> bool
     u32::from(times.first()) <= place && place <= u32::from(times.last())
 }
 
-/// Whether a tick is the last one of its period.
-#[tactic(auto, unfolding(eg_answer::specs::Periods::is_last_tick, eg_answer::specs::Periods::place_of))]
-fn is_last(times: &Times, tick: u32) -> bool
+/// Whether a tick is the last one of the period with this number, in which it lies.
+#[tactic(auto, unfolding(eg_answer::specs::Periods::is_last_tick))]
+fn is_last(times: &Times, number: u32, tick: u32) -> bool
+    requires { number ≡ period_of times.now tick }
     ensures { result ≡ is_last_tick times.now tick }
 {
     let period = u32::from(times.period());
-    tick % period + 1 == period
+    place_from(times, number, tick) + 1 == period
+}
+
+/// Which tick of the period with this number a tick is, which lies in it.
+#[tactic(auto, unfolding(eg_answer::specs::Periods::period_of, eg_answer::specs::Periods::place_of))]
+fn place_from(times: &Times, number: u32, tick: u32) -> u32
+    requires { number ≡ period_of times.now tick }
+    ensures place { result ≡ place_of times.now tick }
+    ensures within { result < times.now.period }
+{
+    tick - number * u32::from(times.period())
 }
 
 /// Whether a verdict is debounced as a bad feed.

@@ -145,14 +145,16 @@ impl Span {
 
     /// What level 2 is to do at its next tick, which is this tick of the run (docs/CONCEPT.md, "Level 2").
     pub(crate) fn phase(&self, fault: Option<&Fault>, tick: u32, times: &Times, told: bool) -> Phase
-        requires { told ≡ is_told_to_open (kind_of self.now.tests) times.now self.now.local }
+        requires times { self.now.monitor.times ≡ times.now }
+        requires told { told ≡ is_told_to_open (kind_of self.now.tests) times.now self.now.local }
         ensures { result ≡ phase_at (kind_of self.now.tests) times.now
             (effects (option_copied fault.entry) tick) self.now.local }
     {
         if self.tests {
             return if told { Phase::TestOrder } else { Phase::Test };
         }
-        if sends(fault, tick, self.local, times) {
+        let place = self.monitor.place(self.local);
+        if sends(fault, tick, place, times) {
             Phase::Send
         } else {
             Phase::Quiet

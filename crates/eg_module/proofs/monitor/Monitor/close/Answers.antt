@@ -13,11 +13,11 @@ returns-then-not-is_last-clause-given c = λ verdicts given. given
 pub returns-then-not-is_last-clause-next : goal.returns-then-not-is_last-clause-next
 returns-then-not-is_last-clause-next c =
     c.requires ∙ subst (λ (m : MonitorParts). period_of m.times c.args.tick ≡ period_of m.times (c.args.tick + 1)) c.self.view_is
-    (sym (period_of-other c.self.inside.times c.args.tick c.self.invariant.times (sym c.is_last.ensures ∙ c.if-not-is_last.true)))
+    (sym (period_of-other c.self.inside.times c.args.tick c.self.invariant.keeps.times (sym c.is_last.ensures ∙ c.if-not-is_last.true)))
 
 pub overflow_add-self : goal.overflow_add-self
 overflow_add-self c = record {
-  fits = verdicts_fit (parts_of c.self.inside) c.args.tick c.self.invariant
+  fits = verdicts_fit (parts_of c.self.inside) c.args.tick c.self.invariant.keeps
       (subst (λ (m : MonitorParts). m.verdicts ≡ period_of m.times c.args.tick) (sym c.self.view_is) c.requires) c.ranges.tick.fits;
 }
 
@@ -30,7 +30,7 @@ returns-clause-right c =
 pub returns-clause-given : goal.returns-clause-given
 unfolding with_verdict
 returns-clause-given c = λ verdicts given.
-    let closed = HasGiven-close (parts_of c.self.inside) c.judge-verdict.result verdicts c.self.invariant.weights.3
+    let closed = HasGiven-close (parts_of c.self.inside) c.judge-verdict.result verdicts c.self.invariant.keeps.weights.3
     (subst (λ (m : MonitorParts). HasGiven m verdicts) (sym c.self.view_is) given) in
     record {
       count = closed.count;
@@ -40,4 +40,4 @@ returns-clause-given c = λ verdicts given.
 pub returns-clause-next : goal.returns-clause-next
 returns-clause-next c =
     ap (λ n. n + 1) (subst (λ (m : MonitorParts). m.verdicts ≡ period_of m.times c.args.tick) (sym c.self.view_is) c.requires)
-    ∙ sym (period_of-last c.self.inside.times c.args.tick c.self.invariant.times (sym c.is_last.ensures ∙ c.if-not-is_last.false))
+    ∙ sym (period_of-last c.self.inside.times c.args.tick c.self.invariant.keeps.times (sym c.is_last.ensures ∙ c.if-not-is_last.false))

@@ -9,4 +9,4 @@ pub returns-clause-verdicts : goal.returns-clause-verdicts
 returns-clause-verdicts c = λ verdicts given.
     ap (nat_eq c.self.inside.counter.value) (c.limit.ensures.limit ∙ ap (λ (w : WeightParts). w.limit) c.weights.ensures.weights)
     ∙ ap (λ (m : MonitorParts). m.value == m.times.weights.limit) c.self.view_is
-    ∙ HasGiven-confirmed c.args.self.now verdicts (subst IsMonitor c.self.view_is c.self.invariant).weights.3 given
+    ∙ HasGiven-confirmed c.args.self.now verdicts (subst IsMonitor c.self.view_is c.self.invariant.keeps).weights.3 given
