@@ -6,13 +6,13 @@ use Rattle.std.specs.Cmp.{unsigned_Decides, booleans_Decides}
 use Rattle.std.specs.Cmp.Lexicographic.{pointwise}
 use Rattle.std.proofs.lemmas.Slice.Eq.{slice_eq-Decides}
 use Rattle.std.proofs.lemmas.Bool.Decides.{Decides-and, Decides-like}
-use Rattle.eg_num.specs.Drive.{DriveRow}
+use Rattle.eg_num.specs.Drive.{DriveRow, is_same_row}
 use Rattle.eg_values.specs.Calibration.{CalibrationParts}
 use Rattle.eg_plan.specs.declared.engine.EngineKind.{EngineKind}
 use Rattle.eg_plan.specs.declared.engine.EngineKind.TheVariants as kind
 use Rattle.eg_campaign.specs.declared.play.RunInput.{RunInput}
 use Rattle.eg_campaign.specs.Plays.{run_with}
-use Rattle.eg_campaign.specs.Groups.{is_same_row, is_same_engine, is_alike, AreAlike, faultless}
+use Rattle.eg_campaign.specs.Groups.{is_same_engine, is_alike, AreAlike, faultless}
 
 -- ---- what the test says ----
 

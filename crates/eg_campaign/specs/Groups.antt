@@ -2,13 +2,12 @@
 -- tick of the run without one. Up to the onset of its fault each of them is the run without a fault. So where
 -- a group has more than one run, that run is kept at hundredth ticks, and a run with a fault is made from the
 -- last of all hundredth ticks on that isn't after the onset.
-use Rattle.std.specs.Prelude.{◌≡◌, ℕ, ◌*◌, ◌/◌, Bool, true, false, ◌==◌, ◌&&◌, nat_lt, nat_eq, List, [], ◌∷◌, ◌++◌, map, filter, drop, length, reverse, Option, Some, None, if◌then◌else◌, Result, IfOk}
-use Rattle.std.specs.Bool.{beq}
+use Rattle.std.specs.Prelude.{◌≡◌, ℕ, ◌*◌, ◌/◌, Bool, true, false, ◌&&◌, nat_lt, nat_eq, List, [], ◌∷◌, ◌++◌, map, filter, drop, length, reverse, Option, Some, None, if◌then◌else◌, Result, IfOk}
 use Rattle.std.specs.List.{flat_map, list_any, position_or_len}
 use Rattle.std.specs.Cmp.Lexicographic.{pointwise}
 use Rattle.std.specs.declared.vec.Vec.{Vec}
 use Rattle.std.specs.declared.alloc.Global.{Global}
-use Rattle.eg_num.specs.Drive.{DriveRow}
+use Rattle.eg_num.specs.Drive.{is_same_row}
 use Rattle.eg_fault.specs.declared.class.Fault.{Fault}
 use Rattle.eg_values.specs.Calibration.{CalibrationParts}
 use Rattle.eg_record.specs.declared.row.Row.{Row}
@@ -25,12 +24,6 @@ use Rattle.eg_campaign.specs.declared.play.RunInput.{RunInput}
 use Rattle.eg_campaign.specs.Plays.{bench_of, run_with, rows_in_time}
 
 -- ---- groups ----
-
--- rows of drives that are equal in each part
-abbrev pub is_same_row : DriveRow → DriveRow → Bool
-is_same_row a b =
-    a.pedal == b.pedal && (a.speed == b.speed && (a.raise == b.raise && (beq a.reset b.reset
-    && beq a.brake b.brake)))
 
 -- engines of one kind
 abbrev pub is_same_engine : EngineKind → EngineKind → Bool

@@ -3,14 +3,14 @@
 use Rattle.std.specs.Prelude.{◌≡◌, refl, ℕ, ◌+◌, ◌*◌, ◌%◌, ◌^◌, Bool, true, ◌==◌, ◌&&◌, fold, if◌then◌else◌}
 use Rattle.std.specs.Hash as fed
 use Rattle.std.specs.Hash.{first_alike, on_Alike, same_Alike}
-use Rattle.std.specs.Cmp.{IsEquivalence, and_equiv, on_equiv, nat_eq_equiv, bool_eq_equiv, unsigned_Decides}
+use Rattle.std.specs.Cmp.{IsEquivalence, and_equiv, on_equiv, nat_eq_equiv, unsigned_Decides}
 use Rattle.std.specs.Cmp.Lexicographic.{lists_equiv}
-use Rattle.eg_num.specs.Drive.{DriveRow}
+use Rattle.eg_num.specs.Drive.{DriveRow, is_same_row-equality}
 use Rattle.eg_plan.specs.declared.engine.EngineKind.{EngineKind}
 use Rattle.eg_plan.specs.declared.engine.EngineKind.TheVariants as kind
 use Rattle.eg_campaign.specs.declared.play.RunInput.{RunInput}
 use Rattle.eg_campaign.specs.declared.key.GroupKey.{GroupKey}
-use Rattle.eg_campaign.specs.Groups.{is_same_engine, is_same_row, is_alike}
+use Rattle.eg_campaign.specs.Groups.{is_same_engine, is_alike}
 
 -- ---- the number ----
 
@@ -63,20 +63,13 @@ same_engine-equality = record { refl = itself; symm = back; congr = along }
     along kind.Diesel kind.Gasoline z h = cc
     along kind.Diesel kind.Diesel z h = refl
 
-same_row-equality : IsEquivalence is_same_row
-same_row-equality = and_equiv (on_equiv (λ (r : DriveRow). r.pedal) nat_eq_equiv)
-    (and_equiv (on_equiv (λ (r : DriveRow). r.speed) nat_eq_equiv)
-    (and_equiv (on_equiv (λ (r : DriveRow). r.raise) nat_eq_equiv)
-    (and_equiv (on_equiv (λ (r : DriveRow). r.reset) bool_eq_equiv)
-    (on_equiv (λ (r : DriveRow). r.brake) bool_eq_equiv))))
-
 pub is_alike-equality : IsEquivalence is_alike
 unfolding is_alike
 is_alike-equality =
     and_equiv (and_equiv (and_equiv (on_equiv (λ (x : RunInput). x.plan.engine) same_engine-equality)
     (on_equiv (λ (x : RunInput). x.image) (lists_equiv nat_eq_equiv)))
     (on_equiv (λ (x : RunInput). x.plan.plan) (lists_equiv (lists_equiv nat_eq_equiv))))
-    (on_equiv (λ (x : RunInput). x.drive) (lists_equiv same_row-equality))
+    (on_equiv (λ (x : RunInput). x.drive) (lists_equiv is_same_row-equality))
 
 pub is_same_key-equality : IsEquivalence is_same_key
 is_same_key-equality = and_equiv (on_equiv (λ (k : GroupKey). k.number) nat_eq_equiv)

@@ -4,3 +4,4 @@ pub mod Drive
 pub mod Windows
 pub mod Counting
 pub mod Places
+pub mod PedalWord

@@ -1,19 +1,19 @@
 // The rows of a drive trace.
 ghost use Rattle.std.specs.Prelude.{◌≡◌, SomeIff};
-ghost use Rattle.eg_num.specs.Drive.{DriveRow, IsDrive};
+ghost use Rattle.std.specs.Cmp.{partial_equiv_from_equiv};
+ghost use Rattle.eg_num.specs.Drive.{DriveRow, IsDrive, is_same_row, is_same_row-equality};
 
+use crate::pedal_word::PedalWord;
 use std::marker::Model;
 
 /// What a drive trace gives to one tick (docs/CONCEPT.md, "Units"): the pedal (0 to 1000 per mille), the
 /// speed (0 to 8000 rpm), what raises the permitted torque (0 to 10,000 tenths of Nm), whether the unit is
-/// reset at the tick, and whether the driver brakes. Contracts see its `DriveRow`.
-#[derive(Clone, Copy, PartialEq, Eq)]
+/// reset at the tick, and whether the driver brakes. Contracts see its `DriveRow`. It takes six bytes.
+#[derive(Clone, Copy)]
 pub struct Drive {
-    pedal: u16,
+    pedal_word: PedalWord,
     speed: u16,
     raise: u16,
-    reset: bool,
-    brake: bool,
 }
 
 impl Model for Drive {
@@ -22,27 +22,25 @@ impl Model for Drive {
     ghost Value = { DriveRow };
 
     ghost view = { λ d. record {
-      pedal = d.pedal;
+      pedal = d.pedal_word.pedal;
       speed = d.speed;
       raise = d.raise;
-      reset = d.reset;
-      brake = d.brake;
+      reset = d.pedal_word.reset;
+      brake = d.pedal_word.brake;
     } };
 
     ghost invariant = { λ d. IsDrive (record {
-      pedal = d.pedal;
+      pedal = d.pedal_word.pedal;
       speed = d.speed;
       raise = d.raise;
-      reset = d.reset;
-      brake = d.brake;
+      reset = d.pedal_word.reset;
+      brake = d.pedal_word.brake;
     }) };
 
     ghost inverse = { λ r. record {
-      pedal = r.pedal;
+      pedal_word = record { pedal = r.pedal; reset = r.reset; brake = r.brake };
       speed = r.speed;
       raise = r.raise;
-      reset = r.reset;
-      brake = r.brake;
     } };
 }
 
@@ -59,11 +57,9 @@ impl Drive {
     {
         if pedal <= 1000 && speed <= 8000 && raise <= 10_000 {
             Some(Drive {
-                pedal,
+                pedal_word: PedalWord::new(pedal, reset, brake),
                 speed,
                 raise,
-                reset,
-                brake,
             })
         } else {
             None
@@ -75,7 +71,7 @@ impl Drive {
         ensures pedal { result ≡ self.now.pedal }
         ensures drive { IsDrive self.now }
     {
-        self.pedal
+        self.pedal_word.pedal()
     }
 
     /// The speed, in rpm.
@@ -99,7 +95,7 @@ impl Drive {
         ensures reset { result ≡ self.now.reset }
         ensures drive { IsDrive self.now }
     {
-        self.reset
+        self.pedal_word.reset()
     }
 
     /// Whether the driver brakes.
@@ -107,6 +103,22 @@ impl Drive {
         ensures brake { result ≡ self.now.brake }
         ensures drive { IsDrive self.now }
     {
-        self.brake
+        self.pedal_word.brake()
     }
+}
+
+impl PartialEq for Drive {
+    ghost eq = { is_same_row };
+
+    ghost laws = { partial_equiv_from_equiv is_same_row-equality };
+
+    fn eq(&self, other: &Drive) -> bool {
+        self.pedal_word == other.pedal_word
+            && self.speed == other.speed
+            && self.raise == other.raise
+    }
+}
+
+impl Eq for Drive {
+    ghost laws = { is_same_row-equality };
 }

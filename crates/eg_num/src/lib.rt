@@ -7,6 +7,7 @@ mod axis;
 mod counter;
 mod curve;
 mod drive;
+mod pedal_word;
 mod table;
 mod watches;
 mod weights;
