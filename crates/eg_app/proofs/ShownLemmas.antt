@@ -1,10 +1,10 @@
 -- A name that is put byte by byte.
-use Rattle.std.proofs.Common.{◌≡◌, ◌∙◌, ◌++◌, ◌∷◌, [], ◌+◌, ◌<◌, ◌≤◌, List, ℕ, drop, length, get_or, suc, subst, refl, sym, ap, arith, append_assoc, append-nil}
+use Rattle.std.proofs.Common.{◌≡◌, ◌∙◌, ◌++◌, [], ◌+◌, ◌<◌, ◌≤◌, List, ℕ, drop, length, get_or, subst, refl, sym, ap, arith, append_assoc, append-nil}
 use Rattle.std.proofs.lemmas.List.{at_drop_more, at_drop_all}
 use Rattle.std.specs.Bool.{IsTrue}
-use Rattle.std.specs.Prelude.{Option, Some, option_map, unwrap_or, Result, Ok, Err, IsErr, OnOk, OnErr}
+use Rattle.std.specs.Prelude.{Some, option_map, unwrap_or, Result, Ok, Err, IsErr}
 use Rattle.std.proofs.lemmas.Result.{IfOk-from_err, on_ok_weaker, on_err_weaker}
-use Rattle.eg_base.specs.Outside.{ShownSink, Rose, Appends, AppendsPrefix}
+use Rattle.eg_base.specs.Outside.{ShownSink, Appends, AppendsPrefix}
 use Rattle.eg_base.proofs.AppendLemmas.{Appends-append, Appends-nil, AppendsPrefix-append, Rose-earlier}
 use Rattle.eg_base.proofs.ResultLemmas.{at_err}
 use Rattle.eg_app.specs.Shown.{shown_byte, shown_behind, shown_name, Puts}

@@ -16,7 +16,7 @@ use crate::soak::play_drawn;
 use eg_base::{Sink, Store};
 use eg_desk::{answers, asm, bound, check, dis, limits};
 use eg_outcome::Outcome;
-use eg_play::{End, record, run, sweep};
+use eg_play::{End, NamedRun, record, run, sweep};
 use eg_tick::Ticks;
 use std::alloc::Global;
 
@@ -112,13 +112,19 @@ fn work<S: Store, K: Sink>(
             calibration,
             campaign,
             name,
-        } => record(alloc, calibration, campaign, name, store, out, steps),
+        } => {
+            let run = NamedRun { campaign, name };
+            record(alloc, calibration, run, store, out, steps)
+        }
         Command::Sweep {
             calibration,
             campaign,
             name,
             step,
-        } => sweep(alloc, calibration, campaign, name, step, store, out, steps),
+        } => {
+            let run = NamedRun { campaign, name };
+            sweep(alloc, calibration, run, step, store, out, steps)
+        }
         Command::Answers { file } => End::of(answers(alloc, file, store, out)),
         Command::Asm { file } => End::of(asm(alloc, file, store, out)),
         Command::Dis { file } => End::of(dis(alloc, file, store, out)),

@@ -25,7 +25,7 @@ use eg_campaign::RunInput;
 use eg_input::TraceFault;
 use eg_lines::Lines;
 use eg_outcome::{Outcome, Refusal, calibration_for, end_of, put_or_end};
-use eg_play::{End, undriven_named};
+use eg_play::{End, NamedRun, undriven_named};
 use eg_record::Row;
 use eg_tick::{Commands, Ticks};
 use eg_values::Calibration;
@@ -33,15 +33,6 @@ use std::alloc::Global;
 
 /// The most answers of a run.
 const MOST_ANSWERS: u32 = 20_000;
-
-/// Which run of a campaign is asked for.
-#[derive(Clone, Copy)]
-pub struct NamedRun<'a> {
-    /// The name of the campaign's file.
-    pub campaign: &'a str,
-    /// The name of the run in it.
-    pub name: &'a str,
-}
 
 /// Does `couple [--cal NAME] CAMPAIGN RUN`, but for its note (docs/FORMATS.md, "Commands"): reads the
 /// campaign and the image of the run of that name, and then answers of a partner, of each of which it
@@ -100,7 +91,7 @@ fn couple_by<S: Store, L: Lines, K: Sink>(
     ensures no_memory { TellsNoMemory result.outcome }
     ensures files { (S.shows store.new).files ≡ (S.shows store.old).files }
 {
-    match undriven_named(alloc, run.campaign, run.name, store) {
+    match undriven_named(alloc, run, store) {
         Ok(input) => {
             let done = couple(alloc, calibration, &input, lines, out, steps);
             End::of(end_of(done))

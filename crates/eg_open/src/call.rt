@@ -13,10 +13,10 @@ ghost use Rattle.eg_open.specs.Ends.{LinesEnd, LinesComplete, LinesPutNothing, L
 use crate::command::LineCommand;
 use eg_app::put_note;
 use eg_base::{Sink, Store};
-use eg_couple::{NamedRun, couple_stream};
+use eg_couple::couple_stream;
 use eg_lines::Lines;
 use eg_outcome::Outcome;
-use eg_play::End;
+use eg_play::{End, NamedRun};
 use eg_replay::{replay_stream, signals_stream};
 use eg_tick::Ticks;
 use std::alloc::Global;

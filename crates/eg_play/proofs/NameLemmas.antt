@@ -1,12 +1,13 @@
 -- The names of the files of runs.
-use Rattle.std.proofs.Common.{◌≡◌, ◌∙◌, refl, sym, ap, subst, ℕ, ◌+◌, ◌<◌, List, [], ◌∷◌, ◌++◌, length, Bool, true, false, Option, Some, None, Ok, Err, length-append, arith}
-use Rattle.std.specs.Prelude.{All, bytes_eq, if◌then◌else◌, Result, IfErr, IfOk, slice_index_or}
+use Rattle.std.proofs.Common.{◌≡◌, ◌∙◌, refl, sym, ap, subst, ℕ, ◌+◌, List, [], ◌∷◌, ◌++◌, length, Bool, true, false, Option, Some, None, Ok, Err, arith}
+use Rattle.std.specs.Prelude.{All, bytes_eq, if◌then◌else◌, Result, IfErr}
 use Rattle.eg_base.specs.Outside.{ShownStore}
 use Rattle.eg_fault.specs.Faults.{IsNoneOrValid}
 use Rattle.eg_plan.specs.Rules.{AreRuns}
 use Rattle.eg_plan.specs.declared.run.RunPlan.{RunPlan}
 use Rattle.eg_campaign.specs.declared.play.RunInput.{RunInput}
-use Rattle.eg_outcome.specs.Changes.{Change}
+use Rattle.eg_outcome.specs.Changes.{Change, change}
+use Rattle.eg_outcome.specs.Outcomes.{Then}
 use Rattle.eg_outcome.specs.Reads.{refused, whole, BytesCome, ReadComes, FileComes}
 use Rattle.eg_outcome.specs.Images.{image_or_refusal}
 use Rattle.eg_input.specs.Images.{image_words}
@@ -20,7 +21,7 @@ use Rattle.eg_outcome.specs.declared.outcome.Role.{Role}
 use Rattle.eg_outcome.specs.declared.outcome.Role.TheVariants as role
 use Rattle.eg_play.specs.declared.end.End.{End}
 use Rattle.eg_play.specs.Files.{campaign_file}
-use Rattle.eg_play.specs.Ends.{role_in, IsOf, name_by, name_for, IsNamedIfOfRun, NamesFile, run_named}
+use Rattle.eg_play.specs.Ends.{role_in, IsOf, name_by, name_for, IsNamedIfOfRun, NamesFile, FindsNamed, run_named}
 use Rattle.eg_play.proofs.InputsLemmas.{named}
 
 -- the whole of a file is refused for its size alone
@@ -67,47 +68,59 @@ names-file campaign store plans (Some (role.Trace n)) name (bytes, read, says) i
 names-file campaign store plans (Some (role.Image n)) name (bytes, read, says) is some = (bytes, read, plans, says, some, is)
 names-file campaign store plans _ name (bytes, read, says) is some = some
 
--- so of what comes of the files of one of its runs
-pub names-files : (campaign : List ℕ) (store : ShownStore) (plans : List RunPlan) (result : Result RunInput End)
-    → ReadComes campaign_file campaign store (Ok plans) → IfErr result (λ end. end.file ≡ name_for plans (role_in end.outcome))
-    → IfErr result (λ end. IsNamedIfOfRun (role_in end.outcome) end.file) → IfErr result (λ end. NamesFile campaign store (role_in end.outcome) end.file)
-names-files campaign store plans (Ok input) comes is some = tt
-names-files campaign store plans (Err end) comes is some = names-file campaign store plans (role_in end.outcome) end.file comes is some
+-- this run is one of the runs, of which the first has number n, and its number is m
+abbrev StandsAt : ℕ → List RunPlan → ℕ → RunPlan → Type 0
+StandsAt n plans m plan =
+    (before : List RunPlan) × (rest : List RunPlan) × (plans ≡ before ++ plan ∷ rest) × (m ≡ length before + n)
 
--- the run at hand is told by the names that the campaign gives
-pub named-among : (before : List RunPlan) (plan : RunPlan) (rest plans : List RunPlan) (n : ℕ) (result : Result RunInput End)
-    → plans ≡ before ++ plan ∷ rest → n ≡ length before + 1
-    → IfErr result (λ end. (end.file ≡ name_by plan (role_in end.outcome)) × IsOf n (role_in end.outcome))
-    → IfErr result (λ end. end.file ≡ name_for plans (role_in end.outcome))
-named-among before plan rest plans n (Ok input) parts at is = tt
-named-among before plan rest plans n (Err end) parts at (is, of) = is ∙ named before plan rest plans n (role_in end.outcome) parts at of
+-- the run that has the name is one of them
+stands-named : (name : List ℕ) (n : ℕ) (plans : List RunPlan) (m : ℕ) (plan : RunPlan) → run_named name n plans ≡ Some (m, plan)
+    → StandsAt n plans m plan
+stands-named name n [] m plan found = absurd cc
+stands-named name n (first ∷ plans) m plan found = go (bytes_eq first.name name) found (stands-named name (n + 1) plans m plan)
+  where
+    run_in : Option (ℕ × RunPlan) → ℕ × RunPlan
+    run_in None = (n, first)
+    run_in (Some run) = run
 
--- and so there is a name where there has to be one
-pub some-by-plan : (plan : RunPlan) (n : ℕ) (result : Result RunInput End)
+    later : StandsAt (n + 1) plans m plan → StandsAt n (first ∷ plans) m plan
+    later (before, rest, parts, at) = (first ∷ before, rest, ap (λ ps. first ∷ ps) parts, omega (arith, at))
+
+    go : (same : Bool) → (if same then Some (n, first) else run_named name (n + 1) plans) ≡ Some (m, plan)
+        → (run_named name (n + 1) plans ≡ Some (m, plan) → StandsAt (n + 1) plans m plan) → StandsAt n (first ∷ plans) m plan
+    go true found after = (
+      [],
+      plans,
+      ap (λ (o : Option (ℕ × RunPlan)). (run_in o).1 ∷ plans) found,
+      (let at : n ≡ m = ap (λ (o : Option (ℕ × RunPlan)). (run_in o).0) found in omega (arith, at)),
+    )
+    go false found after = later (after found)
+
+-- what comes of the files of the run that was found comes of the campaign and its name
+pub found-comes : (P : Option (ℕ × RunPlan) → Change ShownStore → Result RunInput Outcome → Type 0) (campaign name : List ℕ)
+    (before between after : ShownStore) (found : ℕ × RunPlan) (come : Result RunInput Outcome)
+    → FindsNamed campaign name before found → between ≡ before → P (Some found) (change between after) come
+    → (plans : Result (List RunPlan) Outcome) × FileComes role.Campaign campaign_file campaign (change before after) plans
+    × Then (λ runs made. P (run_named name 1 runs) (change before after) made) plans come
+found-comes P campaign name before between after found come (plans, reads, is) same comes =
+    (Ok plans, reads, subst (λ one. P one (change before after) come) (sym is) (subst (λ shown. P (Some found) (change shown after) come) same comes))
+
+-- and they are told by the name that the campaign gives
+pub names-files : (campaign name : List ℕ) (store : ShownStore) (n : ℕ) (plan : RunPlan) (result : Result RunInput End)
+    → FindsNamed campaign name store (n, plan)
     → IfErr result (λ end. (end.file ≡ name_by plan (role_in end.outcome)) × IsOf n (role_in end.outcome))
-    → IfErr result (λ end. IsNamedIfOfRun (role_in end.outcome) end.file)
-some-by-plan plan n (Ok input) is = tt
-some-by-plan plan n (Err end) (is, of) = subst (IsNamedIfOfRun (role_in end.outcome)) (sym is) (by_plan plan (role_in end.outcome))
+    → IfErr result (λ end. NamesFile campaign store (role_in end.outcome) end.file)
+names-files campaign name store n plan (Ok input) finds is = tt
+names-files campaign name store n plan (Err end) (plans, comes, found) (is, of) = go (stands-named name 1 plans n plan found)
+  where
+    go : StandsAt 1 plans n plan → NamesFile campaign store (role_in end.outcome) end.file
+    go (before, rest, parts, at) =
+        names-file campaign store plans (role_in end.outcome) end.file comes (is ∙ named before plan rest plans n (role_in end.outcome) parts at of)
+        (subst (IsNamedIfOfRun (role_in end.outcome)) (sym is) (by_plan plan (role_in end.outcome)))
 
 -- the faults of an accepted campaign are valid
 pub valid_faults : (plans : List RunPlan) → AreRuns plans → All (λ plan. IsNoneOrValid plan.fault) plans
 valid_faults plans rules = λ k d within. (rules.each k d within).fault
-
--- the run at hand has a valid fault or none
-pub fault-among : (before : List RunPlan) (plan : RunPlan) (rest plans : List RunPlan) (result : Result RunInput End)
-    → plans ≡ before ++ plan ∷ rest → AreRuns plans → IfOk result (λ input. input.plan ≡ plan) → IfOk result (λ input. IsNoneOrValid input.plan.fault)
-fault-among before plan rest plans (Err end) parts rules same = tt
-fault-among before plan rest plans (Ok input) parts rules same = subst (λ p. IsNoneOrValid p.fault) (sym same) fault
-  where
-    here : (before : List RunPlan) → slice_index_or (before ++ plan ∷ rest) (length before) plan ≡ plan
-    here [] = refl
-    here (x ∷ before) = here before
-
-    fault : IsNoneOrValid plan.fault
-    fault =
-        let within : length before < length plans = (let long = ap length parts ∙ length-append before (plan ∷ rest) in omega arith) in
-        subst (λ p. IsNoneOrValid p.fault) (ap (λ runs. slice_index_or runs (length before) plan) parts ∙ here before)
-        (rules.each (length before) plan within).fault
 
 -- the first run of the list has the name
 pub found-now : (name : List ℕ) (n : ℕ) (plan : RunPlan) (rest : List RunPlan) → bytes_eq plan.name name ≡ true → run_named name n (plan ∷ rest) ≡ Some (n, plan)

@@ -153,6 +153,11 @@ run_named name n [] = None
 run_named name n (plan ∷ plans) =
     if bytes_eq plan.name name then Some (n, plan) else run_named name (n + 1) plans
 
+-- the campaign is read, and has this as its first run of that name
+abbrev pub FindsNamed : (campaign name : List ℕ) → ShownStore → ℕ × RunPlan → Type 0
+FindsNamed campaign name store found = (plans : List RunPlan)
+    × ReadComes campaign_file campaign store (Ok plans) × (run_named name 1 plans ≡ Some found)
+
 -- there is no run of that name, or its files are read; no count of ticks is refused here
 abbrev pub FoundComes : Option (ℕ × RunPlan) → Change ShownStore → Result RunInput Outcome → Type 0
 FoundComes None store come = (come ≡ Err (outcome.Refused refusal.NoRun)) × MeetsNoFault store

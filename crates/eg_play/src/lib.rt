@@ -24,7 +24,7 @@ mod traces;
 
 pub use end::End;
 pub use laws::classes_are_spelt_as_in_campaigns;
-pub use named::undriven_named;
+pub use named::{NamedRun, undriven_named};
 pub use recording::record;
 pub use running::run;
 pub use sweeping::sweep;

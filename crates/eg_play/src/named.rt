@@ -1,5 +1,5 @@
 // The run of a campaign that has a name.
-ghost use Rattle.std.specs.Prelude.{◌≡◌, ◌≤◌, length, IsTrue, IfErr, IfOk, Err, bytes_eq};
+ghost use Rattle.std.specs.Prelude.{◌≡◌, ◌≤◌, length, IsTrue, IfErr, IfOk, Err, Some, None, bytes_eq};
 ghost use Rattle.eg_base.specs.Outside.{IsMissing};
 ghost use Rattle.eg_plan.specs.Rules.{AreRuns};
 ghost use Rattle.eg_fault.specs.Faults.{IsNoneOrValid};
@@ -8,10 +8,11 @@ ghost use Rattle.eg_campaign.specs.Plays.{IsPlayable};
 ghost use Rattle.eg_outcome.specs.Changes.{change_of};
 ghost use Rattle.eg_outcome.specs.Outcomes.{TellsNoMemory};
 ghost use Rattle.eg_outcome.specs.Reads.{KeepsFiles};
-ghost use Rattle.eg_outcome.specs.declared.outcome.Outcome.TheVariants.{ReadFault};
+ghost use Rattle.eg_outcome.specs.declared.outcome.Outcome.TheVariants.{ReadFault, Refused};
+ghost use Rattle.eg_outcome.specs.declared.outcome.Refusal.TheVariants.{NoRun};
 ghost use Rattle.eg_outcome.specs.declared.outcome.Role.TheVariants as role;
 ghost use Rattle.eg_play.specs.Inputs.{outcomes};
-ghost use Rattle.eg_play.specs.Ends.{FoundComes, FoundUndriven, NamedComes, UndrivenComes, run_named, NamesFile, role_in, name_for, IsNamedIfOfRun};
+ghost use Rattle.eg_play.specs.Ends.{FindsNamed, NamedComes, UndrivenComes, run_named, NamesFile, role_in};
 
 use crate::End;
 use crate::campaign::campaign_for;
@@ -23,104 +24,107 @@ use eg_outcome::{Outcome, Refusal};
 use eg_plan::RunPlan;
 use std::alloc::Global;
 
+/// Which run of a campaign is asked for.
+#[derive(Clone, Copy)]
+pub struct NamedRun<'a> {
+    /// The name of the campaign's file.
+    pub campaign: &'a str,
+    /// The name of the run in it.
+    pub name: &'a str,
+}
+
 /// The input of the run of that name: the campaign is read, and then the files of this run alone
 /// (docs/FORMATS.md, "Outcomes").
 pub(crate) fn input_named<S: Store>(
     alloc: Global,
-    campaign: &str,
-    name: &str,
+    run: NamedRun<'_>,
     store: &mut S,
 ) -> Result<RunInput, End>
-    ensures comes { NamedComes campaign.now name.now (change_of S.shows store.old store.new)
-        (outcomes result) }
+    ensures comes { NamedComes run.entry.campaign.now run.entry.name.now
+        (change_of S.shows store.old store.new) (outcomes result) }
     ensures playable { IfOk result IsPlayable }
     ensures named { IfErr result (λ end.
-        NamesFile campaign.now (S.shows store.old) (role_in end.outcome) end.file) }
-    ensures missing { IsTrue (S.shows store.old).sure → IsMissing (S.shows store.old).files campaign.now
+        NamesFile run.entry.campaign.now (S.shows store.old) (role_in end.outcome) end.file) }
+    ensures missing { IsTrue (S.shows store.old).sure
+        → IsMissing (S.shows store.old).files run.entry.campaign.now
         → outcomes result ≡ Err (ReadFault role.Campaign) }
     ensures no_memory { IfErr result (λ end. TellsNoMemory end.outcome) }
     ensures keeps { KeepsFiles (change_of S.shows store.old store.new) result }
 {
-    match campaign_for(alloc, campaign, store) {
-        Ok(plans) => input_among(alloc, plans, name, store),
-        Err(outcome) => Err(End::of(outcome)),
-    }
-}
-
-/// The input of the first of these runs that has this name.
-fn input_among<S: Store>(
-    alloc: Global,
-    plans: Items<RunPlan>,
-    name: &str,
-    store: &mut S,
-) -> Result<RunInput, End>
-    requires rules { AreRuns plans }
-    ensures comes { FoundComes (run_named name.now 1 plans) (change_of S.shows store.old store.new)
-        (outcomes result) }
-    ensures playable { IfOk result IsPlayable }
-    ensures named { IfErr result (λ end. end.file ≡ name_for plans (role_in end.outcome)) }
-    ensures some { IfErr result (λ end. IsNamedIfOfRun (role_in end.outcome) end.file) }
-    ensures no_memory { IfErr result (λ end. TellsNoMemory end.outcome) }
-    ensures keeps { KeepsFiles (change_of S.shows store.old store.new) result }
-{
-    let mut run = 1;
-    for plan in plans.into_vec() {
-        if has_name(&plan, name) {
-            return input_for(alloc, run, None, plan, &mut Traces::new(alloc), store);
+    match plan_named(alloc, run, store) {
+        Ok((number, plan)) => {
+            input_for(alloc, number, None, plan, &mut Traces::new(alloc), store)
         }
-        run += 1;
+        Err(end) => Err(end),
     }
-    Err(End::of(Outcome::Refused(Refusal::NoRun)))
 }
 
 /// What the run of that name is made of besides its drive: the campaign is read, and then the image of this
 /// run alone (docs/FORMATS.md, "Outcomes"). Its trace isn't read.
 pub fn undriven_named<S: Store>(
     alloc: Global,
-    campaign: &str,
-    name: &str,
+    run: NamedRun<'_>,
     store: &mut S,
 ) -> Result<RunInput, End>
-    ensures comes { UndrivenComes campaign.now name.now (change_of S.shows store.old store.new)
-        (outcomes result) }
+    ensures comes { UndrivenComes run.entry.campaign.now run.entry.name.now
+        (change_of S.shows store.old store.new) (outcomes result) }
     ensures fault { IfOk result (λ input. IsNoneOrValid input.plan.fault) }
     ensures image { IfOk result (λ input. length input.image ≤ MOST_WORDS) }
     ensures named { IfErr result (λ end.
-        NamesFile campaign.now (S.shows store.old) (role_in end.outcome) end.file) }
-    ensures missing { IsTrue (S.shows store.old).sure → IsMissing (S.shows store.old).files campaign.now
+        NamesFile run.entry.campaign.now (S.shows store.old) (role_in end.outcome) end.file) }
+    ensures missing { IsTrue (S.shows store.old).sure
+        → IsMissing (S.shows store.old).files run.entry.campaign.now
         → outcomes result ≡ Err (ReadFault role.Campaign) }
     ensures no_memory { IfErr result (λ end. TellsNoMemory end.outcome) }
     ensures keeps { KeepsFiles (change_of S.shows store.old store.new) result }
 {
-    match campaign_for(alloc, campaign, store) {
-        Ok(plans) => undriven_among(alloc, plans, name, store),
+    match plan_named(alloc, run, store) {
+        Ok((number, plan)) => undriven_for(alloc, number, plan, store),
+        Err(end) => Err(end),
+    }
+}
+
+/// The number and the plan of the run of that name: the campaign is read.
+fn plan_named<S: Store>(
+    alloc: Global,
+    run: NamedRun<'_>,
+    store: &mut S,
+) -> Result<(u32, RunPlan), End>
+    ensures found { IfOk result (λ found.
+        FindsNamed run.entry.campaign.now run.entry.name.now (S.shows store.old) found) }
+    ensures fault { IfOk result (λ found. IsNoneOrValid found.1.fault) }
+    ensures input_ends { IfErr result (λ end. NamedComes run.entry.campaign.now run.entry.name.now
+        (change_of S.shows store.old store.new) (Err end.outcome)) }
+    ensures undriven_ends { IfErr result (λ end. UndrivenComes run.entry.campaign.now run.entry.name.now
+        (change_of S.shows store.old store.new) (Err end.outcome)) }
+    ensures named { IfErr result (λ end.
+        NamesFile run.entry.campaign.now (S.shows store.old) (role_in end.outcome) end.file) }
+    ensures missing { IsTrue (S.shows store.old).sure
+        → IsMissing (S.shows store.old).files run.entry.campaign.now
+        → outcomes result ≡ Err (ReadFault role.Campaign) }
+    ensures no_memory { IfErr result (λ end. TellsNoMemory end.outcome) }
+    ensures keeps { KeepsFiles (change_of S.shows store.old store.new) result }
+{
+    match campaign_for(alloc, run.campaign, store) {
+        Ok(plans) => plan_among(plans, run.name),
         Err(outcome) => Err(End::of(outcome)),
     }
 }
 
-/// The same of the first of these runs that has this name.
-fn undriven_among<S: Store>(
-    alloc: Global,
-    plans: Items<RunPlan>,
-    name: &str,
-    store: &mut S,
-) -> Result<RunInput, End>
+/// The number and the plan of the first of these runs that has this name.
+fn plan_among(plans: Items<RunPlan>, name: &str) -> Result<(u32, RunPlan), End>
     requires rules { AreRuns plans }
-    ensures comes { FoundUndriven (run_named name.now 1 plans) (change_of S.shows store.old store.new)
-        (outcomes result) }
-    ensures fault { IfOk result (λ input. IsNoneOrValid input.plan.fault) }
-    ensures image { IfOk result (λ input. length input.image ≤ MOST_WORDS) }
-    ensures named { IfErr result (λ end. end.file ≡ name_for plans (role_in end.outcome)) }
-    ensures some { IfErr result (λ end. IsNamedIfOfRun (role_in end.outcome) end.file) }
-    ensures no_memory { IfErr result (λ end. TellsNoMemory end.outcome) }
-    ensures keeps { KeepsFiles (change_of S.shows store.old store.new) result }
+    ensures found { IfOk result (λ found. run_named name.now 1 plans ≡ Some found) }
+    ensures fault { IfOk result (λ found. IsNoneOrValid found.1.fault) }
+    ensures none { IfErr result (λ end. run_named name.now 1 plans ≡ None) }
+    ensures no_run { IfErr result (λ end. (end.outcome ≡ Refused NoRun) × (end.file ≡ None)) }
 {
-    let mut run = 1;
+    let mut number = 1;
     for plan in plans.into_vec() {
         if has_name(&plan, name) {
-            return undriven_for(alloc, run, plan, store);
+            return Ok((number, plan));
         }
-        run += 1;
+        number += 1;
     }
     Err(End::of(Outcome::Refused(Refusal::NoRun)))
 }

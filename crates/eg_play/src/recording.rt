@@ -10,7 +10,7 @@ ghost use Rattle.eg_outcome.specs.declared.outcome.Role.TheVariants as role;
 ghost use Rattle.eg_play.specs.Ends.{call, NamedEnds, RecordEnds, RecordCommandEnds, NamesFile, role_in};
 
 use crate::End;
-use crate::named::input_named;
+use crate::named::{NamedRun, input_named};
 use crate::report::put_record;
 use eg_base::{Sink, Store};
 use eg_outcome::calibration_for;
@@ -24,27 +24,28 @@ use std::alloc::Global;
 pub fn record<S: Store, K: Sink>(
     alloc: Global,
     calibration: Option<&str>,
-    campaign: &str,
-    name: &str,
+    run: NamedRun<'_>,
     store: &mut S,
     out: &mut K,
     steps: &mut Ticks,
 ) -> End
-    ensures ends { RecordCommandEnds (option_copied calibration.entry) campaign.now name.now
-        (call (change_of S.shows store.old store.new)
+    ensures ends { RecordCommandEnds (option_copied calibration.entry)
+        run.entry.campaign.now run.entry.name.now (call (change_of S.shows store.old store.new)
         (change_of K.shows out.old out.new) (change steps.old steps.new)) result.outcome }
-    ensures named { NamesFile campaign.now (S.shows store.old) (role_in result.outcome) result.file }
+    ensures named { NamesFile run.entry.campaign.now (S.shows store.old)
+        (role_in result.outcome) result.file }
     // Over a sure store a missing calibration is told, and so is a missing campaign that is read first.
     ensures missing { IsTrue (S.shows store.old).sure
         → MissesCalibration (option_copied calibration.entry) (S.shows store.old)
         → result.outcome ≡ ReadFault role.Calibration }
     ensures missing_campaign { IsTrue (S.shows store.old).sure → option_copied calibration.entry ≡ None
-        → IsMissing (S.shows store.old).files campaign.now → result.outcome ≡ ReadFault role.Campaign }
+        → IsMissing (S.shows store.old).files run.entry.campaign.now
+        → result.outcome ≡ ReadFault role.Campaign }
     ensures orderly { EndsOrderly (change_of S.shows store.old store.new) (change out.old out.new)
         (change steps.old steps.new) result.outcome }
 {
     match calibration_for(alloc, calibration, store) {
-        Ok(calibration) => record_by(alloc, &calibration, campaign, name, store, out, steps),
+        Ok(calibration) => record_by(alloc, &calibration, run, store, out, steps),
         Err(outcome) => End::of(outcome),
     }
 }
@@ -53,22 +54,23 @@ pub fn record<S: Store, K: Sink>(
 fn record_by<S: Store, K: Sink>(
     alloc: Global,
     calibration: &Calibration,
-    campaign: &str,
-    name: &str,
+    run: NamedRun<'_>,
     store: &mut S,
     out: &mut K,
     steps: &mut Ticks,
 ) -> End
-    ensures ends { NamedEnds campaign.now name.now (RecordEnds calibration.now)
+    ensures ends { NamedEnds run.entry.campaign.now run.entry.name.now (RecordEnds calibration.now)
         (call (change_of S.shows store.old store.new)
         (change_of K.shows out.old out.new) (change steps.old steps.new)) result.outcome }
     ensures missing_campaign { IsTrue (S.shows store.old).sure
-        → IsMissing (S.shows store.old).files campaign.now → result.outcome ≡ ReadFault role.Campaign }
-    ensures named { NamesFile campaign.now (S.shows store.old) (role_in result.outcome) result.file }
+        → IsMissing (S.shows store.old).files run.entry.campaign.now
+        → result.outcome ≡ ReadFault role.Campaign }
+    ensures named { NamesFile run.entry.campaign.now (S.shows store.old)
+        (role_in result.outcome) result.file }
     ensures orderly { EndsOrderly (change_of S.shows store.old store.new) (change out.old out.new)
         (change steps.old steps.new) result.outcome }
 {
-    match input_named(alloc, campaign, name, store) {
+    match input_named(alloc, run, store) {
         Ok(input) => End::of(put_record(alloc, calibration, &input, out, steps)),
         Err(end) => end,
     }

@@ -10,7 +10,7 @@ ghost use Rattle.eg_outcome.specs.declared.outcome.Role.TheVariants as role;
 ghost use Rattle.eg_play.specs.Ends.{call, NamedEnds, SweepEnds, SweepCommandEnds, NamesFile, role_in};
 
 use crate::End;
-use crate::named::input_named;
+use crate::named::{NamedRun, input_named};
 use crate::sweep_table::put_table;
 use eg_base::{Sink, Store};
 use eg_outcome::calibration_for;
@@ -25,8 +25,7 @@ use std::alloc::Global;
 pub fn sweep<S: Store, K: Sink>(
     alloc: Global,
     calibration: Option<&str>,
-    campaign: &str,
-    name: &str,
+    run: NamedRun<'_>,
     step: u32,
     store: &mut S,
     out: &mut K,
@@ -34,21 +33,23 @@ pub fn sweep<S: Store, K: Sink>(
 ) -> End
     requires least { 1 ≤ step }
     requires most { step ≤ 20000 }
-    ensures ends { SweepCommandEnds (option_copied calibration.entry) campaign.now name.now step
-        (call (change_of S.shows store.old store.new)
+    ensures ends { SweepCommandEnds (option_copied calibration.entry)
+        run.entry.campaign.now run.entry.name.now step (call (change_of S.shows store.old store.new)
         (change_of K.shows out.old out.new) (change steps.old steps.new)) result.outcome }
-    ensures named { NamesFile campaign.now (S.shows store.old) (role_in result.outcome) result.file }
+    ensures named { NamesFile run.entry.campaign.now (S.shows store.old)
+        (role_in result.outcome) result.file }
     // Over a sure store a missing calibration is told, and so is a missing campaign that is read first.
     ensures missing { IsTrue (S.shows store.old).sure
         → MissesCalibration (option_copied calibration.entry) (S.shows store.old)
         → result.outcome ≡ ReadFault role.Calibration }
     ensures missing_campaign { IsTrue (S.shows store.old).sure → option_copied calibration.entry ≡ None
-        → IsMissing (S.shows store.old).files campaign.now → result.outcome ≡ ReadFault role.Campaign }
+        → IsMissing (S.shows store.old).files run.entry.campaign.now
+        → result.outcome ≡ ReadFault role.Campaign }
     ensures orderly { EndsOrderly (change_of S.shows store.old store.new) (change out.old out.new)
         (change steps.old steps.new) result.outcome }
 {
     match calibration_for(alloc, calibration, store) {
-        Ok(calibration) => sweep_by(alloc, &calibration, campaign, name, step, store, out, steps),
+        Ok(calibration) => sweep_by(alloc, &calibration, run, step, store, out, steps),
         Err(outcome) => End::of(outcome),
     }
 }
@@ -57,8 +58,7 @@ pub fn sweep<S: Store, K: Sink>(
 fn sweep_by<S: Store, K: Sink>(
     alloc: Global,
     calibration: &Calibration,
-    campaign: &str,
-    name: &str,
+    run: NamedRun<'_>,
     step: u32,
     store: &mut S,
     out: &mut K,
@@ -66,16 +66,18 @@ fn sweep_by<S: Store, K: Sink>(
 ) -> End
     requires least { 1 ≤ step }
     requires most { step ≤ 20000 }
-    ensures ends { NamedEnds campaign.now name.now (SweepEnds calibration.now step)
+    ensures ends { NamedEnds run.entry.campaign.now run.entry.name.now (SweepEnds calibration.now step)
         (call (change_of S.shows store.old store.new)
         (change_of K.shows out.old out.new) (change steps.old steps.new)) result.outcome }
     ensures missing_campaign { IsTrue (S.shows store.old).sure
-        → IsMissing (S.shows store.old).files campaign.now → result.outcome ≡ ReadFault role.Campaign }
-    ensures named { NamesFile campaign.now (S.shows store.old) (role_in result.outcome) result.file }
+        → IsMissing (S.shows store.old).files run.entry.campaign.now
+        → result.outcome ≡ ReadFault role.Campaign }
+    ensures named { NamesFile run.entry.campaign.now (S.shows store.old)
+        (role_in result.outcome) result.file }
     ensures orderly { EndsOrderly (change_of S.shows store.old store.new) (change out.old out.new)
         (change steps.old steps.new) result.outcome }
 {
-    match input_named(alloc, campaign, name, store) {
+    match input_named(alloc, run, store) {
         Ok(input) => End::of(put_table(alloc, calibration, input, step, out, steps)),
         Err(end) => end,
     }

@@ -1,4 +1,3 @@
-use Rattle.std.proofs.Common.{◌∙◌}
 use Rattle.eg_base.specs.declared.sink.PutRefusal.{PutRefusal}
 use Rattle.eg_base.proofs.AppendLemmas.{fault_of_refusal}
 use Rattle.eg_app.proofs.ShownLemmas.{then, refused}

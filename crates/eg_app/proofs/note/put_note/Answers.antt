@@ -1,5 +1,4 @@
-use Rattle.std.proofs.Common.{Some, ap, subst, sym, ◌∙◌}
-use Rattle.eg_app.specs.Notes.{note_of, PutsNote}
+use Rattle.std.proofs.Common.{Some, ap, sym}
 use Rattle.eg_app.proofs.ShownLemmas.{noted_whole}
 use Rattle.eg_app.proofs.note.put_note.Goals as goal
 

@@ -1,4 +1,3 @@
-use Rattle.std.proofs.Common.{ℕ}
 use Rattle.eg_app.proofs.ShownLemmas.{HasPut}
 use Rattle.eg_app.proofs.shown.put_name.Given as goal
 
