@@ -1,10 +1,11 @@
 -- Which modules of level 2 run under each class of faults.
-use Rattle.std.proofs.Common.{◌≡◌, ℕ, ◌-◌, ◌<◌, ◌⊎◌, inl, inr, Bool, true, false, refl, sym, subst}
+use Rattle.std.proofs.Common.{◌≡◌, ℕ, ◌-◌, ◌<◌, ◌⊎◌, inl, inr, Bool, true, false, ◌&&◌, refl, sym, ap, subst, arith}
+use Rattle.std.proofs.lemmas.Bool.{ne_eqb}
 use Rattle.std.specs.Prelude.{◌==◌, not, if◌then◌else◌, Option, Some, None}
 use Rattle.eg_answer.specs.Modules.{AllRun, NoneRuns, OthersRun}
 use Rattle.eg_fault.specs.Effects.{Effects, no_effects}
 use Rattle.eg_fault.specs.Faults.{effects_of, effects, is_left_out}
-use Rattle.eg_fault.specs.Running.{LeavesOut, RunsWhole, RunningLaw, RunAlike, may_change_levels, changes_levels}
+use Rattle.eg_fault.specs.Running.{LeavesOut, RunsWhole, RunningLaw, RunAlike, may_change_levels, changes_levels, all_run, runs_of, IsRunning}
 use Rattle.eg_fault.specs.declared.class.Class.{Class}
 use Rattle.eg_fault.specs.declared.class.Class.TheVariants.{Skip, Disturb, Flip, Halt, Lapse}
 use Rattle.eg_fault.specs.declared.class.Fault.{Fault}
@@ -121,3 +122,32 @@ stops-class _ k is = absurd (let clash : true ≡ false = is in cc)
 pub stops_both : (fault : Option Fault) (tick : ℕ) → (effects fault tick).level1 ≡ false → Stops (effects fault tick)
 stops_both = of_all (λ x. x.level1 ≡ false → Stops x)
     (λ is. absurd (let clash : true ≡ false = (unfold no_effects in is) in cc)) stops-class
+
+-- ---- as it is worked out for a tick ----
+
+either : (test : Bool) (mask : ℕ) → (if test then mask else mask) ≡ mask
+either true mask = refl
+either false mask = refl
+
+-- none of the eight has the number 255
+present : (i : ℕ) → i < 8 → not (i == 255) ≡ true
+present i few = ap not (ne_eqb i 255 (λ same. omega arith))
+
+with-all : (left_out other : Bool) → other ≡ true → (not left_out && other) ≡ not left_out
+with-all true other is = refl
+with-all false other is = is
+
+pub all_running : IsRunning no_effects all_run
+unfolding no_effects all_run
+all_running = record { ran = λ i few. present i few; disturbance = λ i. either (i == 0) 0 }
+
+pub class_running : (class : Class) (k : ℕ) → IsRunning (effects_of class k) (runs_of class k)
+unfolding effects_of no_effects runs_of all_run
+class_running (Skip index) k = record { ran = λ i few. refl; disturbance = λ i. either (i == 0) 0 }
+class_running (Disturb index mask) k = record { ran = λ i few. present i few; disturbance = λ i. refl }
+class_running Halt k = record { ran = λ i few. refl; disturbance = λ i. either (i == 0) 0 }
+class_running (Lapse after every) k = record {
+  ran = λ i few. with-all (is_left_out after every k) (not (i == 255)) (present i few);
+  disturbance = λ i. either (i == 0) 0;
+}
+class_running _ k = record { ran = λ i few. present i few; disturbance = λ i. either (i == 0) 0 }

@@ -1,12 +1,14 @@
 -- Outside the headline. Which modules of level 2 run under a fault. At each tick all of them run, or none
 -- does, or all but one; and where one is left out, it is the same one at each tick from the onset on.
-use Rattle.std.specs.Prelude.{ℕ, ◌≡◌, ◌≤◌, ◌<◌, ◌==◌, ◌⊎◌, Bool, true, false, Option, Some, None}
+use Rattle.std.specs.Prelude.{ℕ, ◌≡◌, ◌≤◌, ◌<◌, ◌==◌, ◌⊎◌, Bool, true, false, not, ◌&&◌, if◌then◌else◌, Option, Some, None}
 use Rattle.eg_answer.specs.Modules.{AllRun, NoneRuns, OthersRun}
+use Rattle.eg_answer.specs.declared.modules.TheConstants.{MODULES}
 use Rattle.eg_fault.specs.Effects.{Effects}
 use Rattle.eg_fault.specs.Faults.{is_left_out, effects}
 use Rattle.eg_fault.specs.declared.class.Class.{Class}
 use Rattle.eg_fault.specs.declared.class.Class.TheVariants.{Skip, Disturb, Flip, Halt, Lapse}
 use Rattle.eg_fault.specs.declared.class.Fault.{Fault}
+use Rattle.eg_fault.specs.declared.runs.ModuleRuns.{ModuleRuns}
 
 -- one module is left out from the onset on
 pub record LeavesOut (fault : Fault) (one : ℕ) : Type 0 where
@@ -39,8 +41,8 @@ may_change_levels Halt = true
 may_change_levels (Lapse after every) = true
 may_change_levels _ = false
 
--- whether a class makes level 1 and level 2 run otherwise than without a fault, k ticks after the onset: a flip
--- does at the onset alone, and a lapse where it leaves level 2 out
+-- whether a class makes level 1 and level 2 run otherwise than without a fault, k ticks after the onset: a
+-- flip does at the onset alone, and a lapse where it leaves level 2 out
 unfoldable pub changes_levels : Class → ℕ → Bool
 changes_levels (Skip index) k = true
 changes_levels (Disturb index mask) k = true
@@ -48,3 +50,23 @@ changes_levels (Flip word mask) k = k == 0
 changes_levels Halt k = true
 changes_levels (Lapse after every) k = is_left_out after every k
 changes_levels _ k = false
+
+-- ---- as it is worked out for a tick ----
+
+-- all modules run, and none is disturbed
+unfoldable pub all_run : ModuleRuns
+all_run = record { none = false; left_out = 255; disturbed = 0; mask = 0 }
+
+-- how the modules run under a class, k ticks after the onset
+unfoldable pub runs_of : Class → ℕ → ModuleRuns
+runs_of (Skip index) k = record all_run { left_out = index }
+runs_of (Disturb index mask) k = record all_run { disturbed = index; mask = mask }
+runs_of Halt k = record all_run { none = true }
+runs_of (Lapse after every) k = record all_run { none = is_left_out after every k }
+runs_of _ k = all_run
+
+-- a record of how the modules run says what is out of order at a tick: which of the eight run, and what each
+-- mixes in
+pub record IsRunning (x : Effects) (r : ModuleRuns) : Type 0 where
+  pub ran : (i : ℕ) → i < MODULES → (not r.none && not (i == r.left_out)) ≡ x.ran i
+  pub disturbance : (i : ℕ) → (if i == r.disturbed then r.mask else 0) ≡ x.disturbance i

@@ -3,9 +3,9 @@ ghost use Rattle.std.specs.Prelude.{◌≡◌, ◌<◌, false, option_map};
 ghost use Rattle.std.specs.Option.{option_map_or};
 ghost use Rattle.eg_fault.specs.Faults;
 ghost use Rattle.eg_fault.specs.Faults.{effects_of};
-ghost use Rattle.eg_fault.specs.Running.{changes_levels};
+ghost use Rattle.eg_fault.specs.Running.{changes_levels, runs_of};
 
-use crate::{Class, Opens, PATH_1, PATH_2, Script};
+use crate::{Class, ModuleRuns, Opens, PATH_1, PATH_2, Script};
 
 impl Class {
     /// What a track reads, where a sound one reads `sound`.
@@ -66,31 +66,27 @@ impl Class {
         }
     }
 
-    /// Whether a module of level 2 runs.
-    #[tactic(auto, unfolding(crate::specs::Effects::no_effects, crate::specs::Faults::effects_of))]
-    pub(crate) fn module_runs(&self, after: u32, index: u8) -> bool
-        ensures { result ≡ (effects_of self.now after).ran index }
+    /// How the modules of level 2 run.
+    #[inline(always)]
+    #[tactic(auto, unfolding(crate::specs::Running::runs_of, crate::specs::Running::all_run))]
+    pub(crate) fn runs(&self, after: u32) -> ModuleRuns
+        ensures { result ≡ runs_of self.now after }
     {
+        let mut runs = ModuleRuns::all();
         match self {
-            Class::Skip { module } => index != *module,
-            Class::Halt => false,
+            Class::Skip { module } => runs.left_out = *module,
+            Class::Disturb { module, mask } => {
+                runs.disturbed = *module;
+                runs.mask = *mask;
+            }
+            Class::Halt => runs.none = true,
             Class::Lapse {
                 after: ticks,
                 every,
-            } => !is_left_out(ticks, *every, after),
-            _ => true,
+            } => runs.none = is_left_out(ticks, *every, after),
+            _ => {}
         }
-    }
-
-    /// What is mixed into the signal of a module of level 2 and into its result of the test row.
-    #[tactic(auto, unfolding(crate::specs::Effects::no_effects, crate::specs::Faults::effects_of))]
-    pub(crate) fn disturbance(&self, after: u32, index: u8) -> u16
-        ensures { result ≡ (effects_of self.now after).disturbance index }
-    {
-        match self {
-            Class::Disturb { module, mask } if index == *module => *mask,
-            _ => 0,
-        }
+        runs
     }
 
     /// The word of level 2 that is flipped, and its bits.

@@ -5,9 +5,9 @@ ghost use Rattle.eg_answer.specs.Periods.{place_of};
 ghost use Rattle.eg_fault.specs.Effects;
 ghost use Rattle.eg_fault.specs.Effects.{no_effects, readings_under, contacts_under, sends_at};
 ghost use Rattle.eg_fault.specs.Faults.{effects, effects_of};
-ghost use Rattle.eg_fault.specs.Running.{RunAlike};
+ghost use Rattle.eg_fault.specs.Running.{RunAlike, IsRunning};
 
-use crate::{Class, Fault};
+use crate::{Class, Fault, ModuleRuns};
 use eg_answer::Times;
 use eg_sensor::{
     BRAKE_1, BRAKE_2, LOAD_1, LOAD_2, PEDAL_1, PEDAL_2, PLATE_1, PLATE_2, Readings, SPEED_1,
@@ -75,27 +75,15 @@ pub fn level1_runs(fault: Option<&Fault>, tick: u32) -> bool
     class.level1_runs(after)
 }
 
-/// Whether a module of level 2 (0 to 7) runs at a tick (docs/CONCEPT.md, "Faults").
-#[tactic(auto, unfolding(crate::specs::Effects::no_effects))]
-pub fn module_runs(fault: Option<&Fault>, tick: u32, module: u8) -> bool
-    ensures { result ≡ (effects (option_copied fault.entry) tick).ran «module» }
+/// How the modules of level 2 run at a tick (docs/CONCEPT.md, "Faults").
+#[inline(always)]
+pub fn module_runs(fault: Option<&Fault>, tick: u32) -> ModuleRuns
+    ensures { IsRunning (effects (option_copied fault.entry) tick) result }
 {
     let Some((class, after)) = acting(fault, tick) else {
-        return true;
+        return ModuleRuns::all();
     };
-    class.module_runs(after, module)
-}
-
-/// The bits that are mixed into the signal of a module of level 2 (0 to 7), and into its result of the test
-/// row, at a tick (docs/CONCEPT.md, "Faults").
-#[tactic(auto, unfolding(crate::specs::Effects::no_effects))]
-pub fn disturbance(fault: Option<&Fault>, tick: u32, module: u8) -> u16
-    ensures { result ≡ (effects (option_copied fault.entry) tick).disturbance «module» }
-{
-    let Some((class, after)) = acting(fault, tick) else {
-        return 0;
-    };
-    class.disturbance(after, module)
+    class.runs(after)
 }
 
 /// The word of level 2 (0 to 31) that is flipped at a tick, and its bits, if one is (docs/CONCEPT.md,

@@ -7,13 +7,15 @@ mod class_effects;
 mod effects;
 mod laws;
 mod paths;
+mod runs;
 mod script;
 
 pub use class::{Class, Fault};
 pub use effects::{
-    conducts, disturbance, fault_of_levels, faulty_contacts, faulty_readings, flip, held,
-    level1_runs, module_runs, sends, wild,
+    conducts, fault_of_levels, faulty_contacts, faulty_readings, flip, held, level1_runs,
+    module_runs, sends, wild,
 };
 pub use laws::{faults_leave_the_rest, modules_run_together, plates_are_held_within};
 pub use paths::{PATH_1, PATH_2};
+pub use runs::ModuleRuns;
 pub use script::{Opens, Script};

@@ -205,8 +205,8 @@ impl<E: Engine + Drop, M: Guarded + Drop> Controller<E, M> {
         self.advance_in::<true>(drive, slices)
     }
 
-    /// `advance` in one of its two forms: compiled with what is asked of a fault, or without. Memory counts as
-    /// lost until it is done.
+    /// `advance` in one of its two forms: compiled with what is asked of a fault, or without. Memory counts
+    /// as lost until it is done.
     #[inline(always)]
     fn advance_in<const FAULTY: bool>(
         &mut self,

@@ -8,6 +8,7 @@ ghost use Rattle.eg_word.specs.declared.instruction.Instruction.{Instruction};
 ghost use Rattle.eg_word.specs.declared.registers.Registers.{Registers};
 ghost use Rattle.eg_word.specs.Program.{IsProgramOf};
 ghost use Rattle.eg_fault.specs.Faults.{effects};
+ghost use Rattle.eg_fault.specs.Running.{IsRunning};
 ghost use Rattle.eg_level2.specs.Words.{words_of, AreMirrored, AreWithin};
 ghost use Rattle.eg_level2.specs.Inputs.{IsPrepared, asked_of};
 ghost use Rattle.eg_level2.specs.Modules.{quiet_step};
@@ -18,7 +19,7 @@ ghost use Rattle.eg_tick.specs.Midway.{Work, IsMidway, IsReady, IsTurn, RunLevel
 use crate::board::flip;
 use crate::working::{Level1, Task};
 use eg_base::NoMemory;
-use eg_fault::{Fault, disturbance, fault_of_levels, level1_runs, module_runs};
+use eg_fault::{Fault, ModuleRuns, fault_of_levels, level1_runs, module_runs};
 use eg_guard::Guarded;
 use eg_level2::{Level2, Step, Watches};
 
@@ -43,11 +44,13 @@ fn slice<M: Guarded>(level1: &mut Level1, memory: &mut M, budget: u16) -> Result
 fn module<M: Guarded>(
     level2: &Level2,
     fault: Option<&Fault>,
+    runs: &ModuleRuns,
     task: &Task,
     number: u8,
     memory: &mut M,
 ) -> Result<Step, NoMemory>
     requires number { number < MODULES }
+    requires runs { IsRunning (effects (option_copied fault) task.now.tick) runs.now }
     requires prepared { IsPrepared level2.now (asked_of (M.shows memory.old).words) task.now.prepared }
     requires mirrored { AreMirrored (M.shows memory.old).words }
     requires within { AreWithin level2.now.rules (words_of (M.shows memory.old).words) }
@@ -65,10 +68,10 @@ fn module<M: Guarded>(
         (IsPrepared level2.now (asked_of (M.shows memory.new).words) task.now.prepared) }
     ensures keeps { KeepsMemory (M.shows memory.old) (M.shows memory.new) result }
 {
-    if !module_runs(fault, task.tick, number) {
+    if !runs.runs(number) {
         return Ok(Step::quiet());
     }
-    let disturbance = disturbance(fault, task.tick, number);
+    let disturbance = runs.disturbance(number);
     level2.module_with_lookup(
         number,
         memory,
@@ -84,10 +87,12 @@ fn module<M: Guarded>(
 fn first_module<M: Guarded>(
     level2: &Level2,
     fault: Option<&Fault>,
+    runs: &ModuleRuns,
     task: &Task,
     memory: &mut M,
 ) -> Result<Step, NoMemory>
     requires fault { IsNoneOrValid (option_copied fault) }
+    requires runs { IsRunning (effects (option_copied fault) task.now.tick) runs.now }
     requires prepared { IsPrepared level2.now (asked_of (M.shows memory.old).words) task.now.prepared }
     requires mirrored { AreMirrored (M.shows memory.old).words }
     requires within { AreWithin level2.now.rules (words_of (M.shows memory.old).words) }
@@ -106,7 +111,7 @@ fn first_module<M: Guarded>(
     ensures keeps { KeepsMemory (M.shows memory.old) (M.shows memory.new) result }
 {
     let Some((word, mask)) = eg_fault::flip(fault, task.tick) else {
-        return module(level2, fault, task, 0, memory);
+        return module(level2, fault, runs, task, 0, memory);
     };
     flip(memory, word, mask)?;
     // No fault that flips a word leaves module 0 out, or disturbs it.
@@ -119,6 +124,7 @@ fn first_module<M: Guarded>(
 fn turn<M: Guarded>(
     level2: &Level2,
     fault: Option<&Fault>,
+    runs: &ModuleRuns,
     task: &Task,
     number: u8,
     level1: &mut Level1,
@@ -126,6 +132,7 @@ fn turn<M: Guarded>(
 ) -> Result<Step, NoMemory>
     requires number { number < MODULES }
     requires fault { IsNoneOrValid (option_copied fault) }
+    requires runs { IsRunning (effects (option_copied fault) task.now.tick) runs.now }
     requires level1 { (effects (option_copied fault) task.now.tick).level1 ≡ true }
     requires prepared { IsPrepared level2.now (asked_of (M.shows memory.old).words) task.now.prepared }
     requires ready { IsReady level2.now.rules level1.old.program (M.shows memory.old).words }
@@ -135,9 +142,9 @@ fn turn<M: Guarded>(
     let budget = task.slices.budget_of(number);
     slice(level1, memory, budget)?;
     if number == 0 {
-        return first_module(level2, fault, task, memory);
+        return first_module(level2, fault, runs, task, memory);
     }
-    module(level2, fault, task, number, memory)
+    module(level2, fault, runs, task, number, memory)
 }
 
 /// The nine slices of level 1 and the eight modules of level 2 of a tick, in turn: after each slice but the
@@ -218,22 +225,23 @@ fn run_turns<M: Guarded + Drop, const FAULTY: bool>(
         level1.old level1.new (M.shows memory.old) (M.shows memory.new) result }
 {
     let fault = acting::<FAULTY>(fault);
+    let runs = module_runs(fault, task.tick);
     let whole = Step::quiet();
-    let step = turn(level2, fault, task, 0, level1, memory)?;
+    let step = turn(level2, fault, &runs, task, 0, level1, memory)?;
     let whole = joined(&whole, &step);
-    let step = turn(level2, fault, task, 1, level1, memory)?;
+    let step = turn(level2, fault, &runs, task, 1, level1, memory)?;
     let whole = joined(&whole, &step);
-    let step = turn(level2, fault, task, 2, level1, memory)?;
+    let step = turn(level2, fault, &runs, task, 2, level1, memory)?;
     let whole = joined(&whole, &step);
-    let step = turn(level2, fault, task, 3, level1, memory)?;
+    let step = turn(level2, fault, &runs, task, 3, level1, memory)?;
     let whole = joined(&whole, &step);
-    let step = turn(level2, fault, task, 4, level1, memory)?;
+    let step = turn(level2, fault, &runs, task, 4, level1, memory)?;
     let whole = joined(&whole, &step);
-    let step = turn(level2, fault, task, 5, level1, memory)?;
+    let step = turn(level2, fault, &runs, task, 5, level1, memory)?;
     let whole = joined(&whole, &step);
-    let step = turn(level2, fault, task, 6, level1, memory)?;
+    let step = turn(level2, fault, &runs, task, 6, level1, memory)?;
     let whole = joined(&whole, &step);
-    let step = turn(level2, fault, task, 7, level1, memory)?;
+    let step = turn(level2, fault, &runs, task, 7, level1, memory)?;
     let whole = joined(&whole, &step);
     let last = task.slices.budget_of(8);
     slice(level1, memory, last)?;
