@@ -13,6 +13,7 @@ use std::alloc::Global;
 
 /// Does `soak SEED RUNS`, but for its note: plays `runs` runs (1 to 500) that are drawn from the seed, and
 /// writes the summary of them (docs/FORMATS.md, "The summary of `soak`"). Ticks are counted in `steps`.
+#[inline(never)]
 pub(crate) fn play_drawn<K: Sink>(
     alloc: Global,
     seed: u32,

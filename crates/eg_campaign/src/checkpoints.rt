@@ -52,6 +52,7 @@ pub(crate) struct Shared<E: BenchedEngine + CopyEngine> {
 /// Plays the run of an input without its fault, and keeps it at each hundredth tick that is wanted: up to its
 /// onset a run under a fault is the run without one (docs/CONCEPT.md, "Faults"). The ticks are counted in
 /// `steps`. NoMemory is its one refusal. Where the run is `WEIGHED`, it tells how near it came to a cut.
+#[inline(never)]
 pub(crate) fn share<E: BenchedEngine + CopyEngine, const WEIGHED: bool>(
     alloc: Global,
     calibration: &Calibration,
@@ -226,6 +227,7 @@ fn play_tick<E: BenchedEngine + CopyEngine, M: Guarded + Drop, const WEIGHED: bo
 /// that isn't after the onset. Where there is no fault, or one that begins after the run, nothing is played,
 /// and what is told is what the run without a fault tells. The ticks are counted in `steps`. It takes no
 /// memory and refuses nothing.
+#[inline(never)]
 pub(crate) fn play_from<E: BenchedEngine + CopyEngine, const WEIGHED: bool>(
     shared: &Shared<E>,
     input: &RunInput,

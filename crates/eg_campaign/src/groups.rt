@@ -23,6 +23,7 @@ use std::alloc::Global;
 /// Plays the runs of a campaign as `run_all` does, and tells of each its facts, the reactions in its spans,
 /// its trap, and where they are `WEIGHED` how near it came to a cut (docs/CONCEPT.md, "The report of a run",
 /// "`table`" and "`margins`"). The ticks that are made are counted in `steps`. NoMemory is its one refusal.
+#[inline(never)]
 pub fn told_all<const WEIGHED: bool>(
     alloc: Global,
     calibration: &Calibration,
@@ -63,6 +64,7 @@ fn untold(alloc: Global, calibration: &Calibration, count: usize) -> Result<Vec<
 
 /// Plays the group of the run at this index, which leads it, or that run alone where the group has no other.
 /// What each run of the group tells is written at its index.
+#[inline(never)]
 fn play_first<const WEIGHED: bool>(
     alloc: Global,
     calibration: &Calibration,

@@ -32,6 +32,7 @@ pub enum RecordStop {
 /// (docs/FORMATS.md, "The record"; docs/CONCEPT.md, "The record of a run"). One buffer holds each line in
 /// turn, and its room is taken before the header is put: a row takes no memory of its own. No clause says
 /// that each line is one put: a test shows it. The ticks are counted in `steps`.
+#[inline(never)]
 pub fn record_into<K: Sink>(
     alloc: Global,
     calibration: &Calibration,

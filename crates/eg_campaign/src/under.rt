@@ -23,6 +23,7 @@ use std::alloc::Global;
 /// facts of each (docs/CONCEPT.md, "`sweep`"). It tells what `facts_all` tells of these runs, which are a
 /// group, and makes the same ticks, but is handed one input in place of a copy for each fault. The ticks are
 /// counted in `steps`. NoMemory is its one refusal.
+#[inline(never)]
 pub fn facts_under(
     alloc: Global,
     calibration: &Calibration,

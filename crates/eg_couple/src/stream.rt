@@ -37,6 +37,7 @@ const MOST_ANSWERS: u32 = 20_000;
 /// Does `couple [--cal NAME] CAMPAIGN RUN`, but for its note (docs/FORMATS.md, "Commands"): reads the
 /// campaign and the image of the run of that name, and then answers of a partner, of each of which it
 /// makes a tick and writes its row before it reads the next. Ticks are counted in `steps`.
+#[inline(never)]
 pub fn couple_stream<S: Store, L: Lines, K: Sink>(
     alloc: Global,
     calibration: Option<&str>,
@@ -102,6 +103,7 @@ fn couple_by<S: Store, L: Lines, K: Sink>(
 
 /// Couples a run: the header, the line before the first tick, and for each answer its row, put before the
 /// next answer is read.
+#[inline(never)]
 fn couple<L: Lines, K: Sink>(
     alloc: Global,
     calibration: &Calibration,

@@ -23,6 +23,7 @@ use eg_tick::{Commands, Controller, Ticks};
 use eg_values::Calibration;
 
 /// The controller of a run, around an engine elsewhere, before the first answer.
+#[inline(never)]
 pub(crate) fn coupled_controller(
     calibration: &Calibration,
     input: &RunInput,

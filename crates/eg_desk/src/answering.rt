@@ -17,6 +17,7 @@ use std::alloc::{AllocError, Global};
 
 /// Does `answers FILE`, but for its note (docs/FORMATS.md, "Commands"): reads a calibration file, whatever
 /// its answers, and writes the right answer to each question, a line for each.
+#[inline(never)]
 pub fn answers<S: Store, K: Sink>(alloc: Global, file: &str, store: &mut S, out: &mut K) -> Outcome
     ensures ends { AnswersEnd file.now (change_of S.shows store.old store.new)
         (change_of K.shows out.old out.new) result }

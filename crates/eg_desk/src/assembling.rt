@@ -16,6 +16,7 @@ use std::alloc::Global;
 
 /// Does the work of `asm FILE` (docs/FORMATS.md, "Commands"): reads a source, and writes its image, a line
 /// for each word. The note of a refusal is left to the caller.
+#[inline(never)]
 pub fn asm<S: Store, K: Sink>(alloc: Global, file: &str, store: &mut S, out: &mut K) -> Outcome
     ensures ends { AsmEnds file.now (change_of S.shows store.old store.new)
         (change_of K.shows out.old out.new) result }

@@ -19,6 +19,7 @@ use std::alloc::{AllocError, Global};
 
 /// Does `check [--cal NAME] FILE`, but for its note (docs/FORMATS.md, "Commands"). The calibration is read
 /// before the file.
+#[inline(never)]
 pub fn check<S: Store, K: Sink>(
     alloc: Global,
     calibration: Option<&str>,

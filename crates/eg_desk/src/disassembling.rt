@@ -15,6 +15,7 @@ use std::alloc::Global;
 
 /// Does the work of `dis FILE` (docs/FORMATS.md, "Commands"): reads an image, and writes its source, a line
 /// for each word. The note of a refusal is left to the caller.
+#[inline(never)]
 pub fn dis<S: Store, K: Sink>(alloc: Global, file: &str, store: &mut S, out: &mut K) -> Outcome
     ensures ends { DisEnds file.now (change_of S.shows store.old store.new)
         (change_of K.shows out.old out.new) result }

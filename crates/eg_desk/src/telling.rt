@@ -15,6 +15,7 @@ use std::alloc::{AllocError, Global};
 
 /// Does `bound [--cal NAME]`, but for its note (docs/FORMATS.md, "Commands"): writes the worst-case reaction
 /// and the bound for lapses.
+#[inline(never)]
 pub fn bound<S: Store, K: Sink>(
     alloc: Global,
     calibration: Option<&str>,
@@ -36,6 +37,7 @@ pub fn bound<S: Store, K: Sink>(
 
 /// Does `limits [--cal NAME]`, but for its note (docs/FORMATS.md, "Commands"): writes all that a calibration
 /// comes to.
+#[inline(never)]
 pub fn limits<S: Store, K: Sink>(
     alloc: Global,
     calibration: Option<&str>,

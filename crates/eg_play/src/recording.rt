@@ -21,6 +21,7 @@ use std::alloc::Global;
 /// Does `record [--cal NAME] CAMPAIGN RUN`, but for its note (docs/FORMATS.md, "Commands"): reads the
 /// campaign and the files of the run of that name, plays it, and writes its record. Ticks are counted in
 /// `steps`.
+#[inline(never)]
 pub fn record<S: Store, K: Sink>(
     alloc: Global,
     calibration: Option<&str>,

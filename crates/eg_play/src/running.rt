@@ -24,6 +24,7 @@ use std::alloc::Global;
 /// Does `run [--cal NAME] CAMPAIGN`, or `table` or `margins` likewise, but for its note (docs/FORMATS.md,
 /// "Commands"): reads the campaign and the files of all its runs, plays the runs, and writes the report or
 /// the rows on them. Ticks are counted in `steps`.
+#[inline(never)]
 pub fn run<S: Store, K: Sink>(
     alloc: Global,
     telling: Telling,

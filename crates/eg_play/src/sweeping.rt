@@ -22,6 +22,7 @@ use std::alloc::Global;
 /// campaign and the files of the run of that name, plays it, without its resets, under a fault of each class
 /// at each `step`th tick (1 to 20,000), and writes the table of these runs. A grid that is too large is
 /// refused. Ticks are counted in `steps`.
+#[inline(never)]
 pub fn sweep<S: Store, K: Sink>(
     alloc: Global,
     calibration: Option<&str>,

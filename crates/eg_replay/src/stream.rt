@@ -27,6 +27,7 @@ const MOST_TICKS: u32 = u32::MAX - 1;
 
 /// Does `signals [--cal NAME]`, but for its note (docs/FORMATS.md, "Commands"): reads lines to their end, and
 /// writes the row of each before it reads the next.
+#[inline(never)]
 pub fn signals_stream<S: Store, L: Lines, K: Sink>(
     alloc: Global,
     calibration: Option<&str>,
@@ -51,6 +52,7 @@ pub fn signals_stream<S: Store, L: Lines, K: Sink>(
 
 /// Does `replay [--cal NAME]`, but for its note (docs/FORMATS.md, "Commands"): reads lines to their end, and
 /// then writes what level 2 finds on them.
+#[inline(never)]
 pub fn replay_stream<S: Store, L: Lines, K: Sink>(
     alloc: Global,
     calibration: Option<&str>,

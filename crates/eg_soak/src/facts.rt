@@ -51,6 +51,7 @@ impl DrawnFacts {
 
 /// Plays a run that was drawn, by the reference calibration, and tells what counts of it (docs/CONCEPT.md,
 /// "`soak`"). No row of it is kept. Its ticks are counted in `steps`.
+#[inline(never)]
 pub(crate) fn play(calibration: &Calibration, drawn: &DrawnRun, steps: &mut Ticks) -> DrawnFacts
     requires calibration { calibration.now ≡ reference_parts }
     requires drawn { IsDrawn drawn.now }

@@ -37,6 +37,7 @@ pub fn soak(alloc: Global, seed: u32, runs: u32, steps: &mut Ticks) -> Result<So
 }
 
 /// Plays the runs, and tells of each what counts.
+#[inline(never)]
 fn play_all(
     alloc: Global,
     seed: u32,

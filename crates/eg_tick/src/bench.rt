@@ -20,6 +20,7 @@ use eg_values::Calibration;
 /// The controller with which a run on the bench begins (docs/CONCEPT.md, "A run, tick by tick"): that of an
 /// engine of the calibration's plant at rest, which has made no tick, over a memory that never runs out. It
 /// refuses nothing.
+#[inline(never)]
 pub fn bench_controller<E: BenchedEngine>(
     calibration: &Calibration,
     image: &[u16],

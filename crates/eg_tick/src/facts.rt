@@ -1,19 +1,21 @@
 // The facts of a run on the bench.
-ghost use Rattle.std.specs.Prelude.{◌≡◌, ◌+◌, ◌%◌, ◌^◌, ◌≤◌, None, map, length};
+ghost use Rattle.std.specs.Prelude.{◌≡◌, ◌+◌, ◌%◌, ◌^◌, ◌≤◌, None, IsTrue, map, length};
 ghost use Rattle.std.specs.Option.{option_copied};
 ghost use Rattle.std.specs.List.{sum};
 ghost use Rattle.eg_guard.specs.declared.regions.TheConstants.{DATA as CODE_END};
 ghost use Rattle.eg_answer.specs.Times.{reaction_of};
 ghost use Rattle.eg_fault.specs.Faults.{IsListed, IsNoneOrValid};
 ghost use Rattle.eg_model.specs.Engines.{gasoline};
+ghost use Rattle.eg_model.specs.Bench.{Run};
 ghost use Rattle.eg_model.specs.Rows.{record_rows, record_trap};
 ghost use Rattle.eg_record.specs.Facts.{facts_of};
 ghost use Rattle.eg_tick.specs.Weights.{weight_of};
-ghost use Rattle.eg_tick.specs.Run.{run_by};
+ghost use Rattle.eg_tick.specs.Run.{run_by, IsAt};
 ghost use Rattle.eg_tick.specs.Facts.{IsToldOf, IsWithoutReset, FactsReactWithin, FactsReactAtOnce, GoOffOnce};
 
 use crate::bench::{bench_controller, bench_row};
-use crate::{BenchedEngine, SlicePlan, Ticks, weigh};
+use crate::{BenchedEngine, Controller, SlicePlan, Ticks, weigh};
+use eg_answer::Rules;
 use eg_fault::Fault;
 use eg_guard::FlatMemory;
 use eg_num::Drive;
@@ -73,6 +75,7 @@ pub fn run_facts(
 /// it came to a cut (docs/CONCEPT.md, "The report of a run", "`table`" and "`margins`"), keeps no row, takes
 /// no memory and refuses nothing. That the facts show a reaction in time is a clause of `run_facts` alone. Of
 /// either engine `eg_model::spans_react_in_time` says it by the reactions, and the headline by the rows.
+#[inline(never)]
 pub fn bench_facts<E: BenchedEngine, const WEIGHED: bool>(
     calibration: &Calibration,
     image: &[u16],
@@ -92,12 +95,44 @@ pub fn bench_facts<E: BenchedEngine, const WEIGHED: bool>(
           (run_by calibration.now image.now (option_copied fault.entry) plan.now drive.now)))) % 2 ^ 64;
     } }
 {
+    let rules = calibration.rules();
+    facts_by::<E, WEIGHED>(
+        bench_controller::<E>(calibration, image, fault),
+        rules,
+        plan,
+        drive,
+        steps,
+    )
+}
+
+/// Runs a drive by a controller that has made no tick, and tells of the run. It isn't inlined, and takes the
+/// controller by value: while one is made, the stack has room for one alone.
+#[inline(never)]
+fn facts_by<E: BenchedEngine, const WEIGHED: bool>(
+    begun: Controller<E, FlatMemory>,
+    rules: &Rules,
+    plan: &SlicePlan,
+    drive: &[Drive],
+    steps: &mut Ticks,
+) -> RunFacts
+    requires most { length drive.now ≤ 20000 }
+    requires none { begun.kept.ticks ≡ 0 }
+    requires sure { IsTrue begun.kept.memory.sure }
+    requires run { (r : Run) × (r.plan ≡ plan.now) × (r.drive ≡ drive.now)
+        × IsAt E.bench E.come_to r 0 begun }
+    ensures told { (r : Run) → r.plan ≡ plan.now → r.drive ≡ drive.now → r.setting.cal.rules ≡ rules.now →
+        IsAt E.bench E.come_to r 0 begun → IsToldOf WEIGHED E.bench r result }
+    ensures counted { (r : Run) → r.plan ≡ plan.now → r.drive ≡ drive.now →
+        IsAt E.bench E.come_to r 0 begun → steps.new ≡ record {
+          count = (steps.old.count + length drive.now) % 2 ^ 64;
+          weights = (steps.old.weights + sum (map weight_of (record_rows E.bench r))) % 2 ^ 64;
+        } }
+{
     // Called for its clause alone: both numbers are a u64.
     let _numbers = (steps.count(), steps.sum());
-    let rules = calibration.rules();
     let mut tally = Tally::new(rules.threshold, rules.torque);
     let mut margins = MarginTally::new();
-    let mut controller = bench_controller::<E>(calibration, image, fault);
+    let mut controller = begun;
     for tick in 0..drive.len() {
         let row = bench_row(&mut controller, plan, &drive[tick], tick as u32, steps);
         tally.feed(&row);

@@ -1,87 +1,20 @@
-use Rattle.std.proofs.Common.{◌≡◌, ◌∙◌, sym, ap, subst, refl, ◌+◌, ◌<◌, length, not, arith}
-use Rattle.std.specs.Prelude.{◌==◌}
+use Rattle.std.proofs.Common.{sym, refl}
 use Rattle.std.specs.Option.{option_copied}
-use Rattle.eg_answer.specs.declared.rules.Rules.{Rules}
-use Rattle.eg_record.specs.declared.row.Row.{Row}
-use Rattle.eg_record.specs.Tallies.{IsTallyOf}
-use Rattle.eg_record.specs.Margins.{IsMarginTallyOf}
-use Rattle.eg_model.specs.Bench.{Run, drive_at}
-use Rattle.eg_model.specs.Records.{row_at, rows_to}
-use Rattle.eg_model.proofs.RecordTicks.{no_rows, row_tick, record_rows-is}
-use Rattle.eg_tick.specs.Run.{run_by, IsAt}
-use Rattle.eg_tick.specs.Margins.{weighed_to}
-use Rattle.eg_tick.proofs.RunLemmas.{counted, counted-none, drive-at}
-use Rattle.eg_tick.proofs.FactLaws.{told, told_to, tallied, counted-next, rows-next}
-use Rattle.eg_tick.proofs.WeighLemmas.{none_weighed}
+use Rattle.eg_model.specs.Bench.{Run}
+use Rattle.eg_tick.specs.Run.{run_by}
 use Rattle.eg_tick.proofs.facts.bench_facts.Goals as goal
 
-pub loop-tick-init : goal.loop-tick-init
-loop-tick-init g c =
-    let bench = g.E.BenchedEngine.bench in
+pub facts_by-requires-clause-run : goal.facts_by-requires-clause-run
+facts_by-requires-clause-run g c =
     let r : Run = run_by c.args.calibration.now c.args.image.now (option_copied c.args.fault) c.args.plan.now c.args.drive.now in
-    record {
-      ticks = c.bench_controller-controller.ensures.ticks;
-      sure = c.bench_controller-controller.ensures.sure;
-      at = c.bench_controller-controller.ensures.at c.args.plan.now c.args.drive.now;
-      fed = c.new-tally.ensures.ticks;
-      threshold = c.new-tally.ensures.threshold ∙ ap (λ (rules : Rules). rules.threshold) c.rules-rules.ensures.rules;
-      weights = c.new-tally.ensures.weights ∙ ap (λ (rules : Rules). rules.torque) c.rules-rules.ensures.rules;
-      stands = subst (IsTallyOf c.new-tally.result) (sym (no_rows bench r)) c.new-tally.ensures.stands;
-      weighs = subst (IsMarginTallyOf c.new-margins.result) (sym (none_weighed (not (g.row.WEIGHED == 0)) bench r)) c.new-margins.ensures;
-      counts = counted-none c.args.steps.now (rows_to bench r 0) (no_rows bench r)
-          (let e = c.count.ensures in let l = c.count.type_inv in subst (λ n. n < 18446744073709551616) e l)
-          (let e = c.sum.ensures in let l = c.sum.type_inv in subst (λ n. n < 18446744073709551616) e l);
-    }
-
-pub feed-requires-clause-tick : goal.feed-requires-clause-tick
-feed-requires-clause-tick g c =
-    let bench = g.E.BenchedEngine.bench in
-    let r : Run = run_by c.args.calibration.now c.args.image.now (option_copied c.args.fault) c.args.plan.now c.args.drive.now in
-    let row = c.bench_row-row.ensures.row r refl (drive-at r c.args.drive.now c.loop-tick.tick _ refl c.loop-tick-test.true c.index-drive-tick.is)
-    c.loop-tick.invariant.at in
-    ap (λ (row : Row). row.tick) row ∙ row_tick bench r c.loop-tick.tick ∙ sym c.loop-tick.invariant.fed
-
-pub feed-requires-clause-fewer : goal.feed-requires-clause-fewer
-feed-requires-clause-fewer g c = omega (arith, c.loop-tick.invariant.fed, c.loop-tick-test.true, c.requires.most)
-
-pub loop-tick-preserved : goal.loop-tick-preserved
-loop-tick-preserved g c =
-    let bench = g.E.BenchedEngine.bench in
-    let r : Run = run_by c.args.calibration.now c.args.image.now (option_copied c.args.fault) c.args.plan.now c.args.drive.now in
-    let drive : drive_at r c.loop-tick.tick ≡ c.index-drive-tick.result =
-    drive-at r c.args.drive.now c.loop-tick.tick _ refl c.loop-tick-test.true c.index-drive-tick.is in
-    let row : c.bench_row-row.result ≡ row_at bench r c.loop-tick.tick = c.bench_row-row.ensures.row r refl drive c.loop-tick.invariant.at in
-    let more = rows-next bench r c.loop-tick.tick c.bench_row-row.result row in
-    record {
-      ticks = c.bench_row-row.ensures.ticks;
-      sure = c.bench_row-row.ensures.stays_sure;
-      at = c.bench_row-row.ensures.at r refl drive c.loop-tick.invariant.at;
-      fed = c.feed.ensures.ticks ∙ ap (λ n. n + 1) c.loop-tick.invariant.fed;
-      threshold = c.feed.ensures.threshold ∙ c.loop-tick.invariant.threshold;
-      weights = c.feed.ensures.weights ∙ c.loop-tick.invariant.weights;
-      stands = subst (IsTallyOf c.feed.new.self) more (c.feed.ensures.stands (rows_to bench r c.loop-tick.tick) c.loop-tick.invariant.stands);
-      weighs = c.weigh.ensures r c.loop-tick.tick row (c.bench_row-row.ensures.at r refl drive c.loop-tick.invariant.at) c.loop-tick.invariant.weighs;
-      counts = counted-next c.args.steps.now c.loop-tick.steps c.bench_row-row.new.steps c.loop-tick.tick (rows_to bench r c.loop-tick.tick) c.bench_row-row.result
-          c.loop-tick.invariant.counts c.bench_row-row.ensures.count c.bench_row-row.ensures.weight
-          ∙ ap (counted c.args.steps.now (c.loop-tick.tick + 1)) more;
-    }
+    (r, refl, refl, c.bench_controller.ensures.at c.args.plan.now c.args.drive.now)
 
 pub returns-clause-told : goal.returns-clause-told
 returns-clause-told g c =
-    let bench = g.E.BenchedEngine.bench in
     let r : Run = run_by c.args.calibration.now c.args.image.now (option_copied c.args.fault) c.args.plan.now c.args.drive.now in
-    let end : c.loop-tick.tick ≡ length c.args.drive.now = omega (arith, c.loop-tick-test.false, c.loop-tick.auto.tick-end) in
-    told (not (g.row.WEIGHED == 0)) bench g.E.BenchedEngine.come_to r c.loop-tick.controller _ (subst (λ n. IsAt bench g.E.BenchedEngine.come_to r n c.loop-tick.controller) end c.loop-tick.invariant.at)
-    (tallied (not (g.row.WEIGHED == 0)) bench r c.loop-tick.tick c.loop-tick.tally _ _ c.loop-tick.invariant.weights c.loop-tick.invariant.threshold
-    (c.facts.ensures.facts (rows_to bench r c.loop-tick.tick) c.loop-tick.invariant.stands)
-    (c.reactions.ensures.reactions (rows_to bench r c.loop-tick.tick) c.loop-tick.invariant.stands)
-    (c.margins.ensures (weighed_to (not (g.row.WEIGHED == 0)) bench r c.loop-tick.tick) c.loop-tick.invariant.weighs) c.trap.ensures.trap
-    ∙ ap (λ n. told_to (not (g.row.WEIGHED == 0)) bench r n c.loop-tick.controller.kept.trap) end)
+    c.facts_by.ensures.told r refl refl (sym c.rules-rules.ensures.rules) (c.bench_controller.ensures.at c.args.plan.now c.args.drive.now)
 
 pub returns-clause-counted : goal.returns-clause-counted
 returns-clause-counted g c =
-    let bench = g.E.BenchedEngine.bench in
     let r : Run = run_by c.args.calibration.now c.args.image.now (option_copied c.args.fault) c.args.plan.now c.args.drive.now in
-    let end : c.loop-tick.tick ≡ length c.args.drive.now = omega (arith, c.loop-tick-test.false, c.loop-tick.auto.tick-end) in
-    c.loop-tick.invariant.counts ∙ ap (λ n. counted c.args.steps.now n (rows_to bench r n)) end
-    ∙ ap (counted c.args.steps.now (length c.args.drive.now)) (sym (record_rows-is bench r))
+    c.facts_by.ensures.counted r refl refl (c.bench_controller.ensures.at c.args.plan.now c.args.drive.now)
