@@ -66,6 +66,7 @@ fn permit(rules: &Rules, lookup: &Lookup, tripped: bool, pedal: u16, read: &Read
 }
 
 /// Stores the signal of a module, moves the token, and mixes the result of the question's row into the fold.
+#[inline(always)]
 pub(crate) fn write<M: Guarded>(
     memory: &mut M,
     number: u8,

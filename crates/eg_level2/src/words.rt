@@ -100,6 +100,7 @@ fn put<M: Guarded>(memory: &mut M, number: u16, value: u16) -> Result<(), NoMemo
 }
 
 /// Stores a word and its complement.
+#[inline(always)]
 pub(crate) fn keep<M: Guarded>(memory: &mut M, number: u16, value: u16) -> Result<(), NoMemory>
     requires { number < MIRRORED_WORDS }
     ensures { Makes (both number value) (M.shows memory.old) (M.shows memory.new) result }
