@@ -1,6 +1,6 @@
 // The controller: what it is made of, and how it begins.
 ghost use Rattle.std.specs.Prelude.{◌≡◌, ◌+◌, ◌%◌, ◌^◌, ◌≤◌, ◌<◌, true, false, length, replicate, List, [], ◌∷◌};
-ghost use Rattle.std.specs.Prelude.{IsTrue, IsFalse, None, IsOk, IsErr, IfOk, OnOk, OnErr};
+ghost use Rattle.std.specs.Prelude.{IsTrue, None, IsOk, IsErr, IfOk, OnOk, OnErr};
 ghost use Rattle.std.specs.Option.{option_or};
 ghost use Rattle.eg_guard.specs.declared.regions.TheConstants.{DATA as CODE_END, WORDS};
 ghost use Rattle.eg_model.specs.History.{Setting, Entry};
@@ -16,7 +16,6 @@ ghost use Rattle.eg_tick.specs.Weights.{weight_of};
 
 use crate::Slices;
 use crate::board::load_image;
-use crate::levels::acting;
 use crate::monitoring::{judge, question};
 use crate::paths::Paths;
 use crate::plant::{readings, step_engine};
@@ -193,28 +192,10 @@ impl<E: Engine + Drop, M: Guarded + Drop> Controller<E, M> {
         Ok(row)
     }
 
-    /// The tick itself. A controller without a fault takes a shorter form.
+    /// The tick itself. Memory counts as lost until it is done.
     #[inline(always)]
     fn advance(&mut self, drive: &Drive, slices: &Slices) -> Result<Row, NoMemory>
         requires fewer { self.old.kept.ticks < 20000 }
-        ensures { IsTick E.shows E.steps drive.now slices.now self.old self.new result }
-    {
-        if self.fault.is_none() {
-            return self.advance_in::<false>(drive, slices);
-        }
-        self.advance_in::<true>(drive, slices)
-    }
-
-    /// `advance` in one of its two forms: compiled with what is asked of a fault, or without. Memory counts
-    /// as lost until it is done.
-    #[inline(always)]
-    fn advance_in<const FAULTY: bool>(
-        &mut self,
-        drive: &Drive,
-        slices: &Slices,
-    ) -> Result<Row, NoMemory>
-        requires fewer { self.old.kept.ticks < 20000 }
-        requires sound { IsFalse FAULTY → self.old.kept.fault ≡ None }
         ensures { IsTick E.shows E.steps drive.now slices.now self.old self.new result }
     {
         if self.lost {
@@ -224,7 +205,7 @@ impl<E: Engine + Drop, M: Guarded + Drop> Controller<E, M> {
         let (level1, memory) = (&mut self.level1, &mut self.memory);
         enter(&mut self.span, &self.level2, level1, memory, drive.reset())?;
         let (tick, local) = (self.ticks, self.span.local);
-        let fault = acting::<FAULTY>(self.fault.as_ref());
+        let fault = self.fault.as_ref();
         let (questions, times) = (self.calibration.questions(), self.calibration.times());
         let brake = self.calibration.brake();
         let effective = effective(drive, brake);

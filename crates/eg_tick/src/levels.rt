@@ -250,7 +250,7 @@ fn run_turns<M: Guarded + Drop, const FAULTY: bool>(
 
 /// The fault that may act, in the form with a fault; in the other there is none.
 #[inline(always)]
-pub(crate) fn acting<const FAULTY: bool>(fault: Option<&Fault>) -> Option<&Fault>
+fn acting<const FAULTY: bool>(fault: Option<&Fault>) -> Option<&Fault>
     requires { IsFalse FAULTY → option_copied fault ≡ None }
     ensures { option_copied result ≡ option_copied fault.entry }
 {

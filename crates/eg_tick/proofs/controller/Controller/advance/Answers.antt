@@ -20,8 +20,8 @@ use Rattle.eg_tick.specs.Advancing.{effects_after, entry_of, world_before}
 use Rattle.eg_tick.specs.declared.working.Task.{Task}
 use Rattle.eg_tick.proofs.StandsLemmas.{Enters, entered, enters, next_stands}
 use Rattle.eg_tick.proofs.AdvanceLemmas.{of_setting, held-within, within, few-in, period-in, later-in, stepped, unmade, Advance, makes, row-told, step-told}
-use Rattle.eg_tick.proofs.controller.Controller.advance_in.Given.{Over}
-use Rattle.eg_tick.proofs.controller.Controller.advance_in.Goals as goal
+use Rattle.eg_tick.proofs.controller.Controller.advance.Given.{Over}
+use Rattle.eg_tick.proofs.controller.Controller.advance.Goals as goal
 
 pub enter-requires : goal.enter-requires
 enter-requires g c =
@@ -42,7 +42,7 @@ next_tick-requires g c =
 pub step_engine-requires : goal.step_engine-requires
 step_engine-requires g c x is =
     held-within c.self.inside.fault c.self.inside.ticks x c.self.invariant.keeps.fault
-    (subst (λ f. (effects f c.self.inside.ticks).held_plate ≡ Some x) (c.acting-fault.ensures ∙ c.as_ref.ensures.value) (sym c.held-held_plate.ensures ∙ is))
+    (subst (λ f. (effects f c.self.inside.ticks).held_plate ≡ Some x) c.as_ref-fault.ensures.value (sym c.held-held_plate.ensures ∙ is))
 
 pub overflow_cast-task : goal.overflow_cast-task
 overflow_cast-task g c =
@@ -53,12 +53,12 @@ overflow_cast-task g c =
 pub judge-judged-requires-clause-period : goal.judge-judged-requires-clause-period
 judge-judged-requires-clause-period g c tame =
     period-in _ (c.self.invariant.keeps.stands c.if-self.false) c.args.drive.now _ c.enter.new.span c.enter.new.level1.host.registers (g.M.Guarded.shows c.enter.new.memory)
-    c.reset.ensures.reset c.in_ok-enter.ensures.holds (subst (λ f. (effects f c.self.inside.ticks).wild ≡ None) (c.acting-fault.ensures ∙ c.as_ref.ensures.value) tame)
+    c.reset.ensures.reset c.in_ok-enter.ensures.holds (subst (λ f. (effects f c.self.inside.ticks).wild ≡ None) c.as_ref-fault.ensures.value tame)
 
 pub judge-judged-requires-clause-later : goal.judge-judged-requires-clause-later
 judge-judged-requires-clause-later g c tame =
     later-in _ (c.self.invariant.keeps.stands c.if-self.false) c.args.drive.now _ c.enter.new.span c.enter.new.level1.host.registers (g.M.Guarded.shows c.enter.new.memory)
-    c.reset.ensures.reset c.in_ok-enter.ensures.holds (subst (λ f. (effects f c.self.inside.ticks).wild ≡ None) (c.acting-fault.ensures ∙ c.as_ref.ensures.value) tame)
+    c.reset.ensures.reset c.in_ok-enter.ensures.holds (subst (λ f. (effects f c.self.inside.ticks).wild ≡ None) c.as_ref-fault.ensures.value tame)
 
 pub note-requires : goal.note-requires
 note-requires g c =
@@ -120,7 +120,7 @@ advance g c =
     let test_ticks = c.self.invariant.test_ticks_are in
     subst (λ under. Advance (old g c) (new g c) c.args.drive.now c.args.slices.now under c.self.inside.level2 c.at.result c.next_tick.result
     (task g c) c.in_ok-step.step c.judge-judged.result)
-    (c.acting-fault.ensures ∙ c.as_ref.ensures.value)
+    c.as_ref-fault.ensures.value
     (record {
       accepted = c.self.invariant.keeps.accepted;
       parts = c.self.invariant.parts;
@@ -136,10 +136,10 @@ advance g c =
       tick = refl;
       at = refl;
       phase = c.phase.ensures
-          ∙ ap (λ times. phase_at (kind_of c.enter.new.span.tests) times (effects (option_copied c.acting-fault.result) c.self.inside.ticks)
+          ∙ ap (λ times. phase_at (kind_of c.enter.new.span.tests) times (effects (option_copied c.as_ref-fault.result) c.self.inside.ticks)
           c.enter.new.span.local) c.times-times.ensures.times;
       asked = c.question-asked.ensures.number
-          ∙ ap (λ questions. asked_at (effects (option_copied c.acting-fault.result) c.self.inside.ticks) c.enter.new.span.monitor.times
+          ∙ ap (λ questions. asked_at (effects (option_copied c.as_ref-fault.result) c.self.inside.ticks) c.enter.new.span.monitor.times
           (length questions) c.enter.new.span.local) c.questions-questions.ensures.questions;
       readings = λ e. c.readings.ensures c.self.inside.calibration e (sym c.brake-brake.ensures.brake);
       slices = refl;
@@ -200,7 +200,7 @@ steps g c =
     let words = (g.M.Guarded.shows c.enter.new.memory).words in
     let engine : c.self.inside.engine ≡ c.args.self.now.engine = ap (λ v. v.engine) c.self.view_is in
     let held : c.held-held_plate.result ≡ (effects c.self.inside.fault c.self.inside.ticks).held_plate =
-    c.held-held_plate.ensures ∙ ap (λ f. (effects f c.self.inside.ticks).held_plate) (c.acting-fault.ensures ∙ c.as_ref.ensures.value) in
+    c.held-held_plate.ensures ∙ ap (λ f. (effects f c.self.inside.ticks).held_plate) c.as_ref-fault.ensures.value in
     subst (λ e. g.E.Engine.steps e (slice_index words 2064) (slice_index words 2065) c.at.result.on (effects c.self.inside.fault c.self.inside.ticks).held_plate
     c.step_engine.new.engine) engine
     (subst (λ o. g.E.Engine.steps c.self.inside.engine (slice_index words 2064) (slice_index words 2065) c.at.result.on o c.step_engine.new.engine) held
@@ -264,6 +264,6 @@ returns-in_err-step g c = unmade c.from_residual-in_err-step.result c.from_resid
     (search rules) (search rules) (search rules) (search rules) (search rules) (search rules)
     (λ s h stands. stepped g.E.Engine.steps s c.args.drive.now c.args.slices.now _ h c.args.self.now.kept _ c.enter.new.span c.enter.new.level1.host.registers
     (g.M.Guarded.shows c.enter.new.memory) _ c.at.result _ c.held-held_plate.result _ _ c.step_engine.new.engine (ap (λ v. v.kept) c.self.view_is)
-    (c.acting-fault.ensures ∙ c.as_ref.ensures.value) (ap (λ v. v.engine) c.self.view_is) stands c.reset.ensures.reset c.in_ok-enter.ensures.holds c.at.ensures.path1 c.at.ensures.path2
+    c.as_ref-fault.ensures.value (ap (λ v. v.engine) c.self.view_is) stands c.reset.ensures.reset c.in_ok-enter.ensures.holds c.at.ensures.path1 c.at.ensures.path2
     c.at.ensures.on c.held-held_plate.ensures c.step_engine.ensures.steps)
     (search rules)
