@@ -1,6 +1,7 @@
 -- Outside the headline. The key of a group is a run of it, with a number that is made of all that the runs of
 -- the group share. A map finds the first run of a group by it.
-use Rattle.std.specs.Prelude.{◌≡◌, refl, ℕ, ◌+◌, ◌*◌, ◌%◌, ◌^◌, Bool, true, ◌==◌, ◌&&◌, fold, if◌then◌else◌}
+use Rattle.std.specs.Prelude.{◌≡◌, refl, ℕ, ◌+◌, ◌*◌, ◌%◌, ◌^◌, Bool, true, ◌==◌, ◌&&◌, fold, if◌then◌else◌, bit_xor}
+use Rattle.std.specs.Int.{w64, rotate_left}
 use Rattle.std.specs.Hash as fed
 use Rattle.std.specs.Hash.{first_alike, on_Alike, same_Alike}
 use Rattle.std.specs.Cmp.{IsEquivalence, and_equiv, on_equiv, nat_eq_equiv, unsigned_Decides}
@@ -14,9 +15,10 @@ use Rattle.eg_campaign.specs.Groups.{is_same_engine, is_alike}
 
 -- ---- the number ----
 
--- a number and the next one, made one
+-- A number and the next one, made one. It is no sum of the two, so that drives which are made of one pattern and
+-- its opposite have two numbers.
 unfoldable pub mixed : ℕ → ℕ → ℕ
-mixed number next = (number * 6364136223846793005 % 2 ^ 64 + next) % 2 ^ 64
+mixed number next = bit_xor (rotate_left w64 number 26) next * 6364136223846793005 % 2 ^ 64
 
 -- a drive row as one number
 unfoldable pub row_number : DriveRow → ℕ

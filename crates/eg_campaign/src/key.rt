@@ -82,9 +82,7 @@ fn engine_number(engine: EngineKind) -> u64
 fn mixed(number: u64, next: u64) -> u64
     ensures { result ≡ mixed number next }
 {
-    number
-        .wrapping_mul(6_364_136_223_846_793_005)
-        .wrapping_add(next)
+    (number.rotate_left(26) ^ next).wrapping_mul(6_364_136_223_846_793_005)
 }
 
 /// A number and these words, made one.
