@@ -32,6 +32,9 @@ mkfifo pipe && sed 's/[^"]*late.hex/pipe/; s/\[\]/1/' plan.toml >endless.toml &&
 tools/study join study 2>&1
 tools/study faults examples/levels.toml full bus,bos 0 2>&1
 tools/study faults examples/levels.toml full bus 9-1 2>&1
+tools/study faults examples/levels.toml full bus 0-20000 2>&1
+printf 'drives = ["\\u001b[2J\\n"]\nimages = [""]\n[[fault]]\nclass = "none"\n' >plan.toml
+tools/study plan.toml study 2>&1
 tools/install '' 2>&1
 ls
 

@@ -12,7 +12,7 @@ kept=$top/out
 telling_kit=$kept/egasim.sum
 [ -z "$rt" ] || telling_kit=${rt%/*}/../KIT-ID
 
-say() { echo "egasim: $*" >&2; }
+say() { printf 'egasim: %s\n' "$*" >&2; }
 
 fail() {
   say "$*"

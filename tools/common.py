@@ -2,7 +2,9 @@
 
 import csv
 import hashlib
+import html
 import os
+import re
 import signal
 import stat
 import subprocess
@@ -18,9 +20,19 @@ WATCHES = {"pedal": "pairs", "plate": "pairs", "load": "pairs", "speed": "pairs"
 OWN = ", by a program of your own"  # what a version has behind it if the program is another one
 
 
+def as_noted(text):
+    """A text in which control characters, of a name for example, are written as in notes of the program."""
+    return re.sub("[\x00-\x1f\x7f-\x9f]", lambda sign: "".join(f"\\x{byte:02x}" for byte in sign[0].encode()), text)
+
+
+def escaped(text):
+    """A text as HTML and SVG have it. A character that can't be seen, or turns the reading, is told by its number."""
+    return html.escape("".join(c if c.isprintable() else f"\\u{ord(c):04x}" for c in str(text)))
+
+
 def fail(text):
     """Ends the tool with one line and the status 1."""
-    sys.exit(f"{TOOL}: {text}")
+    sys.exit(f"{TOOL}: {as_noted(text)}")
 
 
 def guarded(main):
@@ -36,6 +48,10 @@ def guarded(main):
         sys.exit(1)
     except OSError as error:
         fail(f"{error.filename or 'output'}: {error.strerror}")
+    except MemoryError:
+        fail("no memory")
+    except ValueError as error:
+        fail(f"a file can't be read: {error}")
     except KeyboardInterrupt:
         sys.exit(130)
 
@@ -103,7 +119,7 @@ def toml_in(name, text):
     """What the text of a TOML file holds."""
     try:
         return tomllib.loads(text)
-    except (tomllib.TOMLDecodeError, RecursionError) as error:
+    except (ValueError, RecursionError) as error:
         fail(f"{name}: not TOML: {str(error) or 'too deep'}")
 
 

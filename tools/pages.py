@@ -4,7 +4,7 @@ import os
 import re
 from html import escape
 
-from common import HERE, read
+from common import HERE, escaped, read
 from documents import ITEM, blocks_of, cells_of
 
 NUMBER = re.compile(r"-?\d+|none|")
@@ -15,11 +15,8 @@ class Html(str):
 
 
 def shown(text):
-    """A text of a file or of the call, as HTML. A character that can't be seen, or turns the reading, is told by its
-    number."""
-    if isinstance(text, Html):
-        return text
-    return escape("".join(c if c.isprintable() else f"\\u{ord(c):04x}" for c in str(text)))
+    """A text of a file or of the call, as HTML."""
+    return text if isinstance(text, Html) else escaped(text)
 
 
 def paragraph(text, kind=None):

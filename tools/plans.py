@@ -23,6 +23,7 @@ FAULTS = {
     "path-open": {"path": 1},
     "lapse": {"after": [0]},
 }
+MOST_NUMBER, MOST_ONSET, MOST_DRAWN = 65535, 19999, 1000000
 PARAMETERS = sorted({"every", *(key for keys in FAULTS.values() for key in keys)})
 
 
@@ -56,15 +57,16 @@ def faults_of(name, number, fault):
             fail(f"{name}: fault {number}: {kind} has no key {sorted(set(fault) - keys)[0]}")
         if kind != "none" and "onset" not in fault:
             fail(f"{name}: fault {number} has no onset")
-        if type(fault.get("draw", 1)) is not int or fault.get("draw", 1) < 1:
-            fail(f"{name}: fault {number}: draw must be a whole number from 1 on")
+        if type(fault.get("draw", 1)) is not int or not 1 <= fault.get("draw", 1) <= MOST_DRAWN:
+            fail(f"{name}: fault {number}: draw must be a whole number from 1 to {MOST_DRAWN}")
         yield {"class": kind, **FAULTS.get(kind, {}), **{key: fault[key] for key in fault if key != "class"}}
 
 
 def numbers_of(value, last):
     """The numbers of a range of the plan. `last` is its end where it names none."""
     first, end, step = value.get("from", 0), value.get("to", last), value.get("step", 1)
-    if {type(first), type(end), type(step)} != {int} or step < 1 or end < first or set(value) - {"from", "to", "step"}:
+    if {type(first), type(end), type(step)} != {int} or step < 1 or set(value) - {"from", "to", "step"} \
+            or not -MOST_NUMBER <= first <= end <= MOST_NUMBER:
         fail(f"the plan has a range that is none: {toml_text(value)}")
     return range(first, end + 1, step)
 
@@ -122,11 +124,11 @@ def runs_of(plan, ticks):
 
 def onsets_of(text):
     for part in text.split(","):
-        match = re.fullmatch(r"(\d+)(?:-(\d+)(?:/([1-9]\d*))?)?", part)
+        match = re.fullmatch("([0-9]{1,5})(?:-([0-9]{1,5})(?:/([1-9][0-9]{0,4}))?)?", part)
         if not match:
             fail(f"no onsets: {part}")
         first, last, step = (int(number) if number else None for number in match.groups())
         last = first if last is None else last
-        if last < first:
+        if not first <= last <= MOST_ONSET:
             fail(f"no onsets: {part}")
         yield from range(first, last + 1, step or 1)

@@ -1,7 +1,7 @@
 """Shapes of SVG: pictures that need no other program, and are legible in grey. A length is a pixel where a picture
 stands as it is."""
 
-from html import escape
+from common import escaped
 
 INK, GRID, DARK, MIDDLE = "#222222", "#dddddd", "#7f1416", "#3f8fca"
 
@@ -16,7 +16,7 @@ def step_of(span, most):
 
 def text(x, y, words, anchor="middle", size=11):
     return (f'<text x="{x:.1f}" y="{y:.1f}" font-size="{size}" fill="{INK}" text-anchor="{anchor}">'
-            f'{escape(str(words))}</text>')
+            f'{escaped(words)}</text>')
 
 
 def width_of(words, size=11):
@@ -42,8 +42,8 @@ def picture(name, width, height, title, about, shapes):
     """A picture with what a reader of screens says of it: its title, and what is to be seen. `name` is its own."""
     yield (f'<svg xmlns="http://www.w3.org/2000/svg" width="{width}" height="{height}" viewBox="0 0 {width} {height}" '
            f'role="img" aria-describedby="{name}-about">')
-    yield f"<title>{escape(title)}</title>"
-    yield f'<desc id="{name}-about">{escape(about)}</desc>'
+    yield f"<title>{escaped(title)}</title>"
+    yield f'<desc id="{name}-about">{escaped(about)}</desc>'
     yield '<g font-family="DejaVu Sans, Arial, sans-serif">'
     yield f'<rect width="{width}" height="{height}" fill="white"/>'
     yield from shapes

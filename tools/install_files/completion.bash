@@ -19,7 +19,8 @@ _egasim() {
   asm:1) ending=asm ;;
   dis:1) ending=hex ;;
   record:2 | couple:2 | sweep:2)
-    names=$(sed -n 's/^ *name *= *"\([a-z0-9-]*\)".*/\1/p' -- "$campaign" 2>/dev/null)
+    [ -f "$campaign" ] || return
+    names=$(head -c 4194304 -- "$campaign" | sed -n 's/^ *name *= *"\([a-z0-9-]*\)".*/\1/p')
     mapfile -t COMPREPLY < <(compgen -W "$names" -- "$word")
     return
     ;;
