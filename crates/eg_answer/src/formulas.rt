@@ -42,7 +42,7 @@ pub fn excess_number(rules: &Rules, allowed: u16, estimate: u16) -> u16
 }
 
 /// The bits of the pairs that disagree (docs/CONCEPT.md, "Level 2").
-#[inline]
+#[inline(always)]
 #[tactic(auto, unfolding(crate::specs::Formulas::disagreeing_pairs))]
 pub fn disagreeing_pairs(rules: &Rules, read: &Readings) -> u16
     ensures { result ≡ disagreeing_pairs rules.now read.now }

@@ -15,8 +15,8 @@ use Rattle.eg_campaign.specs.Groups.{is_same_engine, is_alike}
 
 -- ---- the number ----
 
--- A number and the next one, made one. It is no sum of the two, so that drives which are made of one pattern and
--- its opposite have two numbers.
+-- A number and the next one, made one. It is no sum of the two, so that drives which are made of one pattern
+-- and its opposite have two numbers.
 unfoldable pub mixed : ℕ → ℕ → ℕ
 mixed number next = bit_xor (rotate_left w64 number 26) next * 6364136223846793005 % 2 ^ 64
 

@@ -1,5 +1,5 @@
--- Outside the headline. A pedal with two truth values beside it is kept as one number: four times the pedal, and 2
--- and 1 for them.
+-- Outside the headline. A pedal with two truth values beside it is kept as one number: four times the pedal,
+-- and 2 and 1 for them.
 use Rattle.std.specs.Prelude.{◌≡◌, ℕ, ◌+◌, ◌*◌, ◌/◌, ◌%◌, ◌==◌, Bool, if◌then◌else◌}
 use Rattle.std.proofs.Common.{arith}
 
