@@ -1,7 +1,14 @@
-//! Tests of the crates below `eg_tick`, of what the built program can't show: a stream, lines and memories of
-//! which a write, a flush, a read or a store fails, and calls that the program never makes.
+//! Tests over fakes of what neither a clause nor the built program shows: which of several reads failed, how
+//! many were made, what was written before a put failed, notes that fail, how many ticks a call makes, a
+//! stream, lines and memories of which a write, a flush, a read or a store fails, and calls that the program
+//! never makes. Each call that takes memory and that the program never makes is made here once, where there
+//! is memory.
 #![tactic(auto)]
 
+#[cfg(test)]
+mod calls;
+#[cfg(test)]
+mod controller;
 #[cfg(test)]
 mod faults;
 #[cfg(test)]
@@ -10,3 +17,9 @@ mod lines;
 mod memory;
 #[cfg(test)]
 mod outside;
+#[cfg(test)]
+mod ranges;
+#[cfg(test)]
+mod rows;
+#[cfg(test)]
+mod steps;
