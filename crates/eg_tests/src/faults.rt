@@ -4,6 +4,24 @@ use eg_app::{Outcome, Refusal, Role};
 use eg_input::TraceFault;
 use std::test::Fail;
 
+/// The files that a call on both runs of a campaign reads, in their order.
+const ALL_RUNS: &[Role] = &[
+    Role::Calibration,
+    Role::Campaign,
+    Role::Trace { run: 1 },
+    Role::Image { run: 1 },
+    Role::Trace { run: 2 },
+    Role::Image { run: 2 },
+];
+
+/// Those that a call on its run `b` reads.
+const RUN_B: &[Role] = &[
+    Role::Calibration,
+    Role::Campaign,
+    Role::Trace { run: 2 },
+    Role::Image { run: 2 },
+];
+
 /// Words, and the files that a call with them reads, in their order.
 const READS: [(&str, &[Role]); 12] = [
     (
@@ -13,57 +31,11 @@ const READS: [(&str, &[Role]); 12] = [
     ("bound --cal cal.toml", &[Role::Calibration]),
     ("limits --cal cal.toml", &[Role::Calibration]),
     ("answers cal.toml", &[Role::Calibration]),
-    (
-        "run --cal cal.toml c.toml",
-        &[
-            Role::Calibration,
-            Role::Campaign,
-            Role::Trace { run: 1 },
-            Role::Image { run: 1 },
-            Role::Trace { run: 2 },
-            Role::Image { run: 2 },
-        ],
-    ),
-    (
-        "table --cal cal.toml c.toml",
-        &[
-            Role::Calibration,
-            Role::Campaign,
-            Role::Trace { run: 1 },
-            Role::Image { run: 1 },
-            Role::Trace { run: 2 },
-            Role::Image { run: 2 },
-        ],
-    ),
-    (
-        "margins --cal cal.toml c.toml",
-        &[
-            Role::Calibration,
-            Role::Campaign,
-            Role::Trace { run: 1 },
-            Role::Image { run: 1 },
-            Role::Trace { run: 2 },
-            Role::Image { run: 2 },
-        ],
-    ),
-    (
-        "record --cal cal.toml c.toml b",
-        &[
-            Role::Calibration,
-            Role::Campaign,
-            Role::Trace { run: 2 },
-            Role::Image { run: 2 },
-        ],
-    ),
-    (
-        "sweep --cal cal.toml c.toml b 4",
-        &[
-            Role::Calibration,
-            Role::Campaign,
-            Role::Trace { run: 2 },
-            Role::Image { run: 2 },
-        ],
-    ),
+    ("run --cal cal.toml c.toml", ALL_RUNS),
+    ("table --cal cal.toml c.toml", ALL_RUNS),
+    ("margins --cal cal.toml c.toml", ALL_RUNS),
+    ("record --cal cal.toml c.toml b", RUN_B),
+    ("sweep --cal cal.toml c.toml b 4", RUN_B),
     ("asm loop.asm", &[Role::Source]),
     ("dis probe.hex", &[Role::Image { run: 0 }]),
     ("soak 1 1", &[]),
