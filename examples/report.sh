@@ -9,8 +9,8 @@ sed '/<style>/,/<\/style>/d; /class="warning own"/d; /aria-label="The columns"/,
 is_there() { [ "$(grep -c "$1" page.html)" -eq "$(grep -c "$2" "tools/../docs/$3")" ] && echo "each $4 is there"; }
 is_there '<li id="A[0-9]*">' '^- \*\*A[0-9]*\. ' SAFETY.md assumption
 is_there '<th scope="row">[0-9]*\. ' '^| [0-9]*\. ' PROVED.md claim
-for file in tools/../docs/SAFETY.md tools/../docs/PROVED.md tools/../docs/FORMATS.md tools/report tools/common.py \
-  tools/documents.py tools/pages.py tools/pictures.py tools/playing.py tools/runs.py tools/svg.py tools/telling.py \
+lib() { printf 'tools/lib/%s.py ' calibration documents files pages pictures playing program records runs svg telling tool toml; }
+for file in tools/../docs/SAFETY.md tools/../docs/PROVED.md tools/../docs/FORMATS.md tools/report $(lib) \
   tools/report_files/page.css examples/strict.toml examples/sweep.toml examples/late.csv examples/late.hex; do
   grep -c "<code>$(sha256sum <"$file" | sed 's/ .*//')</code>" page.html
 done

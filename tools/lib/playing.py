@@ -8,8 +8,12 @@ import re
 import shlex
 import sys
 
-from common import HERE, TOP, fail, period_of, printed_by, program, read, record_of, sum_of, text_in, threshold_of, toml_in
-from common import version_lines, weight_limits_of
+from lib.calibration import period_of, threshold_of, weight_limits_of
+from lib.files import TOOLS, TOP, read, sum_of, text_in
+from lib.program import printed_by, program, version_lines
+from lib.records import record_of
+from lib.toml import toml_in
+from lib.tool import fail
 
 MOST_SWEEPS = 20
 DOCUMENTS = ("SAFETY.md", "PROVED.md", "FORMATS.md")  # of which parts stand in a page
@@ -98,11 +102,12 @@ class Played:
 def own_files(calibration):
     """What a page is made from beside the files of the call, by names from the top: documents, and the tool's own files."""
     paths = (os.path.realpath(module.__file__) for module in list(sys.modules.values()) if getattr(module, "__file__", None))
-    modules = sorted(os.path.relpath(path, TOP) for path in paths if os.path.dirname(path) == HERE)
+    own = (TOOLS, os.path.join(TOOLS, "lib"))
+    modules = sorted(os.path.relpath(path, TOP) for path in paths if os.path.dirname(path) in own)
     reference = [] if calibration else ["examples/reference.toml"]
     return [*reference, *(f"docs/{name}" for name in DOCUMENTS), *modules, "tools/report_files/page.css"]
 
 
 def document(name):
     """The text of a document of docs/."""
-    return read(os.path.join(HERE, "..", "docs", name)).decode()
+    return read(os.path.join(TOP, "docs", name)).decode()

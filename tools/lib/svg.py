@@ -1,9 +1,14 @@
 """Shapes of SVG: pictures that need no other program, and are legible in grey. A length is a pixel where a picture
 stands as it is."""
 
-from common import escaped
+import html
 
 INK, GRID, DARK, MIDDLE = "#222222", "#dddddd", "#7f1416", "#3f8fca"
+
+
+def escaped(text):
+    """A text as HTML and SVG have it. A character that can't be seen, or turns the reading, is told by its number."""
+    return html.escape("".join(c if c.isprintable() else f"\\u{ord(c):04x}" for c in str(text)))
 
 
 def step_of(span, most):

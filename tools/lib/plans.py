@@ -4,7 +4,8 @@ import itertools
 import random
 import re
 
-from common import fail, toml_of, toml_text
+from lib.toml import toml_of, toml_text
+from lib.tool import fail
 
 # The numbers of `sweep` for each class. A key with a list here takes lists.
 FAULTS = {

@@ -4,8 +4,9 @@ import os
 import re
 from html import escape
 
-from common import HERE, escaped, read
-from documents import ITEM, blocks_of, cells_of
+from lib.documents import ITEM, blocks_of, cells_of
+from lib.files import TOOLS, read
+from lib.svg import escaped
 
 NUMBER = re.compile(r"-?\d+|none|")
 
@@ -107,7 +108,7 @@ def map_inline(cells):
 
 
 def page(title, lines):
-    style = read(os.path.join(HERE, "report_files", "page.css")).decode()
+    style = read(os.path.join(TOOLS, "report_files", "page.css")).decode()
     yield "<!DOCTYPE html>"
     yield '<html lang="en">'
     yield '<head>\n<meta charset="utf-8">\n<meta name="viewport" content="width=device-width, initial-scale=1">'

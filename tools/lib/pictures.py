@@ -1,7 +1,7 @@
 """The pictures of a run and of a sweep."""
 
-from common import corners, thinned
-from svg import DARK, GRID, INK, MIDDLE, box, line, picture, shape, step_of, text, width_of
+from lib.records import corners, thinned
+from lib.svg import DARK, GRID, INK, MIDDLE, box, line, picture, shape, step_of, text, width_of
 
 WIDTH, LEFT, RIGHT = 400, 48, 10  # of each picture
 HEIGHT, STAGES = 180, 26  # of the torque, and of what stands below it about the stages

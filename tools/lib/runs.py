@@ -1,6 +1,6 @@
 """What a run shows, by its record and its row of `table`."""
 
-from pictures import stretches
+from lib.pictures import stretches
 
 MOST_NAMED = 8  # places that a sentence names
 EXCESS, NO_EXCESS = "an excess begins", "no excess any more"

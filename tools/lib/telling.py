@@ -1,11 +1,12 @@
 """What a report says, part by part, as HTML."""
 
-from common import WATCHES, is_own, own_warning
-from documents import blocks_of, cells_of, section_of
-from pages import Html, code, inline, of_document, paragraph, section, shown, table
-from pictures import record_picture, sweep_picture
-from playing import MOST_SWEEPS, document
-from runs import EXCESS, NO_EXCESS, about_run, events, finds, given_ticks, lacking
+from lib.calibration import WATCHES
+from lib.documents import blocks_of, cells_of, section_of
+from lib.pages import Html, code, inline, of_document, paragraph, section, shown, table
+from lib.pictures import record_picture, sweep_picture
+from lib.playing import MOST_SWEEPS, document
+from lib.program import is_own, own_warning
+from lib.runs import EXCESS, NO_EXCESS, about_run, events, finds, given_ticks, lacking
 
 MOST_EVENTS, MOST_MARKS, MOST_NAMES = 30, 12, 10
 PARTS = [("limits", "Limits of the calibration"), ("table", "Runs"), ("margins", "Margins"),
