@@ -7,6 +7,10 @@ for file in /dev/zero empty.csv cut.csv gone.csv examples/late.hex; do
 done 2>&1
 tools/draw_record <cut.csv 2>&1
 printf 'torque\r\rlimit' | tools/draw_record 2>&1
+./egasim record examples/levels.toml short | sed 5d | tools/draw_record 2>&1
+for words in '--from 12 --to 11' '--to 1.5' --cal --form; do
+  ./egasim record examples/levels.toml short | tools/draw_record $words 2>&1
+done
 tools/draw_record 2>&1 <&-
 tools/plot picture.png cut.csv --cal examples/strict.toml 2>&1
 tools/study faults examples/sweep.toml late bus 0 >one.toml

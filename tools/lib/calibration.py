@@ -24,6 +24,15 @@ def threshold_of(calibration):
     return threshold
 
 
+def torque_weights_of(calibration):
+    """How the excess of torque is debounced by a calibration file or the reference calibration: up, down and limit."""
+    torque = calibration_of(calibration).get("torque")
+    weights = [torque.get(key) if isinstance(torque, dict) else None for key in ("up", "down", "limit")]
+    if not all(type(weight) is int and 0 <= weight <= MOST_NUMBER for weight in weights):
+        fail(f"{calibration or 'the reference calibration'} has no numbers torque.up, down and limit")
+    return weights
+
+
 def period_of(calibration):
     """The period of the questions by a calibration file or the reference calibration, in ticks."""
     answers = calibration_of(calibration).get("answers")

@@ -1,12 +1,14 @@
 """The pictures of a run and of a sweep."""
 
-from lib.records import corners, thinned
+from lib.records import corners, stretches, thinned
 from lib.svg import DARK, GRID, INK, MIDDLE, box, line, picture, shape, step_of, text, width_of
 
 WIDTH, LEFT, RIGHT = 400, 48, 10  # of each picture
 HEIGHT, STAGES = 180, 26  # of the torque, and of what stands below it about the stages
 MOST_ROWS = 6  # of what is written above a run
-SHADE = "#d9d9d9"
+SHADE, STAGES_ON = "#d9d9d9", "#555555"
+# Looks of curves: colour, dashes, width. The threshold's line is whole, since dashes say nothing on a steep flank.
+TORQUE, MOST, PERMITTED = (DARK, "", 3), (MIDDLE, "", 1.5), (MIDDLE, "2 2", 1)
 
 
 # A run
@@ -15,37 +17,30 @@ SHADE = "#d9d9d9"
 class Scale:
     """Where ticks and torques of a run stand."""
 
-    def __init__(self, ticks, highest, top):
-        self.ticks, self.highest, self.top, self.bottom = ticks, highest, top, top + HEIGHT
+    def __init__(self, first, ticks, highest, top):
+        self.first, self.ticks, self.highest = first, ticks, highest
+        self.move(top)
+
+    def move(self, top):
+        self.top, self.bottom = top, top + HEIGHT
 
     def x(self, tick):
-        return LEFT + (WIDTH - LEFT - RIGHT) * tick / self.ticks
+        return LEFT + (WIDTH - LEFT - RIGHT) * (tick - self.first) / self.ticks
 
     def y(self, torque):
         return self.bottom - HEIGHT * torque / self.highest
 
 
-def stretches(values):
-    """Where these values are true: (first tick, tick behind the last)."""
-    begin = None
-    for tick, value in enumerate([*values, False]):
-        if value and begin is None:
-            begin = tick
-        elif not value and begin is not None:
-            yield begin, tick
-            begin = None
-
-
 def curve(values, scale):
     """The points of a curve that can be told apart."""
-    points = ((scale.x(tick), scale.y(value)) for tick, value in corners(values))
+    points = ((scale.x(tick), scale.y(value)) for tick, value in corners(values, scale.first))
     return thinned(points, lambda point: round(point[0] * 2))
 
 
 def spans(values, scale):
     """The places of the ticks at which these values are true, joined where no gap can be seen."""
     joined = []
-    for first, end in stretches(values):
+    for first, end in stretches(values, scale.first):
         if joined and scale.x(first) - joined[-1][1] < 0.5:
             joined[-1][1] = scale.x(end)
         else:
@@ -53,9 +48,9 @@ def spans(values, scale):
     return joined
 
 
-def placed(marks, ticks):
+def placed(marks, scale):
     """The rows in which the words of marks stand without touching: (tick, words, x of the words, row or None)."""
-    scale, ends = Scale(ticks, 1, 0), []
+    ends = []
     for tick, words in sorted(marks):
         half = width_of(words, 10) / 2
         x = min(max(scale.x(tick), half + 1), WIDTH - half - 1)
@@ -78,7 +73,8 @@ def axes(scale):
     for value in range(0, int(scale.highest) + 1, step_of(scale.highest, 5)):
         yield line([(LEFT, scale.y(value)), (right, scale.y(value))], GRID)
         yield text(LEFT - 5, scale.y(value) + 4, value, "end", 10)
-    for tick in range(0, scale.ticks + 1, step_of(scale.ticks, 8)):
+    step = step_of(scale.ticks, 8)
+    for tick in range(-(-scale.first // step) * step, scale.first + scale.ticks + 1, step):
         yield line([(scale.x(tick), scale.top), (scale.x(tick), below)], GRID)
         yield text(min(scale.x(tick), WIDTH - width_of(tick, 10) / 2 - 1), below + 13, tick, size=10)
     yield text(LEFT + (right - LEFT) / 2, below + 28, "tick", size=10)
@@ -91,35 +87,41 @@ def stage_shapes(on, scale):
     yield text(LEFT - 5, y + 1, "stages", "end", 10)
     yield line([(LEFT, y), (WIDTH - RIGHT, y)], "#888888")
     for first, end in spans(on, scale):
-        yield box(first, y - 6, end - first, 9, "#555555")
+        yield box(first, y - 6, end - first, 9, STAGES_ON)
+
+
+def sample(looks, y):
+    colour, dashes, width = looks
+    return lambda x: line([(x, y - 4), (x + 22, y - 4)], colour, dashes, width)
 
 
 def legend(y):
-    other, below = LEFT + 170, y + 16
-    for x, at, words, sample in (
-            (LEFT, y, "torque", line([(LEFT, y - 4), (LEFT + 22, y - 4)], DARK, "", 2.5)),
-            (LEFT, below, "permitted and threshold", line([(LEFT, below - 4), (LEFT + 22, below - 4)], MIDDLE, "6 3", 2)),
-            (other, y, "excess", box(other, y - 10, 22, 11, SHADE)),
-            (other, below, "stages on", box(other, below - 9, 22, 9, "#555555"))):
-        yield sample
+    other, rows = LEFT + 150, (y, y + 16, y + 32)
+    for x, at, words, shape_of in (
+            (LEFT, rows[0], "torque", sample(TORQUE, rows[0])),
+            (LEFT, rows[1], "permitted", sample(PERMITTED, rows[1])),
+            (other, rows[0], "permitted and threshold", sample(MOST, rows[0])),
+            (other, rows[1], "excess", lambda x: box(x, rows[1] - 10, 22, 11, SHADE)),
+            (LEFT, rows[2], "stages on", lambda x: box(x, rows[2] - 9, 22, 9, STAGES_ON))):
+        yield shape_of(x)
         yield text(x + 28, at, words, "start", 10)
 
 
 def record_picture(name, title, about, record, threshold, marks):
-    """Torque, permitted torque and threshold together, excess and power stages of a run. `marks` are ticks with what is
-    written above them."""
+    """Torque, permitted torque without and with the threshold, excess and power stages of a run, or of ticks of it. `marks`
+    are ticks with what is written above them. Where curves meet, the thinner one lies on the thicker."""
     most = [limit + threshold for limit in record["limit"]]
-    ticks, places = len(most), list(placed(marks, len(most)))
-    rows = max([row + 1 for *_, row in places if row is not None], default=0)
-    scale = Scale(ticks, max(max(record["torque"]), max(most), 1) * 1.05, 14 + 13 * rows)
+    scale = Scale(record["tick"][0], len(most), max(max(record["torque"]), max(most), 1) * 1.05, 0)
+    places = list(placed(marks, scale))
+    scale.move(14 + 13 * max([row + 1 for *_, row in places if row is not None], default=0))
     below = scale.bottom + STAGES
     shapes = [box(first, scale.top, end - first, HEIGHT, SHADE)
               for first, end in spans([torque > line for torque, line in zip(record["torque"], most)], scale)]
     shapes += axes(scale)
-    shapes.append(line(curve(most, scale), MIDDLE, "6 3", 2))
-    shapes.append(line(curve(record["torque"], scale), DARK, "", 2.5))
+    for values, looks in ((record["torque"], TORQUE), (most, MOST), (record["limit"], PERMITTED)):
+        shapes.append(line(curve(values, scale), *looks))
     shapes += [*stage_shapes(record["on"], scale), *mark_shapes(places, scale), *legend(below + 48)]
-    return picture(name, WIDTH, below + 72, title, about, shapes)
+    return picture(name, WIDTH, below + 88, title, about, shapes)
 
 
 # A sweep

@@ -1,14 +1,16 @@
 """What a report says, part by part, as HTML."""
 
-from lib.calibration import WATCHES
+from lib.calibration import WATCHES, torque_weights_of
 from lib.documents import blocks_of, cells_of, section_of
 from lib.pages import Html, code, inline, of_document, paragraph, section, shown, table
 from lib.pictures import record_picture, sweep_picture
 from lib.playing import MOST_SWEEPS, document
 from lib.program import is_own, own_warning
-from lib.runs import EXCESS, NO_EXCESS, about_run, events, finds, given_ticks, lacking
+from lib.records import part_of
+from lib.runs import (CONFIRMED, EXCESS, NO_EXCESS, ONSET, R_PASSED, RESET, about_run, confirmed_of, cuts_of, events,
+                      excess_of, finds, given_ticks, lacking, windows)
 
-MOST_EVENTS, MOST_MARKS, MOST_NAMES = 30, 12, 10
+MOST_EVENTS, MOST_MARKS, MOST_CUTS, MOST_NAMES = 30, 12, 6, 10
 PARTS = [("limits", "Limits of the calibration"), ("table", "Runs"), ("margins", "Margins"),
          ("sweeps", "Every class of fault"), ("pictures", "Pictures of the runs"), ("assumptions", "Assumptions"),
          ("claims", "What is proved"), ("not-claimed", "What isn't claimed"), ("provenance", "What this page was made from")]
@@ -227,31 +229,60 @@ def sweep_part(place, sweep, bound):
 
 
 def pictures(played):
+    weights = torque_weights_of(played.calibration)
     for place, (row, (name, record)) in enumerate(zip(played.rows, played.records.items())):
         run, resets = played.runs[name], played.resets(name)
+        confirmed = list(confirmed_of(excess_of(record, played.threshold), weights, set(resets)))
+        given = given_ticks(row, len(record["on"]), resets, confirmed)
+        marks = marks_of(record, given)
         yield f'<div class="run" id="run-{name}">'
         yield f"<h3>{shown(name)}</h3>"
         yield paragraph(Html(f"Drive {code(run['trace'])}, image {code(run['image'])}, {run.get('engine', 'gasoline')} engine"
                              + (f", slices {code(run['slices'])}" if "slices" in run else "")
                              + (f"; {shown(fault_said(row))}." if row["class"] != "none" else ".")))
-        yield '<div class="parts">\n<figure>'
-        yield from record_picture(f"run{place}", f"Run {name}: torque, permitted torque and threshold, excess, stages",
-                                  about_run(record, played.threshold), record, played.threshold, marks(record, row, resets))
-        yield "</figure>\n<div>"
-        yield from event_table(record, played.threshold, events(record, played.threshold, row, resets))
-        yield "</div>\n</div>\n</div>"
+        yield '<div class="parts">'
+        yield from run_figure(f"run{place}", f"Run {name}", record, played.threshold, marks)
+        yield "<div>"
+        yield from event_table(record, played.threshold, events(record, played.threshold, given))
+        yield "</div>\n</div>"
+        around = windows(record, played.threshold, {*cuts_of(record, resets), *confirmed})
+        yield from cut_figures(f"run{place}", name, record, played.threshold, marks, around)
+        yield "</div>"
+
+
+def run_figure(place, title, record, threshold, marks):
+    yield "<figure>"
+    yield from record_picture(place, f"{title}: torque, permitted torque and threshold, excess, stages",
+                              about_run(record, threshold), record, threshold, marks[:MOST_MARKS])
+    yield "</figure>"
+
+
+def cut_figures(place, name, record, threshold, marks, around):
+    """The ticks around each cut, and around each confirmed excess, where the picture of the whole run is much coarser."""
+    shown_near = [(first, last) for first, last in around if 2 * (last + 1 - first) <= len(record["on"])]
+    if not shown_near:
+        return
+    yield '<div class="cuts">'
+    for number, (first, last) in enumerate(shown_near[:MOST_CUTS]):
+        near = [(tick, words) for tick, words in marks if first <= tick <= last]
+        yield from run_figure(f"{place}-cut{number}", f"Run {name}, ticks {first} to {last}",
+                              part_of(name, record, first, last), threshold, near)
+    yield "</div>"
+    if len(shown_near) > MOST_CUTS:
+        yield paragraph(Html(f"{len(shown_near) - MOST_CUTS} more such stretches of ticks aren't drawn; the next begins at "
+                             f"{shown_near[MOST_CUTS][0]}. {code('tools/plot --from T --to T')} draws any."))
 
 
 def fault_said(row):
     return f"fault {row['class']} from {row['onset']} on{', ' if row['fault'] else ''}{row['fault']}"
 
 
-def marks(record, row, resets):
-    """What stands above the picture of a run; of many marks the first."""
-    short = {"the fault begins": "fault", "an excess is confirmed": "confirmed", "R has passed since": "R passed"}
-    given = [(tick, f"{short.get(words, 'trap')} {tick}") for tick, words in given_ticks(row) if tick < len(record["on"])]
-    found = [(first, f"{watch} {first}") for first, _, watch in finds(record)]
-    return [*given, *found, *((tick, f"reset {tick}") for tick in resets)][:MOST_MARKS]
+def marks_of(record, given):
+    """What stands above the picture of a run."""
+    short = {ONSET: "fault", CONFIRMED: "confirmed", R_PASSED: "R passed"}
+    told = [(tick, f"{short.get(words, 'trap')} {tick}") for tick, words in given if words != RESET]
+    told += [(first, f"{watch} {first}") for first, _, watch in finds(record)]
+    return [*told, *((tick, f"reset {tick}") for tick, words in given if words == RESET)]
 
 
 def event_table(record, threshold, told):
