@@ -18,15 +18,15 @@ tools/study faults examples/sweep.toml late bus 0 >one.toml
 ./egasim table --cal examples/strict.toml one.toml | sed 1d | cat one.csv - >two.csv
 tools/plot picture.png two.csv 2>&1
 tools/plot picture.png --cal examples/strict.toml one.csv 2>&1
-rm one.toml one.csv two.csv
+rm one.toml two.csv
 ./egasim signals --cal examples/strict.toml <examples/measured.csv >strict.csv
 sed 9d strict.csv >short.csv
 sed '9s/,/,x/' strict.csv >odd.csv
 sed '/^.torque/,/^.pairs/s/^limit = .*/limit = 4/' examples/strict.toml >four.toml
-for files in short.csv odd.csv 'strict.csv strict.csv' '--cal four.toml strict.csv'; do
+for files in short.csv odd.csv 'strict.csv strict.csv' '--cal four.toml strict.csv' '--from 2000 strict.csv' '--to 9 one.csv'; do
   tools/plot picture.png $files
 done 2>&1
-rm four.toml odd.csv short.csv strict.csv
+rm four.toml odd.csv one.csv short.csv strict.csv
 for file in empty.csv gone.toml examples/levels.toml /dev/zero; do tools/answer $file && echo "status $?"; done 2>&1
 echo 'drives = ["gone.csv"]' >plan.toml
 tools/study plan.toml study 2>&1

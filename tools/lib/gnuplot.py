@@ -1,0 +1,77 @@
+"""Pictures by gnuplot: how its texts, data and curves are written, and how it is called."""
+
+import subprocess
+
+from lib.records import corners, thinned
+from lib.svg import DARK, GRID, MIDDLE, step_of
+from lib.tool import fail
+
+GREY, INK = "#888888", "#333333"
+WIDTH = 640  # of each picture, in pixels
+PIXELS = 44 / 3  # of a text, so that it can be read where a picture is 390 wide
+TOP_OF_FOUND = 110  # per cent, of an axis on which something is found at 100
+# How curves look, without their titles: (colour, width, dashes). The threshold's line is whole, since dashes say nothing on
+# a steep flank.
+TORQUE, MOST, PERMITTED = (DARK, 3, None), (MIDDLE, 1.5, None), (MIDDLE, 1.2, "(5,4)")
+
+
+def quoted(text):
+    """A text of gnuplot."""
+    return "'" + "".join(c if c.isprintable() else "?" for c in text).replace("'", "''") + "'"
+
+
+def block(name, rows):
+    """Data under a name."""
+    return f"${name} << END_OF_DATA\n" + "".join(" ".join(map(str, row)) + "\n" for row in rows) + "END_OF_DATA\n"
+
+
+def named_places(names, first=0):
+    """What stands at places of an axis, from `first` on."""
+    return "(" + ", ".join(f"{quoted(name)} {place}" for place, name in enumerate(names, first)) + ")"
+
+
+def curves(name, values_and_looks, first):
+    """The data of curves that keep the value of each tick, from `first` on, to the next one; and how gnuplot draws them."""
+    data, drawn = [], []
+    for number, (values, looks) in enumerate(values_and_looks):
+        points = thinned(corners(values, first), lambda point: (point[0] - first) * 2 * WIDTH // len(values))
+        data.append(block(f"{name}{number}", points))
+        drawn.append(f"${name}{number} with lines {looks}")
+    return "".join(data), drawn
+
+
+def looks_of(colour, width, dashes=None, title=None, second=False):
+    """How a curve looks; on the second scale if so."""
+    return (f"{'axes x1y2 ' if second else ''}lw {width}{f' dashtype {dashes}' if dashes else ''} lc rgb '{colour}' "
+            + (f"title {quoted(title)}" if title else "notitle"))
+
+
+def torque_scale(highest, signs):
+    """The axis of torque in the lower part of a panel; and above it, on the second one, what three signs say at 1."""
+    yield f"set yrange [0:{highest * 18 / 11}]\nset ytics nomirror 0,{step_of(highest, 6)},{highest}\n"
+    yield "set y2range [-11.5:7]\nset y2tics nomirror "
+    yield "(" + ", ".join(f"{quoted(sign)} {2.5 * place + 1}" for place, sign in enumerate(signs)) + ")\n"
+    yield "set ylabel 'torque, tenths of Nm'\n"
+
+
+def terminal(picture, height):
+    """What gnuplot writes: a PNG, or an SVG, by the name. It counts the size of a text in points there, here in pixels."""
+    kind, size = ("svg", PIXELS) if picture.endswith(".svg") else ("pngcairo", PIXELS * 3 / 4)
+    return (f"set terminal {kind} size {WIDTH},{height} font 'Sans,{size:.1f}' background 'white'\n"
+            f"set encoding utf8\nset key noenhanced\nset grid xtics ytics lt 1 lc rgb '{GRID}'\n")
+
+
+def draw(picture, height, lines, instead=""):
+    """Writes a picture. gnuplot reads no settings of its user. `instead` tells what serves without gnuplot."""
+    script = terminal(picture, height) + "".join(lines)
+    try:
+        done = subprocess.run(["gnuplot", "-d", "-"], input=script.encode(), capture_output=True, check=False)
+    except FileNotFoundError:
+        fail(f"needs gnuplot (the package gnuplot-nox){instead}")
+    if done.returncode or not done.stdout:
+        fail(f"gnuplot ends with {done.returncode}: {' '.join(done.stderr.decode(errors='replace').split())}")
+    try:
+        with open(picture, "wb") as file:
+            file.write(done.stdout)
+    except OSError as error:
+        fail(f"cannot write {picture}: {error.strerror}")
