@@ -149,3 +149,13 @@ def hold_stretches(name, drawn, values, first, places):
             need(max(beside, default=-9) > -SIDE, f"{name} {text}: from {begin:.1f} to {end:.1f}")
             covered = sum(max(0, min(end + SIDE, there + SIDE / 2) - max(begin - SIDE, here - SIDE / 2)) for here, there in other)
             need(covered >= end - begin - SIDE, f"{name} {text}: a part from {begin:.1f} to {end:.1f}")
+
+
+def read(name, call, *words):
+    """Whether a picture is as it should be; else what is wrong with it is told."""
+    try:
+        call(*words)
+        return True
+    except (Unread, ValueError) as fault:
+        print(f"{name}: {fault}")
+        return False
