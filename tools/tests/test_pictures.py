@@ -1,0 +1,62 @@
+"""The pictures of a run and of a sweep. What they look like as a whole, read_back compares."""
+
+import unittest
+import xml.etree.ElementTree
+
+from lib.pictures import LEFT, MOST_ROWS, RIGHT, WIDTH, Scale, curve, placed, record_picture, spans, sweep_picture
+
+RECORD = {"tick": [588, 589, 590], "torque": [0, 900, 900], "limit": [200] * 3, "path1": [1] * 3, "path2": [1] * 3,
+          "on": [1, 1, 0], "found": ["-", "-", "torque"]}
+
+
+class Scales(unittest.TestCase):
+    def test_ticks_go_from_side_to_side(self):
+        scale = Scale(588, 3, 1000, 20)
+        self.assertEqual([scale.x(588), scale.x(591)], [LEFT, WIDTH - RIGHT])
+        self.assertEqual([scale.y(0), scale.y(1000)], [scale.bottom, 20])
+
+    def test_curve_stands_at_its_ticks(self):
+        scale = Scale(588, 3, 900, 0)
+        self.assertEqual(list(curve([0, 900, 900], scale)),
+                         [(LEFT, 180), (LEFT + 114, 180), (LEFT + 114, 0), (WIDTH - RIGHT, 0)])
+
+    def test_spans_are_joined_where_no_gap_is_seen(self):
+        self.assertEqual(spans([1, 0, 1], Scale(0, 3, 1, 0)), [[LEFT, LEFT + 114], [LEFT + 228, WIDTH - RIGHT]])
+        many = Scale(0, 34200, 1, 0)  # a hundred ticks are a point
+        self.assertEqual(spans([1, 0] * 17100, many), [[LEFT, WIDTH - RIGHT - 0.01]])
+        self.assertEqual(spans([0, 0], Scale(0, 2, 1, 0)), [])
+
+
+class Marks(unittest.TestCase):
+    def test_words_that_would_touch_stand_in_rows(self):
+        rows = [row for *_, row in placed([(10, "torque 10"), (11, "start 11"), (90, "answers 90")], Scale(0, 100, 1, 0))]
+        self.assertEqual(rows, [0, 1, 0])
+
+    def test_words_stay_within_the_picture(self):
+        for tick in (0, 99):
+            [(_, words, x, _)] = placed([(tick, f"torque {tick}")], Scale(0, 100, 1, 0))
+            half = 0.62 * 10 * len(words) / 2
+            self.assertTrue(half <= x <= WIDTH - half)
+
+    def test_of_too_many_rows_no_words_are_left(self):
+        rows = [row for *_, row in placed([(50, f"torque {number}") for number in range(8)], Scale(0, 100, 1, 0))]
+        self.assertEqual(rows, [*range(MOST_ROWS), None, None])
+
+
+class Pictures(unittest.TestCase):
+    def test_record_is_a_picture_with_its_name(self):
+        root = xml.etree.ElementTree.fromstring("\n".join(record_picture("r", "A run", "words", RECORD, 200, [(590, "torque 590")])))
+        texts = [element.text for element in root.iter("{http://www.w3.org/2000/svg}text")]
+        for word in ("588", "591", "torque", "permitted", "permitted and threshold", "excess", "stages on", "torque 590"):
+            self.assertIn(word, texts)
+        self.assertEqual(root.get("aria-describedby"), "r-about")
+
+    def test_sweep_tells_each_reaction(self):
+        source = "\n".join(sweep_picture("s", "A sweep", "words", {"halt": 29, "bus": None, "lapse": 0}, 34))
+        texts = [element.text for element in xml.etree.ElementTree.fromstring(source).iter("{http://www.w3.org/2000/svg}text")]
+        for word in ("halt", "29", "bus", "none", "lapse", "0", "R 34"):
+            self.assertIn(word, texts)
+
+
+if __name__ == "__main__":
+    unittest.main()
