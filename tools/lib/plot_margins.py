@@ -7,7 +7,7 @@ from lib.gnuplot import DARK, INK, PIXELS, TOP_OF_FOUND, block, looks_of, named_
 from lib.tool import fail
 
 MOST_NAMES = 24  # of runs that can stand below their weights
-TITLE, PANEL, HEAD = 30, 150, 40  # how high the title is, and a panel, and what stands above its frame
+TITLE, PANEL, HEAD = 34, 165, 55  # how high the title is, and a panel, and what stands above its frame
 
 
 def weights_of(name, lines, limits):
@@ -36,7 +36,7 @@ def panel(watch, shares):
 def axis_of(names):
     """What stands below the last panel, and how high that is: the names of the runs, or their numbers if there are many."""
     if len(names) > MOST_NAMES:
-        return "set xtics nomirror format '%g' autofreq\nset xlabel 'run'\n", 60
+        return "set xtics nomirror format '%g' autofreq\nset xlabel 'run'\n", 72
     return (f"set xtics nomirror format '%g' rotate by -90 {named_places(names, 1)}\n",
             30 + round(0.65 * PIXELS * max(map(len, names))))
 

@@ -26,7 +26,7 @@ def by_which(calibration):
 
 def bars(files, sweeps):
     """The data of the bars, how they are drawn, and their numbers. No line of a sweep tells by which calibration it is."""
-    data, drawn, numbers, width = [], [], [], 0.8 / len(files)
+    data, drawn, numbers, width = [], [], [], 0.92 / len(files)
     for place, ((name, _, calibration), sweep) in enumerate(zip(files, sweeps)):
         shift = (place - (len(files) - 1) / 2) * width
         data.append(block(f"sweep{place}", [(at + shift, reaction or 0, width, "none" if reaction is None else reaction)

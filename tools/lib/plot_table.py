@@ -7,7 +7,7 @@ from lib.program import reaction_bound
 from lib.svg import step_of
 from lib.tool import fail
 
-PANEL = 190  # high
+HEAD, PANEL = 40, 200  # how high the title is, and a panel
 
 
 def points_of(name, lines):
@@ -57,8 +57,9 @@ def picture(files, *_):
     highest = max([bound, *(reaction for places in points.values() for reaction in places.values())])
     beside, columns = max((max(onsets) - min(onsets)) / 30, 1), min(len(points), 2)
     rows = -(-len(points) // columns)
-    return 60 + PANEL * rows, [
-        f"set multiplot layout {rows},{columns} title {quoted(f'{name}: reactions by onset; R, {bound}, is dashed')} noenhanced\n",
-        f"set xrange [{min(onsets) - beside}:{max(onsets) + beside}]\nset yrange [0:{highest * 1.15}]\n",
-        f"set xtics nomirror autofreq\nset ytics nomirror 0,{step_of(highest, 4)}\nset xlabel 'onset, tick'\nset ylabel 'ticks'\nset lmargin 8\nset rmargin 2\n",
+    return HEAD + PANEL * rows, [
+        f"set multiplot layout {rows},{columns} title {quoted(f'{name}: reactions by onset; R, {bound}, is dashed')} "
+        f"noenhanced\nset xrange [{min(onsets) - beside}:{max(onsets) + beside}]\nset yrange [0:{highest * 1.15}]\n",
+        f"set xtics nomirror autofreq\nset ytics nomirror 0,{step_of(highest, 4)}\nset xlabel 'onset, tick'\n",
+        "set ylabel 'ticks'\nset lmargin 8\nset rmargin 2\nset tmargin 2.7\nset bmargin 3.2\n",
         *(panel(place, kind, places, bound) for place, (kind, places) in enumerate(points.items())), "unset multiplot\n"]

@@ -18,9 +18,11 @@ def printed(folder, *words, text=""):
     return done.stdout
 
 
-def egasim(folder, command, calibration, *words):
+def egasim(folder, command, calibration, *words, text=""):
+    """What a command of the program prints, with this on standard input."""
     program = os.environ.get("EGASIM_PROGRAM") or os.path.join(TOP, "egasim")
-    return printed(folder, os.path.realpath(program), command, *(["--cal", calibration] if calibration else []), *words)
+    return printed(folder, os.path.realpath(program), command, *(["--cal", calibration] if calibration else []), *words,
+                   text=text)
 
 
 def kinds(folder):

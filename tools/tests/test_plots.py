@@ -42,8 +42,8 @@ class Sweeps(unittest.TestCase):
 
     def test_bars_stand_side_by_side(self):
         data, drawn, numbers = plot_sweeps.bars([("a", [], None), ("b", [], "c.toml")], [{"halt": 29}, {"halt": None}])
-        self.assertEqual(data, ["$sweep0 << END_OF_DATA\n-0.2 29 0.4 29\nEND_OF_DATA\n",
-                                "$sweep1 << END_OF_DATA\n0.2 0 0.4 none\nEND_OF_DATA\n"])
+        self.assertEqual(data, ["$sweep0 << END_OF_DATA\n-0.23 29 0.46 29\nEND_OF_DATA\n",
+                                "$sweep1 << END_OF_DATA\n0.23 0 0.46 none\nEND_OF_DATA\n"])
         self.assertIn("title 'b by c.toml'", drawn[1])
         self.assertEqual(len(numbers), 2)
 
@@ -71,7 +71,7 @@ class Tables(unittest.TestCase):
         height, script = script_of(plot_table.picture([("t", lines, None)]))
         self.assertIn("set xrange [499.0:531.0]", script)
         self.assertIn("layout 2,2", script)
-        self.assertEqual(height, 60 + 2 * plot_table.PANEL)
+        self.assertEqual(height, plot_table.HEAD + 2 * plot_table.PANEL)
         self.assertEqual(script.count("\nplot "), 3)
         self.assertEqual(script.count("34 with lines"), 2)  # none under lapses
         self.assertEqual(note_of(plot_table.picture, [("t", lines, None)] * 2), "one table makes a picture")
