@@ -32,13 +32,14 @@ def signals_of(name, lines):
     return dict(zip([*SIGNALS, "found"], map(list, zip(*ticks))))
 
 
+def is_trip(watches):
+    return watches not in ("-", "pedal")
+
+
 def up_to_trip(signals):
-    """The signals up to the trip, if there is one, and what the title says of it: behind it level 2 sees nothing."""
-    for place, watches in enumerate(signals["found"]):
-        if watches not in ("-", "pedal"):
-            return ({name: column[:place + 1] for name, column in signals.items()},
-                    f", up to the trip at {signals['tick'][place]}")
-    return signals, ""
+    """The signals up to the trip, if there is one: behind it level 2 sees nothing."""
+    end = next((place + 1 for place, watches in enumerate(signals["found"]) if is_trip(watches)), None)
+    return {name: column[:end] for name, column in signals.items()}
 
 
 def shares_of(name, signals, limits):
@@ -56,7 +57,8 @@ def marks(signals, ticks):
         if watches != "-":
             side = "left" if tick - ticks[0] < len(ticks) / 2 else "right"
             yield f"set arrow from {tick}, graph 0 to {tick}, graph 1 nohead dashtype 3 lc rgb '{INK}'\n"
-            yield f"set label {1 + row} {quoted(f'{watches} {tick}')} at {tick}, graph 1 {side} offset 0,{0.6 + row} noenhanced\n"
+            yield (f"set label {1 + row} {quoted(f'{watches} {tick}')} at {tick}, graph 1 {side} "
+                   f"offset 0,{0.6 + row} noenhanced\n")
             row = (row + 1) % 2
 
 
@@ -88,8 +90,9 @@ def picture(files, first, last):
     if len(files) > 1:
         fail("signals of one measurement make a picture")
     [(name, lines, calibration)] = files
-    every = part_of(name, signals_of(name, lines), first, last)
-    signals, until = up_to_trip(every)
+    whole = signals_of(name, lines)
+    every, signals = part_of(name, whole, first, last), part_of(name, up_to_trip(whole), first, last)
+    until = f", up to the trip at {signals['tick'][-1]}" if is_trip(signals["found"][-1]) else ""
     shares = shares_of(name, signals, weight_limits_of(calibration))
     return HEIGHT, [
         "set key outside center bottom horizontal maxcols 2\nset xlabel 'tick'\n",

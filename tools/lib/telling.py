@@ -253,7 +253,7 @@ def pictures(played):
 def run_figure(place, title, record, threshold, marks):
     yield "<figure>"
     yield from record_picture(place, f"{title}: torque, permitted torque and threshold, excess, stages",
-                              about_run(record, threshold), record, threshold, marks[:MOST_MARKS])
+                              about_run(record, threshold), record, threshold, most_marks(marks))
     yield "</figure>"
 
 
@@ -278,11 +278,17 @@ def fault_said(row):
 
 
 def marks_of(record, given):
-    """What stands above the picture of a run."""
-    short = {ONSET: "fault", CONFIRMED: "confirmed", R_PASSED: "R passed"}
-    told = [(tick, f"{short.get(words, 'trap')} {tick}") for tick, words in given if words != RESET]
+    """What stands above the picture of a run: first each confirmed excess, and last the resets."""
+    short = {ONSET: "fault", CONFIRMED: "confirmed", R_PASSED: "R passed", RESET: "reset"}
+    told = [(tick, f"{short.get(words, 'trap')} {tick}") for tick, words in given]
     told += [(first, f"{watch} {first}") for first, _, watch in finds(record)]
-    return [*told, *((tick, f"reset {tick}") for tick, words in given if words == RESET)]
+    return sorted(told, key=lambda mark: {"confirmed": 0, "reset": 2}.get(mark[1].split()[0], 1))
+
+
+def most_marks(marks):
+    """Of many marks each confirmed excess, and of the others the first."""
+    confirmed = sum(words.startswith("confirmed ") for _, words in marks)
+    return marks[:max(confirmed, MOST_MARKS)]
 
 
 def event_table(record, threshold, told):

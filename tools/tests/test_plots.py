@@ -103,11 +103,17 @@ class Signals(unittest.TestCase):
     LINES = [HEADER, "0,300,705,700,0,0,0,0,0,0,0,-", "1,300,705,999,1,0,10,0,0,0,4,pedal", "2,300,705,999,1,0,10,0,0,0,5,torque",
              "3,0,0,0,0,0,10,0,0,0,5,-"]
 
-    def test_columns_up_to_the_trip(self):
-        signals, until = plot_signals.up_to_trip(plot_signals.signals_of("s", self.LINES))
-        self.assertEqual((signals["tick"], signals["found"], until), ([0, 1, 2], ["-", "pedal", "torque"], ", up to the trip at 2"))
-        whole, until = plot_signals.up_to_trip(plot_signals.signals_of("s", self.LINES[:3]))
-        self.assertEqual((whole["tick"], until), ([0, 1], ""))
+    def test_signals_end_at_the_trip(self):
+        whole = plot_signals.signals_of("s", self.LINES)
+        self.assertEqual([plot_signals.up_to_trip(whole)[name] for name in ("tick", "found")],
+                         [[0, 1, 2], ["-", "pedal", "torque"]])
+        self.assertEqual(plot_signals.up_to_trip(plot_signals.signals_of("s", self.LINES[:3]))["tick"], [0, 1])
+
+    def test_title_says_which_trip_is_drawn(self):
+        for first, last, title in ((None, None, "'s, up to the trip at 2'"), (0, 1, "'s'"), (2, 3, "'s, up to the trip at 2'")):
+            self.assertIn(f"set title {title} ", script_of(plot_signals.picture([("s", self.LINES, None)], first, last))[1])
+        self.assertEqual(note_of(plot_signals.picture, [("s", self.LINES, None)], 3, 3),
+                         "s has ticks 0 to 2, and none of those that are asked for")
 
     def test_signals_that_were_cut_out_have_their_ticks(self):
         self.assertEqual(plot_signals.signals_of("s", [self.HEADER, *self.LINES[3:]])["tick"], [2, 3])
