@@ -10,7 +10,7 @@ from lib.records import part_of
 from lib.runs import (CONFIRMED, EXCESS, NO_EXCESS, ONSET, R_PASSED, RESET, about_run, confirmed_of, cuts_of, events,
                       excess_of, finds, given_ticks, lacking, windows)
 
-MOST_EVENTS, MOST_MARKS, MOST_CUTS, MOST_NAMES = 30, 12, 6, 10
+MOST_EVENTS, MOST_MARKS, MOST_CUTS, MOST_NAMES = 30, 12, 12, 10
 PARTS = [("limits", "Limits of the calibration"), ("table", "Runs"), ("margins", "Margins"),
          ("sweeps", "Every class of fault"), ("pictures", "Pictures of the runs"), ("assumptions", "Assumptions"),
          ("claims", "What is proved"), ("not-claimed", "What isn't claimed"), ("provenance", "What this page was made from")]

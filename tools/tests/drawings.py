@@ -43,8 +43,8 @@ class Drawing:
         root = xml.etree.ElementTree.fromstring(source)
         self.title, self.about = root.find(f"{SVG}title").text, root.find(f"{SVG}desc").text
         self.texts = [(float(text.get("x")), float(text.get("y")), text.text) for text in root.iter(f"{SVG}text")]
-        self.lines = [(pairs(line.get("points")), (line.get("stroke"), line.get("stroke-dasharray"), line.get("stroke-width")))
-                      for line in root.iter(f"{SVG}polyline")]
+        looks = ("stroke", "stroke-dasharray", "stroke-width")
+        self.lines = [(pairs(line.get("points")), tuple(map(line.get, looks))) for line in root.iter(f"{SVG}polyline")]
         self.boxes = [(*(float(box.get(side)) for side in ("x", "y", "width", "height")), box.get("fill"))
                       for box in root.iter(f"{SVG}rect") if box.get("x")]
 
@@ -147,7 +147,8 @@ def hold_stretches(name, drawn, values, first, places):
         for begin, end in one:
             beside = [min(end, there) - max(begin, here) for here, there in other]
             need(max(beside, default=-9) > -SIDE, f"{name} {text}: from {begin:.1f} to {end:.1f}")
-            covered = sum(max(0, min(end + SIDE, there + SIDE / 2) - max(begin - SIDE, here - SIDE / 2)) for here, there in other)
+            covered = sum(max(0, min(end + SIDE, there + SIDE / 2) - max(begin - SIDE, here - SIDE / 2))
+                          for here, there in other)
             need(covered >= end - begin - SIDE, f"{name} {text}: a part from {begin:.1f} to {end:.1f}")
 
 

@@ -30,7 +30,8 @@ def kinds(folder):
     os.symlink(os.path.join(TOP, "examples"), os.path.join(folder, "examples"))
     drives = {"tick": ("follow", ["300,1500,0,0"]),
               "steady": ("late", [f"{1000 if tick < 4500 else 0},1500,0,0" for tick in range(9000)]),
-              "moves": ("bursts", [f"{tick * 7 % 1001},{800 + tick % 3000},{tick // 100 % 2 * 150},0" for tick in range(20000)]),
+              "moves": ("bursts", [f"{tick * 7 % 1001},{800 + tick % 3000},{tick // 100 % 2 * 150},0"
+                                   for tick in range(20000)]),
               "resets": ("late", [f"{tick // 60 * 300 % 1001},1500,0,{int(tick % 2500 == 0)}" for tick in range(8000)])}
     with open(os.path.join(folder, "kinds.toml"), "w", encoding="utf-8") as campaign:
         for name, (image, rows) in drives.items():

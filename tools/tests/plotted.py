@@ -60,7 +60,7 @@ class Panel:
         return found[0]
 
     def curve_at(self, sign):
-        """The curve without a name that keeps to a sign at the right: and the sign's height, and the height where it fails."""
+        """The curve without a name that keeps to a sign at the right; the sign's height, and the height where it fails."""
         signs = sorted((place, words) for place, words in self.at("right"))
         [height] = [place for place, words in signs if words == sign]
         unit = (signs[1][0] - signs[0][0]) / 2.5

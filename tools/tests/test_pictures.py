@@ -9,6 +9,12 @@ RECORD = {"tick": [588, 589, 590], "torque": [0, 900, 900], "limit": [200] * 3, 
           "on": [1, 1, 0], "found": ["-", "-", "torque"]}
 
 
+def texts_of(lines):
+    """The root of a picture, and its texts."""
+    root = xml.etree.ElementTree.fromstring("\n".join(lines))
+    return root, [element.text for element in root.iter("{http://www.w3.org/2000/svg}text")]
+
+
 class Scales(unittest.TestCase):
     def test_ticks_go_from_side_to_side(self):
         scale = Scale(588, 3, 1000, 20)
@@ -45,15 +51,13 @@ class Marks(unittest.TestCase):
 
 class Pictures(unittest.TestCase):
     def test_record_is_a_picture_with_its_name(self):
-        root = xml.etree.ElementTree.fromstring("\n".join(record_picture("r", "A run", "words", RECORD, 200, [(590, "torque 590")])))
-        texts = [element.text for element in root.iter("{http://www.w3.org/2000/svg}text")]
+        root, texts = texts_of(record_picture("r", "A run", "words", RECORD, 200, [(590, "torque 590")]))
         for word in ("588", "591", "torque", "permitted", "permitted and threshold", "excess", "stages on", "torque 590"):
             self.assertIn(word, texts)
         self.assertEqual(root.get("aria-describedby"), "r-about")
 
     def test_sweep_tells_each_reaction(self):
-        source = "\n".join(sweep_picture("s", "A sweep", "words", {"halt": 29, "bus": None, "lapse": 0}, 34))
-        texts = [element.text for element in xml.etree.ElementTree.fromstring(source).iter("{http://www.w3.org/2000/svg}text")]
+        _, texts = texts_of(sweep_picture("s", "A sweep", "words", {"halt": 29, "bus": None, "lapse": 0}, 34))
         for word in ("halt", "29", "bus", "none", "lapse", "0", "R 34"):
             self.assertIn(word, texts)
 

@@ -52,7 +52,8 @@ class Tables(unittest.TestCase):
     HEADER = "run,class,onset,reaction,bound"
 
     def test_greatest_reaction_of_an_onset_counts(self):
-        lines = [self.HEADER, "a,halt,7,3,34", "b,halt,7,5,34", "c,halt,7,4,34", "d,bus,0,,34", "e,none,,1,34", "f,lapse,9,0,34"]
+        lines = [self.HEADER, "a,halt,7,3,34", "b,halt,7,5,34", "c,halt,7,4,34", "d,bus,0,,34", "e,none,,1,34",
+                 "f,lapse,9,0,34"]
         self.assertEqual(plot_table.points_of("t", lines), ({"halt": {7: 5}, "lapse": {9: 0}}, 34))
 
     def test_what_is_no_table_is_refused(self):
@@ -100,8 +101,8 @@ class Margins(unittest.TestCase):
 
 class Signals(unittest.TestCase):
     HEADER = "tick,used,permitted,actual,excess,pairs,pedal,plate,load,speed,torque,found"
-    LINES = [HEADER, "0,300,705,700,0,0,0,0,0,0,0,-", "1,300,705,999,1,0,10,0,0,0,4,pedal", "2,300,705,999,1,0,10,0,0,0,5,torque",
-             "3,0,0,0,0,0,10,0,0,0,5,-"]
+    LINES = [HEADER, "0,300,705,700,0,0,0,0,0,0,0,-", "1,300,705,999,1,0,10,0,0,0,4,pedal",
+             "2,300,705,999,1,0,10,0,0,0,5,torque", "3,0,0,0,0,0,10,0,0,0,5,-"]
 
     def test_signals_end_at_the_trip(self):
         whole = plot_signals.signals_of("s", self.LINES)
@@ -110,7 +111,8 @@ class Signals(unittest.TestCase):
         self.assertEqual(plot_signals.up_to_trip(plot_signals.signals_of("s", self.LINES[:3]))["tick"], [0, 1])
 
     def test_title_says_which_trip_is_drawn(self):
-        for first, last, title in ((None, None, "'s, up to the trip at 2'"), (0, 1, "'s'"), (2, 3, "'s, up to the trip at 2'")):
+        for first, last, title in (
+                (None, None, "'s, up to the trip at 2'"), (0, 1, "'s'"), (2, 3, "'s, up to the trip at 2'")):
             self.assertIn(f"set title {title} ", script_of(plot_signals.picture([("s", self.LINES, None)], first, last))[1])
         self.assertEqual(note_of(plot_signals.picture, [("s", self.LINES, None)], 3, 3),
                          "s has ticks 0 to 2, and none of those that are asked for")
@@ -130,7 +132,8 @@ class Signals(unittest.TestCase):
 
     def test_weights_in_per_cent(self):
         signals = plot_signals.signals_of("s", self.LINES)
-        self.assertEqual(plot_signals.shares_of("s", signals, LIMITS), {"pedal": [0, 100, 100, 100], "torque": [0, 40, 50, 50]})
+        self.assertEqual(plot_signals.shares_of("s", signals, LIMITS),
+                         {"pedal": [0, 100, 100, 100], "torque": [0, 40, 50, 50]})
         self.assertEqual(note_of(plot_signals.shares_of, "s", signals, {**LIMITS, "torque": 4}),
                          "s is by another calibration: torque has 5 of 4")
 

@@ -51,7 +51,8 @@ class Parts(unittest.TestCase):
         self.assertEqual(part_of("r", self.RECORD, 6, 7), {"tick": [6, 7], "torque": [60, 70]})
 
     def test_part_is_what_is_there(self):
-        for first, last, ticks in ((None, None, [5, 6, 7, 8]), (0, 5, [5]), (8, 99, [8]), (None, 6, [5, 6]), (7, None, [7, 8])):
+        for first, last, ticks in (
+                (None, None, [5, 6, 7, 8]), (0, 5, [5]), (8, 99, [8]), (None, 6, [5, 6]), (7, None, [7, 8])):
             self.assertEqual(part_of("r", self.RECORD, first, last)["tick"], ticks)
 
     def test_part_without_a_tick_is_refused(self):
@@ -124,7 +125,8 @@ class ThinnedCurves(unittest.TestCase):
         for _ in range(2000):
             size = draw.choice((1, 2, 3, 5, 20, 200))
             level = [draw.choice((0, 593, 1400, 2250)) for _ in range(draw.randint(1, 5))]
-            values = [level[draw.randrange(len(level))] if draw.random() < 0.5 else draw.randint(0, 2500) for _ in range(size)]
+            values = [level[draw.randrange(len(level))] if draw.random() < 0.5 else draw.randint(0, 2500)
+                      for _ in range(size)]
             self.hold(values, draw.choice((1, 2, 3, 7, 50, 700)))
 
     def test_long_records(self):

@@ -12,8 +12,8 @@ def record_of(torque, limit=200, on=None, found=None, first=0):
             "path2": [1] * ticks, "on": on or [1] * ticks, "found": found or ["-"] * ticks}
 
 
-ROW = {"class": "halt", "onset": "7", "acted": "1", "confirmed": "9", "settled": "1", "reaction": "3", "bound": "34", "trap": "",
-       "trap_at": ""}
+ROW = {"class": "halt", "onset": "7", "acted": "1", "confirmed": "9", "settled": "1", "reaction": "3", "bound": "34",
+       "trap": "", "trap_at": ""}
 
 
 class Facts(unittest.TestCase):

@@ -13,8 +13,8 @@ class Shapes(unittest.TestCase):
         self.assertEqual(escaped(7), "7")
 
     def test_step_divides_a_span_into_at_most_so_many_parts(self):
-        for span, most, step in ((0, 5, 1), (5, 5, 1), (6, 5, 2), (10, 5, 2), (11, 5, 5), (25, 5, 5), (26, 5, 10), (100, 8, 20),
-                                 (20000, 8, 5000), (2500, 6, 500), (1000000, 5, 200000)):
+        for span, most, step in ((0, 5, 1), (5, 5, 1), (6, 5, 2), (10, 5, 2), (11, 5, 5), (25, 5, 5), (26, 5, 10),
+                                 (100, 8, 20), (20000, 8, 5000), (2500, 6, 500), (1000000, 5, 200000)):
             self.assertEqual(step_of(span, most), step)
 
     def test_shapes_have_a_tenth_of_a_point(self):
@@ -35,7 +35,8 @@ class Shapes(unittest.TestCase):
     def test_picture_is_a_document_with_a_title_and_a_text(self):
         source = "\n".join(picture("run", 40, 20, "<A>", 'is "so"', [text(1, 2, "&")]))
         root = xml.etree.ElementTree.fromstring(source)
-        self.assertEqual((root.get("width"), root.get("viewBox"), root.get("aria-describedby")), ("40", "0 0 40 20", "run-about"))
+        self.assertEqual([root.get(name) for name in ("width", "viewBox", "aria-describedby")],
+                         ["40", "0 0 40 20", "run-about"])
         self.assertEqual([element.text for element in root[:2]], ["<A>", 'is "so"'])
 
 

@@ -56,9 +56,9 @@ class Cuts(unittest.TestCase):
         self.assertEqual(len(self.titles([(10, 59)], short)[0]), 1)
 
     def test_of_many_cuts_the_next_is_told(self):
-        titles, text = self.titles([(tick, tick + 80) for tick in range(0, 900, 100)])
+        titles, text = self.titles([(tick, tick + 80) for tick in range(0, 1500, 100)])
         self.assertEqual(len(titles), MOST_CUTS)
-        self.assertIn("3 more such stretches of ticks aren't drawn; the next begins at 600.", text.replace("&#x27;", "'"))
+        self.assertIn("3 more such stretches of ticks aren't drawn; the next begins at 1200.", text.replace("&#x27;", "'"))
 
 
 if __name__ == "__main__":
