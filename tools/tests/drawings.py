@@ -6,7 +6,8 @@ import re
 import xml.etree.ElementTree
 
 SVG = "{http://www.w3.org/2000/svg}"
-NEAR, SIDE = 0.3, 0.7  # points: how exact a place is; and how far beside its place a value may be drawn
+# Points: how exact a place is; how far beside its place a value may be drawn; and from how wide on a gap is seen.
+NEAR, SIDE, GAP = 0.3, 0.7, 1.2
 
 
 class Unread(Exception):
@@ -126,6 +127,7 @@ def hold(name, points, wanted, near=NEAR):
     """Refuses a curve that isn't the one that is wanted: it goes on, begins and ends there, and covers at each place what
     the other covers at most a bit beside it, and the other way round."""
     wanted = list(wanted)
+    need(points, f"{name} isn't in its frame")
     need(all(one <= other for (one, _), (other, _) in zip(points, points[1:])), f"{name} runs backwards")
     for end in (0, -1):
         need(all(abs(one - other) < near for one, other in zip(points[end], wanted[end])),
@@ -140,16 +142,24 @@ def hold(name, points, wanted, near=NEAR):
         place += 0.5
 
 
-def hold_stretches(name, drawn, values, first, places):
-    """Refuses stretches that aren't those of the ticks at which the values are true."""
-    wanted = [(places(tick), places(tick + 1)) for tick, value in enumerate(values, first) if value]
+def hold_stretches(word, drawn, values, first, places):
+    """Refuses stretches that aren't those of the ticks at which the values are true, or that hide a gap that can be seen."""
+    wanted = []
+    for tick, value in enumerate(values, first):
+        if value and wanted and wanted[-1][1] == places(tick):
+            wanted[-1] = wanted[-1][0], places(tick + 1)
+        elif value:
+            wanted.append((places(tick), places(tick + 1)))
     for one, other, text in ((drawn, wanted, "is where the record isn't"), (wanted, drawn, "isn't where the record is")):
         for begin, end in one:
-            beside = [min(end, there) - max(begin, here) for here, there in other]
-            need(max(beside, default=-9) > -SIDE, f"{name} {text}: from {begin:.1f} to {end:.1f}")
             covered = sum(max(0, min(end + SIDE, there + SIDE / 2) - max(begin - SIDE, here - SIDE / 2))
                           for here, there in other)
-            need(covered >= end - begin - SIDE, f"{name} {text}: a part from {begin:.1f} to {end:.1f}")
+            need(covered >= end - begin - SIDE and any(here < end + SIDE and begin - SIDE < there for here, there in other),
+                 f"{word} {text}: from {begin:.1f} to {end:.1f}")
+    for (_, begin), (end, _) in zip(wanted, wanted[1:]):
+        middle = (begin + end) / 2
+        need(end - begin < GAP or not any(here < middle < there for here, there in drawn),
+             f"{word} hides a gap from {begin:.1f} to {end:.1f}")
 
 
 def read(name, call, *words):
