@@ -16,8 +16,8 @@ TORQUE, MOST, PERMITTED = (DARK, 3, None), (MIDDLE, 1.5, None), (MIDDLE, 1.2, "(
 
 
 def quoted(text):
-    """A text of gnuplot."""
-    return "'" + "".join(c if c.isprintable() else "?" for c in text).replace("'", "''") + "'"
+    """A text of gnuplot. What means something there stands as its number: a quote that begins a text would end it."""
+    return '"' + "".join(f"\\{ord(c):03o}" if c in "'\"\\`@" else c if c.isprintable() else "?" for c in text) + '"'
 
 
 def block(name, rows):

@@ -11,21 +11,23 @@ from lib.gnuplot import block, curves, draw, looks_of, named_places, quoted, ter
 
 
 class Words(unittest.TestCase):
-    def test_quotes_are_doubled_and_what_cannot_be_seen_is_no_text(self):
-        self.assertEqual(quoted("it's \"so\".csv"), "'it''s \"so\".csv'")
-        self.assertEqual(quoted("a\nb\x1b`\\"), "'a?b?`\\'")
+    def test_signs_of_gnuplot_are_numbers_and_what_cannot_be_seen_is_no_text(self):
+        self.assertEqual(quoted("a b.csv"), '"a b.csv"')
+        self.assertEqual(quoted("'it''s \"so\""), '"\\047it\\047\\047s \\042so\\042"')
+        self.assertEqual(quoted("`\\n@a"), '"\\140\\134n\\100a"')
+        self.assertEqual(quoted("a\nb\x1b\u00e9"), '"a?b?\u00e9"')
 
     def test_data_stand_under_their_name(self):
         self.assertEqual(block("a", [(1, 2), (3, 4.5)]), "$a << END_OF_DATA\n1 2\n3 4.5\nEND_OF_DATA\n")
         self.assertEqual(block("a", []), "$a << END_OF_DATA\nEND_OF_DATA\n")
 
     def test_names_stand_at_places(self):
-        self.assertEqual(named_places(["a", "b'c"]), "('a' 0, 'b''c' 1)")
-        self.assertEqual(named_places(["a"], 1), "('a' 1)")
+        self.assertEqual(named_places(["a", "b'c"]), '("a" 0, "b\\047c" 1)')
+        self.assertEqual(named_places(["a"], 1), '("a" 1)')
 
     def test_looks(self):
         self.assertEqual(looks_of("#123456", 2), "lw 2 lc rgb '#123456' notitle")
-        self.assertEqual(looks_of("#123456", 1, 2, "R", second=True), "axes x1y2 lw 1 dashtype 2 lc rgb '#123456' title 'R'")
+        self.assertEqual(looks_of("#123456", 1, 2, "R", second=True), "axes x1y2 lw 1 dashtype 2 lc rgb '#123456' title \"R\"")
 
     def test_curve_stands_at_its_ticks(self):
         data, drawn = curves("a", [([7, 9], "lw 1"), ([0, 0], "lw 2")], 588)
@@ -36,7 +38,7 @@ class Words(unittest.TestCase):
     def test_signs_stand_above_the_torque(self):
         told = "".join(torque_scale(1100, ("on", "off", "it's")))
         self.assertIn("set yrange [0:1800.0]", told)
-        self.assertIn("('on' 1.0, 'off' 3.5, 'it''s' 6.0)", told)
+        self.assertIn('("on" 1.0, "off" 3.5, "it\\047s" 6.0)', told)
 
     def test_kind_of_picture_is_that_of_its_name(self):
         self.assertIn("set terminal pngcairo size 640,400 font 'Sans,11.0'", terminal("a.png", 400))

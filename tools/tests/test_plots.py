@@ -22,7 +22,7 @@ class Records(unittest.TestCase):
         height, script = script_of(plot_records.picture([("it's", self.LINES, None)] * 2, 3, 5))
         self.assertEqual(height, 2 * plot_records.HEIGHT)
         self.assertEqual(script.count("set xrange [3:6]\n"), 2)
-        self.assertEqual(script.count("set title 'it''s' noenhanced\n"), 2)
+        self.assertEqual(script.count('set title "it\\047s" noenhanced\n'), 2)
         self.assertIn("3 3\n4 3\n4 4\n5 4\n5 5\n6 5\n", script)
 
 
@@ -44,7 +44,7 @@ class Sweeps(unittest.TestCase):
         data, drawn, numbers = plot_sweeps.bars([("a", [], None), ("b", [], "c.toml")], [{"halt": 29}, {"halt": None}])
         self.assertEqual(data, ["$sweep0 << END_OF_DATA\n-0.23 29 0.46 29\nEND_OF_DATA\n",
                                 "$sweep1 << END_OF_DATA\n0.23 0 0.46 none\nEND_OF_DATA\n"])
-        self.assertIn("title 'b by c.toml'", drawn[1])
+        self.assertIn('title "b by c.toml"', drawn[1])
         self.assertEqual(len(numbers), 2)
 
 
@@ -95,7 +95,7 @@ class Margins(unittest.TestCase):
                          "m has no weight above 0: nothing bad was seen in a run")
 
     def test_many_runs_have_numbers(self):
-        self.assertIn("'run24' 24)", plot_margins.axis_of([f"run{number}" for number in range(1, 25)])[0])
+        self.assertIn('"run24" 24)', plot_margins.axis_of([f"run{number}" for number in range(1, 25)])[0])
         self.assertIn("set xlabel 'run'", plot_margins.axis_of(["run"] * 25)[0])
 
 
@@ -112,8 +112,8 @@ class Signals(unittest.TestCase):
 
     def test_title_says_which_trip_is_drawn(self):
         for first, last, title in (
-                (None, None, "'s, up to the trip at 2'"), (0, 1, "'s'"), (2, 3, "'s, up to the trip at 2'")):
-            self.assertIn(f"set title {title} ", script_of(plot_signals.picture([("s", self.LINES, None)], first, last))[1])
+                (None, None, "s, up to the trip at 2"), (0, 1, "s"), (2, 3, "s, up to the trip at 2")):
+            self.assertIn(f'set title "{title}" ', script_of(plot_signals.picture([("s", self.LINES, None)], first, last))[1])
         self.assertEqual(note_of(plot_signals.picture, [("s", self.LINES, None)], 3, 3),
                          "s has ticks 0 to 2, and none of those that are asked for")
 
@@ -140,8 +140,8 @@ class Signals(unittest.TestCase):
     def test_marks_stay_within_the_frame(self):
         signals = plot_signals.signals_of("s", self.LINES)
         told = list(plot_signals.marks(signals, signals["tick"]))
-        self.assertIn("'pedal 1' at 1, graph 1 left offset 0,0.6", told[1])
-        self.assertIn("'torque 2' at 2, graph 1 right offset 0,1.6", told[3])
+        self.assertIn('"pedal 1" at 1, graph 1 left offset 0,0.6', told[1])
+        self.assertIn('"torque 2" at 2, graph 1 right offset 0,1.6', told[3])
 
 
 if __name__ == "__main__":
