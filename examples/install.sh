@@ -1,6 +1,8 @@
-# Installed to a folder, called there, and taken away again; a file of somebody else stays.
+# Installed to a folder by somebody whose own files nobody else may read, called there, and taken away again; a file of
+# somebody else stays.
 work=$(mktemp -d) && trap 'rm -rf "$work"' EXIT
-tools/install "$work/place" | sed "s|$work|WORK|g; s/[0-9]* files/N files/"
+(umask 077 && tools/install "$work/place") | sed "s|$work|WORK|g; s/[0-9]* files/N files/"
+find "$work/place" ! -type l ! -perm -o=r
 "$work/place/bin/egasim" bound
 "$work/place/bin/egasim" --version | grep -c '^program'
 "$work/place/bin/egasim-answer" gone.toml 2>&1

@@ -1,15 +1,25 @@
-"""Files as the tools read them: whole, within bounds, and never a device or a pipe."""
+"""Files as the tools read them: whole, within bounds, and never a device or a pipe. And as they write them: under
+another name until they are whole, so that whoever reads meanwhile has the old file or the new one."""
 
+import contextlib
+import fcntl
 import hashlib
 import os
+import re
+import shutil
 import stat
 import sys
+import tempfile
 
-from lib.tool import fail
+from lib.tool import TOOL, as_noted, fail
 
 TOOLS = os.path.dirname(os.path.dirname(os.path.realpath(__file__)))
 TOP = os.path.dirname(TOOLS)
 MOST_BYTES = 1 << 28  # of a file that a tool reads
+PREFIX, PART = ".egasim-", re.compile(r"\.egasim-[a-z0-9_]{8}")  # of what a tool writes until it has its name
+
+
+# Read
 
 
 def read(name):
@@ -50,3 +60,129 @@ def text_on_standard_input():
 
 def sum_of(content):
     return hashlib.sha256(content).hexdigest()
+
+
+def sum_of_file(name):
+    """The checksum of a file of any length."""
+    with open(name, "rb") as file:
+        return hashlib.file_digest(file, "sha256").hexdigest()
+
+
+# Written
+
+
+def write(name, content, mode=None):
+    """Writes a file whole, as `written` does."""
+    with written(name, mode) as file:
+        file.write(content)
+
+
+@contextlib.contextmanager
+def written(name, mode=None):
+    """A file to write bytes to, which gets the name when all is written and on the disk. It takes over owner, group and
+    mode of the file that it replaces; a new one has what the system gives. `mode` is another one."""
+    part = None
+    try:
+        old = replaceable(name)
+        handle, part = locked_part(os.path.dirname(os.path.abspath(name)), tempfile.mkstemp)
+        with os.fdopen(handle, "wb") as file:
+            yield file
+            file.flush()
+            take_over(handle, old, mode)
+            os.fsync(handle)
+            os.replace(part, name)
+    except OSError as error:
+        if error.filename not in (None, name, part):
+            raise
+        fail(f"cannot write {name}: {error.strerror}")
+    finally:
+        if part and os.path.lexists(part):
+            os.unlink(part)
+
+
+def replaceable(name):
+    """The status of the file that another one is to replace, or None where there is none."""
+    if not os.path.lexists(name):
+        return None
+    if os.path.isfile(name) and not os.access(name, os.W_OK):
+        fail(f"cannot write {name}: its mode doesn't allow that")
+    return os.lstat(name)
+
+
+def take_over(handle, old, mode):
+    """Gives an open file owner, group and mode of an old one, if there is one, or the mode that is asked for."""
+    is_file = old is not None and stat.S_ISREG(old.st_mode)
+    new = os.fstat(handle)
+    if is_file and (old.st_uid, old.st_gid) != (new.st_uid, new.st_gid):
+        try:
+            os.fchown(handle, old.st_uid, old.st_gid)
+        except OSError as error:
+            raise OSError(error.errno, "its owner and group can't be kept") from error
+    os.fchmod(handle, mode if mode is not None else stat.S_IMODE(old.st_mode) if is_file else 0o666 & ~mask())
+
+
+def mask():
+    """The permissions that new files of this process don't get."""
+    now = os.umask(0o077)
+    os.umask(now)
+    return now
+
+
+@contextlib.contextmanager
+def room_in(folder):
+    """A folder of the tool's own within another one, which is removed in the end."""
+    handle, room = locked_part(folder, make_folder)
+    try:
+        yield room
+    finally:
+        shutil.rmtree(room, ignore_errors=True)
+        os.close(handle)
+
+
+def make_folder(**where):
+    room = tempfile.mkdtemp(**where)
+    return os.open(room, os.O_RDONLY | os.O_DIRECTORY | os.O_CLOEXEC), room
+
+
+def locked_part(folder, make):
+    """Makes a file or a folder within a folder, and locks it as long as it is open: (handle, path). What killed tools have
+    left there, which nobody locks any more, is removed first."""
+    remove_left(folder)
+    while True:
+        handle, part = make(dir=folder, prefix=PREFIX)
+        if lock(handle) is not False and os.path.lexists(part):
+            return handle, part
+        os.close(handle)
+
+
+def lock(handle):
+    """True if the lock of an open file is had now, False if somebody else has it, None if there are no locks here."""
+    try:
+        fcntl.flock(handle, fcntl.LOCK_EX | fcntl.LOCK_NB)
+        return True
+    except BlockingIOError:
+        return False
+    except OSError:
+        return None
+
+
+def remove_left(folder):
+    """Removes what killed tools have left in a folder. Where nobody can tell who uses it, it is told."""
+    try:
+        names = sorted(filter(PART.fullmatch, os.listdir(folder)))
+    except OSError:  # one may write to a folder that one can't list
+        return
+    for path in (os.path.join(folder, name) for name in names):
+        try:
+            handle = os.open(path, os.O_RDONLY | os.O_NONBLOCK | os.O_NOFOLLOW | os.O_CLOEXEC)
+        except OSError:  # it is gone, or somebody else's
+            continue
+        is_left = lock(handle)
+        if is_left and os.path.isdir(path):
+            shutil.rmtree(path, ignore_errors=True)
+        elif is_left:
+            with contextlib.suppress(OSError):
+                os.unlink(path)
+        elif is_left is None:
+            print(as_noted(f"{TOOL}: {path} was left by a call that was killed, unless one goes on"), file=sys.stderr)
+        os.close(handle)

@@ -33,6 +33,10 @@ def guarded(main):
         fail(f"{error.filename or 'output'}: {error.strerror}")
     except MemoryError:
         fail("no memory")
+    except RecursionError:
+        fail("a file is too deep")
+    except OverflowError:
+        fail("a number is out of range")
     except ValueError as error:
         fail(f"a file can't be read: {error}")
     except KeyboardInterrupt:
