@@ -1,10 +1,16 @@
 """TOML: what a file holds, and how values are written."""
 
+import re
 import tomllib
 
 from lib.files import text_of
 from lib.tool import fail
 
+MOST_DEPTH, MOST_DOTS = 32, 1000  # of a file: tables and lists within each other, dots of keys
+# What may hold dots that aren't of a key: texts, over lines or not, and comments. One without an end goes to the end.
+LONG_TEXTS = r'''"""(?:\\.|[^\\])*?(?:"{3,5}|\\?\Z)|\'\'\'.*?(?:'{3,5}|\Z)'''
+TEXT = re.compile(LONG_TEXTS + r'''|"(?:\\.|[^"\\\n])*"?|'[^'\n]*'?|#[^\n]*''', re.S)
+BARE = re.compile(r"[A-Za-z0-9_-]+")
 
 
 def toml_of(name):
@@ -13,11 +19,26 @@ def toml_of(name):
 
 
 def toml_in(name, text):
-    """What the text of a TOML file holds."""
+    """What the text of a TOML file holds. Python's tomllib takes time by the square of a key's dots, so they are counted
+    first; and it takes numbers of any length, where TOML has those of 64 bits."""
+    if TEXT.sub("_", text).count(".") > MOST_DOTS:
+        fail(f"{name}: more than {MOST_DOTS} dots in keys")
     try:
-        return tomllib.loads(text)
+        held = tomllib.loads(text)
     except (ValueError, RecursionError) as error:
         fail(f"{name}: not TOML: {str(error) or 'too deep'}")
+    level = [held]
+    for _ in range(MOST_DEPTH):
+        numbers = [value for value in level if isinstance(value, int) and not -2**63 <= value < 2**63]
+        if numbers:
+            fail(f"{name}: not TOML: a number of more than 64 bits")
+        level = [inner for value in level for inner in parts_of(value)]
+    return fail(f"{name}: too deep") if level else held
+
+
+def parts_of(value):
+    """What a value holds, if it is a list or a table."""
+    return value.values() if isinstance(value, dict) else value if isinstance(value, list) else ()
 
 
 def toml_text(value):
@@ -29,8 +50,12 @@ def toml_text(value):
     if isinstance(value, list):
         return "[" + ", ".join(map(toml_text, value)) + "]"
     if isinstance(value, dict):
-        return "{ " + ", ".join(f"{key} = {toml_text(item)}" for key, item in value.items()) + " }"
+        return "{ " + ", ".join(f"{key_text(key)} = {toml_text(item)}" for key, item in value.items()) + " }"
     return str(value)
+
+
+def key_text(key):
+    return key if BARE.fullmatch(key) else toml_text(key)
 
 
 def toml_character(character):
