@@ -2,7 +2,6 @@
 
 import os
 import subprocess
-import sys
 
 from lib.files import TOOLS, TOP, read, sum_of
 from lib.tool import fail
@@ -10,27 +9,31 @@ from lib.tool import fail
 OWN = ", by a program of your own"  # what a version has behind it if the program is another one
 
 
-def is_script(path):
-    with open(path, "rb") as file:
-        return file.read(2) == b"#!"
-
-
 def program():
-    """The program: the one that EGASIM_PROGRAM names, or that of the folder above the tools, or the installed one."""
+    """The program: the one that EGASIM_PROGRAM names, or that of the checkout or the installation that the tools are of,
+    also where they are called by links."""
     named = os.environ.get("EGASIM_PROGRAM")
     if named:
         if not is_program(named):
-            fail(f"{named}, which EGASIM_PROGRAM names, is no program")
+            fail(f"{named}, which EGASIM_PROGRAM names, is no program (a script isn't one)")
         return os.path.realpath(named)
-    for top in (os.path.dirname(os.path.dirname(os.path.abspath(sys.argv[0]))), TOP):
-        if is_program(f"{top}/egasim"):
-            return built_by(f"{top}/egasim") if is_script(f"{top}/egasim") else os.path.realpath(f"{top}/egasim")
+    above = os.path.join(TOP, "egasim")
+    if is_executable(above):
+        return os.path.realpath(above) if is_program(above) else built_by(above)
     installed = os.path.join(TOOLS, "..", "..", "..", "lib", "egasim", "egasim")
     return os.path.realpath(installed) if is_program(installed) else fail("there is no program egasim above the tools")
 
 
-def is_program(path):
+def is_executable(path):
     return os.path.isfile(path) and os.access(path, os.X_OK)
+
+
+def is_program(path):
+    """Whether a file is a program of Linux, which runs by itself, and not by another one as a script does."""
+    if not is_executable(path):
+        return False
+    with open(path, "rb") as file:
+        return file.read(4) == b"\x7fELF"
 
 
 def built_by(launcher):
@@ -38,7 +41,8 @@ def built_by(launcher):
     if subprocess.call([launcher, "bound"], stdout=subprocess.DEVNULL):
         fail(f"{launcher} has built no program")
     top = os.path.dirname(os.path.realpath(launcher))
-    return os.path.realpath(os.path.join(os.environ.get("EGASIM_OUT") or os.path.join(top, "out"), "egasim"))
+    built = os.path.join(os.environ.get("EGASIM_OUT") or os.path.join(top, "out"), "egasim")
+    return os.path.realpath(built) if is_program(built) else fail(f"{launcher} keeps no program")
 
 
 def version_lines():
@@ -46,7 +50,10 @@ def version_lines():
     total = f"program {sum_of(read(program()))}"
     launcher, version = os.path.join(TOP, "egasim"), os.path.join(TOP, "VERSION")
     if os.path.isfile(launcher):
-        told = subprocess.run([launcher, "--version"], stdin=subprocess.DEVNULL, capture_output=True, check=False)
+        # The commit is that of the checkout, whatever Git's variables of the caller name.
+        clean = {name: value for name, value in os.environ.items() if not name.startswith("GIT_")}
+        told = subprocess.run([launcher, "--version"], stdin=subprocess.DEVNULL, capture_output=True, env=clean,
+                              check=False)
         lines = told.stdout.decode().splitlines()
     else:
         lines = read(version).decode().splitlines() if os.path.isfile(version) else []
