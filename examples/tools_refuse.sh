@@ -37,8 +37,24 @@ tools/study join study 2>&1
 tools/study faults examples/levels.toml full bus,bos 0 2>&1
 tools/study faults examples/levels.toml full bus 9-1 2>&1
 tools/study faults examples/levels.toml full bus 0-20000 2>&1
+tools/study faults examples/levels.toml full all 0-3000 2>&1 >/dev/null
 printf 'drives = ["\\u001b[2J\\n"]\nimages = [""]\n[[fault]]\nclass = "none"\n' >plan.toml
 tools/study plan.toml study 2>&1
+planned() {
+  printf 'drives = ["examples/late.csv"]\nimages = ["examples/late.hex"]\n[[fault]]\nonset = 0\n'"$1"'\n' >plan.toml
+  tools/study plan.toml study 2>&1
+}
+planned 'class = "track"'
+planned 'class = ["halt", "path1-closed"]\ndraw = 0'
+planned 'class = "script"\nvalues = { from = 0, to = 1, length = 3.0 }\ndraw = 1'
+planned 'class = "offset"\nadd = '"$(printf '%0400d' 0 | tr 0 1)"
+planned "class.$(yes k | head -n 900 | paste -s -d .) = 1"
+planned "class.$(yes k | head -n 100000 | paste -s -d .) = 1"
+printf '#!/bin/sh\nexec ./egasim "$@"\n' >script && chmod +x script
+for tool in 'study examples/study.toml study' 'install place' 'report examples/levels.toml' 'couple cat examples/levels.toml full'; do
+  EGASIM_PROGRAM=./script tools/$tool 2>&1
+done
+rm script
 tools/install '' 2>&1
 ls
 

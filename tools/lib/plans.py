@@ -24,11 +24,12 @@ FAULTS = {
     "path-open": {"path": 1},
     "lapse": {"after": [0]},
 }
-MOST_NUMBER, MOST_ONSET, MOST_DRAWN = 65535, 19999, 1000000
+MOST_NUMBER, MOST_ONSET, MOST_DRAWN, MOST_LENGTH = 65535, 19999, 1000000, 64
 PARAMETERS = sorted({"every", *(key for keys in FAULTS.values() for key in keys)})
 
 
 def checked_plan(name):
+    """The plan of a file, with a fault of its own for each class."""
     plan = {"engines": ["gasoline"], "slices": [None], "seed": 1, "calibration": None, **toml_of(name)}
     for key in plan:
         if key not in ("drives", "images", "engines", "slices", "calibration", "seed", "fault"):
@@ -51,7 +52,7 @@ def faults_of(name, number, fault):
         fail(f"{name}: fault {number} has no class")
     for kind in kinds:
         if kind not in ("none", *FAULTS):
-            fail(f"{name}: fault {number}: no class {kind}")
+            fail(f"{name}: fault {number}: no class {kind}; the classes are {', '.join(['none', *FAULTS])}")
         keys = {"class", "draw"} if kind == "none" else {"class", "draw", "onset", *FAULTS[kind]}
         keys |= {"every"} if kind == "lapse" else set()
         if set(fault) - keys:
@@ -59,7 +60,7 @@ def faults_of(name, number, fault):
         if kind != "none" and "onset" not in fault:
             fail(f"{name}: fault {number} has no onset")
         if type(fault.get("draw", 1)) is not int or not 1 <= fault.get("draw", 1) <= MOST_DRAWN:
-            fail(f"{name}: fault {number}: draw must be a whole number from 1 to {MOST_DRAWN}")
+            fail(f"{name}: fault {number}: draw, for each class, must be a whole number from 1 to {MOST_DRAWN}")
         yield {"class": kind, **FAULTS.get(kind, {}), **{key: fault[key] for key in fault if key != "class"}}
 
 
@@ -90,8 +91,8 @@ def drawn(draws, kind, key, value, last):
     if isinstance(value, dict) and "length" in value:
         rest = {name: number for name, number in value.items() if name != "length"}
         numbers = [False, True] if key == "opens" else numbers_of(rest, None)
-        if value["length"] not in range(1, 65):
-            fail(f"{kind}: the length of {key} isn't one from 1 to 64")
+        if type(value["length"]) is not int or not 1 <= value["length"] <= MOST_LENGTH:
+            fail(f"{kind}: the length of {key} isn't a whole number from 1 to {MOST_LENGTH}")
         values = [numbers[int(draws.random() * len(numbers))] for _ in range(value["length"])]
         return sorted(set(values)) if key == "after" else values
     allowed = choices(kind, key, value, last)
@@ -124,6 +125,7 @@ def runs_of(plan, ticks):
 
 
 def onsets_of(text):
+    """The onsets that a word names, as 0-90, 0-90/10 or 5,7."""
     for part in text.split(","):
         match = re.fullmatch("([0-9]{1,5})(?:-([0-9]{1,5})(?:/([1-9][0-9]{0,4}))?)?", part)
         if not match:

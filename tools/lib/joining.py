@@ -1,0 +1,120 @@
+"""The tables of a study, joined to one, and what they come to by class."""
+
+import codecs
+import csv
+import itertools
+import os
+import sys
+
+from lib.files import read, sum_of_file, text_of, written
+from lib.runs import lacking
+from lib.studies import COLUMNS, called
+from lib.tool import as_noted, fail
+
+
+def join(path):
+    """Writes study.csv of the tables that count, prints their summary, and tells which campaigns have none."""
+    refuse_changes(path)
+    numbers = sorted(name[:-5] for name in os.listdir(f"{path}/campaigns") if name.endswith(".toml"))
+    faults = {number: fault_of_table(path, number) for number in numbers}
+    good = [number for number in numbers if not faults[number]]
+    bounds = bounds_of(path)
+    if good:
+        print_summary(write_joined(path, good), bounds)
+    for number in numbers:
+        if faults[number]:
+            print(as_noted(f"campaign {number}: {faults[number]}"), file=sys.stderr)
+    if len(good) < len(numbers):
+        fail(f"{path}/study.csv has {len(good)} of {len(numbers)} campaigns" if good else "no campaign has a table")
+
+
+def refuse_changes(path):
+    """Ends if a file of the folder isn't as it was written."""
+    for line in text_of(os.path.join(path, "MANIFEST")).splitlines():
+        total, _, name = line.partition("  ")
+        if not os.path.isfile(os.path.join(path, name)) or sum_of_file(os.path.join(path, name)) != total:
+            fail(f"{path}/{name} isn't as the study was made")
+
+
+def fault_of_table(path, number):
+    """Why a campaign has no table that counts, or None."""
+    table, stamp = (os.path.join(path, "tables", f"{number}.{ending}") for ending in ("csv", "sum"))
+    note = os.path.join(path, "tables", f"{number}.note")
+    if not os.path.isfile(table):
+        return os.path.isfile(note) and read(note).decode(errors="replace").strip() or "not made"
+    wanted = read(os.path.join(path, "campaigns", f"{number}.sum")).decode() + f"{sum_of_file(table)}  -\n"
+    if not os.path.isfile(stamp) or read(stamp).decode(errors="replace") != wanted:
+        return "its table isn't of this program and these inputs; once it is removed, it can be made again"
+    return None
+
+
+def bounds_of(path):
+    """R and D - 1 + R of a study's calibration, by its own program."""
+    done = called(path, "limits")
+    if done.returncode:
+        fail(f"egasim limits: {done.stderr.decode(errors='replace').strip() or f'status {done.returncode}'}")
+    limits = dict(line.split() for line in done.stdout.decode().splitlines())
+    if "stretch" not in limits:
+        fail(f"the program of {path} is of an older version; write the study anew")
+    return int(limits["reaction"]), int(limits["stretch"])
+
+
+def write_joined(path, numbers):
+    """Writes study.csv of these campaigns, and returns the summaries by class."""
+    classes, writer = {}, None
+    with written(f"{path}/study.csv") as file:
+        for number in numbers:
+            for plan, row in rows_of(path, number):
+                if not writer:
+                    names = [name for name in row if name != "run"]
+                    writer = csv.writer(codecs.getwriter("utf-8")(file), lineterminator="\n")
+                    writer.writerow(["run", *COLUMNS, *names])
+                writer.writerow([*plan.values(), *(row[name] for name in names)])
+                classes.setdefault(row["class"], Summary()).add(row)
+    return classes
+
+
+def rows_of(path, number):
+    """The rows of a campaign: what the plan has, and what the table has, both by their columns."""
+    with (open(f"{path}/campaigns/{number}.csv", encoding="utf-8", newline="") as planned,
+          open(f"{path}/tables/{number}.csv", encoding="utf-8", newline="") as played):
+        for plan, row in itertools.zip_longest(csv.DictReader(planned), csv.DictReader(played)):
+            if not plan or not row or plan["run"] != row["run"]:
+                fail(f"campaign {number}: the table has other runs than the plan")
+            yield plan, row
+
+
+class Summary:
+    """What the rows of a class come to."""
+
+    def __init__(self):
+        self.runs = self.unacted = self.without = self.unsettled = self.before_cut = self.stretch = 0
+        self.reaction = None
+
+    def add(self, row):
+        self.runs += 1
+        self.unacted += row["acted"] == "0"
+        self.without += row["settled"] == ""
+        self.unsettled += row["settled"] == "0"
+        self.before_cut += lacking(row) is None  # it shows that R is kept under its fault, as a report judges it
+        self.stretch = max(self.stretch, int(row["stretch"]))
+        if row["reaction"]:
+            self.reaction = max(self.reaction or 0, int(row["reaction"]))
+
+
+def print_summary(classes, bounds):
+    """A line a class: its runs, those that show nothing, and the greatest numbers beside what is proved of them."""
+    heads = ["class", "runs", "acted 0", "no excess", "settled 0", "before cut", "reaction", "R", "stretch", "D-1+R"]
+    rows = []
+    for kind, one in classes.items():
+        reaction, stretch = ("", "") if kind == "lapse" else bounds
+        rows.append([kind, one.runs, one.unacted, one.without, one.unsettled, one.before_cut,
+                     "none" if one.reaction is None else one.reaction, reaction, one.stretch, stretch])
+    widths = [max(len(str(row[place])) for row in [heads, *rows]) for place in range(len(heads))]
+    for row in [heads, *rows]:
+        print("  ".join(str(value).ljust(width) if place == 0 else str(value).rjust(width)
+                        for place, (value, width) in enumerate(zip(row, widths))).rstrip())
+    sys.stdout.flush()  # so that notes stand below it
+    for kind, one in classes.items():
+        if kind != "lapse" and ((one.reaction or 0) > bounds[0] or one.stretch > bounds[1]):
+            print(f"{kind}: a reaction or stretch is greater than its bound, against what is proved", file=sys.stderr)

@@ -1,0 +1,137 @@
+"""Tables that are joined, and what they come to. The study is written by hand; examples/study.sh has a real one."""
+
+import contextlib
+import io
+import os
+import subprocess
+from unittest import mock
+
+from lib import joining
+from lib.files import read, sum_of
+from lib.joining import Summary, bounds_of, fault_of_table, join, print_summary, refuse_changes, rows_of, write_joined
+from in_folder import InFolder
+from notes import note_of
+
+HEAD = "run,class,onset,acted,confirmed,stretch,reaction,settled,bound"
+PLANNED = {"00001": "run,drive,image\nr1,a.csv,i.hex\nr2,./=1.csv,i.hex\n", "00002": "run,drive,image\nr3,a.csv,i.hex\n"}
+PLAYED = {"00001": f"{HEAD}\nr1,none,,,9,5,1,1,34\nr2,halt,3,1,9,30,20,1,34\n",
+          "00002": f"{HEAD}\nr3,halt,90,0,,0,,,34\n"}
+JOINED = """run,drive,image,slices,engine,add,after,at,every,mask,module,offset,opens,path,questions,track,values,word,"""
+
+
+def limits(status=0, out=b"reaction 34\nstretch 38\n", err=b""):
+    return mock.patch.object(joining, "called", lambda path, command: subprocess.CompletedProcess([], status, out, err))
+
+
+def said_by(call, *words):
+    out, err = io.StringIO(), io.StringIO()
+    with contextlib.redirect_stdout(out), contextlib.redirect_stderr(err):
+        note = note_of(call, *words)
+    return out.getvalue(), err.getvalue(), note
+
+
+class Joining(InFolder):
+    def setUp(self):
+        super().setUp()
+        self.put("s/plan.toml", "plan")
+        self.put("s/MANIFEST", f"{sum_of(b'plan')}  plan.toml\n")
+        for number in PLANNED:
+            self.put(f"s/campaigns/{number}.toml")
+            self.put(f"s/campaigns/{number}.sum", f"{number}\n")
+            self.put(f"s/campaigns/{number}.csv", PLANNED[number])
+            self.play(number, PLAYED[number])
+        self.enterContext(limits())
+
+    def play(self, number, table):
+        self.put(f"s/tables/{number}.csv", table)
+        self.put(f"s/tables/{number}.sum", f"{number}\n{sum_of(table.encode())}  -\n")
+
+    def test_table_has_what_was_planned_and_what_was_played(self):
+        out, err, note = said_by(join, "s")
+        self.assertEqual((err, note), ("", None))
+        self.assertEqual(read("s/study.csv").decode().splitlines()[1:], [
+            "r1,a.csv,i.hex,none,,,9,5,1,1,34", "r2,./=1.csv,i.hex,halt,3,1,9,30,20,1,34",
+            "r3,a.csv,i.hex,halt,90,0,,0,,,34"])
+        self.assertEqual(read("s/study.csv").decode().splitlines()[0], JOINED + HEAD.removeprefix("run,"))
+        self.assertEqual([line.split() for line in out.splitlines()[1:]],
+                         [["none", "1", "0", "0", "0", "0", "1", "34", "5", "38"],
+                          ["halt", "2", "1", "1", "0", "1", "20", "34", "30", "38"]])
+
+    def test_two_at_once_write_what_one_writes(self):
+        # So many rows that half of them are on the disk when the second call begins, which is through before the first.
+        runs = [f"r{number}" for number in range(5000)]
+        self.put("s/campaigns/00001.csv", "run,drive,image\n" + "".join(f"{run},a.csv,i.hex\n" for run in runs))
+        self.play("00001", f"{HEAD}\n" + "".join(f"{run},none,,,9,5,1,1,34\n" for run in runs))
+        write_joined("s", ["00001"])
+        whole, others = read("s/study.csv"), []
+
+        def rows_with_another_call(path, number):
+            for place, row in enumerate(rows_of(path, number)):
+                if place == 2500 and not others:
+                    others.append("begun")
+                    write_joined("s", ["00001"])
+                    others.append(read("s/study.csv"))
+                yield row
+
+        with mock.patch.object(joining, "rows_of", rows_with_another_call):
+            write_joined("s", ["00001"])
+        self.assertEqual(others[1], whole)
+        self.assertEqual(read("s/study.csv"), whole)
+        self.assertEqual(sorted(os.listdir("s")), ["MANIFEST", "campaigns", "plan.toml", "study.csv", "tables"])
+
+    def test_table_that_does_not_count_is_told(self):
+        wrong = "its table isn't of this program and these inputs; once it is removed, it can be made again"
+        self.assertIsNone(fault_of_table("s", "00001"))
+        self.put("s/tables/00002.csv")
+        self.assertEqual(fault_of_table("s", "00002"), wrong)
+        self.play("00002", PLAYED["00002"])
+        self.put("s/tables/00002.sum", "other\n")
+        self.assertEqual(fault_of_table("s", "00002"), wrong)
+        self.assertEqual(fault_of_table("s", "00003"), "not made")
+        self.put("s/tables/00003.note")  # as a full disk leaves it
+        self.assertEqual(fault_of_table("s", "00003"), "not made")
+        self.put("s/tables/00003.note", "a.csv: record 3\n")
+        self.assertEqual(fault_of_table("s", "00003"), "a.csv: record 3")
+
+    def test_what_is_there_is_joined_and_what_lacks_is_told(self):
+        self.put("s/tables/00001.csv")
+        out, err, note = said_by(join, "s")
+        self.assertEqual(len(out.splitlines()), 2)
+        self.assertRegex(err, "^campaign 00001: its table isn't of this program")
+        self.assertEqual(note, "s/study.csv has 1 of 2 campaigns")
+        self.put("s/tables/00002.csv")
+        self.assertEqual(said_by(join, "s")[2], "no campaign has a table")
+
+    def test_changed_study_is_refused(self):
+        refuse_changes("s")
+        self.put("s/plan.toml", "another plan")
+        self.assertEqual(note_of(refuse_changes, "s"), "s/plan.toml isn't as the study was made")
+        self.assertEqual(note_of(refuse_changes, "gone"), "cannot read gone/MANIFEST: No such file or directory")
+
+    def test_program_that_has_no_limits_is_told(self):
+        self.assertEqual(bounds_of("s"), (34, 38))
+        for words, note in (((4, b"", b"my.toml: answer 2\n"), "egasim limits: my.toml: answer 2"),
+                            ((139, b""), "egasim limits: status 139"),
+                            ((0, b"reaction 34\n"), "the program of s is of an older version; write the study anew")):
+            with limits(*words):
+                self.assertEqual(note_of(join, "s"), note)
+
+    def test_rows_belong_together(self):
+        self.assertEqual([(plan["drive"], row["class"]) for plan, row in rows_of("s", "00001")],
+                         [("a.csv", "none"), ("./=1.csv", "halt")])
+        for table in (f"{HEAD}\n", PLAYED["00001"] + "r9,none,,,9,5,1,1,34\n", PLAYED["00001"].replace("r2", "r9")):
+            self.play("00001", table)
+            self.assertEqual(note_of(list, rows_of("s", "00001")), "campaign 00001: the table has other runs than the plan")
+
+    def test_summary_counts_by_class_and_tells_what_is_against_the_proof(self):
+        halt, lapse = Summary(), Summary()
+        row = {"class": "halt", "onset": "3", "acted": "1", "confirmed": "9", "stretch": "30", "reaction": "35",
+               "settled": "1", "bound": "34"}
+        for one in (row, row | {"reaction": "", "settled": "0", "stretch": "39"}, row | {"reaction": "34"}):
+            halt.add(one)
+        lapse.add(row | {"class": "lapse"})
+        self.assertEqual((halt.runs, halt.unacted, halt.without, halt.unsettled), (3, 0, 0, 1))
+        self.assertEqual((halt.before_cut, halt.stretch, halt.reaction), (1, 39, 35))
+        out, err, _ = said_by(print_summary, {"halt": halt, "lapse": lapse}, (34, 38))
+        self.assertEqual(out.splitlines()[2].split(), ["lapse", "1", "0", "0", "0", "0", "35", "30"])
+        self.assertEqual(err, "halt: a reaction or stretch is greater than its bound, against what is proved\n")

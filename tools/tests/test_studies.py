@@ -1,0 +1,148 @@
+"""The folder of a study. The program's part is taken by a stand-in; examples/study.sh has the real one."""
+
+import csv
+import os
+import subprocess
+import threading
+from unittest import mock
+
+from lib import studies
+from lib.files import read, sum_of
+from lib.studies import Folder, cell, copied, name_cell, renamed, ticks_of_drives, write_study
+from in_folder import InFolder
+from notes import note_of
+
+PLAN = """drives = ["=1+1.csv", "b.csv"]
+images = ["i.hex"]
+[[fault]]
+class = "none"
+[[fault]]
+class = "wild"
+onset = { from = 0 }
+questions = [1, 2]
+opens = [true]
+"""
+
+
+def answered(refused=()):
+    """A stand-in for the program in a study: each drive has three ticks, and what is named so is refused."""
+    def called(path, command, *words):
+        text = read(os.path.join(path, words[0])).decode()
+        note = next((f"{name}: record 3" for name in refused if name in text), "")
+        if words[1] == "no-such-run":
+            return subprocess.CompletedProcess(words, 7, b"", (note or "no such run").encode() + b"\n")
+        return subprocess.CompletedProcess(words, 4 if note else 0, b"header\n0\n1\n2\n", note.encode())
+    return called
+
+
+class Studies(InFolder):
+    def setUp(self):
+        super().setUp()
+        self.put("p.toml", PLAN)
+        for name in ("=1+1.csv", "b.csv", "i.hex"):
+            self.put(name, name)
+        self.put("program", b"\x7fELF", 0o755)
+        self.enterContext(mock.patch.object(studies, "program", lambda: "program"))
+        self.play()
+
+    def play(self, refused=()):
+        self.enterContext(mock.patch.object(studies, "called", answered(refused)))
+
+    def rows(self, name):
+        with open(name, encoding="utf-8", newline="") as file:
+            return list(csv.DictReader(file))
+
+    def test_folder_has_campaigns_inputs_program_and_their_checksums(self):
+        self.assertEqual(write_study("p.toml", "s"), (8, 1, 0))
+        self.assertEqual(sorted(os.listdir("s")), ["MANIFEST", "Makefile", "campaigns", "egasim", "inputs", "machines",
+                                                   "plan.toml", "slurm", "work"])
+        self.assertEqual(read("s/inputs/drive-1.csv"), b"=1+1.csv")
+        sums = dict(reversed(line.split("  ")) for line in read("s/MANIFEST").decode().splitlines())
+        self.assertEqual(sums, {name: sum_of(read(f"s/{name}")) for name in sums})
+        self.assertEqual(len(sums), 12)
+        used = [line.split("  ")[1] for line in read("s/campaigns/00001.sum").decode().splitlines()]
+        self.assertEqual(used, ["egasim", "inputs/drive-1.csv", "inputs/drive-2.csv", "inputs/image-1.hex",
+                                "campaigns/00001.toml"])
+        self.assertEqual(sorted(os.listdir()), ["=1+1.csv", "b.csv", "i.hex", "p.toml", "program", "s"])
+
+    def test_rows_say_what_each_run_is(self):
+        write_study("p.toml", "s")
+        rows = self.rows("s/campaigns/00001.csv")
+        self.assertEqual([row["run"] for row in rows], [f"r{number:07}" for number in range(1, 9)])
+        self.assertEqual([row["drive"] for row in rows], ["./=1+1.csv"] * 4 + ["b.csv"] * 4)
+        self.assertEqual({name: rows[1][name] for name in ("slices", "engine", "questions", "opens", "mask")},
+                         {"slices": "0", "engine": "gasoline", "questions": "1 2", "opens": "true", "mask": ""})
+
+    def test_name_in_a_row_names_the_file(self):
+        for name in ("=1+1.csv", "+a", "-a", "@a", "\ta", "\ra", "＝a"):
+            self.put(name, b"1")
+            self.assertEqual(name_cell(name), f"./{name}")
+            self.assertTrue(os.path.samefile(name, name_cell(name)))
+        for name in ("a=1", "./=1", "/tmp/=1", "'a", "1"):
+            self.assertEqual(name_cell(name), name)
+
+    def test_numbers_in_a_row(self):
+        self.assertEqual([cell(value) for value in (-5, True, [1, False], "", [])], ["-5", "true", "1 false", "", ""])
+
+    def test_second_call_finds_the_folder(self):
+        write_study("p.toml", "s")
+        self.put("s/tables/00001.csv")
+        self.put("s/tables/.00002.abcdef")
+        self.assertEqual(write_study("p.toml", "s"), (8, 1, 1))
+
+    def test_folder_that_is_something_else_stays(self):
+        wrong = "s is there, and isn't of this plan, these inputs, this program and these tools"
+        os.mkdir("s")
+        self.assertEqual((note_of(write_study, "p.toml", "s"), os.listdir("s")), (wrong, []))
+        os.rmdir("s")
+        write_study("p.toml", "s")
+        self.put("b.csv", b"other")
+        self.assertEqual(note_of(write_study, "p.toml", "s"), wrong)
+        self.assertEqual(note_of(write_study, "p.toml", "gone/s"), "there is no folder for gone/s")
+
+    def test_two_calls_at_once_write_one_folder(self):
+        results = []
+        threads = [threading.Thread(target=lambda: results.append(write_study("p.toml", "s"))) for _ in range(4)]
+        for thread in threads:
+            thread.start()
+        for thread in threads:
+            thread.join()
+        self.assertEqual(results, [(8, 1, 0)] * 4)
+        self.assertEqual(sorted(os.listdir()), ["=1+1.csv", "b.csv", "i.hex", "p.toml", "program", "s"])
+
+    def test_folder_gets_its_name_once(self):
+        for name in ("a", "b", "full/inner", "empty"):
+            os.makedirs(name)
+        self.assertEqual((renamed("a", "c"), renamed("b", "c"), renamed("b", "full"), renamed("b", "empty")),
+                         (True, False, False, False))
+        with mock.patch.object(studies.os.path, "lexists", return_value=False):  # another call comes in between
+            self.assertFalse(renamed("b", "full"))
+        self.assertRaises(FileNotFoundError, renamed, "gone", "d")
+
+    def test_input_that_is_refused_is_told_by_its_own_name(self):
+        self.play(refused=["inputs/drive-2.csv"])
+        self.assertEqual(note_of(write_study, "p.toml", "s"), "an input is refused: b.csv: record 3")
+        self.assertFalse(os.path.exists("s"))
+        self.play(refused=["[1, 2]"])
+        self.assertRegex(note_of(write_study, "p.toml", "s"),
+                         r"^the plan makes a campaign that is refused: \[1, 2\]: record 3: ")
+
+    def test_each_input_is_tried(self):
+        os.mkdir("f")
+        tried = []
+        folder = Folder("f")
+        with mock.patch.object(folder, "ticks_of", lambda drive, image: (tried.append((drive, image)) or 3, "")):
+            ticks = ticks_of_drives(folder, {"a": "d1", "b": "d2"}, {"i": "i1", "j": "i2"}, None)
+        self.assertEqual(ticks, {"a": 3, "b": 3})
+        self.assertEqual(tried, [("d1", "i1"), ("d2", "i1"), ("d1", "i1"), ("d1", "i2")])
+
+    def test_disk_that_is_full_is_told_with_its_reason(self):
+        os.mkdir("f")
+        folder = Folder("f")
+        os.symlink("/dev/full", "f/inputs/drive-1.csv")
+        self.assertEqual(note_of(copied, folder, "drive", ["b.csv"], "csv"),
+                         "cannot write inputs/drive-1.csv of the study: No space left on device")
+
+    def test_inputs_are_names_of_files(self):
+        os.mkdir("f")
+        self.assertEqual(note_of(copied, Folder("f"), "drive", [1], "csv"), "drives must be names of files")
