@@ -2,7 +2,7 @@
 # somebody else stays.
 work=$(mktemp -d) && trap 'rm -rf "$work"' EXIT
 (umask 077 && tools/install "$work/place") | sed "s|$work|WORK|g; s/[0-9]* files/N files/"
-find "$work/place" ! -type l ! -perm -o=r
+find "$work/place" ! -type l ! -perm -o=r -o -name '*test*'
 "$work/place/bin/egasim" bound
 "$work/place/bin/egasim" --version | grep -c '^program'
 "$work/place/bin/egasim-answer" gone.toml 2>&1

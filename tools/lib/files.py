@@ -80,45 +80,54 @@ def write(name, content, mode=None):
 @contextlib.contextmanager
 def written(name, mode=None):
     """A file to write bytes to, which gets the name when all is written and on the disk. It takes over owner, group and
-    mode of the file that it replaces; a new one has what the system gives. `mode` is another one."""
-    part = None
+    mode of the file that it replaces; a new one has what the system gives. With `mode` it has that, and is the caller's."""
     try:
         old = replaceable(name)
         handle, part = locked_part(os.path.dirname(os.path.abspath(name)), tempfile.mkstemp)
+    except OSError as error:
+        fail(f"cannot write {name}: {error.strerror}")
+    try:
         with os.fdopen(handle, "wb") as file:
             yield file
             file.flush()
-            take_over(handle, old, mode)
+            if mode is None:
+                take_over(handle, old)
+            else:
+                os.fchmod(handle, mode)
             os.fsync(handle)
             os.replace(part, name)
     except OSError as error:
-        if error.filename not in (None, name, part):
+        if error.filename not in (None, name, part):  # of what the caller reads meanwhile
             raise
         fail(f"cannot write {name}: {error.strerror}")
     finally:
-        if part and os.path.lexists(part):
+        if os.path.lexists(part):
             os.unlink(part)
 
 
 def replaceable(name):
     """The status of the file that another one is to replace, or None where there is none."""
-    if not os.path.lexists(name):
+    try:
+        old = os.lstat(name)
+    except FileNotFoundError:
         return None
-    if os.path.isfile(name) and not os.access(name, os.W_OK):
+    if stat.S_ISREG(old.st_mode) and not os.access(name, os.W_OK):
         fail(f"cannot write {name}: its mode doesn't allow that")
-    return os.lstat(name)
+    return old
 
 
-def take_over(handle, old, mode):
-    """Gives an open file owner, group and mode of an old one, if there is one, or the mode that is asked for."""
-    is_file = old is not None and stat.S_ISREG(old.st_mode)
+def take_over(handle, old):
+    """Gives an open file owner, group and mode of an old one, or of a new one where there is none."""
+    if old is None or not stat.S_ISREG(old.st_mode):
+        os.fchmod(handle, 0o666 & ~mask())
+        return
     new = os.fstat(handle)
-    if is_file and (old.st_uid, old.st_gid) != (new.st_uid, new.st_gid):
+    if (old.st_uid, old.st_gid) != (new.st_uid, new.st_gid):
         try:
             os.fchown(handle, old.st_uid, old.st_gid)
         except OSError as error:
             raise OSError(error.errno, "its owner and group can't be kept") from error
-    os.fchmod(handle, mode if mode is not None else stat.S_IMODE(old.st_mode) if is_file else 0o666 & ~mask())
+    os.fchmod(handle, stat.S_IMODE(old.st_mode))  # behind the owner, which may take rights away
 
 
 def mask():

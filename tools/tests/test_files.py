@@ -80,9 +80,11 @@ class Writing(InFolder):
     def test_mode_that_is_asked_for_stands_above_umask_and_old_mode(self):
         os.umask(0o077)
         self.put("a", b"old", 0o600)
+        if os.geteuid() == 0:
+            os.chown("a", 1234, 2345)
         for name in ("a", "b"):
             write(name, b"new", 0o755)
-            self.assertEqual(self.mode(name), 0o755)
+            self.assertEqual((self.mode(name), os.stat(name).st_uid), (0o755, os.geteuid()))
 
     def test_owner_that_cannot_be_kept_is_a_refusal(self):
         self.put("a", b"old")
@@ -112,6 +114,18 @@ class Writing(InFolder):
             file.flush()
             self.assertEqual(read("a"), b"old")
         self.assertEqual(read("a"), b"new")
+
+    def test_place_that_is_not_there_is_a_refusal(self):
+        self.put("a", b"old")
+        os.mkdir("d")
+        for name, reason in (("gone/b", "No such file or directory"), ("a/b", "Not a directory"), ("d", "Is a directory")):
+            self.assertEqual(note_of(write, name, b"new"), f"cannot write {name}: {reason}")
+        self.assertEqual((read("a"), self.names()), (b"old", ["a", "d"]))
+
+    def test_what_the_caller_reads_meanwhile_is_told_as_that(self):
+        with self.assertRaises(FileNotFoundError) as error, written("a"), open("gone", "rb"):
+            pass
+        self.assertEqual((error.exception.filename, self.names()), ("gone", []))
 
     def test_link_is_replaced_and_not_its_target(self):
         self.put("a", b"old")
