@@ -8,7 +8,7 @@ from unittest import mock
 
 from lib import studies
 from lib.files import read, sum_of
-from lib.studies import Folder, cell, copied, name_cell, renamed, ticks_of_drives, write_study
+from lib.studies import Folder, called, cell, copied, name_cell, renamed, ticks_of_drives, write_study
 from in_folder import InFolder
 from notes import note_of
 
@@ -135,6 +135,21 @@ class Studies(InFolder):
             ticks = ticks_of_drives(folder, {"a": "d1", "b": "d2"}, {"i": "i1", "j": "i2"}, None)
         self.assertEqual(ticks, {"a": 3, "b": 3})
         self.assertEqual(tried, [("d1", "i1"), ("d2", "i1"), ("d1", "i1"), ("d1", "i2")])
+
+    def test_program_of_the_folder_is_called_there_by_the_calibration_of_the_study(self):
+        self.put("f/egasim", '#!/bin/sh\necho "$@"; pwd; cat\n', 0o755)
+        here = os.path.realpath("f").encode()
+        self.assertEqual(called("f", "table", "a b").stdout, b"table a b\n" + here + b"\n")
+        self.put("f/inputs/calibration.toml")
+        self.assertEqual(called("f", "limits").stdout, b"limits --cal inputs/calibration.toml\n" + here + b"\n")
+
+    def test_ticks_are_those_of_the_record(self):
+        os.mkdir("f")
+        folder = Folder("f")
+        self.assertEqual(folder.ticks_of("drive", "image"), (3, ""))
+        self.play(refused=["drive"])
+        self.assertEqual(folder.ticks_of("drive", "image"), (None, "drive: record 3"))
+        self.assertEqual((folder.manifest(), sorted(os.listdir("f"))), ("", ["campaigns", "inputs"]))
 
     def test_disk_that_is_full_is_told_with_its_reason(self):
         os.mkdir("f")
