@@ -111,6 +111,8 @@ def replaceable(name):
         old = os.lstat(name)
     except FileNotFoundError:
         return None
+    if not stat.S_ISREG(old.st_mode) and not stat.S_ISLNK(old.st_mode):
+        fail(f"cannot write {name}: it is no file")
     if stat.S_ISREG(old.st_mode) and not os.access(name, os.W_OK):
         fail(f"cannot write {name}: its mode doesn't allow that")
     return old

@@ -118,9 +118,11 @@ class Writing(InFolder):
     def test_place_that_is_not_there_is_a_refusal(self):
         self.put("a", b"old")
         os.mkdir("d")
-        for name, reason in (("gone/b", "No such file or directory"), ("a/b", "Not a directory"), ("d", "Is a directory")):
+        os.mkfifo("pipe")
+        for name, reason in (("gone/b", "No such file or directory"), ("a/b", "Not a directory"), ("d", "it is no file"),
+                             ("pipe", "it is no file")):
             self.assertEqual(note_of(write, name, b"new"), f"cannot write {name}: {reason}")
-        self.assertEqual((read("a"), self.names()), (b"old", ["a", "d"]))
+        self.assertEqual((read("a"), self.names()), (b"old", ["a", "d", "pipe"]))
 
     def test_what_the_caller_reads_meanwhile_is_told_as_that(self):
         with self.assertRaises(FileNotFoundError) as error, written("a"), open("gone", "rb"):
