@@ -6,7 +6,7 @@ import tomllib
 from lib.files import text_of
 from lib.tool import fail
 
-MOST_DEPTH, MOST_DOTS = 32, 1000  # of a file: tables and lists within each other, dots of keys
+MOST_DEPTH, MOST_DOTS = 32, 2000  # of a file: tables and lists within each other; dots of keys, as [[run.faults]] has one
 # What may hold dots that aren't of a key: texts, over lines or not, and comments. One without an end goes to the end.
 LONG_TEXTS = r'''"""(?:\\.|[^\\])*?(?:"{3,5}|\\?\Z)|\'\'\'.*?(?:'{3,5}|\Z)'''
 TEXT = re.compile(LONG_TEXTS + r'''|"(?:\\.|[^"\\\n])*"?|'[^'\n]*'?|#[^\n]*''', re.S)
@@ -19,10 +19,11 @@ def toml_of(name):
 
 
 def toml_in(name, text):
-    """What the text of a TOML file holds. Python's tomllib takes time by the square of a key's dots, so they are counted
-    first; and it takes numbers of any length, where TOML has those of 64 bits."""
-    if TEXT.sub("_", text).count(".") > MOST_DOTS:
-        fail(f"{name}: more than {MOST_DOTS} dots in keys")
+    """What the text of a TOML file holds. Python's tomllib takes time by the square of a key's dots, and by those of a
+    table for each key in it, so they are counted first; and it takes numbers of any length, where TOML has 64 bits."""
+    dots = [line.count(".") for line in TEXT.sub("_", text).split("\n")]
+    if sum(dots) > MOST_DOTS or max(dots) > MOST_DEPTH:
+        fail(f"{name}: more than {MOST_DOTS} dots in keys, or {MOST_DEPTH} in a line")
     try:
         held = tomllib.loads(text)
     except (ValueError, RecursionError) as error:
