@@ -8,9 +8,11 @@ import re
 import shlex
 import sys
 
-from lib.calibration import period_of, threshold_of, weight_limits_of
+from lib.calibration import calibration_of, period_of, threshold_of, weight_limits_of
+from lib.covering import cover_of, missing
 from lib.files import TOOLS, TOP, read, sum_of, text_in
 from lib.program import printed_by, program, version_lines
+from lib.questions import answer_of
 from lib.records import record_of
 from lib.toml import toml_in
 from lib.tool import fail
@@ -19,6 +21,9 @@ MOST_SWEEPS = 20
 DOCUMENTS = ("SAFETY.md", "PROVED.md", "FORMATS.md")  # of which parts stand in a page
 MOST_SWEPT_RUNS, MOST_SWEPT_TICKS, CLASSES = 1000, 1000000, 14  # of a grid: docs/CONCEPT.md, "`sweep`"
 SWEPT = re.compile(r"([a-z0-9-]+): runs (\d+); (.*); reaction (\d+|none)")
+
+
+SOUND = re.compile(r"^[ \t]*#[ \t]*sound:(.*)$", re.M)  # a comment of a campaign, with names of runs
 
 
 class Swept:
@@ -35,7 +40,7 @@ class Swept:
 class Played:
     """All that the program prints of a campaign. Of whatever is refused its note is told, and there is no report."""
 
-    def __init__(self, campaign, calibration):
+    def __init__(self, campaign, calibration, sound, sweeps_sound):
         self.campaign, self.calibration = campaign, calibration
         self.version, self.commands, self.sums = version_lines(), [], {}
         self.date = datetime.datetime.now(datetime.timezone.utc).strftime("%Y-%m-%d %H:%M UTC")
@@ -46,7 +51,9 @@ class Played:
         self.limits = dict(line.split() for line in self.call("limits").splitlines())
         self.rows = self.table("table", campaign)
         self.margins = self.table("margins", campaign)
-        self.runs = {run["name"]: run for run in toml_in(campaign, text_in(campaign, read(campaign)))["run"]}
+        text = text_in(campaign, read(campaign))
+        self.runs = {run["name"]: run for run in toml_in(campaign, text)["run"]}
+        self.sound = self.declared([*sound, *sounds_in(text)])
         self.inputs = sorted({run[key] for run in self.runs.values() for key in ("trace", "image")})
         for name in self.inputs:
             self.add_sum(name)
@@ -54,7 +61,11 @@ class Played:
         self.period = period_of(calibration)
         self.weights = weight_limits_of(calibration)
         self.records = {row["run"]: self.record(row["run"]) for row in self.rows}
-        self.sweeps = [self.sweep(runs) for runs in list(self.groups())[:MOST_SWEEPS]]
+        self.blind = self.blind_for()
+        groups = [(runs, not sweeps_sound and bool(set(runs) & set(self.sound))) for runs in self.groups()]
+        self.not_asked = [runs[0] for runs, is_left_out in groups if is_left_out]
+        swept = [runs for runs, is_left_out in groups if not is_left_out]
+        self.sweeps, self.left = [self.sweep(runs) for runs in swept[:MOST_SWEEPS]], max(0, len(swept) - MOST_SWEEPS)
 
     def add_sum(self, name, path=None):
         content = read(path or name)
@@ -79,6 +90,23 @@ class Played:
     def record(self, name):
         return record_of(name, io.StringIO(self.call("record", self.campaign, name)))
 
+    def declared(self, names):
+        """The runs that are declared sound, in the campaign's order."""
+        for name in names:
+            if name not in self.runs:
+                fail(f"{self.campaign} has no run {name}, which is declared sound")
+            if any(fault.get("class") != "lapse" for fault in self.runs[name].get("faults", [])):
+                fail(f"{name} is declared sound, and has a fault")
+        return [name for name in self.runs if name in names]
+
+    def blind_for(self):
+        """What the questions of the calibration don't exercise."""
+        calibration = calibration_of(self.calibration)
+        for number, question in enumerate(calibration["question"]):
+            if answer_of(calibration, question) != question["answer"]:
+                fail(f"answer {number} isn't what this tool works out")
+        return list(missing(cover_of(calibration)))
+
     def resets(self, name):
         """The ticks at which a run's drive resets the unit."""
         rows = csv.DictReader(io.StringIO(text_in(name, read(self.runs[name]["trace"])), newline=""))
@@ -97,6 +125,11 @@ class Played:
         onsets = min(MOST_SWEPT_RUNS // CLASSES, MOST_SWEPT_TICKS // (CLASSES * ticks))
         step = -(-ticks // onsets)
         return Swept(runs, step, self.call("sweep", self.campaign, runs[0], str(step)).splitlines())
+
+
+def sounds_in(text):
+    """The runs that comments of a campaign declare sound."""
+    return [name for names in SOUND.findall(text) for name in names.split()]
 
 
 def own_files(calibration):

@@ -1,6 +1,9 @@
 """What a report says, part by part, as HTML."""
 
+import re
+
 from lib.calibration import WATCHES, torque_weights_of
+from lib.covering import ranges_said
 from lib.documents import blocks_of, cells_of, section_of
 from lib.pages import Html, code, inline, of_document, paragraph, section, shown, table
 from lib.pictures import record_picture, sweep_picture
@@ -9,19 +12,20 @@ from lib.program import is_own, own_warning
 from lib.records import part_of
 from lib.runs import (CONFIRMED, EXCESS, NO_EXCESS, ONSET, R_PASSED, RESET, about_run, confirmed_of, cuts_of, events,
                       excess_of, finds, given_ticks, lacking, windows)
+from lib.verdicts import named, verdict
 
-MOST_EVENTS, MOST_MARKS, MOST_CUTS, MOST_NAMES = 30, 12, 12, 10
+MOST_EVENTS, MOST_MARKS, MOST_CUTS = 30, 12, 12
+FOLDED = ("Files and texts", "Recorded readings", "Coupled runs")  # claims that a page tells in one line
+CLAIM = re.compile(r"^\| (\d+)\. ", re.M)
 PARTS = [("limits", "Limits of the calibration"), ("table", "Runs"), ("margins", "Margins"),
          ("sweeps", "Every class of fault"), ("pictures", "Pictures of the runs"), ("assumptions", "Assumptions"),
          ("claims", "What is proved"), ("not-claimed", "What isn't claimed"), ("provenance", "What this page was made from")]
 
 
-def parts(played, tolerant):
+def parts(played, asked):
     tellers = (limits, rows, margins, sweeps, pictures, assumptions, claims, not_claimed, provenance)
-    calibration = Html(f"calibration {code(played.calibration)}" if played.calibration else "the reference calibration")
-    yield paragraph(Html(f"Campaign {code(played.campaign)}, by {calibration}."))
-    yield verdict(played, tolerant)
-    yield tolerated(tolerant)
+    yield from about(played, asked)
+    yield from verdict(played, asked)
     yield from warnings(played)
     yield from summary(played)
     yield "<nav><ul>" + "".join(f'<li><a href="#{name}">{shown(title)}</a></li>' for name, title in PARTS) + "</ul></nav>"
@@ -29,79 +33,29 @@ def parts(played, tolerant):
         yield from section(name, title, teller(played))
 
 
-# The verdict
+# The verdict, and what stands around it
 
 
-def lapse_stretch(played):
-    """How many ticks in a row an excess may last under lapses; None if no number is known (docs/CALIBRATING.md, "What is
-    proved")."""
-    limits = played.limits
-    if int(limits["excess"]) <= played.period:
-        return int(limits["stretch"])
-    return None if limits["lapse"] == "none" else int(limits["lapse"]) - 1
-
-
-def verdict(played, tolerant):
-    """What `stretch`, and the number for lapses, say beside the tolerated ticks (docs/CALIBRATING.md, "Step by step")."""
-    stretch, lapse = int(played.limits["stretch"]), lapse_stretch(played)
-    lasts = ("by this calibration an excess of torque lasts "
-             f"{stretch} ticks in a row at the most, under at most one listed fault")
-    if played.limits["peak"] == "0":
-        head, text = "Nothing is shown.", "By this calibration no torque of the bench's engines is an excess (peak 0)."
-    elif tolerant is None:
-        head, text = "Not judged:", f"{lasts}, and how many are tolerated wasn't said."
-    elif stretch > tolerant:
-        head, text = "It doesn't fit:", f"{lasts}, and only {tolerant} are tolerated."
-    elif lapse is None or lapse > tolerant:
-        head = "It fits under listed faults, but not under lapses:"
-        text = f"{lasts}, and {tolerant} are tolerated. Under lapses, which aren't listed, {lapse_said(lapse)}."
-    else:
-        head, text = "It fits:", f"{lasts}, and {tolerant} are tolerated."
-    return paragraph(Html(f"<strong>{shown(head)}</strong> {shown(text)}"), "verdict")
-
-
-def tolerated(tolerant):
-    """T, and where it comes from."""
-    if tolerant is None:
-        said = f"wasn't said ({code('--tolerant TICKS')} says it)"
-    else:
-        said = f"is {tolerant}, as whoever made this page said by {code(f'--tolerant {tolerant}')}; nothing here checks it"
-    return paragraph(Html(f"T, how many ticks in a row are tolerated, {said}. docs/CALIBRATING.md, &quot;Step by step&quot;, "
-                          "works it out of the fault tolerant time."))
-
-
-def lapse_said(lapse):
-    return "no bound is known" if lapse is None else f"it is proved only that it lasts {lapse} at the most"
+def about(played, asked):
+    """What stands below the title."""
+    calibration = Html(f"calibration {code(played.calibration)}" if played.calibration else "the reference calibration")
+    yield '<ul class="about">'
+    for name, said in (("Project", asked.project), ("Author", asked.author), ("Date", Html(f"<time>{played.date}</time>")),
+                       ("Version", played.version[0])):
+        if said:
+            yield f"<li>{name}: {shown(said)}</li>"
+    yield "</ul>"
+    yield paragraph(Html(f"Campaign {code(played.campaign)}, by {calibration}."))
 
 
 def warnings(played):
-    lapse = lapse_stretch(played)
-    under = lapse_said(lapse) if lapse is None else f"an excess lasts {lapse} ticks in a row at the most"
-    yield paragraph(Html("The verdict holds of a unit that meets the <a href=\"#assumptions\">assumptions</a>. Under lapses, "
-                         f"which aren't listed, {under}. An excess in bursts may never be confirmed, and then it may go on "
-                         "(A11)."))
+    yield paragraph(Html("How many ticks are tolerated, how long the torque takes to fall, how much room is wanted and which drives "
+                         "are sound was said by whoever made this page, and nothing here checks it. docs/CALIBRATING.md, "
+                         "&quot;Step by step&quot;, works the ticks out of the fault tolerant time."))
+    yield paragraph(Html("The verdict holds of a unit that meets the <a href=\"#assumptions\">assumptions</a>. An excess in "
+                         "bursts may never be confirmed, and then it may go on (A11)."))
     if is_own(played.version):
         yield paragraph(own_warning("page"), "warning own")
-    beyond = list(beyond_limits(played))
-    if beyond:
-        yield paragraph(f"Against what is proved, more than limits allow: {named(beyond)}.", "warning")
-
-
-def beyond_limits(played):
-    """What is greater than a limit that is proved: there is none, unless the program isn't the proved one."""
-    for row in played.rows:
-        for name in ("peak",) if row["class"] == "lapse" else ("reaction", "stretch", "peak"):
-            if int(row[name] or 0) > int(played.limits[name]):
-                yield f"{name} of {row['run']}"
-    for sweep in played.sweeps:
-        for kind, reaction in sweep.reactions.items():
-            if kind != "lapse" and (reaction or 0) > int(played.limits["reaction"]):
-                yield f"reaction of {kind} in the sweep of {sweep.runs[0]}"
-
-
-def named(names):
-    names = list(names)
-    return ", ".join(names[:MOST_NAMES]) + (f" and {len(names) - MOST_NAMES} more" if len(names) > MOST_NAMES else "")
 
 
 def greatest(rows, column):
@@ -119,21 +73,18 @@ def summary(played):
     """What the runs come to."""
     listed = [row for row in played.rows if row["class"] not in ("none", "lapse")]
     bounded = [row for row in played.rows if row["class"] != "lapse"]
-    sound = [row for row in bounded if row["class"] == "none"]
-    shows = [row["run"] for row in listed if not lacking(row)]
-    cut = [row["run"] for row in sound if row["cut"]]
+    faultless = [row for row in bounded if row["class"] == "none"]
+    cut = [row["run"] for row in faultless if row["cut"]]
     limits = played.limits
     yield "<ul>"
     for line in (
-            f"Runs: {len(played.rows)}; without a fault {len(sound)}, under a listed fault {len(listed)}, "
+            f"Runs: {len(played.rows)}; without a fault {len(faultless)}, under a listed fault {len(listed)}, "
             f"under a lapse {len(played.rows) - len(bounded)}.",
             f"Greatest reaction, without lapses: {greatest(bounded, 'reaction')}; of the sweeps {swept_most(played.sweeps)}; "
             f"R is {limits['reaction']}.",
             f"Longest excess, without lapses: {greatest(bounded, 'stretch')} ticks; {limits['stretch']} is the most.",
             f"Greatest torque above permitted torque and threshold: {greatest(played.rows, 'peak')} tenths of Nm; "
             f"{limits['peak']} is the most.",
-            f"Runs that show that R is kept under their fault: {len(shows)} of {len(played.rows)}"
-            + (f", {named(shows)}." if shows else "."),
             f"Runs without a fault that were cut: {named(cut) or 'none'}."):
         yield f"<li>{shown(line)}</li>"
     yield "</ul>"
@@ -198,11 +149,16 @@ def margins(played):
 def sweeps(played):
     yield paragraph("One drive span under one fault of each class, from each tick of a grid on. The run's own fault, and resets "
                     "of its drive, don't count. A bar is the greatest reaction of the runs of a class.")
+    yield paragraph(Html("<code>none</code> counts the runs in which no watch finds anything. Where no excess is confirmed nothing "
+                         "has to be cut, so on a sound drive this doesn't say that the monitoring failed. A path that can't open is "
+                         "found by the start-up test after the next reset, and a sweep has none; which other faults may stay "
+                         "hidden tells docs/SAFETY.md, &quot;Terms beside those of ISO 26262&quot;."))
     for place, sweep in enumerate(played.sweeps):
         yield from sweep_part(place, sweep, int(played.limits["reaction"]))
-    left = len(list(played.groups())) - len(played.sweeps)
-    if left:
-        yield paragraph(f"{left} more drives, images, engines and slice plans weren't swept; {MOST_SWEEPS} are the most.",
+    if played.not_asked:
+        yield paragraph(f"Not swept, for they are sound drives: {named(played.not_asked)} (--sweep-sound sweeps them too).")
+    if played.left:
+        yield paragraph(f"{played.left} more drives, images, engines and slice plans weren't swept; {MOST_SWEEPS} are the most.",
                         "warning")
 
 
@@ -317,7 +273,14 @@ def assumptions(_):
 
 
 def claims(_):
-    yield from of_document(section_of(document("PROVED.md"), "The claims"), "The claims")
+    folded = []
+    for part in section_of(document("PROVED.md"), "The claims").split("\n### "):
+        heading, _, text = part.partition("\n")
+        if heading in FOLDED:
+            folded += [f"claims {ranges_said(sorted(int(number) for number in CLAIM.findall(text)))} ({heading.lower()})"]
+        else:
+            yield from of_document(f"### {part}" if heading else part, "The claims")
+    yield paragraph(f"Not shown here: {'; '.join(folded)}. docs/PROVED.md has them.")
     yield "<h3>Under which fault what holds</h3>"
     yield from of_document(section_of(document("PROVED.md"), "Under which fault what holds"), "Under which fault what holds")
 

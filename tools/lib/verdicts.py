@@ -1,0 +1,148 @@
+"""The verdict of a report: what fits and what doesn't, a line each, the worst first."""
+
+from html import escape
+
+from lib.runs import lacking
+
+FAILS, OPEN, FITS = "Doesn't fit", "Not judged", "Fits"  # the worst first
+MOST_NAMES = 10  # that a line names
+
+
+def verdict(played, asked):
+    """The verdict as HTML: a sentence, and below it a line for each point."""
+    judged = points(played, asked)
+    yield f'<div class="verdict"><p><strong>{written(sentence([state for state, _ in judged]))}</strong></p><ul>'
+    for state, words in judged:
+        yield f"<li>{f'<strong>{state}:</strong>' if state == FAILS else f'{state}:'} {written(words)}</li>"
+    yield "</ul></div>"
+
+
+def written(words):
+    return escape(words, quote=False)
+
+
+def sentence(states):
+    fails, leaves, count = states.count(FAILS), states.count(OPEN), f"of {len(states)} points"
+    not_judged = f"{leaves} more {'is' if leaves == 1 else 'are'}n't judged"
+    if fails:
+        return f"It doesn't fit, in {fails} {count}{f'; {not_judged}' if leaves else ''}."
+    return f"Not judged, in {leaves} {count}." if leaves else f"It fits, in all {len(states)} points."
+
+
+def points(played, asked):
+    """(state, words) of each point, the worst first."""
+    judged = [*beyond_point(played),
+              time_point("Under at most one listed fault", int(played.limits["stretch"]), asked),
+              time_point("Under lapses, which aren't listed,", lapse_stretch(played), asked),
+              cut_point(played), room_point(played, asked), misses_point(played), peak_point(played),
+              questions_point(played), evidence_point(played)]
+    return sorted(judged, key=lambda point: [FAILS, OPEN, FITS].index(point[0]))
+
+
+def named(names):
+    names = list(names)
+    return ", ".join(names[:MOST_NAMES]) + (f" and {len(names) - MOST_NAMES} more" if len(names) > MOST_NAMES else "")
+
+
+def beyond_point(played):
+    """What is greater than a limit that is proved: there is none, unless the program isn't the proved one."""
+    beyond = [f"{name} of {row['run']}" for row in played.rows
+              for name in (("peak",) if row["class"] == "lapse" else ("reaction", "stretch", "peak"))
+              if int(row[name] or 0) > int(played.limits[name])]
+    beyond += [f"reaction of {kind} in the sweep of {sweep.runs[0]}" for sweep in played.sweeps
+               for kind, reaction in sweep.reactions.items()
+               if kind != "lapse" and (reaction or 0) > int(played.limits["reaction"])]
+    return [(FAILS, f"Against what is proved, more than limits allow: {named(beyond)}.")] if beyond else []
+
+
+def lapse_stretch(played):
+    """How many ticks in a row an excess may last under lapses; None if no number is known (docs/CALIBRATING.md, "What is
+    proved")."""
+    limits = played.limits
+    if int(limits["excess"]) <= played.period:
+        return int(limits["stretch"])
+    return None if limits["lapse"] == "none" else int(limits["lapse"]) - 1
+
+
+def time_point(under, ticks, asked):
+    """Whether an excess ends in time (docs/CALIBRATING.md, "Step by step")."""
+    if ticks is None:
+        return FAILS, f"{under} no bound is known for how long an excess lasts."
+    lasts = f"{under} an excess lasts {ticks} ticks in a row at the most"
+    if asked.tolerant is None:
+        return OPEN, f"{lasts}; how many are tolerated wasn't said (--tolerant TICKS)."
+    left = max(0, asked.tolerant - 1 - (asked.falls or 0))
+    less = f"{asked.tolerant} less 1, since it may begin between two ticks"
+    if asked.falls is not None:
+        less += f", and less {asked.falls} for the torque to fall after the cut"
+    if ticks > left:
+        return FAILS, f"{lasts}, and only {left} are tolerated: {less}."
+    if asked.falls is None:
+        return OPEN, f"{lasts}, and at most {left} are tolerated: {less}. How long the torque takes to fall wasn't said (--falls TICKS)."
+    return FITS, f"{lasts}, and {left} are tolerated: {less}."
+
+
+def cut_point(played):
+    """Whether a drive that was declared sound is cut."""
+    if not played.sound:
+        return OPEN, "No run is declared sound (--sound NAME), so whether sound drives are cut isn't said."
+    rows = [row for row in played.rows if row["run"] in played.sound]
+    cut = [f"{row['run']} by {row['cut']} at {row['cut_at']}" if row["cut"] else f"{row['run']}, off at {row['off_at']}"
+           for row in rows if row["cut"] or row["off_at"]]
+    if cut:
+        return FAILS, f"Sound drives are cut, {len(cut)} of {len(rows)}: {named(cut)}."
+    return FITS, f"None of the sound drives is cut ({named(row['run'] for row in rows)})."
+
+
+def room_point(played, asked):
+    """How much room a weight leaves to its limit in the drives that were declared sound."""
+    rooms = [(100 * (limit - int(row[watch])) / limit, watch, row)
+             for row in played.margins if row["run"] in played.sound for watch, limit in played.weights.items()]
+    if not rooms:
+        return OPEN, "No run is declared sound (--sound NAME), so how near sound drives come to a cut isn't said."
+    room, watch, row = min(rooms, key=lambda one: one[0])
+    least = (f"of the sound drives {row['run']} comes nearest to a limit: {watch} weighs {row[watch]} of "
+             f"{played.weights[watch]}, which leaves {int(room)} %")
+    if asked.room is None:
+        return OPEN, f"How much room is wanted wasn't said (--room PERCENT); {least}."
+    return (FAILS if room < asked.room else FITS), f"Room of {asked.room} % is wanted; {least}."
+
+
+def misses_point(played):
+    """Whether a wrong answer, or a missed tick, is tolerated (docs/CALIBRATING.md, "Missed ticks")."""
+    wrong, spacing = int(played.limits["verdicts"]), played.limits["spacing"]
+    if spacing != "none":
+        return FITS, (f"It takes {wrong} wrong answers in a row to cut, and missed ticks that lie {spacing} or more apart never "
+                      "do.")
+    if wrong > 2:
+        return FAILS, "Missed ticks add up to a cut, however far apart they lie (spacing none): no right answer takes one back."
+    return FAILS, (f"{'One wrong answer cuts' if wrong == 1 else 'Two wrong answers cut'}, and so one missed tick may (N = {wrong}, "
+                   "spacing none).")
+
+
+def peak_point(played):
+    peak = played.limits["peak"]
+    if peak == "0":
+        return FAILS, "No torque of the bench's engines is an excess (peak 0), so no run shows anything of a reaction."
+    return FITS, f"A torque of the bench's engines can be an excess, by {peak} tenths of Nm at the most (peak)."
+
+
+def questions_point(played):
+    """Whether the questions are blind for something (lib/covering.py)."""
+    if played.blind:
+        return FAILS, f"The questions are blind: {'; '.join(played.blind)}."
+    return FITS, "The questions exercise each bit, pair, tie and check word (tools/answer --cover)."
+
+
+def evidence_point(played):
+    """Whether, for each class of listed faults that the campaign has, some run shows that R is kept."""
+    listed = [row for row in played.rows if row["class"] not in ("none", "lapse")]
+    if not listed:
+        return OPEN, "No run has a listed fault, so none shows a reaction. (R is proved, and needs no run.)"
+    showing = {row["class"] for row in listed if not lacking(row)}
+    without = [kind for kind in dict.fromkeys(row["class"] for row in listed) if kind not in showing]
+    count = sum(not lacking(row) for row in listed)
+    shown_by = f"{count} of {len(listed)} runs under a listed fault show that R is kept"
+    if without:
+        return FAILS, f"Reactions without evidence: {shown_by}, and none under {named(without)}."
+    return FITS, f"{shown_by}, of each class at least one."

@@ -1,0 +1,122 @@
+"""The points of a verdict."""
+
+import unittest
+from types import SimpleNamespace
+
+from lib.verdicts import (FAILS, FITS, OPEN, beyond_point, cut_point, evidence_point, lapse_stretch, misses_point, named,
+                          peak_point, points, questions_point, room_point, sentence, time_point, verdict)
+
+LIMITS = {"reaction": "34", "lapse": "50", "verdicts": "3", "excess": "5", "spacing": "80", "stretch": "38", "peak": "2300"}
+WEIGHTS = {"pedal": 10, "plate": 10, "load": 10, "speed": 10, "torque": 5, "answers": 9}
+
+
+def row_of(name, kind, **columns):
+    empty = dict.fromkeys(("cut", "cut_at", "off_at", "confirmed", "reaction", "stretch", "peak", "settled", "onset", "acted"), "")
+    return {**empty, "run": name, "class": kind, "bound": "34", **columns}
+
+
+def shown_by(name, kind):
+    """A row that shows that R is kept: confirmed at 31, off for good at 60."""
+    return row_of(name, kind, onset="0", acted="1", confirmed="31", reaction="29", settled="1", cut="torque", cut_at="31")
+
+
+def margin_of(name, **weights):
+    return {"run": name, **dict.fromkeys(WEIGHTS, "0"), **weights}
+
+
+def played_of(**parts):
+    rows = [row_of("sound", "none"), shown_by("halt-0", "halt")]
+    return SimpleNamespace(**{"limits": LIMITS, "period": 10, "rows": rows, "sweeps": [], "sound": ["sound"], "weights": WEIGHTS,
+                              "margins": [margin_of("sound", torque="4"), margin_of("halt-0", torque="5")], "blind": [], **parts})
+
+
+def asked_of(tolerant=40, falls=1, room=20):
+    return SimpleNamespace(tolerant=tolerant, falls=falls, room=room)
+
+
+def limits_of(**numbers):
+    return {**LIMITS, **numbers}
+
+
+class Verdicts(unittest.TestCase):
+    def test_a_tick_and_the_fall_are_taken_off(self):
+        for tolerant, falls, state in ((40, 1, FITS), (39, 0, FITS), (40, 2, FAILS), (38, 0, FAILS), (0, 0, FAILS), (39, None, OPEN),
+                                       (38, None, FAILS), (None, 1, OPEN), (None, None, OPEN)):
+            self.assertEqual(time_point("Here", 38, asked_of(tolerant, falls))[0], state, (tolerant, falls))
+        self.assertEqual(time_point("Here", 38, asked_of())[1], "Here an excess lasts 38 ticks in a row at the most, and 38 are tolerated: "
+                         "40 less 1, since it may begin between two ticks, and less 1 for the torque to fall after the cut.")
+        self.assertEqual(time_point("Here", None, asked_of(None))[0], FAILS)
+
+    def test_the_bound_for_lapses(self):
+        self.assertEqual(lapse_stretch(played_of()), 38)
+        self.assertEqual(lapse_stretch(played_of(limits=limits_of(excess="10"))), 38)
+        slow = limits_of(excess="11", lapse="120")
+        self.assertEqual(lapse_stretch(played_of(limits=slow)), 119)
+        self.assertEqual(lapse_stretch(played_of(limits={**slow, "lapse": "none"})), None)
+
+    def test_sound_drives_are_those_that_are_declared(self):
+        self.assertEqual(cut_point(played_of())[0], FITS)
+        self.assertEqual(cut_point(played_of(sound=[]))[0], OPEN)
+        cut = [row_of("sound", "none", cut="torque", cut_at="34"), row_of("test", "none", off_at="40"), row_of("other", "none", cut="load")]
+        self.assertEqual(cut_point(played_of(rows=cut, sound=["sound", "test"])),
+                         (FAILS, "Sound drives are cut, 2 of 2: sound by torque at 34, test, off at 40."))
+
+    def test_room_is_that_of_the_nearest_limit(self):
+        self.assertEqual([room_point(played_of(), asked_of(room=room))[0] for room in (0, 20, 21, None)], [FITS, FITS, FAILS, OPEN])
+        self.assertEqual(room_point(played_of(sound=[]), asked_of())[0], OPEN)
+        third = played_of(weights={**WEIGHTS, "torque": 3}, margins=[margin_of("sound", torque="2")])
+        self.assertEqual([room_point(third, asked_of(room=room))[0] for room in (33, 34)], [FITS, FAILS])
+        self.assertIn("sound comes nearest to a limit: torque weighs 2 of 3, which leaves 33 %", room_point(third, asked_of())[1])
+
+    def test_missed_ticks(self):
+        for wrong, spacing, state, words in (("3", "80", FITS, "80 or more apart"), ("1", "none", FAILS, "One wrong answer cuts"),
+                                             ("2", "none", FAILS, "N = 2"), ("4", "none", FAILS, "however far apart")):
+            point = misses_point(played_of(limits=limits_of(verdicts=wrong, spacing=spacing)))
+            self.assertEqual(point[0], state)
+            self.assertIn(words, point[1])
+
+    def test_peak_and_questions(self):
+        self.assertEqual([peak_point(played_of(limits=limits_of(peak=peak)))[0] for peak in ("0", "1")], [FAILS, FITS])
+        self.assertEqual(questions_point(played_of())[0], FITS)
+        self.assertEqual(questions_point(played_of(blind=["no a", "no b"])), (FAILS, "The questions are blind: no a; no b."))
+
+    def test_each_class_of_listed_faults_needs_a_run_that_shows_something(self):
+        self.assertEqual(evidence_point(played_of(rows=[row_of("sound", "none"), row_of("l", "lapse")]))[0], OPEN)
+        late = {**shown_by("halt-90", "halt"), "onset": "60"}
+        self.assertEqual(evidence_point(played_of(rows=[shown_by("halt-0", "halt"), late])),
+                         (FITS, "1 of 2 runs under a listed fault show that R is kept, of each class at least one."))
+        self.assertEqual(evidence_point(played_of(rows=[shown_by("halt-0", "halt"), {**late, "class": "skip"}])),
+                         (FAILS, "Reactions without evidence: 1 of 2 runs under a listed fault show that R is kept, and none under skip."))
+
+    def test_more_than_what_is_proved_is_told_first(self):
+        self.assertEqual(beyond_point(played_of()), [])
+        rows = [{**shown_by("a", "halt"), "reaction": "35"}, row_of("l", "lapse", reaction="35", stretch="39", peak="2300")]
+        swept = SimpleNamespace(runs=["s"], reactions={"halt": 35, "lapse": 99, "bus": None})
+        self.assertEqual(beyond_point(played_of(rows=rows, sweeps=[swept])), [
+            (FAILS, "Against what is proved, more than limits allow: reaction of a, reaction of halt in the sweep of s.")])
+        self.assertEqual(points(played_of(rows=rows), asked_of())[0][1][:7], "Against")
+
+    def test_it_fits_only_where_all_does(self):
+        self.assertEqual({state for state, _ in points(played_of(), asked_of())}, {FITS})
+        played = played_of(blind=["no tie of the comparison"], limits=limits_of(peak="0"))
+        states = [state for state, _ in points(played, asked_of(tolerant=None))]
+        self.assertEqual(states, [FAILS] * 2 + [OPEN] * 2 + [FITS] * 4)
+        self.assertEqual(sentence(states), "It doesn't fit, in 2 of 8 points; 2 more aren't judged.")
+        self.assertEqual(sentence([FAILS, FITS]), "It doesn't fit, in 1 of 2 points.")
+        self.assertEqual(sentence([FAILS, OPEN]), "It doesn't fit, in 1 of 2 points; 1 more isn't judged.")
+        self.assertEqual(sentence([OPEN, FITS]), "Not judged, in 1 of 2 points.")
+        self.assertEqual(sentence([FITS, FITS]), "It fits, in all 2 points.")
+
+    def test_lines_stand_as_html(self):
+        lines = list(verdict(played_of(blind=["no <b>"]), asked_of()))
+        self.assertEqual(lines[0], '<div class="verdict"><p><strong>It doesn\'t fit, in 1 of 8 points.</strong></p><ul>')
+        self.assertEqual(lines[1], "<li><strong>Doesn't fit:</strong> The questions are blind: no &lt;b&gt;.</li>")
+        self.assertEqual((len(lines), lines[-1]), (10, "</ul></div>"))
+
+    def test_many_names_are_cut(self):
+        self.assertEqual(named(map(str, range(10))), "0, 1, 2, 3, 4, 5, 6, 7, 8, 9")
+        self.assertEqual(named(map(str, range(12))), "0, 1, 2, 3, 4, 5, 6, 7, 8, 9 and 2 more")
+
+
+if __name__ == "__main__":
+    unittest.main()
