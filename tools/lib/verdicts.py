@@ -112,11 +112,11 @@ def misses_point(played):
     """Whether a wrong answer, or a missed tick, is tolerated (docs/CALIBRATING.md, "Missed ticks")."""
     wrong, spacing = int(played.limits["verdicts"]), played.limits["spacing"]
     if spacing != "none":
-        return FITS, (f"It takes {wrong} wrong answers in a row to cut, and missed ticks that lie {spacing} or more apart never "
-                      "do.")
+        return FITS, (f"A wrong answer is tolerated, {wrong} in a row cut (N); missed ticks that lie {spacing} or more apart cause "
+                      "no such cut (spacing).")
     if wrong > 2:
         return FAILS, "Missed ticks add up to a cut, however far apart they lie (spacing none): no right answer takes one back."
-    return FAILS, (f"{'One wrong answer cuts' if wrong == 1 else 'Two wrong answers cut'}, and so one missed tick may (N = {wrong}, "
+    return FAILS, (f"{'One wrong answer cuts' if wrong == 1 else 'Two wrong answers in a row cut'}, and so one missed tick may (N = {wrong}, "
                    "spacing none).")
 
 
