@@ -83,15 +83,23 @@ def time_point(under, ticks, asked):
 
 
 def cut_point(played):
-    """Whether a drive that was declared sound is cut."""
+    """Whether a drive that was declared sound is cut, or its pedal limited."""
     if not played.sound:
         return OPEN, "No run is declared sound (--sound NAME), so whether sound drives are cut isn't said."
     rows = [row for row in played.rows if row["run"] in played.sound]
-    cut = [f"{row['run']} by {row['cut']} at {row['cut_at']}" if row["cut"] else f"{row['run']}, off at {row['off_at']}"
-           for row in rows if row["cut"] or row["off_at"]]
+    cut = [f"{row['run']} {found}" for row in rows if (found := cut_by(row))]
     if cut:
         return FAILS, f"Sound drives are cut, {len(cut)} of {len(rows)}: {named(cut)}."
     return FITS, f"None of the sound drives is cut ({named(row['run'] for row in rows)})."
+
+
+def cut_by(row):
+    """What cuts a run of `table`, or limits its pedal; None if nothing does."""
+    if row["cut"]:
+        return f"by {row['cut']} at {row['cut_at']}"
+    if row["off_at"]:
+        return f"off at {row['off_at']}"
+    return f"limited by {row['first']} at {row['first_at']}" if row["first"] else None
 
 
 def room_point(played, asked):
@@ -135,14 +143,15 @@ def questions_point(played):
 
 
 def evidence_point(played):
-    """Whether, for each class of listed faults that the campaign has, some run shows that R is kept."""
+    """Whether, for each class of listed faults that the campaign has, some run of one power cycle shows that R is kept."""
     listed = [row for row in played.rows if row["class"] not in ("none", "lapse")]
     if not listed:
         return OPEN, "No run has a listed fault, so none shows a reaction. (R is proved, and needs no run.)"
-    showing = {row["class"] for row in listed if not lacking(row)}
+    several = [row for row in listed if any(tick > 0 for tick in played.resets(row["run"]))]
+    showing = [row["class"] for row in listed if row not in several and not lacking(row)]
     without = [kind for kind in dict.fromkeys(row["class"] for row in listed) if kind not in showing]
-    count = sum(not lacking(row) for row in listed)
-    shown_by = f"{count} of {len(listed)} runs under a listed fault show that R is kept"
+    shown_by = f"{len(showing)} of {len(listed)} runs under a listed fault show that R is kept"
+    left = f" Of several power cycles, and so not counted: {len(several)}; see the pictures." if several else ""
     if without:
-        return FAILS, f"Reactions without evidence: {shown_by}, and none under {named(without)}."
-    return FITS, f"{shown_by}, of each class at least one."
+        return FAILS, f"Reactions without evidence: {shown_by}, and none under {named(without)}.{left}"
+    return FITS, f"{shown_by}, of each class at least one.{left}"

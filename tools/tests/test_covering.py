@@ -24,6 +24,7 @@ class Covering(unittest.TestCase):
         self.assertEqual(masks_of({"torque": {"kt": 2500}}), (1023, 16383, 4095))
         self.assertEqual(masks_of({"torque": {"kt": 10000}})[2], 0b11111111111110)  # tens up to 10000
         self.assertEqual(masks_of({"torque": {"kt": 1}})[2], 1)
+        self.assertEqual(masks_of({"torque": {"kt": 1024}})[2], 2047)  # 1023 by a load of 999, 1024 by one of 1000
         self.assertEqual([bits_of(0), bits_of(5), bits_of(65535)], [[], [0, 2], list(range(16))])
 
     def test_all_things_are_named_once(self):

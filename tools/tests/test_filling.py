@@ -65,6 +65,12 @@ class Filling(unittest.TestCase):
             self.assertEqual((bad["raise"], good["check"]), (good["raise"], 65535 - good["raise"]))
             self.assertEqual(bin(bad["check"] ^ good["check"]).count("1"), 1)
 
+    def test_a_raise_is_above_what_both_of_a_couple_permit(self):
+        permit = {"pedal": [0, 1000], "speed": [0, 1], "table": [[7000, 7000], [9383, 9383]]}
+        couple = [{"used": 1000, "speed": [0, 0]}, {"used": 0, "speed": [0, 0]}]
+        put_raise(permit, couple, False)
+        self.assertEqual(couple[0]["raise"], 9383 + 16384)  # 16383 less 7000 is 9383, as the table permits
+
 
 if __name__ == "__main__":
     unittest.main()

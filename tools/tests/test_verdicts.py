@@ -11,7 +11,7 @@ WEIGHTS = {"pedal": 10, "plate": 10, "load": 10, "speed": 10, "torque": 5, "answ
 
 
 def row_of(name, kind, **columns):
-    empty = dict.fromkeys(("cut", "cut_at", "off_at", "confirmed", "reaction", "stretch", "peak", "settled", "onset", "acted"), "")
+    empty = dict.fromkeys(("first", "first_at", "cut", "cut_at", "off_at", "confirmed", "reaction", "stretch", "peak", "settled", "onset", "acted"), "")
     return {**empty, "run": name, "class": kind, "bound": "34", **columns}
 
 
@@ -27,7 +27,7 @@ def margin_of(name, **weights):
 def played_of(**parts):
     rows = [row_of("sound", "none"), shown_by("halt-0", "halt")]
     return SimpleNamespace(**{"limits": LIMITS, "period": 10, "rows": rows, "sweeps": [], "sound": ["sound"], "weights": WEIGHTS,
-                              "margins": [margin_of("sound", torque="4"), margin_of("halt-0", torque="5")], "blind": [], **parts})
+                              "margins": [margin_of("sound", torque="4"), margin_of("halt-0", torque="5")], "blind": [], "resets": lambda name: [], **parts})
 
 
 def asked_of(tolerant=40, falls=1, room=20):
@@ -57,9 +57,10 @@ class Verdicts(unittest.TestCase):
     def test_sound_drives_are_those_that_are_declared(self):
         self.assertEqual(cut_point(played_of())[0], FITS)
         self.assertEqual(cut_point(played_of(sound=[]))[0], OPEN)
-        cut = [row_of("sound", "none", cut="torque", cut_at="34"), row_of("test", "none", off_at="40"), row_of("other", "none", cut="load")]
-        self.assertEqual(cut_point(played_of(rows=cut, sound=["sound", "test"])),
-                         (FAILS, "Sound drives are cut, 2 of 2: sound by torque at 34, test, off at 40."))
+        cut = [row_of("sound", "none", first="pedal", cut="torque", cut_at="34"), row_of("test", "none", off_at="40"),
+               row_of("other", "none", cut="load"), row_of("limp", "lapse", first="pedal", first_at="9"), row_of("good", "none")]
+        self.assertEqual(cut_point(played_of(rows=cut, sound=["sound", "test", "limp", "good"])), (
+            FAILS, "Sound drives are cut, 3 of 4: sound by torque at 34, test off at 40, limp limited by pedal at 9."))
 
     def test_room_is_that_of_the_nearest_limit(self):
         self.assertEqual([room_point(played_of(), asked_of(room=room))[0] for room in (0, 20, 21, None)], [FITS, FITS, FAILS, OPEN])
@@ -87,6 +88,14 @@ class Verdicts(unittest.TestCase):
                          (FITS, "1 of 2 runs under a listed fault show that R is kept, of each class at least one."))
         self.assertEqual(evidence_point(played_of(rows=[shown_by("halt-0", "halt"), {**late, "class": "skip"}])),
                          (FAILS, "Reactions without evidence: 1 of 2 runs under a listed fault show that R is kept, and none under skip."))
+
+    def test_a_run_of_several_power_cycles_shows_nothing(self):
+        for resets, state in (([], FITS), ([0], FITS), ([0, 50], FAILS), ([1], FAILS)):
+            self.assertEqual(evidence_point(played_of(resets=lambda name, resets=resets: resets))[0], state)
+        rows = [shown_by("a", "halt"), shown_by("b", "halt")]
+        point = evidence_point(played_of(rows=rows, resets=lambda name: [9] if name == "b" else []))
+        self.assertEqual(point, (FITS, "1 of 2 runs under a listed fault show that R is kept, of each class at least one. "
+                                 "Of several power cycles, and so not counted: 1; see the pictures."))
 
     def test_more_than_what_is_proved_is_told_first(self):
         self.assertEqual(beyond_point(played_of()), [])
