@@ -13,4 +13,4 @@ for partner in true false 'echo 0,800,0,0,0,0,40,40,0' 'echo 0,800,0,0,0,0,40,40
   tools/couple "$partner" examples/levels.toml full | cut -d, -f1-7,22-25 | sed 1d
   echo "$partner: $(tools/couple "$partner" examples/levels.toml full 2>&1 >/dev/null; echo "status $?")"
 done 2>/dev/null
-rm turbo.csv python.csv c.csv partner
+rm -f turbo.csv python.csv c.csv partner
