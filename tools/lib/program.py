@@ -57,9 +57,14 @@ def version_lines():
         lines = told.stdout.decode().splitlines()
     else:
         lines = read(version).decode().splitlines() if os.path.isfile(version) else []
-    if total in lines:
+    if tells_of(lines, total):
         return lines
     return [*(f"{line.removesuffix(OWN)}{OWN}" for line in lines[:1]), total]
+
+
+def tells_of(lines, total):
+    """Whether one of these lines is of this program; the launcher's has behind it where the program is from, and its kit."""
+    return any(line == total or line.startswith(f"{total}, ") for line in lines)
 
 
 def is_own(lines):
