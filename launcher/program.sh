@@ -1,120 +1,152 @@
-# Read by the launcher's scripts and by the gate, after kept.sh: what the program is built from, and its checksums.
-# egasim.sum has two, of all that the program was built from, the kit included, and of the program; then the kit's
-# name.
-# shellcheck shell=bash disable=SC2154
+# Read by the launcher, the gate and tools/release, after kept.sh: which program is that of the sources as they stand. A
+# sum has the checksum of sources with the kit's name, that of the program, and the kit's name. release/egasim.sum is
+# one; out/egasim.sum has above it where the program there is from, `proved here` or `carried`.
+# shellcheck shell=bash
+[ -z "$rt" ] || rt=$(readlink -f -- "$rt")
+kit='' origin='' ready='' sum='' list='' work='' room='' child='' lock=''
 
-# The kit of rt; nothing where there is no rt, or one that doesn't tell its kit.
-kit_found() {
-  [ -n "$rt" ] || return
-  cat -- "${rt%/*}/../KIT-ID" 2>/dev/null || "$rt" version 2>/dev/null </dev/null | head -n 1
+# Removes what this call has made for itself, and lets another one build.
+clean() {
+  [ -z "$child" ] || { kill "$child" && wait "$child"; } 2>/dev/null
+  [ -z "$work$room" ] || rm -rf -- ${work:+"$work"} ${room:+"$room"}
+  [ -z "$lock" ] || exec {lock}<&-
+  work='' room='' child='' lock=''
+}
+trap clean EXIT; trap 'exit 129' HUP; trap 'exit 130' INT; trap 'exit 141' PIPE; trap 'exit 143' TERM
+
+# Does this, in words of find, with what the program is built from, below the folder where it is called. What rt makes,
+# must-fail edits, and what editors leave (names that begin with a dot or #, or end with ~) are no sources.
+sources() {
+  find HANDLES crates.txt crates \( -regex 'crates/[^/]*/out' -o -regex 'crates/[^/]*/must-fail' -o \
+    -name '.*' -o -name '#*' -o -name '*~' \) -prune -o "$@"
 }
 
-# The kit that the program is to be built by; where there is no rt, that which built the program that is kept.
-kit=$(kit_found)
-[ -n "$rt" ] || kit=$(tail -n +3 -- "$kept/egasim.sum" 2>/dev/null)
+# The checksums of the sources in the folder $1, by their names.
+sums_in() { (cd -- "$1" && sources -type f -print0 | sort -z | xargs -0 sha256sum --); }
 
-# Reads a crates.txt, and prints, with `names`, the crate of the program and those that it stands on, or, with
-# `lines`, all lines but those of other crates. A line that rt would refuse stays, and so does one of a crate that
-# has no folder.
-crates_of_program() {
-  awk -v wanted="$1" '
-    function need(crate, uses, i) {
-      if (!(crate in below) || crate in needed) return
-      needed[crate] = 1
-      for (i = split(below[crate], uses, /[ \t,]+/); i > 0; i--) need(uses[i])
-    }
-    function is_other(crate) {
-      return crate != "" && !(crate in needed) && system("test -d crates/" crate "/src") == 0
-    }
-    { text[NR] = $0; sub(/#.*/, "") }
-    /^[ \t]*[A-Za-z0-9_\/-]+([ \t]+(staticlib|wasm64))?([ \t]+[a-z_]+=[A-Za-z0-9+]+)*[ \t]*(:[A-Za-z0-9_, \t\/-]*)?$/ {
-      colon = index($0 ":", ":")
-      split(substr($0, 1, colon - 1), head)
-      name[NR] = head[1]
-      below[head[1]] = substr($0, colon + 1)
-    }
-    END {
-      need("egasim")
-      if (wanted == "names") for (crate in needed) print crate
-      else for (i = 1; i <= NR; i++) if (!is_other(name[i])) print text[i]
-    }'
+# Sets `list` to the checksums of the sources as they stand. (Who reads a FIFO waits for ever.)
+read_sources() {
+  local odd
+  odd=$(cd -- "$top" && sources ! -type d ! -type f -print -quit 2>/dev/null)
+  [[ $odd != *[^[:print:]]* ]] || printf -v odd %q "$odd"
+  [ -z "$odd" ] || fail "$top/$odd isn't a file or folder"
+  list=$(sums_in "$top" 2>/dev/null) ||
+    fail "a source can't be read: $(sums_in "$top" 2>&1 >/dev/null | head -n 1)"
 }
 
-# Does this, in words of find, with what the program is built from, below the folder where it is called.
-with_sources() {
-  local crates
-  mapfile -t crates < <(crates_of_program names <crates.txt)
-  find HANDLES crates.txt "${crates[@]/#/crates/}" \
-    -regextype posix-extended -regex 'crates/[^/]+/(out|must-fail)' -prune -o "$@"
+# The checksum of a file; the sum of the sources in `list` by the kit $1, and of the program with the checksum $2.
+sum_of_file() { sha256sum <"$1" | head -c 64; }
+sum_text() {
+  printf '%s\n' "sources with kit $(printf '%s\n' "$1" "$list" | sha256sum | head -c 64)" "program $2" "kit $1"
 }
 
-# A source that can't be read, or is neither a folder nor a file, or a link to a file. (Who reads a FIFO waits for
-# ever.)
-odd_source() {
-  if [ -p "$top/crates.txt" ]; then
-    echo crates.txt
+# What a sum says of the program, and of the kit, whose name may have several lines.
+program_of() { sed -n '2s/^program //p' <<<"$1"; }
+kit_of() { sed '1,2d; 3s/^kit //' <<<"$1"; }
+kit_of_rt() {
+  [ -z "$rt" ] || cat -- "${rt%/*}/../KIT-ID" 2>/dev/null || "$rt" version 2>/dev/null </dev/null | head -n 1
+}
+
+# Git in this checkout, whatever the caller's variables say, and without a command that its configuration names.
+in_git() {
+  (unset "${!GIT_@}" && cd -- "$top" && GIT_OPTIONAL_LOCKS=0 exec git -c core.fsmonitor= --git-dir=.git "$@") 2>/dev/null
+}
+make_work() { [ -n "$work" ] || work=$(mktemp -d -- "$kept/egasim.new.XXXXXX"); }
+# Notes, where it can, the files and folders on which the choice of the program rests, and their stamps at this time.
+note_stamps() {
+  noted_at=$(date +%s)
+  make_work && {
+    (cd -- "$top" && sources -print0)
+    [ ! -e "$top/release/egasim.sum" ] || printf '%s\0' release/egasim.sum
+    [ -z "$rt" ] || printf '%s\0' "${rt%/*}/../KIT-ID"
+  } >"$work/egasim.files" && noted_stamps=$(stamps "$work/egasim.files") || noted_stamps=''
+} 2>/dev/null
+
+# Keeps these stamps, so that the next call reads no sources, if each was two seconds old: a younger file may change once
+# more within its second.
+keep_stamps() {
+  [ -n "$noted_stamps" ] && printf '%s\n' "$noted_stamps" >"$work/egasim.stamps" &&
+    awk -v now="$noted_at" '$3 + 2 > now { exit 1 }' "$work/egasim.stamps" &&
+    mv -fT -- "$work/egasim.files" "$kept/egasim.files" && mv -fT -- "$work/egasim.stamps" "$kept/egasim.stamps"
+} 2>/dev/null
+
+# Whether release/ carries the program of these sources, by the kit that it names; sets `origin`, and then `sum` and `kit`.
+is_carried() {
+  local said carried
+  origin=''
+  [ ! -L "$top/release" ] && [ ! -L "$top/release/egasim.sum" ] && [ -f "$top/release/egasim.sum" ] || return
+  said=$(tr -d '\0' <"$top/release/egasim.sum")
+  carried=$(sum_text "$(kit_of "$said")" "$(program_of "$said")")
+  [ "$said" = "$carried" ] && origin=carried sum=$carried kit=$(kit_of "$carried")
+}
+
+# Fails if the file $1 isn't the carried program.
+compare_carried() {
+  [ -f "$1" ] && [ ! -L "$1" ] && [ "$(sum_of_file "$1")" = "$(program_of "$sum")" ] ||
+    fail "release/egasim is damaged or exchanged"
+}
+
+# Finds the program of the sources: that which was proved and built here by the kit on the path (where there is none, by
+# any), or else the carried one. Sets `origin` (nothing: there is none), its `sum` and `kit`, and `ready` if it is kept.
+find_program() {
+  local noted='' program=''
+  ready='' origin='proved here'
+  [ -z "$(in_git ls-files -- "$kept" | head -n 1)" ] ||
+    fail "git tracks $kept: a program that was committed there counts for nothing"
+  note_stamps
+  read_sources
+  [ ! -f "$kept/egasim.sum" ] || noted=$(tr -d '\0' <"$kept/egasim.sum")
+  [ ! -f "$kept/egasim" ] || [ ! -x "$kept/egasim" ] || program=$(sum_of_file "$kept/egasim")
+  kit=$(kit_of_rt)
+  [ -n "$rt" ] || kit=$(kit_of "${noted#*$'\n'}")
+  sum=$(sum_text "$kit" "$program")
+  [ "$noted" = "$origin"$'\n'"$sum" ] || is_carried || return 0
+  if [ "$noted" = "$origin"$'\n'"$sum" ] && [ "$program" = "$(program_of "$sum")" ]; then
+    ready=1
+    keep_stamps
   else
-    (cd -- "$top" && with_sources \( ! -type d ! -xtype f -o ! -readable \) -print -quit) 2>/dev/null
+    compare_carried "$top/release/egasim"
   fi
 }
 
-# Copies the files that the program is built from to the folder $1, where they can be changed.
-copy_sources() {
-  (cd -- "$top" && with_sources ! -type d -print0 |
-    xargs -0 cp --parents --no-preserve=mode --target-directory="$1" --)
+# Fails where no program can be kept. What it writes takes as much room as a program.
+look_at_place() {
+  [[ $kept/ != "$top"/crates/* ]] || fail "no program is kept in $kept, which is among the sources"
+  { mkdir -p -- "$kept" && make_work && head -c 1000000 /dev/zero >"$work/egasim" &&
+    printf '#!/bin/sh\n' >"$work/try" && chmod 700 "$work/try"; } 2>/dev/null ||
+    fail "can't write to $kept; the variable EGASIM_OUT may name another folder"
+  "$work/try" 2>/dev/null || fail "no program can run in $kept; the variable EGASIM_OUT may name another folder"
+  [[ ! -d $kept/egasim.sum && ( ! -e $kept/egasim || -f $kept/egasim && -f $kept/egasim.sum ) ]] ||
+    fail "$kept/egasim or egasim.sum is in the way: it isn't of a program that was kept"
 }
 
-# Takes the lines of crates that the program doesn't stand on out of crates.txt in the folder $1.
-leave_other_crates() {
-  local lines
-  lines=$(cd -- "$top" && crates_of_program lines <"$1/crates.txt") && printf '%s\n' "$lines" >"$1/crates.txt"
+# Puts the program that was copied to `work` in its place, with its origin $1 and `sum`. Until both are there, none counts.
+put() {
+  find "$kept" -maxdepth 1 -name 'egasim.new.*' -mmin +1440 -exec rm -rf -- {} +
+  printf '%s\n' "$1" "$sum" >"$work/egasim.sum" && rm -f -- "$kept/egasim.stamps" &&
+    mv -fT -- "$work/egasim.sum" "$kept/egasim.sum" && mv -fT -- "$work/egasim" "$kept/egasim"
 }
 
-# The checksum of the files in the folder $1 that the program is built from, by names and bytes, and of the kit.
-sum_of() {
-  [ -z "$(odd_source)" ] &&
-    (cd -- "$1" && printf '%s\n' "$kit" && with_sources ! -type d -print0 | LC_ALL=C sort -z |
-      xargs -0 sha256sum --) | sha256sum
+# Keeps the program $1, which was proved and built here from the sources in `list` by the kit `kit`.
+keep_built() {
+  mkdir -p -- "$kept" && make_work && cp -- "$1" "$work/egasim" && chmod 755 "$work/egasim" &&
+    sum=$(sum_text "$kit" "$(sum_of_file "$work/egasim")") && put 'proved here'
 }
 
-# Notes in a new folder, `noted`, what the program would be built from, and its stamps at the time `noted_at`.
-note_stamps() {
-  noted_at=$(date +%s)
-  noted=$(mktemp -d -- "$kept/egasim.new.XXXXXX") && (cd -- "$top" && with_sources -print0) >"$noted/egasim.files" &&
-    mv -fT -- "$noted/egasim.files" "$kept/egasim.files" && stamps >"$noted/egasim.stamps"
-} 2>/dev/null
-
-# Whether a program is kept, and is that of the sources as they stand. All of them are read; if it is, stamps are
-# kept, so that the next call need not read them.
-is_kept() {
-  local noted='' noted_at are_noted='' status
-  [ -x "$kept/egasim" ] && [ -f "$kept/egasim.sum" ] || return
-  note_stamps && are_noted=yes
-  { sum_of "$top" && sha256sum <"$kept/egasim" && printf '%s\n' "$kit"; } 2>/dev/null |
-    cmp -s - "$kept/egasim.sum" 2>/dev/null
-  status=$?
-  if [ "$status$are_noted" = 0yes ] && are_old "$noted/egasim.stamps" "$noted_at"; then
-    mv -fT -- "$noted/egasim.stamps" "$kept/egasim.stamps"
-  fi 2>/dev/null
-  [ -z "$noted" ] || rm -rf -- "$noted"
-  return "$status"
+# Copies the carried program, and runs the copy, never what lies in release/.
+take_carried() {
+  look_at_place
+  cp -- "$top/release/egasim" "$work/egasim" && chmod 700 "$work/egasim" || fail "can't copy release/egasim to $kept"
+  compare_carried "$work/egasim"
+  "$work/egasim" bound >/dev/null 2>&1 </dev/null ||
+    fail "the program carried in release/ can't run here: it needs Linux on x86-64 and glibc 2.34 or later"
+  put carried || fail "can't write to $kept"
+  say "runs the program carried in release/, which wasn't proved on this computer; --prove proves and builds it here"
 }
 
-# Whether the stamps in the file $1 were two seconds old at the time $2. A younger file may change once more within
-# its second.
-are_old() { awk -v now="$2" '$3 + 2 > now { exit 1 }' "$1"; }
-
-# No stamps are noted any more, so that the next call reads all sources.
-forget_stamps() { rm -f -- "$kept/egasim.stamps"; }
-
-# Keeps the program $1, which was built from files of the checksum $2. Until both files are there, none counts as
-# kept.
-keep() {
-  local new
-  mkdir -p -- "$kept" && rm -rf -- "$kept"/egasim.new.* &&
-    new=$(mktemp -d -- "$kept/egasim.new.XXXXXX") &&
-    cp -- "$1" "$new/egasim" && chmod 755 "$new/egasim" &&
-    { printf '%s\n' "$2" && sha256sum <"$new/egasim" && printf '%s\n' "$kit"; } >"$new/egasim.sum" &&
-    forget_stamps && mv -fT -- "$new/egasim.sum" "$kept/egasim.sum" && mv -fT -- "$new/egasim" "$kept/egasim" &&
-    rmdir -- "$new"
+get_program() {
+  find_program
+  [ "$origin$ready" != carried ] || take_carried
+  [ -n "$origin" ] || { . "$top/launcher/build.sh" && build_in_turn "; release/ carries no program of these sources"; }
+  clean
 }

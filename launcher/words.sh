@@ -1,39 +1,40 @@
-# The launcher's own words: called with the top of the repository, the file of rt, and --help, --version or --check.
+# The launcher's own words: read by it where it is called with $1 alone.
 # shellcheck shell=bash
-set -uo pipefail
-top=$1
-rt=$2
-# shellcheck source=launcher/kept.sh
-. "$top/launcher/kept.sh"
-# shellcheck source=launcher/program.sh
+[ "$1" != --help ] || exec cat -- "$top/launcher/help.txt"
 . "$top/launcher/program.sh"
 
-# The commit of the checkout, and whether what the program is built from has changed since; nothing where there is none.
-commit() {
-  local git changes commit
-  git=(git --git-dir="$top/.git" --work-tree="$top")
-  commit=$("${git[@]}" rev-parse --verify --quiet HEAD 2>/dev/null) || return
-  changes=$(cd -- "$top" && GIT_OPTIONAL_LOCKS=0 "${git[@]}" status --porcelain -- HANDLES crates.txt crates 2>/dev/null)
-  echo "commit $commit${changes:+, with changes}"
+# The program that was found, in one line.
+told() {
+  local of=${kit//$'\n'/ }
+  echo "program ${origin:+$(program_of "$sum"), }${origin:-not built}, kit ${of:-none}"
 }
 
-version() {
-  local sources program='not built'
-  sources=$(sum_of "$top" 2>/dev/null) || fail "the sources in $top can't be read"
-  is_kept && program=$(sha256sum <"$kept/egasim")
+case $1 in
+--version)
+  find_program
   echo "egasim $(cat -- "$top/VERSION")"
-  commit
-  printf '%s\n' "sources with kit ${sources%% *}" "kit ${kit:-none}" "program ${program%  -}"
-}
-
-check() {
-  forget_stamps
-  is_kept || fail "no program of these sources and this kit is kept; the next call builds it"
-  echo "the program is of these sources and this kit"
-}
-
-case $3 in
---help) cat -- "$top/launcher/help.txt" ;;
---version) version ;;
---check) check ;;
+  # Of the checkout, and whether what the program is built from has changed since.
+  ! commit=$(in_git rev-parse --verify --quiet HEAD) ||
+    echo "commit $commit$(in_git status --porcelain -- HANDLES crates.txt crates | sed -n '1s/.*/, with changes/p')"
+  echo "${sum%%$'\n'*}"
+  told
+  ;;
+--check)
+  rm -f -- "$kept/egasim.stamps"
+  find_program
+  [ -n "$origin" ] || fail "no program of these sources and this kit is kept or carried; the next call builds it"
+  echo "$(told), as egasim.sum says; no proof was run now"
+  ;;
+--prove)
+  . "$top/launcher/build.sh"
+  build_in_turn
+  told
+  carried=$(cat -- "$top/release/egasim.sum" 2>/dev/null | tr -d '\0')
+  if [ "${sum%%$'\n'*}" != "${carried%%$'\n'*}" ]; then
+    echo "release/ carries no program of these sources by this kit, so bytes weren't compared"
+  elif [ "$sum" != "$carried" ] || ! cmp -s -- "$kept/egasim" "$top/release/egasim"; then
+    fail "release/egasim isn't the program that was proved and built here of the same sources by the same kit"
+  fi
+  ;;
 esac
+exit
