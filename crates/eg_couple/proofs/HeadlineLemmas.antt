@@ -143,7 +143,7 @@ module _ (unit : CoupledUnit) (answers : List Answer) (accepted : IsAccepted uni
     short = λ bound lapse. to (EachDriveSpan (ExcessIsShort s.cal)) (records_have_short_excess keeps r run valid bound lapse);
     stretches = λ listed. to (EachDriveSpan (RowsEndStretches s.cal.rules.threshold (longest_stretch s.cal)))
         (records_end_stretches keeps r run listed);
-    stretches_at_once = λ listed. to (EachDriveSpan (RowsEndStretchesAtOnce s.fault s.cal.rules.threshold (ticks_to_confirm s.cal)))
+    stretches_at_once = λ listed. to (EachDriveSpan (RowsEndStretchesAtOnce s.fault s.cal.rules.torque s.cal.rules.threshold (ticks_to_confirm s.cal)))
         (records_end_stretches_at_once keeps r run listed);
     bursts = to (EachDriveSpan (RowsAreSparse s.cal.rules.torque s.cal.rules.threshold)) (records_are_sparse (b as_told shown) r run);
     sharp = sharp;

@@ -70,7 +70,7 @@ pub record CoupledHeadline (s : Setting) (rows : List Row) (one_load : Type 0) :
   pub stretches : IsListed s.fault → EachDriveSpan (RowsEndStretches s.cal.rules.threshold
       (longest_stretch s.cal)) rows
   pub stretches_at_once : IsListed s.fault → EachDriveSpan (RowsEndStretchesAtOnce s.fault
-      s.cal.rules.threshold (ticks_to_confirm s.cal)) rows
+      s.cal.rules.torque s.cal.rules.threshold (ticks_to_confirm s.cal)) rows
   pub bursts : EachDriveSpan (RowsAreSparse s.cal.rules.torque s.cal.rules.threshold) rows
   -- and what holds besides if the engine showed one load twice
   pub sharp : one_load → SharpHeadline s rows

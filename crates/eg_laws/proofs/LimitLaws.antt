@@ -28,6 +28,7 @@ use Rattle.eg_model.proofs.ShowingLaws.{records_show_runs}
 use Rattle.eg_laws.specs.Stretches.{AllExcess, RowsEndStretches}
 use Rattle.eg_laws.specs.Limits.{RecordsKeepLimits}
 use Rattle.eg_laws.proofs.PeakLaws.{GivesAtMost, all_below}
+use Rattle.eg_laws.proofs.StretchLaws.{at_once_always}
 use Rattle.eg_laws.proofs.StretchRows.{records_end_stretches, records_end_stretches_at_once}
 
 -- ---- the rows with an excess up to the last one ----
@@ -146,7 +147,7 @@ module _ {E : Type 0} {b : BenchEngine E} {Keeps Within : PlantParts → E → T
     stretch = λ listed. stretch_within r run valid (longest_stretch r.setting.cal) (records_end_stretches keeps r run listed);
     at_once = λ listed always. stretch_within r run valid (ticks_to_confirm r.setting.cal)
         (λ newer span older e is later stretch before parts. records_end_stretches_at_once keeps r run listed newer span older e is
-        later stretch before parts (always _));
+        later stretch before parts (at_once_always r.setting.fault always _ _ _));
     peak =
         let shows = records_show_runs keeps r run valid in
         let below = all_below gives r.setting run.accepted (record_rows b r) shows.engine shows.permitted in

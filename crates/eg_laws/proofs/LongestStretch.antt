@@ -1,5 +1,5 @@
 -- No smaller numbers bound the stretches of excess: the histories that show it.
-use Rattle.std.proofs.Common.{◌≡◌, ℕ, zero, suc, ◌+◌, ◌-◌, ◌≤◌, ◌<◌, List, ◌++◌, length, replicate, refl, sym, ap₂, ◌∙◌, subst, arith, length-append, append_assoc}
+use Rattle.std.proofs.Common.{◌≡◌, ℕ, zero, suc, ◌+◌, ◌-◌, ◌≤◌, ◌<◌, List, ◌++◌, length, replicate, None, refl, sym, ap₂, ◌∙◌, subst, arith, length-append, append_assoc}
 use Rattle.std.proofs.lemmas.List.{length-replicate}
 use Rattle.eg_num.specs.Arithmetic.{estimate}
 use Rattle.eg_answer.specs.Times.{feeds_to_confirm, reaction_of}
@@ -15,6 +15,7 @@ use Rattle.eg_laws.specs.LeastLapse.{Lasts}
 use Rattle.eg_values.specs.Excess.{ticks_to_confirm, longest_stretch}
 use Rattle.eg_laws.specs.Stretches.{IsStretch, exceeding_after, faultless_setting, ExcessLasts, ExcessLastsUntilConfirmed, StretchIsLeast, StretchAtOnceIsLeast}
 use Rattle.eg_model.proofs.LapseRuns.{AllExceed}
+use Rattle.eg_laws.proofs.StretchLaws.{at_once_always}
 use Rattle.eg_laws.proofs.ExcessTicks.{follows_none, more_exceed, all_plain, all_exceed, loaded_proper, all_go_on, all_words, all_proper, many_positive, size}
 use Rattle.eg_laws.proofs.LeastLaw.{MayFollow, room, last_is, reaction_long, size_whole, goes_on_after, words_after, follows_on, after_proper, listed}
 
@@ -127,7 +128,8 @@ stretch_is_least cal accepted can longest bound = subst (λ n. n ≤ longest) (s
 
 pub stretch_at_once_is_least : StretchAtOnceIsLeast
 stretch_at_once_is_least cal accepted can longest bound = subst (λ n. n ≤ longest) (sym same)
-    (bound (faultless_setting cal) refl (unfold IsListed in tt) 0 excess (quiets cal accepted can) (unfold is_at_once in refl)
+    (bound (faultless_setting cal) refl (unfold IsListed in tt) 0 excess (quiets cal accepted can) 
+    (at_once_always None (λ tick. unfold is_at_once in refl) _ _ _)
     (stretch_from (faultless_setting cal) _ (ticks_to_confirm cal) excess (quiets cal accepted can) (faultless cal accepted can) refl same))
   where
     excess : List Tick

@@ -1,6 +1,6 @@
 -- How long an excess lasts, and how often it may come again: by the rows of a history, and of the record of a run on
 -- the bench.
-use Rattle.std.proofs.Common.{◌≡◌, ℕ, ◌+◌, ◌≤◌, Bool, true, false, List, [], ◌∷◌, ◌++◌, All, map, take, length, refl, sym, ap, ◌∙◌, subst, arith, length-append}
+use Rattle.std.proofs.Common.{◌≡◌, ℕ, ◌≤◌, Bool, true, false, List, [], ◌∷◌, ◌++◌, All, map, take, length, refl, sym, ap, ◌∙◌, subst, arith, length-append}
 use Rattle.std.specs.List.{list_all}
 use Rattle.std.proofs.lemmas.List.{length-map, map-append}
 use Rattle.std.proofs.lemmas.List.Elements.{All-head, All-tail}
@@ -14,16 +14,15 @@ use Rattle.eg_record.specs.declared.row.Row.{Row}
 use Rattle.eg_record.specs.Excess.{true_excess}
 use Rattle.eg_model.specs.History.{Setting, Tick}
 use Rattle.eg_model.specs.Moments.{moments_of}
-use Rattle.eg_model.specs.Premises.{AreProper, Follows}
-use Rattle.eg_model.specs.Reaction.{is_at_once}
+use Rattle.eg_model.specs.Premises.{AreProper, Follows, true_excesses}
 use Rattle.eg_model.specs.Lapses.{Exceeds}
 use Rattle.eg_model.specs.Records.{ExceedLast}
 use Rattle.eg_model.specs.Engines.{BenchEngine, KeepsBenchLaws}
 use Rattle.eg_values.specs.Excess.{ticks_to_confirm, longest_stretch}
-use Rattle.eg_laws.specs.Stretches.{IsStretch, AllExcess, RowsEndStretches, RowsEndStretchesAtOnce, RecordsEndStretches, RecordsEndStretchesAtOnce}
+use Rattle.eg_laws.specs.Stretches.{IsStretch, AllExcess, IsAtOnceWhenConfirmed, RowsEndStretches, RowsEndStretchesAtOnce, RecordsEndStretches, RecordsEndStretchesAtOnce}
 use Rattle.eg_laws.specs.Bursts.{bad_in, most_bad, RowsAreSparse, RecordsAreSparse}
 use Rattle.eg_model.proofs.TickLemmas.{length-moments}
-use Rattle.eg_model.proofs.SpanRows.{follows-end, proper-end, length-rows_after, SpanRows, Split, split, exceed}
+use Rattle.eg_model.proofs.SpanRows.{follows-end, proper-end, length-rows_after, SpanRows, Split, split, exceed, bits_after, true_unnumbered}
 use Rattle.eg_model.proofs.RecordSpans.{SpanTo}
 use Rattle.eg_model.proofs.RecordLaws.{each_drive, proper_span}
 use Rattle.eg_laws.proofs.StretchLaws.{stretches_end, stretches_end_at_once}
@@ -43,7 +42,7 @@ record StretchOf (s : Setting) (start : ℕ) (stretch before : List Row) : Type 
   earlier : List Tick
   is : IsStretch s start ticks earlier
   size : length ticks ≡ length stretch
-  size_before : length earlier ≡ length before
+  rows_are : stretch ++ before ≡ SpanRows s start (ticks ++ earlier)
 
 module _ (s : Setting) (start : ℕ) (h : List Tick) (accepted : IsAccepted s.cal) (listed : IsListed s.fault)
     (follows : Follows s.fault start h) (proper : AreProper s h) where
@@ -63,7 +62,7 @@ module _ (s : Setting) (start : ℕ) (h : List Tick) (accepted : IsAccepted s.ca
           (subst (λ g. Exceeds s (length stretch) g) inner.whole (exceed s start (length stretch) outer.rest last));
     };
     size = size;
-    size_before = length-part before inner.rest inner.rows_are;
+    rows_are = subst (λ k. stretch ++ before ≡ SpanRows s start k) inner.whole outer.rows_are;
   }
     where
       outer : Split s start h later (stretch ++ before)
@@ -94,12 +93,16 @@ module _ (s : Setting) (start : ℕ) (h : List Tick) (accepted : IsAccepted s.ca
       subst (λ n. n ≤ longest_stretch s.cal) of.size
       (stretches_end s.cal accepted s refl listed start of.ticks of.earlier of.is)
 
-  rows_end_stretches_at_once : RowsEndStretchesAtOnce s.fault s.cal.rules.threshold (ticks_to_confirm s.cal) start (SpanRows s start h)
+  rows_end_stretches_at_once : RowsEndStretchesAtOnce s.fault s.cal.rules.torque s.cal.rules.threshold (ticks_to_confirm s.cal) start
+      (SpanRows s start h)
+  unfolding true_excesses
   rows_end_stretches_at_once later stretch before e soon excess =
       let of = stretch_of later stretch before e excess in
+      let bit = true_excess s.cal.rules.threshold in
       subst (λ n. n ≤ ticks_to_confirm s.cal) of.size
       (stretches_end_at_once s.cal accepted s refl listed start of.ticks of.earlier
-      (subst (λ n. is_at_once s.fault (start + n + ticks_to_confirm s.cal) ≡ true) (sym of.size_before) soon) of.is)
+      (subst (IsAtOnceWhenConfirmed s.fault s.cal.rules.torque start)
+      (ap (map bit) of.rows_are ∙ bits_after bit (true_unnumbered s.cal.rules.threshold) s start (of.ticks ++ of.earlier)) soon) of.is)
 
 module _ {E : Type 0} {b : BenchEngine E} {Keeps : PlantParts → E → Type 0} (keeps : KeepsBenchLaws b Keeps) where
   pub records_end_stretches : RecordsEndStretches b
@@ -108,7 +111,8 @@ module _ {E : Type 0} {b : BenchEngine E} {Keeps : PlantParts → E → Type 0} 
       (proper_span keeps r run (listed_valid r.setting.fault listed) start count span is))
 
   pub records_end_stretches_at_once : RecordsEndStretchesAtOnce b
-  records_end_stretches_at_once r run listed = each_drive b (RowsEndStretchesAtOnce r.setting.fault r.setting.cal.rules.threshold (ticks_to_confirm r.setting.cal)) r
+  records_end_stretches_at_once r run listed = each_drive b (RowsEndStretchesAtOnce r.setting.fault r.setting.cal.rules.torque r.setting.cal.rules.threshold
+      (ticks_to_confirm r.setting.cal)) r
       (λ start count span is. rows_end_stretches_at_once r.setting start (SpanTo b r count) run.accepted listed is.follows
       (proper_span keeps r run (listed_valid r.setting.fault listed) start count span is))
 

@@ -1,9 +1,11 @@
 -- How long a true excess lasts: with no fault or a listed one each stretch of ticks in a row with excess
 -- has D - 1 + R ticks at most, where D feeds confirm it; and D ticks where the reaction is at once. No
 -- smaller numbers serve where an excess can be confirmed at all. In a stretch the newest stands first.
-use Rattle.std.specs.Prelude.{◌≡◌, ℕ, ◌+◌, ◌-◌, ◌≤◌, true, List, [], ◌++◌, All, length, replicate, Option, None}
+use Rattle.std.specs.Prelude.{◌≡◌, ℕ, ◌+◌, ◌-◌, ◌≤◌, Bool, true, List, [], ◌++◌, All, map, length, replicate, Option, None}
+use Rattle.std.specs.Option.{IfSome}
 use Rattle.eg_num.specs.Arithmetic.{estimate}
 use Rattle.eg_num.specs.Drive.{DriveRow}
+use Rattle.eg_num.specs.Windows.{WeightParts, first_index}
 use Rattle.eg_answer.specs.Times.{reaction_of}
 use Rattle.eg_values.specs.Calibration.{CalibrationParts, IsAccepted}
 use Rattle.eg_values.specs.Excess.{ticks_to_confirm, longest_stretch}
@@ -14,7 +16,7 @@ use Rattle.eg_record.specs.declared.row.Row.{Row}
 use Rattle.eg_record.specs.Excess.{true_excess}
 use Rattle.eg_record.specs.Spans.{EachDriveSpan}
 use Rattle.eg_model.specs.History.{Setting, Tick}
-use Rattle.eg_model.specs.Premises.{AreProper, Follows}
+use Rattle.eg_model.specs.Premises.{AreProper, Follows, true_excesses}
 use Rattle.eg_model.specs.Reaction.{is_at_once}
 use Rattle.eg_model.specs.Lapses.{Exceeds}
 use Rattle.eg_model.specs.Engines.{BenchEngine}
@@ -37,11 +39,17 @@ StretchesEndBy cal longest =
     (s : Setting) → s.cal ≡ cal → IsListed s.fault → (start : ℕ) (stretch before : List Tick) →
     IsStretch s start stretch before → length stretch ≤ longest
 
--- so it is where the reaction is at once from the tick that comes D ticks after the begin of the stretch
+-- Where the true excess is confirmed, the reaction is at once from the tick after the first by which it is.
+-- (`excesses` has a bit for each tick of a drive span that begins at tick `start`.)
+abbrev pub IsAtOnceWhenConfirmed : Option Fault → WeightParts → (start : ℕ) → (excesses : List Bool) → Type 0
+IsAtOnceWhenConfirmed fault weights start excesses =
+    IfSome (first_index weights excesses) (λ c. is_at_once fault (start + c + 1) ≡ true)
+
+-- so it is where the reaction is at once when the excess is confirmed
 abbrev pub StretchesEndAtOnceBy : CalibrationParts → (longest : ℕ) → Type 0
 StretchesEndAtOnceBy cal longest =
     (s : Setting) → s.cal ≡ cal → IsListed s.fault → (start : ℕ) (stretch before : List Tick) →
-    is_at_once s.fault (start + length before + ticks_to_confirm cal) ≡ true →
+    IsAtOnceWhenConfirmed s.fault cal.rules.torque start (true_excesses s (stretch ++ before)) →
     IsStretch s start stretch before → length stretch ≤ longest
 
 -- The two laws. (Without a fault the reaction is always at once.)
@@ -102,12 +110,13 @@ RowsEndStretches threshold longest start rows =
     (later stretch before : List Row) → rows ≡ later ++ (stretch ++ before) → AllExcess threshold stretch →
     length stretch ≤ longest
 
--- so has each where the reaction is at once from the tick that comes `longest` ticks after its begin
-abbrev pub RowsEndStretchesAtOnce : Option Fault → (threshold longest start : ℕ) → List Row → Type 0
-RowsEndStretchesAtOnce fault threshold longest start rows =
+-- so it is where the reaction is at once when the excess is confirmed
+abbrev pub RowsEndStretchesAtOnce :
+    Option Fault → WeightParts → (threshold longest start : ℕ) → List Row → Type 0
+RowsEndStretchesAtOnce fault weights threshold longest start rows =
     (later stretch before : List Row) → rows ≡ later ++ (stretch ++ before) →
-    is_at_once fault (start + length before + longest) ≡ true → AllExcess threshold stretch →
-    length stretch ≤ longest
+    IsAtOnceWhenConfirmed fault weights start (map (true_excess threshold) (stretch ++ before)) →
+    AllExcess threshold stretch → length stretch ≤ longest
 
 -- ---- of every record ----
 
@@ -118,9 +127,9 @@ RecordsEndStretches b =
     EachDriveSpan (RowsEndStretches r.setting.cal.rules.threshold (longest_stretch r.setting.cal))
     (record_rows b r)
 
--- and D rows at most where the reaction is at once
+-- and D rows at most where the reaction is at once when the excess is confirmed
 abbrev pub RecordsEndStretchesAtOnce : {E : Type 0} → BenchEngine E → Type 0
 RecordsEndStretchesAtOnce b =
     (r : Run) → IsRun r → IsListed r.setting.fault →
-    EachDriveSpan (RowsEndStretchesAtOnce r.setting.fault r.setting.cal.rules.threshold
-    (ticks_to_confirm r.setting.cal)) (record_rows b r)
+    EachDriveSpan (RowsEndStretchesAtOnce r.setting.fault r.setting.cal.rules.torque
+    r.setting.cal.rules.threshold (ticks_to_confirm r.setting.cal)) (record_rows b r)

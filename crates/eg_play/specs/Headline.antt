@@ -88,7 +88,7 @@ pub record Headline {E : Type 0} (b : BenchEngine E) (s : Setting) (drive : List
   pub stretches : IsListed s.fault → EachDriveSpan (RowsEndStretches s.cal.rules.threshold
       (longest_stretch s.cal)) rows
   pub stretches_at_once : IsListed s.fault → EachDriveSpan (RowsEndStretchesAtOnce s.fault
-      s.cal.rules.threshold (ticks_to_confirm s.cal)) rows
+      s.cal.rules.torque s.cal.rules.threshold (ticks_to_confirm s.cal)) rows
   -- How often it may come again: as long as a true excess isn't confirmed, of any n consecutive rows of a
   -- drive span at most `(limit - 1 + n*down)/(up + down)` have one, by the weights of the torque.
   pub bursts : EachDriveSpan (RowsAreSparse s.cal.rules.torque s.cal.rules.threshold) rows
