@@ -1,5 +1,5 @@
 -- Closed and open loop agree on the bench: the spans of a run are histories at whose ticks the fault acts.
-use Rattle.std.proofs.Common.{◌≡◌, ◌∙◌, sym, ap, subst, ℕ, zero, suc, ◌+◌, ◌≤◌, ◌<◌, ◌∷◌, [], Bool, false, List, All, length, arith, None}
+use Rattle.std.proofs.Common.{◌≡◌, ◌∙◌, sym, ap, subst, ℕ, zero, suc, ◌+◌, ◌-◌, ◌≤◌, ◌<◌, ◌∷◌, [], Bool, false, List, All, length, arith, None}
 use Rattle.std.proofs.lemmas.List.Elements.{All-nil, All-cons}
 use Rattle.eg_fault.specs.Effects.{Effects, no_effects}
 use Rattle.eg_fault.specs.Faults.{effects}
@@ -13,6 +13,7 @@ use Rattle.eg_model.specs.SpanHistories.{SpanIsHistory}
 use Rattle.eg_model.specs.Engines.{BenchEngine}
 use Rattle.eg_model.specs.Bench.{Run, drive_at, entry_at, moments_to, entries_to}
 use Rattle.eg_model.proofs.SpanLemmas.{spans_are_histories}
+use Rattle.eg_model.proofs.TickLemmas.{length-moments_in}
 use Rattle.eg_model.proofs.StartUpLaws.{runs_without_reset}
 use Rattle.eg_model.proofs.RecordTicks.{records_are_histories, length-entries}
 use Rattle.eg_replay.specs.Agreement.{TellsTheSame, RunsFreely, RunsAgree, RunsWithoutResetAgree, FaultsSpareLevel2}
@@ -20,35 +21,36 @@ use Rattle.eg_replay.proofs.AgreeLemmas.{Free, spans_agree}
 
 -- ---- the ticks of a run ----
 
--- those of a history from this tick on, and those of a run, where level 2 runs freely before tick n
-module _ (s : Setting) (n : ℕ) (free : (t : ℕ) → t < n → RunsFreely (effects s.fault t)) where
-  history-free : (begin : ℕ) (h : List Tick) → begin + length h ≤ n → Follows s.fault begin h → All Free h
+-- those of a history from this tick on, and those of a run, where level 2 runs freely from tick `first` to before tick n
+module _ (s : Setting) (first n : ℕ) (free : (t : ℕ) → first ≤ t → t < n → RunsFreely (effects s.fault t)) where
+  history-free : (begin : ℕ) (h : List Tick) → first ≤ begin → begin + length h ≤ n → Follows s.fault begin h → All Free h
   unfolding Follows
-  history-free begin [] within follows = All-nil Free
-  history-free begin (x ∷ h) within follows = All-cons Free x h
-      (subst RunsFreely (sym follows.0) (free (begin + length h) (omega (arith, within))))
-      (history-free begin h (omega (arith, within)) follows.1)
+  history-free begin [] from within follows = All-nil Free
+  history-free begin (x ∷ h) from within follows = All-cons Free x h
+      (subst RunsFreely (sym follows.0) (free (begin + length h) (omega (arith, from)) (omega (arith, within))))
+      (history-free begin h from (omega (arith, within)) follows.1)
 
-  ticks-free : (h : List Entry) → length h ≤ n → All Free (ticks s h)
+  ticks-free : (h : List Entry) → first ≤ 0 → length h ≤ n → All Free (ticks s h)
   unfolding ticks
-  ticks-free [] within = All-nil Free
-  ticks-free (e ∷ h) within = All-cons Free
+  ticks-free [] from within = All-nil Free
+  ticks-free (e ∷ h) from within = All-cons Free
       (record { effects = effects s.fault (length h); entry = e }) (ticks s h)
-      (free (length h) (omega (arith, within))) (ticks-free h (omega (arith, within)))
+      (free (length h) (omega (arith, from)) (omega (arith, within))) (ticks-free h from (omega (arith, within)))
 
-  span-agrees : (h : List Entry) → length h ≤ n → span_kind (moments s h) ≡ Drive →
+  span-agrees : (h : List Entry) → length h ≡ n → first ≤ n - length (span_so_far (moments s h)) → span_kind (moments s h) ≡ Drive →
       TellsTheSame s.cal (span_so_far (moments s h))
-  span-agrees h within driven =
+  span-agrees h whole from driven =
       let span : SpanIsHistory s h = spans_are_histories s h in
-      let size = span.size in
-      let all = history-free span.begin (span_ticks s h) (omega (arith, size, within)) span.follows in
       let are = span.moments_are ∙ ap (λ kind. moments_in kind s (span_ticks s h)) driven in
+      let all = history-free span.begin (span_ticks s h)
+      (let size = span.size in let long = ap length are ∙ length-moments_in Drive s (span_ticks s h) in omega (arith, from, whole, size, long))
+      (let size = span.size in omega (arith, size, whole)) span.follows in
       subst (TellsTheSame s.cal) (sym are) (spans_agree s (span_ticks s h) all)
 
-  whole-agrees : (h : List Entry) → length h ≤ n → All (λ (e : Entry). e.drive.reset ≡ false) h →
+  whole-agrees : (h : List Entry) → first ≤ 0 → length h ≤ n → All (λ (e : Entry). e.drive.reset ≡ false) h →
       TellsTheSame s.cal (moments s h)
-  whole-agrees h within never = subst (TellsTheSame s.cal) (sym (runs_without_reset s h never))
-      (unfold moments_of in spans_agree s (ticks s h) (ticks-free h within))
+  whole-agrees h from within never = subst (TellsTheSame s.cal) (sym (runs_without_reset s h never))
+      (unfold moments_of in spans_agree s (ticks s h) (ticks-free h from within))
 
 -- ---- on the bench ----
 
@@ -68,12 +70,13 @@ module _ {E : Type 0} (b : BenchEngine E) where
   runs_agree r n free driven =
       let are = records_are_histories b r n in
       subst (λ past. TellsTheSame r.setting.cal (span_so_far past)) (sym are)
-      (span-agrees r.setting n free (entries_to b r n) (within r n) (sym (ap span_kind are) ∙ driven))
+      (span-agrees r.setting (n - length (span_so_far (moments_to b r n))) n free (entries_to b r n) (length-entries b r n)
+      (let same = ap (λ past. length (span_so_far past)) are in omega (arith, same)) (sym (ap span_kind are) ∙ driven))
 
   pub runs_without_reset_agree : RunsWithoutResetAgree b
   runs_without_reset_agree r n free quiet =
       subst (TellsTheSame r.setting.cal) (sym (records_are_histories b r n))
-      (whole-agrees r.setting n free (entries_to b r n) (within r n) (never r n quiet))
+      (whole-agrees r.setting 0 n free (entries_to b r n) (omega arith) (within r n) (never r n quiet))
 
 -- ---- the faults that spare level 2 ----
 

@@ -1,7 +1,7 @@
 -- Outside the headline. Closed and open loop agree: what level 2 told in a drive span, a replay tells of the
 -- readings that level 2 was given in it. All that is asked is that level 2 ran as without a fault. What it
 -- read may be wrong, and what level 1, the engine and level 3 did doesn't count.
-use Rattle.std.specs.Prelude.{◌≡◌, ℕ, ◌<◌, false, List, All, map, None, Some}
+use Rattle.std.specs.Prelude.{◌≡◌, ℕ, ◌-◌, ◌≤◌, ◌<◌, false, List, All, map, length, None, Some}
 use Rattle.eg_sensor.specs.Brake.{sound_contacts}
 use Rattle.eg_values.specs.Calibration.{CalibrationParts}
 use Rattle.eg_fault.specs.Effects.{Effects}
@@ -43,20 +43,21 @@ SpansAgree =
     (s : Setting) (h : List Tick) → All (λ (x : Tick). RunsFreely x.effects) h →
     TellsTheSame s.cal (moments_in Drive s h)
 
--- level 2 runs so at each of the first n ticks of a run
-abbrev pub RunsFreelyTo : Run → ℕ → Type 0
-RunsFreelyTo r n = (t : ℕ) → t < n → RunsFreely (effects r.setting.fault t)
+-- level 2 runs so at each tick of a run from tick `first` to the one before tick n
+abbrev pub RunsFreelyIn : Run → (first n : ℕ) → Type 0
+RunsFreelyIn r first n = (t : ℕ) → first ≤ t → t < n → RunsFreely (effects r.setting.fault t)
 
 -- on the bench: of the drive span that the first n ticks of a run end in, whatever was before it
 abbrev pub RunsAgree : {E : Type 0} → BenchEngine E → Type 0
 RunsAgree b =
-    (r : Run) (n : ℕ) → RunsFreelyTo r n → span_kind (moments_to b r n) ≡ Drive →
-    TellsTheSame r.setting.cal (span_so_far (moments_to b r n))
+    (r : Run) (n : ℕ) → let span = span_so_far (moments_to b r n) in
+    RunsFreelyIn r (n - length span) n → span_kind (moments_to b r n) ≡ Drive →
+    TellsTheSame r.setting.cal span
 
 -- and of all these ticks, where none of them resets the unit
 abbrev pub RunsWithoutResetAgree : {E : Type 0} → BenchEngine E → Type 0
 RunsWithoutResetAgree b =
-    (r : Run) (n : ℕ) → RunsFreelyTo r n → ((t : ℕ) → t < n → (drive_at r t).reset ≡ false) →
+    (r : Run) (n : ℕ) → RunsFreelyIn r 0 n → ((t : ℕ) → t < n → (drive_at r t).reset ≡ false) →
     TellsTheSame r.setting.cal (moments_to b r n)
 
 -- what a row of a record shows of level 2: its signals, and its watches but the wrong answers and a start-up
