@@ -1,18 +1,19 @@
--- What is told as commanded next is what the model's next tick uses.
-use Rattle.std.proofs.Common.{◌≡◌, ◌∙◌, refl, sym, ap, ◌&&◌, ◌||◌, Bool, true, false, List, [], length}
+-- What is told as commanded next: the outputs of the row just told, and what the model's next tick uses.
+use Rattle.std.proofs.Common.{◌≡◌, ◌∙◌, refl, sym, ap, ◌&&◌, ◌||◌, Bool, true, false, List, [], ◌∷◌, length, subst}
 use Rattle.std.specs.Prelude.{if◌then◌else◌}
 use Rattle.eg_num.specs.Drive.{DriveRow, driven}
 use Rattle.eg_fault.specs.Faults.{effects}
 use Rattle.eg_model.specs.History.{Setting, Entry, Drive, Test, drives, Moment}
 use Rattle.eg_model.specs.Paths.{both_conduct}
 use Rattle.eg_model.specs.Level1.{last_world}
-use Rattle.eg_model.specs.Spans.{span_so_far, span_kind, has_passed, kind_at, before_at, moments}
+use Rattle.eg_model.specs.Rows.{row_of}
+use Rattle.eg_model.specs.Spans.{span_so_far, span_kind, has_passed, kind_at, before_at, moments, next}
 use Rattle.eg_model.proofs.SpanLemmas.{length-run_moments, before-begins}
 use Rattle.eg_model.proofs.WholeModel.{whole_model}
-use Rattle.eg_tick.specs.Advancing.{effects_after, world_before}
+use Rattle.eg_tick.specs.Advancing.{effects_after}
 use Rattle.eg_tick.specs.Commanding.{commands_after, commanded_at, commands_next}
 use Rattle.eg_tick.specs.declared.commands.Commands.{Commands}
-use Rattle.eg_couple.specs.Used.{CommandsAreUsed}
+use Rattle.eg_couple.specs.Used.{HaveOutputsOf, HaveNoOutputs, CommandsAreUsed}
 use Rattle.eg_couple.proofs.TakenLemmas.{on-commanded}
 
 -- at the first tick of a span nothing is commanded yet
@@ -49,15 +50,34 @@ module _ (s : Setting) (h : List Entry) where
   at_reset drive is = ap by_reset is
       ∙ λ i. record { throttle = first-throttle i; ignition = first-ignition i; on = false; held = (commands_next s h).held }
 
-  pub commands_are_used : CommandsAreUsed s h
-  unfolding commanded_at commands_next commands_after world_before
-  commands_are_used = record {
-    on = λ e. sym (on-commanded s e h);
-    throttle = λ drive. refl;
-    ignition = λ drive. refl;
-    held = held;
-    at_reset = at_reset;
-    after_test = λ passed.
-        let none : before_at (driven 0 0 0) (moments s h) ≡ [] = before-begins (driven 0 0 0) (moments s h) passed in
-        (ap (λ past. (last_world past).throttle) none ∙ first-throttle, ap (λ past. (last_world past).ignition) none ∙ first-ignition);
+  no_outputs : before_at (driven 0 0 0) (moments s h) ≡ [] → HaveNoOutputs (commands_next s h)
+  unfolding commanded_at commands_next commands_after
+  no_outputs none = record {
+    throttle = ap (λ past. (last_world past).throttle) none ∙ first-throttle;
+    ignition = ap (λ past. (last_world past).ignition) none ∙ first-ignition;
   }
+
+-- what the next tick finds of the span is as the tick before left it, where the span goes on
+goes_on : (s : Setting) (e : Entry) (h : List Entry) → has_passed (moments s (e ∷ h)) ≡ false →
+    HaveOutputsOf (row_of (length h) (next s e h)) (commands_next s (e ∷ h))
+unfolding commanded_at commands_next commands_after before_at moments next span_so_far last_world row_of
+goes_on s e h goes = record { throttle = rw goes refl; ignition = rw goes refl }
+
+has_outputs : (s : Setting) (h : List Entry) (e : Entry) (before : List Entry) → h ≡ e ∷ before → has_passed (moments s h) ≡ false →
+    HaveOutputsOf (row_of (length before) (next s e before)) (commands_next s h)
+has_outputs s h e before is goes = subst (λ k. HaveOutputsOf (row_of (length before) (next s e before)) (commands_next s k)) (sym is)
+    (goes_on s e before (subst (λ k. has_passed (moments s k) ≡ false) is goes))
+
+none_at_first : (s : Setting) (h : List Entry) → h ≡ [] → before_at (driven 0 0 0) (moments s h) ≡ []
+unfolding before_at moments has_passed span_so_far
+none_at_first s h is = rw is refl
+
+pub commands_are_used : (s : Setting) (h : List Entry) → CommandsAreUsed s h
+commands_are_used s h = record {
+  on = λ e. sym (on-commanded s e h);
+  outputs = has_outputs s h;
+  at_first = λ is. no_outputs s h (none_at_first s h is);
+  after_test = λ passed. no_outputs s h (before-begins (driven 0 0 0) (moments s h) passed);
+  held = held s h;
+  at_reset = at_reset s h;
+}

@@ -21,7 +21,8 @@ pub fn coupled_runs_keep_the_headline()
     ensures text { TextTellsRows }
 {}
 
-/// Does nothing when it runs. Its clause is the law on what is told as commanded next: the next tick uses it.
+/// Does nothing when it runs. Its clause is the law on what is told as commanded next: the outputs of the row
+/// just told, and whether the stages are on and where the plate is held, as the next tick uses it.
 pub fn commands_are_used()
     ensures { (s : Setting) (h : List Entry) → CommandsAreUsed s h }
 {}
