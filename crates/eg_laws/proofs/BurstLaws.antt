@@ -8,7 +8,7 @@ use Rattle.eg_num.proofs.CounterLemmas.{greatest-nil, greatest-bad, greatest-goo
 use Rattle.eg_laws.specs.Bursts.{most_bad, bad_in, BurstsAreSparse, densest, SoManyCanBeBad, hasty, FewerMayDo}
 use Rattle.eg_model.proofs.LapseRuns.{count-cons}
 
-bad_in-cons : (b : Bool) (bits : List Bool) → bad_in (b ∷ bits) ≡ (if b then suc (bad_in bits) else bad_in bits)
+pub bad_in-cons : (b : Bool) (bits : List Bool) → bad_in (b ∷ bits) ≡ (if b then suc (bad_in bits) else bad_in bits)
 unfolding bad_in
 bad_in-cons b bits = count-cons (λ bad. bad) b bits
 

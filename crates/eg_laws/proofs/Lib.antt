@@ -14,6 +14,7 @@ pub mod StretchLaws
 pub mod LongestStretch
 pub mod BurstLaws
 pub mod StretchRows
+pub mod BurstRows
 pub mod PeakLaws
 pub mod LimitLaws
 pub mod SeenExcess

@@ -1,7 +1,10 @@
 -- How many ticks of a window can have true excess where it isn't confirmed by the last of them: what a
 -- calibration lets through, be it again and again. Bits of feeds and rows stand newest first.
-use Rattle.std.specs.Prelude.{◌≡◌, ℕ, zero, suc, ◌+◌, ◌*◌, ◌-◌, ◌/◌, ◌≤◌, Bool, true, false, not, List, [], ◌∷◌, ◌++◌, length, map, count_by, min}
+use Rattle.std.specs.Prelude.{◌≡◌, ℕ, zero, suc, ◌+◌, ◌*◌, ◌-◌, ◌/◌, ◌≤◌, Bool, true, false, not, List, [], ◌∷◌, ◌++◌, length, map, count_by, min, Option}
 use Rattle.eg_num.specs.Windows.{WeightParts, AreWeights, is_reached, is_confirmed}
+use Rattle.eg_answer.specs.Times.{reaction_of}
+use Rattle.eg_fault.specs.Faults.{IsListed}
+use Rattle.eg_fault.specs.declared.class.Fault.{Fault}
 use Rattle.eg_record.specs.declared.row.Row.{Row}
 use Rattle.eg_record.specs.Excess.{true_excess}
 use Rattle.eg_record.specs.Spans.{EachDriveSpan}
@@ -9,6 +12,7 @@ use Rattle.eg_model.specs.Engines.{BenchEngine}
 use Rattle.eg_model.specs.Bench.{Run}
 use Rattle.eg_model.specs.Rows.{record_rows}
 use Rattle.eg_model.specs.Records.{IsRun}
+use Rattle.eg_laws.specs.Stretches.{IsAtOnceWhenConfirmed}
 
 -- A bound for the bad ones of n feeds in a row by which the limit isn't reached: what the bad ones add, `up`
 -- each, is less than the limit and what the good ones take, `down` each, together.
@@ -65,3 +69,32 @@ abbrev pub RecordsAreSparse : {E : Type 0} → BenchEngine E → Type 0
 RecordsAreSparse b =
     (r : Run) → IsRun r →
     EachDriveSpan (RowsAreSparse r.setting.cal.rules.torque r.setting.cal.rules.threshold) (record_rows b r)
+
+-- ---- the same rows, whether the excess is confirmed or not ----
+
+-- of the rows of any window at most `most_bad` of their number less `after`, and `after` more, have true excess
+abbrev pub RowsEndBursts : WeightParts → (threshold after start : ℕ) → List Row → Type 0
+RowsEndBursts weights threshold after start rows =
+    (later window before : List Row) → rows ≡ later ++ (window ++ before) →
+    bad_in (map (true_excess threshold) window) ≤ most_bad weights (length window - after) + after
+
+-- where the reaction is at once when the excess is confirmed, `after` is 1
+abbrev pub RowsEndBurstsAtOnce : Option Fault → WeightParts → (threshold start : ℕ) → List Row → Type 0
+RowsEndBurstsAtOnce fault weights threshold start rows =
+    (later window before : List Row) → rows ≡ later ++ (window ++ before) →
+    IsAtOnceWhenConfirmed fault weights start (map (true_excess threshold) (window ++ before)) →
+    bad_in (map (true_excess threshold) window) ≤ most_bad weights (length window - 1) + 1
+
+-- with no fault or a listed one: in each drive span of every record `after` is R
+abbrev pub RecordsEndBursts : {E : Type 0} → BenchEngine E → Type 0
+RecordsEndBursts b =
+    (r : Run) → IsRun r → IsListed r.setting.fault →
+    EachDriveSpan (RowsEndBursts r.setting.cal.rules.torque r.setting.cal.rules.threshold
+    (reaction_of r.setting.cal.times)) (record_rows b r)
+
+-- and 1 where the reaction is at once
+abbrev pub RecordsEndBurstsAtOnce : {E : Type 0} → BenchEngine E → Type 0
+RecordsEndBurstsAtOnce b =
+    (r : Run) → IsRun r → IsListed r.setting.fault →
+    EachDriveSpan (RowsEndBurstsAtOnce r.setting.fault r.setting.cal.rules.torque
+    r.setting.cal.rules.threshold) (record_rows b r)

@@ -2,7 +2,7 @@
 ghost use Rattle.std.specs.Prelude.{◌≡◌, true, false, [], ◌∷◌, ◌++◌, replicate};
 ghost use Rattle.eg_values.specs.Reference.{reference_rules};
 ghost use Rattle.eg_model.specs.Engines.{gasoline, diesel};
-ghost use Rattle.eg_laws.specs.Bursts.{most_bad, densest, hasty, BurstsAreSparse, SoManyCanBeBad, FewerMayDo, RecordsAreSparse};
+ghost use Rattle.eg_laws.specs.Bursts.{most_bad, densest, hasty, BurstsAreSparse, SoManyCanBeBad, FewerMayDo, RecordsAreSparse, RecordsEndBursts, RecordsEndBurstsAtOnce};
 
 /// How often an excess may come again and not be confirmed (docs/CONCEPT.md, "Why the unit reacts"): of any
 /// n ticks in a row at most `(limit - 1 + n*down)/(up + down)`, rounded down, have excess, by the weights
@@ -19,6 +19,15 @@ pub fn bursts_are_sparse()
 /// of a run on the bench, for the gasoline engine and for the diesel engine. It does nothing when it runs.
 pub fn records_are_sparse()
     ensures { RecordsAreSparse gasoline × RecordsAreSparse diesel }
+{}
+
+/// How many of n rows in a row of a drive span have true excess, whether it is confirmed or not (docs/CONCEPT.md,
+/// "Why the unit reacts"): with no fault or a listed one R more than `most_bad` of n - R; and one more than
+/// `most_bad` of n - 1 where the reaction is at once when it is confirmed, as without a fault. It does nothing
+/// when it runs.
+pub fn records_end_bursts()
+    ensures ends { RecordsEndBursts gasoline × RecordsEndBursts diesel }
+    ensures at_once { RecordsEndBurstsAtOnce gasoline × RecordsEndBurstsAtOnce diesel }
 {}
 
 /// `bursts_are_sparse` worked out with the reference calibration, whose weights are 1, 1 and 5 (`up`, `down`

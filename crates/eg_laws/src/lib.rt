@@ -14,7 +14,7 @@ mod seeing;
 mod stretches;
 
 pub use availability::{far_misses_never_cut, records_stay_available};
-pub use bursts::{bursts_are_sparse, densest_feeds, records_are_sparse};
+pub use bursts::{bursts_are_sparse, densest_feeds, records_are_sparse, records_end_bursts};
 pub use least_lapse::{lapse_bound_is_least, longest_excess_run};
 pub use least_reaction::{latest_cut_run, reaction_is_least};
 pub use limits::records_keep_limits;
