@@ -12,12 +12,12 @@ use Rattle.eg_answer.specs.Periods.{is_wrong}
 use Rattle.eg_answer.specs.declared.marks.AnswerMark.TheVariants.{Absent, Good}
 use Rattle.eg_answer.specs.declared.marks.Verdict.{Verdict}
 use Rattle.eg_fault.specs.Classes.{IsRegular}
-use Rattle.eg_model.specs.History.{Setting, Tick, Moment}
+use Rattle.eg_model.specs.History.{Setting, Tick, SpanKind, Drive, Moment}
 use Rattle.eg_model.specs.Answers.{confirms_at}
 use Rattle.eg_model.specs.Paths.{latch2}
-use Rattle.eg_model.specs.Moments.{moment, moments_of}
+use Rattle.eg_model.specs.Moments.{moment, moment_in, moments_in, moments_of}
 use Rattle.eg_model.proofs.PeriodLemmas.{period_closes}
-use Rattle.eg_model.proofs.TickLemmas.{Each, length-moments, fields}
+use Rattle.eg_model.proofs.TickLemmas.{Each, length-moments, fields, fields_in}
 use Rattle.eg_model.proofs.Silence.{AreRegular, wrongs, with_wrong, wrongs-cons, latch2-cons, period_least, verdict_none}
 use Rattle.eg_model.proofs.ReactionLaw.{Unanswered}
 use Rattle.eg_model.proofs.SharpCutLaw.{AllGood, Calm, greatest-AllGood, not_reached, AreUsual, usual_mark, IsNotWrong, verdict_usual, right_bits, not_yet}
@@ -66,18 +66,18 @@ unfolding confirms_at with_wrong
 unconfirmed_now times None past none = (refl, none)
 unconfirmed_now times (Some v) past none = unfold wrongs in not_yet times.weights _ _ none
 
-pub shut_unless_confirmed : (s : Setting) (h : List Tick) → NoneOpens h →
-    is_confirmed s.cal.times.weights (wrongs (moments_of s h)) ≡ false → latch2 (moments_of s h) ≡ false
-unfolding moments_of Each
-shut_unless_confirmed s [] shut none = unfold latch2 in refl
-shut_unless_confirmed s (x ∷ h) shut none =
-    let past = moments_of s h in
-    let m = moment s x.effects x.entry past in
+pub shut_unless_confirmed : (kind : SpanKind) (s : Setting) (h : List Tick) → NoneOpens h →
+    is_confirmed s.cal.times.weights (wrongs (moments_in kind s h)) ≡ false → latch2 (moments_in kind s h) ≡ false
+unfolding moments_in Each
+shut_unless_confirmed kind s [] shut none = unfold latch2 in refl
+shut_unless_confirmed kind s (x ∷ h) shut none =
+    let past = moments_in kind s h in
+    let m = moment_in kind s x.effects x.entry past in
     let both = unconfirmed_now s.cal.times m.verdict past
     (subst (λ bits. is_confirmed s.cal.times.weights bits ≡ false) (wrongs-cons m past) none) in
     latch2-cons m past
-    ∙ or_from _ _ (or_from _ _ ((fields s x.effects x.entry past).confirms ∙ both.0)
-    ((fields s x.effects x.entry past).opens ∙ shut.0)) (shut_unless_confirmed s h shut.1 both.1)
+    ∙ or_from _ _ (or_from _ _ ((fields_in kind s x.effects x.entry past).confirms ∙ both.0)
+    ((fields_in kind s x.effects x.entry past).opens ∙ shut.0)) (shut_unless_confirmed kind s h shut.1 both.1)
 
 -- ---- how many verdicts have come since period k began ----
 
@@ -108,10 +108,10 @@ none_ended k period t h le = let low : t / period < k + 1 = (div-lt_iff_lt-mul h
 some_begun : (k period t : ℕ) → 0 < period → k * period ≤ t → k ≤ t / period
 some_begun k period t h le = (le-div_iff_mul-le h).1 le
 
-no_less : (period t : ℕ) → 0 < period → t / period ≤ suc t / period
+pub no_less : (period t : ℕ) → 0 < period → t / period ≤ suc t / period
 no_less period t h = (le-div_iff_mul-le h).1 (let f = div-mul-le_self t period in omega arith)
 
-closes : (period t : ℕ) → 0 < period → (t + 1) % period ≡ 0 → suc t / period ≡ t / period + 1
+pub closes : (period t : ℕ) → 0 < period → (t + 1) % period ≡ 0 → suc t / period ≡ t / period + 1
 closes period t h ends = ap (λ n. n / period) (one_more t) ∙ period_closes period t h ends
   where
     one_more : (t : ℕ) → suc t ≡ t + 1
@@ -216,9 +216,9 @@ few_on s are p (x ∷ more) h regular none later was =
 pub still_shut : (s : Setting) → 0 < s.cal.times.period → 0 < s.cal.times.weights.up → 0 < s.cal.times.weights.limit →
     (k : ℕ) (h : List Tick) → HasFew s k h → NoneOpens h →
     length h < (k + feeds_to_confirm s.cal.times.weights) * s.cal.times.period → latch2 (moments_of s h) ≡ false
-unfolding feeds_to_confirm
+unfolding feeds_to_confirm moments_of
 still_shut s some up limit k h few shut early =
-    shut_unless_confirmed s h shut
+    shut_unless_confirmed Drive s h shut
     (subst (λ bits. is_confirmed s.cal.times.weights bits ≡ false) (sym few.are)
     (too_few s.cal.times.weights few.bits few.good limit few.none_bad
     (quotient_short s.cal.times.weights.limit s.cal.times.weights.up (length few.bits) limit up

@@ -18,3 +18,4 @@ pub mod BurstRows
 pub mod PeakLaws
 pub mod LimitLaws
 pub mod SeenExcess
+pub mod PathLaws

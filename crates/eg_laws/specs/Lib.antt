@@ -4,5 +4,6 @@ pub mod Stretches
 pub mod Limits
 pub mod Bursts
 pub mod Seeing
+pub mod Paths
 pub mod Availability
 pub mod Examples

@@ -10,6 +10,7 @@ mod bursts;
 mod least_lapse;
 mod least_reaction;
 mod limits;
+mod paths;
 mod seeing;
 mod stretches;
 
@@ -18,5 +19,6 @@ pub use bursts::{bursts_are_sparse, densest_feeds, records_are_sparse, records_e
 pub use least_lapse::{lapse_bound_is_least, longest_excess_run};
 pub use least_reaction::{latest_cut_run, reaction_is_least};
 pub use limits::records_keep_limits;
+pub use paths::records_tell_paths;
 pub use seeing::{premises_are_needed, seen_excess_is_cut};
 pub use stretches::{excess_ends, longest_stretch_run, records_end_excess};

@@ -1,0 +1,12 @@
+// Whether each shut-off path conducts.
+ghost use Rattle.eg_model.specs.Engines.{gasoline, diesel};
+ghost use Rattle.eg_laws.specs.Paths.{RecordsFollowLatches, RecordsTestPaths};
+
+/// Whether each shut-off path conducts, by the rows of the record of a run on the bench (docs/CONCEPT.md, "A
+/// run, tick by tick"), for the gasoline engine and for the diesel engine: in a drive span as the latch of
+/// the path and the fault say; in a test span, before the onset of a fault, both conduct up to the row that
+/// reads them back, and neither at that row. It does nothing when it runs.
+pub fn records_tell_paths()
+    ensures driven { RecordsFollowLatches gasoline × RecordsFollowLatches diesel }
+    ensures tested { RecordsTestPaths gasoline × RecordsTestPaths diesel }
+{}
