@@ -13,7 +13,7 @@ unfolding bad_in
 bad_in-cons b bits = count-cons (λ bad. bad) b bits
 
 -- before it is confirmed it wasn't
-unconfirmed_before : (w : WeightParts) (b : Bool) (bits : List Bool) → is_confirmed w (b ∷ bits) ≡ false → is_confirmed w bits ≡ false
+pub unconfirmed_before : (w : WeightParts) (b : Bool) (bits : List Bool) → is_confirmed w (b ∷ bits) ≡ false → is_confirmed w bits ≡ false
 unfolding is_confirmed
 unconfirmed_before w b bits none = (or_parts _ _ none).1
 

@@ -1,9 +1,10 @@
--- Ticks of excess over quiet ones: what is so of them in any setting.
+-- Ticks of excess and quiet ones, by bits: what is so of them in any setting.
 use Rattle.std.proofs.Common.{◌≡◌, ℕ, zero, suc, ◌+◌, ◌-◌, ◌*◌, ◌/◌, ◌≤◌, ◌<◌, Bool, true, false, not, List, ◌∷◌, ◌++◌, All, length, refl, sym, ap, ap₂, ◌∙◌, arith, length-append, min, replicate, subst, take, Some, None, []}
+use Rattle.std.specs.Prelude.{if◌then◌else◌}
 use Rattle.std.specs.List.{list_all}
 use Rattle.std.proofs.lemmas.Bool.{true≢false, and_from, le-ltb}
-use Rattle.std.proofs.lemmas.List.{length-replicate}
-use Rattle.std.proofs.lemmas.List.Elements.{All-append, All-replicate}
+use Rattle.std.proofs.lemmas.List.{length-replicate, length-map}
+use Rattle.std.proofs.lemmas.List.Elements.{All-nil, All-cons}
 use Rattle.std.proofs.Math.Nat.{zero-mul}
 use Rattle.eg_num.specs.Arithmetic.{estimate}
 use Rattle.eg_num.specs.Windows.{WeightParts, is_confirmed}
@@ -21,12 +22,13 @@ use Rattle.eg_model.specs.Moments.{limit_at, moment, moment_in, moments_of}
 use Rattle.eg_model.specs.Rows.{row_of, rows_of}
 use Rattle.eg_model.specs.Premises.{IsProper, AreProper, Follows, is_on_after, true_excesses, full_excesses}
 use Rattle.eg_model.specs.SharpCut.{ArePlain}
-use Rattle.eg_laws.specs.LeastReaction.{CanExceed, GoesOn, ShowsWord, giving, quiet, exceeding}
+use Rattle.eg_laws.specs.LeastReaction.{CanExceed, GoesOn, ShowsWord, giving, quiet, exceeding, by_bits}
 use Rattle.eg_model.proofs.TickLemmas.{Each, moment-full_excess, fields}
 use Rattle.eg_model.proofs.Silence.{TrueRun, run_confirms, period_least, send_within}
 use Rattle.eg_model.proofs.LapseRuns.{AllExceed}
 use Rattle.eg_model.proofs.LapseWeights.{rounded_up}
 use Rattle.eg_model.proofs.SharpCutLaw.{AllGood, full_excesses-cons, cuts_sharply}
+use Rattle.eg_laws.proofs.BurstLaws.{unconfirmed_before}
 use Rattle.eg_laws.proofs.FewVerdicts.{too_few, quotient_short, quotient_positive, NoneOpens}
 
 -- ---- the bits of excess ----
@@ -99,9 +101,9 @@ follows_alike f y same (suc n) h late follows = (
   follows_alike f y same n h late follows,
 )
 
--- ---- ticks of excess over quiet ones, with nothing out of order ----
+-- ---- ticks of excess and quiet ones, with nothing out of order ----
 
-module _ (s : Setting) (accepted : IsAccepted s.cal) (can : CanExceed s.cal) (quiets : ℕ) where
+module _ (s : Setting) (accepted : IsAccepted s.cal) (can : CanExceed s.cal) where
   abbrev torque : WeightParts
   torque = s.cal.rules.torque
 
@@ -111,12 +113,12 @@ module _ (s : Setting) (accepted : IsAccepted s.cal) (can : CanExceed s.cal) (qu
   abbrev calm_tick : Tick
   calm_tick = quiet no_effects can.drive
 
-  -- j ticks of excess, over the quiet ones
-  abbrev ticks : ℕ → List Tick
-  ticks j = replicate j (exceeding s.cal can.drive can.load) ++ replicate quiets calm_tick
+  abbrev excess_tick : Tick
+  excess_tick = exceeding s.cal can.drive can.load
 
-  abbrev bits : ℕ → List Bool
-  bits j = replicate j true ++ replicate quiets false
+  -- these, by their bits
+  abbrev ticks : List Bool → List Tick
+  ticks bits = by_bits s.cal can.drive can.load bits
 
   pub up_positive : 0 < torque.up
   up_positive = let a = accepted.torque.0 in omega arith
@@ -129,60 +131,51 @@ module _ (s : Setting) (accepted : IsAccepted s.cal) (can : CanExceed s.cal) (qu
 
   -- ---- what is plain, and its excess ----
 
-  quiet_bits : (n : ℕ) → (true_excesses s (replicate n calm_tick) ≡ replicate n false)
-      × (full_excesses s (replicate n calm_tick) ≡ replicate n false)
-  quiet_bits zero = unfold true_excesses full_excesses moments_of rows_of in (refl, refl)
-  quiet_bits (suc n) =
-      let rest = quiet_bits n in (
-        true_excesses-cons s calm_tick (replicate n calm_tick)
-            ∙ ap₂ (λ b others. b ∷ others) (no_torque_no_excess _ _) rest.0,
-        full_excesses-cons s calm_tick (replicate n calm_tick)
+  pub all_bits : (bits : List Bool) → (true_excesses s (ticks bits) ≡ bits) × (full_excesses s (ticks bits) ≡ bits)
+  all_bits [] = unfold true_excesses full_excesses moments_of rows_of in (refl, refl)
+  all_bits (true ∷ bits) =
+      let rest = all_bits bits in (
+        true_excesses-cons s excess_tick (ticks bits) ∙ ap₂ (λ b others. b ∷ others) can.exceeds rest.0,
+        full_excesses-cons s excess_tick (ticks bits)
+            ∙ ap₂ (λ b others. b ∷ others) (full_bit s excess_tick _ _ ∙ can.exceeds) rest.1,
+      )
+  all_bits (false ∷ bits) =
+      let rest = all_bits bits in (
+        true_excesses-cons s calm_tick (ticks bits) ∙ ap₂ (λ b others. b ∷ others) (no_torque_no_excess _ _) rest.0,
+        full_excesses-cons s calm_tick (ticks bits)
             ∙ ap₂ (λ b others. b ∷ others) (full_bit s calm_tick _ _ ∙ no_load_no_excess s.cal.rules.kt _ _) rest.1,
       )
 
-  pub all_bits : (j : ℕ) → (true_excesses s (ticks j) ≡ bits j) × (full_excesses s (ticks j) ≡ bits j)
-  all_bits zero = quiet_bits quiets
-  all_bits (suc j) =
-      let rest = all_bits j in (
-        true_excesses-cons s (exceeding s.cal can.drive can.load) (ticks j) ∙ ap₂ (λ b others. b ∷ others) can.exceeds rest.0,
-        full_excesses-cons s (exceeding s.cal can.drive can.load) (ticks j)
-            ∙ ap₂ (λ b others. b ∷ others) (full_bit s (exceeding s.cal can.drive can.load) _ _ ∙ can.exceeds) rest.1,
-      )
+  pub all_exceed : (j : ℕ) (before : List Bool) → AllExceed s j (ticks (replicate j true ++ before))
+  all_exceed zero before = refl
+  all_exceed (suc j) before = more_exceed s excess_tick (ticks (replicate j true ++ before)) j (suc j) refl can.exceeds (all_exceed j before)
 
-  pub all_exceed : (j : ℕ) → AllExceed s j (ticks j)
-  all_exceed zero = refl
-  all_exceed (suc j) = more_exceed s (exceeding s.cal can.drive can.load) (ticks j) j (suc j) refl can.exceeds (all_exceed j)
-
-  quiet_plain : (n : ℕ) → ArePlain (replicate n calm_tick)
+  pub all_plain : (bits : List Bool) → ArePlain (ticks bits)
   unfolding ArePlain
-  quiet_plain zero = tt
-  quiet_plain (suc n) = (record { effects = refl; loads = refl }, quiet_plain n)
+  all_plain [] = tt
+  all_plain (true ∷ bits) = (record { effects = refl; loads = refl }, all_plain bits)
+  all_plain (false ∷ bits) = (record { effects = refl; loads = refl }, all_plain bits)
 
-  pub all_plain : (j : ℕ) → ArePlain (ticks j)
-  unfolding ArePlain
-  all_plain zero = quiet_plain quiets
-  all_plain (suc j) = (record { effects = refl; loads = refl }, all_plain j)
-
-  -- ---- it isn't confirmed before the last tick ----
+  -- ---- some of excess over quiet ones: it isn't confirmed before the last ----
 
   all_good : (n : ℕ) → AllGood (replicate n false)
   unfolding AllGood
   all_good zero = tt
   all_good (suc n) = (refl, all_good n)
 
-  pub unconfirmed : (j : ℕ) → j < many → is_confirmed torque (bits j) ≡ false
-  unconfirmed j less = too_few torque (replicate j true) (replicate quiets false) limit_positive (all_good quiets)
+  pub unconfirmed : (j quiets : ℕ) → j < many → is_confirmed torque (replicate j true ++ replicate quiets false) ≡ false
+  unconfirmed j quiets less = too_few torque (replicate j true) (replicate quiets false) limit_positive (all_good quiets)
       (rw (length-replicate j true) (quotient_short torque.limit torque.up j limit_positive up_positive
       (unfold feeds_to_confirm in less)))
 
-  true_run : (j : ℕ) → TrueRun j (bits j)
+  true_run : (j : ℕ) (before : List Bool) → TrueRun j (replicate j true ++ before)
   unfolding TrueRun
-  true_run zero = tt
-  true_run (suc j) = (refl, true_run j)
+  true_run zero before = tt
+  true_run (suc j) before = (refl, true_run j before)
 
-  pub confirmed : is_confirmed torque (bits many) ≡ true
-  confirmed = run_confirms torque many (bits many) limit_positive
-      (unfold feeds_to_confirm in rounded_up torque.limit torque.up up_positive) (true_run many)
+  pub confirmed : (before : List Bool) → is_confirmed torque (replicate many true ++ before) ≡ true
+  confirmed before = run_confirms torque many (replicate many true ++ before) limit_positive
+      (unfold feeds_to_confirm in rounded_up torque.limit torque.up up_positive) (true_run many before)
 
   -- ---- the history is one in which the engine keeps its laws ----
 
@@ -193,8 +186,7 @@ module _ (s : Setting) (accepted : IsAccepted s.cal) (can : CanExceed s.cal) (qu
     no_torque = λ off. refl;
   }
 
-  pub loaded_proper : (x : Effects) (past : List Moment) → both_conduct x past ≡ true →
-      IsProper s (both_conduct x past) (exceeding s.cal can.drive can.load).entry
+  pub loaded_proper : (x : Effects) (past : List Moment) → both_conduct x past ≡ true → IsProper s (both_conduct x past) excess_tick.entry
   loaded_proper x past on = record {
     drive = can.within;
     engine = record { position = omega arith; load_1 = omega arith; load_2 = omega arith };
@@ -202,43 +194,46 @@ module _ (s : Setting) (accepted : IsAccepted s.cal) (can : CanExceed s.cal) (qu
   }
 
   -- no drive row of it resets the unit, and its loads are words
-  pub all_go_on : (j : ℕ) → All GoesOn (ticks j)
-  all_go_on j = All-append GoesOn (replicate j (exceeding s.cal can.drive can.load)) (replicate quiets calm_tick)
-      (All-replicate GoesOn j (exceeding s.cal can.drive can.load) can.goes_on)
-      (All-replicate GoesOn quiets calm_tick can.goes_on)
+  pub all_go_on : (bits : List Bool) → All GoesOn (ticks bits)
+  all_go_on [] = All-nil GoesOn
+  all_go_on (true ∷ bits) = All-cons GoesOn excess_tick (ticks bits) can.goes_on (all_go_on bits)
+  all_go_on (false ∷ bits) = All-cons GoesOn calm_tick (ticks bits) can.goes_on (all_go_on bits)
 
-  pub all_words : (j : ℕ) → All ShowsWord (ticks j)
-  all_words j = All-append ShowsWord (replicate j (exceeding s.cal can.drive can.load)) (replicate quiets calm_tick)
-      (All-replicate ShowsWord j (exceeding s.cal can.drive can.load) (can.is_word, can.is_word))
-      (All-replicate ShowsWord quiets calm_tick (omega arith, omega arith))
-
-  quiet_all : (n : ℕ) → AreProper s (replicate n calm_tick)
-  unfolding AreProper
-  quiet_all zero = tt
-  quiet_all (suc n) = (quiet_proper no_effects _, quiet_all n)
+  pub all_words : (bits : List Bool) → All ShowsWord (ticks bits)
+  all_words [] = All-nil ShowsWord
+  all_words (true ∷ bits) = All-cons ShowsWord excess_tick (ticks bits) (can.is_word, can.is_word) (all_words bits)
+  all_words (false ∷ bits) = All-cons ShowsWord calm_tick (ticks bits) (omega arith, omega arith) (all_words bits)
 
   -- until the excess is confirmed the stages are on
-  on_until : (j : ℕ) → j < many → AreProper s (ticks j) → both_conduct no_effects (moments_of s (ticks j)) ≡ true
+  on_until : (bits : List Bool) → is_confirmed torque bits ≡ false → AreProper s (ticks bits) →
+      both_conduct no_effects (moments_of s (ticks bits)) ≡ true
   unfolding is_on_after
-  on_until j less proper =
-      sym ((fields s no_effects (exceeding s.cal can.drive can.load).entry (moments_of s (ticks j))).on)
-      ∙ cuts_sharply s accepted (ticks j) (all_plain j) proper (exceeding s.cal can.drive can.load) refl
-      ∙ ap not (ap (is_confirmed torque) (all_bits j).1 ∙ unconfirmed j less)
+  on_until bits none proper =
+      sym ((fields s no_effects excess_tick.entry (moments_of s (ticks bits))).on)
+      ∙ cuts_sharply s accepted (ticks bits) (all_plain bits) proper excess_tick refl
+      ∙ ap not (ap (is_confirmed torque) (all_bits bits).1 ∙ none)
 
-  pub all_proper : (j : ℕ) → j ≤ many → AreProper s (ticks j)
+  proper_next : (b : Bool) (bits : List Bool) → is_confirmed torque bits ≡ false → AreProper s (ticks bits) → AreProper s (ticks (b ∷ bits))
   unfolding AreProper
-  all_proper zero within = quiet_all quiets
-  all_proper (suc j) within =
-      let before = all_proper j (omega arith) in (
-        loaded_proper no_effects _ (on_until j (omega arith) before),
-        before,
-      )
+  proper_next true bits none proper = (loaded_proper no_effects _ (on_until bits none proper), proper)
+  proper_next false bits none proper = (quiet_proper no_effects _, proper)
+
+  -- it is proper up to the tick by which the excess is confirmed
+  pub all_proper : (bits : List Bool) → is_confirmed torque bits ≡ false → AreProper s (ticks bits)
+  all_proper [] none = unfold AreProper in tt
+  all_proper (b ∷ bits) none = let before = unconfirmed_before torque b bits none in proper_next b bits before (all_proper bits before)
+
+  pub proper_to : (b : Bool) (bits : List Bool) → is_confirmed torque bits ≡ false → AreProper s (ticks (b ∷ bits))
+  proper_to b bits none = proper_next b bits none (all_proper bits none)
 
   -- ---- sizes ----
 
-  pub size : (j : ℕ) → length (ticks j) ≡ j + quiets
-  size j = length-append (replicate j (exceeding s.cal can.drive can.load)) (replicate quiets calm_tick)
-      ∙ ap₂ (λ a b. a + b) (length-replicate j (exceeding s.cal can.drive can.load)) (length-replicate quiets calm_tick)
+  pub size : (bits : List Bool) → length (ticks bits) ≡ length bits
+  size bits = length-map bits (λ bad. if bad then excess_tick else calm_tick)
+
+  pub size_over : (j quiets : ℕ) → length (replicate j true ++ replicate quiets false) ≡ j + quiets
+  size_over j quiets = length-append (replicate j true) (replicate quiets false)
+      ∙ ap₂ (λ a b. a + b) (length-replicate j true) (length-replicate quiets false)
 
   pub period_positive : 0 < s.cal.times.period
   period_positive = period_least s.cal.times accepted.times
@@ -259,12 +254,8 @@ module _ (s : Setting) (accepted : IsAccepted s.cal) (can : CanExceed s.cal) (qu
 
   -- ---- and none of them orders path 2 open ----
 
-  quiet_shut : (n : ℕ) → NoneOpens (replicate n calm_tick)
+  pub ticks_shut : (bits : List Bool) → NoneOpens (ticks bits)
   unfolding Each
-  quiet_shut zero = tt
-  quiet_shut (suc n) = (unfold no_effects in refl, quiet_shut n)
-
-  pub ticks_shut : (j : ℕ) → NoneOpens (ticks j)
-  unfolding Each
-  ticks_shut zero = quiet_shut quiets
-  ticks_shut (suc j) = (unfold no_effects in refl, ticks_shut j)
+  ticks_shut [] = tt
+  ticks_shut (true ∷ bits) = (unfold no_effects in refl, ticks_shut bits)
+  ticks_shut (false ∷ bits) = (unfold no_effects in refl, ticks_shut bits)

@@ -24,7 +24,7 @@ use Rattle.eg_model.proofs.ReactionLaw.{Unanswered}
 use Rattle.eg_model.proofs.SharpCutLaw.{Calm, calm_until, latch1_shut}
 use Rattle.eg_laws.proofs.FewVerdicts.{NoneOpens, HasFew, few_of_calm, few_on, still_shut}
 use Rattle.eg_model.proofs.LapseRuns.{AllOrNone, trip_out, AllExceed}
-use Rattle.eg_laws.proofs.ExcessTicks.{follows_plain, follows_alike, ticks_shut, many_positive, all_bits, all_plain, unconfirmed, loaded_proper, all_go_on, all_words, all_proper, size, period_positive, reaction_is, more_exceed, all_exceed}
+use Rattle.eg_laws.proofs.ExcessTicks.{follows_plain, follows_alike, ticks_shut, many_positive, all_bits, all_plain, unconfirmed, loaded_proper, all_go_on, all_words, all_proper, size, size_over, period_positive, reaction_is, more_exceed, all_exceed}
 
 -- ---- a tick that level 2 misses ----
 
@@ -72,6 +72,9 @@ module _ (cal : CalibrationParts) (accepted : IsAccepted cal) (fit : RunsFit cal
   abbrev first_quiet : ℕ
   first_quiet = lapse_onset cal + 1 - many
 
+  abbrev bits : List Bool
+  bits = replicate (many - 1) true ++ replicate first_quiet false
+
   abbrev base : List Tick
   base = before_lapse cal can.drive can.load
 
@@ -85,23 +88,24 @@ module _ (cal : CalibrationParts) (accepted : IsAccepted cal) (fit : RunsFit cal
   onset_is = unfold lapse_onset in omega arith
 
   some : 0 < many
-  some = many_positive s accepted can first_quiet
+  some = many_positive s accepted can
 
   less : many - 1 < many
   less = let a = some in omega arith
 
   size_base : length base ≡ lapse_onset cal
-  size_base = size s accepted can first_quiet (many - 1)
+  size_base = size s accepted can bits ∙ size_over s accepted can (many - 1) first_quiet
       ∙ (let a = some in let b = fit in let c = onset_is in omega arith)
 
   size_whole : (n : ℕ) → length (whole n) ≡ n + lapse_onset cal
   size_whole n = length-append (replicate n miss) base ∙ ap₂ (λ a b. a + b) (length-replicate n miss) size_base
 
+  none : is_confirmed torque bits ≡ false
+  none = unconfirmed s accepted can (many - 1) first_quiet less
+
   calm : Calm s base
-  calm = calm_until s accepted base (all_plain s accepted can first_quiet (many - 1))
-      (all_proper s accepted can first_quiet (many - 1) (let a = less in omega arith))
-      (ap (is_confirmed torque) (all_bits s accepted can first_quiet (many - 1)).1
-      ∙ unconfirmed s accepted can first_quiet (many - 1) less)
+  calm = calm_until s accepted base (all_plain s accepted can bits) (all_proper s accepted can bits none)
+      (ap (is_confirmed torque) (all_bits s accepted can bits).1 ∙ none)
 
   untripped : (n : ℕ) → tripped (moments_of s (whole n)) ≡ false
   unfolding moments_of missed_out
@@ -124,7 +128,7 @@ module _ (cal : CalibrationParts) (accepted : IsAccepted cal) (fit : RunsFit cal
 
   none_opens : (n : ℕ) → NoneOpens (whole n)
   unfolding Each
-  none_opens zero = ticks_shut s accepted can first_quiet (many - 1)
+  none_opens zero = ticks_shut s accepted can bits
   none_opens (suc n) = (unfold effects_of no_effects in refl, none_opens n)
 
   few : (n : ℕ) → HasFew s (1 + 1) (whole n)
@@ -132,10 +136,10 @@ module _ (cal : CalibrationParts) (accepted : IsAccepted cal) (fit : RunsFit cal
       (let a = size_base in let b = onset_is in omega arith) (few_of_calm s (1 + 1) base calm)
 
   shut : (n : ℕ) → n < reaction_of cal.times → latch2 (moments_of s (whole n)) ≡ false
-  shut n early = still_shut s (period_positive s accepted can first_quiet) (let a = accepted.answers.0 in omega arith)
+  shut n early = still_shut s (period_positive s accepted can) (let a = accepted.answers.0 in omega arith)
       (let a = accepted.answers.3 in omega arith) (1 + 1) (whole n) (few n) (none_opens n)
       (law (length (whole n)) n (reaction_of cal.times) (feeds_to_confirm cal.times.weights) cal.times.period cal.times.send
-      (reaction_is s accepted can first_quiet) (size_whole n ∙ ap (λ k. n + k) onset_is) early)
+      (reaction_is s accepted can) (size_whole n ∙ ap (λ k. n + k) onset_is) early)
     where
       law : (l n r c period send : ℕ) → r + send + 1 ≡ (c + 1) * period → l ≡ n + (period + send + 1) →
           n < r → l < (1 + 1 + c) * period
@@ -147,12 +151,12 @@ module _ (cal : CalibrationParts) (accepted : IsAccepted cal) (fit : RunsFit cal
 
   proper : (n : ℕ) → n ≤ reaction_of cal.times → AreProper s (whole n)
   unfolding AreProper
-  proper zero within = all_proper s accepted can first_quiet (many - 1) (let a = less in omega arith)
+  proper zero within = all_proper s accepted can bits none
   proper (suc n) within =
-      (loaded_proper s accepted can first_quiet (effects_of missing_all 0) _ (on n (omega arith)), proper n (omega arith))
+      (loaded_proper s accepted can (effects_of missing_all 0) _ (on n (omega arith)), proper n (omega arith))
 
   exceeds : (n m : ℕ) → m ≡ n + (many - 1) → AllExceed s m (whole n)
-  exceeds zero m is = subst (λ k. AllExceed s k base) (let e = is in omega arith) (all_exceed s accepted can first_quiet (many - 1))
+  exceeds zero m is = subst (λ k. AllExceed s k base) (let e = is in omega arith) (all_exceed s accepted can (many - 1) (replicate first_quiet false))
   exceeds (suc n) m is =
       more_exceed s miss (whole n) (n + (many - 1)) m (omega arith) can.exceeds (exceeds n (n + (many - 1)) refl)
 
@@ -164,13 +168,13 @@ module _ (cal : CalibrationParts) (accepted : IsAccepted cal) (fit : RunsFit cal
     follows = follows_alike (record { onset = lapse_onset cal; class = missing_all }) miss same_always (reaction_of cal.times) base
         (let a = size_base in omega arith)
         (follows_plain (record { onset = lapse_onset cal; class = missing_all }) base
-        (all_plain s accepted can first_quiet (many - 1)) (let a = size_base in omega arith));
+        (all_plain s accepted can bits) (let a = size_base in omega arith));
     proper = proper (reaction_of cal.times) (omega arith);
     goes_on = All-append GoesOn (replicate (reaction_of cal.times) miss) base
-        (All-replicate GoesOn (reaction_of cal.times) miss can.goes_on) (all_go_on s accepted can first_quiet (many - 1));
+        (All-replicate GoesOn (reaction_of cal.times) miss can.goes_on) (all_go_on s accepted can bits);
     words = All-append ShowsWord (replicate (reaction_of cal.times) miss) base
         (All-replicate ShowsWord (reaction_of cal.times) miss (can.is_word, can.is_word))
-        (all_words s accepted can first_quiet (many - 1));
+        (all_words s accepted can bits);
     exceeds = record {
       within = (let a = size_whole (reaction_of cal.times) in let b = bound_is in let c = onset_is in let d = fit in omega arith);
       each = exceeds (reaction_of cal.times) (least_lapse_bound cal - 1)

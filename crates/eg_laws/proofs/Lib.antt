@@ -1,6 +1,7 @@
 pub mod Worked
 pub mod FewVerdicts
 pub mod ExcessTicks
+pub mod LateExcess
 pub mod LeastLaw
 pub mod MissWeights
 pub mod MissTicks

@@ -1,6 +1,6 @@
 -- Whether each shut-off path conducts: by the ticks of a span, and by the rows of each record.
-use Rattle.std.proofs.Common.{◌≡◌, ◌∙◌, refl, sym, ap, ap₂, subst, ℕ, zero, suc, ◌+◌, ◌-◌, ◌*◌, ◌/◌, ◌%◌, ◌≤◌, ◌<◌, Bool, true, false, not, ◌&&◌, ◌||◌, List, [], ◌∷◌, ◌++◌, All, length, arith, inl, inr, Option, Some, None}
-use Rattle.std.specs.Prelude.{◌==◌, nat_lt, is_some}
+use Rattle.std.proofs.Common.{◌≡◌, ◌∙◌, refl, sym, ap, ap₂, subst, ℕ, zero, suc, ◌+◌, ◌/◌, ◌%◌, ◌≤◌, ◌<◌, Bool, true, false, not, ◌&&◌, ◌||◌, List, [], ◌∷◌, ◌++◌, All, length, arith, inl, inr, Option, Some, None}
+use Rattle.std.specs.Prelude.{nat_lt, is_some}
 use Rattle.std.proofs.lemmas.List.{append-nil}
 use Rattle.std.specs.List.{list_any}
 use Rattle.std.proofs.lemmas.Bool.{cases_lt, or_from, ltb-true, leb-true, lt-ltb, le-ltb, ne_eqb}
@@ -17,7 +17,7 @@ use Rattle.eg_fault.specs.declared.class.Fault.{Fault}
 use Rattle.eg_fault.specs.declared.paths.TheConstants.{PATH_1, PATH_2}
 use Rattle.eg_fault.proofs.ActingLemmas.{before_onset}
 use Rattle.eg_record.specs.declared.row.Row.{Row}
-use Rattle.eg_model.specs.History.{Setting, Tick, Drive, Test, Signals, drives, Moment}
+use Rattle.eg_model.specs.History.{Setting, Tick, Test, Signals, drives, Moment}
 use Rattle.eg_model.specs.Signals.{tripped}
 use Rattle.eg_model.specs.Detection.{torque_bit, finds}
 use Rattle.eg_model.specs.Answers.{verdicts_in}

@@ -1,19 +1,18 @@
 -- Outside the headline. The least bound for stretches of excess under lapses, in ticks: R + D, where D runs
 -- of level 2 confirm an excess and D is at most a period. (The bound of `Lapses` in `eg_model` is greater,
 -- and holds of more calibrations.)
-use Rattle.std.specs.Prelude.{ℕ, ◌+◌, ◌-◌, ◌*◌, ◌≤◌, List, [], ◌++◌, ◌∷◌, All, replicate, Some}
+use Rattle.std.specs.Prelude.{ℕ, ◌+◌, ◌-◌, ◌*◌, ◌≤◌, true, false, List, [], ◌++◌, ◌∷◌, All, replicate, Some}
 use Rattle.eg_num.specs.Arithmetic.{estimate}
 use Rattle.eg_num.specs.Drive.{DriveRow}
 use Rattle.eg_answer.specs.Times.{feeds_to_confirm, reaction_of, lapse_periods}
 use Rattle.eg_values.specs.Calibration.{CalibrationParts, IsAccepted}
-use Rattle.eg_fault.specs.Effects.{no_effects}
 use Rattle.eg_fault.specs.Faults.{effects_of, IsNoneOrValid}
 use Rattle.eg_fault.specs.declared.class.Class.{Class}
 use Rattle.eg_fault.specs.declared.class.Class.TheVariants.{Lapse}
 use Rattle.eg_model.specs.History.{Setting, Tick}
 use Rattle.eg_model.specs.Premises.{AreProper, Follows}
 use Rattle.eg_model.specs.Lapses.{Exceeds, StretchesStayBelow}
-use Rattle.eg_laws.specs.LeastReaction.{CanExceed, GoesOn, ShowsWord, quiet, giving, exceeding}
+use Rattle.eg_laws.specs.LeastReaction.{CanExceed, GoesOn, ShowsWord, giving, by_bits}
 
 -- the runs of level 2 that confirm an excess, D of them, fit into one period
 abbrev pub RunsFit : CalibrationParts → Type 0
@@ -58,8 +57,8 @@ lapse_setting cal = record {
 -- the ticks before the lapse, newest first: quiet ones, and then D - 1 of excess, one less than confirms it
 abbrev pub before_lapse : CalibrationParts → DriveRow → (load : ℕ) → List Tick
 before_lapse cal drive load =
-    replicate (feeds_to_confirm cal.rules.torque - 1) (exceeding cal drive load)
-    ++ replicate (lapse_onset cal + 1 - feeds_to_confirm cal.rules.torque) (quiet no_effects drive)
+    by_bits cal drive load (replicate (feeds_to_confirm cal.rules.torque - 1) true
+    ++ replicate (lapse_onset cal + 1 - feeds_to_confirm cal.rules.torque) false)
 
 -- a tick of the lapse: level 2 misses it, and the excess is the same
 abbrev pub missed_excess : CalibrationParts → DriveRow → (load : ℕ) → Tick

@@ -2,7 +2,7 @@
 -- accepted calibration under which an excess can be confirmed at all there is a history, with path 1
 -- closed and nothing else out of order, in which the stages are still on R - 1 ticks after the true excess
 -- was confirmed.
-use Rattle.std.specs.Prelude.{◌≡◌, ℕ, ◌+◌, ◌*◌, ◌-◌, ◌^◌, ◌≤◌, ◌<◌, true, false, List, [], ◌++◌, ◌∷◌, All, length, replicate, Some}
+use Rattle.std.specs.Prelude.{◌≡◌, ℕ, ◌+◌, ◌*◌, ◌-◌, ◌^◌, ◌≤◌, ◌<◌, Bool, true, false, List, [], ◌++◌, ◌∷◌, All, map, length, replicate, Some, if◌then◌else◌}
 use Rattle.eg_num.specs.Arithmetic.{estimate}
 use Rattle.eg_num.specs.Drive.{DriveRow, IsDrive}
 use Rattle.eg_num.specs.Windows.{is_first}
@@ -63,19 +63,28 @@ exceeding cal drive load =
 unfoldable pub last_excess : CalibrationParts → ℕ
 last_excess cal = periods_to_confirm cal.rules.torque cal.times * cal.times.period + cal.times.send + 1
 
--- the ticks up to that one, newest first: quiet ones, and then as many ticks of excess as confirm it
+-- ticks at which nothing is out of order, newest first: of excess where the bit of a tick says so, else quiet
+abbrev pub by_bits : CalibrationParts → DriveRow → (load : ℕ) → List Bool → List Tick
+by_bits cal drive load bits =
+    map (λ bad. if bad then exceeding cal drive load else quiet no_effects drive) bits
+
+-- the ticks up to the last of excess: quiet ones, and then as many of excess as confirm it
 abbrev pub until_confirmed : CalibrationParts → DriveRow → (load : ℕ) → List Tick
 until_confirmed cal drive load =
-    replicate (feeds_to_confirm cal.rules.torque) (exceeding cal drive load)
-    ++ replicate (last_excess cal + 1 - feeds_to_confirm cal.rules.torque) (quiet no_effects drive)
+    by_bits cal drive load (replicate (feeds_to_confirm cal.rules.torque) true
+    ++ replicate (last_excess cal + 1 - feeds_to_confirm cal.rules.torque) false)
 
--- the setting: from the next tick on path 1 is held closed, whatever react orders; level 1 has an empty image
-abbrev pub closed_setting : CalibrationParts → Setting
-closed_setting cal = record {
+-- a setting in which from a tick on path 1 is held closed, whatever react orders; level 1 has an empty image
+abbrev pub closed_from : (onset : ℕ) → CalibrationParts → Setting
+closed_from onset cal = record {
   cal = cal;
   image = [];
-  fault = Some (record { onset = last_excess cal + 1; class = Path1Closed });
+  fault = Some (record { onset = onset; class = Path1Closed });
 }
+
+-- the setting: it is so from the tick after that one on
+abbrev pub closed_setting : CalibrationParts → Setting
+closed_setting cal = closed_from (last_excess cal + 1) cal
 
 -- a tick after that one: it is quiet, and path 1 is held closed
 abbrev pub quiet_after : DriveRow → Tick
