@@ -103,6 +103,11 @@ follows_alike f y same (suc n) h late follows = (
 
 -- ---- ticks of excess and quiet ones, with nothing out of order ----
 
+pub all_good : (n : ℕ) → AllGood (replicate n false)
+unfolding AllGood
+all_good zero = tt
+all_good (suc n) = (refl, all_good n)
+
 module _ (s : Setting) (accepted : IsAccepted s.cal) (can : CanExceed s.cal) where
   abbrev torque : WeightParts
   torque = s.cal.rules.torque
@@ -157,11 +162,6 @@ module _ (s : Setting) (accepted : IsAccepted s.cal) (can : CanExceed s.cal) whe
   all_plain (false ∷ bits) = (record { effects = refl; loads = refl }, all_plain bits)
 
   -- ---- some of excess over quiet ones: it isn't confirmed before the last ----
-
-  all_good : (n : ℕ) → AllGood (replicate n false)
-  unfolding AllGood
-  all_good zero = tt
-  all_good (suc n) = (refl, all_good n)
 
   pub unconfirmed : (j quiets : ℕ) → j < many → is_confirmed torque (replicate j true ++ replicate quiets false) ≡ false
   unconfirmed j quiets less = too_few torque (replicate j true) (replicate quiets false) limit_positive (all_good quiets)

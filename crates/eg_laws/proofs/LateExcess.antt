@@ -3,6 +3,7 @@
 use Rattle.std.proofs.Common.{◌≡◌, ℕ, zero, suc, ◌+◌, ◌*◌, ◌^◌, ◌≤◌, ◌<◌, Bool, true, false, not, List, [], ◌∷◌, ◌++◌, All, length, refl, ap, ap₂, ◌∙◌, arith, length-append, append_assoc, replicate}
 use Rattle.std.proofs.lemmas.List.{length-replicate}
 use Rattle.std.proofs.lemmas.List.Elements.{All-append, All-replicate}
+use Rattle.eg_num.specs.Arithmetic.{estimate}
 use Rattle.eg_num.specs.Windows.{WeightParts, is_confirmed}
 use Rattle.eg_answer.specs.Times.{feeds_to_confirm, reaction_of}
 use Rattle.eg_values.specs.Calibration.{CalibrationParts, IsAccepted}
@@ -16,13 +17,13 @@ use Rattle.eg_model.specs.Signals.{tripped}
 use Rattle.eg_model.specs.Paths.{latch2, path1_at, path2_at, both_conduct}
 use Rattle.eg_model.specs.Moments.{moments_of}
 use Rattle.eg_model.specs.Premises.{IsProper, AreProper, Follows}
-use Rattle.eg_laws.specs.LeastReaction.{CanExceed, GoesOn, ShowsWord, exceeding, by_bits, closed_from}
+use Rattle.eg_laws.specs.LeastReaction.{CanExceed, GoesOn, ShowsWord, giving, exceeding, by_bits, closed_from}
 use Rattle.eg_model.proofs.TickLemmas.{Each}
 use Rattle.eg_model.proofs.Silence.{AreRegular, send_within}
 use Rattle.eg_model.proofs.ReactionLaw.{unanswered_on}
 use Rattle.eg_model.proofs.SharpCutLaw.{calm_until, trip_once_confirmed}
 use Rattle.eg_laws.proofs.FewVerdicts.{NoneOpens, HasFew, few_of_calm, few_on, still_shut}
-use Rattle.eg_laws.proofs.ExcessTicks.{follows_plain, follows_alike, ticks_shut, all_bits, all_plain, all_go_on, all_words, all_proper, proper_to, size, period_positive, confirm_positive, reaction_is}
+use Rattle.eg_laws.proofs.ExcessTicks.{follows_plain, follows_alike, ticks_shut, all_bits, all_plain, all_go_on, all_words, all_proper, proper_to, loaded_proper, size, period_positive, confirm_positive, reaction_is}
 
 -- This may come in at the ticks that follow: it doesn't reset the unit, its loads are words, and it is proper while
 -- the stages are on.
@@ -38,6 +39,15 @@ pub record IsLate (cal : CalibrationParts) (bits : List Bool) (p onset : ℕ) : 
   pub now : is_confirmed cal.rules.torque (true ∷ bits) ≡ true
   pub size : length bits ≡ p * cal.times.period + cal.times.send + 1
   pub next : onset ≡ length bits + 1
+
+-- the excess may go on
+pub loaded_may : (s : Setting) → IsAccepted s.cal → (can : CanExceed s.cal) →
+    MayFollow s (giving can.drive can.load (estimate s.cal.rules.kt can.load))
+loaded_may s accepted can = record {
+  goes_on = can.goes_on;
+  words = (can.is_word, can.is_word);
+  proper = λ x past on. loaded_proper s accepted can x past on;
+}
 
 module _ (cal : CalibrationParts) (accepted : IsAccepted cal) (can : CanExceed cal) (bits : List Bool) (p onset : ℕ)
     (late : IsLate cal bits p onset) where

@@ -16,6 +16,7 @@ pub mod LongestStretch
 pub mod BurstLaws
 pub mod StretchRows
 pub mod BurstRows
+pub mod BurstRuns
 pub mod PeakLaws
 pub mod LimitLaws
 pub mod SeenExcess

@@ -18,8 +18,8 @@ use Rattle.eg_values.specs.Excess.{ticks_to_confirm, longest_stretch}
 use Rattle.eg_laws.specs.Stretches.{IsStretch, exceeding_after, faultless_setting, ExcessLasts, ExcessLastsUntilConfirmed, StretchIsLeast, StretchAtOnceIsLeast}
 use Rattle.eg_model.proofs.LapseRuns.{AllExceed}
 use Rattle.eg_laws.proofs.StretchLaws.{at_once_always}
-use Rattle.eg_laws.proofs.ExcessTicks.{follows_none, more_exceed, all_plain, all_exceed, loaded_proper, all_go_on, all_words, proper_to, many_positive, size, size_over}
-use Rattle.eg_laws.proofs.LateExcess.{MayFollow, reaction_long, size_whole, goes_on_after, words_after, follows_on, after_proper}
+use Rattle.eg_laws.proofs.ExcessTicks.{follows_none, more_exceed, all_plain, all_exceed, all_go_on, all_words, proper_to, many_positive, size, size_over}
+use Rattle.eg_laws.proofs.LateExcess.{MayFollow, loaded_may, reaction_long, size_whole, goes_on_after, words_after, follows_on, after_proper}
 use Rattle.eg_laws.proofs.LeastLaw.{room, last_is, listed, many_is, latest, latest_bits, latest_is}
 
 -- such a history gives a stretch
@@ -53,11 +53,7 @@ module _ (cal : CalibrationParts) (accepted : IsAccepted cal) (can : CanExceed c
   loaded = giving can.drive can.load (estimate cal.rules.kt can.load)
 
   may : MayFollow s loaded
-  may = record {
-    goes_on = can.goes_on;
-    words = (can.is_word, can.is_word);
-    proper = λ x past on. loaded_proper s accepted can x past on;
-  }
+  may = loaded_may s accepted can
 
   abbrev after : ℕ → List Tick
   after n = replicate n (exceeding_after cal can.drive can.load)

@@ -1,5 +1,5 @@
 -- The histories that show the two bounds to be the least, computed from the definitions.
-use Rattle.std.proofs.Common.{◌≡◌, ◌∙◌, ℕ, Bool, true, false, ◌&&◌, ◌||◌, ◌==◌, nat_le, List, [], ◌∷◌, ◌++◌, map, replicate, reverse, Some, refl, sym}
+use Rattle.std.proofs.Common.{◌≡◌, ◌∙◌, ℕ, ◌+◌, ◌-◌, Bool, true, false, ◌&&◌, ◌||◌, ◌==◌, nat_le, List, [], ◌∷◌, ◌++◌, map, replicate, reverse, Some, refl, sym}
 use Rattle.std.proofs.lemmas.Bool.{and_parts, leb-true, eqb-true, true≢false}
 use Rattle.eg_num.specs.Arithmetic.{estimate}
 use Rattle.eg_answer.specs.Times.{feeds_to_confirm, reaction_of, periods_to_confirm}
@@ -70,6 +70,10 @@ closed-excess = refl
 pub most : most_bad reference_rules.torque 100 ≡ 52
 unfolding most_bad
 most = refl
+
+pub most_listed : most_bad reference_rules.torque (100 - 34) + 34 ≡ 69
+unfolding most_bad
+most_listed = refl
 
 pub densest_are : densest reference_rules.torque 8 ≡ true ∷ false ∷ true ∷ false ∷ replicate 4 true
 unfolding densest whole_model

@@ -1,8 +1,8 @@
 // How often an excess may come again.
-ghost use Rattle.std.specs.Prelude.{◌≡◌, true, false, [], ◌∷◌, ◌++◌, replicate};
+ghost use Rattle.std.specs.Prelude.{◌≡◌, ◌+◌, ◌-◌, true, false, [], ◌∷◌, ◌++◌, replicate};
 ghost use Rattle.eg_values.specs.Reference.{reference_rules};
 ghost use Rattle.eg_model.specs.Engines.{gasoline, diesel};
-ghost use Rattle.eg_laws.specs.Bursts.{most_bad, densest, hasty, BurstsAreSparse, SoManyCanBeBad, FewerMayDo, RecordsAreSparse, RecordsEndBursts, RecordsEndBurstsAtOnce};
+ghost use Rattle.eg_laws.specs.Bursts.{most_bad, densest, hasty, BurstsAreSparse, SoManyCanBeBad, FewerMayDo, RecordsAreSparse, RecordsEndBursts, RecordsEndBurstsAtOnce, BurstsLast, BurstsLastUntilConfirmed};
 
 /// How often an excess may come again and not be confirmed (docs/CONCEPT.md, "Why the unit reacts"): of any
 /// n ticks in a row at most `(limit - 1 + n*down)/(up + down)`, rounded down, have excess, by the weights
@@ -21,20 +21,31 @@ pub fn records_are_sparse()
     ensures { RecordsAreSparse gasoline × RecordsAreSparse diesel }
 {}
 
-/// How many of n rows in a row of a drive span have true excess, whether it is confirmed or not (docs/CONCEPT.md,
-/// "Why the unit reacts"): with no fault or a listed one R more than `most_bad` of n - R; and one more than
-/// `most_bad` of n - 1 where the reaction is at once when it is confirmed, as without a fault. It does nothing
-/// when it runs.
+/// How many of n rows in a row have true excess, whether it is confirmed or not (docs/CONCEPT.md, "Why the
+/// unit reacts"), by the rows of each drive span of the record of a run on the bench, for both engines: with
+/// no fault or a listed one at most R more than `most_bad` of n - R, and one more than `most_bad` of n - 1
+/// where the reaction is at once when the excess is confirmed, as without a fault. It does nothing when it
+/// runs.
 pub fn records_end_bursts()
     ensures ends { RecordsEndBursts gasoline × RecordsEndBursts diesel }
     ensures at_once { RecordsEndBurstsAtOnce gasoline × RecordsEndBurstsAtOnce diesel }
 {}
 
+/// So many can have it, or all of them, where `up` and `down` together are at most the limit and an excess
+/// can be confirmed at all: a history shows it, with path 1 held closed once the excess is confirmed, or
+/// without a fault. It does nothing when it runs.
+pub fn bursts_last()
+    ensures lasts { BurstsLast }
+    ensures until_confirmed { BurstsLastUntilConfirmed }
+{}
+
 /// `bursts_are_sparse` worked out with the reference calibration, whose weights are 1, 1 and 5 (`up`, `down`
-/// and the limit): 52 of 100 ticks may have excess. The densest ticks are four of excess, and then every
-/// other one. By weights of 1, 2 and 2 the law's number is 3 of 4. It does nothing when it runs.
+/// and the limit): 52 of 100 ticks may have excess, and 69 under a listed fault, R being 34. The densest
+/// ticks are four of excess, and then every other one. By weights of 1, 2 and 2 the law's number is 3 of 4.
+/// It does nothing when it runs.
 pub fn densest_feeds()
     ensures most { most_bad reference_rules.torque 100 ≡ 52 }
+    ensures listed { most_bad reference_rules.torque (100 - 34) + 34 ≡ 69 }
     ensures densest { densest reference_rules.torque 8 ≡ true ∷ false ∷ true ∷ false ∷ replicate 4 true }
     ensures hasty { most_bad hasty 4 ≡ 3 }
 {}
