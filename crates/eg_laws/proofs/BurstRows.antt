@@ -19,7 +19,8 @@ use Rattle.eg_model.specs.Premises.{AreProper, Follows, is_on_after, true_excess
 use Rattle.eg_model.specs.Reaction.{OffFrom}
 use Rattle.eg_model.specs.Engines.{BenchEngine, KeepsBenchLaws}
 use Rattle.eg_laws.specs.Stretches.{IsAtOnceWhenConfirmed}
-use Rattle.eg_laws.specs.Bursts.{most_bad, bad_in, RowsEndBursts, RowsEndBurstsAtOnce, RecordsEndBursts, RecordsEndBurstsAtOnce}
+use Rattle.eg_laws.specs.Bursts.{most_bad, bad_in}
+use Rattle.eg_laws.specs.FaultyBursts.{RowsEndBursts, RowsEndBurstsAtOnce, RecordsEndBursts, RecordsEndBurstsAtOnce}
 use Rattle.eg_model.proofs.LapseLaw.{off_no_excess}
 use Rattle.eg_model.proofs.ReactionLaw.{reacts_in_time}
 use Rattle.eg_model.proofs.SpanRows.{follows-end, proper-end, SpanRows, Split, split, IsFirstAt, first_confirms, bits_after, true_unnumbered}

@@ -14,7 +14,8 @@ use Rattle.eg_model.specs.History.{Setting, Entry, Tick}
 use Rattle.eg_model.specs.Premises.{true_excesses}
 use Rattle.eg_laws.specs.LeastReaction.{CanExceed, giving, by_bits, closed_from}
 use Rattle.eg_laws.specs.Stretches.{exceeding_after, faultless_setting}
-use Rattle.eg_laws.specs.Bursts.{most_bad, bad_in, densest, HasExcesses, burst_onset, BurstsLast, BurstsLastUntilConfirmed}
+use Rattle.eg_laws.specs.Bursts.{most_bad, bad_in, densest}
+use Rattle.eg_laws.specs.FaultyBursts.{HasExcesses, burst_onset, BurstsLast, BurstsLastUntilConfirmed}
 use Rattle.eg_model.proofs.LapseWeights.{rounded_up}
 use Rattle.eg_model.proofs.SharpCutLaw.{greatest-AllGood}
 use Rattle.eg_laws.proofs.BurstLaws.{bad_in-cons, so_many_can_be_bad}

@@ -1,23 +1,14 @@
 -- How many ticks of a window can have true excess where it isn't confirmed by the last of them: what a
 -- calibration lets through, be it again and again. Bits of feeds and rows stand newest first.
-use Rattle.std.specs.Prelude.{◌≡◌, ℕ, zero, suc, ◌+◌, ◌*◌, ◌-◌, ◌/◌, ◌≤◌, Bool, true, false, not, List, [], ◌∷◌, ◌++◌, All, length, map, take, count_by, min, Option}
-use Rattle.eg_num.specs.Arithmetic.{quotient_up}
+use Rattle.std.specs.Prelude.{◌≡◌, ℕ, zero, suc, ◌+◌, ◌*◌, ◌-◌, ◌/◌, ◌≤◌, Bool, true, false, not, List, [], ◌∷◌, ◌++◌, length, map, count_by, min}
 use Rattle.eg_num.specs.Windows.{WeightParts, AreWeights, is_reached, is_confirmed}
-use Rattle.eg_answer.specs.Times.{feeds_to_confirm, reaction_of}
-use Rattle.eg_values.specs.Calibration.{CalibrationParts, IsAccepted}
-use Rattle.eg_fault.specs.Faults.{IsListed}
-use Rattle.eg_fault.specs.declared.class.Fault.{Fault}
 use Rattle.eg_record.specs.declared.row.Row.{Row}
 use Rattle.eg_record.specs.Excess.{true_excess}
 use Rattle.eg_record.specs.Spans.{EachDriveSpan}
-use Rattle.eg_model.specs.History.{Setting, Tick}
-use Rattle.eg_model.specs.Premises.{AreProper, Follows, true_excesses}
 use Rattle.eg_model.specs.Engines.{BenchEngine}
 use Rattle.eg_model.specs.Bench.{Run}
 use Rattle.eg_model.specs.Rows.{record_rows}
 use Rattle.eg_model.specs.Records.{IsRun}
-use Rattle.eg_laws.specs.LeastReaction.{CanExceed, GoesOn, ShowsWord, closed_from}
-use Rattle.eg_laws.specs.Stretches.{IsAtOnceWhenConfirmed, faultless_setting}
 
 -- A bound for the bad ones of n feeds in a row by which the limit isn't reached: what the bad ones add, `up`
 -- each, is less than the limit and what the good ones take, `down` each, together.
@@ -74,72 +65,3 @@ abbrev pub RecordsAreSparse : {E : Type 0} → BenchEngine E → Type 0
 RecordsAreSparse b =
     (r : Run) → IsRun r →
     EachDriveSpan (RowsAreSparse r.setting.cal.rules.torque r.setting.cal.rules.threshold) (record_rows b r)
-
--- ---- the same rows, whether the excess is confirmed or not ----
-
--- of the rows of any window at most `most_bad` of their number less `after`, and `after` more, have true
--- excess
-abbrev pub RowsEndBursts : WeightParts → (threshold after start : ℕ) → List Row → Type 0
-RowsEndBursts weights threshold after start rows =
-    (later window before : List Row) → rows ≡ later ++ (window ++ before) →
-    bad_in (map (true_excess threshold) window) ≤ most_bad weights (length window - after) + after
-
--- where the reaction is at once when the excess is confirmed, `after` is 1
-abbrev pub RowsEndBurstsAtOnce : Option Fault → WeightParts → (threshold start : ℕ) → List Row → Type 0
-RowsEndBurstsAtOnce fault weights threshold start rows =
-    (later window before : List Row) → rows ≡ later ++ (window ++ before) →
-    IsAtOnceWhenConfirmed fault weights start (map (true_excess threshold) (window ++ before)) →
-    bad_in (map (true_excess threshold) window) ≤ most_bad weights (length window - 1) + 1
-
--- with no fault or a listed one: in each drive span of every record `after` is R
-abbrev pub RecordsEndBursts : {E : Type 0} → BenchEngine E → Type 0
-RecordsEndBursts b =
-    (r : Run) → IsRun r → IsListed r.setting.fault →
-    EachDriveSpan (RowsEndBursts r.setting.cal.rules.torque r.setting.cal.rules.threshold
-    (reaction_of r.setting.cal.times)) (record_rows b r)
-
--- and 1 where the reaction is at once
-abbrev pub RecordsEndBurstsAtOnce : {E : Type 0} → BenchEngine E → Type 0
-RecordsEndBurstsAtOnce b =
-    (r : Run) → IsRun r → IsListed r.setting.fault →
-    EachDriveSpan (RowsEndBurstsAtOnce r.setting.fault r.setting.cal.rules.torque
-    r.setting.cal.rules.threshold) (record_rows b r)
-
--- ---- so many of them can have it ----
-
--- A history under this setting's fault, or none, that is one drive span in which the engine keeps its laws
--- and tells loads that are words; and of its last n ticks at least so many have true excess.
-pub record HasExcesses (s : Setting) (n many : ℕ) : Type 0 where
-  pub listed : IsListed s.fault
-  pub h : List Tick
-  pub follows : Follows s.fault 0 h
-  pub proper : AreProper s h
-  pub goes_on : All GoesOn h
-  pub words : All ShowsWord h
-  pub within : n ≤ length h
-  pub excesses : many ≤ bad_in (take n (true_excesses s h))
-
--- The tick from which path 1 is held closed in it. It comes right after the one by which the excess is
--- confirmed, and that one right after a send tick, behind n ticks of bursts, and others.
-unfoldable pub burst_onset : CalibrationParts → (n : ℕ) → ℕ
-burst_onset cal n =
-    quotient_up (feeds_to_confirm cal.rules.torque + n) cal.times.period * cal.times.period
-    + cal.times.send + 2
-
--- Where an excess can be confirmed at all, and the limit is at least `up` and `down` together: so many as the
--- law allows with R can have it, or all, if a run is long enough;
-abbrev pub BurstsLast : Type 0
-BurstsLast =
-    (cal : CalibrationParts) → IsAccepted cal → CanExceed cal →
-    cal.rules.torque.up + cal.rules.torque.down ≤ cal.rules.torque.limit → (n : ℕ) →
-    let before = n - reaction_of cal.times in
-    reaction_of cal.times ≤ n → burst_onset cal before ≤ 19999 →
-    HasExcesses (closed_from (burst_onset cal before) cal) n
-    (min n (most_bad cal.rules.torque before + reaction_of cal.times))
-
--- and as many as with 1 where the reaction is at once, as without a fault.
-abbrev pub BurstsLastUntilConfirmed : Type 0
-BurstsLastUntilConfirmed =
-    (cal : CalibrationParts) → IsAccepted cal → CanExceed cal →
-    cal.rules.torque.up + cal.rules.torque.down ≤ cal.rules.torque.limit → (n : ℕ) → 1 ≤ n →
-    HasExcesses (faultless_setting cal) n (min n (most_bad cal.rules.torque (n - 1) + 1))

@@ -3,6 +3,7 @@ pub mod LeastLapse
 pub mod Stretches
 pub mod Limits
 pub mod Bursts
+pub mod FaultyBursts
 pub mod Seeing
 pub mod Paths
 pub mod Availability

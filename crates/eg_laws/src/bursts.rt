@@ -2,7 +2,8 @@
 ghost use Rattle.std.specs.Prelude.{◌≡◌, ◌+◌, ◌-◌, true, false, [], ◌∷◌, ◌++◌, replicate};
 ghost use Rattle.eg_values.specs.Reference.{reference_rules};
 ghost use Rattle.eg_model.specs.Engines.{gasoline, diesel};
-ghost use Rattle.eg_laws.specs.Bursts.{most_bad, densest, hasty, BurstsAreSparse, SoManyCanBeBad, FewerMayDo, RecordsAreSparse, RecordsEndBursts, RecordsEndBurstsAtOnce, BurstsLast, BurstsLastUntilConfirmed};
+ghost use Rattle.eg_laws.specs.Bursts.{most_bad, densest, hasty, BurstsAreSparse, SoManyCanBeBad, FewerMayDo, RecordsAreSparse};
+ghost use Rattle.eg_laws.specs.FaultyBursts.{RecordsEndBursts, RecordsEndBurstsAtOnce, BurstsLast, BurstsLastUntilConfirmed};
 
 /// How often an excess may come again and not be confirmed (docs/CONCEPT.md, "Why the unit reacts"): of any
 /// n ticks in a row at most `(limit - 1 + n*down)/(up + down)`, rounded down, have excess, by the weights
