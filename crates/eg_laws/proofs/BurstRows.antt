@@ -1,35 +1,25 @@
 -- How many ticks of a window can have excess, whether it is confirmed or not: of bits, and of the rows of each record.
-use Rattle.std.proofs.Common.{◌≡◌, ℕ, suc, ◌+◌, ◌-◌, ◌*◌, ◌≤◌, ◌<◌, Bool, true, false, List, [], ◌∷◌, ◌++◌, map, length, refl, sym, ap, ◌∙◌, subst, arith, inl, inr, length-append, Option, Some, None, is_some}
+use Rattle.std.proofs.Common.{◌≡◌, ℕ, suc, ◌+◌, ◌-◌, ◌*◌, ◌≤◌, ◌<◌, Bool, true, false, List, [], ◌∷◌, ◌++◌, map, length, refl, sym, ap, ◌∙◌, subst, arith, inl, inr, Option, Some, None, is_some}
 use Rattle.std.proofs.Math.Nat.{div-lt_iff_lt-mul, lt-div-mul-add}
-use Rattle.std.proofs.lemmas.Bool.{cases_Bool, cases_lt, true≢false, false_from_ne_true}
-use Rattle.std.proofs.lemmas.List.{length-map, map-append}
+use Rattle.std.proofs.lemmas.Bool.{cases_Bool, cases_lt, true≢false}
+use Rattle.std.proofs.lemmas.List.{length-map}
 use Rattle.std.proofs.lemmas.Option.{same_Some}
 use Rattle.eg_num.specs.Windows.{WeightParts, AreWeights, is_first, first_index}
 use Rattle.eg_num.proofs.FirstIndexLemmas.{is_first-parts, is_some-first_index, first_index-first, first_index-other, first_index_within}
 use Rattle.eg_answer.specs.Times.{reaction_of}
-use Rattle.eg_values.specs.Calibration.{IsAccepted}
 use Rattle.eg_plant.specs.PlantParts.{PlantParts}
 use Rattle.eg_fault.proofs.ActingLemmas.{listed_valid}
 use Rattle.eg_record.specs.declared.row.Row.{Row}
 use Rattle.eg_record.specs.Excess.{true_excess}
-use Rattle.eg_model.specs.History.{Setting, Tick}
-use Rattle.eg_model.specs.Moments.{moment, moments_of}
-use Rattle.eg_model.specs.Rows.{row_of, rows_of}
-use Rattle.eg_model.specs.Premises.{AreProper, Follows, is_on_after, true_excesses, IsExcessConfirmed}
-use Rattle.eg_model.specs.Reaction.{OffFrom}
 use Rattle.eg_model.specs.Engines.{BenchEngine, KeepsBenchLaws}
-use Rattle.eg_laws.specs.Stretches.{IsAtOnceWhenConfirmed}
 use Rattle.eg_laws.specs.Bursts.{most_bad, bad_in}
 use Rattle.eg_laws.specs.FaultyBursts.{RowsEndBursts, RowsEndBurstsAtOnce, RecordsEndBursts, RecordsEndBurstsAtOnce}
-use Rattle.eg_model.proofs.LapseLaw.{off_no_excess}
-use Rattle.eg_model.proofs.ReactionLaw.{reacts_in_time}
-use Rattle.eg_model.proofs.SpanRows.{follows-end, proper-end, SpanRows, Split, split, IsFirstAt, first_confirms, bits_after, true_unnumbered}
 use Rattle.eg_model.proofs.RecordSpans.{SpanTo}
 use Rattle.eg_model.proofs.RecordLaws.{each_drive, proper_span}
 use Rattle.eg_model.proofs.SpanLaws.{reaction_least}
 use Rattle.eg_laws.proofs.BurstLaws.{bad_in-cons, bursts_are_sparse}
-use Rattle.eg_laws.proofs.ExcessTicks.{length-true_excesses}
-use Rattle.eg_laws.proofs.StretchLaws.{off_at_once}
+use Rattle.eg_laws.proofs.StretchLaws.{Ends}
+use Rattle.eg_laws.proofs.StretchRows.{ends_in_time, ends_at_once}
 
 -- ---- bits ----
 
@@ -85,12 +75,7 @@ module _ (w : WeightParts) (are : AreWeights w) where
         omega (arith, rest, near, more, within, size))
   ]
 
-  -- From `after` feeds after the first at which the limit is reached none of these is bad.
-  unfoldable Ends : (after : ℕ) → List Bool → Type 0
-  Ends after [] = Unit {0}
-  Ends after (b ∷ before) = ((c : ℕ) → first_index w before ≡ Some c → c + after ≤ length before → b ≡ false) × Ends after before
-
-  few_bad : (after : ℕ) (window before : List Bool) → 1 ≤ after → Ends after (window ++ before) →
+  few_bad : (after : ℕ) (window before : List Bool) → 1 ≤ after → Ends w after (window ++ before) →
       bad_in window ≤ most_bad w (length window - after) + after
   unfolding Ends
   few_bad after [] before least ends = go (unfold bad_in in refl)
@@ -120,64 +105,13 @@ module _ (w : WeightParts) (are : AreWeights w) where
             omega (arith, rest, near, more, soon, within, least))
       ]
 
--- ---- the rows of a drive span ----
-
-module _ (s : Setting) (accepted : IsAccepted s.cal) (start : ℕ) where
-  abbrev w : WeightParts
-  w = s.cal.rules.torque
-
-  abbrev bit : Row → Bool
-  bit = true_excess s.cal.rules.threshold
-
-  -- the stages are off from `after` ticks after each tick of a history by which the excess is confirmed
-  abbrev OffAfter : (after : ℕ) → List Tick → Type 0
-  OffAfter after h = (front g : List Tick) → h ≡ front ++ g → IsExcessConfirmed s g → OffFrom s start g after
-
-  -- so at the tick x after it there is no excess
-  none_late : (after c : ℕ) (x : Tick) (h : List Tick) → Follows s.fault start (x ∷ h) → AreProper s (x ∷ h) → OffAfter after h →
-      first_index w (true_excesses s h) ≡ Some c → c + after ≤ length h →
-      (true_excess s.cal.rules.threshold (row_of (length (moments_of s h)) (moment s x.effects x.entry (moments_of s h)))) ≡ true → ⊥
-  unfolding AreProper true_excesses row_of true_excess is_on_after
-  none_late after c x h follows proper law first late excess = off_no_excess s x (moments_of s h) proper.0 off excess
-    where
-      at : IsFirstAt w bit s h c
-      at = first_confirms w bit s h c first
-
-      off : (moment s x.effects x.entry (moments_of s h)).on ≡ false
-      off = subst (λ k. is_on_after s k x ≡ false) (sym at.whole)
-          (law at.more (at.at ∷ at.before) at.whole at.confirmed at.more x
-          (subst (λ k. Follows s.fault start (x ∷ k)) at.whole follows) (subst (AreProper s) at.whole proper.1)
-          (let size = at.size in let sum = ap length at.whole in let long = length-append at.more (at.at ∷ at.before) in
-          omega (arith, late, size, sum, long)))
-
-  ends_ticks : (after : ℕ) (h : List Tick) → Follows s.fault start h → AreProper s h → OffAfter after h →
-      Ends w accepted.torque after (true_excesses s h)
-  unfolding Ends Follows AreProper true_excesses moments_of rows_of
-  ends_ticks after [] follows proper law = tt
-  ends_ticks after (x ∷ h) follows proper law = (
-    λ c first late. false_from_ne_true _ (none_late after c x h follows proper (λ front g e. law (x ∷ front) g (ap (λ k. x ∷ k) e)) first
-        (let size = length-true_excesses s h in omega (arith, late, size))),
-    ends_ticks after h follows.1 proper.1 (λ front g e. law (x ∷ front) g (ap (λ k. x ∷ k) e)),
-  )
-
-  -- so of the rows of a window few have one
-  few_rows : (after : ℕ) (h : List Tick) → 1 ≤ after → Follows s.fault start h → AreProper s h →
-      (later window before : List Row) → SpanRows s start h ≡ later ++ (window ++ before) →
-      ((g : List Tick) → map bit (window ++ before) ≡ true_excesses s g → OffAfter after g) →
-      bad_in (map bit window) ≤ most_bad w (length window - after) + after
-  unfolding true_excesses
-  few_rows after h least follows proper later window before e law = subst (λ n. bad_in (map bit window) ≤ most_bad w (n - after) + after)
-      (length-map window bit)
-      (few_bad w accepted.torque after (map bit window) (map bit before) least
-      (subst (Ends w accepted.torque after) (sym bits ∙ map-append bit window before)
-      (ends_ticks after part.rest (follows-end s.fault start part.more part.rest (subst (Follows s.fault start) part.whole follows))
-      (proper-end s part.more part.rest (subst (AreProper s) part.whole proper)) (law part.rest bits))))
-    where
-      part : Split s start h later (window ++ before)
-      part = split s start h later (window ++ before) e
-
-      bits : map bit (window ++ before) ≡ true_excesses s part.rest
-      bits = ap (map bit) part.rows_are ∙ bits_after bit (true_unnumbered s.cal.rules.threshold) s start part.rest
+  -- so it is of rows
+  few_rows : (threshold after : ℕ) (window before : List Row) → 1 ≤ after →
+      Ends w after (map (true_excess threshold) window ++ map (true_excess threshold) before) →
+      bad_in (map (true_excess threshold) window) ≤ most_bad w (length window - after) + after
+  few_rows threshold after window before least law = subst
+      (λ n. bad_in (map (true_excess threshold) window) ≤ most_bad w (n - after) + after) (length-map window (true_excess threshold))
+      (few_bad after (map (true_excess threshold) window) (map (true_excess threshold) before) least law)
 
 -- ---- each record ----
 
@@ -185,17 +119,14 @@ module _ {E : Type 0} {b : BenchEngine E} {Keeps : PlantParts → E → Type 0} 
   pub records_end_bursts : RecordsEndBursts b
   records_end_bursts r run listed = each_drive b (RowsEndBursts r.setting.cal.rules.torque r.setting.cal.rules.threshold
       (reaction_of r.setting.cal.times)) r
-      (λ start count span is later window before e. few_rows r.setting run.accepted start (reaction_of r.setting.cal.times)
-      (SpanTo b r count) (reaction_least r.setting.cal.times run.accepted.times run.accepted.answers) is.follows
-      (proper_span keeps r run (listed_valid r.setting.fault listed) start count span is) later window before e
-      (λ h bits front g whole confirmed. reacts_in_time r.setting run.accepted listed start g confirmed))
+      (λ start count span is later window before e. few_rows r.setting.cal.rules.torque run.accepted.torque r.setting.cal.rules.threshold _ window before
+      (reaction_least r.setting.cal.times run.accepted.times run.accepted.answers)
+      (ends_in_time r.setting start (SpanTo b r count) run.accepted listed is.follows
+      (proper_span keeps r run (listed_valid r.setting.fault listed) start count span is) later window before e))
 
   pub records_end_bursts_at_once : RecordsEndBurstsAtOnce b
   records_end_bursts_at_once r run listed = each_drive b (RowsEndBurstsAtOnce r.setting.fault r.setting.cal.rules.torque
       r.setting.cal.rules.threshold) r
-      (λ start count span is later window before e soon. few_rows r.setting run.accepted start 1
-      (SpanTo b r count) (omega arith) is.follows
-      (proper_span keeps r run (listed_valid r.setting.fault listed) start count span is) later window before e
-      (λ h bits front g whole confirmed. off_at_once r.setting run.accepted listed start front g
-      (subst (IsAtOnceWhenConfirmed r.setting.fault r.setting.cal.rules.torque start)
-      (bits ∙ ap (true_excesses r.setting) whole) soon) confirmed))
+      (λ start count span is later window before e soon. few_rows r.setting.cal.rules.torque run.accepted.torque r.setting.cal.rules.threshold 1 window before
+      (omega arith) (ends_at_once r.setting start (SpanTo b r count) run.accepted listed is.follows
+      (proper_span keeps r run (listed_valid r.setting.fault listed) start count span is) later window before e soon))

@@ -1,6 +1,6 @@
 -- How long an excess lasts, and how often it may come again: by the rows of a history, and of the record of a run on
 -- the bench.
-use Rattle.std.proofs.Common.{◌≡◌, ℕ, ◌≤◌, Bool, true, false, List, [], ◌∷◌, ◌++◌, All, map, take, length, refl, sym, ap, ◌∙◌, subst, arith, length-append}
+use Rattle.std.proofs.Common.{◌≡◌, ℕ, ◌≤◌, Bool, true, false, List, [], ◌∷◌, ◌++◌, All, map, length, refl, sym, ap, ◌∙◌, subst, arith}
 use Rattle.std.specs.List.{list_all}
 use Rattle.std.proofs.lemmas.List.{length-map, map-append}
 use Rattle.std.proofs.lemmas.List.Elements.{All-head, All-tail}
@@ -13,96 +13,76 @@ use Rattle.eg_fault.proofs.ActingLemmas.{listed_valid}
 use Rattle.eg_record.specs.declared.row.Row.{Row}
 use Rattle.eg_record.specs.Excess.{true_excess}
 use Rattle.eg_model.specs.History.{Setting, Tick}
-use Rattle.eg_model.specs.Moments.{moments_of}
 use Rattle.eg_model.specs.Premises.{AreProper, Follows, true_excesses}
-use Rattle.eg_model.specs.Lapses.{Exceeds}
-use Rattle.eg_model.specs.Records.{ExceedLast}
 use Rattle.eg_model.specs.Engines.{BenchEngine, KeepsBenchLaws}
 use Rattle.eg_values.specs.Excess.{ticks_to_confirm, longest_stretch}
-use Rattle.eg_laws.specs.Stretches.{IsStretch, AllExcess, IsAtOnceWhenConfirmed, RowsEndStretches, RowsEndStretchesAtOnce, RecordsEndStretches, RecordsEndStretchesAtOnce}
+use Rattle.eg_laws.specs.Stretches.{IsAtOnceWhenConfirmed, RowsEndStretches, RowsEndStretchesAtOnce, RecordsEndStretches, RecordsEndStretchesAtOnce}
 use Rattle.eg_laws.specs.Bursts.{bad_in, most_bad, RowsAreSparse, RecordsAreSparse}
-use Rattle.eg_model.proofs.TickLemmas.{length-moments}
-use Rattle.eg_model.proofs.SpanRows.{follows-end, proper-end, length-rows_after, SpanRows, Split, split, exceed, bits_after, true_unnumbered}
+use Rattle.eg_model.proofs.SpanRows.{follows-end, proper-end, SpanRows, Split, split, bits_after, true_unnumbered}
 use Rattle.eg_model.proofs.RecordSpans.{SpanTo}
 use Rattle.eg_model.proofs.RecordLaws.{each_drive, proper_span}
-use Rattle.eg_laws.proofs.StretchLaws.{stretches_end, stretches_end_at_once}
+use Rattle.eg_laws.proofs.StretchLaws.{Ends, some, ends, off_at_once, OffAfter, ends_ticks}
+use Rattle.eg_model.proofs.ReactionLaw.{reacts_in_time}
+use Rattle.eg_model.proofs.SpanLaws.{reaction_least}
+use Rattle.eg_answer.specs.Times.{reaction_of}
 use Rattle.eg_laws.proofs.BurstLaws.{bursts_are_sparse}
 
 -- ---- stretches ----
 
-all_set : (bit : Row → Bool) (stretch before : List Row) → All (λ row. bit row ≡ true) stretch →
-    list_all (λ b. b) (take (length stretch) (map bit (stretch ++ before))) ≡ true
-all_set bit [] before all = refl
-all_set bit (row ∷ stretch) before all = and_from _ _ (All-head (λ r. bit r ≡ true) row stretch all)
-    (all_set bit stretch before (All-tail (λ r. bit r ≡ true) row stretch all))
+all_set : (bit : Row → Bool) (stretch : List Row) → All (λ row. bit row ≡ true) stretch → list_all (λ b. b) (map bit stretch) ≡ true
+all_set bit [] all = refl
+all_set bit (row ∷ stretch) all = and_from _ _ (All-head (λ r. bit r ≡ true) row stretch all)
+    (all_set bit stretch (All-tail (λ r. bit r ≡ true) row stretch all))
 
--- a stretch of rows is one of ticks
-record StretchOf (s : Setting) (start : ℕ) (stretch before : List Row) : Type 0 where
-  ticks : List Tick
-  earlier : List Tick
-  is : IsStretch s start ticks earlier
-  size : length ticks ≡ length stretch
-  rows_are : stretch ++ before ≡ SpanRows s start (ticks ++ earlier)
+-- ---- the rows of a drive span ----
 
 module _ (s : Setting) (start : ℕ) (h : List Tick) (accepted : IsAccepted s.cal) (listed : IsListed s.fault)
     (follows : Follows s.fault start h) (proper : AreProper s h) where
-  length-part : (before : List Row) (rest : List Tick) → before ≡ SpanRows s start rest → length rest ≡ length before
-  length-part before rest are = sym (ap length are ∙ length-rows_after start (moments_of s rest) ∙ length-moments s rest)
+  abbrev bit : Row → Bool
+  bit = true_excess s.cal.rules.threshold
 
-  stretch_of : (later stretch before : List Row) → SpanRows s start h ≡ later ++ (stretch ++ before) →
-      AllExcess s.cal.rules.threshold stretch → StretchOf s start stretch before
-  stretch_of later stretch before e excess = record {
-    ticks = inner.more;
-    earlier = inner.rest;
-    is = record {
-      follows = subst (Follows s.fault start) inner.whole
-          (follows-end s.fault start outer.more outer.rest (subst (Follows s.fault start) outer.whole follows));
-      proper = subst (AreProper s) inner.whole (proper-end s outer.more outer.rest (subst (AreProper s) outer.whole proper));
-      exceeds = subst (λ n. Exceeds s n (inner.more ++ inner.rest)) (sym size)
-          (subst (λ g. Exceeds s (length stretch) g) inner.whole (exceed s start (length stretch) outer.rest last));
-    };
-    size = size;
-    rows_are = subst (λ k. stretch ++ before ≡ SpanRows s start k) inner.whole outer.rows_are;
-  }
+  -- what is so of the ticks from a confirmed excess on is so of the rows of any part of it
+  pub rows_end : (after : ℕ) (later part before : List Row) → SpanRows s start h ≡ later ++ (part ++ before) →
+      ((g : List Tick) → map bit (part ++ before) ≡ true_excesses s g → OffAfter s start after g) →
+      Ends s.cal.rules.torque after (map bit part ++ map bit before)
+  unfolding true_excesses
+  rows_end after later part before e law = subst (Ends s.cal.rules.torque after) (sym bits ∙ map-append bit part before)
+      (ends_ticks s start after cut.rest (follows-end s.fault start cut.more cut.rest (subst (Follows s.fault start) cut.whole follows))
+      (proper-end s cut.more cut.rest (subst (AreProper s) cut.whole proper)) (law cut.rest bits))
     where
-      outer : Split s start h later (stretch ++ before)
-      outer = split s start h later (stretch ++ before) e
+      cut : Split s start h later (part ++ before)
+      cut = split s start h later (part ++ before) e
 
-      inner : Split s start outer.rest stretch before
-      inner = split s start outer.rest stretch before (sym outer.rows_are)
+      bits : map bit (part ++ before) ≡ true_excesses s cut.rest
+      bits = ap (map bit) cut.rows_are ∙ bits_after bit (true_unnumbered s.cal.rules.threshold) s start cut.rest
 
-      size : length inner.more ≡ length stretch
-      size = omega (
-        arith,
-        length-part before inner.rest inner.rows_are,
-        length-part (stretch ++ before) outer.rest outer.rows_are,
-        ap length inner.whole,
-        length-append inner.more inner.rest,
-        length-append stretch before,
-      )
+  -- with no fault or a listed one
+  pub ends_in_time : (later part before : List Row) → SpanRows s start h ≡ later ++ (part ++ before) →
+      Ends s.cal.rules.torque (reaction_of s.cal.times) (map bit part ++ map bit before)
+  ends_in_time later part before e = rows_end (reaction_of s.cal.times) later part before e
+      (λ g bits front k whole confirmed. reacts_in_time s accepted listed start k confirmed)
 
-      last : ExceedLast s.cal.rules.threshold (length stretch) (SpanRows s start outer.rest)
-      last = subst (ExceedLast s.cal.rules.threshold (length stretch)) outer.rows_are (record {
-        within = (let sum = length-append stretch before in omega (arith, sum));
-        each = all_set (true_excess s.cal.rules.threshold) stretch before excess;
-      })
+  -- and where the reaction is at once when the excess is confirmed
+  pub ends_at_once : (later part before : List Row) → SpanRows s start h ≡ later ++ (part ++ before) →
+      IsAtOnceWhenConfirmed s.fault s.cal.rules.torque start (map bit (part ++ before)) →
+      Ends s.cal.rules.torque 1 (map bit part ++ map bit before)
+  ends_at_once later part before e soon = rows_end 1 later part before e
+      (λ g bits front k whole confirmed. off_at_once s accepted listed start front k
+      (subst (IsAtOnceWhenConfirmed s.fault s.cal.rules.torque start) (bits ∙ ap (true_excesses s) whole) soon) confirmed)
 
   rows_end_stretches : RowsEndStretches s.cal.rules.threshold (longest_stretch s.cal) start (SpanRows s start h)
-  rows_end_stretches later stretch before e excess =
-      let of = stretch_of later stretch before e excess in
-      subst (λ n. n ≤ longest_stretch s.cal) of.size
-      (stretches_end s.cal accepted s refl listed start of.ticks of.earlier of.is)
+  unfolding longest_stretch ticks_to_confirm
+  rows_end_stretches later stretch before e excess = subst (λ n. n ≤ longest_stretch s.cal) (length-map stretch bit)
+      (ends s.cal.rules.torque accepted.torque (reaction_of s.cal.times) (map bit stretch) (map bit before)
+      (reaction_least s.cal.times accepted.times accepted.answers) (ends_in_time later stretch before e) (all_set bit stretch excess))
 
   rows_end_stretches_at_once : RowsEndStretchesAtOnce s.fault s.cal.rules.torque s.cal.rules.threshold (ticks_to_confirm s.cal) start
       (SpanRows s start h)
-  unfolding true_excesses
-  rows_end_stretches_at_once later stretch before e soon excess =
-      let of = stretch_of later stretch before e excess in
-      let bit = true_excess s.cal.rules.threshold in
-      subst (λ n. n ≤ ticks_to_confirm s.cal) of.size
-      (stretches_end_at_once s.cal accepted s refl listed start of.ticks of.earlier
-      (subst (IsAtOnceWhenConfirmed s.fault s.cal.rules.torque start)
-      (ap (map bit) of.rows_are ∙ bits_after bit (true_unnumbered s.cal.rules.threshold) s start (of.ticks ++ of.earlier)) soon) of.is)
+  unfolding ticks_to_confirm
+  rows_end_stretches_at_once later stretch before e soon excess = subst (λ n. n ≤ ticks_to_confirm s.cal) (length-map stretch bit)
+      (let short = ends s.cal.rules.torque accepted.torque 1 (map bit stretch) (map bit before) (omega arith)
+      (ends_at_once later stretch before e soon) (all_set bit stretch excess) in
+      let a = some s.cal.rules.torque accepted.torque in omega (arith, short, a))
 
 module _ {E : Type 0} {b : BenchEngine E} {Keeps : PlantParts → E → Type 0} (keeps : KeepsBenchLaws b Keeps) where
   pub records_end_stretches : RecordsEndStretches b
