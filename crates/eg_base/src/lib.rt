@@ -2,9 +2,9 @@
 //!
 //! Contracts see a `Store` and a `Sink` through what they show: what they hold, where that is told; how many
 //! faults they have met; and whether they are sure. A sure store answers Failed only where there is no such
-//! file, and a sure output takes no memory. The program runs over `FileStore` and `StdSink`, whose files and
-//! streams no contract can tell. Tests and theorems run over the two stores and the two outputs that stand in
-//! memory.
+//! file, and a sure output takes no memory. The program runs over `FileStore` and `StdSink`, which show what
+//! their opener and their stream tell: those of the system tell nothing. Tests and theorems also run over the
+//! two stores and the two outputs that stand in memory.
 //!
 //! Types of other crates keep their texts and vectors as `Text` and `Items`, which contracts see as lists.
 #![tactic(auto)]

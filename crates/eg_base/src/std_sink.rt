@@ -1,57 +1,88 @@
 // A stream of the system as an output.
-ghost use Rattle.std.specs.Prelude.{◌≡◌, ◌≤◌, None, true, OnOk, OnErr, IfOk, IsOkUnless, [], length, take};
+ghost use Rattle.std.specs.Prelude.{◌≡◌, ◌≤◌, None, true, false, IsSome, OnOk, OnErr, IfOk, IsOkUnless, [], length, take};
 ghost use Rattle.std.specs.Io.KnownBytes.{Appends};
 ghost use Rattle.eg_base.specs.declared.sink.PutRefusal.TheVariants.{Failed};
 ghost use Rattle.eg_base.specs.Counts.{next_count};
-ghost use Rattle.eg_base.specs.Streams.{TakesPrefix};
+ghost use Rattle.eg_base.specs.Outside.{Appends as ShowsAppended, AppendsPrefix};
+ghost use Rattle.eg_base.specs.Streams.{TakesPrefix, shown_by};
 
 use crate::{PutRefusal, Sink};
 use std::io::{ErrorKind, Write};
 use std::marker::Model;
 
-/// An output to a stream of the system, such as standard output. What was written isn't told, and the output
-/// is sure.
+/// An output to a stream. What was written is told where `told` made the output, of a stream that tells its
+/// bytes. No contract can tell those of a stream of the system, such as standard output: `new` makes an
+/// output to it. Either output is sure.
 ///
 /// Each refusal of the stream to write or to flush is a fault, as is a write that takes nothing of a piece
-/// that isn't empty. A write that is interrupted is made again. Contracts see a `StreamState`: the stream and
-/// the count of faults.
+/// that isn't empty. A write that is interrupted is made again. Contracts see a `StreamState`: the stream,
+/// whether its bytes are told, and the count of faults.
 #[derive(Drop)]
 pub struct StdSink<W: Write + Drop> {
     stream: W,
+    is_told: bool,
     faults: u64,
 }
 
 impl<W: Write + Drop> Model for StdSink<W> {
+    ghost use Rattle.std.specs.Prelude.{IsTrue, IsSome};
     ghost use Rattle.eg_base.specs.Streams.{StreamState};
 
     ghost Value = { StreamState W };
 
-    ghost view = { λ s. record { stream = s.stream; faults = s.faults } };
+    ghost view = { λ s. record { stream = s.stream; is_told = s.is_told; faults = s.faults } };
+
+    ghost invariant = { λ s. IsTrue s.is_told → IsSome (W.contents s.stream) };
 }
 
 impl<W: Write + Drop> StdSink<W> {
-    /// An output to this stream.
+    /// An output to this stream, of which nothing is told.
     pub fn new(stream: W) -> StdSink<W>
-        ensures state { result ≡ record { stream = stream; faults = 0 } }
+        ensures state { result ≡ record { stream = stream; is_told = false; faults = 0 } }
         ensures shown { ⟦<StdSink<W> as Sink>⟧.shows result
             ≡ record { written = None; faults = 0; sure = true } }
     {
-        StdSink { stream, faults: 0 }
+        StdSink {
+            stream,
+            is_told: false,
+            faults: 0,
+        }
+    }
+
+    /// An output to this stream, which tells its bytes, as a vector does.
+    pub fn told(stream: W) -> StdSink<W>
+        requires { IsSome (W.contents stream) }
+        ensures state { result ≡ record { stream = stream; is_told = true; faults = 0 } }
+        ensures shown { ⟦<StdSink<W> as Sink>⟧.shows result
+            ≡ record { written = W.contents stream; faults = 0; sure = true } }
+    {
+        StdSink {
+            stream,
+            is_told: true,
+            faults: 0,
+        }
     }
 }
 
 impl<W: Write + Drop> Sink for StdSink<W> {
-    ghost shows = { λ s. record { written = None; faults = s.faults; sure = true } };
+    ghost shows = { shown_by W.contents };
 
     /// Writes these bytes to the stream and flushes it.
+    #[tactic(auto, using(crate::proofs::StreamLemmas::told))]
     fn put(&mut self, bytes: &[u8]) -> Result<(), PutRefusal>
-        // Where the stream tells its bytes, it holds these at their end.
+        // Where the stream tells its bytes, it holds these at their end, or a prefix of them where they are
+        // refused.
         ensures taken { OnOk result
             (Appends (W.contents self.old.stream) (W.contents self.new.stream) bytes.now) }
-
-        // Where it is refused, the stream took a prefix of them.
         ensures part { OnErr result
             (TakesPrefix (W.contents self.old.stream) (W.contents self.new.stream) bytes.now) }
+
+        // The trait's clauses, by what the output shows.
+        ensures told { self.new.is_told ≡ self.old.is_told }
+        ensures ok { OnOk result
+            (ShowsAppended (shown_by W.contents self.old) (shown_by W.contents self.new) bytes.now) }
+        ensures prefix { OnErr result
+            (AppendsPrefix (shown_by W.contents self.old) (shown_by W.contents self.new) bytes.now) }
 
         // Each refusal is a fault, and nothing else is.
         ensures failed { IsOkUnless result Failed }
