@@ -39,6 +39,17 @@ lines_in-last (b ∷ c ∷ line) some none =
     lines_in-byte b (c ∷ line) (All-head (λ b. b ≢ 10) b (c ∷ line) none)
     ∙ ap (onto_first b) (lines_in-last (c ∷ line) (omega arith) (All-tail (λ b. b ≢ 10) b (c ∷ line) none))
 
+-- bytes without a line feed only begin a line
+pub lines_in-passed : (bytes rest : List ℕ) → All (λ b. b ≢ 10) bytes → drop 1 (lines_in (bytes ++ rest)) ≡ drop 1 (lines_in rest)
+lines_in-passed [] rest none = refl
+lines_in-passed (b ∷ bytes) rest none =
+    ap (drop 1) (lines_in-byte b (bytes ++ rest) (All-head (λ b. b ≢ 10) b bytes none)) ∙ begun b (lines_in (bytes ++ rest))
+    ∙ lines_in-passed bytes rest (All-tail (λ b. b ≢ 10) b bytes none)
+  where
+    begun : (b : ℕ) (lines : List (List ℕ)) → drop 1 (onto_first b lines) ≡ drop 1 lines
+    begun b [] = refl
+    begun b (line ∷ lines) = refl
+
 -- a text whose first line is longer than this front of it
 pub record IsLonger (front text : List ℕ) : Type 0 where
   pub line : List ℕ

@@ -1,48 +1,52 @@
--- Outside the headline. What contracts see of the lines of a reader.
-use Rattle.std.specs.Prelude.{◌≡◌, ◌≢◌, ℕ, ◌<◌, ◌≤◌, List, [], ◌∷◌, ◌++◌, length, take, All, Option, Some, option_map, IfSome}
-use Rattle.std.specs.Io.KnownBytes.{Consumes, IsAtEnd}
-use Rattle.eg_lines.specs.Lines.{lines_in}
+-- Outside the headline. What a source of lines over a reader has left, and what it makes of the pieces that
+-- the reader shows.
+use Rattle.std.specs.Prelude.{◌≡◌, ℕ, Bool, true, false, List, [], ◌∷◌, ◌++◌, take, drop, Option, Some, None, option_map, IfSome, if◌then◌else◌}
+use Rattle.eg_lines.specs.Lines.{ShownLines, lines_in}
 use Rattle.eg_lines.specs.declared.read_lines.Piece.{Piece}
-use Rattle.eg_lines.specs.declared.read_lines.Piece.TheVariants.{Part, Last, End}
+use Rattle.eg_lines.specs.declared.read_lines.Piece.TheVariants.{Part, Line, Cut, End}
 
--- the reader, and how many faults it has met
-pub record ReaderState (R : Type 0) : Type 0 where
-  pub reader : R
+-- the lines that are still to come, where the reader tells its bytes; whether contracts are told of them; and
+-- how many faults were met
+pub record ReaderState : Type 0 where
+  pub lines : Option (List (List ℕ))
+  pub is_told : Bool
   pub faults : ℕ
 
--- a text begins with this line: a reader of the text has its other lines left, or what stands behind `most`
--- bytes of it where it is longer
-abbrev pub TakesLine : ℕ → List ℕ → List ℕ → Option (List ℕ) → Type 0
-TakesLine most text line left =
-    (lines : List (List ℕ)) × (lines_in text ≡ line ∷ lines)
-    × (length line ≤ most → option_map lines_in left ≡ Some lines)
-    × (most < length line → Consumes (Some text) left (take most line))
+-- what a source over a reader shows: it isn't sure
+abbrev pub shown_by : ReaderState → ShownLines
+shown_by state =
+    record { lines = if state.is_told then state.lines else None; faults = state.faults; sure = false }
 
--- the buffer got the first `most` bytes of a line, or all where it is shorter; where the reader tells its
--- bytes, the line is the first of them
-abbrev pub ReadsLine : ℕ → Option (List ℕ) → Option (List ℕ) → List ℕ → List ℕ → Type 0
-ReadsLine most before now old new =
-    (line : List ℕ) × (new ≡ old ++ take most line) × IfSome before (λ text. TakesLine most text line now)
+-- The lines of what was taken of the next line, and isn't given yet, and of what the reader has left, where
+-- it tells that. Where the reader stands within a line of which the first bytes were given, that line is left
+-- out.
+abbrev pub lines_left : (begun : List ℕ) → (is_within : Bool) → Option (List ℕ) → Option (List (List ℕ))
+lines_left begun is_within left =
+    option_map (λ bytes. if is_within then drop 1 (lines_in bytes) else lines_in (begun ++ bytes)) left
 
--- what the reader lost stands in the buffer, behind what that held
-abbrev pub MovesBytes : Option (List ℕ) → Option (List ℕ) → List ℕ → List ℕ → Type 0
-MovesBytes before now old new = (bytes : List ℕ) × (new ≡ old ++ bytes) × Consumes before now bytes
+-- where the lines are known they stay as they were
+abbrev pub KeepsLines : Option (List (List ℕ)) → Option (List (List ℕ)) → Type 0
+KeepsLines before now = IfSome before (λ lines. now ≡ Some lines)
 
--- where a reader tells its bytes, those it lost are a line's last that were asked for: a line feed stood
--- behind them, and is gone too; or they are as many as there was room for, and the line goes on
-abbrev pub EndsLine : ℕ → Option (List ℕ) → Option (List ℕ) → List ℕ → Type 0
-EndsLine room before now bytes = IfSome before (λ text.
-    (next : ℕ) × (rest : List ℕ) × (text ≡ bytes ++ next ∷ rest)
-    × (next ≡ 10 → now ≡ Some rest)
-    × (next ≢ 10 → (length bytes ≡ room) × (now ≡ Some (next ∷ rest))))
+-- the buffer got the first `most` bytes of a line, or all where it is shorter; where the lines are known,
+-- that is the first of them, and the others are still to come
+abbrev pub GivesLine : ℕ → Option (List (List ℕ)) → Option (List (List ℕ)) → List ℕ → List ℕ → Type 0
+GivesLine most before now old new = (line : List ℕ) × (new ≡ old ++ take most line)
+    × IfSome before (λ lines. option_map (λ rest. line ∷ rest) now ≡ Some lines)
 
--- what a reader lost at once of a line of which there is room for so many bytes
-abbrev pub LosesPiece : ℕ → Option (List ℕ) → Option (List ℕ) → Piece → List ℕ → Type 0
-LosesPiece room before now (Part count) bytes = (length bytes ≡ count) × Consumes before now bytes
-LosesPiece room before now Last bytes = EndsLine room before now bytes
-LosesPiece room before now End bytes = (bytes ≡ []) × IsAtEnd before × Consumes before now []
+-- where the lines are known none was left, and the buffer is as it was
+abbrev pub HasEnded : Option (List (List ℕ)) → Option (List (List ℕ)) → List ℕ → List ℕ → Type 0
+HasEnded before now old new = IfSome before (λ lines. lines ≡ []) × KeepsLines before now × (new ≡ old)
 
--- the buffer got bytes of one line that there is room for, and the reader lost them
-abbrev pub TakesPiece : ℕ → Option (List ℕ) → Option (List ℕ) → Piece → List ℕ → List ℕ → Type 0
-TakesPiece room before now piece old new = (bytes : List ℕ) × (new ≡ old ++ bytes) × (length bytes ≤ room)
-    × All (λ byte. byte ≢ 10) bytes × LosesPiece room before now piece bytes
+-- what was made of a piece that the reader showed
+abbrev pub ReadsPiece :
+    ℕ → Option (List (List ℕ)) → Option (List (List ℕ)) → Piece → List ℕ → List ℕ → Type 0
+ReadsPiece most before now Part old new = KeepsLines before now × (new ≡ old)
+ReadsPiece most before now Line old new = GivesLine most before now old new
+ReadsPiece most before now Cut old new = GivesLine most before now old new
+ReadsPiece most before now End old new = HasEnded before now old new
+
+-- the line goes on behind the bytes that were given
+abbrev pub is_cut : Piece → Bool
+is_cut Cut = true
+is_cut _ = false

@@ -2,8 +2,8 @@
 //!
 //! Contracts see a source of `Lines` through what it shows: the lines still to come, where they are told; how
 //! many faults it has met; and whether it is sure, so that reading never fails. The program runs over
-//! `ReadLines`, whose lines no contract can tell. Tests and theorems run over the two sources that stand in
-//! memory.
+//! `ReadLines`, which shows the lines of a reader that tells its bytes: one over the system tells none. Tests
+//! and theorems also run over the two sources that stand in memory.
 #![tactic(auto)]
 
 mod lines;

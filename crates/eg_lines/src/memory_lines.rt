@@ -1,6 +1,6 @@
 // Lines in memory, of which a chosen read fails.
-ghost use Rattle.std.specs.Prelude.{◌≡◌, ◌≤◌, ◌↔◌, Some, None, false, IsTrue, IfOk, OnErr, IsErrOf};
-ghost use Rattle.eg_base.specs.declared.store.ReadRefusal.TheVariants.{Failed};
+ghost use Rattle.std.specs.Prelude.{◌≡◌, ◌<◌, ◌≤◌, ◌+◌, ◌↔◌, vec_len, vec_capacity, Some, None, false, IsTrue, IfOk, OnErr, IsErrOf};
+ghost use Rattle.eg_base.specs.declared.store.ReadRefusal.TheVariants.{Failed, Memory};
 ghost use Rattle.eg_lines.specs.Sources.{LinesState, next_fails, after_next, Gives};
 ghost use Rattle.eg_lines.specs.Lines.{lines_in};
 
@@ -84,6 +84,9 @@ impl Lines for MemoryLines {
         ensures failed { IsErrOf result Failed ↔ IsTrue (next_fails self.old) }
         ensures state { self.new ≡ after_next self.old self.new.lines }
         ensures count { self.old.faults ≤ self.new.faults }
+
+        // Memory runs out only for a buffer without room for `most` bytes.
+        ensures full { IsErrOf result Memory → vec_capacity into.old < vec_len into.old + most }
 
         // What is left, and what the buffer holds afterwards.
         ensures given { IfOk result

@@ -1,5 +1,5 @@
 // Lines in memory that are sure.
-ghost use Rattle.std.specs.Prelude.{◌≡◌, Some, true, IfOk, OnErr, IsOkUnless};
+ghost use Rattle.std.specs.Prelude.{◌≡◌, ◌<◌, ◌+◌, vec_len, vec_capacity, Some, true, IfOk, OnErr, IsOkUnless};
 ghost use Rattle.eg_base.specs.declared.store.ReadRefusal.TheVariants.{Memory};
 ghost use Rattle.eg_lines.specs.Sources.{Gives};
 ghost use Rattle.eg_lines.specs.Lines.{lines_in};
@@ -42,8 +42,10 @@ impl Lines for SureLines {
     ghost shows = { λ s. record { lines = Some s; faults = 0; sure = true } };
 
     fn next(&mut self, most: usize, into: &mut Vec<u8>) -> Result<bool, ReadRefusal>
-        // Refused only where memory runs out, and nothing changes then.
+        // Refused only where memory runs out, for a buffer without room for `most` bytes, and nothing changes
+        // then.
         ensures refused { IsOkUnless result Memory }
+        ensures full { OnErr result (vec_capacity into.old < vec_len into.old + most) }
         ensures given { IfOk result
             (λ came. Gives most self.old came self.new into.old.items into.new.items) }
         ensures kept { OnErr result (self.new ≡ self.old) }

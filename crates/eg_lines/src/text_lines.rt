@@ -1,5 +1,5 @@
 // The lines that the two sources in memory hold.
-ghost use Rattle.std.specs.Prelude.{◌≡◌, ◌≢◌, ◌<◌, ◌≤◌, length, take, slice_index, All, IfOk, OnErr, IsOkUnless, vec_items};
+ghost use Rattle.std.specs.Prelude.{◌≡◌, ◌≢◌, ◌<◌, ◌≤◌, length, take, slice_index, All, IfOk, OnErr, IsOkUnless, vec_items, vec_len, vec_capacity, ◌+◌};
 ghost use Rattle.eg_base.specs.declared.store.ReadRefusal.TheVariants.{Memory};
 ghost use Rattle.eg_lines.specs.Sources.{Gives};
 ghost use Rattle.eg_lines.specs.Lines.{lines_in};
@@ -35,9 +35,10 @@ impl TextLines {
     }
 
     /// Appends the first `most` bytes of the next line to `into`, or all where it is shorter. Answers whether
-    /// there was a line. Refused only where memory runs out.
+    /// there was a line. Refused only where memory runs out, for a buffer without room for `most` bytes.
     pub(crate) fn next(&mut self, most: usize, into: &mut Vec<u8>) -> Result<bool, ReadRefusal>
         ensures refused { IsOkUnless result Memory }
+        ensures full { OnErr result (vec_capacity into.old < vec_len into.old + most) }
         ensures given { IfOk result
             (λ came. Gives most self.old came self.new into.old.items into.new.items) }
         ensures kept { OnErr result (self.new ≡ self.old) }

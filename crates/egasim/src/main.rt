@@ -46,7 +46,7 @@ fn main(rt: HostRuntime) -> ExitCode {
             put_note(alloc, &Outcome::Memory, "", &mut notes);
             return ExitCode::from(NO_MEMORY);
         };
-        let mut lines = ReadLines::new(input);
+        let mut lines = ReadLines::new(alloc, input);
         egasim_on_lines(
             alloc, &words, &mut store, &mut lines, &mut out, &mut notes, &mut steps,
         )
