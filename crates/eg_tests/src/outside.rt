@@ -1,4 +1,4 @@
-// An output over a stream that takes little, or refuses to flush.
+// An output over a stream that takes little, or refuses to flush, and one over a vector.
 use eg_base::{Sink, StdSink};
 use std::io::{self, ErrorKind, Write};
 
@@ -37,4 +37,13 @@ fn each_refusal_of_a_stream_is_told(rt: HostRuntime) {
     assert!(rt; put_seven(8, true) == (true, 1));
     assert!(rt; put_seven(5, true) == (false, 0));
     assert!(rt; put_seven(8, false) == (false, 1));
+}
+
+#[test]
+fn a_vector_holds_what_is_put(rt: HostRuntime) {
+    let mut bytes = Vec::new(rt.alloc());
+    let mut out = StdSink::told(&mut bytes);
+    assert!(rt; out.put(b"ab").is_ok() && out.put(b"c").is_ok());
+    drop(out);
+    assert!(rt; bytes.as_slice() == b"abc".as_slice());
 }
