@@ -1,7 +1,8 @@
 // The lines that a command reads one by one, and what it puts between them.
-ghost use Rattle.std.specs.Prelude.{◌≡◌};
+ghost use Rattle.std.specs.Prelude.{◌≡◌, IsTrue, IsErrOf};
 ghost use Rattle.eg_outcome.specs.Changes.{change_of};
 ghost use Rattle.eg_outcome.specs.Lines.{LineComes, LinePut, end_of};
+ghost use Rattle.eg_outcome.specs.declared.outcome.Outcome.TheVariants.{Memory};
 
 use crate::{Outcome, Role, put_line};
 use eg_base::{ReadRefusal, Sink};
@@ -23,7 +24,11 @@ pub fn next_line<L: Lines>(most: usize, lines: &mut L, line: &mut Vec<u8>) -> Re
 
 /// Puts a line, as `put_line` does, or answers how the call ends where it is refused.
 pub fn put_or_end<K: Sink>(line: &[u8], out: &mut K) -> Result<(), Outcome>
-    ensures { LinePut line.now (change_of K.shows out.old out.new) result }
+    ensures put { LinePut line.now (change_of K.shows out.old out.new) result }
+
+    // Memory doesn't run out over a sure output, which stays so.
+    ensures sure { IsTrue (K.shows out.old).sure → ¬ IsErrOf result Memory }
+    ensures stays_sure { (K.shows out.new).sure ≡ (K.shows out.old).sure }
 {
     match put_line(line, out) {
         Outcome::Done => Ok(()),

@@ -31,14 +31,14 @@ returns-in_err-put_or_end g c =
     let unit : CoupledUnit = unit_of c.args.calibration.now c.args.input.now in
     ends-as unit _ c.from_residual.result _ c.from_residual.ensures.1
     (header-refused unit c.rules.ensures.accepted c.requires.fault _ _ _ c.as_bytes.result.now _ _ _ made
-    (c.as_bytes.ensures.value ∙ c.coupled_header.ensures) c.in_err-put_or_end.ensures)
+    (c.as_bytes.ensures.value ∙ c.coupled_header.ensures) c.in_err-put_or_end.ensures.put)
 
 pub returns-in_err-put_first : goal.returns-in_err-put_first
 returns-in_err-put_first g c =
     let had = g.K.Sink.shows c.args.out.now in
     let made = begun c.args.calibration.now c.args.input.now c.coupled_controller-controller.result (g.L.Lines.shows c.args.lines.now) c.args.steps.now c.count.result c.sum.result
     c.coupled_controller-controller.ensures c.count.ensures c.count.type_inv c.sum.ensures c.sum.type_inv in
-    let header = header-put c.as_bytes.result.now had (g.K.Sink.shows c.put_or_end.new.out) (c.as_bytes.ensures.value ∙ c.coupled_header.ensures) c.in_ok-put_or_end.ensures in
+    let header = header-put c.as_bytes.result.now had (g.K.Sink.shows c.put_or_end.new.out) (c.as_bytes.ensures.value ∙ c.coupled_header.ensures) c.in_ok-put_or_end.ensures.put in
     let unit : CoupledUnit = unit_of c.args.calibration.now c.args.input.now in
     ends-as unit _ c.from_residual-in_err-put_first.result _ c.from_residual-in_err-put_first.ensures.1
     (first-refused unit c.rules.ensures.accepted c.requires.fault _ _ _ c.next_commands-told.result _ _ _ _ made header
@@ -49,7 +49,7 @@ loop-taken-init g c =
     let had = g.K.Sink.shows c.args.out.now in
     let made = begun c.args.calibration.now c.args.input.now c.coupled_controller-controller.result (g.L.Lines.shows c.args.lines.now) c.args.steps.now c.count.result c.sum.result
     c.coupled_controller-controller.ensures c.count.ensures c.count.type_inv c.sum.ensures c.sum.type_inv in
-    let header = header-put c.as_bytes.result.now had (g.K.Sink.shows c.put_or_end.new.out) (c.as_bytes.ensures.value ∙ c.coupled_header.ensures) c.in_ok-put_or_end.ensures in
+    let header = header-put c.as_bytes.result.now had (g.K.Sink.shows c.put_or_end.new.out) (c.as_bytes.ensures.value ∙ c.coupled_header.ensures) c.in_ok-put_or_end.ensures.put in
     let unit : CoupledUnit = unit_of c.args.calibration.now c.args.input.now in (
       [],
       made,

@@ -30,7 +30,7 @@ returns-in_err-put_or_end g c =
     handed_on c.from_residual-in_err-put_or_end.result c.in_err-put_or_end.field-0.0
     (λ result. StreamEnds (signals_writes c.args.calibration.now) (change began (lines c.begin.new.lines)) (change had (out c.put_or_end.new.out)) (end_of result))
     c.from_residual-in_err-put_or_end.ensures.1
-    (header-refused c.args.calibration.now c.in_ok-recording.recording c.as_bytes.result.now _ _ _ (search rules) c.in_ok-recording.ensures c.in_err-put_or_end.ensures)
+    (header-refused c.args.calibration.now c.in_ok-recording.recording c.as_bytes.result.now _ _ _ (search rules) c.in_ok-recording.ensures c.in_err-put_or_end.ensures.put)
 
 pub loop-tick-init : goal.loop-tick-init
 loop-tick-init g c =
@@ -41,7 +41,7 @@ loop-tick-init g c =
     let cal = c.args.calibration.now in (
       [],
       read-first cal c.in_ok-recording.recording c.new-replay.result began (lines c.begin.new.lines) c.in_ok-recording.ensures c.new-replay.ensures.cal c.new-replay.ensures.stands,
-      header-written cal c.as_bytes.result.now had (out c.put_or_end.new.out) (search rules) c.in_ok-put_or_end.ensures,
+      header-written cal c.as_bytes.result.now had (out c.put_or_end.new.out) (search rules) c.in_ok-put_or_end.ensures.put,
     )
 
 pub returns-in_err-recorded : goal.returns-in_err-recorded
