@@ -4,4 +4,5 @@ pub mod ReadLemmas
 pub mod AgreeLemmas
 pub mod AgreeRuns
 pub mod OrderLemmas
+pub mod BytesLemmas
 mod Worked

@@ -4,3 +4,4 @@ pub mod Agreement
 pub mod Streams
 pub mod Reading
 pub mod Order
+pub mod Bytes
