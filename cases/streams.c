@@ -1,4 +1,4 @@
-// Makes the system's calls for reading and writing go otherwise than they would. It is loaded before the C library
+// Makes calls for reading, writing and memory go otherwise than they would. It is loaded before the C library
 // (LD_PRELOAD), counts the reads and the writes of the program, the first being 1, and is told by the environment what
 // to do:
 //   READ_AT=N, RUN=COMMAND    just before the N-th read, this command of the shell is done
@@ -6,6 +6,7 @@
 //                             where ONCE is set too, the N-th alone
 //   READ_MOST=K               each read gives K bytes at most
 //   WRITE_AT=N, WRITE_ERROR=E, ONCE, WRITE_MOST=K    likewise
+//   MEMORY_AT=N               the N-th request for memory is refused, and so are the later ones
 #include <errno.h>
 #include <stdlib.h>
 #include <sys/syscall.h>
@@ -16,7 +17,10 @@ static long number(const char *name) {
     return text ? atol(text) : 0;
 }
 
-static long reads, writes;
+static long reads, writes, requests;
+
+extern void *__libc_malloc(size_t size);
+extern void *__libc_realloc(void *old, size_t size);
 
 // Whether this call fails, with its error.
 static int fails(const char *at, const char *error, long count) {
@@ -55,4 +59,17 @@ ssize_t write(int file, const void *bytes, size_t count) {
         return -1;
     }
     return syscall(SYS_write, file, bytes, at_most("WRITE_MOST", count));
+}
+
+static int is_refused(void) {
+    long at = number("MEMORY_AT");
+    return at != 0 && ++requests >= at;
+}
+
+void *malloc(size_t size) {
+    return is_refused() ? NULL : __libc_malloc(size);
+}
+
+void *realloc(void *old, size_t size) {
+    return is_refused() ? NULL : __libc_realloc(old, size);
 }
