@@ -1,6 +1,7 @@
 -- A long line is no header and writes nothing, so that a front of it gives what the line gives.
 use Rattle.std.proofs.Common.{◌≡◌, ◌∙◌, sym, ap, refl, ℕ, ◌+◌, ◌-◌, ◌*◌, ◌<◌, ◌≤◌, List, [], ◌∷◌, ◌++◌, length, take, drop, Bool, false, arith, Option, Some, None, inl, inr}
-use Rattle.std.specs.Prelude.{◌==◌, codes}
+use Rattle.std.specs.Prelude.{◌==◌, codes, IsSome}
+use Rattle.csv.specs.Records.{field_at}
 use Rattle.std.specs.Str.{bytes_eq}
 use Rattle.std.specs.List.{slice_split, onto_first, sum_by}
 use Rattle.std.proofs.lemmas.Bool.{cases_Bool, cases_lt}
@@ -9,8 +10,9 @@ use Rattle.std.proofs.lemmas.List.{take_all, length-take}
 use Rattle.std.proofs.lemmas.List.Sums.{sum_by-cons}
 use Rattle.std.proofs.lemmas.List.Splits.{slice_split-cons_yes, slice_split-cons_no, length-slice_split}
 use Rattle.std.proofs.lemmas.Slice.Eq.{bytes_eq-Decides}
-use Rattle.eg_input.specs.Fields.{number_of, truth_of}
-use Rattle.eg_readings.specs.Answering.{answer_of}
+use Rattle.eg_input.specs.Fields.{decimal_value, number_of, number_at, truth_of, truth_at}
+use Rattle.eg_input.specs.DriveTrace.{drive_from, drive_at}
+use Rattle.eg_readings.specs.Answering.{shown_from, shown_at, answer_from, answer_at, answer_of}
 use Rattle.eg_readings.specs.declared.answered.Answer.{Answer}
 use Rattle.eg_readings.proofs.AnswerLemmas.{said_first, said_last, made, row, from_pedal, from_speed, from_raise, from_reset, from_brake, from_position, from_load_1, from_load_2, from_torque, from_line}
 use Rattle.eg_readings.specs.Recording.{before_return, header, columns_of, fields_of, all_numbers, numbers_of, recorded_of}
@@ -103,6 +105,11 @@ recorded_of-seen columns = seen 80 (recorded_of columns) (recorded_of-long colum
 pub columns_of-seen : (line : List ℕ) (n : ℕ) → 80 < n → columns_of (take n line) ≡ columns_of line
 columns_of-seen = seen 80 columns_of columns_of-long
 
+-- the longest header has as many bytes as are read
+pub longest_header : (line : List ℕ) × (length line ≡ 80) × (columns_of line ≡ Some columns.WithBrake)
+unfolding before_return header columns_of
+longest_header = (header ++ codes ",brake1,brake2\r", refl, refl)
+
 -- ---- answers ----
 
 -- a field that writes a truth value has one byte
@@ -169,3 +176,8 @@ answer_of-long line long = at (answer_of line) refl
 
 pub answer_of-seen : (line : List ℕ) (n : ℕ) → 46 < n → answer_of (take n line) ≡ answer_of line
 answer_of-seen = seen 46 answer_of answer_of-long
+
+-- the longest answer has as many bytes as are read
+pub longest_answer : (line : List ℕ) × (length line ≡ 46) × IsSome (answer_of line)
+unfolding field_at decimal_value number_of number_at truth_of truth_at drive_from drive_at before_return fields_of shown_from shown_at answer_from answer_at answer_of
+longest_answer = (codes "01000,08000,10000,0,0,01000,65535,65535,65535\r", refl, refl)

@@ -1,5 +1,5 @@
 // What a partner answers at one tick.
-ghost use Rattle.std.specs.Prelude.{◌≡◌, ◌<◌, ℕ, List, length, take, None, option_map};
+ghost use Rattle.std.specs.Prelude.{◌≡◌, ◌<◌, ℕ, List, length, take, None, option_map, IsSome};
 ghost use Rattle.eg_input.specs.Fields.{number_of, truth_of};
 ghost use Rattle.eg_readings.specs.Answering.{answer_of};
 ghost use Rattle.eg_readings.specs.Reading.{found_now, first_said};
@@ -81,10 +81,11 @@ fn truth(field: &[u8]) -> Option<bool>
 }
 
 /// Does nothing when it runs. Its clauses are laws of what `answer_of` says of a line: one of more than
-/// `MOST_ANSWER_BYTES` bytes answers nothing, and a front of more bytes than that gives what the line
-/// gives. So who reads a line need take no more than one byte beyond them.
+/// `MOST_ANSWER_BYTES` bytes answers nothing, one of so many answers, and a front of more gives what the line
+/// gives. So who reads a line need take no more than one byte beyond them, and no fewer.
 pub fn long_lines_answer_nothing()
     ensures none { (line : List ℕ) → MOST_ANSWER_BYTES < length line → answer_of line ≡ None }
+    ensures longest { (line : List ℕ) × (length line ≡ MOST_ANSWER_BYTES) × IsSome (answer_of line) }
     ensures seen { (line : List ℕ) (n : ℕ) → MOST_ANSWER_BYTES < n →
         answer_of (take n line) ≡ answer_of line }
 {}

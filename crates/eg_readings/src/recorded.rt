@@ -1,7 +1,8 @@
 // What was recorded of one tick.
-ghost use Rattle.std.specs.Prelude.{◌≡◌, ◌≤◌, ◌<◌, ◌+◌, ℕ, List, length, take, None};
+ghost use Rattle.std.specs.Prelude.{◌≡◌, ◌≤◌, ◌<◌, ◌+◌, ℕ, List, length, take, None, Some};
 ghost use Rattle.eg_readings.specs.Recording.{columns_of, readings_from, recorded_of};
 ghost use Rattle.eg_readings.specs.declared.columns.Columns.{Columns as SomeColumns};
+ghost use Rattle.eg_readings.specs.declared.columns.Columns.TheVariants.{WithBrake};
 ghost use Rattle.eg_readings.specs.declared.recorded.TheConstants.{MOST_BYTES};
 
 use crate::Columns;
@@ -66,12 +67,14 @@ fn readings<const N: usize>(numbers: &[u16; N]) -> Readings
 }
 
 /// Does nothing when it runs. Its clauses are laws of what `columns_of` and `recorded_of` say of a line: one
-/// of more than `MOST_BYTES` bytes is no header and writes nothing, and a front of more than `MOST_BYTES`
-/// bytes gives what the line gives. So who reads a line need take no more than one byte beyond them.
+/// of more than `MOST_BYTES` bytes is no header and writes nothing, one of so many is a header, and a front of
+/// more gives what the line gives. So who reads a line need take no more than one byte beyond them, and no
+/// fewer.
 pub fn long_lines_write_nothing()
     ensures header { (line : List ℕ) → MOST_BYTES < length line → columns_of line ≡ None }
     ensures tick { (columns : SomeColumns) (line : List ℕ) → MOST_BYTES < length line →
         recorded_of columns line ≡ None }
+    ensures longest { (line : List ℕ) × (length line ≡ MOST_BYTES) × (columns_of line ≡ Some WithBrake) }
     ensures seen_header { (line : List ℕ) (n : ℕ) → MOST_BYTES < n →
         columns_of (take n line) ≡ columns_of line }
     ensures seen_tick { (columns : SomeColumns) (line : List ℕ) (n : ℕ) → MOST_BYTES < n →
