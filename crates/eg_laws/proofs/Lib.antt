@@ -19,5 +19,6 @@ pub mod BurstRows
 pub mod BurstRuns
 pub mod PeakLaws
 pub mod LimitLaws
+pub mod WordLaws
 pub mod SeenExcess
 pub mod PathLaws

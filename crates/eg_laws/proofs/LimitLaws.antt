@@ -34,12 +34,12 @@ use Rattle.eg_laws.proofs.StretchRows.{records_end_stretches, records_end_stretc
 -- ---- the rows with an excess up to the last one ----
 
 -- of these rows the last ones have an excess, as many as last
-record Lasting (threshold : ℕ) (rows : List Row) : Type 0 where
-  stretch : List Row
-  before : List Row
-  is : rows ≡ stretch ++ before
-  excess : AllExcess threshold stretch
-  size : lasting threshold rows ≡ length stretch
+pub record Lasting (threshold : ℕ) (rows : List Row) : Type 0 where
+  pub stretch : List Row
+  pub before : List Row
+  pub is : rows ≡ stretch ++ before
+  pub excess : AllExcess threshold stretch
+  pub size : lasting threshold rows ≡ length stretch
 
 module _ (t : ℕ) where
   none_lasts : (rows : List Row) → lasting t rows ≡ 0 → Lasting t rows
@@ -51,7 +51,7 @@ module _ (t : ℕ) where
     size = none;
   }
 
-  lasting_rows : (rows : List Row) → Lasting t rows
+  pub lasting_rows : (rows : List Row) → Lasting t rows
   unfolding lasting
   lasting_rows [] = none_lasts [] refl
   lasting_rows (row ∷ before) = elim (cases_Bool (true_excess t row)) [

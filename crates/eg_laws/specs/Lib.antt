@@ -2,6 +2,7 @@ pub mod LeastReaction
 pub mod LeastLapse
 pub mod Stretches
 pub mod Limits
+pub mod InWords
 pub mod Bursts
 pub mod FaultyBursts
 pub mod Seeing

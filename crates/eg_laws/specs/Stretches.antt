@@ -105,10 +105,14 @@ abbrev pub AllExcess : (threshold : ℕ) → List Row → Type 0
 AllExcess threshold stretch = All (λ row. true_excess threshold row ≡ true) stretch
 
 -- where there is true excess at each of some consecutive rows, these are `longest` rows at most
-abbrev pub RowsEndStretches : (threshold longest start : ℕ) → List Row → Type 0
-RowsEndStretches threshold longest start rows =
+abbrev pub LastsAtMost : (threshold longest : ℕ) → List Row → Type 0
+LastsAtMost threshold longest rows =
     (later stretch before : List Row) → rows ≡ later ++ (stretch ++ before) → AllExcess threshold stretch →
     length stretch ≤ longest
+
+-- so it is in the rows of a drive span
+abbrev pub RowsEndStretches : (threshold longest start : ℕ) → List Row → Type 0
+RowsEndStretches threshold longest start rows = LastsAtMost threshold longest rows
 
 -- so it is where the reaction is at once when the excess is confirmed
 abbrev pub RowsEndStretchesAtOnce :
