@@ -2,7 +2,11 @@
 -- lines.
 use Rattle.std.specs.Prelude.{ℕ, List, Result}
 use Rattle.eg_input.specs.Images.{image_words}
+use Rattle.eg_input.specs.declared.fault.ImageFault.{ImageFault}
+use Rattle.eg_input.specs.declared.fault.ImageFault.TheVariants as image_fault
 use Rattle.eg_outcome.specs.Reads.{refused, sized}
+use Rattle.eg_outcome.specs.declared.outcome.Outcome.{Outcome}
+use Rattle.eg_outcome.specs.declared.outcome.Outcome.TheVariants as outcome
 use Rattle.eg_outcome.specs.declared.outcome.Refusal.{Refusal}
 use Rattle.eg_outcome.specs.declared.outcome.Refusal.TheVariants as refusal
 use Rattle.eg_outcome.specs.declared.outcome.Role.TheVariants as role
@@ -10,6 +14,11 @@ use Rattle.eg_outcome.specs.declared.outcome.Role.TheVariants as role
 -- the words that the bytes of the image of run n say, or why they are refused
 abbrev pub image_or_refusal : ℕ → List ℕ → Result (List ℕ) Refusal
 image_or_refusal n bytes = refused (refusal.Image n) (image_words bytes)
+
+-- how a call ends with a fault of the image of run n: running out of memory is no refusal
+abbrev pub image_end : ℕ → ImageFault → Outcome
+image_end n image_fault.Memory = outcome.Memory
+image_end n fault = outcome.Refused (refusal.Image n fault)
 
 -- the words of the image of run n, or its first refusal
 abbrev pub image_file : ℕ → List ℕ → Result (List ℕ) Refusal

@@ -2,7 +2,8 @@
 ghost use Rattle.std.specs.Prelude.{◌≡◌};
 ghost use Rattle.eg_outcome.specs.Changes.{change_of};
 ghost use Rattle.eg_outcome.specs.Files.{is_too_long};
-ghost use Rattle.eg_outcome.specs.Reads.{KeepsFiles, ReadsFile, Says, whole};
+ghost use Rattle.eg_outcome.specs.Reads.{KeepsFiles, ReadsFile, Says, refused, whole};
+ghost use Rattle.eg_outcome.specs.declared.outcome.Outcome.TheVariants.{Refused};
 
 use crate::{Outcome, Refusal, Role};
 use eg_base::{Items, ReadRefusal, Store};
@@ -30,9 +31,10 @@ pub fn file_bytes<S: Store>(
     }
 }
 
-/// These bytes of a file, unless they are more than it may have.
+/// These bytes of a file, unless they are more than it may have. No memory is taken.
 fn within(role: Role, bytes: Vec<u8>) -> Result<Items<u8>, Outcome>
-    ensures { Says (whole role) bytes.items result }
+    ensures exact { result ≡ refused Refused (whole role bytes.items) }
+    ensures says { Says (whole role) bytes.items result }
 {
     if is_too_long(&bytes) {
         return Err(Outcome::Refused(Refusal::Size { file: role }));

@@ -1,7 +1,7 @@
 // The words of an image.
-ghost use Rattle.std.specs.Prelude.{◌≤◌, length, IfOk};
+ghost use Rattle.std.specs.Prelude.{◌≡◌, ◌≤◌, length, IfOk};
 ghost use Rattle.eg_input.specs.declared.image.TheConstants.{MOST_WORDS};
-ghost use Rattle.eg_outcome.specs.Images.{image_or_refusal};
+ghost use Rattle.eg_outcome.specs.Images.{image_end, image_or_refusal};
 ghost use Rattle.eg_outcome.specs.Reads.{Says};
 
 use crate::{Outcome, Refusal};
@@ -17,7 +17,17 @@ pub fn image_in(alloc: Global, run: u32, bytes: &[u8]) -> Result<Items<u16>, Out
 {
     match read_image(alloc, bytes) {
         Ok(words) => Ok(Items::new(words)),
-        Err(ImageFault::Memory) => Err(Outcome::Memory),
-        Err(fault) => Err(Outcome::Refused(Refusal::Image { run, fault })),
+        Err(fault) => Err(image_end(run, fault)),
+    }
+}
+
+/// How a call ends with a fault of the image of a run: Memory comes only where the reader says so
+/// (docs/FORMATS.md, "Outcomes").
+fn image_end(run: u32, fault: ImageFault) -> Outcome
+    ensures { result ≡ image_end run fault }
+{
+    match fault {
+        ImageFault::Memory => Outcome::Memory,
+        fault => Outcome::Refused(Refusal::Image { run, fault }),
     }
 }
