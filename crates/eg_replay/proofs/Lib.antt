@@ -1,5 +1,6 @@
 pub mod TellLemmas
 pub mod RunLemmas
+pub mod BeginLemmas
 pub mod ReadLemmas
 pub mod AgreeLemmas
 pub mod AgreeRuns

@@ -1,5 +1,5 @@
 -- Outside the headline. How one line of a recording is read, and what comes of it.
-use Rattle.std.specs.Prelude.{◌≡◌, ◌⊎◌, ℕ, ◌+◌, ◌≤◌, List, [], ◌∷◌, length, Option, Some, None, Result, Ok, Err}
+use Rattle.std.specs.Prelude.{◌≡◌, ◌⊎◌, ℕ, ◌+◌, ◌≤◌, Bool, true, false, List, [], ◌∷◌, length, Option, Some, None, Result, Ok, Err}
 use Rattle.eg_base.specs.Outside.{ShownSink}
 use Rattle.eg_lines.specs.Lines.{ShownLines}
 use Rattle.eg_input.specs.declared.fault.TraceFault.TheVariants as fault
@@ -31,6 +31,17 @@ RecordingBegins lines (Ok recording) =
 RecordingBegins lines (Err end) =
     ((end ≡ outcome.Refused (refusal.Check fault.Header)) × NoHeaderComes lines × ReadsWell lines)
     ⊎ NoLineComes lines end
+
+-- The columns that a first line names, if one came, or how the call ends without them: by what came in the
+-- place of a line, or else by the fault Header, without a line too.
+abbrev pub columns_or_header : Option Columns → Result Columns Outcome
+columns_or_header (Some columns) = Ok columns
+columns_or_header None = Err (outcome.Refused (refusal.Check fault.Header))
+
+abbrev pub columns_or_end : (came : Result Bool Outcome) → Line → Result Columns Outcome
+columns_or_end (Ok true) first = columns_or_header (columns_of first)
+columns_or_end (Ok false) first = columns_or_header None
+columns_or_end (Err end) first = Err end
 
 -- the line of the tick of this number came, and writes this; or none was left; or it writes nothing, which is
 -- told with its number, the header's being 1; or none came

@@ -3,7 +3,7 @@ ghost use Rattle.std.specs.Prelude.{◌≡◌, ◌+◌, ◌<◌, ◌^◌};
 ghost use Rattle.eg_outcome.specs.Changes.{change_of};
 ghost use Rattle.eg_outcome.specs.declared.outcome.Outcome.TheVariants.{Refused};
 ghost use Rattle.eg_outcome.specs.declared.outcome.Refusal.TheVariants.{Check};
-ghost use Rattle.eg_replay.specs.Reading.{RecordingBegins, RecordingGoesOn};
+ghost use Rattle.eg_replay.specs.Reading.{columns_or_end, columns_or_header, RecordingBegins, RecordingGoesOn};
 
 use eg_input::TraceFault;
 use eg_lines::Lines;
@@ -25,12 +25,10 @@ impl Recording {
         ensures { RecordingBegins (change_of L.shows lines.old lines.new) result }
     {
         let mut line = Vec::new(alloc);
-        if !next_line(MOST_BYTES + 1, lines, &mut line)? {
-            return Err(refused(TraceFault::Header));
-        }
-        match columns_of(&line) {
-            Some(columns) => Ok(Recording { columns, line }),
-            None => Err(refused(TraceFault::Header)),
+        let came = next_line(MOST_BYTES + 1, lines, &mut line);
+        match columns_in(came, &line) {
+            Ok(columns) => Ok(Recording { columns, line }),
+            Err(end) => Err(end),
         }
     }
 
@@ -53,6 +51,28 @@ impl Recording {
             Some(recorded) => Ok(Some(recorded)),
             None => Err(refused(TraceFault::Row { line: tick + 2 })),
         }
+    }
+}
+
+/// The columns that the first line names, if one came, or how the call ends without them: Memory comes only
+/// with what came (docs/FORMATS.md, "Outcomes").
+fn columns_in(came: Result<bool, Outcome>, line: &[u8]) -> Result<Columns, Outcome>
+    ensures { result ≡ columns_or_end came line.now }
+{
+    match came {
+        Ok(true) => columns_or_header(columns_of(line)),
+        Ok(false) => columns_or_header(None),
+        Err(end) => Err(end),
+    }
+}
+
+/// These columns, or the fault Header where there are none.
+fn columns_or_header(columns: Option<Columns>) -> Result<Columns, Outcome>
+    ensures { result ≡ columns_or_header columns }
+{
+    match columns {
+        Some(columns) => Ok(columns),
+        None => Err(refused(TraceFault::Header)),
     }
 }
 

@@ -1,22 +1,20 @@
-use Rattle.std.proofs.Common.{◌≡◌, ◌∙◌, sym, inl, inr, true, None, Some, arith, ◌+◌, ◌<◌}
-use Rattle.std.proofs.lemmas.Grind.{common_steps}
-use Rattle.eg_outcome.proofs.ComingLemmas.{seen_line}
+use Rattle.std.proofs.Common.{◌∙◌, sym, subst, ◌+◌}
+use Rattle.eg_outcome.specs.Changes.{change_of}
+use Rattle.eg_outcome.specs.Lines.{LineComes}
 use Rattle.eg_readings.specs.declared.recorded.TheConstants.{MOST_BYTES}
-use Rattle.eg_readings.specs.Recording.{columns_of}
-use Rattle.eg_readings.proofs.LengthLaws.{columns_of-seen}
+use Rattle.eg_replay.proofs.BeginLemmas.{begins, begins_not}
 use Rattle.eg_replay.proofs.recording.Recording.begin.Goals as goal
 
-pub returns-in-Some : goal.returns-in-Some
-returns-in-Some g c =
-    let came : c.in_ok-next_line.field-0 ≡ true = grind (arith, common_steps) in
-    seen_line columns_of (MOST_BYTES + 1) _ c.next_line.new.line.items c.deref.result.now c.in_ok-next_line.field-0 (Some c.in-Some.columns)
-    (λ line. columns_of-seen line (MOST_BYTES + 1) (let few : 80 < 80 + 1 = omega arith in few)) c.in_ok-next_line.ensures came c.deref.ensures.value
-    (sym c.columns_of.ensures ∙ c.in-Some.is)
+pub returns-in-Ok : goal.returns-in-Ok
+returns-in-Ok g c =
+    let lines = change_of g.L.Lines.shows c.args.lines.now c.next_line-came.new.lines in
+    begins lines c.deref.result.now c.next_line-came.result c.in-Ok.columns
+    (subst (λ buffer. LineComes (MOST_BYTES + 1) lines buffer c.next_line-came.result) (sym c.deref.ensures.value) c.next_line-came.ensures)
+    (sym c.columns_in.ensures ∙ c.in-Ok.is)
 
-pub returns-in-None : goal.returns-in-None
-returns-in-None g c =
-    let came : c.in_ok-next_line.field-0 ≡ true = grind (arith, common_steps) in
-    let first = seen_line columns_of (MOST_BYTES + 1) _ c.next_line.new.line.items c.deref.result.now c.in_ok-next_line.field-0 None
-    (λ line. columns_of-seen line (MOST_BYTES + 1) (let few : 80 < 80 + 1 = omega arith in few)) c.in_ok-next_line.ensures came c.deref.ensures.value
-    (sym c.columns_of.ensures ∙ c.in-None.is) in
-    inl (c.refused-in-None.ensures, inr (first.0, first.1, first.2), first.3)
+pub returns-in-Err : goal.returns-in-Err
+returns-in-Err g c =
+    let lines = change_of g.L.Lines.shows c.args.lines.now c.next_line-came.new.lines in
+    begins_not lines c.deref.result.now c.next_line-came.result c.in-Err.end
+    (subst (λ buffer. LineComes (MOST_BYTES + 1) lines buffer c.next_line-came.result) (sym c.deref.ensures.value) c.next_line-came.ensures)
+    (sym c.columns_in.ensures ∙ c.in-Err.is)
