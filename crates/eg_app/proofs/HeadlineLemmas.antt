@@ -42,6 +42,7 @@ runs_tell telling calibration campaign cal plans call by says ends =
       written = told.1.plays.written.0;
       headline = told.1.plays.headline;
       within_limits = told.1.within_limits;
+      in_words = told.1.in_words;
     })
 
 -- a grid that isn't refused

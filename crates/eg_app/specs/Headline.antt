@@ -19,6 +19,7 @@ use Rattle.eg_play.specs.declared.telling.Telling.{Telling}
 use Rattle.eg_play.specs.Texts.{runs_text}
 use Rattle.eg_play.specs.Sweeping.{runs_over, table_over, swept_text}
 use Rattle.eg_play.specs.Headline.{KeepsHeadline}
+use Rattle.eg_play.specs.InWords.{TellsInWords}
 use Rattle.eg_play.specs.Ends.{TellsWithinLimits, run_named}
 use Rattle.eg_soak.specs.Soak.{drawn_runs, soak_of}
 use Rattle.eg_soak.specs.Texts.{soak_text}
@@ -43,8 +44,8 @@ AreInputs store n (plan ∷ plans) (input ∷ inputs) =
 AreInputs store n _ _ = ⊥
 
 -- Of the runs of a campaign: the files say what the runs are, the report or the rows of these runs were
--- written, each of them keeps the headline, and what `table` tells of each keeps the limits of the
--- calibration.
+-- written, and each of them keeps the headline. What `table` tells of each keeps the limits of the
+-- calibration, and what `table` and `margins` tell is what its rows show.
 pub record TellsRuns (telling : Telling) (calibration : Option (List ℕ)) (campaign : List ℕ)
     (store : ShownStore) (out : Change ShownSink) : Type 0 where
   pub cal : CalibrationParts
@@ -56,6 +57,7 @@ pub record TellsRuns (telling : Telling) (calibration : Option (List ℕ)) (camp
   pub written : Appends out.before out.after (runs_text telling cal inputs)
   pub headline : All KeepsHeadline (map (run_with cal) inputs)
   pub within_limits : All (TellsWithinLimits cal) inputs
+  pub in_words : All (TellsInWords cal) inputs
 
 -- The files say that this is the input of one run of a campaign: the first of this name.
 pub record IsNamedInput (campaign name : List ℕ) (store : ShownStore) (input : RunInput) : Type 0 where

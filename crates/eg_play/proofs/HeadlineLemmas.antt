@@ -1,10 +1,16 @@
 -- Every run that may be played keeps the headline.
-use Rattle.std.proofs.Common.{◌≡◌, ℕ, List, All, refl, map}
+use Rattle.std.proofs.Common.{◌≡◌, ◌∙◌, ℕ, List, [], ◌∷◌, All, refl, sym, map}
+use Rattle.std.proofs.lemmas.List.{length-map}
 use Rattle.std.proofs.lemmas.List.Elements.{All-map, All-weaker}
 use Rattle.eg_answer.specs.Times.{reaction_of}
 use Rattle.eg_values.specs.Calibration.{CalibrationParts, IsAccepted}
 use Rattle.eg_fault.specs.Faults.{IsNoneOrValid}
-use Rattle.eg_record.specs.Detection.{first_detection, IsFirstDetection}
+use Rattle.eg_num.specs.Windows.{WeightParts}
+use Rattle.eg_record.specs.declared.row.Row.{Row}
+use Rattle.eg_record.specs.Rows.{AreRows}
+use Rattle.eg_record.specs.Detection.{first_detection, first_cut, cutting_at, IsFirstDetection}
+use Rattle.eg_record.specs.Facts.{facts_of}
+use Rattle.eg_record.specs.Reactions.{reactions_of}
 use Rattle.eg_record.specs.Excess.{first_confirmed}
 use Rattle.eg_record.specs.Stages.{IsFirstOff, first_off}
 use Rattle.eg_record.specs.Summaries.{summary_of}
@@ -13,7 +19,7 @@ use Rattle.eg_plant.specs.Keeping as of_gasoline
 use Rattle.eg_plant.specs.PlantParts.{PlantParts}
 use Rattle.eg_diesel.specs.Keeping as of_diesel
 use Rattle.eg_model.specs.Engines.{KeepsBenchLaws, ShowsOneLoad}
-use Rattle.eg_model.specs.Rows.{report_of}
+use Rattle.eg_model.specs.Rows.{report_of, record_trap}
 use Rattle.eg_model.specs.Records.{IsRun}
 use Rattle.eg_model.proofs.GasolineLaws.{gasoline_keeps, gasoline_shows_one_load}
 use Rattle.eg_model.proofs.DieselLaws.{diesel_keeps, diesel_shows_one_load}
@@ -22,6 +28,7 @@ use Rattle.eg_laws.proofs.StretchRows.{records_end_stretches, records_end_stretc
 use Rattle.eg_laws.proofs.AvailabilityRecords.{records_stay_available}
 use Rattle.eg_laws.proofs.PeakLaws.{GivesAtMost, GasolineWithin, DieselWithin, gasoline_gives, diesel_gives}
 use Rattle.eg_laws.proofs.LimitLaws.{records_keep_limits}
+use Rattle.eg_laws.proofs.WordLaws.{peak_is_greatest, stretch_is_longest, reaction_is_longest}
 use Rattle.eg_model.proofs.FindingRecords.{records_find_before_off, records_find_failures, records_find_from_onset, records_tell_flips}
 use Rattle.eg_model.proofs.FindingReports.{reports_name_what_cuts}
 use Rattle.eg_model.proofs.OutputRecords.{records_act_by_outputs}
@@ -34,6 +41,8 @@ use Rattle.eg_plan.specs.declared.engine.EngineKind.TheVariants as kind
 use Rattle.eg_campaign.specs.Plays.{IsPlayable, EngineRun, state_of, bench_of, rows_of_run, report_of_run, run_with}
 use Rattle.eg_campaign.specs.declared.play.RunInput.{RunInput}
 use Rattle.eg_play.specs.Headline.{KeepsHeadline}
+use Rattle.eg_play.specs.InWords.{AreShown, TellsInWords}
+use Rattle.eg_play.proofs.MarginLaws.{record_margins_are}
 use Rattle.eg_play.specs.Ends.{TellsWithinLimits}
 
 -- ---- the headline ----
@@ -45,6 +54,10 @@ detects r name = (detection_law (rows_of_run r) (are_rows (bench_of r.engine) r.
 tells_when_off : (r : EngineRun) (name : List ℕ) → IsFirstOff (rows_of_run r) (report_of_run name r).off
 unfolding report_of summary_of
 tells_when_off r name = (off_law (rows_of_run r) (are_rows (bench_of r.engine) r.run) (first_off (rows_of_run r))).1 refl
+
+tells_trap : (r : EngineRun) (name : List ℕ) → (report_of_run name r).trap ≡ record_trap (bench_of r.engine) r.run
+unfolding report_of summary_of
+tells_trap r name = refl
 
 tells_when_confirmed : (r : EngineRun) (name : List ℕ) → (report_of_run name r).confirmed ≡
     first_confirmed r.run.setting.cal.rules.torque r.run.setting.cal.rules.threshold (rows_of_run r)
@@ -109,6 +122,7 @@ headline r run valid =
       stays_available = records_stay_available keeps (shows_one_load_of r.engine) r.run run valid;
       detects = detects r;
       tells_when_off = tells_when_off r;
+      tells_trap = tells_trap r;
       tells_when_confirmed = tells_when_confirmed r;
       tells_bound = tells_bound r;
       tells_name = tells_name r;
@@ -135,3 +149,33 @@ tells_within_limits cal accepted input is = records_keep_limits (keeps_of input.
 
 pub tell_within_limits : (cal : CalibrationParts) → IsAccepted cal → (inputs : List RunInput) → All IsPlayable inputs → All (TellsWithinLimits cal) inputs
 tell_within_limits cal accepted inputs playable = All-weaker IsPlayable (TellsWithinLimits cal) (tells_within_limits cal accepted) inputs playable
+
+-- ---- and in words ----
+
+cutting_rows : (rows : List Row) → AreRows rows → AreRows (map cutting_at rows)
+unfolding cutting_at
+cutting_rows [] are = tt
+cutting_rows (row ∷ before) are = (are.0 ∙ sym (length-map before cutting_at), cutting_rows before are.1)
+
+shown : (w : WeightParts) (t : ℕ) (rows : List Row) → AreRows rows → AreShown w t rows (facts_of w t rows) (reactions_of w t rows)
+unfolding facts_of first_cut
+shown w t rows are = record {
+  first = (detection_law rows are (first_detection rows)).1 refl;
+  cut = (detection_law (map cutting_at rows) (cutting_rows rows are) (first_cut rows)).1 refl;
+  off = (off_law rows are (first_off rows)).1 refl;
+  stretch = stretch_is_longest t rows;
+  peak = peak_is_greatest t rows;
+  reaction = reaction_is_longest w t rows are;
+}
+
+tells_in_words : (cal : CalibrationParts) → IsAccepted cal → (input : RunInput) → TellsInWords cal input
+unfolding record_facts
+tells_in_words cal accepted input =
+    let r = run_with cal input in
+    record {
+      table = shown cal.rules.torque cal.rules.threshold (rows_of_run r) (are_rows (bench_of r.engine) r.run);
+      margins = record_margins_are (bench_of r.engine) r.run accepted;
+    }
+
+pub tell_in_words : (cal : CalibrationParts) → IsAccepted cal → (inputs : List RunInput) → All IsPlayable inputs → All (TellsInWords cal) inputs
+tell_in_words cal accepted inputs playable = All-weaker IsPlayable (TellsInWords cal) (λ input is. tells_in_words cal accepted input) inputs playable

@@ -28,6 +28,7 @@ use Rattle.eg_sweep.specs.Laws.{IsBounded}
 use Rattle.eg_play.specs.Files.{campaign_file, trace_file}
 use Rattle.eg_play.specs.Inputs.{ImageComes, InputComes, InputsCome, FindsInput, AcceptsInput}
 use Rattle.eg_play.specs.Headline.{KeepsHeadline}
+use Rattle.eg_play.specs.InWords.{TellsInWords}
 use Rattle.eg_tick.specs.Counting.{count_with, RanOutAmong}
 use Rattle.eg_campaign.specs.Plays.{EngineRun, rows_in_time, run_with}
 use Rattle.eg_campaign.specs.Groups.{rows_made, rows_of_group, told_with}
@@ -75,13 +76,15 @@ abbrev pub TellsWithinLimits : CalibrationParts → RunInput → Type 0
 TellsWithinLimits cal input =
     KeepsLimits (run_with cal input).run.setting (told_with cal input).facts (told_with cal input).reactions
 
--- The runs of a campaign were played, and told in this way: on Done the whole text was written. What `table`
--- tells of them keeps the limits of the calibration, whichever way they are told.
+-- The runs of a campaign were played, and told in this way: on Done the whole text was written. Whichever way
+-- they are told, what `table` tells of them keeps the limits of the calibration, and what `table` and
+-- `margins` tell is what their rows show.
 pub record Tells (telling : Telling) (cal : CalibrationParts) (inputs : List RunInput)
     (out : Change ShownSink) (ticks : Change TickCount) (o : Outcome) : Type 0 where
   pub plays : Plays (runs_text telling cal inputs) (map (run_with cal) inputs) (rows_made cal inputs)
       out ticks o
   pub within_limits : All (TellsWithinLimits cal) inputs
+  pub in_words : All (TellsInWords cal) inputs
 
 -- the inputs of all runs are known, and no fault of reading was met: they are told
 abbrev pub TellingEnds : Telling → CalibrationParts → List RunInput → Call → Outcome → Type 0

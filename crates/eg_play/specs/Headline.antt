@@ -3,11 +3,12 @@
 -- It is said of one run of either engine with its power cycles; its rows stand newest first. That no image
 -- changes a protected word is said of each slice: field `outside` of `IsSlice`, which `eg_host::Host::slice`
 -- keeps. That level 1 acts by its two outputs alone is said here.
-use Rattle.std.specs.Prelude.{◌≡◌, ℕ, List, All, None}
+use Rattle.std.specs.Prelude.{◌≡◌, ℕ, List, All, Option, None}
 use Rattle.eg_num.specs.Drive.{DriveRow}
 use Rattle.eg_answer.specs.Times.{reaction_of, test_ticks_of, HasLapseBound}
 use Rattle.eg_values.specs.Excess.{ticks_to_confirm, longest_stretch}
 use Rattle.eg_fault.specs.Faults.{IsListed}
+use Rattle.eg_word.specs.declared.registers.Trap.{Trap}
 use Rattle.eg_record.specs.declared.row.Row.{Row}
 use Rattle.eg_record.specs.declared.summary.Summary.{Summary}
 use Rattle.eg_record.specs.Detection.{IsFirstDetection}
@@ -18,6 +19,7 @@ use Rattle.eg_model.specs.History.{Setting}
 use Rattle.eg_model.specs.Engines.{BenchEngine}
 use Rattle.eg_model.specs.Showing.{ShowsRun}
 use Rattle.eg_model.specs.PowerCycles.{SpansBeginInTurn}
+use Rattle.eg_model.specs.Rows.{record_trap}
 use Rattle.eg_model.specs.Records.{ReactWithin, RowsReactAtOnce, CutFromOnset, CutOneTickAfter}
 use Rattle.eg_model.specs.Records.{CutSharplyBefore, CutStandingExcess, ExcessIsShort, AreOff, NeverFails}
 use Rattle.eg_model.specs.Findings.{FindsBeforeOff, FindsFailure, FindsFromOnset, FindsSharply, TellsFlips, NamesWhatCuts}
@@ -28,10 +30,11 @@ use Rattle.eg_laws.specs.Bursts.{RowsAreSparse}
 use Rattle.eg_laws.specs.Availability.{AvailableIfSpaced}
 use Rattle.eg_campaign.specs.Plays.{EngineRun, bench_of, rows_of_run, report_of_run}
 
--- What the headline says of the record of a run, by its engine, its setting, its drive, its rows, its report
--- under each name, and its rows under each image and slice plan.
+-- What the headline says of the record of a run, by its engine, its setting, its drive, its rows, level 1's
+-- first trap, its report under each name, and its rows under each image and slice plan.
 pub record Headline {E : Type 0} (b : BenchEngine E) (s : Setting) (drive : List DriveRow) (rows : List Row)
-    (report : List ℕ → Summary) (rows_under : List ℕ → List (List ℕ) → List Row) : Type 0 where
+    (trap : Option (Trap × ℕ)) (report : List ℕ → Summary) (rows_under : List ℕ → List (List ℕ) → List Row)
+    : Type 0 where
   -- The rows show the run: they are numbered in order, have the rows of the drive and what these permit, and
   -- what the engine shows as it steps from row to row, with torque only while the stages are on; and a path
   -- that the fault holds closed, or keeps from conducting, is shown so.
@@ -97,10 +100,11 @@ pub record Headline {E : Type 0} (b : BenchEngine E) (s : Setting) (drive : List
   -- only after a trip, and where no full-efficiency excess comes they are on at each tick.
   pub stays_available : EachDriveSpan (AvailableIfSpaced s) rows
   -- The report, whatever name it gives the run, names the first detecting watch and its tick, the first tick
-  -- at which the stages are off while no test is running, the first one by which a true excess is confirmed,
-  -- and R; and it bears that name.
+  -- at which the stages are off while no test is running, level 1's first trap with its tick, the first one
+  -- by which a true excess is confirmed, and R; and it bears that name.
   pub detects : (name : List ℕ) → IsFirstDetection rows (report name).first
   pub tells_when_off : (name : List ℕ) → IsFirstOff rows (report name).off
+  pub tells_trap : (name : List ℕ) → (report name).trap ≡ trap
   pub tells_when_confirmed : (name : List ℕ) → (report name).confirmed ≡
       first_confirmed s.cal.rules.torque s.cal.rules.threshold rows
   pub tells_bound : (name : List ℕ) → (report name).bound ≡ reaction_of s.cal.times
@@ -115,5 +119,6 @@ pub record Headline {E : Type 0} (b : BenchEngine E) (s : Setting) (drive : List
 -- the record of this run keeps the headline
 abbrev pub KeepsHeadline : EngineRun → Type 0
 KeepsHeadline r =
-    Headline (bench_of r.engine) r.run.setting r.run.drive (rows_of_run r) (λ name. report_of_run name r)
+    Headline (bench_of r.engine) r.run.setting r.run.drive (rows_of_run r)
+    (record_trap (bench_of r.engine) r.run) (λ name. report_of_run name r)
     (λ image plan. rows_of_run (record r { run = with_level1 image plan r.run }))

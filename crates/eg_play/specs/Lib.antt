@@ -1,6 +1,7 @@
 pub mod Files
 pub mod Inputs
 pub mod Headline
+pub mod InWords
 pub mod Sweeping
 pub mod Texts
 pub mod Ends

@@ -1,7 +1,7 @@
 use Rattle.std.proofs.Common.{sym, subst}
 use Rattle.eg_outcome.specs.Changes.{change, change_of}
 use Rattle.eg_play.specs.Ends.{Tells}
-use Rattle.eg_play.proofs.HeadlineLemmas.{tell_within_limits}
+use Rattle.eg_play.proofs.HeadlineLemmas.{tell_within_limits, tell_in_words}
 use Rattle.eg_play.proofs.report.put_told.Goals as goal
 
 pub returns-in-Report-clause-tells : goal.returns-in-Report-clause-tells
@@ -12,6 +12,7 @@ returns-in-Report-clause-tells g c =
     (record {
       plays = c.put_report.ensures.plays;
       within_limits = tell_within_limits a.calibration.now c.rules-rules.ensures.accepted a.inputs.now c.requires;
+      in_words = tell_in_words a.calibration.now c.rules-rules.ensures.accepted a.inputs.now c.requires;
     })
 
 pub returns-in-Rows-clause-tells : goal.returns-in-Rows-clause-tells
@@ -23,4 +24,5 @@ returns-in-Rows-clause-tells g c =
     (record {
       plays = c.put_rows.ensures.plays;
       within_limits = tell_within_limits a.calibration.now c.rules-rules.ensures.accepted a.inputs.now c.requires;
+      in_words = tell_in_words a.calibration.now c.rules-rules.ensures.accepted a.inputs.now c.requires;
     })
