@@ -1,2 +1,3 @@
+pub mod WordLemmas
 pub mod CompleteLemmas
 pub mod CoupleLemmas

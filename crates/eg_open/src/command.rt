@@ -1,7 +1,7 @@
 // The words of a command that reads lines.
-ghost use Rattle.std.specs.Prelude.{◌≡◌, ◌≤◌, ◌||◌, bytes_eq, codes, option_map, Some};
+ghost use Rattle.std.specs.Prelude.{◌≡◌, ◌≤◌, ◌||◌, bytes_eq, codes, option_map, ℕ, List, true, Some, None, IsSome};
 ghost use Rattle.std.specs.Option.{option_copied};
-ghost use Rattle.eg_app.specs.Words.{word_bytes};
+ghost use Rattle.eg_app.specs.Words.{command_of, word_bytes};
 ghost use Rattle.eg_outcome.specs.Roles.{role_in};
 ghost use Rattle.eg_outcome.specs.declared.outcome.Role.TheVariants as role;
 ghost use Rattle.eg_open.specs.Words.{is_open, line_command_of, line_form, said, calibration_of, name_in_words};
@@ -111,6 +111,14 @@ impl<'a> LineCommand<'a> {
         }
     }
 }
+
+/// Does nothing when it runs. Its clauses are laws of the words (docs/FORMATS.md, "Commands"): those that ask
+/// for a command that reads lines begin with the first word of one, and words that do ask for no other
+/// command. So no words ask for two.
+pub fn words_ask_for_one_command()
+    ensures lines { (words : List (List ℕ)) → IsSome (line_command_of words) → is_open words ≡ true }
+    ensures others { (words : List (List ℕ)) → is_open words ≡ true → command_of words ≡ None }
+{}
 
 /// Whether this is the first word of a command that reads lines.
 fn is_open(word: &str) -> bool

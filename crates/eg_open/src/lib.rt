@@ -5,4 +5,4 @@ mod call;
 mod command;
 
 pub use call::egasim_on_lines;
-pub use command::reads_lines;
+pub use command::{reads_lines, words_ask_for_one_command};
