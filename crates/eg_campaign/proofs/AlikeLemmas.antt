@@ -54,7 +54,7 @@ unfolding is_alike
 is_alike-Decides x y = Decides-like _ (λ (((e, i), p), d). record { engine = e; image = i; plan = p; drive = d })
     (λ h. (((h.engine, h.image), h.plan), h.drive))
     (Decides-and _ _ (Decides-and _ _ (Decides-and _ _ (same_engine-Decides x.plan.engine y.plan.engine)
-    (numbers-Decides x.image y.image)) (plans-Decides x.plan.plan y.plan.plan)) (drives-Decides x.drive y.drive))
+    (numbers-Decides x.image y.image)) (plans-Decides x.plan.slices y.plan.slices)) (drives-Decides x.drive y.drive))
 
 pub alike : (x y : RunInput) → is_alike x y ≡ true → AreAlike x y
 alike x y h = (is_alike-Decides x y).0 h

@@ -241,7 +241,7 @@ module _ {S E : Type 0} (weighed : Bool) (b : BenchEngine S) (come_to : ComeTo S
       HasPlayed weighed b come_to (run_with cal input).run (fault.onset / checkpoint_ticks * checkpoint_ticks) branch
   played_under copy same from branch played branched =
       let place : ℕ = fault.onset / checkpoint_ticks in
-      subst (λ f. HasPlayed weighed b come_to (run_by cal input.image f input.plan.plan input.drive) (place * checkpoint_ticks) branch)
+      subst (λ f. HasPlayed weighed b come_to (run_by cal input.image f input.plan.slices input.drive) (place * checkpoint_ticks) branch)
       (ap (λ f. Some f) same ∙ sym is)
       (branched (run_with cal (faultless input)).run (place * checkpoint_ticks) played)
 

@@ -14,7 +14,7 @@ use Rattle.eg_campaign.specs.Keys.{mixed, row_number, group_number}
 -- a run of this name by this drive and on this engine, with a fault at this tick or without one
 run : ℕ → List DriveRow → EngineKind → Option Fault → RunInput
 run name drive engine fault = record {
-  plan = record { name = name ∷ []; trace = []; image = []; plan = (1 ∷ []) ∷ []; engine = engine; fault = fault };
+  plan = record { name = name ∷ []; trace = []; image = []; slices = (1 ∷ []) ∷ []; engine = engine; fault = fault };
   drive = drive;
   image = 7 ∷ [];
 }

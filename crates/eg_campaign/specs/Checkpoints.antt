@@ -32,7 +32,7 @@ run_under fault r = record r { setting = under fault r.setting }
 
 -- a run has the slice plan and the drive of an input
 pub record PlaysInput (input : RunInput) (r : Run) : Type 0 where
-  pub plan : r.plan ≡ input.plan.plan
+  pub plan : r.plan ≡ input.plan.slices
   pub drive : r.drive ≡ input.drive
 
 -- The first t ticks of a run of this engine were played: the controller has come to the last of them, and the

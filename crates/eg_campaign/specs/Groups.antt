@@ -35,13 +35,13 @@ is_same_engine _ _ = false
 unfoldable pub is_alike : RunInput → RunInput → Bool
 is_alike x y =
     is_same_engine x.plan.engine y.plan.engine && pointwise nat_eq x.image y.image
-    && pointwise (pointwise nat_eq) x.plan.plan y.plan.plan && pointwise is_same_row x.drive y.drive
+    && pointwise (pointwise nat_eq) x.plan.slices y.plan.slices && pointwise is_same_row x.drive y.drive
 
 -- what is equal of two inputs of one group
 pub record AreAlike (x y : RunInput) : Type 0 where
   pub engine : x.plan.engine ≡ y.plan.engine
   pub image : x.image ≡ y.image
-  pub plan : x.plan.plan ≡ y.plan.plan
+  pub plan : x.plan.slices ≡ y.plan.slices
   pub drive : x.drive ≡ y.drive
 
 -- the group of a run among these: the runs that are alike to it, in their order

@@ -35,7 +35,7 @@ engine_number kind.Diesel = 1
 unfoldable pub group_number : RunInput → ℕ
 group_number x =
     let image = fold mixed (engine_number x.plan.engine) x.image in
-    let plan = fold (fold mixed) image x.plan.plan in
+    let plan = fold (fold mixed) image x.plan.slices in
     fold (λ all row. mixed all (row_number row)) plan x.drive
 
 -- ---- keys ----
@@ -70,7 +70,7 @@ unfolding is_alike
 is_alike-equality =
     and_equiv (and_equiv (and_equiv (on_equiv (λ (x : RunInput). x.plan.engine) same_engine-equality)
     (on_equiv (λ (x : RunInput). x.image) (lists_equiv nat_eq_equiv)))
-    (on_equiv (λ (x : RunInput). x.plan.plan) (lists_equiv (lists_equiv nat_eq_equiv))))
+    (on_equiv (λ (x : RunInput). x.plan.slices) (lists_equiv (lists_equiv nat_eq_equiv))))
     (on_equiv (λ (x : RunInput). x.drive) (lists_equiv is_same_row-equality))
 
 pub is_same_key-equality : IsEquivalence is_same_key

@@ -68,7 +68,7 @@ report_of_run name r = report_of (bench_of r.engine) name r.run
 abbrev pub run_with : CalibrationParts → RunInput → EngineRun
 run_with cal input = record {
   engine = input.plan.engine;
-  run = run_by cal input.image input.plan.fault input.plan.plan input.drive;
+  run = run_by cal input.image input.plan.fault input.plan.slices input.drive;
 }
 
 -- what the report says of it

@@ -17,7 +17,7 @@ pub(crate) fn is_alike(a: &RunInput, b: &RunInput) -> bool
     if a.image.as_slice() != b.image.as_slice() {
         return false;
     }
-    if a.plan.plan.rows() != b.plan.plan.rows() {
+    if a.plan.slices.rows() != b.plan.slices.rows() {
         return false;
     }
     a.drive.as_slice() == b.drive.as_slice()

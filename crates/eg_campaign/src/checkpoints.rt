@@ -216,7 +216,7 @@ fn play_tick<E: BenchedEngine + CopyEngine, M: Guarded + Drop, const WEIGHED: bo
     ensures stays_sure { played.new.controller.kept.memory.sure
         ≡ played.old.controller.kept.memory.sure }
 {
-    let (plan, drive) = (&input.plan.plan, &input.drive.as_slice()[tick]);
+    let (plan, drive) = (&input.plan.slices, &input.drive.as_slice()[tick]);
     let row = bench_tick(&mut played.controller, plan, drive, tick as u32, steps)?;
     played.tally.feed(&row);
     weigh::<E, M, WEIGHED>(&mut played.margins, &row, &played.controller);

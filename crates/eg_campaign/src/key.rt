@@ -63,7 +63,7 @@ fn group_number(input: &RunInput) -> u64
 {
     let engine = engine_number(input.plan.engine);
     let image = number_of_words(engine, input.image.as_slice());
-    let plan = number_of_plan(image, input.plan.plan.rows());
+    let plan = number_of_plan(image, input.plan.slices.rows());
     number_of_drive(plan, input.drive.as_slice())
 }
 

@@ -132,6 +132,6 @@ fn tell_on<E: BenchedEngine, const WEIGHED: bool>(
         steps.old steps.new result }
 {
     let (image, drive) = (input.image.as_slice(), input.drive.as_slice());
-    let (plan, fault) = (&input.plan.plan, input.plan.fault.as_ref());
+    let (plan, fault) = (&input.plan.slices, input.plan.fault.as_ref());
     bench_facts::<E, WEIGHED>(calibration, image, plan, drive, fault, steps)
 }

@@ -71,7 +71,7 @@ fn record_on<E: BenchedEngine, K: Sink>(
     // Called for its clause alone.
     count_none(steps);
     let (image, drive) = (input.image.as_slice(), input.drive.as_slice());
-    let (plan, fault) = (&input.plan.plan, input.plan.fault.as_ref());
+    let (plan, fault) = (&input.plan.slices, input.plan.fault.as_ref());
     let Ok(mut line) = Vec::with_capacity(alloc, ROW_ROOM) else {
         return Err(RecordStop::Memory);
     };

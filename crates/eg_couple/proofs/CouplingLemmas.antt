@@ -10,7 +10,7 @@ use Rattle.eg_fault.specs.Faults.{IsNoneOrValid}
 use Rattle.eg_plant.specs.Foreign.{Foreign}
 use Rattle.eg_values.specs.Calibration.{IsAccepted}
 use Rattle.eg_record.specs.declared.row.Row.{Row}
-use Rattle.eg_readings.specs.declared.answered.Answer.{Answer}
+use Rattle.eg_readings.specs.declared.answered.PartnerAnswer.{PartnerAnswer}
 use Rattle.eg_model.specs.Spans.{moments, next}
 use Rattle.eg_model.specs.Rows.{row_of, rows_of}
 use Rattle.eg_tick.specs.Commanding.{commands_next}
@@ -25,7 +25,7 @@ use Rattle.eg_outcome.specs.declared.outcome.Outcome.{Outcome}
 use Rattle.eg_outcome.specs.declared.outcome.Outcome.TheVariants as outcome
 use Rattle.eg_outcome.specs.declared.outcome.Refusal.TheVariants as refusal
 use Rattle.eg_outcome.proofs.ComingLemmas.{Come-then, Come-none, Come-still, ReadsWell-then}
-use Rattle.eg_couple.specs.Coupled.{CoupledUnit, Fault, NoAnswer, LoadBelowTorque, TorqueWhileOff, entry_by, entries_by, coupled_moments, coupled_rows, lawful, lawful_if_any, taken, AreTaken}
+use Rattle.eg_couple.specs.Coupled.{CoupledUnit, Objection, NoAnswer, LoadBelowTorque, TorqueWhileOff, entry_by, entries_by, coupled_moments, coupled_rows, lawful, lawful_if_any, taken, AreTaken}
 use Rattle.eg_couple.specs.Texts.{coupled_header, first_line, coupled_line, answer_line, coupled_text}
 use Rattle.eg_couple.specs.Running.{IsCoupled, AnswerComes, refusal_of}
 use Rattle.eg_couple.specs.Streams.{most_answers, Coupling, coupling, Couples, RefusesLine, StopsWithin, IsClean, CouplingEnds}
@@ -36,18 +36,18 @@ use Rattle.eg_couple.proofs.RowLemmas.{rows_come_in_turn}
 -- ---- answers that are taken ----
 
 -- they are as many as their lines
-taken-long : (unit : CoupledUnit) (lines : List Line) (answers : List Answer) → AreTaken unit lines answers → length lines ≡ length answers
+taken-long : (unit : CoupledUnit) (lines : List Line) (answers : List PartnerAnswer) → AreTaken unit lines answers → length lines ≡ length answers
 unfolding AreTaken
 taken-long unit [] [] are = refl
 taken-long unit [] (answer ∷ before) are = absurd are
 taken-long unit (line ∷ lines) [] are = absurd are
 taken-long unit (line ∷ lines) (answer ∷ before) are = ap suc (taken-long unit lines before are.1)
 
-came-long : (unit : CoupledUnit) (came : List Line) (answers : List Answer) → AreTaken unit (reverse came) answers → length came ≡ length answers
+came-long : (unit : CoupledUnit) (came : List Line) (answers : List PartnerAnswer) → AreTaken unit (reverse came) answers → length came ≡ length answers
 came-long unit came answers are = sym (length-reverse came) ∙ taken-long unit (reverse came) answers are
 
 -- and the same lines give the same
-pub taken-alike : (unit : CoupledUnit) (lines : List Line) (some others : List Answer) → AreTaken unit lines some → AreTaken unit lines others → some ≡ others
+pub taken-alike : (unit : CoupledUnit) (lines : List Line) (some others : List PartnerAnswer) → AreTaken unit lines some → AreTaken unit lines others → some ≡ others
 unfolding AreTaken
 taken-alike unit [] [] [] are too = refl
 taken-alike unit [] [] (y ∷ others) are too = absurd too
@@ -59,17 +59,17 @@ taken-alike unit (line ∷ lines) (x ∷ some) (y ∷ others) are too =
     let first = are.0 in let second = too.0 in cc
 
 -- one more is
-taken-more : (unit : CoupledUnit) (came : List Line) (before : List Answer) (line : Line) (answer : Answer) →
+taken-more : (unit : CoupledUnit) (came : List Line) (before : List PartnerAnswer) (line : Line) (answer : PartnerAnswer) →
     AreTaken unit (reverse came) before → taken unit before line ≡ Ok answer → AreTaken unit (reverse (came ++ line ∷ [])) (answer ∷ before)
 unfolding AreTaken
 taken-more unit came before line answer are is =
     subst (λ (lines : List Line). AreTaken unit lines (answer ∷ before)) (sym (reverse-append came (line ∷ []))) (is, are)
 
 -- and it is lawful
-pub taken-is_lawful : (unit : CoupledUnit) (before : List Answer) (line : Line) (answer : Answer) → taken unit before line ≡ Ok answer → lawful unit before answer ≡ Ok answer
+pub taken-is_lawful : (unit : CoupledUnit) (before : List PartnerAnswer) (line : Line) (answer : PartnerAnswer) → taken unit before line ≡ Ok answer → lawful unit before answer ≡ Ok answer
 unfolding taken lawful_if_any
 taken-is_lawful unit before line answer is =
-    subst (λ (some : Option Answer). lawful_if_any unit before some ≡ Ok answer) (taken-answer unit before line answer is).0 is
+    subst (λ (some : Option PartnerAnswer). lawful_if_any unit before some ≡ Ok answer) (taken-answer unit before line answer is).0 is
 
 -- ---- the rows of their ticks ----
 
@@ -85,7 +85,7 @@ counts_row was old new rows row is count weight =
 
 -- These lines came and were taken, and a tick was made and counted for each. The controller stands for the
 -- answers, and no fault of reading was met.
-pub record HasMade (unit : CoupledUnit) (answers : List Answer) (controller : ControllerParts Foreign)
+pub record HasMade (unit : CoupledUnit) (answers : List PartnerAnswer) (controller : ControllerParts Foreign)
     (lines : Change ShownLines) (ticks : Change TickCount) : Type 0 where
   pub came : List Line
   pub come : Come lines came
@@ -113,7 +113,7 @@ none-made unit controller lines ticks stands ticked = record {
 }
 
 -- the tick of one answer more was made
-pub made-more : (unit : CoupledUnit) (before : List Answer) (answer : Answer) (row : Row) (controller after : ControllerParts Foreign)
+pub made-more : (unit : CoupledUnit) (before : List PartnerAnswer) (answer : PartnerAnswer) (row : Row) (controller after : ControllerParts Foreign)
     (a b c : ShownLines) (was old new : TickCount) → HasMade unit before controller (change a b) (change was old) →
     AnswerComes unit before (change b c) (Ok (Some answer)) → IsCoupled unit (answer ∷ before) after →
     row ≡ row_of (length before) (next unit.setting (entry_by unit (length before) answer) (entries_by unit before)) →
@@ -166,7 +166,7 @@ first-put unit commands a b c so_far is put =
     subst (λ (text : List ℕ). HasPut text (change a c)) (first-text unit commands is) (put-more coupled_header (first_line commands) a b c so_far put)
 
 -- of one answer more a line is written
-row-text : (unit : CoupledUnit) (before : List Answer) (answer : Answer) (row : Row) (commands : Commands) →
+row-text : (unit : CoupledUnit) (before : List PartnerAnswer) (answer : PartnerAnswer) (row : Row) (commands : Commands) →
     row ≡ row_of (length before) (next unit.setting (entry_by unit (length before) answer) (entries_by unit before)) →
     commands ≡ commands_next unit.setting (entries_by unit (answer ∷ before)) →
     coupled_text unit before ++ coupled_line row commands ≡ coupled_text unit (answer ∷ before)
@@ -174,7 +174,7 @@ unfolding coupled_text answer_line
 row-text unit before answer row commands row_is commands_are =
     ap₂ (λ (made : Row) (told : Commands). coupled_text unit before ++ coupled_line made told) row_is commands_are
 
-pub row-put : (unit : CoupledUnit) (before : List Answer) (answer : Answer) (row : Row) (commands : Commands) (a b c : ShownSink) →
+pub row-put : (unit : CoupledUnit) (before : List PartnerAnswer) (answer : PartnerAnswer) (row : Row) (commands : Commands) (a b c : ShownSink) →
     HasPut (coupled_text unit before) (change a b) →
     row ≡ row_of (length before) (next unit.setting (entry_by unit (length before) answer) (entries_by unit before)) →
     commands ≡ commands_next unit.setting (entries_by unit (answer ∷ before)) →
@@ -186,7 +186,7 @@ row-put unit before answer row commands a b c so_far row_is commands_are put =
 -- ---- how the run ends ----
 
 -- by a line that isn't taken
-ends-by : (unit : CoupledUnit) (n : ℕ) (why : Fault) (call : Coupling) → RefusesLine unit n why call × IsClean call →
+ends-by : (unit : CoupledUnit) (n : ℕ) (why : Objection) (call : Coupling) → RefusesLine unit n why call × IsClean call →
     CouplingEnds unit call (outcome.Refused (refusal_of n why))
 ends-by unit n NoAnswer call ends = ends
 ends-by unit n LoadBelowTorque call ends = ends
@@ -199,7 +199,7 @@ ends-as unit call (Ok x) end is ends = absurd is
 ends-as unit call (Err o) end is ends = subst (CouplingEnds unit call) (sym is) ends
 
 module _ (unit : CoupledUnit) (accepted : IsAccepted unit.setting.cal) (valid : IsNoneOrValid unit.setting.fault)
-    (answers : List Answer) (controller : ControllerParts Foreign) where
+    (answers : List PartnerAnswer) (controller : ControllerParts Foreign) where
   couples : (lines : Change ShownLines) (out : Change ShownSink) (ticks : Change TickCount) (came : List Line) → Come lines came →
       AreTaken unit (reverse came) answers → ticks.after ≡ count_with ticks.before (reverse (coupled_rows unit answers)) →
       length answers ≤ most_answers → Couples unit came answers (coupling lines out ticks)
@@ -329,7 +329,7 @@ module _ (unit : CoupledUnit) (accepted : IsAccepted unit.setting.cal) (valid : 
       (put-refused coupled_header (first_line commands) [] a b c end so_far put))
 
   -- the line of an answer
-  pub row-refused : (before : List Answer) (answer : Answer) (row : Row) (commands : Commands) (controller : ControllerParts Foreign) (lines : Change ShownLines)
+  pub row-refused : (before : List PartnerAnswer) (answer : PartnerAnswer) (row : Row) (commands : Commands) (controller : ControllerParts Foreign) (lines : Change ShownLines)
       (ticks : Change TickCount) (a b c : ShownSink) (end : Outcome) → HasMade unit (answer ∷ before) controller lines ticks →
       length before + 1 ≤ most_answers → HasPut (coupled_text unit before) (change a b) →
       row ≡ row_of (length before) (next unit.setting (entry_by unit (length before) answer) (entries_by unit before)) →

@@ -11,7 +11,7 @@ use Rattle.eg_plant.specs.Engine.{Shown}
 use Rattle.eg_record.specs.declared.row.Row.{Row}
 use Rattle.eg_record.specs.Rows.{AreRows}
 use Rattle.eg_record.specs.Spans.{EachDriveSpan, EachTestSpan}
-use Rattle.eg_readings.specs.declared.answered.Answer.{Answer}
+use Rattle.eg_readings.specs.declared.answered.PartnerAnswer.{PartnerAnswer}
 use Rattle.eg_model.specs.History.{Setting, Moment}
 use Rattle.eg_model.specs.Moments.{limit_at}
 use Rattle.eg_model.specs.Spans.{moments}
@@ -49,12 +49,12 @@ rows-bare [] = refl
 rows-bare (m ∷ past) = ap₂ (λ n rows. without_outputs (row_of n m) ∷ rows) (length-bare past) (rows-bare past)
 
 -- what comes in by the answers is the same but for the slices
-entries-alike : (unit other : CoupledUnit) (answers : List Answer) → map without_slices (entries_by unit answers) ≡ map without_slices (entries_by other answers)
+entries-alike : (unit other : CoupledUnit) (answers : List PartnerAnswer) → map without_slices (entries_by unit answers) ≡ map without_slices (entries_by other answers)
 unfolding entries_by entry_by without_slices
 entries-alike unit other [] = refl
 entries-alike unit other (answer ∷ before) = ap (λ es. record { drive = answer.drive; slices = []; shown = answer.told } ∷ es) (entries-alike unit other before)
 
-acts_by_outputs : (unit : CoupledUnit) (answers : List Answer) → ActsByOutputs unit answers
+acts_by_outputs : (unit : CoupledUnit) (answers : List PartnerAnswer) → ActsByOutputs unit answers
 unfolding coupled_rows coupled_moments
 acts_by_outputs unit answers other same =
     ap (λ s. map without_outputs (rows_of (moments s (entries_by other answers)))) same
@@ -65,7 +65,7 @@ acts_by_outputs unit answers other same =
 
 -- ---- what is shown ----
 
-shown-as_told : (answers : List Answer) → AreShown as_told answers
+shown-as_told : (answers : List PartnerAnswer) → AreShown as_told answers
 unfolding as_told
 shown-as_told [] = All-nil (λ answer. as_told answer.told ≡ answer.told)
 shown-as_told (answer ∷ before) = All-cons (λ a. as_told a.told ≡ a.told) answer before refl (shown-as_told before)
@@ -74,7 +74,7 @@ one_load-is : (shown : Shown) → IsOneLoad shown → one_load shown ≡ shown
 unfolding one_load
 one_load-is shown is = λ i. record shown { load_2 = sym is i }
 
-shown-one_load : (answers : List Answer) → HasOneLoad answers → AreShown one_load answers
+shown-one_load : (answers : List PartnerAnswer) → HasOneLoad answers → AreShown one_load answers
 shown-one_load [] has = All-nil (λ answer. one_load answer.told ≡ answer.told)
 shown-one_load (answer ∷ before) has = All-cons (λ a. one_load a.told ≡ a.told) answer before
     (one_load-is answer.told (All-head (λ a. IsOneLoad a.told) answer before has))
@@ -82,7 +82,7 @@ shown-one_load (answer ∷ before) has = All-cons (λ a. one_load a.told ≡ a.t
 
 -- ---- the laws of records ----
 
-module _ (unit : CoupledUnit) (answers : List Answer) (accepted : IsAccepted unit.setting.cal) (valid : IsNoneOrValid unit.setting.fault)
+module _ (unit : CoupledUnit) (answers : List PartnerAnswer) (accepted : IsAccepted unit.setting.cal) (valid : IsNoneOrValid unit.setting.fault)
     (lawful : AreLawful unit answers) where
   abbrev s : Setting
   s = unit.setting
@@ -183,7 +183,7 @@ module _ (unit : CoupledUnit) (answers : List Answer) (accepted : IsAccepted uni
       to : (P : List Row → Type 0) → P (record_rows (b as_told shown) r) → P (coupled_rows unit answers)
       to = moved as_told shown
 
-pub coupled-headline : (unit : CoupledUnit) (lines : List (List ℕ)) (answers : List Answer) → IsAccepted unit.setting.cal → IsNoneOrValid unit.setting.fault
+pub coupled-headline : (unit : CoupledUnit) (lines : List (List ℕ)) (answers : List PartnerAnswer) → IsAccepted unit.setting.cal → IsNoneOrValid unit.setting.fault
     → AreTaken unit lines answers → KeepsCoupledHeadline unit answers
 coupled-headline unit lines answers accepted valid taken = record {
   proper = taken-proper_run unit lines answers taken;

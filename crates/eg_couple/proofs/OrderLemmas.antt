@@ -12,8 +12,8 @@ use Rattle.eg_outcome.specs.declared.outcome.Outcome.{Outcome}
 use Rattle.eg_outcome.specs.declared.outcome.Outcome.TheVariants as outcome
 use Rattle.eg_outcome.specs.declared.outcome.Refusal.TheVariants as refusal
 use Rattle.eg_outcome.specs.declared.outcome.Role.TheVariants as role
-use Rattle.eg_readings.specs.declared.answered.Answer.{Answer}
-use Rattle.eg_couple.specs.Coupled.{CoupledUnit, Fault, NoAnswer, LoadBelowTorque, TorqueWhileOff, taken, AreTaken}
+use Rattle.eg_readings.specs.declared.answered.PartnerAnswer.{PartnerAnswer}
+use Rattle.eg_couple.specs.Coupled.{CoupledUnit, Objection, NoAnswer, LoadBelowTorque, TorqueWhileOff, taken, AreTaken}
 use Rattle.eg_couple.specs.Texts.{coupled_text}
 use Rattle.eg_couple.specs.Running.{refusal_of}
 use Rattle.eg_couple.specs.Streams.{most_answers, Coupling, RefusesLine, RefusesMore, CouplingEnds}
@@ -27,11 +27,11 @@ came-are lines front rest came before after come =
     let both : Some (front ++ rest) ≡ Some (came ++ rest) = sym before ∙ come ∙ ap (λ (left : Option (List Line)). option_map (λ l. came ++ l) left) after in
     append_cancel_right came front rest (let same : came ++ rest ≡ front ++ rest = cc in same)
 
-module _ (unit : CoupledUnit) (call : Coupling) (answers : List Answer) (good rest : List Line) (bad : Line) (why : Fault)
+module _ (unit : CoupledUnit) (call : Coupling) (answers : List PartnerAnswer) (good rest : List Line) (bad : Line) (why : Objection)
     (before : call.lines.before.lines ≡ Some (good ++ bad ∷ rest)) (after : call.lines.after.lines ≡ Some rest)
     (are : AreTaken unit (reverse good) answers) (refuses : taken unit answers bad ≡ Err why) where
   -- that line isn't among lines that are taken
-  spoilt : (all : List Answer) → AreTaken unit (bad ∷ reverse good) all → ⊥
+  spoilt : (all : List PartnerAnswer) → AreTaken unit (bad ∷ reverse good) all → ⊥
   unfolding AreTaken
   spoilt [] too = absurd too
   spoilt (answer ∷ others) (is, too) = let same = taken-alike unit (reverse good) others answers too are in absurd cc
@@ -39,7 +39,7 @@ module _ (unit : CoupledUnit) (call : Coupling) (answers : List Answer) (good re
   came : (all : List Line) → Come call.lines all → all ≡ good ++ bad ∷ []
   came all come = came-are call.lines (good ++ bad ∷ []) rest all (before ∙ ap (λ l. Some l) (sym (append_assoc good (bad ∷ []) rest))) after come
 
-  all-taken : (all : List Line) (some : List Answer) → Come call.lines all → AreTaken unit (reverse all) some → ⊥
+  all-taken : (all : List Line) (some : List PartnerAnswer) → Come call.lines all → AreTaken unit (reverse all) some → ⊥
   all-taken all some come too = spoilt some
       (subst (λ (lines : List Line). AreTaken unit lines some) (ap reverse (came all come) ∙ reverse-append good (bad ∷ [])) too)
 
@@ -47,20 +47,20 @@ module _ (unit : CoupledUnit) (call : Coupling) (answers : List Answer) (good re
   parts : (front : List Line) (line : Line) → Come call.lines (front ++ line ∷ []) → (front ≡ good) × (line ≡ bad)
   parts front line come = same_from_push front good line bad (came (front ++ line ∷ []) come)
 
-  same : (front : List Line) (some : List Answer) → front ≡ good → AreTaken unit (reverse front) some → some ≡ answers
+  same : (front : List Line) (some : List PartnerAnswer) → front ≡ good → AreTaken unit (reverse front) some → some ≡ answers
   same front some is too = taken-alike unit (reverse good) some answers (subst (λ (lines : List Line). AreTaken unit (reverse lines) some) is too) are
 
   abbrev IsRefused : Outcome → Type 0
   IsRefused o = (o ≡ outcome.Refused (refusal_of (length good + 1) why)) × Appends call.out.before call.out.after (coupled_text unit answers)
 
-  refused : (n : ℕ) (told : Fault) → RefusesLine unit n told call → IsRefused (outcome.Refused (refusal_of n told))
+  refused : (n : ℕ) (told : Objection) → RefusesLine unit n told call → IsRefused (outcome.Refused (refusal_of n told))
   refused n told has =
       let (front, line) = parts has.good has.bad has.come in
       let some = same has.good has.answers front has.are_taken in
       let number : n ≡ length good + 1 = has.at ∙ ap (λ (l : List Line). length l + 1) front in
       let law : told ≡ why = (let found = has.refused in cc) in (
-        ap (λ (k : ℕ). outcome.Refused (refusal_of k told)) number ∙ ap (λ (f : Fault). outcome.Refused (refusal_of (length good + 1) f)) law,
-        subst (λ (a : List Answer). Appends call.out.before call.out.after (coupled_text unit a)) some has.written,
+        ap (λ (k : ℕ). outcome.Refused (refusal_of k told)) number ∙ ap (λ (f : Objection). outcome.Refused (refusal_of (length good + 1) f)) law,
+        subst (λ (a : List PartnerAnswer). Appends call.out.before call.out.after (coupled_text unit a)) some has.written,
       )
 
   no-more : length answers < most_answers → RefusesMore unit call → ⊥

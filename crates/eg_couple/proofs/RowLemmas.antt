@@ -1,7 +1,7 @@
 -- The rows of a coupled run, one for each answer, and the text that is made of them.
 use Rattle.std.proofs.Common.{◌∙◌, sym, ap, refl, suc, List, [], ◌∷◌, ◌++◌, append_assoc, append-nil, ℕ, length}
 use Rattle.eg_record.specs.declared.row.Row.{Row}
-use Rattle.eg_readings.specs.declared.answered.Answer.{Answer}
+use Rattle.eg_readings.specs.declared.answered.PartnerAnswer.{PartnerAnswer}
 use Rattle.eg_model.specs.Moments.{moment_in}
 use Rattle.eg_model.specs.Spans.{moment_at, moments, next, next_after}
 use Rattle.eg_model.specs.Rows.{row_of, rows_of}
@@ -21,14 +21,14 @@ rows_come_in_turn unit before answer =
     (length-run_moments unit.setting (entries_by unit before) ∙ length-entries_by unit before)
 
 -- and what it has was answered
-pub rows_show_answers : (unit : CoupledUnit) (answers : List Answer) → ShowAnswers (coupled_rows unit answers) answers
+pub rows_show_answers : (unit : CoupledUnit) (answers : List PartnerAnswer) → ShowAnswers (coupled_rows unit answers) answers
 unfolding coupled_rows coupled_moments entries_by entry_by moments rows_of row_of next_after moment_at moment_in
 rows_show_answers unit [] = tt
 rows_show_answers unit (answer ∷ before) =
     (refl, record { plate = refl; charge = refl; torque = refl }, rows_show_answers unit before)
 
 -- and a line
-pub text_tells_rows : (unit : CoupledUnit) (answers : List Answer) → TellsRows unit answers
+pub text_tells_rows : (unit : CoupledUnit) (answers : List PartnerAnswer) → TellsRows unit answers
 unfolding coupled_text answer_line coupled_lines commands_by coupled_rows coupled_moments entries_by moments rows_of
 text_tells_rows unit [] = record {
   text = sym (append-nil (coupled_header ++ first_line (commands_next unit.setting [])));

@@ -8,7 +8,7 @@ use Rattle.eg_num.specs.Drive.{DriveRow, IsDrive}
 use Rattle.eg_values.specs.Calibration.{IsAccepted}
 use Rattle.eg_plant.specs.Engine.{Shown, KeepsLaws}
 use Rattle.eg_fault.specs.Faults.{effects}
-use Rattle.eg_readings.specs.declared.answered.Answer.{Answer}
+use Rattle.eg_readings.specs.declared.answered.PartnerAnswer.{PartnerAnswer}
 use Rattle.eg_model.specs.History.{Setting, drives, Moment}
 use Rattle.eg_model.specs.Paths.{both_conduct}
 use Rattle.eg_model.specs.Spans.{kind_at, before_at, next_after, moments}
@@ -26,23 +26,23 @@ use Rattle.eg_couple.proofs.Spoken.{said, said-lawful, Spoken, speak, spoken}
 -- ---- answers in the order of time ----
 
 -- these answers in the order of time, and then those that come later
-unfoldable pub in_time : List Answer → List Answer → List Answer
+unfoldable pub in_time : List PartnerAnswer → List PartnerAnswer → List PartnerAnswer
 in_time [] later = later
 in_time (answer ∷ before) later = in_time before (answer ∷ later)
 
-abbrev drive_of : Answer → DriveRow
+abbrev drive_of : PartnerAnswer → DriveRow
 drive_of answer = answer.drive
 
-abbrev told_of : Answer → Shown
+abbrev told_of : PartnerAnswer → Shown
 told_of answer = answer.told
 
-length-in_time : (before later : List Answer) → length (in_time before later) ≡ length before + length later
+length-in_time : (before later : List PartnerAnswer) → length (in_time before later) ≡ length before + length later
 unfolding in_time
 length-in_time [] later = omega arith
 length-in_time (answer ∷ before) later = let rest = length-in_time before (answer ∷ later) in omega (arith, rest)
 
 -- the drive row behind those of the earlier answers
-drives-in_time : (before later : List Answer) (k : ℕ) (d : DriveRow)
+drives-in_time : (before later : List PartnerAnswer) (k : ℕ) (d : DriveRow)
     → slice_index_or (map drive_of (in_time before later)) (length before + k) d ≡ slice_index_or (map drive_of later) k d
 unfolding in_time
 drives-in_time [] later k d = ap (λ n. slice_index_or (map drive_of later) n d) (let same : 0 + k ≡ k = omega arith in same)
@@ -51,13 +51,13 @@ drives-in_time (answer ∷ before) later k d =
     ∙ drives-in_time before (answer ∷ later) (suc k) d
 
 -- the drive row of the answer that comes behind the earlier ones
-drive-in_time : (before : List Answer) (answer : Answer) (later : List Answer) (d : DriveRow)
+drive-in_time : (before : List PartnerAnswer) (answer : PartnerAnswer) (later : List PartnerAnswer) (d : DriveRow)
     → slice_index_or (map drive_of (in_time before (answer ∷ later))) (length before) d ≡ answer.drive
 drive-in_time before answer later d =
     ap (λ n. slice_index_or (map drive_of (in_time before (answer ∷ later))) n d) (let same : length before ≡ length before + 0 = omega arith in same)
     ∙ drives-in_time before (answer ∷ later) 0 d
 
-are-drives : (unit : CoupledUnit) (before later : List Answer) → AreLawful unit before → All IsDrive (map drive_of later)
+are-drives : (unit : CoupledUnit) (before later : List PartnerAnswer) → AreLawful unit before → All IsDrive (map drive_of later)
     → All IsDrive (map drive_of (in_time before later))
 unfolding AreLawful in_time
 are-drives unit [] later lawful rest = rest
@@ -67,29 +67,29 @@ are-drives unit (answer ∷ before) later lawful rest =
 -- ---- the run ----
 
 -- the engine that shows these answers, and their run, for answers in the order of time
-abbrev pub engine_by : (Shown → Shown) → List Answer → BenchEngine Spoken
+abbrev pub engine_by : (Shown → Shown) → List PartnerAnswer → BenchEngine Spoken
 engine_by through all = spoken through (map told_of all)
 
-abbrev pub run_by : CoupledUnit → List Answer → Run
+abbrev pub run_by : CoupledUnit → List PartnerAnswer → Run
 run_by unit all = record { setting = unit.setting; plan = unit.plan; drive = map drive_of all }
 
 -- what is shown of each of these answers is what was told
-abbrev pub AreShown : (Shown → Shown) → List Answer → Type 0
+abbrev pub AreShown : (Shown → Shown) → List PartnerAnswer → Type 0
 AreShown through answers = All (λ answer. through answer.told ≡ answer.told) answers
 
-pub spoken-run : (unit : CoupledUnit) (answers : List Answer) → IsAccepted unit.setting.cal → AreLawful unit answers → IsRun (run_by unit (in_time answers []))
+pub spoken-run : (unit : CoupledUnit) (answers : List PartnerAnswer) → IsAccepted unit.setting.cal → AreLawful unit answers → IsRun (run_by unit (in_time answers []))
 spoken-run unit answers accepted lawful = record {
   accepted = accepted;
   drive = are-drives unit answers [] lawful (All-nil IsDrive);
 }
 
-pub length-entries_by : (unit : CoupledUnit) (answers : List Answer) → length (entries_by unit answers) ≡ length answers
+pub length-entries_by : (unit : CoupledUnit) (answers : List PartnerAnswer) → length (entries_by unit answers) ≡ length answers
 unfolding entries_by
 length-entries_by unit [] = refl
 length-entries_by unit (answer ∷ before) = ap suc (length-entries_by unit before)
 
 -- After the ticks of these answers what came in is what the coupled run has, and the later ones are to come.
-record Speaks (unit : CoupledUnit) (b : BenchEngine Spoken) (r : Run) (before later : List Answer) : Type 0 where
+record Speaks (unit : CoupledUnit) (b : BenchEngine Spoken) (r : Run) (before later : List PartnerAnswer) : Type 0 where
   entries : entries_to b r (length before) ≡ entries_by unit before
   to_come : (engine_after b unit.setting (moments_to b r (length before))).to_come ≡ map told_of later
 
@@ -98,7 +98,7 @@ module _ (unit : CoupledUnit) (through : Shown → Shown) (accepted : IsAccepted
   s = unit.setting
 
   -- one answer more, behind those before it
-  module _ (before : List Answer) (answer : Answer) (later : List Answer) (lawful : IsLawful unit before answer)
+  module _ (before : List PartnerAnswer) (answer : PartnerAnswer) (later : List PartnerAnswer) (lawful : IsLawful unit before answer)
       (shown : through answer.told ≡ answer.told) where
     abbrev b : BenchEngine Spoken
     b = engine_by through (in_time before (answer ∷ later))
@@ -151,7 +151,7 @@ module _ (unit : CoupledUnit) (through : Shown → Shown) (accepted : IsAccepted
         to_come = ap (λ told. (speak s.cal.plant.kt (next_after s (entry_at b r t past) past).on told).to_come) so_far.to_come;
       }
 
-  speaks : (before later : List Answer) → AreLawful unit before → AreShown through before
+  speaks : (before later : List PartnerAnswer) → AreLawful unit before → AreShown through before
       → Speaks unit (engine_by through (in_time before later)) (run_by unit (in_time before later)) before later
   unfolding AreLawful in_time entries_to entries_by moments_to engine_after spoken
   speaks [] later lawful shown = record { entries = refl; to_come = refl }
@@ -161,7 +161,7 @@ module _ (unit : CoupledUnit) (through : Shown → Shown) (accepted : IsAccepted
 
   -- ---- its rows ----
 
-  pub spoken-rows : (answers : List Answer) → AreLawful unit answers → AreShown through answers
+  pub spoken-rows : (answers : List PartnerAnswer) → AreLawful unit answers → AreShown through answers
       → record_rows (engine_by through (in_time answers [])) (run_by unit (in_time answers [])) ≡ coupled_rows unit answers
   unfolding record_rows coupled_rows coupled_moments
   spoken-rows answers lawful shown =

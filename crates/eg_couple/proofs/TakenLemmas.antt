@@ -11,7 +11,7 @@ use Rattle.eg_input.specs.DriveTrace.{drive_at, drive_of}
 use Rattle.eg_input.proofs.FieldLemmas.{drive_of-limits}
 use Rattle.eg_readings.specs.Recording.{before_return, fields_of}
 use Rattle.eg_readings.specs.Answering.{shown_from, shown_at, answer_from, answer_at, answer_of}
-use Rattle.eg_readings.specs.declared.answered.Answer.{Answer}
+use Rattle.eg_readings.specs.declared.answered.PartnerAnswer.{PartnerAnswer}
 use Rattle.eg_fault.specs.Faults.{effects}
 use Rattle.eg_model.specs.History.{Setting, Entry, Drive, Test, drives, Moment}
 use Rattle.eg_model.specs.Paths.{both_conduct}
@@ -20,7 +20,7 @@ use Rattle.eg_model.specs.Spans.{span_so_far, span_kind, has_passed, kind_at, be
 use Rattle.eg_model.specs.Premises.{IsProper, IsProperRun}
 use Rattle.eg_tick.specs.Commanding.{commands_after, commanded_at, commands_next}
 use Rattle.eg_tick.specs.declared.commands.Commands.{Commands}
-use Rattle.eg_couple.specs.Coupled.{CoupledUnit, entry_by, entries_by, Fault, LoadBelowTorque, TorqueWhileOff, NoAnswer, covers, lawful, lawful_if_any, taken, AreTaken}
+use Rattle.eg_couple.specs.Coupled.{CoupledUnit, entry_by, entries_by, Objection, LoadBelowTorque, TorqueWhileOff, NoAnswer, covers, lawful, lawful_if_any, taken, AreTaken}
 
 -- ---- an answer keeps the limits of its fields ----
 
@@ -46,24 +46,24 @@ shown_at-position fields shown is = at (number_at fields 5 1000) (number_at fiel
     at (Some position) (Some load_1) (Some load_2) None p e = absurd cc
 
 -- the drive row of an answer, and its position, keep their limits
-pub record KeepsLimits (answer : Answer) : Type 0 where
+pub record KeepsLimits (answer : PartnerAnswer) : Type 0 where
   pub drive : IsDrive answer.drive
   pub position : answer.told.position ≤ 1000
 
-answer_at-limits : (fields : List (List ℕ)) (answer : Answer) → answer_at fields ≡ Some answer → KeepsLimits answer
+answer_at-limits : (fields : List (List ℕ)) (answer : PartnerAnswer) → answer_at fields ≡ Some answer → KeepsLimits answer
 unfolding answer_at answer_from drive_of
 answer_at-limits fields answer is = at (length fields == 9) (drive_at fields (truth_at fields 3) (truth_at fields 4)) (shown_at fields) refl refl refl is
   where
     at : (nine : Bool) (d : Option DriveRow) (s : Option Shown) → (length fields == 9) ≡ nine → drive_at fields (truth_at fields 3) (truth_at fields 4) ≡ d
         → shown_at fields ≡ s → (if nine then answer_from d s else None) ≡ Some answer → KeepsLimits answer
     at true (Some drive) (Some shown) n d s e =
-        let made : ◌≡◌ {A = Answer} (record { drive = drive; told = shown }) answer = cc in
+        let made : ◌≡◌ {A = PartnerAnswer} (record { drive = drive; told = shown }) answer = cc in
         subst KeepsLimits made (record { drive = drive_of-limits 9 fields drive (rw n d); position = shown_at-position fields shown s })
     at true None s n d' s' e = absurd cc
     at true (Some drive) None n d s' e = absurd cc
     at false d s n d' s' e = absurd cc
 
-pub answer_of-limits : (line : List ℕ) (answer : Answer) → answer_of line ≡ Some answer → KeepsLimits answer
+pub answer_of-limits : (line : List ℕ) (answer : PartnerAnswer) → answer_of line ≡ Some answer → KeepsLimits answer
 unfolding answer_of
 answer_of-limits line answer is = answer_at-limits (fields_of (before_return line)) answer is
 
@@ -74,7 +74,7 @@ pub on-commanded : (s : Setting) (e : Entry) (h : List Entry) → (next s e h).o
 unfolding next next_after moment_at moment_in commanded_at commands_after
 on-commanded s e h = refl
 
-pub on-answered : (unit : CoupledUnit) (t : ℕ) (answer : Answer) (before : List Answer)
+pub on-answered : (unit : CoupledUnit) (t : ℕ) (answer : PartnerAnswer) (before : List PartnerAnswer)
     → (next unit.setting (entry_by unit t answer) (entries_by unit before)).on ≡ (commanded_at unit.setting answer.drive (entries_by unit before)).on
 unfolding entry_by
 on-answered unit t answer before = on-commanded unit.setting (entry_by unit t answer) (entries_by unit before)
@@ -95,18 +95,18 @@ on-told s drive h told false true is row was = ap (on_by s (moments s h)) row �
 on-told s drive h told false false is row was = ap (on_by s (moments s h)) row ∙ sym (ap (λ (c : Commands). c.on) is) ∙ was
 
 -- What an answer after these keeps that was taken.
-pub record IsLawful (unit : CoupledUnit) (before : List Answer) (answer : Answer) : Type 0 where
+pub record IsLawful (unit : CoupledUnit) (before : List PartnerAnswer) (answer : PartnerAnswer) : Type 0 where
   pub drive : IsDrive answer.drive
   pub engine : KeepsLaws unit.setting.cal.rules.kt answer.told
   pub no_torque : (commanded_at unit.setting answer.drive (entries_by unit before)).on ≡ false → answer.told.torque ≡ 0
 
 -- the laws at the door, by the two tests
-pub record PassesTests (unit : CoupledUnit) (before : List Answer) (answer : Answer) : Type 0 where
+pub record PassesTests (unit : CoupledUnit) (before : List PartnerAnswer) (answer : PartnerAnswer) : Type 0 where
   pub covered : covers unit.setting.cal.rules.kt answer.told ≡ true
   pub no_torque : (commanded_at unit.setting answer.drive (entries_by unit before)).on ≡ false → answer.told.torque ≡ 0
 
 -- what is answered where both laws are kept is the answer
-pub lawful-passes : (unit : CoupledUnit) (before : List Answer) (answer other : Answer) → lawful unit before answer ≡ Ok other
+pub lawful-passes : (unit : CoupledUnit) (before : List PartnerAnswer) (answer other : PartnerAnswer) → lawful unit before answer ≡ Ok other
     → PassesTests unit before answer × (answer ≡ other)
 unfolding lawful
 lawful-passes unit before answer other is =
@@ -114,10 +114,10 @@ lawful-passes unit before answer other is =
   where
     at : (covered on none : Bool) → covers unit.setting.cal.rules.kt answer.told ≡ covered
         → (commanded_at unit.setting answer.drive (entries_by unit before)).on ≡ on → (answer.told.torque == 0) ≡ none
-        → ◌≡◌ {A = Result Answer Fault} (if not covered then Err LoadBelowTorque else if not on && not none then Err TorqueWhileOff else Ok answer) (Ok other)
+        → ◌≡◌ {A = Result PartnerAnswer Objection} (if not covered then Err LoadBelowTorque else if not on && not none then Err TorqueWhileOff else Ok answer) (Ok other)
         → PassesTests unit before answer × (answer ≡ other)
-    at false on none c o n e = absurd (let never : ◌≡◌ {A = Result Answer Fault} (Err LoadBelowTorque) (Ok other) = e in cc)
-    at true false false c o n e = absurd (let never : ◌≡◌ {A = Result Answer Fault} (Err TorqueWhileOff) (Ok other) = e in cc)
+    at false on none c o n e = absurd (let never : ◌≡◌ {A = Result PartnerAnswer Objection} (Err LoadBelowTorque) (Ok other) = e in cc)
+    at true false false c o n e = absurd (let never : ◌≡◌ {A = Result PartnerAnswer Objection} (Err TorqueWhileOff) (Ok other) = e in cc)
     at true false true c o n e = (record { covered = c; no_torque = λ off. grind (arith, nat_tests) }, cc)
     at true true none c o n e = (record { covered = c; no_torque = λ off. absurd (let never : true ≡ false = sym o ∙ off in cc) }, cc)
 
@@ -127,19 +127,19 @@ unfolding covers
 covers-laws kt shown within covered = record { position = within; load_1 = grind (arith, nat_tests); load_2 = grind (arith, nat_tests) }
 
 -- so an answer that was taken is lawful, and it is what the line answers
-pub taken-answer : (unit : CoupledUnit) (before : List Answer) (line : List ℕ) (answer : Answer) → taken unit before line ≡ Ok answer
+pub taken-answer : (unit : CoupledUnit) (before : List PartnerAnswer) (line : List ℕ) (answer : PartnerAnswer) → taken unit before line ≡ Ok answer
     → (answer_of line ≡ Some answer) × PassesTests unit before answer
 unfolding taken lawful_if_any
 taken-answer unit before line answer is = at (answer_of line) refl is
   where
-    at : (some : Option Answer) → answer_of line ≡ some → lawful_if_any unit before some ≡ Ok answer
+    at : (some : Option PartnerAnswer) → answer_of line ≡ some → lawful_if_any unit before some ≡ Ok answer
         → (answer_of line ≡ Some answer) × PassesTests unit before answer
-    at None e is = absurd (let never : ◌≡◌ {A = Result Answer Fault} (Err NoAnswer) (Ok answer) = is in cc)
+    at None e is = absurd (let never : ◌≡◌ {A = Result PartnerAnswer Objection} (Err NoAnswer) (Ok answer) = is in cc)
     at (Some other) e is =
         let passes = lawful-passes unit before other answer is in
         (e ∙ ap Some passes.1, subst (PassesTests unit before) passes.1 passes.0)
 
-pub taken-lawful : (unit : CoupledUnit) (before : List Answer) (line : List ℕ) (answer : Answer) → taken unit before line ≡ Ok answer
+pub taken-lawful : (unit : CoupledUnit) (before : List PartnerAnswer) (line : List ℕ) (answer : PartnerAnswer) → taken unit before line ≡ Ok answer
     → IsLawful unit before answer
 taken-lawful unit before line answer is =
     let known = taken-answer unit before line answer is in
@@ -153,11 +153,11 @@ taken-lawful unit before line answer is =
 -- ---- all answers that were taken ----
 
 -- each of these answers is lawful after those before it
-unfoldable pub AreLawful : CoupledUnit → List Answer → Type 0
+unfoldable pub AreLawful : CoupledUnit → List PartnerAnswer → Type 0
 AreLawful unit [] = Unit {0}
 AreLawful unit (answer ∷ before) = IsLawful unit before answer × AreLawful unit before
 
-pub taken-are-lawful : (unit : CoupledUnit) (lines : List (List ℕ)) (answers : List Answer) → AreTaken unit lines answers → AreLawful unit answers
+pub taken-are-lawful : (unit : CoupledUnit) (lines : List (List ℕ)) (answers : List PartnerAnswer) → AreTaken unit lines answers → AreLawful unit answers
 unfolding AreTaken AreLawful
 taken-are-lawful unit [] [] are = tt
 taken-are-lawful unit (line ∷ lines) (answer ∷ before) are = (taken-lawful unit before line answer are.0, taken-are-lawful unit lines before are.1)
@@ -165,7 +165,7 @@ taken-are-lawful unit [] (answer ∷ before) are = absurd are
 taken-are-lawful unit (line ∷ lines) [] are = absurd are
 
 -- what comes in by a lawful answer is proper
-pub lawful-proper : (unit : CoupledUnit) (t : ℕ) (before : List Answer) (answer : Answer) → IsLawful unit before answer
+pub lawful-proper : (unit : CoupledUnit) (t : ℕ) (before : List PartnerAnswer) (answer : PartnerAnswer) → IsLawful unit before answer
     → IsProper unit.setting (next unit.setting (entry_by unit t answer) (entries_by unit before)).on (entry_by unit t answer)
 lawful-proper unit t before answer is = unfold entry_by in record {
   drive = is.drive;
@@ -173,12 +173,12 @@ lawful-proper unit t before answer is = unfold entry_by in record {
   no_torque = λ off. is.no_torque (sym (on-answered unit t answer before) ∙ off);
 }
 
-pub lawful-proper_run : (unit : CoupledUnit) (answers : List Answer) → AreLawful unit answers → IsProperRun unit.setting (entries_by unit answers)
+pub lawful-proper_run : (unit : CoupledUnit) (answers : List PartnerAnswer) → AreLawful unit answers → IsProperRun unit.setting (entries_by unit answers)
 unfolding AreLawful IsProperRun entries_by
 lawful-proper_run unit [] are = tt
 lawful-proper_run unit (answer ∷ before) are = (lawful-proper unit (length before) before answer are.0, lawful-proper_run unit before are.1)
 
 -- what comes in by answers that were taken is proper at each tick
-pub taken-proper_run : (unit : CoupledUnit) (lines : List (List ℕ)) (answers : List Answer) → AreTaken unit lines answers
+pub taken-proper_run : (unit : CoupledUnit) (lines : List (List ℕ)) (answers : List PartnerAnswer) → AreTaken unit lines answers
     → IsProperRun unit.setting (entries_by unit answers)
 taken-proper_run unit lines answers are = lawful-proper_run unit answers (taken-are-lawful unit lines answers are)

@@ -5,7 +5,7 @@ use Rattle.eg_fault.specs.declared.class.Fault.{Fault}
 use Rattle.eg_plant.specs.Engine.{Shown}
 use Rattle.eg_plant.specs.Foreign.{Foreign, StepsAsTold, powered}
 use Rattle.eg_values.specs.Calibration.{CalibrationParts}
-use Rattle.eg_readings.specs.declared.answered.Answer.{Answer}
+use Rattle.eg_readings.specs.declared.answered.PartnerAnswer.{PartnerAnswer}
 use Rattle.eg_record.specs.declared.row.Row.{Row}
 use Rattle.eg_model.specs.History.{Setting, Entry}
 use Rattle.eg_model.specs.Spans.{next}
@@ -40,7 +40,7 @@ abbrev shows : Foreign → Shown
 shows e = e.shown
 
 -- The tick of an answer after these: the engine is told what it shows then, and the tick is made.
-module _ {X : Type 0} (unit : CoupledUnit) (before : List Answer) (answer : Answer) (old told new : ControllerParts Foreign) (slices : List ℕ) (row : Row)
+module _ {X : Type 0} (unit : CoupledUnit) (before : List PartnerAnswer) (answer : PartnerAnswer) (old told new : ControllerParts Foreign) (slices : List ℕ) (row : Row)
     (coupled : IsCoupled unit before old) (is_lawful : lawful unit before answer ≡ Ok answer)
     (kept : told.kept ≡ old.kept) (tells : told.engine.next ≡ answer.told)
     (slices-are : slices ≡ slice_index_or unit.plan (length before % length unit.plan) [])

@@ -13,14 +13,14 @@ use Rattle.eg_model.specs.Spans.{next}
 use Rattle.eg_tick.specs.Commanding.{commands_after, commanded_at, commands_next}
 use Rattle.eg_couple.specs.Coupled.{CoupledUnit, LoadBelowTorque, TorqueWhileOff, entry_by, entries_by, covers, lawful, lawful_if_any, taken}
 use Rattle.eg_couple.specs.Texts.{held_text, command_columns, line_with, first_line, coupled_line, answer_line}
-use Rattle.eg_readings.specs.declared.answered.Answer.{Answer}
+use Rattle.eg_readings.specs.declared.answered.PartnerAnswer.{PartnerAnswer}
 
 -- every definition of what is told
 unfoldable telling : ℕ
 unfolding digits next whole_model commands_after commanded_at commands_next entry_by entries_by covers lawful lawful_if_any taken held_text command_columns line_with first_line coupled_line answer_line drive_columns engine_columns path_columns signal_columns output_columns value_columns event_columns
 telling = 0
 
-abbrev answer : DriveRow → (position load_1 load_2 torque : ℕ) → Answer
+abbrev answer : DriveRow → (position load_1 load_2 torque : ℕ) → PartnerAnswer
 answer drive position load_1 load_2 torque = record {
   drive = drive;
   told = record { position = position; load_1 = load_1; load_2 = load_2; torque = torque };
@@ -34,7 +34,7 @@ unit image fault = record {
   plan = usual_slices ∷ [];
 }
 
-abbrev resting : Answer
+abbrev resting : PartnerAnswer
 resting = answer at_rest 0 40 40 0
 
 covered : lawful (unit idle None) [] (answer at_rest 0 40 41 100) ≡ Ok (answer at_rest 0 40 41 100)

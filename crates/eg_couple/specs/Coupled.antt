@@ -5,7 +5,7 @@ use Rattle.std.specs.Prelude.{◌≡◌, ℕ, ◌%◌, ◌==◌, Bool, not, ◌&
 use Rattle.eg_num.specs.Arithmetic.{estimate}
 use Rattle.eg_plant.specs.Engine.{Shown}
 use Rattle.eg_readings.specs.Answering.{answer_of}
-use Rattle.eg_readings.specs.declared.answered.Answer.{Answer}
+use Rattle.eg_readings.specs.declared.answered.PartnerAnswer.{PartnerAnswer}
 use Rattle.eg_values.specs.Calibration.{CalibrationParts}
 use Rattle.eg_campaign.specs.declared.play.RunInput.{RunInput}
 use Rattle.eg_model.specs.History.{Setting, Entry, Moment}
@@ -25,13 +25,13 @@ pub record CoupledUnit : Type 0 where
 abbrev pub unit_of : CalibrationParts → RunInput → CoupledUnit
 unit_of cal input = record {
   setting = record { cal = cal; image = input.image; fault = input.plan.fault };
-  plan = input.plan.plan;
+  plan = input.plan.slices;
 }
 
 -- ---- what comes in, and what is true ----
 
 -- what comes in at tick t by an answer: the rows of the slice plan come in turn
-unfoldable pub entry_by : CoupledUnit → ℕ → Answer → Entry
+unfoldable pub entry_by : CoupledUnit → ℕ → PartnerAnswer → Entry
 entry_by unit t answer = record {
   drive = answer.drive;
   slices = slice_index_or unit.plan (t % length unit.plan) [];
@@ -39,26 +39,26 @@ entry_by unit t answer = record {
 }
 
 -- what comes in at the ticks of these answers
-unfoldable pub entries_by : CoupledUnit → List Answer → List Entry
+unfoldable pub entries_by : CoupledUnit → List PartnerAnswer → List Entry
 entries_by unit [] = []
 entries_by unit (answer ∷ before) = entry_by unit (length before) answer ∷ entries_by unit before
 
 -- what is true of these ticks
-unfoldable pub coupled_moments : CoupledUnit → List Answer → List Moment
+unfoldable pub coupled_moments : CoupledUnit → List PartnerAnswer → List Moment
 coupled_moments unit answers = moments unit.setting (entries_by unit answers)
 
 -- the rows of the record
-unfoldable pub coupled_rows : CoupledUnit → List Answer → List Row
+unfoldable pub coupled_rows : CoupledUnit → List PartnerAnswer → List Row
 coupled_rows unit answers = rows_of (coupled_moments unit answers)
 
 -- ---- the laws at the door ----
 
 -- why a line isn't taken: it has no answer's form; the estimate of a load lies below the torque; or there is
 -- torque, though the power stages are off
-pub data Fault : Type 0 where
-  NoAnswer : Fault
-  LoadBelowTorque : Fault
-  TorqueWhileOff : Fault
+pub data Objection : Type 0 where
+  NoAnswer : Objection
+  LoadBelowTorque : Objection
+  TorqueWhileOff : Objection
 
 -- the estimate of each load is at least the torque
 unfoldable pub covers : (kt : ℕ) → Shown → Bool
@@ -66,23 +66,24 @@ covers kt shown =
     nat_le shown.torque (estimate kt shown.load_1) && nat_le shown.torque (estimate kt shown.load_2)
 
 -- an answer after these, if it is taken
-unfoldable pub lawful : CoupledUnit → List Answer → Answer → Result Answer Fault
+unfoldable pub lawful : CoupledUnit → List PartnerAnswer → PartnerAnswer → Result PartnerAnswer Objection
 lawful unit before answer =
     if not (covers unit.setting.cal.rules.kt answer.told) then Err LoadBelowTorque
     else if not (commanded_at unit.setting answer.drive (entries_by unit before)).on
     && not (answer.told.torque == 0) then Err TorqueWhileOff
     else Ok answer
 
-unfoldable pub lawful_if_any : CoupledUnit → List Answer → Option Answer → Result Answer Fault
+unfoldable pub lawful_if_any :
+    CoupledUnit → List PartnerAnswer → Option PartnerAnswer → Result PartnerAnswer Objection
 lawful_if_any unit before None = Err NoAnswer
 lawful_if_any unit before (Some answer) = lawful unit before answer
 
 -- what comes of a line after these answers: the answer that it gives, or why it isn't taken
-unfoldable pub taken : CoupledUnit → List Answer → List ℕ → Result Answer Fault
+unfoldable pub taken : CoupledUnit → List PartnerAnswer → List ℕ → Result PartnerAnswer Objection
 taken unit before line = lawful_if_any unit before (answer_of line)
 
 -- Each of these lines was taken, and gave the answer at its place. Lines stand newest first too.
-unfoldable pub AreTaken : CoupledUnit → List (List ℕ) → List Answer → Type 0
+unfoldable pub AreTaken : CoupledUnit → List (List ℕ) → List PartnerAnswer → Type 0
 AreTaken unit [] [] = Unit {0}
 AreTaken unit (line ∷ lines) (answer ∷ before) =
     (taken unit before line ≡ Ok answer) × AreTaken unit lines before

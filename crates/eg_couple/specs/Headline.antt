@@ -6,7 +6,7 @@ use Rattle.eg_answer.specs.Times.{reaction_of, test_ticks_of, HasLapseBound}
 use Rattle.eg_values.specs.Excess.{ticks_to_confirm, longest_stretch}
 use Rattle.eg_fault.specs.Faults.{effects, IsListed}
 use Rattle.eg_fault.specs.declared.paths.TheConstants.{PATH_1, PATH_2}
-use Rattle.eg_readings.specs.declared.answered.Answer.{Answer}
+use Rattle.eg_readings.specs.declared.answered.PartnerAnswer.{PartnerAnswer}
 use Rattle.eg_record.specs.declared.row.Row.{Row}
 use Rattle.eg_record.specs.Rows.{AreRows}
 use Rattle.eg_record.specs.Spans.{EachDriveSpan, EachTestSpan}
@@ -76,12 +76,12 @@ pub record CoupledHeadline (s : Setting) (rows : List Row) (one_load : Type 0) :
   pub sharp : one_load → SharpHeadline s rows
 
 -- the engine showed one load twice at each of these answers
-abbrev pub HasOneLoad : List Answer → Type 0
+abbrev pub HasOneLoad : List PartnerAnswer → Type 0
 HasOneLoad answers = All (λ answer. IsOneLoad answer.told) answers
 
 -- Under any image and any slice plan the same answers have the same rows, but for level 1's two outputs. So
 -- level 1 acts by these alone, through the partner.
-abbrev pub ActsByOutputs : CoupledUnit → List Answer → Type 0
+abbrev pub ActsByOutputs : CoupledUnit → List PartnerAnswer → Type 0
 ActsByOutputs unit answers =
     (other : CoupledUnit) → other.setting ≡ running other.setting.image unit.setting →
     map without_outputs (coupled_rows other answers) ≡ map without_outputs (coupled_rows unit answers)
@@ -89,14 +89,14 @@ ActsByOutputs unit answers =
 -- Each answer adds one row: that of its tick, which is the model's next.
 abbrev pub RowsComeInTurn : Type 0
 RowsComeInTurn =
-    (unit : CoupledUnit) (before : List Answer) (answer : Answer) →
+    (unit : CoupledUnit) (before : List PartnerAnswer) (answer : PartnerAnswer) →
     coupled_rows unit (answer ∷ before)
     ≡ row_of (length before)
     (next unit.setting (entry_by unit (length before) answer) (entries_by unit before))
     ∷ coupled_rows unit before
 
 -- these rows have what was answered for them, one for one
-abbrev pub ShowAnswers : List Row → List Answer → Type 0
+abbrev pub ShowAnswers : List Row → List PartnerAnswer → Type 0
 ShowAnswers [] [] = Unit {0}
 ShowAnswers (row ∷ rows) (answer ∷ before) =
     (row.drive ≡ answer.drive) × HasShown row answer.told × ShowAnswers rows before
@@ -105,7 +105,7 @@ ShowAnswers _ _ = ⊥
 -- These rows show the run of these answers, as those of the bench show theirs (`ShowsRun` of `eg_model`): the
 -- tick of each row is the count of the rows before it; it has what was answered, and the torque that its
 -- drive row permits; where the stages are off there is no torque; and the paths do what the fault makes them.
-pub record ShowsAnswers (s : Setting) (answers : List Answer) (rows : List Row) : Type 0 where
+pub record ShowsAnswers (s : Setting) (answers : List PartnerAnswer) (rows : List Row) : Type 0 where
   pub numbered : AreRows rows
   pub answered : ShowAnswers rows answers
   pub permitted : All (λ row. row.limit ≡ limit_at s.cal row.drive) rows
@@ -117,7 +117,7 @@ pub record ShowsAnswers (s : Setting) (answers : List Answer) (rows : List Row) 
 
 -- What a coupled run keeps with these answers: what came in was proper at each tick, and its rows show what
 -- was answered and keep the headline.
-pub record KeepsCoupledHeadline (unit : CoupledUnit) (answers : List Answer) : Type 0 where
+pub record KeepsCoupledHeadline (unit : CoupledUnit) (answers : List PartnerAnswer) : Type 0 where
   pub proper : IsProperRun unit.setting (entries_by unit answers)
   pub shows : ShowsAnswers unit.setting answers (coupled_rows unit answers)
   pub laws : CoupledHeadline unit.setting (coupled_rows unit answers) (HasOneLoad answers)

@@ -4,8 +4,8 @@ use Rattle.eg_base.specs.Outside.{Appends}
 use Rattle.eg_outcome.specs.Lines.{Line}
 use Rattle.eg_outcome.specs.declared.outcome.Outcome.{Outcome}
 use Rattle.eg_outcome.specs.declared.outcome.Outcome.TheVariants as outcome
-use Rattle.eg_readings.specs.declared.answered.Answer.{Answer}
-use Rattle.eg_couple.specs.Coupled.{CoupledUnit, Fault, taken, AreTaken}
+use Rattle.eg_readings.specs.declared.answered.PartnerAnswer.{PartnerAnswer}
+use Rattle.eg_couple.specs.Coupled.{CoupledUnit, Objection, taken, AreTaken}
 use Rattle.eg_couple.specs.Texts.{coupled_text}
 use Rattle.eg_couple.specs.Running.{refusal_of}
 use Rattle.eg_couple.specs.Streams.{most_answers, Coupling, CouplingEnds}
@@ -19,7 +19,7 @@ use Rattle.eg_couple.specs.Streams.{most_answers, Coupling, CouplingEnds}
 abbrev pub ReadsNoAnswerAhead : Type 0
 ReadsNoAnswerAhead =
     (unit : CoupledUnit) (call : Coupling) (o : Outcome) → CouplingEnds unit call o →
-    (answers : List Answer) (good rest : List Line) (bad : Line) (why : Fault) →
+    (answers : List PartnerAnswer) (good rest : List Line) (bad : Line) (why : Objection) →
     call.lines.before.lines ≡ Some (good ++ bad ∷ rest) → call.lines.after.lines ≡ Some rest →
     AreTaken unit (reverse good) answers → taken unit answers bad ≡ Err why → length answers < most_answers →
     (o ≡ outcome.Refused (refusal_of (length good + 1) why))

@@ -15,12 +15,12 @@ use Rattle.eg_outcome.specs.declared.outcome.Outcome.TheVariants as outcome
 use Rattle.eg_outcome.specs.declared.outcome.Refusal.TheVariants as refusal
 use Rattle.eg_outcome.specs.declared.outcome.AnswerFault.TheVariants as answer_fault
 use Rattle.eg_outcome.specs.declared.outcome.Role.TheVariants as role
-use Rattle.eg_readings.specs.declared.answered.Answer.{Answer}
+use Rattle.eg_readings.specs.declared.answered.PartnerAnswer.{PartnerAnswer}
 use Rattle.eg_campaign.specs.declared.play.RunInput.{RunInput}
 use Rattle.eg_tick.specs.Weights.{TickCount}
 use Rattle.eg_tick.specs.Counting.{count_with}
 use Rattle.eg_play.specs.Ends.{UndrivenComes}
-use Rattle.eg_couple.specs.Coupled.{CoupledUnit, Fault, NoAnswer, LoadBelowTorque, TorqueWhileOff, unit_of, coupled_rows, taken, AreTaken}
+use Rattle.eg_couple.specs.Coupled.{CoupledUnit, Objection, NoAnswer, LoadBelowTorque, TorqueWhileOff, unit_of, coupled_rows, taken, AreTaken}
 use Rattle.eg_couple.specs.Texts.{coupled_text}
 use Rattle.eg_couple.specs.Headline.{KeepsCoupledHeadline}
 
@@ -41,7 +41,7 @@ coupling lines out ticks = record { lines = lines; out = out; ticks = ticks }
 
 -- These lines came, each was taken and gave an answer, and a tick was made and counted for each. The rows of
 -- these ticks keep the headline.
-pub record Couples (unit : CoupledUnit) (came : List Line) (answers : List Answer) (call : Coupling)
+pub record Couples (unit : CoupledUnit) (came : List Line) (answers : List PartnerAnswer) (call : Coupling)
     : Type 0 where
   pub come : Come call.lines came
   pub are_taken : AreTaken unit (reverse came) answers
@@ -52,17 +52,17 @@ pub record Couples (unit : CoupledUnit) (came : List Line) (answers : List Answe
 -- all lines came and were taken, and all that is said of them was written
 pub record CouplesAll (unit : CoupledUnit) (call : Coupling) : Type 0 where
   pub came : List Line
-  pub answers : List Answer
+  pub answers : List PartnerAnswer
   pub couples : Couples unit came answers call
   pub at_end : IsAtEnd call.lines
   pub written : Appends call.out.before call.out.after (coupled_text unit answers)
 
 -- The line of this number, the first being 1, is the first that isn't taken, and this is why. It was the last
 -- that was read, and all that is said of those before it was written.
-pub record RefusesLine (unit : CoupledUnit) (number : ℕ) (why : Fault) (call : Coupling) : Type 0 where
+pub record RefusesLine (unit : CoupledUnit) (number : ℕ) (why : Objection) (call : Coupling) : Type 0 where
   pub good : List Line
   pub bad : Line
-  pub answers : List Answer
+  pub answers : List PartnerAnswer
   pub come : Come call.lines (good ++ bad ∷ [])
   pub are_taken : AreTaken unit (reverse good) answers
   pub few : length answers + 1 ≤ most_answers
@@ -76,7 +76,7 @@ pub record RefusesLine (unit : CoupledUnit) (number : ℕ) (why : Fault) (call :
 pub record RefusesMore (unit : CoupledUnit) (call : Coupling) : Type 0 where
   pub good : List Line
   pub more : Line
-  pub answers : List Answer
+  pub answers : List PartnerAnswer
   pub come : Come call.lines (good ++ more ∷ [])
   pub are_taken : AreTaken unit (reverse good) answers
   pub full : length answers ≡ most_answers
@@ -87,14 +87,14 @@ pub record RefusesMore (unit : CoupledUnit) (call : Coupling) : Type 0 where
 -- some lines were taken, all that is said of them was written, and then reading failed
 pub record FailsToReadOn (unit : CoupledUnit) (call : Coupling) : Type 0 where
   pub came : List Line
-  pub answers : List Answer
+  pub answers : List PartnerAnswer
   pub couples : Couples unit came answers call
   pub written : Appends call.out.before call.out.after (coupled_text unit answers)
 
 -- some lines were taken, and then the call ended early: a front of what is said of them was written, or all
 pub record StopsWithin (unit : CoupledUnit) (call : Coupling) : Type 0 where
   pub came : List Line
-  pub answers : List Answer
+  pub answers : List PartnerAnswer
   pub couples : Couples unit came answers call
   pub written : AppendsPrefix call.out.before call.out.after (coupled_text unit answers)
 

@@ -2,7 +2,7 @@
 -- commands, and for each answer the record's row with what the next tick commands.
 use Rattle.std.specs.Prelude.{◌≡◌, ℕ, List, [], ◌∷◌, ◌++◌, length, replicate, codes, decimal, Option, Some, None}
 use Rattle.std.specs.List.{join_with_byte}
-use Rattle.eg_readings.specs.declared.answered.Answer.{Answer}
+use Rattle.eg_readings.specs.declared.answered.PartnerAnswer.{PartnerAnswer}
 use Rattle.eg_record.specs.declared.row.Row.{Row}
 use Rattle.eg_record.specs.Texts.{comma, bit, columns}
 use Rattle.eg_model.specs.Spans.{next}
@@ -41,7 +41,7 @@ unfoldable pub coupled_line : Row → Commands → List ℕ
 coupled_line row next = line_with (columns row) next
 
 -- the line of the tick of an answer, after these
-unfoldable pub answer_line : CoupledUnit → List Answer → Answer → List ℕ
+unfoldable pub answer_line : CoupledUnit → List PartnerAnswer → PartnerAnswer → List ℕ
 answer_line unit before answer =
     coupled_line
     (row_of (length before)
@@ -49,14 +49,14 @@ answer_line unit before answer =
     (commands_next unit.setting (entries_by unit (answer ∷ before)))
 
 -- all that is written once these answers have come
-unfoldable pub coupled_text : CoupledUnit → List Answer → List ℕ
+unfoldable pub coupled_text : CoupledUnit → List PartnerAnswer → List ℕ
 coupled_text unit [] = coupled_header ++ first_line (commands_next unit.setting [])
 coupled_text unit (answer ∷ before) = coupled_text unit before ++ answer_line unit before answer
 
 -- ---- the text by its rows ----
 
 -- what is told with each row, newest first
-unfoldable pub commands_by : CoupledUnit → List Answer → List Commands
+unfoldable pub commands_by : CoupledUnit → List PartnerAnswer → List Commands
 commands_by unit [] = []
 commands_by unit (answer ∷ before) =
     commands_next unit.setting (entries_by unit (answer ∷ before)) ∷ commands_by unit before
@@ -67,11 +67,11 @@ coupled_lines (row ∷ rows) (next ∷ told) = coupled_lines rows told ++ couple
 coupled_lines _ _ = []
 
 -- What is written is the header, the line before the first tick, and a line for each row of the run.
-pub record TellsRows (unit : CoupledUnit) (answers : List Answer) : Type 0 where
+pub record TellsRows (unit : CoupledUnit) (answers : List PartnerAnswer) : Type 0 where
   pub text : coupled_text unit answers ≡ (coupled_header ++ first_line (commands_next unit.setting []))
       ++ coupled_lines (coupled_rows unit answers) (commands_by unit answers)
   pub rows : length (coupled_rows unit answers) ≡ length answers
   pub told : length (commands_by unit answers) ≡ length answers
 
 abbrev pub TextTellsRows : Type 0
-TextTellsRows = (unit : CoupledUnit) (answers : List Answer) → TellsRows unit answers
+TextTellsRows = (unit : CoupledUnit) (answers : List PartnerAnswer) → TellsRows unit answers

@@ -4,7 +4,7 @@ ghost use Rattle.eg_outcome.specs.Changes.{change_of};
 ghost use Rattle.eg_outcome.specs.Lines.{LineComes};
 ghost use Rattle.eg_outcome.specs.declared.outcome.Outcome.TheVariants.{Refused};
 ghost use Rattle.eg_outcome.specs.declared.outcome.Refusal.TheVariants as refusal;
-ghost use Rattle.eg_readings.specs.declared.answered.Answer.{Answer as SomeAnswer};
+ghost use Rattle.eg_readings.specs.declared.answered.PartnerAnswer.{PartnerAnswer as SomeAnswer};
 ghost use Rattle.eg_readings.specs.declared.answered.TheConstants.{MOST_ANSWER_BYTES};
 ghost use Rattle.eg_model.specs.History.{Setting, Entry};
 ghost use Rattle.eg_tick.specs.Commanding.{commanded_at, commands_next};
@@ -15,8 +15,8 @@ use eg_input::TraceFault;
 use eg_lines::Lines;
 use eg_num::Drive;
 use eg_outcome::{AnswerFault, Outcome, Refusal, next_line};
-use eg_plant::Told;
-use eg_readings::{Answer, answer_of};
+use eg_plant::PartnerStep;
+use eg_readings::{PartnerAnswer, answer_of};
 use eg_tick::Commands;
 use eg_torque::actual;
 use std::alloc::Global;
@@ -48,7 +48,7 @@ impl Partner {
         number: u32,
         told: &Commands,
         lines: &mut L,
-    ) -> Result<Option<Answer>, Outcome>
+    ) -> Result<Option<PartnerAnswer>, Outcome>
         ensures next { (unit : CoupledUnit) (before : List SomeAnswer)
             → told.now ≡ commands_next unit.setting (entries_by unit before)
             → number ≡ length before + 1 → unit.setting.cal.rules.kt ≡ self.old.kt
@@ -74,7 +74,7 @@ impl Partner {
 
     /// The answer that the line gives which was read, or how the call ends with it.
     #[inline(always)]
-    fn take(&self, number: u32, told: &Commands) -> Result<Answer, Outcome>
+    fn take(&self, number: u32, told: &Commands) -> Result<PartnerAnswer, Outcome>
         ensures { (unit : CoupledUnit) (before : List SomeAnswer)
             → told.now ≡ commands_next unit.setting (entries_by unit before)
             → number ≡ length before + 1 → unit.setting.cal.rules.kt ≡ self.now.kt
@@ -110,7 +110,7 @@ fn refused(fault: AnswerFault) -> Outcome
 
 /// Whether the estimate of each load is at least the torque.
 #[tactic(auto, unfolding(crate::specs::Coupled::covers))]
-fn covers(kt: u16, told: &Told) -> bool
+fn covers(kt: u16, told: &PartnerStep) -> bool
     ensures { result ≡ covers kt told.now }
 {
     let loads = told.loads();

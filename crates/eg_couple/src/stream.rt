@@ -130,7 +130,7 @@ fn couple<L: Lines, K: Sink>(
         let Some(answer) = partner.next(taken + 1, &told, lines)? else {
             return Ok(());
         };
-        let row = answered_row(&mut controller, &input.plan.plan, &answer, steps);
+        let row = answered_row(&mut controller, &input.plan.slices, &answer, steps);
         told = next_commands(&controller);
         put_row(&mut text, &row, &told, out)?;
     }

@@ -5,7 +5,7 @@ ghost use Rattle.eg_guard.specs.declared.regions.TheConstants.{DATA as CODE_END}
 ghost use Rattle.eg_fault.specs.Faults.{IsNoneOrValid};
 ghost use Rattle.eg_model.specs.Spans.{next};
 ghost use Rattle.eg_model.specs.Rows.{row_of};
-ghost use Rattle.eg_readings.specs.declared.answered.Answer.{Answer as SomeAnswer};
+ghost use Rattle.eg_readings.specs.declared.answered.PartnerAnswer.{PartnerAnswer as SomeAnswer};
 ghost use Rattle.eg_tick.specs.Commanding.{commands_next};
 ghost use Rattle.eg_tick.specs.Weights.{weight_of};
 ghost use Rattle.eg_couple.specs.Coupled.{CoupledUnit, unit_of, entry_by, entries_by, lawful, taken};
@@ -17,7 +17,7 @@ use eg_guard::FlatMemory;
 use eg_host::SlicePlan;
 use eg_num::Drive;
 use eg_plant::ForeignEngine;
-use eg_readings::Answer;
+use eg_readings::PartnerAnswer;
 use eg_record::Row;
 use eg_tick::{Commands, Controller, Ticks};
 use eg_values::Calibration;
@@ -57,7 +57,7 @@ fn copied(fault: Option<&Fault>) -> Option<Fault>
 pub(crate) fn answered_row(
     controller: &mut Controller<ForeignEngine, FlatMemory>,
     plan: &SlicePlan,
-    answer: &Answer,
+    answer: &PartnerAnswer,
     steps: &mut Ticks,
 ) -> Row
     requires fewer { controller.old.kept.ticks < 20000 }

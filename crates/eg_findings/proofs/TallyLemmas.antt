@@ -4,7 +4,7 @@ use Rattle.std.specs.Prelude.{◌==◌, if◌then◌else◌, slice_index}
 use Rattle.eg_num.specs.Windows.{greatest_of}
 use Rattle.eg_num.specs.declared.watches.Watches.{Watches}
 use Rattle.eg_record.specs.Detection.{is_trip}
-use Rattle.eg_findings.specs.declared.told.Told.{Told}
+use Rattle.eg_findings.specs.declared.tick_signals.TickSignals.{TickSignals}
 use Rattle.eg_findings.specs.declared.findings.Findings.{Findings}
 use Rattle.eg_findings.specs.Findings.{found_at, trip_at, lasting, longest, surplus_of, findings_of}
 use Rattle.eg_findings.specs.TickMore.{first_with, lasting_with, found_with, greater_counters, surplus_with, findings_with}
@@ -30,16 +30,16 @@ nothing-found tick found f pedal trip = λ i. record f {
     none : (is_such : Bool) (first : Option ℕ) → is_such ≡ false → first_with tick is_such first ≡ first
     none is_such first never = ap (λ b. first_with tick b first) never ∙ first-none tick first
 
-findings_of-more : (t : Told) (before : List Told) → findings_with t (lasting (t ∷ before)) (findings_of before) ≡ findings_of (t ∷ before)
+findings_of-more : (t : TickSignals) (before : List TickSignals) → findings_with t (lasting (t ∷ before)) (findings_of before) ≡ findings_of (t ∷ before)
 unfolding findings_of findings_with found_with found_at trip_at first_with greatest_of greater_counters longest surplus_of surplus_with
 findings_of-more t before = λ i. record (findings_of (t ∷ before)) { ticks = add-one (length before) i }
 
-lasting-more : (t : Told) (before : List Told) → lasting_with t (lasting before) ≡ lasting (t ∷ before)
+lasting-more : (t : TickSignals) (before : List TickSignals) → lasting_with t (lasting before) ≡ lasting (t ∷ before)
 unfolding lasting lasting_with
 lasting-more t before = refl
 
 -- no more ticks in a row than there are
-lasting-few : (ticks : List Told) → lasting ticks ≤ length ticks
+lasting-few : (ticks : List TickSignals) → lasting ticks ≤ length ticks
 unfolding lasting
 lasting-few [] = omega arith
 lasting-few (t ∷ before) =
@@ -51,7 +51,7 @@ lasting-few (t ∷ before) =
     by false few = omega arith
 
 -- so a tally has no more of them than it was fed
-pub lasts-few : (tally : TallyParts) (ticks : List Told) → IsTallyOf tally ticks → tally.lasting ≤ tally.findings.ticks
+pub lasts-few : (tally : TallyParts) (ticks : List TickSignals) → IsTallyOf tally ticks → tally.lasting ≤ tally.findings.ticks
 unfolding findings_of
 lasts-few tally ticks stands =
     let few = lasting-few ticks in
@@ -60,7 +60,7 @@ lasts-few tally ticks stands =
     omega arith
 
 -- a tally that stands for these ticks, fed one more
-pub fed_tally : (tally : TallyParts) (t : Told) (findings : Findings) (lasts : ℕ) (before : List Told) →
+pub fed_tally : (tally : TallyParts) (t : TickSignals) (findings : Findings) (lasts : ℕ) (before : List TickSignals) →
     lasts ≡ lasting_with t tally.lasting → findings ≡ findings_with t lasts tally.findings → IsTallyOf tally before →
     IsTallyOf (record { findings = findings; lasting = lasts }) (t ∷ before)
 fed_tally tally t findings lasts before last added stands =

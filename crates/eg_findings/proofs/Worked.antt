@@ -7,7 +7,7 @@ use Rattle.eg_num.specs.Windows.{greatest_of, WeightParts}
 use Rattle.eg_record.specs.Detection.{is_found, is_trip}
 use Rattle.eg_record.specs.Margins.{greater_than}
 use Rattle.eg_record.specs.Texts.{watch_name, names, found_text, at_text}
-use Rattle.eg_findings.specs.declared.told.Told.{Told}
+use Rattle.eg_findings.specs.declared.tick_signals.TickSignals.{TickSignals}
 use Rattle.eg_findings.specs.Findings.{found_at, trip_at, lasting, longest, surplus_at, surplus_of, findings_of}
 use Rattle.eg_findings.specs.Texts.{signal_columns, weight_columns, columns, signals_line, signals_lines, watch_line, surplus_text, pair_lines, last_lines, replay_text}
 
@@ -21,7 +21,7 @@ abbrev nothing : Watches
 nothing = record { mirror = false; pedal = false; plate = false; load = false; speed = false; torque = false; answers = false; start = false }
 
 -- a tick at which level 2 permits 200, with this estimate, and what is found at it; the plate weighs so much
-abbrev tick : (actual excess plate : ℕ) → Watches → Told
+abbrev tick : (actual excess plate : ℕ) → Watches → TickSignals
 tick actual excess plate found = record {
   signals = 0 ∷ 200 ∷ actual ∷ excess ∷ 2 ∷ [];
   counters = record { pedal = 7; plate = plate; load = 0; speed = 0; torque = 9 };
@@ -29,7 +29,7 @@ tick actual excess plate found = record {
 }
 
 -- The pedal is found at tick 1, which is no trip, and again at tick 3. Plate and torque are found at tick 2, so the surplus of tick 3 doesn't count. No excess at tick 2 breaks a stretch.
-abbrev four : List Told
+abbrev four : List TickSignals
 four =
     tick 900 1 20 (record nothing { pedal = true; load = true }) ∷ tick 190 0 40 (record nothing { plate = true; torque = true })
     ∷ tick 450 1 30 (record nothing { pedal = true }) ∷ tick 300 1 10 nothing ∷ []

@@ -5,7 +5,7 @@ use Rattle.std.specs.List.{join_with_byte}
 use Rattle.std.specs.Fmt.{signed_decimal}
 use Rattle.eg_num.specs.Windows.{WeightParts}
 use Rattle.eg_record.specs.Texts.{comma, at_text, found_text}
-use Rattle.eg_findings.specs.declared.told.Told.{Told}
+use Rattle.eg_findings.specs.declared.tick_signals.TickSignals.{TickSignals}
 use Rattle.eg_findings.specs.declared.findings.Findings.{Findings}
 
 -- ---- `signals` ----
@@ -15,31 +15,31 @@ unfoldable pub signals_header : List ℕ
 signals_header = codes "tick,used,permitted,actual,excess,pairs,pedal,plate,load,speed,torque,found\n"
 
 -- the columns of a tick, in groups: its number; its five signals; the five weights after it; what is found
-unfoldable pub signal_columns : Told → List (List ℕ)
+unfoldable pub signal_columns : TickSignals → List (List ℕ)
 signal_columns t =
     decimal (slice_index t.signals 0) ∷ decimal (slice_index t.signals 1)
     ∷ decimal (slice_index t.signals 2) ∷ decimal (slice_index t.signals 3)
     ∷ decimal (slice_index t.signals 4) ∷ []
 
-unfoldable pub weight_columns : Told → List (List ℕ)
+unfoldable pub weight_columns : TickSignals → List (List ℕ)
 weight_columns t =
     decimal t.counters.pedal ∷ decimal t.counters.plate ∷ decimal t.counters.load
     ∷ decimal t.counters.speed ∷ decimal t.counters.torque ∷ []
 
-unfoldable pub columns : (tick : ℕ) → Told → List (List ℕ)
+unfoldable pub columns : (tick : ℕ) → TickSignals → List (List ℕ)
 columns tick t = (decimal tick ∷ []) ++ signal_columns t ++ weight_columns t ++ (found_text t.found ∷ [])
 
 -- the line of the tick of this number: its columns, joined by commas
-unfoldable pub signals_line : (tick : ℕ) → Told → List ℕ
+unfoldable pub signals_line : (tick : ℕ) → TickSignals → List ℕ
 signals_line tick t = join_with_byte comma (columns tick t) ++ codes "\n"
 
 -- the lines of these ticks, which stand newest first
-unfoldable pub signals_lines : List Told → List ℕ
+unfoldable pub signals_lines : List TickSignals → List ℕ
 signals_lines [] = []
 signals_lines (t ∷ before) = signals_lines before ++ signals_line (length before) t
 
 -- all that `signals` writes of them
-unfoldable pub signals_text : List Told → List ℕ
+unfoldable pub signals_text : List TickSignals → List ℕ
 signals_text ticks = signals_header ++ signals_lines ticks
 
 -- ---- `replay` ----

@@ -4,8 +4,8 @@ use Rattle.std.specs.Option.{option_or}
 use Rattle.eg_record.specs.Margins.{greater_than}
 use Rattle.eg_record.specs.Detection.{is_trip}
 use Rattle.eg_num.specs.declared.watches.Watches.{Watches}
-use Rattle.eg_findings.specs.declared.told.Told.{Told}
-use Rattle.eg_findings.specs.declared.told.Counters.{Counters}
+use Rattle.eg_findings.specs.declared.tick_signals.TickSignals.{TickSignals}
+use Rattle.eg_findings.specs.declared.tick_signals.Counters.{Counters}
 use Rattle.eg_findings.specs.declared.findings.Findings.{Findings}
 use Rattle.eg_findings.specs.Findings.{surplus_at}
 
@@ -14,7 +14,7 @@ unfoldable pub first_with : (tick : ℕ) → Bool → Option ℕ → Option ℕ
 first_with tick is_such first = option_or first (if is_such then Some tick else None)
 
 -- how many ticks in a row have an excess up to this one, where so many had one up to the tick before it
-unfoldable pub lasting_with : Told → (lasting : ℕ) → ℕ
+unfoldable pub lasting_with : TickSignals → (lasting : ℕ) → ℕ
 lasting_with t lasting = if slice_index t.signals 3 == 0 then 0 else lasting + 1
 
 -- the greater of both, debouncer by debouncer
@@ -28,7 +28,7 @@ greater_counters one other = record {
 }
 
 -- the greatest surplus with this tick, before which a watch tripped or didn't
-unfoldable pub surplus_with : Told → (tripped : Bool) → Option ℤ → Option ℤ
+unfoldable pub surplus_with : TickSignals → (tripped : Bool) → Option ℤ → Option ℤ
 surplus_with t tripped surplus = if tripped then surplus else Some (greater_than (surplus_at t) surplus)
 
 -- what findings become by what is found at a tick
@@ -43,7 +43,7 @@ found_with tick found f = record f {
 }
 
 -- what findings become by one tick more, up to which so many in a row have an excess
-unfoldable pub findings_with : Told → (lasting : ℕ) → Findings → Findings
+unfoldable pub findings_with : TickSignals → (lasting : ℕ) → Findings → Findings
 findings_with t lasting f = record (found_with f.ticks t.found f) {
   ticks = f.ticks + 1;
   greatest = greater_counters t.counters f.greatest;

@@ -5,7 +5,7 @@ ghost use Rattle.eg_record.specs.Margins.{greater_than};
 ghost use Rattle.eg_findings.specs.Findings.{findings_of, surplus_at};
 ghost use Rattle.eg_findings.specs.TickMore.{first_with, found_with, greater_counters, findings_with, surplus_with};
 
-use crate::{Counters, Told, Watches};
+use crate::{Counters, TickSignals, Watches};
 use eg_record::{greater_than, is_trip};
 
 /// What the ticks of a replay come to (docs/CONCEPT.md, "`replay` and `signals`"). Ticks are told from 0.
@@ -62,7 +62,7 @@ impl Findings {
     /// Adds what is told of the next tick, up to which so many ticks in a row have an excess. There are fewer
     /// than 2^64 - 1 ticks before it.
     #[inline(always)]
-    pub(crate) fn add(&mut self, told: &Told, lasting: u64)
+    pub(crate) fn add(&mut self, told: &TickSignals, lasting: u64)
         requires fewer { self.old.ticks + 1 < 2 ^ 64 }
         ensures { self.new ≡ findings_with told.now lasting self.old }
     {
@@ -117,7 +117,7 @@ fn greater_counters(one: &Counters, other: &Counters) -> Counters
 
 /// The greatest surplus with this tick, in tenths of Nm: it counts unless a watch tripped before it.
 #[tactic(auto, unfolding(crate::specs::TickMore::surplus_with))]
-fn surplus_with(told: &Told, tripped: bool, surplus: Option<i32>) -> Option<i32>
+fn surplus_with(told: &TickSignals, tripped: bool, surplus: Option<i32>) -> Option<i32>
     ensures { result ≡ surplus_with told.now tripped surplus }
 {
     if tripped {
@@ -129,7 +129,7 @@ fn surplus_with(told: &Told, tripped: bool, surplus: Option<i32>) -> Option<i32>
 
 /// How far the actual torque of level 2 lies above the permitted one at a tick, in tenths of Nm.
 #[tactic(auto, unfolding(crate::specs::Findings::surplus_at))]
-fn surplus_at(told: &Told) -> i32
+fn surplus_at(told: &TickSignals) -> i32
     ensures { result ≡ surplus_at told.now }
 {
     i32::from(told.signals[2]) - i32::from(told.signals[1])

@@ -6,11 +6,11 @@ mod findings;
 mod replay_lines;
 mod signals_line;
 mod tally;
-mod told;
+mod tick_signals;
 
 pub use eg_num::Watches;
 pub use findings::Findings;
 pub use replay_lines::replay_text;
 pub use signals_line::{push_signals, signals_header};
 pub use tally::Tally;
-pub use told::{Counters, Told};
+pub use tick_signals::{Counters, TickSignals};

@@ -5,7 +5,7 @@ ghost use Rattle.eg_base.specs.Outside.{BeginsWith};
 ghost use Rattle.eg_record.specs.Texts.{comma, plus, watch_name, found_text};
 ghost use Rattle.eg_findings.specs.Texts.{signal_columns, signals_header, signals_line, weight_columns};
 
-use crate::{Told, Watches};
+use crate::{TickSignals, Watches};
 use eg_base::NoMemory;
 use eg_record::{Watch, put_number};
 use itoa::write_digits;
@@ -21,7 +21,7 @@ pub fn signals_header() -> &'static str
 /// Appends the line of the tick of this number, with its LF, to a text (docs/FORMATS.md, "The rows of
 /// `signals`"). NoMemory is its one refusal. Then what stood there stays, perhaps with a part of the line
 /// behind it.
-pub fn push_signals(text: &mut Vec<u8>, tick: u64, told: &Told) -> Result<(), NoMemory>
+pub fn push_signals(text: &mut Vec<u8>, tick: u64, told: &TickSignals) -> Result<(), NoMemory>
     ensures line { OnOk result (text.new.items ≡ text.old.items ++ signals_line tick told.now) }
     ensures kept { OnErr result (BeginsWith text.old.items text.new.items) }
 {
@@ -39,7 +39,7 @@ const NUMBERS_ROOM: usize = 131;
 
 /// Puts the numbers of a line to the end of an array, with a comma behind each, and tells where they start.
 /// They are put from the last to the first, since the digits of a number are found so.
-fn put_numbers(tick: u64, told: &Told, line: &mut [u8; NUMBERS_ROOM]) -> usize
+fn put_numbers(tick: u64, told: &TickSignals, line: &mut [u8; NUMBERS_ROOM]) -> usize
     ensures put { drop result line.new ≡ decimal tick ++ codes ","
         ++ join_with_byte comma (signal_columns told.now) ++ codes ","
         ++ join_with_byte comma (weight_columns told.now) ++ codes "," }
@@ -51,7 +51,7 @@ fn put_numbers(tick: u64, told: &Told, line: &mut [u8; NUMBERS_ROOM]) -> usize
 }
 
 /// Puts the columns of the five signals.
-fn put_signals(told: &Told, line: &mut [u8], end: usize) -> usize
+fn put_signals(told: &TickSignals, line: &mut [u8], end: usize) -> usize
     requires room { 55 ≤ end }
     requires within { end ≤ length line.old }
     ensures put { drop result line.new
@@ -68,7 +68,7 @@ fn put_signals(told: &Told, line: &mut [u8], end: usize) -> usize
 }
 
 /// Puts the columns of the five weights.
-fn put_weights(told: &Told, line: &mut [u8], end: usize) -> usize
+fn put_weights(told: &TickSignals, line: &mut [u8], end: usize) -> usize
     requires room { 55 ≤ end }
     requires within { end ≤ length line.old }
     ensures put { drop result line.new

@@ -4,7 +4,7 @@ ghost use Rattle.eg_findings.specs.Findings.{findings_of};
 ghost use Rattle.eg_findings.specs.TickMore.{lasting_with};
 ghost use Rattle.eg_findings.specs.Tallies.{IsTallyOf, IsTally};
 
-use crate::{Findings, Told};
+use crate::{Findings, TickSignals};
 use std::marker::Model;
 
 /// A tally is fed what is told of the ticks of a replay one by one, from tick 0 on, and has their findings in
@@ -43,11 +43,11 @@ impl Tally {
 
     /// Feeds what is told of the next tick. Fewer than 2^64 - 1 ticks were fed before.
     #[inline(always)]
-    pub fn feed(&mut self, told: &Told)
+    pub fn feed(&mut self, told: &TickSignals)
         requires fewer { self.old.findings.ticks + 1 < 2 ^ 64 }
         ensures ticks { self.new.findings.ticks ≡ self.old.findings.ticks + 1 }
         // It stands for the ticks that it stood for, whichever they are, and this one.
-        ensures stands { (ticks : List Told) → IsTallyOf self.old ticks →
+        ensures stands { (ticks : List TickSignals) → IsTallyOf self.old ticks →
             IsTallyOf self.new (told.now ∷ ticks) }
     {
         self.lasting = lasting_with(told, self.lasting);
@@ -59,7 +59,8 @@ impl Tally {
     #[inline(never)]
     pub fn findings(&self) -> Findings
         ensures kept { result ≡ self.now.findings }
-        ensures findings { (ticks : List Told) → IsTallyOf self.now ticks → result ≡ findings_of ticks }
+        ensures findings { (ticks : List TickSignals) → IsTallyOf self.now ticks →
+            result ≡ findings_of ticks }
         // Each tally stands for some ticks.
         ensures some { IsTally self.now }
     {
@@ -69,7 +70,7 @@ impl Tally {
 
 /// How many ticks in a row have an excess up to this one, where so many had one up to the tick before it.
 #[tactic(auto, unfolding(crate::specs::TickMore::lasting_with))]
-fn lasting_with(told: &Told, lasting: u64) -> u64
+fn lasting_with(told: &TickSignals, lasting: u64) -> u64
     requires fewer { lasting + 1 < 2 ^ 64 }
     ensures { result ≡ lasting_with told.now lasting }
 {

@@ -1,5 +1,5 @@
--- What `table` tells of the rows of a run, in words: its `peak`, `stretch` and `reaction` are the least numbers
--- of which something is so at each row, or in each span, of the run. Rows stand newest first.
+-- What `table` tells of the rows of a run, in words: its `peak`, `stretch` and `reaction` are the least
+-- numbers of which something is so at each row, or in each span, of the run. Rows stand newest first.
 use Rattle.std.specs.Prelude.{◌≡◌, ◌↔◌, ℕ, ◌+◌, ◌≤◌, true, false, List, [], ◌∷◌, ◌++◌, All, map, Option, Some, None}
 use Rattle.std.specs.List.{Contains}
 use Rattle.eg_num.specs.Windows.{WeightParts, is_confirmed}

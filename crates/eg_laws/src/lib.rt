@@ -1,9 +1,9 @@
 //! Laws of all runs besides those of `eg_model`: that R is the least worst-case reaction, which bound for
-//! lapses is the least, how long an excess lasts and how often it may come again, which numbers `table` tells,
-//! whether each shut-off path conducts, what is so under several faults at once, and under which lapses wrong
-//! answers never cut before a trip. Nothing here runs: specs/ has the definitions, and the functions carry the
-//! laws as their contracts. The crate stands apart from `eg_model` so that each of these laws has must-fail
-//! edits of its own.
+//! lapses is the least, how long an excess lasts and how often it may come again, which numbers `table`
+//! tells, whether each shut-off path conducts, what is so under several faults at once, and under which
+//! lapses wrong answers never cut before a trip. Nothing here runs: specs/ has the definitions, and the
+//! functions carry the laws as their contracts. The crate stands apart from `eg_model` so that each of these
+//! laws has must-fail edits of its own.
 #![tactic(auto)]
 
 mod availability;

@@ -16,11 +16,11 @@ use Rattle.eg_outcome.specs.declared.outcome.Outcome.{Outcome}
 use Rattle.eg_outcome.specs.declared.outcome.Outcome.TheVariants as outcome
 use Rattle.eg_outcome.specs.declared.outcome.Refusal.TheVariants as refusal
 use Rattle.eg_outcome.specs.declared.outcome.Role.TheVariants as role
-use Rattle.eg_readings.specs.declared.answered.Answer.{Answer}
+use Rattle.eg_readings.specs.declared.answered.PartnerAnswer.{PartnerAnswer}
 use Rattle.eg_play.specs.Files.{campaign_file}
 use Rattle.eg_play.specs.Inputs.{input_of}
 use Rattle.eg_play.specs.Ends.{AcceptsUndriven, FoundUndriven, UndrivenComes, run_named}
-use Rattle.eg_couple.specs.Coupled.{CoupledUnit, Fault, NoAnswer, LoadBelowTorque, TorqueWhileOff, AreTaken, taken, unit_of}
+use Rattle.eg_couple.specs.Coupled.{CoupledUnit, Objection, NoAnswer, LoadBelowTorque, TorqueWhileOff, AreTaken, taken, unit_of}
 use Rattle.eg_couple.specs.Streams.{Coupling, CouplingEnds, CoupleCommandEnds, RefusesMore}
 use Rattle.eg_couple.proofs.CouplingLemmas.{taken-alike}
 use Rattle.eg_app.specs.Ends.{WritesWell}
@@ -49,8 +49,8 @@ run_done campaign name store finds accepts files end come =
 -- ---- lines that are taken ----
 
 -- of lines that are taken the earlier ones are taken too, and give the earlier answers
-taken_before : (unit : CoupledUnit) (late early : List Line) (answers : List Answer) → AreTaken unit (late ++ early) answers
-    → (before : List Answer) × AreTaken unit early before × (length answers ≡ length late + length before)
+taken_before : (unit : CoupledUnit) (late early : List Line) (answers : List PartnerAnswer) → AreTaken unit (late ++ early) answers
+    → (before : List PartnerAnswer) × AreTaken unit early before × (length answers ≡ length late + length before)
 unfolding AreTaken
 taken_before unit [] early answers all = (answers, all, omega arith)
 taken_before unit (line ∷ late) early [] all = absurd all
@@ -73,19 +73,19 @@ module _ (unit : CoupledUnit) (lines : Change ShownLines) (holds : HoldsAnswers 
 
   -- so a line that came is taken, and those before it
   came_taken : (good : List Line) (line : Line) → Come lines (good ++ line ∷ [])
-      → (before : List Answer) × AreTaken unit (line ∷ reverse good) before × (length before ≤ length holds.answers)
+      → (before : List PartnerAnswer) × AreTaken unit (line ∷ reverse good) before × (length before ≤ length holds.answers)
   came_taken good line come =
       let rest = rest_of (good ++ line ∷ []) come in
       let all = subst (λ l. AreTaken unit l holds.answers) (ap reverse rest.1 ∙ turned good line rest.0) holds.are_taken in
       let before = taken_before unit (reverse rest.0) (line ∷ reverse good) holds.answers all in
       (before.0, before.1, (let long = before.2 in omega arith))
 
-  none_refused : (good : List Line) (bad : Line) (answers : List Answer) (why : Fault)
+  none_refused : (good : List Line) (bad : Line) (answers : List PartnerAnswer) (why : Objection)
       → Come lines (good ++ bad ∷ []) → AreTaken unit (reverse good) answers → taken unit answers bad ≡ Err why → ⊥
   unfolding AreTaken
   none_refused good bad answers why come are_taken refused = let all = came_taken good bad come in at all.0 all.1
     where
-      at : (before : List Answer) → AreTaken unit (bad ∷ reverse good) before → ⊥
+      at : (before : List PartnerAnswer) → AreTaken unit (bad ∷ reverse good) before → ⊥
       at [] all = absurd all
       at (answer ∷ before) all =
           let same = taken-alike unit (reverse good) before answers all.1 are_taken in
@@ -97,7 +97,7 @@ module _ (unit : CoupledUnit) (lines : Change ShownLines) (holds : HoldsAnswers 
       let all = came_taken more.good more.more (subst (λ l. Come l (more.good ++ more.more ∷ [])) same more.come) in
       at all.0 all.1 all.2
     where
-      at : (before : List Answer) → AreTaken unit (more.more ∷ reverse more.good) before → length before ≤ length holds.answers → ⊥
+      at : (before : List PartnerAnswer) → AreTaken unit (more.more ∷ reverse more.good) before → length before ≤ length holds.answers → ⊥
       at [] all short = absurd all
       at (answer ∷ before) all short =
           let long = ap length (taken-alike unit (reverse more.good) before more.answers all.1 more.are_taken) in

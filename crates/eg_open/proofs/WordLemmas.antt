@@ -4,7 +4,7 @@ use Rattle.std.specs.Prelude.{◌==◌, length, codes, IsSome, bytes_eq}
 use Rattle.std.proofs.lemmas.Bool.{cases_Bool, or_cases}
 use Rattle.std.proofs.lemmas.Slice.Eq.{bytes_eq-Decides}
 use Rattle.eg_app.specs.Words.{word, is_name, is_alone, is_on_file, is_on_run, names_calibration, form_of, command_of}
-use Rattle.eg_open.specs.Words.{is_open, line_form, line_command_of}
+use Rattle.eg_open.specs.Words.{is_over_lines, line_form, line_command_of}
 
 -- ---- a command that reads lines ----
 
@@ -30,10 +30,10 @@ one_of_three a b c (inr (inl is)) = grind (arith, is)
 one_of_three a b c (inr (inr is)) = grind (arith, is)
 
 opens : (words : List (List ℕ)) → (is_first (codes "replay") words ≡ true) ⊎ (is_first (codes "signals") words ≡ true)
-    ⊎ (is_first (codes "couple") words ≡ true) → is_open words ≡ true
+    ⊎ (is_first (codes "couple") words ≡ true) → is_over_lines words ≡ true
 opens words = one_of_three (is_first (codes "replay") words) (is_first (codes "signals") words) (is_first (codes "couple") words)
 
-form_opens : (words : List (List ℕ)) (calibration : Option (List ℕ)) (own : ℕ) → IsSome (line_form words calibration own) → is_open words ≡ true
+form_opens : (words : List (List ℕ)) (calibration : Option (List ℕ)) (own : ℕ) → IsSome (line_form words calibration own) → is_over_lines words ≡ true
 unfolding line_form
 form_opens words calibration own some = elim (cases_Bool (is_alone (codes "replay") words own)) [
   | inl replay ↦ opens words (inl (alone_first (codes "replay") words own replay))
@@ -46,7 +46,7 @@ form_opens words calibration own some = elim (cases_Bool (is_alone (codes "repla
   ]
 ]
 
-pub lines_open : (words : List (List ℕ)) → IsSome (line_command_of words) → is_open words ≡ true
+pub lines_open : (words : List (List ℕ)) → IsSome (line_command_of words) → is_over_lines words ≡ true
 unfolding line_command_of
 lines_open words some = elim (cases_Bool (names_calibration words)) [
   | inl named ↦ form_opens words (Some (word words 2)) 3 (rw named at some)
@@ -122,7 +122,7 @@ module _ (words : List (List ℕ)) (is : IsNoOther (word words 0)) where
 by_first : (words : List (List ℕ)) (first : List ℕ) → bytes_eq (word words 0) first ≡ true → IsNoOther first → command_of words ≡ None
 by_first words first same other = no_command words (subst IsNoOther (sym ((bytes_eq-Decides (word words 0) first).0 same)) other)
 
-pub others_ask_nothing : (words : List (List ℕ)) → is_open words ≡ true → command_of words ≡ None
+pub others_ask_nothing : (words : List (List ℕ)) → is_over_lines words ≡ true → command_of words ≡ None
 others_ask_nothing words is = elim (or_cases (is_first (codes "replay") words || is_first (codes "signals") words) (is_first (codes "couple") words) is) [
   | inl measured ↦ elim (or_cases (is_first (codes "replay") words) (is_first (codes "signals") words) measured) [
     | inl replay ↦ by_first words (codes "replay") replay (refl, refl, refl, refl, refl, refl, refl, refl, refl, refl, refl, refl)

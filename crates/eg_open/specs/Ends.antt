@@ -16,7 +16,7 @@ use Rattle.eg_outcome.specs.declared.outcome.Role.TheVariants as role
 use Rattle.eg_values.specs.Calibration.{CalibrationParts}
 use Rattle.eg_plan.specs.declared.run.RunPlan.{RunPlan}
 use Rattle.eg_campaign.specs.declared.play.RunInput.{RunInput}
-use Rattle.eg_readings.specs.declared.answered.Answer.{Answer}
+use Rattle.eg_readings.specs.declared.answered.PartnerAnswer.{PartnerAnswer}
 use Rattle.eg_readings.specs.declared.columns.Columns.{Columns}
 use Rattle.eg_readings.specs.declared.recorded.Recorded.{Recorded}
 use Rattle.eg_replay.specs.Streams.{IsRecording, StreamCommandEnds, signals_writes, replay_writes}
@@ -77,7 +77,7 @@ pub record HoldsRecording (lines : ShownLines) : Type 0 where
 -- them never fails.
 pub record HoldsAnswers (unit : CoupledUnit) (lines : ShownLines) : Type 0 where
   pub all : List Line
-  pub answers : List Answer
+  pub answers : List PartnerAnswer
   pub told : lines.lines ≡ Some all
   pub are_taken : AreTaken unit (reverse all) answers
   pub few : length answers ≤ most_answers

@@ -23,8 +23,8 @@ said (parsed.Signals calibration) = signals (option_copied calibration)
 said (parsed.Couple calibration campaign name) = couple (option_copied calibration) campaign.now name.now
 
 -- the first word is that of a command that reads lines
-abbrev pub is_open : List (List ℕ) → Bool
-is_open words =
+abbrev pub is_over_lines : List (List ℕ) → Bool
+is_over_lines words =
     bytes_eq (word words 0) (codes "replay") || bytes_eq (word words 0) (codes "signals")
     || bytes_eq (word words 0) (codes "couple")
 

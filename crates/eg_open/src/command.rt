@@ -4,7 +4,7 @@ ghost use Rattle.std.specs.Option.{option_copied};
 ghost use Rattle.eg_app.specs.Words.{command_of, word_bytes};
 ghost use Rattle.eg_outcome.specs.Roles.{role_in};
 ghost use Rattle.eg_outcome.specs.declared.outcome.Role.TheVariants as role;
-ghost use Rattle.eg_open.specs.Words.{is_open, line_command_of, line_form, said, calibration_of, name_in_words};
+ghost use Rattle.eg_open.specs.Words.{is_over_lines, line_command_of, line_form, said, calibration_of, name_in_words};
 
 use eg_app::{is_alone, is_on_run, names_calibration};
 use eg_outcome::{Outcome, Role};
@@ -31,9 +31,9 @@ pub(crate) enum LineCommand<'a> {
 
 /// Whether the first word is `replay`, `signals` or `couple`: such a command reads lines.
 pub fn reads_lines(words: &[String]) -> bool
-    ensures { result ≡ is_open (word_bytes words.now) }
+    ensures { result ≡ is_over_lines (word_bytes words.now) }
 {
-    !words.is_empty() && is_open(words[0].as_str())
+    !words.is_empty() && is_over_lines(words[0].as_str())
 }
 
 impl<'a> LineCommand<'a> {
@@ -116,12 +116,12 @@ impl<'a> LineCommand<'a> {
 /// for a command that reads lines begin with the first word of one, and words that do ask for no other
 /// command. So no words ask for two.
 pub fn words_ask_for_one_command()
-    ensures lines { (words : List (List ℕ)) → IsSome (line_command_of words) → is_open words ≡ true }
-    ensures others { (words : List (List ℕ)) → is_open words ≡ true → command_of words ≡ None }
+    ensures lines { (words : List (List ℕ)) → IsSome (line_command_of words) → is_over_lines words ≡ true }
+    ensures others { (words : List (List ℕ)) → is_over_lines words ≡ true → command_of words ≡ None }
 {}
 
 /// Whether this is the first word of a command that reads lines.
-fn is_open(word: &str) -> bool
+fn is_over_lines(word: &str) -> bool
     ensures { result ≡ (bytes_eq word.now (codes "replay") || bytes_eq word.now (codes "signals")
         || bytes_eq word.now (codes "couple")) }
 {

@@ -228,7 +228,7 @@ run-plain ms h = record {
   name = name-kept (text_of key.Name) ms h.keys.0;
   trace = file-kept (text_of key.Trace) ms h.keys.1.0;
   image = file-kept (text_of key.Image) ms h.keys.1.1.0;
-  plan = may-kept slices-exact usual_slices [] (get_member (text_of key.Slices) ms) usual-kept h.keys.1.1.1.0;
+  slices = may-kept slices-exact usual_slices [] (get_member (text_of key.Slices) ms) usual-kept h.keys.1.1.1.0;
   fault = (faults-said 0 (get_member (codes "faults") ms) h.faults).valid;
 }
 

@@ -36,7 +36,7 @@ run_with name engine fault = record {
   name = name;
   trace = codes "t";
   image = codes "i";
-  plan = usual_slices;
+  slices = usual_slices;
   engine = engine;
   fault = fault;
 }

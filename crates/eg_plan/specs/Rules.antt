@@ -43,7 +43,7 @@ pub record IsRunPlan (run : RunPlan) : Type 0 where
   pub name : IsRunName run.name
   pub trace : IsFileName run.trace
   pub image : IsFileName run.image
-  pub plan : IsSlicePlan run.plan
+  pub slices : IsSlicePlan run.slices
   pub fault : IsNoneOrValid run.fault
 
 -- 1 to 1,000 such runs, no two of one name

@@ -80,7 +80,7 @@ run_of ms = record {
   name = bytes_of name ms;
   trace = bytes_of trace ms;
   image = bytes_of image ms;
-  plan = number_rows slices ms;
+  slices = number_rows slices ms;
   engine = engine_of engine ms;
   fault = option_map fault_of (fault_table ms);
 }

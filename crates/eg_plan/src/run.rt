@@ -34,7 +34,7 @@ pub struct RunPlan {
     /// The name of the file with level 1's program.
     pub image: Text,
     /// How many instructions level 1 may do.
-    pub plan: SlicePlan,
+    pub slices: SlicePlan,
     /// Which engine stands on the bench.
     pub engine: EngineKind,
     /// The fault, if there is one.
@@ -55,7 +55,7 @@ pub(crate) fn run_in(
     let name = run_name(alloc, table, run, RunKey::Name)?;
     let trace = file_name(alloc, table, run, RunKey::Trace)?;
     let image = file_name(alloc, table, run, RunKey::Image)?;
-    let plan = slices(table, run, RunKey::Slices)?;
+    let slices = slices(table, run, RunKey::Slices)?;
     let engine = engine(table, run, RunKey::Engine)?;
     if let Some(refusal) = faults_refusal(table, run) {
         return Err(refusal);
@@ -74,7 +74,7 @@ pub(crate) fn run_in(
         name,
         trace,
         image,
-        plan,
+        slices,
         engine,
         fault,
     })

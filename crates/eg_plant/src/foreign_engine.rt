@@ -8,14 +8,14 @@ use std::marker::Model;
 
 /// What an engine tells of itself after a step (docs/CONCEPT.md, "Plant"). Contracts see its `Shown`.
 #[derive(Clone, Copy)]
-pub struct Told {
+pub struct PartnerStep {
     position: u16,
     load_1: u16,
     load_2: u16,
     torque: u16,
 }
 
-impl Model for Told {
+impl Model for PartnerStep {
     ghost use Rattle.eg_plant.specs.Engine.{Shown};
 
     ghost Value = { Shown };
@@ -35,15 +35,15 @@ impl Model for Told {
     } };
 }
 
-impl Told {
+impl PartnerStep {
     /// The position (per mille), the load for each of the two tracks (per mille), and the torque (tenths of
     /// Nm).
-    pub fn new(position: u16, loads: [u16; 2], torque: u16) -> Told
+    pub fn new(position: u16, loads: [u16; 2], torque: u16) -> PartnerStep
         ensures position { result.position ≡ position }
         ensures torque { result.torque ≡ torque }
         ensures loads { result.load_1 ∷ result.load_2 ∷ [] ≡ loads }
     {
-        Told {
+        PartnerStep {
             position,
             load_1: loads[0],
             load_2: loads[1],
@@ -71,8 +71,8 @@ impl Told {
 #[derive(Drop)]
 pub struct ForeignEngine {
     kt: u16,
-    shown: Told,
-    next: Told,
+    shown: PartnerStep,
+    next: PartnerStep,
 }
 
 impl Model for ForeignEngine {
@@ -93,7 +93,7 @@ impl ForeignEngine {
         ensures state { result ≡ at_rest kt }
         ensures kt { ⟦<ForeignEngine as Engine>⟧.kt result ≡ kt }
     {
-        let nothing = Told::new(0, [0, 0], 0);
+        let nothing = PartnerStep::new(0, [0, 0], 0);
         ForeignEngine {
             kt,
             shown: nothing,
@@ -102,7 +102,7 @@ impl ForeignEngine {
     }
 
     /// Tells what it shows after its next step, which must keep the laws of engines. What it shows now stays.
-    pub fn tell(&mut self, next: Told)
+    pub fn tell(&mut self, next: PartnerStep)
         requires laws { KeepsLaws self.old.kt next }
         ensures { self.new ≡ record self.old { next = next } }
     {

@@ -10,6 +10,6 @@ mod plant_data;
 
 pub use copy_engine::CopyEngine;
 pub use engine::Engine;
-pub use foreign_engine::{ForeignEngine, Told};
+pub use foreign_engine::{ForeignEngine, PartnerStep};
 pub use gasoline_engine::{GasolineEngine, charge_at, next_plate, torque_of};
 pub use plant_data::PlantData;

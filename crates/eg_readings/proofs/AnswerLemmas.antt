@@ -16,7 +16,7 @@ use Rattle.eg_input.specs.DriveTrace.{drive_from, drive_at}
 use Rattle.eg_readings.specs.Recording.{before_return, fields_of}
 use Rattle.eg_readings.specs.Reading.{is_comma, first_field, first_said}
 use Rattle.eg_readings.specs.Answering.{shown_from, shown_at, answer_from, answer_at, answer_of}
-use Rattle.eg_readings.specs.declared.answered.Answer.{Answer}
+use Rattle.eg_readings.specs.declared.answered.PartnerAnswer.{PartnerAnswer}
 use Rattle.eg_readings.proofs.FieldLemmas.{comma-fields, number-no_comma, position-at, said-no_comma, said-at}
 
 -- what the first field says, and what `then` makes of it and of the fields behind, which are one at least
@@ -33,41 +33,41 @@ said_last make (field ∷ next ∷ fields) = None
 
 -- ---- the nine fields ----
 
-abbrev pub made : DriveRow → (position load_1 load_2 torque : ℕ) → Answer
+abbrev pub made : DriveRow → (position load_1 load_2 torque : ℕ) → PartnerAnswer
 made drive position load_1 load_2 torque = record {
   drive = drive;
   told = record { position = position; load_1 = load_1; load_2 = load_2; torque = torque };
 }
 
-abbrev pub from_torque : DriveRow → (position load_1 load_2 : ℕ) → List (List ℕ) → Option Answer
+abbrev pub from_torque : DriveRow → (position load_1 load_2 : ℕ) → List (List ℕ) → Option PartnerAnswer
 from_torque drive position load_1 load_2 = said_last (made drive position load_1 load_2)
 
-abbrev pub from_load_2 : DriveRow → (position load_1 : ℕ) → List (List ℕ) → Option Answer
+abbrev pub from_load_2 : DriveRow → (position load_1 : ℕ) → List (List ℕ) → Option PartnerAnswer
 from_load_2 drive position load_1 = said_first (number_of 65535) (from_torque drive position load_1)
 
-abbrev pub from_load_1 : DriveRow → (position : ℕ) → List (List ℕ) → Option Answer
+abbrev pub from_load_1 : DriveRow → (position : ℕ) → List (List ℕ) → Option PartnerAnswer
 from_load_1 drive position = said_first (number_of 65535) (from_load_2 drive position)
 
-abbrev pub from_position : DriveRow → List (List ℕ) → Option Answer
+abbrev pub from_position : DriveRow → List (List ℕ) → Option PartnerAnswer
 from_position drive = said_first (number_of 1000) (from_load_1 drive)
 
 abbrev pub row : (pedal speed raise : ℕ) → (reset brake : Bool) → DriveRow
 row pedal speed raise reset brake =
     record { pedal = pedal; speed = speed; raise = raise; reset = reset; brake = brake }
 
-abbrev pub from_brake : (pedal speed raise : ℕ) → Bool → List (List ℕ) → Option Answer
+abbrev pub from_brake : (pedal speed raise : ℕ) → Bool → List (List ℕ) → Option PartnerAnswer
 from_brake pedal speed raise reset = said_first truth_of (λ brake. from_position (row pedal speed raise reset brake))
 
-abbrev pub from_reset : (pedal speed raise : ℕ) → List (List ℕ) → Option Answer
+abbrev pub from_reset : (pedal speed raise : ℕ) → List (List ℕ) → Option PartnerAnswer
 from_reset pedal speed raise = said_first truth_of (from_brake pedal speed raise)
 
-abbrev pub from_raise : (pedal speed : ℕ) → List (List ℕ) → Option Answer
+abbrev pub from_raise : (pedal speed : ℕ) → List (List ℕ) → Option PartnerAnswer
 from_raise pedal speed = said_first (number_of 10000) (from_reset pedal speed)
 
-abbrev pub from_speed : ℕ → List (List ℕ) → Option Answer
+abbrev pub from_speed : ℕ → List (List ℕ) → Option PartnerAnswer
 from_speed pedal = said_first (number_of 8000) (from_raise pedal)
 
-abbrev pub from_pedal : List (List ℕ) → Option Answer
+abbrev pub from_pedal : List (List ℕ) → Option PartnerAnswer
 from_pedal = said_first (number_of 1000) from_speed
 
 -- both ways to join what nine fields say
@@ -213,36 +213,36 @@ said_last-one {R} make text = at (number_of 65535 text) refl (slice_split is_com
 
 -- ---- the fields of a text, one after another ----
 
-abbrev torque_said : DriveRow → (position load_1 load_2 : ℕ) → List ℕ → Option Answer
+abbrev torque_said : DriveRow → (position load_1 load_2 : ℕ) → List ℕ → Option PartnerAnswer
 torque_said drive position load_1 load_2 text = option_map (made drive position load_1 load_2) (number_of 65535 text)
 
-abbrev load_2_said : DriveRow → (position load_1 : ℕ) → List ℕ → Option Answer
+abbrev load_2_said : DriveRow → (position load_1 : ℕ) → List ℕ → Option PartnerAnswer
 load_2_said drive position load_1 text = option_and_then {T = ℕ × List ℕ} (λ f. torque_said drive position load_1 f.0 f.1) (first_said (number_of 65535) text)
 
-abbrev load_1_said : DriveRow → (position : ℕ) → List ℕ → Option Answer
+abbrev load_1_said : DriveRow → (position : ℕ) → List ℕ → Option PartnerAnswer
 load_1_said drive position text = option_and_then {T = ℕ × List ℕ} (λ f. load_2_said drive position f.0 f.1) (first_said (number_of 65535) text)
 
-abbrev position_said : DriveRow → List ℕ → Option Answer
+abbrev position_said : DriveRow → List ℕ → Option PartnerAnswer
 position_said drive text = option_and_then {T = ℕ × List ℕ} (λ f. load_1_said drive f.0 f.1) (first_said (number_of 1000) text)
 
-abbrev brake_said : (pedal speed raise : ℕ) → Bool → List ℕ → Option Answer
+abbrev brake_said : (pedal speed raise : ℕ) → Bool → List ℕ → Option PartnerAnswer
 brake_said pedal speed raise reset text =
     option_and_then {T = Bool × List ℕ} (λ f. position_said (row pedal speed raise reset f.0) f.1) (first_said truth_of text)
 
-abbrev reset_said : (pedal speed raise : ℕ) → List ℕ → Option Answer
+abbrev reset_said : (pedal speed raise : ℕ) → List ℕ → Option PartnerAnswer
 reset_said pedal speed raise text = option_and_then {T = Bool × List ℕ} (λ f. brake_said pedal speed raise f.0 f.1) (first_said truth_of text)
 
-abbrev raise_said : (pedal speed : ℕ) → List ℕ → Option Answer
+abbrev raise_said : (pedal speed : ℕ) → List ℕ → Option PartnerAnswer
 raise_said pedal speed text = option_and_then {T = ℕ × List ℕ} (λ f. reset_said pedal speed f.0 f.1) (first_said (number_of 10000) text)
 
-abbrev speed_said : ℕ → List ℕ → Option Answer
+abbrev speed_said : ℕ → List ℕ → Option PartnerAnswer
 speed_said pedal text = option_and_then {T = ℕ × List ℕ} (λ f. raise_said pedal f.0 f.1) (first_said (number_of 8000) text)
 
-abbrev pub pedal_said : List ℕ → Option Answer
+abbrev pub pedal_said : List ℕ → Option PartnerAnswer
 pedal_said text = option_and_then {T = ℕ × List ℕ} (λ f. speed_said f.0 f.1) (first_said (number_of 1000) text)
 
 -- one more, where those behind are said so
-more_said : {X : Type 0} (says : List ℕ → Option X) (behind : X → List (List ℕ) → Option Answer) (said : X → List ℕ → Option Answer)
+more_said : {X : Type 0} (says : List ℕ → Option X) (behind : X → List (List ℕ) → Option PartnerAnswer) (said : X → List ℕ → Option PartnerAnswer)
     → ((x : X) (text : List ℕ) → behind x (fields_of text) ≡ said x text) → (text : List ℕ)
     → said_first says behind (fields_of text) ≡ option_and_then {T = X × List ℕ} (λ f. said f.0 f.1) (first_said says text)
 more_said {X} says behind said same text = first_of_text says behind text ∙ each (first_said says text)
@@ -409,7 +409,7 @@ digit-first text o room comma says = by (is_comma (get_or text 0 0)) refl
 
 -- an answer from its parts
 pub made_of : (drive wanted : DriveRow) (told : Shown) (plate load_1 load_2 torque : ℕ) → drive ≡ wanted → told.position ≡ plate → told.torque ≡ torque
-    → told.load_1 ∷ told.load_2 ∷ [] ≡ load_1 ∷ load_2 ∷ [] → ◌≡◌ {A = Answer} (record { drive = drive; told = told }) (made wanted plate load_1 load_2 torque)
+    → told.load_1 ∷ told.load_2 ∷ [] ≡ load_1 ∷ load_2 ∷ [] → ◌≡◌ {A = PartnerAnswer} (record { drive = drive; told = told }) (made wanted plate load_1 load_2 torque)
 made_of drive wanted told plate load_1 load_2 torque d p t loads =
     let first : told.load_1 ≡ load_1 = cc in
     let second : told.load_2 ≡ load_2 = cc in

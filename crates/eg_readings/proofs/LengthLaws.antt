@@ -13,7 +13,7 @@ use Rattle.std.proofs.lemmas.Slice.Eq.{bytes_eq-Decides}
 use Rattle.eg_input.specs.Fields.{decimal_value, number_of, number_at, truth_of, truth_at}
 use Rattle.eg_input.specs.DriveTrace.{drive_from, drive_at}
 use Rattle.eg_readings.specs.Answering.{shown_from, shown_at, answer_from, answer_at, answer_of}
-use Rattle.eg_readings.specs.declared.answered.Answer.{Answer}
+use Rattle.eg_readings.specs.declared.answered.PartnerAnswer.{PartnerAnswer}
 use Rattle.eg_readings.proofs.AnswerLemmas.{said_first, said_last, made, row, from_pedal, from_speed, from_raise, from_reset, from_brake, from_position, from_load_1, from_load_2, from_torque, from_line}
 use Rattle.eg_readings.specs.Recording.{before_return, header, columns_of, fields_of, all_numbers, numbers_of, recorded_of}
 use Rattle.eg_readings.specs.declared.columns.Columns.{Columns}
@@ -168,7 +168,7 @@ pub answer_of-long : (line : List ℕ) → 46 < length line → answer_of line �
 unfolding fields_of
 answer_of-long line long = at (answer_of line) refl
   where
-    at : (read : Option Answer) → answer_of line ≡ read → read ≡ None
+    at : (read : Option PartnerAnswer) → answer_of line ≡ read → read ≡ None
     at None is = refl
     at (Some answer) is =
         let few = few_bytes (fields_of (before_return line)) answer (sym (from_line line (before_return line) refl) ∙ is) in

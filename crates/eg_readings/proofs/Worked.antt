@@ -8,7 +8,7 @@ use Rattle.eg_input.specs.DriveTrace.{drive_from, drive_at}
 use Rattle.eg_sensor.specs.declared.readings.Readings.{Readings}
 use Rattle.eg_readings.specs.declared.columns.Columns.TheVariants as columns
 use Rattle.eg_readings.specs.Answering.{shown_from, shown_at, answer_from, answer_at, answer_of}
-use Rattle.eg_readings.specs.declared.answered.Answer.{Answer}
+use Rattle.eg_readings.specs.declared.answered.PartnerAnswer.{PartnerAnswer}
 use Rattle.eg_readings.specs.Recording.{before_return, header, columns_of, fields_of, all_numbers, numbers_of, readings_from, recorded_of}
 
 -- every definition of reading a line
@@ -104,7 +104,7 @@ unfoldable answering : ℕ
 unfolding field_at decimal_value number_of number_at truth_of truth_at drive_from drive_at before_return fields_of shown_from shown_at answer_from answer_at answer_of
 answering = 0
 
-abbrev answer : DriveRow → (position load_1 load_2 torque : ℕ) → Answer
+abbrev answer : DriveRow → (position load_1 load_2 torque : ℕ) → PartnerAnswer
 answer drive position load_1 load_2 torque = record {
   drive = drive;
   told = record { position = position; load_1 = load_1; load_2 = load_2; torque = torque };

@@ -8,7 +8,7 @@ use Rattle.eg_plant.specs.Engine.{Shown}
 use Rattle.eg_input.specs.Fields.{number_at, truth_at}
 use Rattle.eg_input.specs.DriveTrace.{drive_at}
 use Rattle.eg_readings.specs.Recording.{before_return, fields_of}
-use Rattle.eg_readings.specs.declared.answered.Answer.{Answer}
+use Rattle.eg_readings.specs.declared.answered.PartnerAnswer.{PartnerAnswer}
 
 -- what an engine shows by these four numbers; none where one is missing
 unfoldable pub shown_from : Option ℕ → Option ℕ → Option ℕ → Option ℕ → Option Shown
@@ -23,18 +23,18 @@ shown_at fields =
     (number_at fields 8 65535)
 
 -- both together, or none where one is missing
-unfoldable pub answer_from : Option DriveRow → Option Shown → Option Answer
+unfoldable pub answer_from : Option DriveRow → Option Shown → Option PartnerAnswer
 answer_from (Some drive) (Some shown) = Some (record { drive = drive; told = shown })
 answer_from _ _ = None
 
 -- The answer that nine fields write: pedal, speed, raise, reset and brake of the drive row, and what the
 -- engine shows.
-unfoldable pub answer_at : List (List ℕ) → Option Answer
+unfoldable pub answer_at : List (List ℕ) → Option PartnerAnswer
 answer_at fields =
     if length fields == 9
     then answer_from (drive_at fields (truth_at fields 3) (truth_at fields 4)) (shown_at fields)
     else None
 
 -- what a line answers, if anything
-unfoldable pub answer_of : List ℕ → Option Answer
+unfoldable pub answer_of : List ℕ → Option PartnerAnswer
 answer_of line = answer_at (fields_of (before_return line))

@@ -8,15 +8,15 @@ ghost use Rattle.eg_readings.specs.declared.answered.TheConstants.{MOST_ANSWER_B
 use crate::line::before_return;
 use crate::number::{first_number, number};
 use eg_num::Drive;
-use eg_plant::Told;
+use eg_plant::PartnerStep;
 
 /// What a partner answers at one tick (docs/FORMATS.md, "The lines of `couple`").
 #[derive(Clone, Copy)]
-pub struct Answer {
+pub struct PartnerAnswer {
     /// The drive row of the tick.
     pub drive: Drive,
     /// What the partner's engine shows after its step.
-    pub told: Told,
+    pub told: PartnerStep,
 }
 
 /// How many bytes the longest line has that answers: seven numbers of five digits, two truth values, the
@@ -24,7 +24,7 @@ pub struct Answer {
 pub const MOST_ANSWER_BYTES: usize = 46;
 
 /// What a line answers, without its line feed, or None where it is no answer.
-pub fn answer_of(line: &[u8]) -> Option<Answer>
+pub fn answer_of(line: &[u8]) -> Option<PartnerAnswer>
     ensures { result ≡ answer_of line.now }
 {
     let (pedal, rest) = first_number_to(1000, before_return(line))?;
@@ -36,9 +36,9 @@ pub fn answer_of(line: &[u8]) -> Option<Answer>
     let (load_1, rest) = first_number_to(u16::MAX, rest)?;
     let (load_2, rest) = first_number_to(u16::MAX, rest)?;
     let torque = number(rest)?;
-    Some(Answer {
+    Some(PartnerAnswer {
         drive: Drive::new(pedal, speed, raise, reset, brake)?,
-        told: Told::new(position, [load_1, load_2], torque),
+        told: PartnerStep::new(position, [load_1, load_2], torque),
     })
 }
 

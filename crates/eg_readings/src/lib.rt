@@ -7,6 +7,6 @@ mod line;
 mod number;
 mod recorded;
 
-pub use answered::{Answer, MOST_ANSWER_BYTES, answer_of, long_lines_answer_nothing};
+pub use answered::{MOST_ANSWER_BYTES, PartnerAnswer, answer_of, long_lines_answer_nothing};
 pub use columns::{Columns, columns_of};
 pub use recorded::{MOST_BYTES, Recorded, long_lines_write_nothing, recorded_of};

@@ -67,8 +67,8 @@ fn readings<const N: usize>(numbers: &[u16; N]) -> Readings
 }
 
 /// Does nothing when it runs. Its clauses are laws of what `columns_of` and `recorded_of` say of a line: one
-/// of more than `MOST_BYTES` bytes is no header and writes nothing, one of so many is a header, and a front of
-/// more gives what the line gives. So who reads a line need take no more than one byte beyond them, and no
+/// of more than `MOST_BYTES` bytes is no header and writes nothing, one of so many is a header, and a front
+/// of more gives what the line gives. So who reads a line need take no more than one byte beyond them, and no
 /// fewer.
 pub fn long_lines_write_nothing()
     ensures header { (line : List ℕ) → MOST_BYTES < length line → columns_of line ≡ None }

@@ -24,7 +24,7 @@ use Rattle.eg_outcome.specs.declared.outcome.Role.TheVariants as role
 use Rattle.eg_readings.specs.declared.columns.Columns.{Columns}
 use Rattle.eg_readings.specs.declared.recorded.Recorded.{Recorded}
 use Rattle.eg_readings.specs.Recording.{recorded_of}
-use Rattle.eg_findings.specs.declared.told.Told.{Told}
+use Rattle.eg_findings.specs.declared.tick_signals.TickSignals.{TickSignals}
 use Rattle.eg_findings.specs.declared.findings.Findings.{Findings}
 use Rattle.eg_findings.specs.Findings.{findings_of}
 use Rattle.eg_findings.specs.Texts.{signals_header, signals_line, signals_lines, signals_text, replay_text}
@@ -160,7 +160,7 @@ pub header-written : (cal : CalibrationParts) (line : List ℕ) (a b : ShownSink
 header-written cal line a b is ends = record { written = subst (Appends a b) (is ∙ signals_in-none cal) ends.0; no_fault = ends.1 }
 
 -- `signals` wrote one row more
-pub row-written : (cal : CalibrationParts) (recorded : List Recorded) (r : Recorded) (tick : ℕ) (told : Told) (a b c : ShownSink) →
+pub row-written : (cal : CalibrationParts) (recorded : List Recorded) (r : Recorded) (tick : ℕ) (told : TickSignals) (a b c : ShownSink) →
     HasWritten (signals_writes cal) recorded (change a b) → length recorded ≡ tick → told ≡ told_after cal r (reverse recorded) →
     LinePut (signals_line tick told) (change b c) (Ok tt) → HasWritten (signals_writes cal) (recorded ++ r ∷ []) (change a c)
 row-written cal recorded r tick told a b c so_far long is ends = record {
@@ -281,7 +281,7 @@ module _ (writes : Writes) (cal : CalibrationParts) (columns : Columns) (recorde
       )
 
 -- a row is refused
-pub row-refused : (cal : CalibrationParts) (columns : Columns) (recorded : List Recorded) (r : Recorded) (tick now : ℕ) (told : Told)
+pub row-refused : (cal : CalibrationParts) (columns : Columns) (recorded : List Recorded) (r : Recorded) (tick now : ℕ) (told : TickSignals)
     (replay : ReplayParts) (lines : Change ShownLines) (a b c : ShownSink) (end : Outcome) →
     HasRead cal columns (recorded ++ r ∷ []) now replay lines → HasWritten (signals_writes cal) recorded (change a b) →
     length recorded ≡ tick → told ≡ told_after cal r (reverse recorded) → LinePut (signals_line tick told) (change b c) (Err end) →

@@ -30,8 +30,8 @@ use Rattle.eg_tick.specs.Midway.{Work}
 use Rattle.eg_model.specs.Level1.{last_world}
 use Rattle.eg_readings.specs.declared.recorded.Recorded.{Recorded}
 use Rattle.eg_replay.specs.Replay.{tracks_of, effects_of, entry_of, tick_of, alone, replayed, given_readings, counters_after, told_at, told_after}
-use Rattle.eg_findings.specs.declared.told.Told.{Told}
-use Rattle.eg_findings.specs.declared.told.Counters.{Counters}
+use Rattle.eg_findings.specs.declared.tick_signals.TickSignals.{TickSignals}
+use Rattle.eg_findings.specs.declared.tick_signals.Counters.{Counters}
 use Rattle.eg_replay.specs.Running.{meeting, HasRun, counters_kept}
 use Rattle.eg_replay.proofs.TellLemmas.{AreAlike, plain-module, tick-told, finds-same, keeps-told}
 
@@ -220,7 +220,7 @@ module _ (cal : CalibrationParts) (parts : Level2Parts) (r : Recorded) (given : 
       ∙ finds-follow cal fed.accepted r seen (words_of old) stands parts fed.rules 0 tick
 
   pub fed-told : (signals : List ℕ) (counters : Counters) → signals ≡ signal_list (signals_of (words_of new)) → counters ≡ counters_kept (words_of new)
-      → (let told : Told = record { signals = signals; counters = counters; found = found } in told ≡ told_after cal r seen)
+      → (let told : TickSignals = record { signals = signals; counters = counters; found = found } in told ≡ told_after cal r seen)
   unfolding told_at counters_kept counters_after moments_in last_signals
   fed-told signals counters are kept = λ i. record {
     signals = (are ∙ ap signal_list fed-stands.signals) i;

@@ -14,7 +14,7 @@ use Rattle.eg_model.specs.Moments.{moments_in}
 use Rattle.eg_model.proofs.WholeModel.{whole_model}
 use Rattle.eg_agree.specs.Standing.{mirror_found, counter_after}
 use Rattle.eg_agree.specs.Ticking.{found_in_level2}
-use Rattle.eg_findings.specs.declared.told.Told.{Told}
+use Rattle.eg_findings.specs.declared.tick_signals.TickSignals.{TickSignals}
 use Rattle.eg_replay.specs.Replay.{tracks_of, effects_of, entry_of, alone, replayed, counters_after, told_at, told_of}
 use Rattle.eg_replay.specs.Agreement.{recorded_at}
 
@@ -48,15 +48,15 @@ abbrev left_out : Tick
 left_out = tick (record no_effects { ran = λ i. false }) (driven 500 800 100)
 
 -- what was told, and what a replay tells
-abbrev closed : SpanKind → List Tick → List Told
+abbrev closed : SpanKind → List Tick → List TickSignals
 closed kind h = told_of cal (moments_in kind (alone cal) h)
 
-abbrev open_loop : SpanKind → List Tick → List Told
+abbrev open_loop : SpanKind → List Tick → List TickSignals
 open_loop kind h = told_of cal (replayed cal (map recorded_at (moments_in kind (alone cal) h)))
 
 -- what the debouncers of load and torque weigh, and the five signals
-abbrev numbers : List Told → List (List ℕ)
-numbers = map (λ (t : Told). t.counters.load ∷ t.counters.torque ∷ t.signals)
+abbrev numbers : List TickSignals → List (List ℕ)
+numbers = map (λ (t : TickSignals). t.counters.load ∷ t.counters.torque ∷ t.signals)
 
 -- the readings are gated at the first of these ticks, and a track is wrong at the second
 was : numbers (closed Drive (load_off ∷ braking ∷ []))

@@ -18,7 +18,7 @@ use Rattle.eg_readings.specs.declared.recorded.Recorded.{Recorded}
 use Rattle.eg_num.specs.declared.watches.Watches.{Watches}
 use Rattle.eg_record.specs.declared.row.Row.{Row}
 use Rattle.eg_model.specs.Rows.{rows_of}
-use Rattle.eg_findings.specs.declared.told.Told.{Told}
+use Rattle.eg_findings.specs.declared.tick_signals.TickSignals.{TickSignals}
 use Rattle.eg_replay.specs.Replay.{replayed, told_of}
 
 -- What is recorded at a tick: the readings that level 2 was given. Where the brake was taken as pressed they
@@ -69,7 +69,7 @@ shown_by row = (row.signals, record row.found { answers = false; start = false }
 abbrev pub RowsShowTheSame : Type 0
 RowsShowTheSame =
     (cal : CalibrationParts) (past : List Moment) →
-    map (λ (t : Told). (t.signals, t.found)) (told_of cal past) ≡ map shown_by (rows_of past)
+    map (λ (t : TickSignals). (t.signals, t.found)) (told_of cal past) ≡ map shown_by (rows_of past)
 
 -- Level 2 runs so at each tick without a fault, at each before the onset of one, and at each under a class
 -- that doesn't change how the levels run: each but skip, disturb, flip, halt and lapse.

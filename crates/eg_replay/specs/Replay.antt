@@ -15,8 +15,8 @@ use Rattle.eg_model.specs.Rows.{signal_list}
 use Rattle.eg_agree.specs.Standing.{counter_after}
 use Rattle.eg_agree.specs.Replies.{moment_after}
 use Rattle.eg_agree.specs.Ticking.{found_in_level2}
-use Rattle.eg_findings.specs.declared.told.Told.{Told}
-use Rattle.eg_findings.specs.declared.told.Counters.{Counters}
+use Rattle.eg_findings.specs.declared.tick_signals.TickSignals.{TickSignals}
+use Rattle.eg_findings.specs.declared.tick_signals.Counters.{Counters}
 
 -- ---- the ticks ----
 
@@ -76,7 +76,7 @@ counters_after cal past = record {
 }
 
 -- what is told of tick m, which comes after these: its signals, the weights after it, and what level 2 finds
-unfoldable pub told_at : CalibrationParts → Moment → List Moment → Told
+unfoldable pub told_at : CalibrationParts → Moment → List Moment → TickSignals
 told_at cal m past = record {
   signals = signal_list m.signals;
   counters = counters_after cal (m ∷ past);
@@ -84,12 +84,12 @@ told_at cal m past = record {
 }
 
 -- what is told of each of these ticks
-unfoldable pub told_of : CalibrationParts → List Moment → List Told
+unfoldable pub told_of : CalibrationParts → List Moment → List TickSignals
 told_of cal [] = []
 told_of cal (m ∷ past) = told_at cal m past ∷ told_of cal past
 
 -- what is told of the tick at which this was recorded, after these
-abbrev pub told_after : CalibrationParts → Recorded → (before : List Recorded) → Told
+abbrev pub told_after : CalibrationParts → Recorded → (before : List Recorded) → TickSignals
 told_after cal r before =
     told_at cal (moment_after Drive (alone cal) (tick_of r) (map tick_of before)) (replayed cal before)
 

@@ -19,7 +19,7 @@ use Rattle.eg_readings.specs.declared.recorded.Recorded.{Recorded}
 use Rattle.eg_readings.specs.Recording.{columns_of, recorded_of}
 use Rattle.eg_findings.specs.Findings.{findings_of}
 use Rattle.eg_findings.specs.Texts.{signals_text, replay_text}
-use Rattle.eg_findings.specs.declared.told.Told.{Told}
+use Rattle.eg_findings.specs.declared.tick_signals.TickSignals.{TickSignals}
 use Rattle.eg_replay.specs.Replay.{replayed, told_of}
 
 -- ---- the lines ----
@@ -35,7 +35,7 @@ pub record IsRecording (columns : Columns) (recorded : List Recorded) (lines : L
 -- ---- what is written ----
 
 -- what level 2 tells of what was recorded, newest first
-abbrev pub told_in : CalibrationParts → List Recorded → List Told
+abbrev pub told_in : CalibrationParts → List Recorded → List TickSignals
 told_in cal recorded = told_of cal (replayed cal (reverse recorded))
 
 -- what `signals` writes of it

@@ -6,7 +6,7 @@ ghost use Rattle.eg_replay.specs.Running.{IsReplayOf, counters_kept};
 ghost use Rattle.eg_readings.specs.declared.recorded.Recorded.{Recorded as IsRecorded};
 
 use crate::modules::{run_modules, show_readings};
-use eg_findings::{Counters, Told};
+use eg_findings::{Counters, TickSignals};
 use eg_guard::FlatMemory;
 use eg_level2::{Level2, Lookup, Prepared};
 use eg_readings::Recorded;
@@ -59,7 +59,7 @@ impl Replay {
     }
 
     /// Runs the tick at which this was recorded, and tells what comes of it.
-    pub fn feed(&mut self, recorded: &Recorded) -> Told
+    pub fn feed(&mut self, recorded: &Recorded) -> TickSignals
         ensures cal { self.new.cal ≡ self.old.cal }
         // Of the recordings that it stood for, whichever they are, and of this one the model tells the same.
         ensures told { (seen : List IsRecorded) → IsReplayOf self.old seen →
@@ -71,7 +71,7 @@ impl Replay {
         show_readings(&mut self.memory, &readings);
         let found = run_modules(&self.level2, &self.prepared, self.tick, &mut self.memory);
         self.tick = self.tick.wrapping_add(1);
-        Told {
+        TickSignals {
             signals: signals(&self.memory),
             counters: counters(&self.memory),
             found,

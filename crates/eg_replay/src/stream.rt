@@ -15,7 +15,7 @@ ghost use Rattle.eg_replay.specs.Reading.{FindingsCome};
 use crate::Replay;
 use crate::recording::Recording;
 use eg_base::{NoMemory, Sink, Store};
-use eg_findings::{Findings, Tally, Told, push_signals, replay_text, signals_header};
+use eg_findings::{Findings, Tally, TickSignals, push_signals, replay_text, signals_header};
 use eg_input::TraceFault;
 use eg_lines::Lines;
 use eg_outcome::{Outcome, Refusal, calibration_for, put_or_end, put_text};
@@ -100,7 +100,12 @@ fn put_signals<L: Lines, K: Sink>(
 }
 
 /// Puts the row of a tick, which is made in this buffer.
-fn put_row<K: Sink>(row: &mut Vec<u8>, tick: u32, told: &Told, out: &mut K) -> Result<(), Outcome>
+fn put_row<K: Sink>(
+    row: &mut Vec<u8>,
+    tick: u32,
+    told: &TickSignals,
+    out: &mut K,
+) -> Result<(), Outcome>
     ensures { LinePut (signals_line tick told.now) (change_of K.shows out.old out.new) result }
 {
     row.clear();

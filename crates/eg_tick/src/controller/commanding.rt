@@ -13,7 +13,7 @@ use crate::plant::Outputs;
 use eg_fault::{PATH_1, PATH_2, conducts, held};
 use eg_guard::Guarded;
 use eg_num::Drive;
-use eg_plant::{Engine, ForeignEngine, Told};
+use eg_plant::{Engine, ForeignEngine, PartnerStep};
 
 impl<E: Engine + Drop, M: Guarded + Drop> Controller<E, M> {
     /// What the next tick commands to the engine, with this drive row (docs/CONCEPT.md, "`couple`"). Of the
@@ -59,7 +59,7 @@ impl<E: Engine + Drop, M: Guarded + Drop> Controller<E, M> {
 impl<M: Guarded + Drop> Controller<ForeignEngine, M> {
     /// Tells its engine what it shows after its next step, which must keep the laws of engines
     /// (docs/CONCEPT.md, "`couple`"). All else stays, and what the engine shows now too.
-    pub fn tell(&mut self, next: Told)
+    pub fn tell(&mut self, next: PartnerStep)
         requires laws { KeepsLaws self.old.kept.kt next }
         ensures kept { self.new.kept ≡ self.old.kept }
         ensures engine { self.new.engine ≡ record self.old.engine { next = next } }

@@ -21,8 +21,8 @@ returns g c = λ weighed.
     let x = c.args.input.now in
     let r : Run = (run_with c.args.calibration.now (faultless x)).run in
     record {
-      at = subst (λ image. IsAt bench g.E.BenchedEngine.come_to (run_by c.args.calibration.now image r.setting.fault x.plan.plan x.drive) 0 c.in_ok-controller.controller)
-          c.as_slice.ensures (c.in_ok-controller.ensures.at x.plan.plan x.drive);
+      at = subst (λ image. IsAt bench g.E.BenchedEngine.come_to (run_by c.args.calibration.now image r.setting.fault x.plan.slices x.drive) 0 c.in_ok-controller.controller)
+          c.as_slice.ensures (c.in_ok-controller.ensures.at x.plan.slices x.drive);
       ticks = c.in_ok-controller.ensures.ticks;
       threshold = c.new-tally.ensures.threshold ∙ ap (λ (rules : Rules). rules.threshold) c.rules-rules.ensures.rules;
       weights = c.new-tally.ensures.weights ∙ ap (λ (rules : Rules). rules.torque) c.rules-rules.ensures.rules;

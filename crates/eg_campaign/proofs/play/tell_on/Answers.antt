@@ -12,7 +12,7 @@ pub returns : goal.returns
 returns g c =
     let bench = g.E.BenchedEngine.bench in
     let cal = c.args.calibration.now in
-    let plan = c.args.input.now.plan.plan in
+    let plan = c.args.input.now.plan.slices in
     let was = c.args.steps.now in
     let same = same_run cal cal _ _ _ _ plan plan _ _ refl c.as_slice-image.ensures c.as_ref-fault.ensures.value refl c.as_slice-drive.ensures in
     record {

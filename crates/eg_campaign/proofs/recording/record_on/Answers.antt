@@ -55,7 +55,7 @@ loop-tick-init g c =
       room = omega (arith, c.in-Ok.ensures.exact);
       at = subst (λ (r : Run). IsAt bench g.E.BenchedEngine.come_to r 0 c.bench_controller-controller.result)
           (same_run _ _ _ _ _ _ _ _ _ _ refl c.as_slice-image.ensures c.as_ref-fault.ensures.value refl refl)
-          (c.bench_controller-controller.ensures.at c.args.input.now.plan.plan c.args.input.now.drive);
+          (c.bench_controller-controller.ensures.at c.args.input.now.plan.slices c.args.input.now.drive);
       written = has_header bench (run_with c.args.calibration.now c.args.input.now).run (shows c.args.out.now)
           (shows c.put_whole.new.out) c.args.steps.now c.as_bytes.result.now
           (c.as_bytes.ensures.value ∙ c.record_header.ensures) c.in_ok-put_whole.ensures.ok c.in_ok-put_whole.ensures.no_fault

@@ -1,5 +1,5 @@
 use Rattle.std.proofs.Common.{◌≡◌, ◌∙◌, ℕ, ◌+◌, ◌<◌, ◌∷◌, [], refl, sym, subst, Option, Ok, arith}
-use Rattle.eg_readings.specs.declared.answered.Answer.{Answer}
+use Rattle.eg_readings.specs.declared.answered.PartnerAnswer.{PartnerAnswer}
 use Rattle.eg_readings.specs.declared.answered.TheConstants.{MOST_ANSWER_BYTES}
 use Rattle.eg_values.specs.Calibration.{CalibrationParts}
 use Rattle.eg_campaign.specs.declared.play.RunInput.{RunInput}
@@ -75,7 +75,7 @@ returns-in_default g c =
     let unit : CoupledUnit = unit_of c.args.calibration.now c.args.input.now in
     let (answers, made, put, many, told, kt) = c.loop-taken.invariant in
     ends-done unit c.rules.ensures.accepted c.requires.fault answers c.loop-taken.controller _ _ _ _ _ made put (omega (arith, many, c.loop-taken-test.true))
-    (subst (λ (o : Option Answer). AnswerComes unit answers (change (g.L.Lines.shows c.loop-taken.lines) (g.L.Lines.shows c.next.new.lines)) (Ok o)) c.in_default.is
+    (subst (λ (o : Option PartnerAnswer). AnswerComes unit answers (change (g.L.Lines.shows c.loop-taken.lines) (g.L.Lines.shows c.next.new.lines)) (Ok o)) c.in_default.is
     (c.in_ok-answer.ensures.next unit answers told (omega (arith, many)) kt))
 
 -- the answer that came, and what its tick made
@@ -89,7 +89,7 @@ answered_row-row-requires-clause-coupled g c =
     let unit : CoupledUnit = unit_of c.args.calibration.now c.args.input.now in
     let (answers, made, put, many, told, kt) = c.loop-taken.invariant in
     let (line, come, is, well) = subst
-    (λ (o : Option Answer). AnswerComes unit answers (change (g.L.Lines.shows c.loop-taken.lines) (g.L.Lines.shows c.next.new.lines)) (Ok o))
+    (λ (o : Option PartnerAnswer). AnswerComes unit answers (change (g.L.Lines.shows c.loop-taken.lines) (g.L.Lines.shows c.next.new.lines)) (Ok o))
     c.in-Some.is (c.in_ok-answer.ensures.next unit answers told (omega (arith, many)) kt) in
     (unit, answers, line, made.stands, is)
 
@@ -97,8 +97,8 @@ pub returns-in_err-put_row : goal.returns-in_err-put_row
 returns-in_err-put_row g c =
     let unit : CoupledUnit = unit_of c.args.calibration.now c.args.input.now in
     let (answers, made, put, many, told, kt) = c.loop-taken.invariant in
-    let answer : Answer = c.in-Some.answer in
-    let came = subst (λ (o : Option Answer). AnswerComes unit answers (change (g.L.Lines.shows c.loop-taken.lines) (g.L.Lines.shows c.next.new.lines)) (Ok o))
+    let answer : PartnerAnswer = c.in-Some.answer in
+    let came = subst (λ (o : Option PartnerAnswer). AnswerComes unit answers (change (g.L.Lines.shows c.loop-taken.lines) (g.L.Lines.shows c.next.new.lines)) (Ok o))
     c.in-Some.is (c.in_ok-answer.ensures.next unit answers told (omega (arith, many)) kt) in
     let row = c.answered_row-row in
     let good = taken-is_lawful unit answers came.0 answer came.2 in
@@ -113,8 +113,8 @@ pub loop-taken-preserved : goal.loop-taken-preserved
 loop-taken-preserved g c =
     let unit : CoupledUnit = unit_of c.args.calibration.now c.args.input.now in
     let (answers, made, put, many, told, kt) = c.loop-taken.invariant in
-    let answer : Answer = c.in-Some.answer in
-    let came = subst (λ (o : Option Answer). AnswerComes unit answers (change (g.L.Lines.shows c.loop-taken.lines) (g.L.Lines.shows c.next.new.lines)) (Ok o))
+    let answer : PartnerAnswer = c.in-Some.answer in
+    let came = subst (λ (o : Option PartnerAnswer). AnswerComes unit answers (change (g.L.Lines.shows c.loop-taken.lines) (g.L.Lines.shows c.next.new.lines)) (Ok o))
     c.in-Some.is (c.in_ok-answer.ensures.next unit answers told (omega (arith, many)) kt) in
     let row = c.answered_row-row in
     let good = taken-is_lawful unit answers came.0 answer came.2 in

@@ -1,5 +1,5 @@
 use Rattle.std.proofs.Common.{◌≡◌, List, length}
-use Rattle.eg_readings.specs.declared.answered.Answer.{Answer}
+use Rattle.eg_readings.specs.declared.answered.PartnerAnswer.{PartnerAnswer}
 use Rattle.eg_outcome.specs.Changes.{change}
 use Rattle.eg_tick.specs.Commanding.{commands_next}
 use Rattle.eg_couple.specs.Coupled.{unit_of, entries_by}
@@ -10,7 +10,7 @@ use Rattle.eg_couple.proofs.stream.couple.Given as goal
 -- as many answers were taken as turns are done, a tick was made of each, and all that is said of them was put
 abbrev pub invariant-loop-taken : goal.invariant-loop-taken
 invariant-loop-taken g l =
-    (answers : List Answer)
+    (answers : List PartnerAnswer)
     × HasMade (unit_of l.calibration l.input) answers l.controller (change (g.L.Lines.shows l.fn.lines) (g.L.Lines.shows l.lines)) (change l.fn.steps l.steps)
     × HasPut (coupled_text (unit_of l.calibration l.input) answers) (change (g.K.Sink.shows l.fn.out) (g.K.Sink.shows l.out))
     × (length answers ≡ l.taken)

@@ -3,7 +3,7 @@ use Rattle.std.specs.Prelude.{slice_index_or}
 use Rattle.eg_plant.specs.Engine.{KeepsLaws}
 use Rattle.eg_couple.specs.Coupled.{CoupledUnit}
 use Rattle.eg_couple.specs.Running.{IsCoupled}
-use Rattle.eg_readings.specs.declared.answered.Answer.{Answer}
+use Rattle.eg_readings.specs.declared.answered.PartnerAnswer.{PartnerAnswer}
 use Rattle.eg_couple.proofs.TakenLemmas.{taken-lawful}
 use Rattle.eg_couple.proofs.TickingLemmas.{coupled-then, row-is}
 use Rattle.eg_couple.proofs.ticking.answered_row.Goals as goal
@@ -15,7 +15,7 @@ tell-requires c =
     record { laws = subst (λ kt. KeepsLaws kt c.args.answer.now.told) (sym given.3.stands.engine.one_kt) kept.engine }
 
 -- the row of the plan
-slices-are : (c : goal.In-Ok) (unit : CoupledUnit) (before : List Answer) → unit.plan ≡ c.args.plan.now → IsCoupled unit before c.args.controller.now
+slices-are : (c : goal.In-Ok) (unit : CoupledUnit) (before : List PartnerAnswer) → unit.plan ≡ c.args.plan.now → IsCoupled unit before c.args.controller.now
     → c.row.result.now ≡ slice_index_or unit.plan (length before % length unit.plan) []
 slices-are c unit before plan coupled =
     let tick : c.ticks-tick.result ≡ length before = c.ticks-tick.ensures.ticks ∙ ap (λ k. k.ticks) c.tell.ensures.kept ∙ coupled.ticks in

@@ -1,6 +1,6 @@
 use Rattle.std.proofs.Common.{◌∙◌, sym, ap, refl, Some}
 use Rattle.eg_num.specs.Drive.{IsDrive}
-use Rattle.eg_readings.specs.declared.answered.Answer.{Answer}
+use Rattle.eg_readings.specs.declared.answered.PartnerAnswer.{PartnerAnswer}
 use Rattle.eg_readings.proofs.AnswerLemmas.{made_of, row, answer-said, said-most}
 use Rattle.eg_readings.proofs.answered.answer_of.Goals as goal
 
@@ -104,7 +104,7 @@ returns-in_err-new c =
 pub returns : goal.returns
 returns c =
     let drive = row c.in_ok-pedal.pedal c.in_ok-speed.speed c.in_ok-raise.raise c.in_ok-reset.reset c.in_ok-brake.brake in
-    ap (λ (a : Answer). Some a) (made_of c.in_ok-new.field-0 drive c.new-2.result
+    ap (λ (a : PartnerAnswer). Some a) (made_of c.in_ok-new.field-0 drive c.new-2.result
     c.in_ok-position.position c.in_ok-load_1.load_1 c.in_ok-load_2.load_2 c.in_ok-torque.torque
     c.in_ok-new.ensures.1 c.new-2.ensures.position c.new-2.ensures.torque c.new-2.ensures.loads)
     ∙ sym (answer-said c.args.line.now c.before_return.result.now c.before_return.ensures

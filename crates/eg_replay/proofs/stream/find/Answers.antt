@@ -4,7 +4,7 @@ use Rattle.std.proofs.lemmas.Grind.{common_steps}
 use Rattle.eg_outcome.specs.Changes.{change}
 use Rattle.eg_readings.specs.declared.columns.Columns.{Columns}
 use Rattle.eg_readings.specs.declared.recorded.Recorded.{Recorded}
-use Rattle.eg_findings.specs.declared.told.Told.{Told}
+use Rattle.eg_findings.specs.declared.tick_signals.TickSignals.{TickSignals}
 use Rattle.eg_findings.specs.Tallies.{IsTallyOf}
 use Rattle.eg_replay.specs.Replay.{told_after}
 use Rattle.eg_replay.specs.Streams.{replay_writes, told_in}
@@ -79,7 +79,7 @@ loop-tick-preserved g c =
       read = (
         all,
         subst (λ (named : Columns). HasRead cal named all (c.loop-tick.tick + 1) c.feed.new.self (change (lines c.args.lines.now) (lines c.next.new.lines))) (sym c.next.ensures.columns) read,
-        subst (IsTallyOf c.feed-in-loop-tick.new.self) (ap (λ (t : Told). t ∷ told_in cal so_far.0) told ∙ sym (told_in-more cal so_far.0 r))
+        subst (IsTallyOf c.feed-in-loop-tick.new.self) (ap (λ (t : TickSignals). t ∷ told_in cal so_far.0) told ∙ sym (told_in-more cal so_far.0 r))
             (c.feed-in-loop-tick.ensures.stands (told_in cal so_far.0) so_far.2),
       );
     }

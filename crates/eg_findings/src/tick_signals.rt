@@ -18,7 +18,7 @@ pub struct Counters {
 
 /// What a replay tells of one tick (docs/CONCEPT.md, "`replay` and `signals`").
 #[derive(Clone, Copy)]
-pub struct Told {
+pub struct TickSignals {
     /// The signals of level 2 after the tick: the pedal that it uses (per mille), the permitted and the
     /// actual torque (tenths of Nm), the excess (0 or 1), and the bits of the pairs that disagree.
     pub signals: [u16; 5],
