@@ -8,16 +8,16 @@ told() {
   local of=${kit//$'\n'/ }
   echo "program ${origin:+$(program_of "$sum"), }${origin:-not built}, kit ${of:-none}"
 }
+# What has changed since the commit: of what it tracks anything, and of sources also those that it doesn't track.
+changes() { in_git status --porcelain -uno && in_git status --porcelain -- HANDLES crates.txt crates; }
 
 case $1 in
 --version)
   find_program
   echo "egasim $(cat -- "$top/VERSION")"
-  # Of the checkout, and whether what the program is built from has changed since.
   ! commit=$(in_git rev-parse --verify --quiet HEAD) ||
-    echo "commit $commit$(in_git status --porcelain -- HANDLES crates.txt crates | sed -n '1s/.*/, with changes/p')"
-  echo "${sum%%$'\n'*}"
-  told
+    echo "commit $commit$(changes | sed -n '1s/.*/, with changes/p')"
+  echo "${sum%%$'\n'*}" && told
   ;;
 --check)
   rm -f -- "$kept/egasim.stamps"
@@ -27,8 +27,7 @@ case $1 in
   ;;
 --prove)
   . "$top/launcher/build.sh"
-  build_in_turn
-  told
+  build_in_turn && told
   carried=$(cat -- "$top/release/egasim.sum" 2>/dev/null | tr -d '\0')
   if [ "${sum%%$'\n'*}" != "${carried%%$'\n'*}" ]; then
     echo "release/ carries no program of these sources by this kit, so bytes weren't compared"
