@@ -6,6 +6,7 @@ from lib.runs import lacking
 
 FAILS, OPEN, FITS = "Doesn't fit", "Not judged", "Fits"  # the worst first
 MOST_NAMES = 10  # that a line names
+LISTED_CLASSES = 13
 
 
 def verdict(played, asked):
@@ -90,6 +91,9 @@ def cut_point(played):
     cut = [f"{row['run']} {found}" for row in rows if (found := cut_by(row))]
     if cut:
         return FAILS, f"Sound drives are cut, {len(cut)} of {len(rows)}: {named(cut)}."
+    idle = [f"{row['run']}, {why}" for row in rows if (why := idle_by(row))]
+    if idle:
+        return OPEN, f"Sound drives that aren't driven, or whose level 1 stops, show nothing: {named(idle)}."
     return FITS, f"None of the sound drives is cut ({named(row['run'] for row in rows)})."
 
 
@@ -100,6 +104,13 @@ def cut_by(row):
     if row["off_at"]:
         return f"off at {row['off_at']}"
     return f"limited by {row['first']} at {row['first_at']}" if row["first"] else None
+
+
+def idle_by(row):
+    """Why a run of `table` shows nothing of a sound drive; None if it shows something."""
+    if row["trap"]:
+        return f"whose level 1 traps at {row['trap_at']}"
+    return None if row["last_on"] else "whose stages are on at no tick"
 
 
 def room_point(played, asked):
@@ -139,7 +150,8 @@ def questions_point(played):
     """Whether the questions are blind for something (lib/covering.py)."""
     if played.blind:
         return FAILS, f"The questions are blind: {'; '.join(played.blind)}."
-    return FITS, "The questions exercise each bit, pair, tie and check word (tools/answer --cover)."
+    return FITS, ("The questions exercise each bit, pair, tie and check word (tools/answer --cover); single entries of the "
+                  "permit table aren't looked at.")
 
 
 def evidence_point(played):
@@ -154,4 +166,6 @@ def evidence_point(played):
     left = f" Of several power cycles, and so not counted: {len(several)}; see the pictures." if several else ""
     if without:
         return FAILS, f"Reactions without evidence: {shown_by}, and none under {named(without)}.{left}"
-    return FITS, f"{shown_by}, of each class at least one.{left}"
+    kinds = len(set(showing))
+    return FITS, (f"{shown_by}, at least one of each class that the campaign has, {kinds} of {LISTED_CLASSES}. (A fault that acts may "
+                  f"change nothing of its run.){left}")

@@ -11,8 +11,9 @@ WEIGHTS = {"pedal": 10, "plate": 10, "load": 10, "speed": 10, "torque": 5, "answ
 
 
 def row_of(name, kind, **columns):
-    empty = dict.fromkeys(("first", "first_at", "cut", "cut_at", "off_at", "confirmed", "reaction", "stretch", "peak", "settled", "onset", "acted"), "")
-    return {**empty, "run": name, "class": kind, "bound": "34", **columns}
+    columns_without = ("first", "first_at", "cut", "cut_at", "off_at", "confirmed", "reaction", "stretch", "peak", "settled",
+                       "onset", "acted", "trap", "trap_at")
+    return {**dict.fromkeys(columns_without, ""), "run": name, "class": kind, "bound": "34", "last_on": "99", **columns}
 
 
 def shown_by(name, kind):
@@ -62,6 +63,15 @@ class Verdicts(unittest.TestCase):
         self.assertEqual(cut_point(played_of(rows=cut, sound=["sound", "test", "limp", "good"])), (
             FAILS, "Sound drives are cut, 3 of 4: sound by torque at 34, test off at 40, limp limited by pedal at 9."))
 
+    def test_a_sound_drive_that_shows_nothing_is_not_judged(self):
+        rows = [row_of("never", "none", last_on=""), row_of("trapped", "none", trap="fetch", trap_at="1"), row_of("good", "none")]
+        self.assertEqual(cut_point(played_of(rows=rows, sound=["never", "trapped", "good"])), (
+            OPEN, "Sound drives that aren't driven, or whose level 1 stops, show nothing: never, whose stages are on at no tick, "
+            "trapped, whose level 1 traps at 1."))
+        self.assertEqual(cut_point(played_of(rows=rows, sound=["good"]))[0], FITS)
+        cut = row_of("cut", "none", trap="fetch", trap_at="1", cut="torque", cut_at="2")
+        self.assertEqual(cut_point(played_of(rows=[cut], sound=["cut"]))[0], FAILS)
+
     def test_room_is_that_of_the_nearest_limit(self):
         self.assertEqual([room_point(played_of(), asked_of(room=room))[0] for room in (0, 20, 21, None)], [FITS, FITS, FAILS, OPEN])
         self.assertEqual(room_point(played_of(sound=[]), asked_of())[0], OPEN)
@@ -85,7 +95,8 @@ class Verdicts(unittest.TestCase):
         self.assertEqual(evidence_point(played_of(rows=[row_of("sound", "none"), row_of("l", "lapse")]))[0], OPEN)
         late = {**shown_by("halt-90", "halt"), "onset": "60"}
         self.assertEqual(evidence_point(played_of(rows=[shown_by("halt-0", "halt"), late])),
-                         (FITS, "1 of 2 runs under a listed fault show that R is kept, of each class at least one."))
+                         (FITS, "1 of 2 runs under a listed fault show that R is kept, at least one of each class that the campaign has, 1 of 13. "
+                          "(A fault that acts may change nothing of its run.)"))
         self.assertEqual(evidence_point(played_of(rows=[shown_by("halt-0", "halt"), {**late, "class": "skip"}])),
                          (FAILS, "Reactions without evidence: 1 of 2 runs under a listed fault show that R is kept, and none under skip."))
 
@@ -94,7 +105,8 @@ class Verdicts(unittest.TestCase):
             self.assertEqual(evidence_point(played_of(resets=lambda name, resets=resets: resets))[0], state)
         rows = [shown_by("a", "halt"), shown_by("b", "halt")]
         point = evidence_point(played_of(rows=rows, resets=lambda name: [9] if name == "b" else []))
-        self.assertEqual(point, (FITS, "1 of 2 runs under a listed fault show that R is kept, of each class at least one. "
+        self.assertEqual(point, (FITS, "1 of 2 runs under a listed fault show that R is kept, at least one of each class that the campaign has, 1 of 13. "
+                                 "(A fault that acts may change nothing of its run.) "
                                  "Of several power cycles, and so not counted: 1; see the pictures."))
 
     def test_more_than_what_is_proved_is_told_first(self):
