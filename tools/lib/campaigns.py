@@ -43,7 +43,7 @@ def run_of(campaign, name):
 def runs_under_faults(campaign, name, classes, onsets):
     """The texts of one run of a campaign file under each of these classes, by the words of the call."""
     base = {key: value for key, value in run_of(campaign, name).items() if key not in ("name", "faults")}
-    kinds, places = list(FAULTS) if classes == "all" else classes.split(","), list(onsets_of(onsets))
+    kinds, places = list(FAULTS) if classes == "all" else classes.split(","), list(dict.fromkeys(onsets_of(onsets)))
     for kind in kinds:
         if kind not in FAULTS:
             fail(f"no class {kind}; the classes are {', '.join(FAULTS)}; all stands for each of them")

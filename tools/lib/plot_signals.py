@@ -91,7 +91,7 @@ def picture(files, first, last):
         fail("signals of one measurement make a picture")
     [(name, lines, calibration)] = files
     whole = signals_of(name, lines)
-    every, signals = part_of(name, whole, first, last), part_of(name, up_to_trip(whole), first, last)
+    every, signals = part_of(name, whole, first, last), part_of(f"{name}, up to its trip,", up_to_trip(whole), first, last)
     until = f", up to the trip at {signals['tick'][-1]}" if is_trip(signals["found"][-1]) else ""
     shares = shares_of(name, signals, weight_limits_of(calibration))
     return HEIGHT, [

@@ -207,9 +207,12 @@ def pictures(played):
 
 
 def run_figure(place, title, record, threshold, marks):
+    drawn = most_marks(marks)
     yield "<figure>"
     yield from record_picture(place, f"{title}: torque, permitted torque and threshold, excess, stages",
-                              about_run(record, threshold), record, threshold, most_marks(marks))
+                              about_run(record, threshold), record, threshold, drawn)
+    if len(drawn) < len(marks):
+        yield f"<figcaption>{len(marks) - len(drawn)} more marks aren't drawn.</figcaption>"
     yield "</figure>"
 
 

@@ -39,6 +39,8 @@ def guarded(main):
         fail("a number is out of range")
     except ValueError as error:
         fail(f"a file can't be read: {error}")
+    except LookupError as error:
+        fail(f"what was read has no {error}: is the program egasim?")
     except KeyboardInterrupt:
         sys.exit(130)
 

@@ -115,7 +115,7 @@ class Signals(unittest.TestCase):
                 (None, None, "s, up to the trip at 2"), (0, 1, "s"), (2, 3, "s, up to the trip at 2")):
             self.assertIn(f'set title "{title}" ', script_of(plot_signals.picture([("s", self.LINES, None)], first, last))[1])
         self.assertEqual(note_of(plot_signals.picture, [("s", self.LINES, None)], 3, 3),
-                         "s has ticks 0 to 2, and none of those that are asked for")
+                         "s, up to its trip, has ticks 0 to 2, and none of those that are asked for")
 
     def test_signals_that_were_cut_out_have_their_ticks(self):
         self.assertEqual(plot_signals.signals_of("s", [self.HEADER, *self.LINES[3:]])["tick"], [2, 3])
