@@ -1,0 +1,104 @@
+"""Units: how long a tick is, and numbers of ticks, torques and shares told in units beside their own."""
+
+import os
+import re
+from fractions import Fraction
+
+from lib.toml import toml_of
+from lib.tool import fail
+
+BESIDE = "units.toml"  # beside a calibration: how long its ticks are, `tick = "10ms"`
+TIME = re.compile(r"(\d{1,9}(?:\.\d{1,9})?) ?(us|ms|s)")
+NANOSECONDS = {"ns": 1, "us": 10**3, "ms": 10**6, "s": 10**9}
+MOST_TICK = 10 * NANOSECONDS["s"]
+LONG = 10 * NANOSECONDS["s"]  # from here on a time is told in seconds
+# What the columns of `table` and `margins`, and the lines of `limits`, are counted in.
+OF_TICKS = ("onset", "first_at", "cut_at", "off_at", "last_on", "confirmed", "stretch", "reaction", "bound", "trap_at", "lapse",
+            "excess", "test", "spacing")
+OF_TORQUE = ("peak", "surplus")  # tenths of Nm
+
+
+def decimal(number):
+    """A fraction whose denominator divides a power of ten, with as many digits as it needs."""
+    sign, number, digits = "-" if number < 0 else "", abs(Fraction(number)), 0
+    while number.denominator != 1:
+        number, digits = number * 10, digits + 1
+    said = f"{number.numerator:0{digits + 1}}"
+    return sign + (f"{said[:-digits]}.{said[-digits:]}" if digits else said)
+
+
+def time_of(said):
+    """The nanoseconds of a time such as 10ms, 2.5ms or 0.01s; None if it is no such time."""
+    match = TIME.fullmatch(said) if isinstance(said, str) and said.isascii() else None
+    time = Fraction(match[1]) * NANOSECONDS[match[2]] if match else None
+    return int(time) if match and time.denominator == 1 else None
+
+
+def tick_of(name, said):
+    """The nanoseconds of a tick; `name` says where its length stands."""
+    time = time_of(said)
+    if time is None or not 0 < time <= MOST_TICK:
+        fail(f"{name} {said} is no length of a tick, such as 10ms, 2.5ms or 0.02s, of 10 s at the most")
+    return time
+
+
+def time_told(nanoseconds):
+    """A time in ms, or a long one in s."""
+    unit = "s" if abs(nanoseconds) >= LONG else "ms"
+    return f"{decimal(Fraction(nanoseconds, NANOSECONDS[unit]))} {unit}"
+
+
+class Units:
+    """How numbers are told. Where nobody has said how long a tick is, each is told as it stands."""
+
+    def __init__(self, tick=None):
+        self.tick = tick  # in nanoseconds
+
+    def __bool__(self):
+        return self.tick is not None
+
+    def beside(self, number, told):
+        """A number with what it is in units behind it."""
+        return f"{number} ({told(int(number))})" if self else str(number)
+
+    def time(self, ticks):
+        return time_told(ticks * self.tick)
+
+    def ticks(self, number):
+        """12 as `12 (120 ms)`."""
+        return self.beside(number, self.time)
+
+    def torque(self, tenths):
+        """705 as `705 (70.5 Nm)`."""
+        return self.beside(tenths, lambda number: f"{decimal(Fraction(number, 10))} Nm")
+
+    def share(self, per_mille):
+        """305 as `305 (30.5 %)`."""
+        return self.beside(per_mille, lambda number: f"{decimal(Fraction(number, 10))} %")
+
+    def cell(self, name, said):
+        """What stands in a column of `table` or `margins`, or a line of `limits`, as numbers of that name are told."""
+        if not self or not re.fullmatch(r"-?[0-9]+", str(said)):
+            return said
+        return self.ticks(said) if name in OF_TICKS else self.torque(said) if name in OF_TORQUE else said
+
+
+def units_beside(calibration):
+    """The units that units.toml beside a calibration says, if it is there."""
+    path = os.path.join(os.path.dirname(calibration), BESIDE)
+    if not os.path.lexists(path):
+        return Units()
+    held = toml_of(path)
+    if set(held) != {"tick"}:
+        fail(f'{path}: units have one key, such as tick = "10ms"')
+    return Units(tick_of(f"{path}: tick", held["tick"]))
+
+
+def units_of(said, calibrations):
+    """The units of a call: a tick as --tick says, or else as units.toml beside the calibrations does."""
+    if said is not None:
+        return Units(tick_of("--tick", said))
+    ticks = {calibration: units_beside(calibration).tick for calibration in calibrations if calibration}
+    if len(set(ticks.values())) > 1:
+        fail("units.toml beside the calibrations says several lengths of a tick, or is missing beside one: --tick says one")
+    return Units(next(iter(ticks.values()), None))
