@@ -1,0 +1,39 @@
+# A measurement of 60 s as a measuring tool exports it: as a recording, with its gap held or cut out, and as a drive. Other
+# forms of the same measurement give the same, --check writes nothing, and what is refused is told in a line.
+work=$(mktemp -d) && trap 'rm -rf "$work"' EXIT && ln -s "$PWD/egasim" "$PWD/examples" "$PWD/tools" "$work" && cd "$work" || exit
+python3 examples/exported.py >exported.csv
+tools/measured examples/exported_readings.toml exported.csv readings.csv
+./egasim replay <readings.csv
+./egasim replay --cal examples/strict.toml <readings.csv | sed -n '6,7p'
+sed 's/^gap = .*/gap = "cut"/' examples/exported_readings.toml >cut.toml
+tools/measured cut.toml exported.csv part.csv | sed -n '2,4p'
+{ sed 1d part-1.csv; sed 1d part-2.csv; } >joined && sed '1d; 205,241d' readings.csv | cmp - joined && echo 'the same but for the gap'
+
+tools/measured examples/exported.toml exported.csv drive.csv
+cat drive.toml
+./egasim run drive.toml
+tools/report drive.toml --room 20 | sed -n '/"verdict"/,/<.ul>/{s/<[^>]*>//g;/sound/p}'
+LC_ALL=C sed '1s/^...//; s/,/./g; s/;/,/g; s/"//g; s/\r$//' exported.csv >plain.csv
+iconv -f UTF-8 -t UTF-16 exported.csv >wide.csv
+{ printf 'lines above\nthe names\n\n' && LC_ALL=C sed '1s/^...//; s/;/\t/g' exported.csv; } >tabs.csv
+for form in plain wide tabs; do
+  tools/measured examples/exported.toml $form.csv other.csv | head -n 1
+  cmp drive.csv other.csv
+done
+rm ./*.csv ./*.toml joined && python3 examples/exported.py >exported.csv
+tools/measured --check examples/exported.toml exported.csv
+ls
+
+refused() { sed "$1" examples/exported.toml >odd.toml; tools/measured --check odd.toml exported.csv 2>&1; }
+refused 's/APP_r1/APP/'
+refused 's/^raise.*//'
+refused 's/"10ms"/"10"/'
+refused 's/^channel = "time"/channel = "v_kmh"/'
+sed '3000s/^[0-9,]*/40,00/' exported.csv >falls.csv
+tools/measured --check examples/exported.toml falls.csv 2>&1
+sed '3000s/;[^;]*;/;12,5 %;/' exported.csv >text.csv
+tools/measured examples/exported.toml text.csv exported.csv 2>&1
+tools/measured examples/exported.toml exported.csv exported.csv 2>&1
+tools/measured examples/exported.toml gone.csv drive.csv 2>&1
+tools/measured examples/exported.toml exported.csv 2>&1
+ls

@@ -1,0 +1,131 @@
+"""Measurements as measuring tools export them: CSV with names, perhaps units, and times at which each channel has values."""
+
+import codecs
+import csv
+import io
+import re
+from decimal import ROUND_HALF_UP, Context, Decimal
+
+from lib.files import read
+from lib.tool import fail
+
+MOST_ABOVE, MOST_BELOW, MOST_NAMED = 200, 20, 20  # lines above the names, and of units below them; names that are told
+NUMBER = re.compile(r"[+-]?(?:[0-9]{1,40}(?:\.[0-9]{0,40})?|\.[0-9]{1,40})(?:[eE][+-]?[0-9]{1,2})?")
+WITH_SIGN = re.compile(r"[+-]?[0-9]*([.,])[0-9]+(?:[eE][+-]?[0-9]+)?")
+NO_NUMBER = re.compile(r"[+-]?(nan(\(\w*\))?|1\.#(qnan|snan|ind|inf)\d*|inf|infinity|#?n/a|null)", re.I)
+DELIMITERS, DECIMALS = {",": "comma", ";": "semicolon", "\t": "tab"}, {".": "point", ",": "comma"}
+MOST_TIME = 10**18  # nanoseconds
+EXACT = Context(prec=100)
+
+
+class Measurement:
+    """A measurement: where its columns are, and its rows. What nobody has said of its form is found."""
+
+    def __init__(self, name, form, channels):
+        self.name, self.form = name, form
+        self.text, self.encoding = decoded(name, read(name), form.encoding)
+        self.delimiter, self.names = self.found(list(dict.fromkeys(channels)))
+        self.decimal, self.rows_of_units = form.decimal, 0
+
+    def lines(self, delimiter, most=None):
+        """The lines of the file, as CSV has them: (number, cells)."""
+        rows = csv.reader(io.StringIO(self.text, newline=""), delimiter=delimiter)
+        try:
+            for row in rows:
+                yield rows.line_num, row
+                if rows.line_num == most:
+                    return
+        except csv.Error as error:
+            fail(f"{self.name}: line {rows.line_num} isn't one of CSV: {error}")
+
+    def found(self, channels):
+        """The delimiter, and the names of the first line that has all channels: (line, cells)."""
+        texts = {channel for channel in channels if isinstance(channel, str)}
+        best = (0, 0, ",", [])
+        for delimiter in [self.form.delimiter] if self.form.delimiter else DELIMITERS:
+            for number, row in self.lines(delimiter, MOST_ABOVE):
+                names = [cell.strip() for cell in row]
+                best = max(best, (len(texts & set(names)), -number, delimiter, names), key=lambda one: one[:2])
+        count, number, delimiter, names = best
+        if not texts:
+            fail(f"{self.name}: a channel must be said by its name, so that the line of names is found")
+        if count < len(texts):
+            lacking = next(channel for channel in channels if isinstance(channel, str) and channel not in names)
+            told = names_told(names) if count else "no line has one"
+            fail(f"{self.name} has no channel {lacking} in one line with the others; {told}")
+        return delimiter, (-number, names)
+
+    def column(self, channel):
+        """The place of a channel among the cells of a line."""
+        line, names = self.names
+        if isinstance(channel, int):
+            if channel > len(names):
+                fail(f"{self.name}: line {line} has {len(names)} columns, and no {channel}")
+            return channel - 1
+        places = [place for place, name in enumerate(names, 1) if name == channel]
+        if len(places) > 1:
+            fail(f"{self.name}: line {line} has {channel} in the columns {', '.join(map(str, places))}; say one by its number")
+        return places[0] - 1
+
+    def rows(self, times):
+        """The lines below the names and units: (number, cells), without blanks around them. `times` are the columns of
+        time: a line of units is one of the first in which none of these has a number."""
+        above, has_begun, self.rows_of_units = self.names[0], False, 0
+        for number, row in self.lines(self.delimiter):
+            if number <= above or not any(row):
+                continue
+            cells = [cell.strip() for cell in row]
+            if not has_begun and not any(map(self.number_like, (cells[place] for place in times if place < len(cells)))):
+                self.rows_of_units += 1
+                if self.rows_of_units > MOST_BELOW:
+                    fail(f"{self.name}: none of the first {MOST_BELOW} lines below the names has a number as its time")
+                continue
+            if any(cells[len(self.names[1]):]):
+                fail(f"{self.name}: line {number} has more cells than line {above} has names; is the sign between them also "
+                     "that of decimals?")
+            has_begun = True
+            yield number, cells + [""] * (len(self.names[1]) - len(cells))
+
+    def number_like(self, text):
+        """Whether a text is a number with either decimal sign."""
+        return NUMBER.fullmatch(text.replace(",", ".", 1)) is not None
+
+    def number(self, line, channel, text):
+        """The digits of a cell, with a point; None if the cell says that there is no sample, or no number ("nan")."""
+        if self.decimal is None and (match := WITH_SIGN.fullmatch(text)):
+            self.decimal = match[1]
+        said = text.replace(",", ".", 1) if self.decimal == "," and "." not in text else text
+        if NUMBER.fullmatch(said) and not (self.decimal == "," and "." in text):
+            return said
+        if NO_NUMBER.fullmatch(text.replace(",", ".", 1)):
+            return "nan"
+        if not text or text in self.form.empty:
+            return None
+        sign = self.decimal or "."
+        return fail(f"{self.name}: line {line}: {channel} has {text[:40]}, which is no number with the decimal sign {sign}")
+
+    def time(self, line, channel, text, unit):
+        """The time of a cell in whole nanoseconds, rounded half away from zero; None if there is none."""
+        said = self.number(line, channel, text)
+        if said in (None, "nan"):
+            return None
+        time = int(EXACT.multiply(Decimal(said), Decimal(unit)).to_integral_value(ROUND_HALF_UP, EXACT))
+        return time if abs(time) < MOST_TIME else fail(f"{self.name}: line {line}: {channel} has {text}, which is no time")
+
+
+def decoded(name, content, encoding):
+    """The text of a file, and its encoding: what was said, what a byte order mark says, UTF-8, or else Latin-1."""
+    marks = {codecs.BOM_UTF16_LE: "utf-16", codecs.BOM_UTF16_BE: "utf-16"}
+    tried = [encoding] if encoding else [marks.get(content[:2], "utf-8"), "latin-1"]
+    for one in tried:
+        try:
+            return content.decode(one).removeprefix("\ufeff"), one
+        except UnicodeDecodeError:
+            continue
+    return fail(f"{name} isn't {tried[0].upper()}")
+
+
+def names_told(names):
+    """The names of a measurement in words."""
+    more = f" and {len(names) - MOST_NAMED} more" if len(names) > MOST_NAMED else ""
+    return f"its names are {', '.join(names[:MOST_NAMED])}{more}"
