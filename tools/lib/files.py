@@ -151,8 +151,10 @@ def room_in(folder):
 
 
 def make_folder(**where):
-    room = tempfile.mkdtemp(**where)
-    return os.open(room, os.O_RDONLY | os.O_DIRECTORY | os.O_CLOEXEC), room
+    while True:
+        room = tempfile.mkdtemp(**where)
+        with contextlib.suppress(FileNotFoundError):  # another call has removed it, since nobody had locked it yet
+            return os.open(room, os.O_RDONLY | os.O_DIRECTORY | os.O_CLOEXEC), room
 
 
 def locked_part(folder, make):

@@ -1,4 +1,4 @@
-"""Other numbers for the questions of a calibration file, put into its text. Every other byte stays as it is."""
+"""Other numbers for a calibration file, put into its text. Every other byte stays as it is."""
 
 import re
 import tomllib
@@ -61,3 +61,22 @@ def with_questions(name, text, questions):
             fail(f"{name}: {by_hand}; put the numbers in by hand")
     new = replaced(text, {places[key]: number for key, number in changed.items()})
     return new if parsed(name, new)["question"] == questions else fail(f"{name}: put the numbers in by hand")
+
+
+def with_numbers(name, text, numbers):
+    """The text with other numbers at keys of its tables, which `numbers` has by table and key. As places_of does it, each
+    number that may be meant becomes another, and the file shows which is whose."""
+    keys = "|".join(sorted({re.escape(key) for _, key in numbers}))
+    spans = [match.span(1) for match in re.finditer(rf"""\b(?:{keys})["']?[ \t]*=[ \t]*({NUMBER})""", text)]
+    numbered = parsed(name, replaced(text, {span: FIRST + place for place, span in enumerate(spans)}))
+    words = {}
+    for (table, key), number in numbers.items():
+        place = numbered[table][key] - FIRST
+        if not 0 <= place < len(spans):
+            fail(f"{name}: {table}.{key} isn't written as `{key} = N`; put the number in by hand")
+        words[spans[place]] = number
+    new = replaced(text, words)
+    held = parsed(name, new)
+    if any(held[table][key] != number for (table, key), number in numbers.items()):
+        fail(f"{name}: put the numbers in by hand")
+    return new

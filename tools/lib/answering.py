@@ -1,0 +1,31 @@
+"""The right answers of a calibration, worked out by the program and by the tools, and put into its text."""
+
+import os
+import tempfile
+
+from lib.files import room_in
+from lib.program import printed_by
+from lib.putting import parsed, with_questions
+from lib.questions import answer_of
+from lib.tool import fail
+
+
+def printed_of(command, *words, text):
+    """What a command prints of a calibration file that has this text."""
+    with room_in(tempfile.gettempdir()) as folder:
+        name = os.path.join(folder, "calibration.toml")
+        with open(name, "wb") as file:
+            file.write(text.encode())
+        return printed_by(command, *words, name)
+
+
+def with_answers(name, text, printed=None):
+    """The text with the right answers, as the program works them out and as it is done here. `printed` makes what
+    `answers` prints of a text, where the caller has a way of its own."""
+    calibration = parsed(name, text)
+    lines = (printed(text) if printed else printed_of("answers", text=text)).splitlines()
+    right = [int(line.split(": ")[1]) for line in lines]
+    if right != [answer_of(calibration, question) for question in calibration["question"]]:
+        fail(f"{name}: the program works out other answers than this tool")
+    questions = [{**question, "answer": answer} for question, answer in zip(calibration["question"], right)]
+    return with_questions(name, text, questions)

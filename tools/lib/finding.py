@@ -1,0 +1,207 @@
+"""The least limits by which no drive of a campaign, and no recording, is cut, for each threshold; and times that fit.
+
+What the limits come to isn't tried out: with limits that are never reached the program tells the greatest weight of each
+run, and a watch finds something exactly if its weight reaches its limit. So one more than the greatest weight is the least
+limit, of each threshold that is played."""
+
+import csv
+import io
+import itertools
+import os
+import re
+import subprocess
+import sys
+from concurrent.futures import ThreadPoolExecutor
+from dataclasses import dataclass, field
+
+from lib.answering import with_answers
+from lib.calibration import WATCHES
+from lib.files import read
+from lib.program import program
+from lib.putting import parsed, with_numbers
+from lib.tool import TOOL, as_noted, fail
+
+OPEN = 10000  # a limit that is never reached, and the greatest that a file may have
+PAIRS = [watch for watch, table in WATCHES.items() if table == "pairs"]
+LEAST_PERIOD, MOST_PERIOD = 2, 100
+TIMES = ("period", "first", "last", "send", "limit")  # keys of the table `answers`
+FOUND = re.compile(r"(.*): first (?:(\w+) at (\d+)|none); ")
+REPLAYED = re.compile(r"(\w+) (?:none|at (\d+)); greatest (\d+) of (\d+)")
+
+
+@dataclass
+class Row:
+    """What one threshold comes to."""
+
+    threshold: int
+    weight: int = 0  # the greatest of the torque
+    pairs: int = 0  # the greatest of a pair
+    binds: str = ""  # the drive that has it
+    limit: int = 0
+    pairs_limit: int = 0
+    tick: int | None = None  # by the limit `weight` the drive would be cut there
+    weights: dict = field(default_factory=dict)  # of each drive
+    times: dict = field(default_factory=dict)  # keys of the table `answers`
+    limits: dict = field(default_factory=dict)  # what `limits` tells by this row's calibration
+    hindrance: str = ""  # why no times fit
+
+
+class Search:
+    """A calibration to start from, and what is to be let through, with all that is asked of the result."""
+
+    def __init__(self, asked, room):
+        self.asked, self.room, self.name = asked, room, asked.cal
+        self.text = read(asked.cal).decode()
+        self.start, self.numbers = parsed(asked.cal, self.text), itertools.count(1)
+        self.drives = asked.drives
+
+    # The program
+
+    def put(self, text):
+        """A file of this text, by a name of its own."""
+        path = os.path.join(self.room, f"{next(self.numbers)}.toml")
+        with open(path, "w", encoding="utf-8", newline="") as file:
+            file.write(text)
+        return path
+
+    def call(self, *words, given=None):
+        """What a command prints, whether or not the drives are cut. With --verbose it is told as it could be typed."""
+        if self.asked.verbose:
+            print(as_noted(f"{TOOL}: egasim {' '.join(words)}{f' <{given}' if given else ''}"), file=sys.stderr)
+        with open(given or os.devnull, "rb") as lines:
+            done = subprocess.run([program(), *words], stdin=lines, capture_output=True, check=False)
+        if done.returncode:
+            fail(f"egasim {words[0]}: {done.stderr.decode(errors='replace').strip() or f'status {done.returncode}'}")
+        return done.stdout.decode()
+
+    def limits_by(self, path):
+        return dict(line.split() for line in self.call("limits", "--cal", path).splitlines())
+
+    def weights_by(self, path):
+        """The greatest weights of each run and each recording by a calibration: {name: {watch: weight}}."""
+        told = {}
+        if self.drives:
+            for row in csv.DictReader(io.StringIO(self.call("margins", "--cal", path, self.drives))):
+                if row["class"] not in ("none", "lapse"):
+                    fail(f"{self.drives}: {row['run']} has a fault; drives that are to be let through have none, or a lapse")
+                told[row["run"]] = {watch: int(row[watch]) for watch in [*PAIRS, "torque"]}
+        for name in self.asked.recordings:
+            lines = self.call("replay", "--cal", path, given=name).splitlines()
+            told[name] = {match[1]: int(match[3]) for match in map(REPLAYED.match, lines) if match}
+        return told
+
+    def cuts_by(self, path):
+        """What is found first in each run, and what a recording finds of the torque: {name: (watch, tick)}."""
+        told = {}
+        lines = self.call("run", "--cal", path, self.drives).splitlines() if self.drives else []
+        for match in filter(None, map(FOUND.match, lines)):
+            told[match[1]] = match[2] and (match[2], int(match[3]))
+        for name in self.asked.recordings:
+            lines = self.call("replay", "--cal", path, given=name).splitlines()
+            found = [(match[1], int(match[2])) for match in map(REPLAYED.match, lines) if match and match[2]]
+            told[name] = min(found, key=lambda one: one[1], default=None)
+        return told
+
+    # A threshold
+
+    def text_with(self, threshold, limit, pairs_limit, times=None):
+        numbers = {("permit", "threshold"): threshold, ("torque", "limit"): limit, ("pairs", "limit"): pairs_limit}
+        numbers |= {("answers", key): number for key, number in (times or {}).items()}
+        return self.with_answers(with_numbers(self.name, self.text, numbers))
+
+    def with_answers(self, text):
+        return with_answers(self.name, text, lambda text: self.call("answers", self.put(text)))
+
+    def least_of(self, weight):
+        """The least limit that lets this weight through and leaves the room that is asked."""
+        return max(weight + 1, -(-weight * 100 // (100 - self.asked.room)))
+
+    def row_of(self, threshold):
+        """What a threshold comes to: the weights by open limits, the least limits, and times that fit."""
+        row, path = Row(threshold), self.put(self.text_with(threshold, OPEN, OPEN))
+        row.weights = self.weights_by(path)
+        for name, found in self.cuts_by(path).items():
+            if found:
+                fail(f"{name}: {found[0]} finds something at {found[1]} by the threshold {threshold}, whatever the limits are")
+        row.weight = max(weights["torque"] for weights in row.weights.values())
+        row.pairs = max(weights[pair] for weights in row.weights.values() for pair in PAIRS)
+        row.limit = self.least_of(row.weight)
+        row.pairs_limit = max(self.start["pairs"]["limit"], self.least_of(row.pairs))
+        if max(row.limit, row.pairs_limit) > OPEN:
+            fail(f"threshold {threshold}: a weight of {max(row.weight, row.pairs)} needs a limit above {OPEN}")
+        self.bind(row)
+        self.fit(row)
+        return row
+
+    def bind(self, row):
+        """Which drive binds, and where: by a limit that is its weight the program cuts it, and tells the tick."""
+        if not row.weight:
+            return
+        row.binds = next(name for name, weights in row.weights.items() if weights["torque"] == row.weight)
+        found = self.cuts_by(self.put(self.text_with(row.threshold, row.weight, OPEN)))[row.binds]
+        if not found or found[0] != "torque":
+            fail(f"{row.binds}: the limit {row.weight} should cut it by the threshold {row.threshold}, and doesn't")
+        row.tick = found[1]
+
+    # Times
+
+    def fit(self, row):
+        """Finds the longest period by which an excess ends in time, and misses are tolerated as asked; where there is none,
+        the one that comes nearest."""
+        own = {key: self.start["answers"][key] for key in TIMES}
+        tries = []
+        for times in [own] if self.asked.keep_times else self.times_for(row):
+            limits = self.limits_by(self.put(self.text_with(row.threshold, row.limit, row.pairs_limit, times)))
+            hindrance, far = self.hindrance_of(limits, times)
+            tries.append((far, hindrance, limits, times))
+            if not hindrance:
+                break
+        _, row.hindrance, row.limits, row.times = min(tries, key=lambda one: one[0])
+
+    def times_for(self, row):
+        """The times that may fit, the longest period first; where none does, those of the least period."""
+        answers, wrong = self.start["answers"], 2 * self.asked.misses + 1
+        up, lead = answers["up"], answers["send"] - answers["first"]
+        confirms = -(-row.limit // self.start["torque"]["up"])  # D
+        longest = min(MOST_PERIOD, (self.asked.left - confirms + 1) // wrong)
+        for period in range(max(longest, LEAST_PERIOD), LEAST_PERIOD - 1, -1):
+            last = period - 1
+            yield {"period": period, "first": max(0, last - lead), "last": last, "send": last, "limit": wrong * up}
+
+    def hindrance_of(self, limits, times):
+        """Which number keeps these times from fitting, or nothing; and by how much, so that fewer are nearer."""
+        left, spacing = self.asked.left, self.asked.spacing
+        over = int(limits["stretch"]) - left
+        if over > 0:
+            return f"stretch {limits['stretch']} is above {left}", (3, over)
+        if int(limits["excess"]) > times["period"]:
+            if limits["lapse"] == "none":
+                return "under lapses no bound is known: lapse none", (2, 0)
+            if int(limits["lapse"]) - 1 > left:
+                return f"under lapses {int(limits['lapse']) - 1} is above {left}", (1, int(limits["lapse"]))
+        if spacing is not None and (limits["spacing"] == "none" or int(limits["spacing"]) > spacing):
+            return f"spacing {limits['spacing']} is above {spacing}", (1, 0)
+        return "", (0, 0)
+
+    # All thresholds
+
+    def rows(self):
+        """The rows of all thresholds, played side by side."""
+        thresholds = self.asked.thresholds
+        with ThreadPoolExecutor(os.cpu_count() or 1) as pool:
+            rows = []
+            for row in pool.map(self.row_of, thresholds):
+                rows.append(row)
+                self.tell_progress(len(rows), len(thresholds))
+            return rows
+
+    def tell_progress(self, done, total):
+        if sys.stderr.isatty() and not self.asked.verbose:
+            print(f"\r{TOOL}: {done} of {total} thresholds", end="\n" if done == total else "", file=sys.stderr, flush=True)
+
+
+def is_on_front(row, rows):
+    """Whether no other row has less threshold and less stretch, one of them truly less."""
+    here = row.threshold, int(row.limits["stretch"])
+    there = [(other.threshold, int(other.limits["stretch"])) for other in rows]
+    return not any(other != here and other[0] <= here[0] and other[1] <= here[1] for other in there)

@@ -1,0 +1,91 @@
+"""The search of tools/find: what is least, what fits, and what is on the front, each by another way."""
+
+import random
+import unittest
+from types import SimpleNamespace
+from xml.etree import ElementTree
+
+from lib.finding import Row, Search, is_on_front
+from lib.found import HEIGHT, TOP, picture_of, table_of
+from lib.units import Units
+
+
+def search_with(room=0, left=27, misses=1, spacing=None):
+    """A search without files, of the numbers of the reference calibration."""
+    search = object.__new__(Search)
+    search.asked = SimpleNamespace(room=room, left=left, misses=misses, spacing=spacing)
+    search.start = {"answers": {"up": 3, "first": 4, "send": 5}, "torque": {"up": 1}}
+    return search
+
+
+def row_of(threshold, excess, reaction, hindrance=""):
+    limits = {"excess": str(excess), "reaction": str(reaction), "stretch": str(excess - 1 + reaction), "verdicts": "3",
+              "lapse": "none", "spacing": "80"}
+    return Row(threshold, 4, 0, "town", 5, 10, 34, {}, {"period": 7}, limits, hindrance)
+
+
+class Finding(unittest.TestCase):
+    def test_least_limit(self):
+        """The least limit leaves the room that is asked, and one less doesn't, or is reached."""
+        for room in range(100):
+            for weight in range(60):
+                least = search_with(room).least_of(weight)
+                leaves = [limit > weight and 100 * (limit - weight) >= room * limit for limit in range(1, least + 1)]
+                self.assertEqual([False] * (least - 1) + [True], leaves)
+
+    def test_times(self):
+        """The periods fall to the least; each is sent and heard at its last tick; N*period fits as long as any does."""
+        for left in range(0, 400, 7):
+            for limit in (1, 5, 30):
+                times = list(search_with(left=left).times_for(Row(0, limit=limit)))
+                periods = [one["period"] for one in times]
+                self.assertEqual(list(range(periods[0], 1, -1)), periods)
+                fitting = [period for period in range(2, 101) if limit - 1 + 3 * period <= left]
+                self.assertEqual(max(fitting, default=2), periods[0])
+                for one in times:
+                    self.assertTrue(0 <= one["first"] <= one["send"] == one["last"] == one["period"] - 1)
+                    self.assertEqual(9, one["limit"])
+
+    def test_hindrance(self):
+        search, times = search_with(left=30, spacing=50), {"period": 7}
+        for limits, words in (
+                (("31", "5", "none", "10"), "stretch 31 is above 30"), (("30", "7", "none", "50"), ""),
+                (("30", "8", "none", "50"), "under lapses no bound is known: lapse none"), (("30", "8", "31", "50"), ""),
+                (("30", "8", "32", "50"), "under lapses 31 is above 30"), (("30", "7", "9", "51"), "spacing 51 is above 50"),
+                (("30", "7", "9", "none"), "spacing none is above 50")):
+            told = dict(zip(("stretch", "excess", "lapse", "spacing"), limits))
+            self.assertEqual(words, search.hindrance_of(told, times)[0])
+
+    def test_front(self):
+        """A row is on the front if it is the only one left of those that are at most as high in both."""
+        chance = random.Random(7)
+        for _ in range(200):
+            rows = [row_of(chance.randrange(6), chance.randrange(1, 5), 3) for _ in range(6)]
+            for row in rows:
+                below = {(one.threshold, one.limits["stretch"]) for one in rows
+                         if one.threshold <= row.threshold and int(one.limits["stretch"]) <= int(row.limits["stretch"])}
+                self.assertEqual(len(below) == 1, is_on_front(row, rows))
+
+    def test_table(self):
+        rows = [row_of(0, 8, 21, "stretch 28 is above 27"), row_of(100, 7, 21), row_of(200, 7, 21)]
+        lines = list(table_of(rows, Units(10**7)))
+        self.assertEqual("  *  ", "".join(line[0] for line in lines) + " ")
+        self.assertEqual("270 ms  town at 34  fits", "  ".join(lines[2].split("  ")[-3:]).strip())
+
+    def test_picture(self):
+        """The bars of the picture, read back, are D - 1 and the stretch of each row, and the line is T."""
+        rows = [row_of(0, 8, 21, "stretch 28 is above 27"), row_of(100, 7, 20), row_of(200, 1, 26)]
+        root = ElementTree.fromstring("".join(picture_of(rows, 27, Units())))
+        boxes = [{key: float(one.get(key)) for key in ("y", "height")} for one in root.iterfind(".//{*}rect") if one.get("stroke")]
+        most = 28 * 1.05
+        heights = [one["height"] * most / HEIGHT for one in boxes]
+        for row, dark, light in zip(rows, heights[::2], heights[1::2], strict=True):
+            self.assertAlmostEqual(int(row.limits["excess"]) - 1, dark, delta=0.1)
+            self.assertAlmostEqual(int(row.limits["reaction"]), light, delta=0.1)
+        dashed = [one for one in root.iterfind(".//{*}polyline") if one.get("stroke-dasharray")]
+        y = float(dashed[0].get("points").split()[0].split(",")[1])
+        self.assertAlmostEqual(27, (TOP + HEIGHT - y) * most / HEIGHT, delta=0.1)
+
+
+if __name__ == "__main__":
+    unittest.main()
