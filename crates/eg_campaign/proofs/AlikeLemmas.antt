@@ -8,19 +8,12 @@ use Rattle.std.proofs.lemmas.Slice.Eq.{slice_eq-Decides}
 use Rattle.std.proofs.lemmas.Bool.Decides.{Decides-and, Decides-like}
 use Rattle.eg_num.specs.Drive.{DriveRow, is_same_row}
 use Rattle.eg_values.specs.Calibration.{CalibrationParts}
-use Rattle.eg_plan.specs.declared.engine.EngineKind.{EngineKind}
-use Rattle.eg_plan.specs.declared.engine.EngineKind.TheVariants as kind
+use Rattle.eg_plant.specs.EngineKinds.{same_number-Decides}
 use Rattle.eg_campaign.specs.declared.play.RunInput.{RunInput}
 use Rattle.eg_campaign.specs.Plays.{run_with}
-use Rattle.eg_campaign.specs.Groups.{is_same_engine, is_alike, AreAlike, faultless}
+use Rattle.eg_campaign.specs.Groups.{is_alike, AreAlike, faultless}
 
 -- ---- what the test says ----
-
-same_engine-Decides : (a b : EngineKind) → Decides (is_same_engine a b) (a ≡ b)
-same_engine-Decides kind.Gasoline kind.Gasoline = (λ h. refl, λ h. refl)
-same_engine-Decides kind.Diesel kind.Diesel = (λ h. refl, λ h. refl)
-same_engine-Decides kind.Gasoline kind.Diesel = (λ h. cc, λ h. cc)
-same_engine-Decides kind.Diesel kind.Gasoline = (λ h. cc, λ h. cc)
 
 same_row-Decides : (a b : DriveRow) → Decides (is_same_row a b) (a ≡ b)
 same_row-Decides a b = Decides-like (is_same_row a b)
@@ -53,7 +46,7 @@ pub is_alike-Decides : (x y : RunInput) → Decides (is_alike x y) (AreAlike x y
 unfolding is_alike
 is_alike-Decides x y = Decides-like _ (λ (((e, i), p), d). record { engine = e; image = i; plan = p; drive = d })
     (λ h. (((h.engine, h.image), h.plan), h.drive))
-    (Decides-and _ _ (Decides-and _ _ (Decides-and _ _ (same_engine-Decides x.plan.engine y.plan.engine)
+    (Decides-and _ _ (Decides-and _ _ (Decides-and _ _ (same_number-Decides x.plan.engine y.plan.engine)
     (numbers-Decides x.image y.image)) (plans-Decides x.plan.slices y.plan.slices)) (drives-Decides x.drive y.drive))
 
 pub alike : (x y : RunInput) → is_alike x y ≡ true → AreAlike x y

@@ -5,8 +5,8 @@ use Rattle.eg_num.specs.Drive.{DriveRow, driven}
 use Rattle.eg_fault.specs.declared.class.Fault.{Fault}
 use Rattle.eg_fault.specs.declared.class.Class.{Class}
 use Rattle.eg_record.specs.declared.row.Row.{Row}
-use Rattle.eg_plan.specs.declared.engine.EngineKind.{EngineKind}
-use Rattle.eg_plan.specs.declared.engine.EngineKind.TheVariants as kind
+use Rattle.eg_plant.specs.declared.engine_kind.EngineKind.{EngineKind}
+use Rattle.eg_plant.specs.declared.engine_kind.EngineKind.TheVariants as kind
 use Rattle.eg_campaign.specs.declared.play.RunInput.{RunInput}
 use Rattle.eg_campaign.specs.Groups.{is_alike, leader_in, firsts_after, groups_of, checkpoint, own_under}
 use Rattle.eg_campaign.specs.Keys.{mixed, row_number, group_number}

@@ -2,7 +2,7 @@
 -- tick of the run without one. Up to the onset of its fault each of them is the run without a fault. So where
 -- a group has more than one run, that run is kept at hundredth ticks, and a run with a fault is made from the
 -- last of all hundredth ticks on that isn't after the onset.
-use Rattle.std.specs.Prelude.{◌≡◌, ℕ, ◌*◌, ◌/◌, Bool, true, false, ◌&&◌, nat_lt, nat_eq, List, [], ◌∷◌, ◌++◌, map, filter, drop, length, reverse, Option, Some, None, if◌then◌else◌, Result, IfOk}
+use Rattle.std.specs.Prelude.{◌≡◌, ℕ, ◌*◌, ◌/◌, Bool, false, ◌&&◌, nat_lt, nat_eq, List, [], ◌∷◌, ◌++◌, map, filter, drop, length, reverse, Option, Some, None, if◌then◌else◌, Result, IfOk}
 use Rattle.std.specs.List.{flat_map, list_any, position_or_len}
 use Rattle.std.specs.Cmp.Lexicographic.{pointwise}
 use Rattle.std.specs.declared.vec.Vec.{Vec}
@@ -13,23 +13,21 @@ use Rattle.eg_values.specs.Calibration.{CalibrationParts}
 use Rattle.eg_record.specs.declared.row.Row.{Row}
 use Rattle.eg_record.specs.declared.facts.Facts.{Facts}
 use Rattle.eg_record.specs.declared.run_facts.RunFacts.{RunFacts}
-use Rattle.eg_model.specs.Engines.{BenchEngine}
+use Rattle.eg_model.specs.Engines.{BenchEngine, bench_of}
 use Rattle.eg_model.specs.Rows.{record_rows}
 use Rattle.eg_tick.specs.Facts.{record_facts, told_of}
 use Rattle.eg_tick.specs.Weights.{TickCount}
 use Rattle.eg_tick.specs.Counting.{AreCounted}
-use Rattle.eg_plan.specs.declared.engine.EngineKind.{EngineKind}
-use Rattle.eg_plan.specs.declared.engine.EngineKind.TheVariants as kind
+use Rattle.eg_plant.specs.declared.engine_kind.EngineKind.{EngineKind}
+use Rattle.eg_plant.specs.EngineKinds.{number_of}
 use Rattle.eg_campaign.specs.declared.play.RunInput.{RunInput}
-use Rattle.eg_campaign.specs.Plays.{bench_of, run_with, rows_in_time}
+use Rattle.eg_campaign.specs.Plays.{run_with, rows_in_time}
 
 -- ---- groups ----
 
 -- engines of one kind
 abbrev pub is_same_engine : EngineKind → EngineKind → Bool
-is_same_engine kind.Gasoline kind.Gasoline = true
-is_same_engine kind.Diesel kind.Diesel = true
-is_same_engine _ _ = false
+is_same_engine a b = nat_eq (number_of a) (number_of b)
 
 -- two inputs are of one group: their engines, images, slice plans and drives are equal, item by item
 unfoldable pub is_alike : RunInput → RunInput → Bool

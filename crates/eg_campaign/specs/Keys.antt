@@ -1,17 +1,16 @@
 -- Outside the headline. The key of a group is a run of it, with a number that is made of all that the runs of
 -- the group share. A map finds the first run of a group by it.
-use Rattle.std.specs.Prelude.{◌≡◌, refl, ℕ, ◌+◌, ◌*◌, ◌%◌, ◌^◌, Bool, true, ◌==◌, ◌&&◌, fold, if◌then◌else◌, bit_xor}
+use Rattle.std.specs.Prelude.{◌≡◌, ℕ, ◌+◌, ◌*◌, ◌%◌, ◌^◌, Bool, true, ◌==◌, ◌&&◌, fold, if◌then◌else◌, bit_xor}
 use Rattle.std.specs.Int.{w64, rotate_left}
 use Rattle.std.specs.Hash as fed
 use Rattle.std.specs.Hash.{first_alike, on_Alike, same_Alike}
 use Rattle.std.specs.Cmp.{IsEquivalence, and_equiv, on_equiv, nat_eq_equiv, unsigned_Decides}
 use Rattle.std.specs.Cmp.Lexicographic.{lists_equiv}
 use Rattle.eg_num.specs.Drive.{DriveRow, is_same_row-equality}
-use Rattle.eg_plan.specs.declared.engine.EngineKind.{EngineKind}
-use Rattle.eg_plan.specs.declared.engine.EngineKind.TheVariants as kind
+use Rattle.eg_plant.specs.EngineKinds.{number_of}
 use Rattle.eg_campaign.specs.declared.play.RunInput.{RunInput}
 use Rattle.eg_campaign.specs.declared.key.GroupKey.{GroupKey}
-use Rattle.eg_campaign.specs.Groups.{is_same_engine, is_alike}
+use Rattle.eg_campaign.specs.Groups.{is_alike}
 
 -- ---- the number ----
 
@@ -25,16 +24,11 @@ unfoldable pub row_number : DriveRow → ℕ
 row_number row = ((row.pedal * 65536 + row.speed) * 65536 + row.raise) * 4
     + 2 * (if row.reset then 1 else 0) + (if row.brake then 1 else 0)
 
--- the number of an engine
-abbrev pub engine_number : EngineKind → ℕ
-engine_number kind.Gasoline = 0
-engine_number kind.Diesel = 1
-
 -- The number of a run: its engine, the words of its image, the rows of its slice plan and of its drive, made
 -- one. So runs of one group have one number.
 unfoldable pub group_number : RunInput → ℕ
 group_number x =
-    let image = fold mixed (engine_number x.plan.engine) x.image in
+    let image = fold mixed (number_of x.plan.engine) x.image in
     let plan = fold (fold mixed) image x.plan.slices in
     fold (λ all row. mixed all (row_number row)) plan x.drive
 
@@ -46,29 +40,10 @@ is_same_key a b = a.number == b.number && is_alike a.input.now b.input.now
 
 -- ---- that this is an equality, and that equal keys are hashed alike ----
 
-same_engine-equality : IsEquivalence is_same_engine
-same_engine-equality = record { refl = itself; symm = back; congr = along }
-  where
-    itself : (x : EngineKind) → is_same_engine x x ≡ true
-    itself kind.Gasoline = refl
-    itself kind.Diesel = refl
-
-    back : (x y : EngineKind) → is_same_engine x y ≡ is_same_engine y x
-    back kind.Gasoline kind.Gasoline = refl
-    back kind.Gasoline kind.Diesel = refl
-    back kind.Diesel kind.Gasoline = refl
-    back kind.Diesel kind.Diesel = refl
-
-    along : (x y z : EngineKind) → is_same_engine x y ≡ true → is_same_engine x z ≡ is_same_engine y z
-    along kind.Gasoline kind.Gasoline z h = refl
-    along kind.Gasoline kind.Diesel z h = cc
-    along kind.Diesel kind.Gasoline z h = cc
-    along kind.Diesel kind.Diesel z h = refl
-
 pub is_alike-equality : IsEquivalence is_alike
 unfolding is_alike
 is_alike-equality =
-    and_equiv (and_equiv (and_equiv (on_equiv (λ (x : RunInput). x.plan.engine) same_engine-equality)
+    and_equiv (and_equiv (and_equiv (on_equiv (λ (x : RunInput). number_of x.plan.engine) nat_eq_equiv)
     (on_equiv (λ (x : RunInput). x.image) (lists_equiv nat_eq_equiv)))
     (on_equiv (λ (x : RunInput). x.plan.slices) (lists_equiv (lists_equiv nat_eq_equiv))))
     (on_equiv (λ (x : RunInput). x.drive) (lists_equiv is_same_row-equality))

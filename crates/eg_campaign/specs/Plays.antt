@@ -4,13 +4,11 @@ use Rattle.std.specs.Prelude.{◌≡◌, ℕ, Bool, ◌≤◌, List, length, rev
 use Rattle.std.specs.List.{flat_map}
 use Rattle.eg_guard.specs.declared.regions.TheConstants.{DATA as CODE_END}
 use Rattle.eg_num.specs.Drive.{IsDrive}
-use Rattle.eg_plant.specs.Gasoline.{Gasoline}
-use Rattle.eg_diesel.specs.Diesel.{Diesel}
 use Rattle.eg_values.specs.Calibration.{CalibrationParts}
 use Rattle.eg_record.specs.declared.row.Row.{Row}
 use Rattle.eg_record.specs.declared.run_facts.RunFacts.{RunFacts}
 use Rattle.eg_record.specs.declared.summary.Summary.{Summary}
-use Rattle.eg_model.specs.Engines.{BenchEngine, gasoline, diesel}
+use Rattle.eg_model.specs.Engines.{BenchEngine, bench_of}
 use Rattle.eg_model.specs.Bench.{Run}
 use Rattle.eg_model.specs.Rows.{record_rows, report_of}
 use Rattle.eg_fault.specs.Faults.{IsNoneOrValid}
@@ -18,8 +16,7 @@ use Rattle.eg_tick.specs.Run.{run_by}
 use Rattle.eg_tick.specs.Facts.{IsToldOf}
 use Rattle.eg_tick.specs.Weights.{TickCount}
 use Rattle.eg_tick.specs.Counting.{count_with}
-use Rattle.eg_plan.specs.declared.engine.EngineKind.{EngineKind}
-use Rattle.eg_plan.specs.declared.engine.EngineKind.TheVariants as kind
+use Rattle.eg_plant.specs.declared.engine_kind.EngineKind.{EngineKind}
 use Rattle.eg_campaign.specs.declared.play.RunInput.{RunInput}
 
 -- a run may be played: its drive has 1 to 20,000 rows within their limits, its image at most 1,024 words, and
@@ -31,16 +28,7 @@ pub record IsPlayable (input : RunInput) : Type 0 where
   pub image : length input.image ≤ CODE_END
   pub fault : IsNoneOrValid input.plan.fault
 
--- ---- runs of either engine ----
-
--- the states of an engine of this kind in the model, and that engine
-abbrev pub state_of : EngineKind → Type 0
-state_of kind.Gasoline = Gasoline
-state_of kind.Diesel = Diesel
-
-abbrev pub bench_of : (engine : EngineKind) → BenchEngine (state_of engine)
-bench_of kind.Gasoline = gasoline
-bench_of kind.Diesel = diesel
+-- ---- runs of any engine ----
 
 -- a run, and the kind of its engine
 pub record EngineRun : Type 0 where

@@ -27,8 +27,5 @@ pub(crate) fn is_alike(a: &RunInput, b: &RunInput) -> bool
 fn is_same_engine(a: EngineKind, b: EngineKind) -> bool
     ensures { result ≡ is_same_engine a b }
 {
-    match a {
-        EngineKind::Gasoline => b == EngineKind::Gasoline,
-        EngineKind::Diesel => b == EngineKind::Diesel,
-    }
+    a.number() == b.number()
 }

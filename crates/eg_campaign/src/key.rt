@@ -2,12 +2,11 @@
 ghost use Rattle.std.specs.Prelude.{◌≡◌, fold};
 ghost use Rattle.std.specs.Hash as fed;
 ghost use Rattle.std.specs.Cmp as equal;
-ghost use Rattle.eg_campaign.specs.Keys.{mixed, row_number, engine_number, group_number, is_same_key, is_same_key-equality, is_same_key-hashed};
+ghost use Rattle.eg_campaign.specs.Keys.{mixed, row_number, group_number, is_same_key, is_same_key-equality, is_same_key-hashed};
 
 use crate::RunInput;
 use crate::alike::is_alike;
 use eg_num::Drive;
-use eg_plan::EngineKind;
 use eg_tick::Slices;
 use std::hash::{Hash, Hasher};
 
@@ -61,20 +60,10 @@ impl<'a> Hash for GroupKey<'a> {
 fn group_number(input: &RunInput) -> u64
     ensures { result ≡ group_number input.now }
 {
-    let engine = engine_number(input.plan.engine);
+    let engine = input.plan.engine.number();
     let image = number_of_words(engine, input.image.as_slice());
     let plan = number_of_plan(image, input.plan.slices.rows());
     number_of_drive(plan, input.drive.as_slice())
-}
-
-/// The number of an engine.
-fn engine_number(engine: EngineKind) -> u64
-    ensures { result ≡ engine_number engine }
-{
-    match engine {
-        EngineKind::Gasoline => 0,
-        EngineKind::Diesel => 1,
-    }
 }
 
 /// A number and the next one, made one.

@@ -1,6 +1,7 @@
 // The runs of a campaign, played.
 ghost use Rattle.std.specs.Prelude.{◌≡◌, All, map, IfOk};
-ghost use Rattle.eg_campaign.specs.Plays.{IsPlayable, IsPlayed, bench_of, run_with, report_with};
+ghost use Rattle.eg_model.specs.Engines.{bench_of};
+ghost use Rattle.eg_campaign.specs.Plays.{IsPlayable, IsPlayed, run_with, report_with};
 ghost use Rattle.eg_campaign.specs.Groups.{AreTold, rows_made, told_with, facts_by};
 
 use crate::SharedItems;

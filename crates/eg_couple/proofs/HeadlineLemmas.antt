@@ -20,15 +20,15 @@ use Rattle.eg_model.specs.Engines.{BenchEngine, KeepsBenchLaws, IsOneLoad, Shows
 use Rattle.eg_model.specs.Bench.{Run}
 use Rattle.eg_model.specs.Rows.{row_of, rows_of, record_rows}
 use Rattle.eg_model.specs.Records.{IsRun, ReactWithin, RowsReactAtOnce, CutFromOnset, CutOneTickAfter, CutSharplyBefore, CutStandingExcess, ExcessIsShort, AreOff, NeverFails}
-use Rattle.eg_model.specs.Findings.{FindsBeforeOff, FindsFailure, FindsFromOnset, FindsSharply, TellsFlips}
-use Rattle.eg_model.specs.Showing.{ShowsRun}
+use Rattle.eg_laws.specs.Findings.{FindsBeforeOff, FindsFailure, FindsFromOnset, FindsSharply, TellsFlips}
+use Rattle.eg_laws.specs.Showing.{ShowsRun}
 use Rattle.eg_model.specs.Outputs.{running, without_slices, without_level1, without_outputs}
 use Rattle.eg_model.proofs.OutputLaws.{length-bare, runs_disregard_level1}
-use Rattle.eg_model.proofs.ShowingLaws.{records_show_runs}
+use Rattle.eg_laws.proofs.ShowingLaws.{records_show_runs}
 use Rattle.eg_model.proofs.PowerCycleLaws.{records_begin_in_turn}
 use Rattle.eg_model.proofs.RecordLaws.{records_react, records_react_at_once, records_cut_from_onset, records_test_unpowered, records_pass_tests}
-use Rattle.eg_model.proofs.RecordLaws.{records_cut_standing_excess, records_have_short_excess, records_cut_sharply, records_cut_sharply_before, records_find_sharply}
-use Rattle.eg_model.proofs.FindingRecords.{records_find_before_off, records_find_from_onset, records_find_failures, records_tell_flips}
+use Rattle.eg_model.proofs.RecordLaws.{records_cut_standing_excess, records_have_short_excess, records_cut_sharply, records_cut_sharply_before}
+use Rattle.eg_laws.proofs.FindingRecords.{records_find_before_off, records_find_from_onset, records_find_failures, records_tell_flips, records_find_sharply}
 use Rattle.eg_laws.specs.Stretches.{RowsEndStretches, RowsEndStretchesAtOnce}
 use Rattle.eg_laws.specs.Bursts.{RowsAreSparse}
 use Rattle.eg_laws.specs.Availability.{AvailableIfSpaced}

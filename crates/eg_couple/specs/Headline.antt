@@ -14,12 +14,12 @@ use Rattle.eg_model.specs.History.{Setting}
 use Rattle.eg_model.specs.Moments.{limit_at}
 use Rattle.eg_model.specs.Spans.{next}
 use Rattle.eg_model.specs.Rows.{row_of}
-use Rattle.eg_model.specs.Showing.{HasShown}
+use Rattle.eg_laws.specs.Showing.{HasShown}
 use Rattle.eg_model.specs.Premises.{IsProperRun}
 use Rattle.eg_model.specs.PowerCycles.{SpansBeginInTurn}
 use Rattle.eg_model.specs.Records.{ReactWithin, RowsReactAtOnce, CutFromOnset, CutOneTickAfter}
 use Rattle.eg_model.specs.Records.{CutSharplyBefore, CutStandingExcess, ExcessIsShort, AreOff, NeverFails}
-use Rattle.eg_model.specs.Findings.{FindsBeforeOff, FindsFailure, FindsFromOnset, FindsSharply, TellsFlips}
+use Rattle.eg_laws.specs.Findings.{FindsBeforeOff, FindsFailure, FindsFromOnset, FindsSharply, TellsFlips}
 use Rattle.eg_model.specs.Lapses.{IsLapse}
 use Rattle.eg_model.specs.Engines.{IsOneLoad}
 use Rattle.eg_model.specs.Outputs.{running, without_outputs}

@@ -1,3 +1,9 @@
+pub mod OutputRecords
+pub mod FindingLaws
+pub mod FindingRecords
+pub mod ShowingLaws
+pub mod FindingReports
+pub mod InTimeLaws
 pub mod Worked
 pub mod FewVerdicts
 pub mod ExcessTicks

@@ -20,11 +20,11 @@ use Rattle.eg_model.specs.Engines.{BenchEngine, KeepsBenchLaws}
 use Rattle.eg_model.specs.Bench.{Run}
 use Rattle.eg_model.specs.Rows.{record_rows}
 use Rattle.eg_model.specs.Records.{IsRun, AreOff}
-use Rattle.eg_model.proofs.FindingReports.{FirstBegins, first_begins, SpanOf, span_of}
-use Rattle.eg_model.proofs.InTimeLaws.{records_react_in_time}
+use Rattle.eg_laws.proofs.FindingReports.{FirstBegins, first_begins, SpanOf, span_of}
+use Rattle.eg_laws.proofs.InTimeLaws.{records_react_in_time}
 use Rattle.eg_model.proofs.PowerCycleLaws.{records_begin_in_turn}
 use Rattle.eg_model.proofs.RecordLaws.{records_test_unpowered}
-use Rattle.eg_model.proofs.ShowingLaws.{records_show_runs}
+use Rattle.eg_laws.proofs.ShowingLaws.{records_show_runs}
 use Rattle.eg_laws.specs.Stretches.{AllExcess, RowsEndStretches}
 use Rattle.eg_laws.specs.Limits.{RecordsKeepLimits}
 use Rattle.eg_laws.proofs.PeakLaws.{GivesAtMost, all_below}

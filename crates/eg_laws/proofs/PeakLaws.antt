@@ -22,8 +22,10 @@ use Rattle.eg_record.specs.declared.row.Row.{Row}
 use Rattle.eg_record.specs.Excess.{above, peak_of}
 use Rattle.eg_model.specs.History.{Setting}
 use Rattle.eg_model.specs.Moments.{effective_drive, limit_at}
-use Rattle.eg_model.specs.Engines.{BenchEngine, gasoline, diesel}
-use Rattle.eg_model.specs.Showing.{engine_by, ShowEngine}
+use Rattle.eg_plant.specs.declared.engine_kind.EngineKind.{EngineKind}
+use Rattle.eg_plant.specs.declared.engine_kind.EngineKind.TheVariants as kind
+use Rattle.eg_model.specs.Engines.{BenchEngine, gasoline, diesel, state_of, bench_of}
+use Rattle.eg_laws.specs.Showing.{engine_by, ShowEngine}
 
 -- ---- the torque of an engine ----
 
@@ -69,7 +71,7 @@ pub record GasolineWithin (plant : PlantParts) (g : Gasoline) : Type 0 where
   charge : g.charge ≤ greatest_charge plant
   torque : g.torque ≤ greatest_torque plant
 
-pub gasoline_gives : GivesAtMost gasoline GasolineWithin
+gasoline_gives : GivesAtMost gasoline GasolineWithin
 unfolding gasoline at_rest gasoline_step next_charge
 gasoline_gives = record {
   at_first = λ plant. record { charge = charge-most plant 0; torque = omega arith };
@@ -87,13 +89,21 @@ unfolding quantity_of
 quantity_of-most plant rack boost false = omega arith
 quantity_of-most plant rack boost true = let most = charge-most plant boost in omega (arith, most)
 
-pub diesel_gives : GivesAtMost diesel DieselWithin
+diesel_gives : GivesAtMost diesel DieselWithin
 unfolding diesel of_diesel.at_rest diesel_step
 diesel_gives = record {
   at_first = λ plant. omega arith;
   goes_on = λ plant d within command ignition on held. torque_of-most plant _ ignition on (quantity_of-most plant _ _ on);
   most = λ plant d within. within;
 }
+
+abbrev pub within_of : (engine : EngineKind) → PlantParts → state_of engine → Type 0
+within_of kind.Gasoline = GasolineWithin
+within_of kind.Diesel = DieselWithin
+
+pub gives_of : (engine : EngineKind) → GivesAtMost (bench_of engine) (within_of engine)
+gives_of kind.Gasoline = gasoline_gives
+gives_of kind.Diesel = diesel_gives
 
 -- ---- what is permitted ----
 

@@ -1,3 +1,6 @@
+pub mod Findings
+pub mod InTime
+pub mod Showing
 pub mod LeastReaction
 pub mod LeastLapse
 pub mod Stretches

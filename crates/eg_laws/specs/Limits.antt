@@ -11,7 +11,7 @@ use Rattle.eg_record.specs.Facts.{facts_of}
 use Rattle.eg_record.specs.Reactions.{reactions_of}
 use Rattle.eg_model.specs.History.{Setting}
 use Rattle.eg_model.specs.Reaction.{is_at_once}
-use Rattle.eg_model.specs.InTime.{IsInTime}
+use Rattle.eg_laws.specs.InTime.{IsInTime}
 use Rattle.eg_model.specs.Engines.{BenchEngine}
 use Rattle.eg_model.specs.Bench.{Run}
 use Rattle.eg_model.specs.Rows.{record_rows}

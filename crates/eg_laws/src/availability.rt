@@ -1,6 +1,7 @@
 // Availability: under which lapses wrong answers never cut before a trip.
 ghost use Rattle.eg_laws.specs.Availability.{KeepsPath2, TripsAloneCut, NoTripComes, SingleMissesAreSpaced, RecordsStayAvailable};
-ghost use Rattle.eg_model.specs.Engines.{gasoline, diesel};
+ghost use Rattle.eg_plant.specs.declared.engine_kind.EngineKind.{EngineKind};
+ghost use Rattle.eg_model.specs.Engines.{bench_of};
 
 /// Under which lapses wrong answers never cut before a trip (docs/CONCEPT.md, "Lapses"): in a drive span in
 /// which any two ticks that level 2 misses lie at least `eg_answer::miss_spacing` ticks apart, wrong answers
@@ -16,7 +17,7 @@ pub fn far_misses_never_cut()
 {}
 
 /// What `far_misses_never_cut` says (docs/CONCEPT.md, "Lapses"), by the rows of each drive span of the record
-/// of a run on the bench, for the gasoline engine and for the diesel engine. It does nothing when it runs.
+/// of a run on the bench, for each engine. It does nothing when it runs.
 pub fn records_stay_available()
-    ensures { RecordsStayAvailable gasoline × RecordsStayAvailable diesel }
+    ensures { (engine : EngineKind) → RecordsStayAvailable (bench_of engine) }
 {}

@@ -1,7 +1,8 @@
 // How often an excess may come again.
 ghost use Rattle.std.specs.Prelude.{◌≡◌, ◌+◌, ◌-◌, true, false, [], ◌∷◌, ◌++◌, replicate};
 ghost use Rattle.eg_values.specs.Reference.{reference_rules};
-ghost use Rattle.eg_model.specs.Engines.{gasoline, diesel};
+ghost use Rattle.eg_plant.specs.declared.engine_kind.EngineKind.{EngineKind};
+ghost use Rattle.eg_model.specs.Engines.{bench_of};
 ghost use Rattle.eg_laws.specs.Bursts.{most_bad, densest, hasty, BurstsAreSparse, SoManyCanBeBad, FewerMayDo, RecordsAreSparse};
 ghost use Rattle.eg_laws.specs.FaultyBursts.{RecordsEndBursts, RecordsEndBurstsAtOnce, BurstsLast, BurstsLastUntilConfirmed};
 
@@ -17,9 +18,9 @@ pub fn bursts_are_sparse()
 {}
 
 /// What `bursts_are_sparse` says of bits, of the true excess by the rows of each drive span of the record
-/// of a run on the bench, for the gasoline engine and for the diesel engine. It does nothing when it runs.
+/// of a run on the bench, for each engine. It does nothing when it runs.
 pub fn records_are_sparse()
-    ensures { RecordsAreSparse gasoline × RecordsAreSparse diesel }
+    ensures { (engine : EngineKind) → RecordsAreSparse (bench_of engine) }
 {}
 
 /// How many of n rows in a row have true excess, whether it is confirmed or not (docs/CONCEPT.md, "Why the
@@ -28,8 +29,8 @@ pub fn records_are_sparse()
 /// where the reaction is at once when the excess is confirmed, as without a fault. It does nothing when it
 /// runs.
 pub fn records_end_bursts()
-    ensures ends { RecordsEndBursts gasoline × RecordsEndBursts diesel }
-    ensures at_once { RecordsEndBurstsAtOnce gasoline × RecordsEndBurstsAtOnce diesel }
+    ensures ends { (engine : EngineKind) → RecordsEndBursts (bench_of engine) }
+    ensures at_once { (engine : EngineKind) → RecordsEndBurstsAtOnce (bench_of engine) }
 {}
 
 /// So many can have it, or all of them, where `up` and `down` together are at most the limit and an excess

@@ -1,11 +1,12 @@
 // What `table` tells of a run keeps the limits of its calibration.
 ghost use Rattle.eg_laws.specs.Limits.{RecordsKeepLimits};
-ghost use Rattle.eg_model.specs.Engines.{gasoline, diesel};
+ghost use Rattle.eg_plant.specs.declared.engine_kind.EngineKind.{EngineKind};
+ghost use Rattle.eg_model.specs.Engines.{bench_of};
 
 /// What `table` tells of the record of a run on the bench keeps the limits of its calibration
-/// (docs/CONCEPT.md, "`table`"), for the gasoline engine and for the diesel engine: its reaction, its longest
+/// (docs/CONCEPT.md, "`table`"), for each engine: its reaction, its longest
 /// stretch of excess, and the peak of its torque above what is permitted and the threshold together. It does
 /// nothing when it runs.
 pub fn records_keep_limits()
-    ensures { RecordsKeepLimits gasoline × RecordsKeepLimits diesel }
+    ensures { (engine : EngineKind) → RecordsKeepLimits (bench_of engine) }
 {}

@@ -4,7 +4,8 @@ ghost use Rattle.eg_values.specs.Excess.{ticks_to_confirm, longest_stretch};
 ghost use Rattle.eg_values.specs.Reference.{reference_rules, reference_parts};
 ghost use Rattle.eg_record.specs.Excess.{true_excess};
 ghost use Rattle.eg_model.specs.Rows.{rows_of};
-ghost use Rattle.eg_model.specs.Engines.{gasoline, diesel};
+ghost use Rattle.eg_plant.specs.declared.engine_kind.EngineKind.{EngineKind};
+ghost use Rattle.eg_model.specs.Engines.{bench_of};
 ghost use Rattle.eg_laws.specs.Stretches.{StretchesEnd, StretchesEndAtOnce, ExcessLasts, ExcessLastsUntilConfirmed, StretchIsLeast, StretchAtOnceIsLeast, RecordsEndStretches, RecordsEndStretchesAtOnce};
 ghost use Rattle.eg_laws.specs.Examples.{longest_closed};
 
@@ -22,11 +23,11 @@ pub fn excess_ends()
 {}
 
 /// What `excess_ends` says (docs/CONCEPT.md, "Why the unit reacts"), by the rows of each drive span of the
-/// record of a run on the bench, for the gasoline engine and for the diesel engine. It does nothing when it
+/// record of a run on the bench, for each engine. It does nothing when it
 /// runs.
 pub fn records_end_excess()
-    ensures ends { RecordsEndStretches gasoline × RecordsEndStretches diesel }
-    ensures at_once { RecordsEndStretchesAtOnce gasoline × RecordsEndStretchesAtOnce diesel }
+    ensures ends { (engine : EngineKind) → RecordsEndStretches (bench_of engine) }
+    ensures at_once { (engine : EngineKind) → RecordsEndStretchesAtOnce (bench_of engine) }
 {}
 
 /// `excess_ends` worked out with the reference calibration, by which the longest stretch has 38 ticks:

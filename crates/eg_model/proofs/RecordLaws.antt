@@ -31,14 +31,12 @@ use Rattle.eg_model.specs.Premises.{IsProper, AreProper, IsProperRun, Follows, i
 use Rattle.eg_model.specs.SharpCut.{ArePlain}
 use Rattle.eg_model.specs.StartUp.{IsUndisturbed}
 use Rattle.eg_model.specs.SpanHistories.{SpanIsHistory}
-use Rattle.eg_model.specs.Findings.{FindsExcessAlone, RecordsFindSharply}
 use Rattle.eg_model.specs.Records.{IsRun, NeverFails, is_before_onset, ReactWithin, RowsReactAtOnce, CutOneTickAfter, CutStandingExcess, ExcessIsShort, CutFromOnset, RecordsReact, RecordsReactAtOnce, RecordsCutSharply, RecordsCutSharplyBefore, RecordsCutStandingExcess, RecordsHaveShortExcess, RecordsCutFromOnset, RecordsTestUnpowered, RecordsPassTests}
 use Rattle.eg_model.proofs.StartUpLaws.{tests_pass}
 use Rattle.eg_model.proofs.SharpCutLaw.{cuts_sharply}
-use Rattle.eg_model.proofs.TickLemmas.{along}
 use Rattle.eg_model.proofs.SpanLemmas.{length-run_moments, kind-goes_on, tick_after, ticks_before, ticks_before-begins, ticks_before-goes_on, continues, spans_are_histories, proper_drive}
 use Rattle.eg_model.proofs.SpanRows.{rows_after, SpanRows, LastOf, last_of, row_tick, rows_off, bits_after, full_unnumbered}
-use Rattle.eg_model.proofs.SpanLaws.{react_within, react_at_once, cut_lapses, short_lapses, cut_from_onset, sharp_after, found_after, cut_one_tick_after}
+use Rattle.eg_model.proofs.SpanLaws.{react_within, react_at_once, cut_lapses, short_lapses, cut_from_onset, sharp_after, cut_one_tick_after}
 use Rattle.eg_model.proofs.RecordTicks.{length-moments_to, records_are_histories}
 use Rattle.eg_model.proofs.RecordSpans.{kind_by, part_of, with_part, SpanTo, SpanIn, span_in}
 
@@ -212,7 +210,7 @@ module _ {E : Type 0} (b : BenchEngine E) where
       (none_fails r.setting run.accepted (entries_to b r (length r.drive)))
 
 -- a row of a drive span is that of a plain tick, after plain ones
-record QuietLast (s : Setting) (start : ℕ) (h : List Tick) (row : Row) (before : List Row) : Type 0 where
+pub record QuietLast (s : Setting) (start : ℕ) (h : List Tick) (row : Row) (before : List Row) : Type 0 where
   pub last : LastOf s start h row before
   pub plain : ArePlain (last.tick ∷ last.past)
   pub proper : AreProper s (last.tick ∷ last.past)
@@ -363,7 +361,7 @@ module _ {E : Type 0} {b : BenchEngine E} {Keeps : PlantParts → E → Type 0} 
         quiet t = rw none (unfold is_before_onset in refl)
 
     -- the last row of a part of a span, at a tick at which no fault has begun, is that of a plain tick
-    quiet_last : (r : Run) → IsRun r → (start count : ℕ) (row : Row) (before : List Row) →
+    pub quiet_last : (r : Run) → IsRun r → (start count : ℕ) (row : Row) (before : List Row) →
         SpanIn b r start count Drive (row ∷ before) → is_before_onset r.setting.fault row.tick ≡ true →
         QuietLast r.setting start (SpanTo b r count) row before
     quiet_last r run start count row before is quiet = record {
@@ -395,18 +393,10 @@ module _ {E : Type 0} {b : BenchEngine E} {Keeps : PlantParts → E → Type 0} 
         ∙ ap (λ bits. not (is_confirmed s.cal.rules.torque bits))
         (sym (ap (map bit) q.last.before_are ∙ bits_after bit (full_unnumbered s.cal.rules.kt s.cal.rules.threshold) s start q.last.past))
 
-    found_last : (r : Run) → IsRun r → (start count : ℕ) (row : Row) (before : List Row) →
-        SpanIn b r start count Drive (row ∷ before) → is_before_onset r.setting.fault row.tick ≡ true →
-        FindsExcessAlone r.setting.cal.rules.torque r.setting.cal.rules.kt r.setting.cal.rules.threshold row before
-    found_last r run start count row before is quiet =
-        let q = quiet_last r run start count row before is quiet in
-        along (FindsExcessAlone r.setting.cal.rules.torque r.setting.cal.rules.kt r.setting.cal.rules.threshold)
-        (sym (ap₂ (λ x xs. x ∷ xs) q.last.row_is q.last.before_are)) (found_after r.setting start run.accepted q.last.tick q.last.past q.plain q.proper)
-
     -- and so at each row of a drive span at which no fault has begun
     module _ (r : Run) (newer span older : List Row) (e : record_rows b r ≡ newer ++ (span ++ older)) (is : IsDriveSpan span)
         (later : List Row) (row : Row) (before : List Row) (split : span ≡ later ++ row ∷ before) where
-      span_to_row : SpanIn b r (length older) (length ((row ∷ before) ++ older)) Drive (row ∷ before)
+      pub span_to_row : SpanIn b r (length older) (length ((row ∷ before) ++ older)) Drive (row ∷ before)
       span_to_row = unfold kind_by in span_in b r (newer ++ later) (row ∷ before) older longer part.span false part.drives
         where
           part : IsDriveSpan (row ∷ before)
@@ -418,9 +408,4 @@ module _ {E : Type 0} {b : BenchEngine E} {Keeps : PlantParts → E → Type 0} 
     pub records_cut_sharply_before : RecordsCutSharplyBefore b
     records_cut_sharply_before r run newer span older e is later before row split quiet =
         sharp_last r run (length older) (length ((row ∷ before) ++ older)) row before
-        (span_to_row r newer span older e is later row before split) quiet
-
-    pub records_find_sharply : RecordsFindSharply b
-    records_find_sharply r run newer span older e is later before row split quiet =
-        found_last r run (length older) (length ((row ∷ before) ++ older)) row before
         (span_to_row r newer span older e is later row before split) quiet

@@ -1,7 +1,7 @@
 -- The laws by the rows of a history in which the engine is driven, and that begins at any tick of a run.
 use Rattle.std.proofs.Common.{◌≡◌, ◌∙◌, refl, sym, ap, subst, ℕ, zero, suc, ◌+◌, ◌-◌, ◌*◌, ◌≤◌, ◌<◌, Bool, true, false, not, List, [], ◌∷◌, ◌++◌, All, map, length, length-append, append_assoc, arith, inl, inr, Option, Some, None, nat_le, max}
 use Rattle.std.proofs.lemmas.Bool.{cases_lt, lt-leb, le-leb}
-use Rattle.eg_num.specs.Windows.{WeightParts, AreWeights, is_confirmed, is_first, first_index}
+use Rattle.eg_num.specs.Windows.{WeightParts, AreWeights, is_confirmed, first_index}
 use Rattle.eg_answer.specs.Times.{TimeParts, AreTimes, feeds_to_confirm, reaction_of, HasLapseBound, lapse_periods}
 use Rattle.eg_values.specs.Calibration.{IsAccepted}
 use Rattle.eg_fault.specs.Effects.{no_effects}
@@ -10,19 +10,18 @@ use Rattle.eg_fault.specs.declared.class.Fault.{Fault}
 use Rattle.eg_record.specs.declared.row.Row.{Row}
 use Rattle.eg_record.specs.Excess.{true_excess, full_excess}
 use Rattle.eg_model.specs.History.{Setting, Tick}
-use Rattle.eg_model.specs.Moments.{moments_in, moments_of}
+use Rattle.eg_model.specs.Moments.{moments_of}
 use Rattle.eg_model.specs.Premises.{AreProper, Follows, is_on_after, true_excesses, full_excesses}
 use Rattle.eg_model.specs.Reaction.{OffFrom, is_at_once, spoils_answers}
 use Rattle.eg_model.specs.SharpCut.{ArePlain}
 use Rattle.eg_model.specs.Lapses.{IsLapse}
 use Rattle.eg_model.specs.Records.{ExceedLast, ReactWithin, RowsReactAtOnce, CutOneTickAfter, CutStandingExcess, ExcessIsShort, CutFromOnset}
-use Rattle.eg_model.specs.Findings.{FindsExcessAlone}
 use Rattle.eg_model.proofs.Silence.{enough_weight}
 use Rattle.eg_model.proofs.ReactionLaw.{reacts_in_time, reacts_at_once_law, cuts_from_onset}
-use Rattle.eg_model.proofs.SharpCutLaw.{cuts_sharply, found_sharply}
+use Rattle.eg_model.proofs.SharpCutLaw.{cuts_sharply}
 use Rattle.eg_model.proofs.LapseLaw.{cuts_lapses, lapses_are_short}
-use Rattle.eg_model.proofs.TickLemmas.{length-moments, Pedal, Plate, Load, Speed, found_by}
-use Rattle.eg_model.proofs.SpanRows.{rows_after, Between, between, EndOf, end_of, follows-end, proper-end, SpanRows, RowAfter, length-rows_after, row_on, row_found, row_tick, all_rows, Split, split, BitsOf, bits_after, true_unnumbered, full_unnumbered, confirmed_later, quiet_earlier, IsFirstAt, first_confirms, never_confirms, exceed}
+use Rattle.eg_model.proofs.TickLemmas.{length-moments}
+use Rattle.eg_model.proofs.SpanRows.{Between, between, EndOf, end_of, follows-end, proper-end, SpanRows, RowAfter, length-rows_after, row_on, row_tick, all_rows, Split, split, BitsOf, bits_after, true_unnumbered, full_unnumbered, confirmed_later, quiet_earlier, IsFirstAt, first_confirms, never_confirms, exceed}
 
 -- the worst-case reaction is at least one tick
 pub reaction_least : (times : TimeParts) → AreTimes times → AreWeights times.weights → 1 ≤ reaction_of times
@@ -58,28 +57,6 @@ pub sharp_after : (s : Setting) (start : ℕ) → IsAccepted s.cal → (x : Tick
     ≡ not (is_confirmed s.cal.rules.torque (BitsOf (full_excess s.cal.rules.kt s.cal.rules.threshold) s before))
 sharp_after s start accepted x before none plain proper = row_on s start x before
     ∙ (unfold full_excesses in cuts_sharply s accepted before plain proper x none)
-
--- what is found at the tick x after these
-pub found_after : (s : Setting) (start : ℕ) → IsAccepted s.cal → (x : Tick) (before : List Tick) → ArePlain (x ∷ before) →
-    AreProper s (x ∷ before) → FindsExcessAlone s.cal.rules.torque s.cal.rules.kt s.cal.rules.threshold
-    (RowAfter s start x before) (SpanRows s start before)
-unfolding full_excesses rows_after moments_of moments_in found_by
-found_after s start accepted x before plain proper =
-    let found = found_sharply s accepted x before plain proper in
-    let is = row_found s start x before in
-    let bits = bits_after bit (full_unnumbered s.cal.rules.kt s.cal.rules.threshold) s start (x ∷ before) in
-    record {
-      torque = ap (λ w. w.torque) is ∙ found.torque ∙ sym (ap (is_first s.cal.rules.torque) bits);
-      answers = λ quiet. ap (λ w. w.answers) is ∙ found.answers (sym (ap (is_confirmed s.cal.rules.torque) bits) ∙ quiet);
-      mirror = ap (λ w. w.mirror) is ∙ found.mirror;
-      pedal = ap (λ w. w.pedal) is ∙ found.pairs Pedal;
-      plate = ap (λ w. w.plate) is ∙ found.pairs Plate;
-      load = ap (λ w. w.load) is ∙ found.pairs Load;
-      speed = ap (λ w. w.speed) is ∙ found.pairs Speed;
-    }
-  where
-    bit : Row → Bool
-    bit = full_excess s.cal.rules.kt s.cal.rules.threshold
 
 module _ (s : Setting) (start : ℕ) (h : List Tick) where
   -- the tick x after these is one of h

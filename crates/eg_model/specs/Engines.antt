@@ -1,10 +1,11 @@
--- An engine on the bench is a state at rest, a step from state to state, and what a state shows; the gasoline
--- and the diesel engine are two. What is asked of an engine so that the laws of records hold of it stands
--- here too.
+-- An engine on the bench is a state at rest, a step from state to state, and what a state shows; each kind of
+-- engine is one. What is asked of an engine so that the laws of records hold of it stands here too.
 use Rattle.std.specs.Prelude.{◌≡◌, ℕ, Bool, false, Option}
 use Rattle.eg_plant.specs.PlantParts.{PlantParts, ArePlantParts}
 use Rattle.eg_plant.specs.Engine.{Shown, KeepsLaws}
 use Rattle.eg_plant.specs.Gasoline.{Gasoline, at_rest, gasoline_step, shown_of}
+use Rattle.eg_plant.specs.declared.engine_kind.EngineKind.{EngineKind}
+use Rattle.eg_plant.specs.declared.engine_kind.EngineKind.TheVariants as kind
 use Rattle.eg_diesel.specs.Diesel.{Diesel, diesel_step}
 use Rattle.eg_diesel.specs.Diesel as of_diesel
 use Rattle.eg_fault.specs.Classes.{IsHeldWithin}
@@ -26,6 +27,15 @@ gasoline = record { rest = at_rest; step = gasoline_step; shows = shown_of }
 -- the diesel engine, whose state at rest is the same for each plant
 unfoldable pub diesel : BenchEngine Diesel
 diesel = record { rest = λ plant. of_diesel.at_rest; step = diesel_step; shows = of_diesel.shown_of }
+
+-- the states of an engine of this kind, and that engine
+abbrev pub state_of : EngineKind → Type 0
+state_of kind.Gasoline = Gasoline
+state_of kind.Diesel = Diesel
+
+abbrev pub bench_of : (engine : EngineKind) → BenchEngine (state_of engine)
+bench_of kind.Gasoline = gasoline
+bench_of kind.Diesel = diesel
 
 -- What the laws of records ask of an engine. `Keeps` is a statement about a state that stays true from step
 -- to step; each engine may bring its own.

@@ -15,12 +15,9 @@ pub mod Seeing
 pub mod Reaction
 pub mod SharpCut
 pub mod Records
-pub mod Findings
 pub mod Branching
 pub mod Outputs
 pub mod PowerCycles
 pub mod SpanHistories
 pub mod StartUp
 pub mod Lapses
-pub mod InTime
-pub mod Showing

@@ -17,8 +17,8 @@ use Rattle.eg_toml.proofs.RangeLemmas.{bind-some, if-some}
 use Rattle.eg_toml.proofs.RisingLemmas.{true-rising, rising-true}
 use Rattle.eg_toml.proofs.HeldLemmas.{IsExact, not_refused, kept, text-exact, integer-exact, truth-exact, number-exact, number-up, array-exact, numbers-exact}
 use Rattle.eg_fault.specs.Faults.{IsOffset}
-use Rattle.eg_plan.specs.declared.engine.EngineKind.{EngineKind}
-use Rattle.eg_plan.specs.declared.engine.EngineKind.TheVariants.{Gasoline, Diesel}
+use Rattle.eg_plant.specs.declared.engine_kind.EngineKind.{EngineKind}
+use Rattle.eg_plant.specs.declared.engine_kind.EngineKind.TheVariants.{Gasoline, Diesel}
 use Rattle.eg_plan.specs.declared.key.CampaignFault.{CampaignFault}
 use Rattle.eg_plan.specs.Keys.{Content, run_name, file_name, slice_rows, engine_name, number, optional, shift, words, ticks, truths}
 use Rattle.eg_plan.specs.Checks.{content_refusal}

@@ -6,8 +6,8 @@ use Rattle.eg_toml.specs.Documents.{document_of}
 use Rattle.eg_fault.specs.declared.class.Class.{Class}
 use Rattle.eg_fault.specs.declared.class.Class.TheVariants as class
 use Rattle.eg_fault.specs.declared.class.Fault.{Fault}
-use Rattle.eg_plan.specs.declared.engine.EngineKind.{EngineKind}
-use Rattle.eg_plan.specs.declared.engine.EngineKind.TheVariants.{Gasoline, Diesel}
+use Rattle.eg_plant.specs.declared.engine_kind.EngineKind.{EngineKind}
+use Rattle.eg_plant.specs.declared.engine_kind.EngineKind.TheVariants.{Gasoline, Diesel}
 use Rattle.eg_plan.specs.declared.key.RunKey.TheVariants as key
 use Rattle.eg_plan.specs.declared.key.CampaignFault.{CampaignFault}
 use Rattle.eg_plan.specs.declared.key.CampaignFault.TheVariants.{Text, Key, TwoFaults, Name}

@@ -9,8 +9,8 @@ use Rattle.eg_toml.specs.Names.{all_names, is_among}
 use Rattle.eg_toml.specs.Held.{HoldsValue, MayHoldValue, natural, array_of, IsBetween, AreMany}
 use Rattle.eg_fault.specs.Faults.{IsOffset}
 use Rattle.eg_plan.specs.declared.class_name.ClassName.{ClassName}
-use Rattle.eg_plan.specs.declared.engine.EngineKind.{EngineKind}
-use Rattle.eg_plan.specs.declared.engine.EngineKind.TheVariants.{Gasoline, Diesel}
+use Rattle.eg_plant.specs.declared.engine_kind.EngineKind.{EngineKind}
+use Rattle.eg_plant.specs.declared.engine_kind.EngineKind.TheVariants.{Gasoline, Diesel}
 use Rattle.eg_plan.specs.declared.key.CampaignFault.TheVariants.{Ticks}
 use Rattle.eg_plan.specs.declared.run.RunPlan.{RunPlan}
 use Rattle.eg_plan.specs.Keys.{Content, run_name, file_name, slice_rows, engine_name, number, optional, shift, words, ticks, truths, KeyRule, text_of, run_keys, onset}

@@ -5,8 +5,8 @@ use Rattle.std.specs.List.{sum, list_all}
 use Rattle.toml.specs.Data.{Data, Members, get_member, as_str, as_integer, as_bool}
 use Rattle.eg_toml.specs.Values.{number_in, number_at, ◌>>=◌}
 use Rattle.eg_toml.specs.Arrays.{numbers_in, array_in, one, is_rising}
-use Rattle.eg_plan.specs.declared.engine.EngineKind.{EngineKind}
-use Rattle.eg_plan.specs.declared.engine.EngineKind.TheVariants.{Gasoline, Diesel}
+use Rattle.eg_plant.specs.declared.engine_kind.EngineKind.{EngineKind}
+use Rattle.eg_plant.specs.declared.engine_kind.EngineKind.TheVariants.{Gasoline, Diesel}
 use Rattle.eg_plan.specs.Keys.{Content, run_name, file_name, slice_rows, engine_name, number, optional, shift, words, ticks, truths, KeyRule, text_of}
 
 -- ---- texts ----

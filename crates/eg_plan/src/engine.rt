@@ -1,25 +1,16 @@
 // The engine of a run.
 ghost use Rattle.std.specs.Prelude.{◌≡◌, unwrap_or};
 ghost use Rattle.toml.specs.View.{view, table_view};
-ghost use Rattle.eg_plan.specs.declared.engine.EngineKind.TheVariants.{Gasoline};
+ghost use Rattle.eg_plant.specs.declared.engine_kind.EngineKind.TheVariants.{Gasoline};
 ghost use Rattle.eg_plan.specs.declared.key.CampaignFault.TheVariants.{Key};
 ghost use Rattle.eg_plan.specs.Keys.{text_of};
 ghost use Rattle.eg_toml.specs.Refusals.{Checks, unless_some};
 ghost use Rattle.eg_plan.specs.Contents.{engine_named, engine_in, engine_at};
 
 use crate::{CampaignFault, RunKey};
+use eg_plant::EngineKind;
 use eg_toml::member;
 use toml::{Table, Value};
-
-/// Which engine stands on the bench in a run (docs/FORMATS.md, "Campaign files"). What each does is told in
-/// docs/CONCEPT.md, "Plant".
-#[derive(Clone, Copy)]
-pub enum EngineKind {
-    /// `gasoline`: the gasoline engine, also of a run that names none.
-    Gasoline,
-    /// `diesel`: the diesel engine.
-    Diesel,
-}
 
 /// The engine under a key of a table of this run, by its name: `gasoline` or `diesel`. Where the key is
 /// absent, the gasoline engine.

@@ -16,7 +16,7 @@ mod slices;
 mod texts;
 mod ticks;
 
-pub use engine::EngineKind;
+pub use eg_plant::EngineKind;
 pub use key::{CampaignFault, RunKey};
 pub use laws::accepted_files_keep_the_rules;
 pub use reader::read_campaign;

@@ -3,3 +3,4 @@ pub mod Engine
 pub mod Gasoline
 pub mod Keeping
 pub mod Foreign
+pub mod EngineKinds

@@ -15,30 +15,24 @@ use Rattle.eg_record.specs.Excess.{first_confirmed}
 use Rattle.eg_record.specs.Stages.{IsFirstOff, first_off}
 use Rattle.eg_record.specs.Summaries.{summary_of}
 use Rattle.eg_record.proofs.LawLemmas.{detection_law, off_law}
-use Rattle.eg_plant.specs.Keeping as of_gasoline
-use Rattle.eg_plant.specs.PlantParts.{PlantParts}
-use Rattle.eg_diesel.specs.Keeping as of_diesel
-use Rattle.eg_model.specs.Engines.{KeepsBenchLaws, ShowsOneLoad}
 use Rattle.eg_model.specs.Rows.{report_of, record_trap}
 use Rattle.eg_model.specs.Records.{IsRun}
-use Rattle.eg_model.proofs.GasolineLaws.{gasoline_keeps, gasoline_shows_one_load}
-use Rattle.eg_model.proofs.DieselLaws.{diesel_keeps, diesel_shows_one_load}
-use Rattle.eg_model.proofs.RecordLaws.{records_react, records_react_at_once, records_cut_sharply, records_cut_sharply_before, records_find_sharply, records_cut_from_onset, records_cut_standing_excess, records_have_short_excess, records_test_unpowered, records_pass_tests}
+use Rattle.eg_model.proofs.EngineLaws.{keeps_of, shows_one_load_of}
+use Rattle.eg_model.proofs.RecordLaws.{records_react, records_react_at_once, records_cut_sharply, records_cut_sharply_before, records_cut_from_onset, records_cut_standing_excess, records_have_short_excess, records_test_unpowered, records_pass_tests}
 use Rattle.eg_laws.proofs.StretchRows.{records_end_stretches, records_end_stretches_at_once, records_are_sparse}
 use Rattle.eg_laws.proofs.AvailabilityRecords.{records_stay_available}
-use Rattle.eg_laws.proofs.PeakLaws.{GivesAtMost, GasolineWithin, DieselWithin, gasoline_gives, diesel_gives}
+use Rattle.eg_laws.proofs.PeakLaws.{gives_of}
 use Rattle.eg_laws.proofs.LimitLaws.{records_keep_limits}
 use Rattle.eg_laws.proofs.WordLaws.{peak_is_greatest, stretch_is_longest, reaction_is_longest}
-use Rattle.eg_model.proofs.FindingRecords.{records_find_before_off, records_find_failures, records_find_from_onset, records_tell_flips}
-use Rattle.eg_model.proofs.FindingReports.{reports_name_what_cuts}
-use Rattle.eg_model.proofs.OutputRecords.{records_act_by_outputs}
+use Rattle.eg_laws.proofs.FindingRecords.{records_find_before_off, records_find_failures, records_find_from_onset, records_tell_flips, records_find_sharply}
+use Rattle.eg_laws.proofs.FindingReports.{reports_name_what_cuts}
+use Rattle.eg_laws.proofs.OutputRecords.{records_act_by_outputs}
 use Rattle.eg_model.proofs.PowerCycleLaws.{records_begin_in_turn}
-use Rattle.eg_model.proofs.ShowingLaws.{records_show_runs}
+use Rattle.eg_laws.proofs.ShowingLaws.{records_show_runs}
 use Rattle.eg_model.proofs.WholeRecord.{are_rows}
 use Rattle.eg_tick.specs.Facts.{record_facts}
-use Rattle.eg_plan.specs.declared.engine.EngineKind.{EngineKind}
-use Rattle.eg_plan.specs.declared.engine.EngineKind.TheVariants as kind
-use Rattle.eg_campaign.specs.Plays.{IsPlayable, EngineRun, state_of, bench_of, rows_of_run, report_of_run, run_with}
+use Rattle.eg_model.specs.Engines.{bench_of}
+use Rattle.eg_campaign.specs.Plays.{IsPlayable, EngineRun, rows_of_run, report_of_run, run_with}
 use Rattle.eg_campaign.specs.declared.play.RunInput.{RunInput}
 use Rattle.eg_play.specs.Headline.{KeepsHeadline}
 use Rattle.eg_play.specs.InWords.{AreShown, TellsInWords}
@@ -71,28 +65,6 @@ tells_bound r name = refl
 tells_name : (r : EngineRun) (name : List ℕ) → (report_of_run name r).name ≡ name
 unfolding report_of summary_of
 tells_name r name = refl
-
--- what the states of an engine of either kind keep, and that they do
-abbrev kept_of : (engine : EngineKind) → PlantParts → state_of engine → Type 0
-kept_of kind.Gasoline = of_gasoline.IsKept
-kept_of kind.Diesel = of_diesel.IsKept
-
-keeps_of : (engine : EngineKind) → KeepsBenchLaws (bench_of engine) (kept_of engine)
-keeps_of kind.Gasoline = gasoline_keeps
-keeps_of kind.Diesel = diesel_keeps
-
-shows_one_load_of : (engine : EngineKind) → ShowsOneLoad (bench_of engine)
-shows_one_load_of kind.Gasoline = gasoline_shows_one_load
-shows_one_load_of kind.Diesel = diesel_shows_one_load
-
--- and what they keep so that no torque is more than that of the greatest charge
-abbrev within_of : (engine : EngineKind) → PlantParts → state_of engine → Type 0
-within_of kind.Gasoline = GasolineWithin
-within_of kind.Diesel = DieselWithin
-
-gives_of : (engine : EngineKind) → GivesAtMost (bench_of engine) (within_of engine)
-gives_of kind.Gasoline = gasoline_gives
-gives_of kind.Diesel = diesel_gives
 
 -- a run by an accepted calibration, over a drive within its limits, without a fault or under a valid one, keeps
 -- it

@@ -1,6 +1,6 @@
 -- The runs of a sweep: they may be played, and under listed faults they react in time.
 use Rattle.std.proofs.Common.{◌≡◌, ◌∙◌, refl, sym, ap, subst, ℕ, ◌*◌, ◌%◌, ◌^◌, ◌≤◌, Bool, true, false, List, All, map, length, Some, arith}
-use Rattle.std.specs.Prelude.{IfSome, ◌↔◌, ◌<◌, Result, Ok, Err, IsTrue}
+use Rattle.std.specs.Prelude.{◌↔◌, ◌<◌, Result, Ok, Err, IsTrue}
 use Rattle.std.proofs.Math.Nat.{mul-mod_left}
 use Rattle.std.proofs.lemmas.List.{length-map}
 use Rattle.std.proofs.lemmas.List.FromFn.{length-map-range_with_len}
@@ -11,16 +11,13 @@ use Rattle.eg_answer.specs.Times.{reaction_of}
 use Rattle.eg_fault.specs.declared.class.Fault.{Fault}
 use Rattle.eg_fault.specs.Faults.{IsValid, IsListed, IsNoneOrValid}
 use Rattle.eg_values.specs.Calibration.{CalibrationParts, IsAccepted}
-use Rattle.eg_record.specs.Facts.{reaction_in}
 use Rattle.eg_model.specs.Records.{IsRun}
-use Rattle.eg_model.proofs.GasolineLaws.{gasoline_keeps}
-use Rattle.eg_model.proofs.DieselLaws.{diesel_keeps}
+use Rattle.eg_model.proofs.EngineLaws.{keeps_of}
 use Rattle.eg_tick.specs.Facts.{IsWithoutReset, record_facts}
 use Rattle.eg_tick.proofs.FactLaws.{reaction_within}
-use Rattle.eg_plan.specs.declared.engine.EngineKind.{EngineKind}
-use Rattle.eg_plan.specs.declared.engine.EngineKind.TheVariants as kind
 use Rattle.eg_campaign.specs.declared.play.RunInput.{RunInput}
-use Rattle.eg_campaign.specs.Plays.{IsPlayable, EngineRun, bench_of, run_with}
+use Rattle.eg_model.specs.Engines.{bench_of}
+use Rattle.eg_campaign.specs.Plays.{IsPlayable, EngineRun, run_with}
 use Rattle.eg_campaign.specs.Groups.{input_under, inputs_under, rows_of_group, facts_by}
 use Rattle.eg_tick.proofs.CountLemmas.{out_before}
 use Rattle.eg_sweep.specs.declared.grid.SweepFault.{SweepFault}
@@ -81,14 +78,10 @@ are_more ticks step some least =
 never_reset : (rows : List DriveRow) → All (λ row. row.reset ≡ false) (map without_reset rows)
 never_reset rows = All-map (λ row. row.reset ≡ false) without_reset rows (λ k d below. refl)
 
--- of either engine
+-- of each engine
 reacts_on : (r : EngineRun) → IsRun r.run → IsWithoutReset r.run.drive → IsListed r.run.setting.fault →
     ReactsIn (reaction_of r.run.setting.cal.times) (record_facts (bench_of r.engine) r.run)
-reacts_on r is reset_free listed = go r.engine
-  where
-    go : (engine : EngineKind) → IfSome (reaction_in (record_facts (bench_of engine) r.run)) (λ n. n ≤ reaction_of r.run.setting.cal.times)
-    go kind.Gasoline = reaction_within gasoline_keeps r.run is reset_free listed
-    go kind.Diesel = reaction_within diesel_keeps r.run is reset_free listed
+reacts_on r = reaction_within (keeps_of r.engine) r.run
 
 pub reacts : (cal : CalibrationParts) → IsAccepted cal → (input : RunInput) → IsPlayable input → (fault : Fault) → IsListed (Some fault) →
     ReactsIn (reaction_of cal.times) (facts_by cal (input_under (Some fault) (without_resets input)))

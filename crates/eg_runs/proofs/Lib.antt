@@ -1,3 +1,6 @@
+pub mod WorkedShortFaults
+pub mod WorkedShortImages
+pub mod WorkedShortTests
 pub mod WorkedRuns
 pub mod WorkedFaults
 pub mod WorkedImages

@@ -11,6 +11,8 @@ mod faulty_runs;
 mod lapses;
 mod outputs;
 mod power_cycles;
+mod short_faulty_runs;
+mod short_runs;
 mod unusual_runs;
 
 pub use braking::{braking_ticks, contacts_and_gates, held_throttle_run};
@@ -37,6 +39,11 @@ pub use power_cycles::{
     resets_near_a_test, test_that_fails, test_that_is_begun_anew, test_that_is_cut,
     test_that_passes, tests_under_faults, two_traps,
 };
+pub use short_faulty_runs::{
+    disturbed_raise, failed_test, flip_seen_by_level_1, halted_and_held_runs, lapsed_run,
+    latched_run, limited_run, offset_track, path_2_runs, wild_run,
+};
+pub use short_runs::{alternating_slices, full_run, passed_test, probing_run, raise_is_read};
 pub use unusual_runs::{
     early_answers_run, reading_that_is_cut_off_run, signal_that_stays_run, two_answers_run,
 };

@@ -74,7 +74,7 @@ pub fn run_facts(
 /// It tells the facts of the run, the reactions in its spans, its trap, and, where it is `WEIGHED`, how near
 /// it came to a cut (docs/CONCEPT.md, "The report of a run", "`table`" and "`margins`"), keeps no row, takes
 /// no memory and refuses nothing. That the facts show a reaction in time is a clause of `run_facts` alone. Of
-/// either engine `eg_model::spans_react_in_time` says it by the reactions, and the headline by the rows.
+/// either engine `eg_laws::spans_react_in_time` says it by the reactions, and the headline by the rows.
 #[inline(never)]
 pub fn bench_facts<E: BenchedEngine, const WEIGHED: bool>(
     calibration: &Calibration,

@@ -1,5 +1,6 @@
 use Rattle.std.proofs.Common.{sym, subst, not, ◌==◌}
-use Rattle.eg_campaign.specs.Plays.{IsPlayed, bench_of, run_with}
+use Rattle.eg_model.specs.Engines.{bench_of}
+use Rattle.eg_campaign.specs.Plays.{IsPlayed, run_with}
 use Rattle.eg_campaign.proofs.play.tell_one.Goals as goal
 
 pub returns-in-Gasoline : goal.returns-in-Gasoline

@@ -1,5 +1,5 @@
 use Rattle.std.proofs.Common.{subst}
-use Rattle.eg_plan.specs.declared.engine.EngineKind.TheVariants as kind
+use Rattle.eg_plant.specs.declared.engine_kind.EngineKind.TheVariants as kind
 use Rattle.eg_campaign.specs.Plays.{run_with}
 use Rattle.eg_campaign.specs.Recording.{WritesRecord}
 use Rattle.eg_campaign.proofs.PlayLemmas.{rows_by}

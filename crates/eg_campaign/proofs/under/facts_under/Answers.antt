@@ -1,4 +1,4 @@
-use Rattle.eg_plan.specs.declared.engine.EngineKind.TheVariants as kind
+use Rattle.eg_plant.specs.declared.engine_kind.EngineKind.TheVariants as kind
 use Rattle.eg_campaign.proofs.UnderLemmas.{are_told}
 use Rattle.eg_campaign.proofs.under.facts_under.Goals as goal
 

@@ -1,10 +1,9 @@
-use Rattle.eg_model.proofs.GasolineLaws.{gasoline_keeps}
-use Rattle.eg_model.proofs.DieselLaws.{diesel_keeps}
+use Rattle.eg_model.proofs.EngineLaws.{keeps_of}
 use Rattle.eg_laws.proofs.StretchRows.{records_end_stretches, records_end_stretches_at_once}
 use Rattle.eg_laws.proofs.stretches.records_end_excess.Goals as goal
 
 pub returns : goal.returns
 returns c = record {
-  ends = (records_end_stretches gasoline_keeps, records_end_stretches diesel_keeps);
-  at_once = (records_end_stretches_at_once gasoline_keeps, records_end_stretches_at_once diesel_keeps);
+  ends = λ engine. records_end_stretches (keeps_of engine);
+  at_once = λ engine. records_end_stretches_at_once (keeps_of engine);
 }

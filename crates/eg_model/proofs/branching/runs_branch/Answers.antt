@@ -1,4 +1,4 @@
-use Rattle.eg_model.specs.Engines.{gasoline, diesel}
+use Rattle.eg_model.specs.Engines.{bench_of}
 use Rattle.eg_model.proofs.BranchLaws.{runs_branch, records_branch}
 use Rattle.eg_model.proofs.branching.runs_branch.Goals as goal
 
@@ -6,4 +6,4 @@ pub returns-clause-runs : goal.returns-clause-runs
 returns-clause-runs c = runs_branch
 
 pub returns-clause-records : goal.returns-clause-records
-returns-clause-records c = (records_branch gasoline, records_branch diesel)
+returns-clause-records c = λ engine. records_branch (bench_of engine)

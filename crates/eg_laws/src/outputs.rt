@@ -1,0 +1,18 @@
+// Level 1 acts by its two outputs alone, over histories and by the records of runs on the bench, for each
+// engine.
+ghost use Rattle.eg_plant.specs.declared.engine_kind.EngineKind.{EngineKind};
+ghost use Rattle.eg_model.specs.Engines.{bench_of};
+ghost use Rattle.eg_model.specs.Outputs.{SpansDisregardLevel1, RunsDisregardLevel1, RecordsActByOutputs, RecordsFollowOutputs};
+
+/// Level 1 acts by its two outputs alone (docs/CONCEPT.md, "Why the unit reacts"), whatever its image and its
+/// slices, without a fault and under every fault. Where the same is out of order at each tick, and drive and
+/// engine are the same, all is the same but for level 1's own world. On the bench, where the two outputs were
+/// equal after each tick before some tick, the rows up to that tick are equal in every column but the
+/// outputs; so where the outputs are equal after each tick, the rows are the same. It does nothing when it
+/// runs.
+pub fn level_1_acts_by_its_outputs()
+    ensures spans { SpansDisregardLevel1 }
+    ensures histories { RunsDisregardLevel1 }
+    ensures records { (engine : EngineKind) → RecordsActByOutputs (bench_of engine) }
+    ensures same { (engine : EngineKind) → RecordsFollowOutputs (bench_of engine) }
+{}
