@@ -3,15 +3,11 @@
 use Rattle.std.proofs.Common.{◌≡◌, ◌∙◌, sym, ap, refl, subst, ℕ, ◌≤◌, Bool, true, false, arith, Option, Some, None, List, [], ◌∷◌, length}
 use Rattle.std.specs.Prelude.{◌==◌, not, ◌&&◌, ◌||◌, Result, Ok, Err, if◌then◌else◌}
 use Rattle.std.proofs.lemmas.Bool.Decides.{nat_tests}
-use Rattle.std.proofs.lemmas.Option.{option_and_then_some}
 use Rattle.eg_num.specs.Drive.{DriveRow, IsDrive}
 use Rattle.eg_plant.specs.Engine.{Shown, KeepsLaws}
-use Rattle.eg_input.specs.Fields.{number_of, number_at, truth_at}
-use Rattle.eg_input.specs.DriveTrace.{drive_at, drive_of}
-use Rattle.eg_input.proofs.FieldLemmas.{drive_of-limits}
-use Rattle.eg_readings.specs.Recording.{before_return, fields_of}
-use Rattle.eg_readings.specs.Answering.{shown_from, shown_at, answer_from, answer_at, answer_of}
+use Rattle.eg_readings.specs.Answering.{answer_of}
 use Rattle.eg_readings.specs.declared.answered.PartnerAnswer.{PartnerAnswer}
+use Rattle.eg_readings.proofs.AnswerLemmas.{answer_of-limits}
 use Rattle.eg_fault.specs.Faults.{effects}
 use Rattle.eg_model.specs.History.{Setting, Entry, Drive, Test, drives, Moment}
 use Rattle.eg_model.specs.Paths.{both_conduct}
@@ -21,51 +17,6 @@ use Rattle.eg_model.specs.Premises.{IsProper, IsProperRun}
 use Rattle.eg_tick.specs.Commanding.{commands_after, commanded_at, commands_next}
 use Rattle.eg_tick.specs.declared.commands.Commands.{Commands}
 use Rattle.eg_couple.specs.Coupled.{CoupledUnit, entry_by, entries_by, Objection, LoadBelowTorque, TorqueWhileOff, NoAnswer, covers, lawful, lawful_if_any, taken, AreTaken}
-
--- ---- an answer keeps the limits of its fields ----
-
-number_of-most : (most : ℕ) (field : List ℕ) (n : ℕ) → number_of most field ≡ Some n → n ≤ most
-unfolding number_of
-number_of-most most field n is = grind (arith, nat_tests)
-
-number_at-most : (fields : List (List ℕ)) (i most n : ℕ) → number_at fields i most ≡ Some n → n ≤ most
-unfolding number_at
-number_at-most fields i most n is = option_and_then_some (number_of most) _ n is (λ field at read. number_of-most most field n read)
-
-shown_at-position : (fields : List (List ℕ)) (shown : Shown) → shown_at fields ≡ Some shown → shown.position ≤ 1000
-unfolding shown_at shown_from
-shown_at-position fields shown is = at (number_at fields 5 1000) (number_at fields 6 65535) (number_at fields 7 65535) (number_at fields 8 65535) refl is
-  where
-    at : (p a b t : Option ℕ) → number_at fields 5 1000 ≡ p → shown_from p a b t ≡ Some shown → shown.position ≤ 1000
-    at (Some position) (Some load_1) (Some load_2) (Some torque) p e =
-        let made : ◌≡◌ {A = Shown} (record { position = position; load_1 = load_1; load_2 = load_2; torque = torque }) shown = cc in
-        rw (← made) (number_at-most fields 5 1000 position p)
-    at None a b t p e = absurd cc
-    at (Some position) None b t p e = absurd cc
-    at (Some position) (Some load_1) None t p e = absurd cc
-    at (Some position) (Some load_1) (Some load_2) None p e = absurd cc
-
--- the drive row of an answer, and its position, keep their limits
-pub record KeepsLimits (answer : PartnerAnswer) : Type 0 where
-  pub drive : IsDrive answer.drive
-  pub position : answer.told.position ≤ 1000
-
-answer_at-limits : (fields : List (List ℕ)) (answer : PartnerAnswer) → answer_at fields ≡ Some answer → KeepsLimits answer
-unfolding answer_at answer_from drive_of
-answer_at-limits fields answer is = at (length fields == 9) (drive_at fields (truth_at fields 3) (truth_at fields 4)) (shown_at fields) refl refl refl is
-  where
-    at : (nine : Bool) (d : Option DriveRow) (s : Option Shown) → (length fields == 9) ≡ nine → drive_at fields (truth_at fields 3) (truth_at fields 4) ≡ d
-        → shown_at fields ≡ s → (if nine then answer_from d s else None) ≡ Some answer → KeepsLimits answer
-    at true (Some drive) (Some shown) n d s e =
-        let made : ◌≡◌ {A = PartnerAnswer} (record { drive = drive; told = shown }) answer = cc in
-        subst KeepsLimits made (record { drive = drive_of-limits 9 fields drive (rw n d); position = shown_at-position fields shown s })
-    at true None s n d' s' e = absurd cc
-    at true (Some drive) None n d s' e = absurd cc
-    at false d s n d' s' e = absurd cc
-
-pub answer_of-limits : (line : List ℕ) (answer : PartnerAnswer) → answer_of line ≡ Some answer → KeepsLimits answer
-unfolding answer_of
-answer_of-limits line answer is = answer_at-limits (fields_of (before_return line)) answer is
 
 -- ---- an answer that was taken ----
 

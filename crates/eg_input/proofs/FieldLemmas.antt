@@ -70,7 +70,7 @@ is_same_record-end i fields names long past =
     rw (left, right) refl
 
 -- a number that is read is at most `most`
-number_of-le : (most : ℕ) (field : List ℕ) (n : ℕ) → number_of most field ≡ Some n → n ≤ most
+pub number_of-le : (most : ℕ) (field : List ℕ) (n : ℕ) → number_of most field ≡ Some n → n ≤ most
 unfolding number_of
 number_of-le most field n e = grind (arith, nat_tests)
 

@@ -3,7 +3,7 @@ pub mod FieldLemmas
 pub mod RowsLemmas
 pub mod FileLaws
 pub mod Seen
-pub mod PlainLemmas
+pub mod CursorLemmas
 pub mod LineOfNumbers
 pub mod LineLemmas
 pub mod WordLemmas

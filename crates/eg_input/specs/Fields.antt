@@ -1,13 +1,15 @@
 -- A field of one to five decimal digits writes a number, where that is at most its limit, and a field that is
 -- 0 or 1 writes a truth value.
-use Rattle.std.specs.Prelude.{ℕ, ◌+◌, ◌*◌, ◌-◌, ◌&&◌, Bool, true, false, List, length, codes, fold, Option, Some, None, option_and_then, if◌then◌else◌, nat_le}
+use Rattle.std.specs.Prelude.{ℕ, ◌+◌, ◌*◌, ◌-◌, ◌==◌, ◌&&◌, Bool, true, false, List, length, take, drop, position, codes, fold, Option, Some, None, option_map, option_and_then, if◌then◌else◌, nat_le}
 use Rattle.std.specs.Str.{byte, bytes_eq}
 use Rattle.std.specs.Char.{is_ascii_digit}
 use Rattle.std.specs.List.{list_all}
+use Rattle.std.specs.Borrow.{Bor}
 use Rattle.std.specs.Option.{option_map_or}
 use Rattle.csv.specs.Records.{field_at}
 use Rattle.eg_input.specs.Records.{Record}
 
+infixl 10 ◌>>=◌
 -- the number that decimal digits write
 unfoldable pub decimal_value : List ℕ → ℕ
 decimal_value digits = fold (λ value digit. 10 * value + (digit - byte "0")) 0 digits
@@ -43,3 +45,25 @@ truth_of field =
 -- the truth value in the field of an index, the first being 0; false where the record has no such field
 unfoldable pub truth_at : Record → ℕ → Option Bool
 truth_at fields i = option_map_or truth_of (field_at fields i) (Some false)
+
+-- ---- the fields of a text, one after another ----
+
+-- the second, of what the first gives; none where the first gives none
+abbrev pub ◌>>=◌ : {A B : Type 0} → Option A → (A → Option B) → Option B
+o >>= f = option_and_then f o
+
+-- what was found, and the text behind it, as the text is now
+abbrev pub found_now : {X : Type 0} → Option (X × Bor (List ℕ)) → Option (X × List ℕ)
+found_now {X} found = option_map {T = X × Bor (List ℕ)} (λ f. (f.0, f.1.now)) found
+
+-- the field before the first of these bytes, and what stands behind that byte; none where there is none
+unfoldable pub first_field : (ending : ℕ) → List ℕ → Option (List ℕ × List ℕ)
+first_field ending text =
+    option_map (λ place. (take place text, drop (place + 1) text)) (position (λ byte. byte == ending) text)
+
+-- what that field says, if it says something, and what stands behind that byte
+unfoldable pub first_said : {X : Type 0} → (ending : ℕ) → (List ℕ → Option X) → List ℕ → Option (X × List ℕ)
+first_said ending says text = do
+  parts ← first_field ending text
+  said ← says parts.0
+  Some (said, parts.1)

@@ -7,8 +7,9 @@ ghost use Rattle.eg_input.specs.DriveTrace.{drive_at, drive_of, trace_headers};
 ghost use Rattle.eg_input.specs.CheckFile.{check_header, check_row_of};
 ghost use Rattle.eg_input.specs.Plain.{BeginsWithHeader, BeginsWithRow};
 
+use crate::cursor::{first_number, first_truth};
 use crate::field::{has_fields, number_at, truth_at};
-use crate::plain::{drive_numbers, leading_number, truth};
+use crate::plain::drive_numbers;
 use csv::ByteRecord;
 use eg_num::Drive;
 
@@ -102,7 +103,7 @@ fn line_with_reset(bytes: &[u8]) -> Option<(Drive, &[u8])>
     ensures { IfSome result (λ found. BeginsWithRow (drive_of 4) bytes.now found.0 found.1.now) }
 {
     let ((pedal, speed, raise), rest) = drive_numbers(bytes, b',')?;
-    let (reset, rest) = truth(rest, b'\n')?;
+    let (reset, rest) = first_truth(rest, b'\n')?;
     Some((Drive::new(pedal, speed, raise, reset, false)?, rest))
 }
 
@@ -111,8 +112,8 @@ fn line_with_brake(bytes: &[u8]) -> Option<(Drive, &[u8])>
     ensures { IfSome result (λ found. BeginsWithRow (drive_of 5) bytes.now found.0 found.1.now) }
 {
     let ((pedal, speed, raise), rest) = drive_numbers(bytes, b',')?;
-    let (reset, rest) = truth(rest, b',')?;
-    let (brake, rest) = truth(rest, b'\n')?;
+    let (reset, rest) = first_truth(rest, b',')?;
+    let (brake, rest) = first_truth(rest, b'\n')?;
     Some((Drive::new(pedal, speed, raise, reset, brake)?, rest))
 }
 
@@ -146,7 +147,7 @@ impl FileRow for (Drive, u16) {
 
     fn from_line(bytes: &[u8], _width: usize) -> Option<((Drive, u16), &[u8])> {
         let ((pedal, speed, raise), rest) = drive_numbers(bytes, b',')?;
-        let (torque, rest) = leading_number(rest, 65_535, b'\n')?;
+        let (torque, rest) = first_number(rest, b'\n', 65_535)?;
         Some((
             (Drive::new(pedal, speed, raise, false, false)?, torque),
             rest,

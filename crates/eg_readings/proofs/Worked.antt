@@ -1,19 +1,17 @@
 -- Some lines of a recording, and some answers of a partner, from their bytes.
 use Rattle.std.proofs.Common.{◌≡◌, refl, ℕ, true, false, List, [], ◌∷◌, ◌++◌, Some, None}
 use Rattle.std.specs.Prelude.{codes}
-use Rattle.csv.specs.Records.{field_at}
 use Rattle.eg_num.specs.Drive.{DriveRow}
-use Rattle.eg_input.specs.Fields.{decimal_value, number_of, number_at, truth_of, truth_at}
-use Rattle.eg_input.specs.DriveTrace.{drive_from, drive_at}
+use Rattle.eg_input.specs.Fields.{decimal_value, number_of, truth_of, first_field, first_said}
 use Rattle.eg_sensor.specs.declared.readings.Readings.{Readings}
 use Rattle.eg_readings.specs.declared.columns.Columns.TheVariants as columns
-use Rattle.eg_readings.specs.Answering.{shown_from, shown_at, answer_from, answer_at, answer_of}
+use Rattle.eg_readings.specs.Answering.{answer_of}
 use Rattle.eg_readings.specs.declared.answered.PartnerAnswer.{PartnerAnswer}
-use Rattle.eg_readings.specs.Recording.{before_return, header, columns_of, fields_of, all_numbers, numbers_of, readings_from, recorded_of}
+use Rattle.eg_readings.specs.Recording.{before_return, header, columns_of, numbers_of, readings_from, recorded_of}
 
 -- every definition of reading a line
 unfoldable reading : ℕ
-unfolding decimal_value number_of before_return header columns_of fields_of all_numbers numbers_of readings_from recorded_of
+unfolding decimal_value number_of first_field first_said before_return header columns_of numbers_of readings_from recorded_of
 reading = 0
 
 -- what the first ten columns of the lines below say
@@ -101,7 +99,7 @@ other = refl
 
 -- every definition of reading an answer
 unfoldable answering : ℕ
-unfolding field_at decimal_value number_of number_at truth_of truth_at drive_from drive_at before_return fields_of shown_from shown_at answer_from answer_at answer_of
+unfolding decimal_value number_of truth_of first_field first_said before_return answer_of
 answering = 0
 
 abbrev answer : DriveRow → (position load_1 load_2 torque : ℕ) → PartnerAnswer

@@ -2,10 +2,9 @@
 -- that names its columns. A line has as many fields as there are columns, parted by commas, and each field
 -- writes a number of one to five digits, at most 65535. A line may end with a carriage return, which is no
 -- part of it; its line feed is taken off already.
-use Rattle.std.specs.Prelude.{ℕ, ◌-◌, ◌==◌, List, [], ◌∷◌, ◌++◌, length, drop, take, codes, Option, Some, None, option_map, option_and_then, if◌then◌else◌, false, slice_index}
+use Rattle.std.specs.Prelude.{ℕ, zero, suc, ◌-◌, List, [], ◌∷◌, ◌++◌, length, drop, take, codes, Option, Some, None, option_map, if◌then◌else◌, false, slice_index}
 use Rattle.std.specs.Str.{byte, bytes_eq}
-use Rattle.std.specs.List.{slice_split}
-use Rattle.eg_input.specs.Fields.{number_of}
+use Rattle.eg_input.specs.Fields.{number_of, first_said, ◌>>=◌}
 use Rattle.eg_sensor.specs.Brake.{sound_contacts}
 use Rattle.eg_sensor.specs.declared.readings.Readings.{Readings}
 use Rattle.eg_readings.specs.declared.columns.Columns.{Columns}
@@ -28,21 +27,20 @@ columns_of line =
     else if bytes_eq (before_return line) (header ++ codes ",brake1,brake2") then Some columns.WithBrake
     else None
 
--- the fields of a line, which are parted by commas
-unfoldable pub fields_of : List ℕ → List (List ℕ)
-fields_of line = slice_split (λ b. b == byte ",") line
+-- the number before the first comma of a text, where it is at most `most`, and what stands behind that comma
+abbrev pub first_number : (most : ℕ) → List ℕ → Option (ℕ × List ℕ)
+first_number most = first_said (byte ",") (number_of most)
 
--- the numbers that these fields write, if each of them writes one
-unfoldable pub all_numbers : List (List ℕ) → Option (List ℕ)
-all_numbers [] = Some []
-all_numbers (field ∷ fields) =
-    option_and_then (λ number. option_map (λ numbers. number ∷ numbers) (all_numbers fields))
-    (number_of 65535 field)
-
--- the numbers that a line of this many fields writes
+-- The numbers that a line of this many fields writes: each but the last stands before a comma.
 unfoldable pub numbers_of : ℕ → List ℕ → Option (List ℕ)
-numbers_of width line =
-    if length (fields_of line) == width then all_numbers (fields_of line) else None
+numbers_of zero line = None
+numbers_of (suc zero) line = do
+  number ← number_of 65535 line
+  Some (number ∷ [])
+numbers_of (suc (suc more)) line = do
+  (number, rest) ← first_number 65535 line
+  numbers ← numbers_of (suc more) rest
+  Some (number ∷ numbers)
 
 -- the readings that stand in the first ten columns
 unfoldable pub readings_from : List ℕ → Readings

@@ -1,7 +1,7 @@
-use Rattle.std.proofs.Common.{◌≡◌, ◌∙◌, ◌+◌, take, ap, sym, subst, set, ◌++◌, ◌∷◌, [], None, Some, arith}
+use Rattle.std.proofs.Common.{◌≡◌, ◌∙◌, ◌+◌, take, ap, sym, subst, set, ◌++◌, ◌∷◌, [], Some, arith}
 use Rattle.std.specs.Prelude.{option_map}
 use Rattle.std.proofs.lemmas.List.{take_more_set, length-set, take_all}
-use Rattle.eg_readings.proofs.FieldLemmas.{HasRead, step, spoiled, ended, said-first, numbers_of-none}
+use Rattle.eg_readings.proofs.FieldLemmas.{HasRead, step, spoiled, ended, numbers_of-none}
 use Rattle.eg_readings.proofs.number.numbers.Goals as goal
 
 pub returns-in_err-last : goal.returns-in_err-last
@@ -13,13 +13,13 @@ pub returns-in_err-number : goal.returns-in_err-number
 returns-in_err-number g c =
     let l = c.loop-i in
     c.from_residual-in_err-number.ensures
-    ∙ sym (spoiled g.row.N c.args.line.now l.i (take l.i l.numbers) l.rest.now l.invariant.read (omega arith) (said-first _ None c.in_err-number.ensures))
+    ∙ sym (spoiled g.row.N c.args.line.now l.i (take l.i l.numbers) l.rest.now l.invariant.read (omega arith) c.in_err-number.ensures.said)
 
 pub loop-i-preserved : goal.loop-i-preserved
 loop-i-preserved g c =
     let l = c.loop-i in
     let number = c.in_ok-number.number in
-    let read = step g.row.N c.args.line.now l.i (take l.i l.numbers) l.rest.now number c.in_ok-number.behind.now l.invariant.read (omega arith) (said-first _ _ c.in_ok-number.ensures) in
+    let read = step g.row.N c.args.line.now l.i (take l.i l.numbers) l.rest.now number c.in_ok-number.behind.now l.invariant.read (omega arith) c.in_ok-number.ensures.said in
     record {
       size = length-set l.numbers l.i number ∙ l.invariant.size;
       read = subst (λ done. HasRead g.row.N c.args.line.now (l.i + 1) done c.in_ok-number.behind.now) (sym (take_more_set l.numbers l.i number (omega arith))) read;

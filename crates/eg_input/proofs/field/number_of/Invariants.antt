@@ -4,7 +4,7 @@ use Rattle.std.specs.Char.{is_ascii_digit}
 use Rattle.std.specs.Str.{byte}
 use Rattle.std.specs.List.{list_all}
 use Rattle.eg_input.specs.Fields.{decimal_value}
-use Rattle.eg_readings.proofs.number.number.Given as goal
+use Rattle.eg_input.proofs.field.number_of.Given as goal
 
 -- what the rest of the field adds
 abbrev pub invariant-loop-byte : goal.invariant-loop-byte
