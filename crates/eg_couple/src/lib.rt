@@ -11,4 +11,4 @@ mod ticking;
 
 pub use laws::{commands_are_used, coupled_runs_keep_the_headline};
 pub use order::no_answer_is_read_ahead;
-pub use stream::couple_stream;
+pub use stream::{couple_lines, couple_stream};

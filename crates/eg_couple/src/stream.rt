@@ -93,12 +93,30 @@ fn couple_by<S: Store, L: Lines, K: Sink>(
     ensures files { (S.shows store.new).files ≡ (S.shows store.old).files }
 {
     match undriven_named(alloc, run, store) {
-        Ok(input) => {
-            let done = couple(alloc, calibration, &input, lines, out, steps);
-            End::of(end_of(done))
-        }
+        Ok(input) => End::of(couple_lines(alloc, calibration, &input, lines, out, steps)),
         Err(end) => end,
     }
+}
+
+/// Does `couple` by a calibration and an input of a run that were read (docs/FORMATS.md, "Commands"): reads
+/// answers of a partner, of each of which it makes a tick and writes its row before it reads the next. Ticks
+/// are counted in `steps`. Of the input it uses the image, the fault and the slice plan.
+pub fn couple_lines<L: Lines, K: Sink>(
+    alloc: Global,
+    calibration: &Calibration,
+    input: &RunInput,
+    lines: &mut L,
+    out: &mut K,
+    steps: &mut Ticks,
+) -> Outcome
+    requires image { length input.now.image ≤ CODE_END }
+    requires fault { IsNoneOrValid input.now.plan.fault }
+    ensures ends { CouplingEnds (unit_of calibration.now input.now)
+        (coupling (change_of L.shows lines.old lines.new) (change_of K.shows out.old out.new)
+        (change steps.old steps.new)) result }
+    ensures no_memory { TellsNoMemory result }
+{
+    end_of(couple(alloc, calibration, input, lines, out, steps))
 }
 
 /// Couples a run: the header, the line before the first tick, and for each answer its row, put before the

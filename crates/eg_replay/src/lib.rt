@@ -11,4 +11,4 @@ mod stream;
 pub use eg_findings::{Counters, TickSignals};
 pub use law::{bytes_lead_to_bytes, no_line_is_read_ahead, open_loop_agrees};
 pub use replay::Replay;
-pub use stream::{replay_stream, signals_stream};
+pub use stream::{replay_lines, replay_stream, signals_lines, signals_stream};

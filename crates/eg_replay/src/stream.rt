@@ -45,7 +45,7 @@ pub fn signals_stream<S: Store, L: Lines, K: Sink>(
     ensures files { (S.shows store.new).files ≡ (S.shows store.old).files }
 {
     match calibration_for(alloc, calibration, store) {
-        Ok(calibration) => eg_outcome::end_of(put_signals(alloc, &calibration, lines, out)),
+        Ok(calibration) => signals_lines(alloc, &calibration, lines, out),
         Err(end) => end,
     }
 }
@@ -71,9 +71,40 @@ pub fn replay_stream<S: Store, L: Lines, K: Sink>(
     ensures files { (S.shows store.new).files ≡ (S.shows store.old).files }
 {
     match calibration_for(alloc, calibration, store) {
-        Ok(calibration) => eg_outcome::end_of(put_replay(alloc, &calibration, lines, out)),
+        Ok(calibration) => replay_lines(alloc, &calibration, lines, out),
         Err(end) => end,
     }
+}
+
+/// Does `signals` by a calibration that was read (docs/FORMATS.md, "Commands"): reads lines to their end, and
+/// writes the row of each before it reads the next.
+pub fn signals_lines<L: Lines, K: Sink>(
+    alloc: Global,
+    calibration: &Calibration,
+    lines: &mut L,
+    out: &mut K,
+) -> Outcome
+    ensures ends { StreamEnds (signals_writes calibration.now) (change_of L.shows lines.old lines.new)
+        (change_of K.shows out.old out.new) result }
+    ensures no_memory { TellsNoMemory result }
+{
+    eg_outcome::end_of(put_signals(alloc, calibration, lines, out))
+}
+
+/// Does `replay` by a calibration that was read (docs/FORMATS.md, "Commands"): reads lines to their end, and
+/// then writes what level 2 finds on them.
+pub fn replay_lines<L: Lines, K: Sink>(
+    alloc: Global,
+    calibration: &Calibration,
+    lines: &mut L,
+    out: &mut K,
+) -> Outcome
+    ensures ends { StreamEnds (replay_writes calibration.now) (change_of L.shows lines.old lines.new)
+        (change_of K.shows out.old out.new) result }
+    ensures no_memory { TellsNoMemory result }
+    ensures nothing_put { PutsNothing result → out.new ≡ out.old }
+{
+    eg_outcome::end_of(put_replay(alloc, calibration, lines, out))
 }
 
 /// The rows of lines that come, each put before the next line is read.

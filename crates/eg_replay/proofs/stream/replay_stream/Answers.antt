@@ -1,22 +1,20 @@
-use Rattle.std.proofs.Common.{sym, ap, subst, refl, Ok}
+use Rattle.std.proofs.Common.{ap, refl, Ok}
 use Rattle.eg_base.specs.Outside.{ShownStore}
 use Rattle.eg_outcome.specs.Changes.{change}
-use Rattle.eg_outcome.specs.Outcomes.{PutsNothing}
-use Rattle.eg_replay.specs.Streams.{replay_writes, StreamEnds}
-use Rattle.eg_replay.proofs.ReadLemmas.{tells_missing, tells_no_memory}
+use Rattle.eg_replay.specs.Streams.{replay_writes}
+use Rattle.eg_replay.proofs.ReadLemmas.{tells_missing}
 use Rattle.eg_replay.proofs.stream.replay_stream.Goals as goal
 
 pub returns-in-Ok : goal.returns-in-Ok
 returns-in-Ok g c =
-    let lines = change (g.L.Lines.shows c.args.lines.now) (g.L.Lines.shows c.put_replay.new.lines) in
-    let out = change (g.K.Sink.shows c.args.out.now) (g.K.Sink.shows c.put_replay.new.out) in
+    let lines = change (g.L.Lines.shows c.args.lines.now) (g.L.Lines.shows c.replay_lines.new.lines) in
+    let out = change (g.K.Sink.shows c.args.out.now) (g.K.Sink.shows c.replay_lines.new.out) in
     let writes = replay_writes c.in-Ok.calibration in
-    let ends = subst (StreamEnds writes lines out) (sym c.end_of.ensures) c.put_replay.ensures.ends in
     record {
-      ends = (Ok c.in-Ok.calibration, c.in-Ok.ensures.comes, (ap (λ (s : ShownStore). s.faults) (c.in-Ok.ensures.keeps.shown refl), ends));
-      missing = λ sure. tells_missing c.in-Ok.calibration writes lines out c.end_of.result ends (c.in-Ok.ensures.missing sure);
-      no_memory = tells_no_memory writes lines out c.end_of.result ends;
-      nothing_put = λ nothing. c.put_replay.ensures.nothing_put (subst PutsNothing c.end_of.ensures nothing);
+      ends = (Ok c.in-Ok.calibration, c.in-Ok.ensures.comes, (ap (λ (s : ShownStore). s.faults) (c.in-Ok.ensures.keeps.shown refl), c.replay_lines.ensures.ends));
+      missing = λ sure. tells_missing c.in-Ok.calibration writes lines out c.replay_lines.result c.replay_lines.ensures.ends (c.in-Ok.ensures.missing sure);
+      no_memory = c.replay_lines.ensures.no_memory;
+      nothing_put = c.replay_lines.ensures.nothing_put;
       unread = c.in-Ok.ensures.unread;
       files = c.in-Ok.ensures.keeps.files;
     }
