@@ -1,9 +1,9 @@
+pub mod TallyLemmas
+pub mod NameLemmas
+pub mod LineLemmas
 pub mod TellLemmas
 pub mod RunLemmas
-pub mod BeginLemmas
-pub mod ReadLemmas
 pub mod AgreeLemmas
 pub mod AgreeRuns
-pub mod OrderLemmas
-pub mod BytesLemmas
+mod FindingsWorked
 mod Worked

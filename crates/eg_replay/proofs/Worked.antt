@@ -14,7 +14,7 @@ use Rattle.eg_model.specs.Moments.{moments_in}
 use Rattle.eg_model.proofs.WholeModel.{whole_model}
 use Rattle.eg_agree.specs.Standing.{mirror_found, counter_after}
 use Rattle.eg_agree.specs.Ticking.{found_in_level2}
-use Rattle.eg_findings.specs.declared.tick_signals.TickSignals.{TickSignals}
+use Rattle.eg_replay.specs.declared.tick_signals.TickSignals.{TickSignals}
 use Rattle.eg_replay.specs.Replay.{tracks_of, effects_of, entry_of, alone, replayed, counters_after, told_at, told_of}
 use Rattle.eg_replay.specs.Agreement.{recorded_at}
 

@@ -18,7 +18,7 @@ use Rattle.eg_readings.specs.declared.recorded.Recorded.{Recorded}
 use Rattle.eg_num.specs.declared.watches.Watches.{Watches}
 use Rattle.eg_record.specs.declared.row.Row.{Row}
 use Rattle.eg_model.specs.Rows.{rows_of}
-use Rattle.eg_findings.specs.declared.tick_signals.TickSignals.{TickSignals}
+use Rattle.eg_replay.specs.declared.tick_signals.TickSignals.{TickSignals}
 use Rattle.eg_replay.specs.Replay.{replayed, told_of}
 
 -- What is recorded at a tick: the readings that level 2 was given. Where the brake was taken as pressed they

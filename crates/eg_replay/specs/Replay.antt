@@ -15,8 +15,8 @@ use Rattle.eg_model.specs.Rows.{signal_list}
 use Rattle.eg_agree.specs.Standing.{counter_after}
 use Rattle.eg_agree.specs.Replies.{moment_after}
 use Rattle.eg_agree.specs.Ticking.{found_in_level2}
-use Rattle.eg_findings.specs.declared.tick_signals.TickSignals.{TickSignals}
-use Rattle.eg_findings.specs.declared.tick_signals.Counters.{Counters}
+use Rattle.eg_replay.specs.declared.tick_signals.TickSignals.{TickSignals}
+use Rattle.eg_replay.specs.declared.tick_signals.Counters.{Counters}
 
 -- ---- the ticks ----
 

@@ -10,7 +10,7 @@ use Rattle.eg_level2.specs.Inputs.{Level2Parts, IsPrepared, readings_of, asked_o
 use Rattle.eg_flow.specs.Ticks.{Doing, after_modules}
 use Rattle.eg_readings.specs.declared.recorded.Recorded.{Recorded}
 use Rattle.eg_agree.specs.Standing.{KeepsWords}
-use Rattle.eg_findings.specs.declared.tick_signals.Counters.{Counters}
+use Rattle.eg_replay.specs.declared.tick_signals.Counters.{Counters}
 use Rattle.eg_replay.specs.Replay.{alone, replayed}
 
 -- what level 2 meets at a tick: all modules run, nothing disturbs them, and no answer is to be sent

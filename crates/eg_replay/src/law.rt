@@ -1,8 +1,6 @@
-// Laws of replays: closed and open loop agree, no line is read ahead, and bytes lead to bytes.
+// The law of replays: closed and open loop agree.
 ghost use Rattle.eg_model.specs.Engines.{gasoline, diesel};
 ghost use Rattle.eg_replay.specs.Agreement.{SpansAgree, RunsAgree, RunsWithoutResetAgree, FaultsSpareLevel2, RowsShowTheSame};
-ghost use Rattle.eg_replay.specs.Bytes.{BytesLeadToBytes};
-ghost use Rattle.eg_replay.specs.Order.{ReadsNoLineAhead};
 
 /// Does nothing when it runs. Its clauses are laws: closed and open loop agree (docs/CONCEPT.md,
 /// "`replay` and `signals`"). What level 2 told at the ticks of a drive span, a replay tells of the readings
@@ -17,18 +15,4 @@ pub fn open_loop_agrees()
     ensures whole { RunsWithoutResetAgree gasoline × RunsWithoutResetAgree diesel }
     ensures faults { FaultsSpareLevel2 }
     ensures rows { RowsShowTheSame }
-{}
-
-/// Does nothing when it runs. Its clause is a law of how a command over lines ends: it reads no line before
-/// what it writes of those before was written (docs/FORMATS.md, "The rows of `signals`").
-pub fn no_line_is_read_ahead()
-    ensures { ReadsNoLineAhead }
-{}
-
-/// Does nothing when it runs. Its clause is a law of how a command over lines ends Done, from bytes to bytes:
-/// over a reader and a stream that tell their bytes (`eg_lines::ReadLines::told`, `eg_base::StdSink::told`)
-/// the lines are those of the bytes that the reader had left, and the stream holds exactly what is written of
-/// them.
-pub fn bytes_lead_to_bytes()
-    ensures { BytesLeadToBytes }
 {}

@@ -1,14 +1,21 @@
-//! Level 2 alone, over readings that were recorded: what it would have found on them (docs/CONCEPT.md,
-//! "`replay` and `signals`"), and the two commands that read them line by line.
+//! Level 2 alone, over readings that were recorded: what it would have found on them, what is told of each
+//! tick and of all together, and the texts of both (docs/CONCEPT.md, "`replay` and `signals`").
 #![tactic(auto)]
 
+mod findings;
 mod law;
 mod modules;
-mod recording;
 mod replay;
-mod stream;
+mod replay_lines;
+mod signals_line;
+mod tally;
+mod tick_signals;
 
-pub use eg_findings::{Counters, TickSignals};
-pub use law::{bytes_lead_to_bytes, no_line_is_read_ahead, open_loop_agrees};
+pub use eg_num::Watches;
+pub use findings::Findings;
+pub use law::open_loop_agrees;
 pub use replay::Replay;
-pub use stream::{replay_lines, replay_stream, signals_lines, signals_stream};
+pub use replay_lines::replay_text;
+pub use signals_line::{push_signals, signals_header};
+pub use tally::Tally;
+pub use tick_signals::{Counters, TickSignals};

@@ -6,7 +6,7 @@ ghost use Rattle.eg_replay.specs.Running.{IsReplayOf, counters_kept};
 ghost use Rattle.eg_readings.specs.declared.recorded.Recorded.{Recorded as IsRecorded};
 
 use crate::modules::{run_modules, show_readings};
-use eg_findings::{Counters, TickSignals};
+use crate::{Counters, TickSignals};
 use eg_guard::FlatMemory;
 use eg_level2::{Level2, Lookup, Prepared};
 use eg_readings::Recorded;

@@ -1,5 +1,0 @@
-use Rattle.eg_couple.proofs.UsedLemmas.{commands_are_used}
-use Rattle.eg_couple.proofs.laws.commands_are_used.Goals as goal
-
-pub returns : goal.returns
-returns c = commands_are_used

@@ -1,4 +1,0 @@
-pub mod TallyLemmas
-pub mod NameLemmas
-pub mod LineLemmas
-mod Worked

@@ -1,4 +1,0 @@
-pub mod Findings
-pub mod TickMore
-pub mod Tallies
-pub mod Texts

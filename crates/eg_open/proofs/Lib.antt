@@ -1,3 +1,0 @@
-pub mod WordLemmas
-pub mod CompleteLemmas
-pub mod CoupleLemmas

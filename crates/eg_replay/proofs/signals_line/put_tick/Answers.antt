@@ -1,0 +1,15 @@
+use Rattle.std.proofs.Common.{rules, arith}
+use Rattle.std.proofs.lemmas.Fmt.{length-decimal-le}
+use Rattle.eg_replay.proofs.signals_line.put_tick.Goals as goal
+
+pub write_digits-requires : goal.write_digits-requires
+write_digits-requires c =
+    let short = length-decimal-le 20 c.args.tick (omega arith) (omega arith) (omega arith) in
+    let room = c.requires.room in
+    (omega (arith, short, room), search rules)
+
+pub returns-clause-few : goal.returns-clause-few
+returns-clause-few c =
+    let short = length-decimal-le 20 c.args.tick (omega arith) (omega arith) (omega arith) in
+    let start = c.write_digits.ensures.start in
+    omega (arith, short, start)

@@ -1,0 +1,7 @@
+use Rattle.std.proofs.Common.{arith}
+use Rattle.std.proofs.lemmas.Fmt.{length-decimal-le}
+use Rattle.eg_stream.proofs.line.push_held.Goals as goal
+
+pub write_digits-start-requires : goal.write_digits-start-requires
+write_digits-start-requires c =
+    (length-decimal-le 5 c.from.result (omega arith) (omega arith) (omega arith), omega arith)

@@ -1,0 +1,9 @@
+pub mod Streams
+pub mod Recordings
+pub mod Reading
+pub mod Coupled
+pub mod Texts
+pub mod Headline
+pub mod Used
+pub mod Couplings
+pub mod Running

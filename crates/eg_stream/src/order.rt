@@ -1,0 +1,25 @@
+// What may be relied on of lines that come one by one.
+ghost use Rattle.eg_values.specs.Calibration.{CalibrationParts};
+ghost use Rattle.eg_stream.specs.Coupled.{CoupledUnit};
+ghost use Rattle.eg_stream.specs.Couplings.{couple_work};
+ghost use Rattle.eg_stream.specs.Recordings.{replay_work, signals_work};
+ghost use Rattle.eg_stream.specs.Streams.{BytesLeadToBytes, ReadsNoLineAhead};
+
+/// Does nothing when it runs. Its clauses are a law of how the commands over lines end: they read no line
+/// before what they write of those before was written (docs/FORMATS.md, "The rows of `signals`", "The lines
+/// of `couple`").
+pub fn no_line_is_read_ahead()
+    ensures signals { (cal : CalibrationParts) → ReadsNoLineAhead (signals_work cal) }
+    ensures replay { (cal : CalibrationParts) → ReadsNoLineAhead (replay_work cal) }
+    ensures couple { (unit : CoupledUnit) → ReadsNoLineAhead (couple_work unit) }
+{}
+
+/// Does nothing when it runs. Its clauses are a law of how the commands over lines end Done, from bytes to
+/// bytes: over a reader and a stream that tell their bytes (`eg_lines::ReadLines::told`,
+/// `eg_base::StdSink::told`) the lines are those of the bytes that the reader had left, and the stream holds
+/// exactly what is written of them.
+pub fn bytes_lead_to_bytes()
+    ensures signals { (cal : CalibrationParts) → BytesLeadToBytes (signals_work cal) }
+    ensures replay { (cal : CalibrationParts) → BytesLeadToBytes (replay_work cal) }
+    ensures couple { (unit : CoupledUnit) → BytesLeadToBytes (couple_work unit) }
+{}
