@@ -31,13 +31,17 @@ def run_text(run):
     return "[[run]]\n" + "".join(f"{key} = {toml_text(value)}\n" for key, value in run.items() if value is not None)
 
 
-def run_of(campaign, name):
-    """The run of this name in a campaign file."""
+def runs_of_campaign(campaign):
+    """The runs of a campaign file, by their names, in its order."""
     runs = toml_of(campaign).get("run", [])
     if not isinstance(runs, list) or not all(isinstance(run, dict) for run in runs):
         fail(f"{campaign} is no campaign: its runs stand in [[run]]")
-    runs = [run for run in runs if run.get("name") == name]
-    return runs[0] if runs else fail(f"{campaign} has no run {name}")
+    return {run.get("name"): run for run in runs}
+
+
+def run_of(campaign, name):
+    """The run of this name in a campaign file."""
+    return runs_of_campaign(campaign).get(name) or fail(f"{campaign} has no run {name}")
 
 
 def runs_under_faults(campaign, name, classes, onsets):

@@ -13,7 +13,7 @@ from lib.covering import cover_of, missing
 from lib.files import TOOLS, TOP, read, sum_of, text_in
 from lib.program import printed_by, program, version_lines
 from lib.questions import answer_of
-from lib.records import record_of
+from lib.records import drive_of, record_of
 from lib.toml import toml_in
 from lib.tool import fail
 
@@ -109,8 +109,7 @@ class Played:
 
     def resets(self, name):
         """The ticks at which a run's drive resets the unit."""
-        rows = csv.DictReader(io.StringIO(text_in(name, read(self.runs[name]["trace"])), newline=""))
-        return [tick for tick, row in enumerate(rows) if row.get("reset") == "1"]
+        return drive_of(self.runs[name]["trace"])[1]
 
     def groups(self):
         """The names of runs that differ in their faults alone."""

@@ -1,11 +1,14 @@
 """The program: which one it is, what is told of it, and what its commands print."""
 
 import os
+import shlex
 import subprocess
+import sys
 
 from lib.files import TOOLS, TOP, read, sum_of
-from lib.tool import fail
+from lib.tool import TOOL, as_noted, fail
 
+SHOWN = {"calls": False}  # whether each call of the program is shown
 OWN = ", by a program of your own"  # what a version has behind it if the program is another one
 
 
@@ -78,13 +81,21 @@ def own_warning(place):
             "is built with the sources, and not of this one.")
 
 
-def printed_by(*words):
-    """What a command of the program prints. If it is refused, its note is told."""
-    done = subprocess.run([program(), *words], stdin=subprocess.DEVNULL, capture_output=True, check=False)
+def printed_by(*words, readings=None):
+    """What a command of the program prints, with this file on standard input. If it is refused, its note is told."""
+    show_call(words, readings)
+    given = read(readings) if readings else b""
+    done = subprocess.run([program(), *words], input=given, capture_output=True, check=False)
     if done.returncode:
-        note = done.stderr.decode(errors="replace").strip()
+        note = done.stderr.decode(errors="replace").strip().replace("standard input", readings or "standard input")
         fail(f"egasim {words[0]}: {note or f'status {done.returncode}'}")
     return done.stdout.decode()
+
+
+def show_call(words, readings=None):
+    """Shows a call on standard error, if that is asked for by --verbose."""
+    if SHOWN["calls"]:
+        print(as_noted(f"{TOOL}: egasim {shlex.join(words)}{f' <{shlex.quote(readings)}' if readings else ''}"), file=sys.stderr)
 
 
 def reaction_bound(calibration):

@@ -1,8 +1,10 @@
-"""Records of runs, as `record` and `couple` print them, and the curves that are drawn of their columns."""
+"""Records of runs, as `record` and `couple` print them, the curves that are drawn of their columns, and drives."""
 
 import csv
+import io
 
 from lib.calibration import MOST_NUMBER
+from lib.files import text_of
 from lib.tool import fail
 
 COLUMNS = ("tick", "torque", "limit", "path1", "path2", "on")
@@ -29,6 +31,12 @@ def record_of(name, lines):
         if place and tick[0] != ticks[place - 1][0] + 1:
             fail(f"{name} is no whole record: tick {tick[0]} stands below tick {ticks[place - 1][0]}")
     return dict(zip([*COLUMNS, "found"], map(list, zip(*ticks))))
+
+
+def drive_of(trace):
+    """How many ticks a trace has, and those at which it resets the unit."""
+    rows = list(csv.DictReader(io.StringIO(text_of(trace), newline="")))
+    return len(rows), [tick for tick, row in enumerate(rows) if row.get("reset") == "1"]
 
 
 def part_of(name, columns, first, last):

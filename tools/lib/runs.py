@@ -108,6 +108,15 @@ def given_ticks(row, ticks, resets, confirmed):
     return [(tick, words) for tick, words in told if tick < ticks]
 
 
+def unsettled(row):
+    """Why a row of `table` doesn't show that a confirmed excess is cut for good; None if it does."""
+    if not row["confirmed"]:
+        return "no excess is confirmed"
+    if row["settled"] != "1":
+        return "it ends too soon"
+    return None if row["reaction"] else "the stages are on at the end"
+
+
 def lacking(row):
     """Why a row of `table` doesn't show that R is kept under its fault; None if it does. This is so of a drive of one
     power cycle (docs/START.md, "Faults, and the table")."""
@@ -117,12 +126,8 @@ def lacking(row):
         return "R is no bound for lapses"
     if row["acted"] == "0":
         return "the fault never acts"
-    if not row["confirmed"]:
-        return "no excess is confirmed"
-    if row["settled"] != "1":
-        return "it ends too soon"
-    if not row["reaction"]:
-        return "the stages are on at the end"
+    if unsettled(row):
+        return unsettled(row)
     if int(row["onset"]) >= int(row["confirmed"]) + int(row["reaction"]):
         return "the fault comes after the cut"
     if int(row["reaction"]) > int(row["bound"]):

@@ -18,8 +18,19 @@ def fail(text):
     sys.exit(f"{TOOL}: {as_noted(text)}")
 
 
-def guarded(main):
-    """Calls a tool's main function. What the system refuses, and an end by the user, are told in one line or none."""
+def guarded(main, refused=1):
+    """Calls a tool's main function. What the system refuses, and an end by the user, are told in one line or none. A tool
+    whose status 1 is a verdict has another one for what it refuses."""
+    try:
+        told_in_a_line(main)
+    except SystemExit as end:
+        if refused != 1 and isinstance(end.code, str):
+            print(end.code, file=sys.stderr)
+            sys.exit(refused)
+        raise
+
+
+def told_in_a_line(main):
     signal.signal(signal.SIGTERM, lambda *_: sys.exit(143))
     if sys.stdout is None:
         fail("standard output is closed")

@@ -41,6 +41,16 @@ class Tool(unittest.TestCase):
             guarded(raises(KeyboardInterrupt()))
         self.assertEqual(end.exception.code, 130)
 
+    def test_a_tool_of_verdicts_has_another_status_for_a_refusal(self):
+        error = io.StringIO()
+        with contextlib.redirect_stderr(error), self.assertRaises(SystemExit) as end:
+            guarded(lambda: fail("no such words"), refused=2)
+        self.assertEqual((end.exception.code, error.getvalue().split(": ", 1)[1]), (2, "no such words\n"))
+        for code in (0, 1):
+            with self.assertRaises(SystemExit) as end:
+                guarded(lambda: sys.exit(code), refused=2)
+            self.assertEqual(end.exception.code, code)
+
     def test_closed_output_is_told(self):
         with mock.patch.object(sys, "stdout", None):
             self.assertEqual(note_of(guarded, lambda: None), "standard output is closed")

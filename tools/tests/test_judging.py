@@ -1,0 +1,214 @@
+"""Verdicts on rows that are written by hand, and on what a stand-in for the program prints."""
+
+from unittest import mock
+
+from lib import judging
+from lib.expecting import Check, Expected
+from lib.judging import Shown, recording_shown, verdict, verdicts
+from lib.units import Units
+from in_folder import InFolder
+from notes import note_of
+from test_verdicts import row_of
+
+LIMITS = {"pedal": 10, "plate": 10, "load": 10, "speed": 10, "torque": 5, "answers": 9}
+ANY = ["plate", "torque", "answers", "start"]
+SOUND = row_of("a", "none", stretch="2", last_on="99")
+# Confirmed at 31 and off for good at 60, since path 1 is stuck.
+CUT = row_of("b", "path1-closed", onset="0", acted="1", first="torque", first_at="31", cut="torque", cut_at="31", off_at="60",
+             last_on="59", confirmed="31", reaction="29", stretch="33", settled="1")
+REPLAY = """ticks 2000
+pedal none; greatest 8 of 10
+plate at 40; greatest 10 of 10
+load none; greatest 7 of 10
+speed none; greatest 5 of 10
+torque at 30; greatest 5 of 5
+trip at 30
+stretch 5
+surplus -474
+"""
+
+
+def shown_by(row, resets=(), ticks=100, **weights):
+    return Shown(row, {watch: (weights.get(watch, 0), limit) for watch, limit in LIMITS.items()}, ticks, resets)
+
+
+class Judging(InFolder):
+    def judged(self, key, value, row, **others):
+        return verdict("a", Check(key, "?", value), shown_by(row, **others), Units(10**7))
+
+    def holds(self, key, value, row, words=None, **others):
+        told = self.judged(key, value, row, **others)
+        self.assertIs(told.is_so, True, told)
+        if words:
+            self.assertEqual(told.words, words)
+
+    def fails(self, key, value, row, words, **others):
+        told = self.judged(key, value, row, **others)
+        self.assertIs(told.is_so, False, told)
+        self.assertEqual(told.words, words)
+
+    def test_sound(self):
+        self.holds("sound", True, SOUND, "no watch finds anything")
+        self.holds("sound", True, SOUND | {"class": "lapse", "onset": "3", "acted": "1"})
+        self.fails("sound", True, SOUND | {"class": "halt", "onset": "3", "acted": "1"}, "it has a fault, halt")
+        self.fails("sound", True, SOUND | {"cut": "torque", "cut_at": "9", "first": "torque"}, "it is cut by torque at 9")
+        self.fails("sound", True, SOUND | {"first": "pedal", "first_at": "9"}, "it is limited by pedal at 9")
+        self.fails("sound", True, SOUND | {"first": "start", "first_at": "30", "off_at": "31"}, "it is off at 31")
+        self.fails("sound", True, SOUND | {"trap": "fetch", "trap_at": "4"},
+                   "it is a run whose level 1 traps at 4, and shows nothing")
+        self.fails("sound", True, SOUND | {"last_on": ""}, "it is a run whose stages are on at no tick, and shows nothing")
+
+    def test_a_fault_that_never_acts_shows_nothing(self):
+        row = CUT | {"acted": "0"}
+        for key, value in (("sound", True), ("room", 0), ("cut", ANY), ("cut", []), ("latest.after_fault", 99),
+                           ("latest.after_excess", 99), ("stretch", 99)):
+            self.fails(key, value, row, "its fault never acts, so nothing is shown of it")
+
+    def test_room_is_that_of_the_watch_that_comes_nearest(self):
+        self.holds("room", 20, SOUND, "torque weighs 4 of 5, which leaves 20 %", torque=4, pedal=7)
+        self.fails("room", 21, SOUND, "torque weighs 4 of 5, which leaves 20 %", torque=4, pedal=7)
+        self.fails("room", 12, SOUND, "answers weighs 8 of 9, which leaves 11 %", answers=8)
+        self.holds("room", 100, SOUND)
+        self.holds("room", 0, SOUND | {"first": "pedal", "first_at": "9"}, pedal=10)
+        self.fails("room", 0, SOUND | {"last_on": ""}, "it is a run whose stages are on at no tick, and shows nothing")
+        self.fails("room", 0, CUT, "it is cut by torque at 31", torque=5)
+
+    def test_cut(self):
+        self.holds("cut", ["torque"], CUT, "it is cut by torque at 31")
+        self.holds("cut", ANY, CUT)
+        self.fails("cut", ["answers"], CUT, "it is cut by torque at 31")
+        self.fails("cut", ANY, SOUND, "it isn't cut")
+        self.fails("cut", ANY, SOUND | {"off_at": "40"}, "it is off at 40, and no watch cuts it")
+        self.fails("cut", ANY, CUT | {"off_at": ""}, "torque finds something at 31, and the stages don't go off")
+        self.fails("cut", ANY, CUT | {"onset": "60"}, "its fault comes at 60, after the cut by torque at 31")
+        self.holds("cut", ANY, CUT | {"onset": "59"})
+        failed = SOUND | {"first": "start", "first_at": "30", "off_at": "31", "class": "path1-closed", "acted": "1", "onset": "0"}
+        self.holds("cut", ["start"], failed, "it is cut by start at 30")
+        self.fails("cut", ["torque"], failed, "it is cut by start at 30")
+
+    def test_mirror_in_a_test_cuts_nothing(self):
+        row = SOUND | {"class": "flip", "onset": "7", "acted": "1", "cut": "mirror", "cut_at": "7"}
+        words = "it isn't shown: mirror finds something in a start-up test, at 7, and hides what comes later"
+        self.fails("cut", ["mirror"], row, words)
+        self.holds("cut", [], row, "it isn't cut")
+        self.fails("cut", ["mirror"], row | {"off_at": "61"}, words)
+        self.fails("cut", [], row | {"off_at": "61"}, "it is off at 61")
+        self.holds("cut", ["mirror"], row | {"off_at": "8"})
+        # At the last tick, or right before a reset, nothing shows where it was: it counts as a cut.
+        self.fails("cut", [], row, "it is cut by mirror at 7", ticks=8)
+        self.fails("cut", [], row, "it is cut by mirror at 7", resets=(0, 8))
+
+    def test_not_cut(self):
+        self.holds("cut", [], SOUND, "it isn't cut")
+        self.holds("cut", [], SOUND | {"first": "pedal", "first_at": "9", "trap": "store", "trap_at": "0"})
+        self.fails("cut", [], CUT, "it is cut by torque at 31")
+        self.fails("cut", [], SOUND | {"off_at": "40"}, "it is off at 40")
+        self.fails("cut", [], SOUND | {"last_on": ""}, "it is a run whose stages are on at no tick, and shows nothing")
+
+    def test_latest_after_the_excess(self):
+        key = "latest.after_excess"
+        self.holds(key, 29, CUT, "the stages are off for good 29 ticks (290 ms) after the excess is confirmed, at 31")
+        self.fails(key, 28, CUT, "the stages are off for good 29 ticks (290 ms) after the excess is confirmed, at 31")
+        for columns, why in (({"confirmed": "", "settled": "", "reaction": ""}, "no excess is confirmed"),
+                             ({"settled": "0"}, "it ends too soon"), ({"reaction": ""}, "the stages are on at the end"),
+                             ({"onset": "60"}, "the fault comes after the cut")):
+            self.fails(key, 99, CUT | columns, f"it isn't shown: {why}")
+        lapse = CUT | {"class": "lapse"}
+        self.holds(key, 29, lapse, resets=(0,))
+        self.fails(key, 29, lapse, "it isn't shown: of lapses in several power cycles the table doesn't show it", resets=(0, 50))
+        self.holds(key, 29, CUT, resets=(0, 50))
+
+    def test_latest_after_the_fault(self):
+        key, halt = "latest.after_fault", row_of("h", "halt", onset="20", acted="1", cut="answers", cut_at="29", first="answers",
+                                                 off_at="30", last_on="29")
+        self.holds(key, 10, halt, "the stages are off for good 10 ticks (100 ms) after the fault")
+        self.fails(key, 9, halt, "the stages are off for good 10 ticks (100 ms) after the fault")
+        self.fails(key, 99, halt, "it isn't shown: the stages are on at the end", ticks=30)
+        self.fails(key, 99, SOUND, "it isn't shown: there is no fault")
+        self.fails(key, 99, halt, "it isn't shown: a reset at 50 begins another power cycle after the fault", resets=(0, 50))
+        self.holds(key, 10, halt, resets=(0, 20))
+        self.fails(key, 99, halt | {"onset": "30"}, "it isn't shown: the fault comes after the cut")
+        # A fault that opens a path itself, at its onset; and one that is found by a test, with the stages off before it.
+        self.holds(key, 0, halt | {"onset": "30", "cut": "", "cut_at": "", "first": ""})
+        failed = {"class": "path1-closed", "onset": "110", "first": "start", "cut": "", "cut_at": ""}
+        self.holds(key, 0, halt | failed, "the stages are off for good from 30 on, and the fault comes at 110", ticks=200, resets=(100,))
+        self.holds(key, 0, halt | failed | {"last_on": ""}, ticks=200)
+
+    def test_stretch(self):
+        self.holds("stretch", 33, CUT, "its longest excess has 33 ticks (330 ms)")
+        self.fails("stretch", 32, CUT, "its longest excess has 33 ticks (330 ms)")
+        self.holds("stretch", 1, SOUND | {"stretch": "1"}, "its longest excess has 1 tick (10 ms)")
+        self.fails("stretch", 99, CUT | {"settled": "0"}, "it ends too soon to show that; its longest excess has 33 ticks (330 ms)")
+
+    def test_what_a_recording_shows(self):
+        shown = recording_shown(REPLAY)
+        self.assertEqual({key: shown.row[key] for key in ("first", "first_at", "cut", "cut_at", "stretch")},
+                         {"first": "torque", "first_at": "30", "cut": "torque", "cut_at": "30", "stretch": "5"})
+        self.assertEqual(shown.weights["load"], (7, 10))
+        limited = recording_shown(REPLAY.replace("torque at 30", "torque none").replace("trip at 30", "trip never")
+                                  .replace("plate at 40", "plate none").replace("pedal none", "pedal at 12"))
+        self.assertEqual((limited.row["first"], limited.row["cut"], limited.row["off_at"]), ("pedal", "", ""))
+        for key, value, is_so in (("cut", [], True), ("cut", ANY, False), ("sound", True, False), ("room", 0, True), ("room", 1, False),
+                                  ("stretch", 5, True), ("stretch", 4, False)):
+            self.assertIs(verdict("m.csv", Check(key, "?", value), limited, Units()).is_so, is_so, (key, value))
+        for key, value, is_so in (("cut", ["torque"], True), ("cut", ["plate"], False), ("cut", [], False), ("sound", True, False),
+                                  ("room", 0, False)):
+            self.assertIs(verdict("m.csv", Check(key, "?", value), shown, Units()).is_so, is_so, (key, value))
+        both = recording_shown(REPLAY.replace("plate at 40", "plate at 30").replace("pedal none", "pedal at 30"))
+        self.assertEqual((both.row["first"], both.row["cut"]), ("pedal", "plate"))
+
+
+PRINTED = {"limits": "reaction 34\nlapse none\nverdicts 3\nexcess 5\ntest 30\nspacing 80\nstretch 38\npeak 2300\n",
+           "replay": REPLAY}
+
+
+class Files(InFolder):
+    def setUp(self):
+        super().setUp()
+        self.calls = []
+        self.put("d.csv", "pedal,speed,raise,reset\n" + "0,0,0,0\n" * 100)
+        self.put("c.toml", "".join(f'[[run]]\nname = "{name}"\ntrace = "d.csv"\nimage = "i.hex"\n' for name in ("b", "a", "a-2")))
+        self.rows = [CUT, SOUND, SOUND | {"run": "a-2"}]
+        self.enterContext(mock.patch.object(judging, "printed_by", self.printed))
+
+    def printed(self, command, *words, readings=None):
+        self.calls.append((command, *words, *([readings] if readings else [])))
+        weights = [{"run": row["run"], **dict.fromkeys(LIMITS, "1")} for row in self.rows]
+        rows = {"table": self.rows, "margins": weights}.get(command)
+        return PRINTED.get(command) or "".join(",".join(line) + "\n" for line in [rows[0], *(row.values() for row in rows)])
+
+    def judged(self, text, is_strict=False):
+        self.put("e.toml", text)
+        told = list(verdicts(Expected("e.toml", None), is_strict))
+        return [(one.subject, one.name, one.is_so) for one in told]
+
+    def test_limits(self):
+        told = self.judged("[limits]\nreaction = 34\nlapse = 99\nspacing = { least = 80, most = 79 }\npeak = 2299")
+        self.assertEqual(told, [("limits", "reaction = 34", True), ("limits", "lapse = 99", False), ("limits", "spacing.least = 80", True),
+                                ("limits", "spacing.most = 79", False), ("limits", "peak = 2299", False)])
+        self.assertEqual(self.calls, [("limits",)])
+
+    def test_runs_are_named_by_patterns_in_the_order_of_the_campaign(self):
+        told = self.judged('campaign = "c.toml"\n[[expect]]\nrun = ["a*", "?"]\nstretch = 33')
+        self.assertEqual(told, [(name, "stretch = 33", True) for name in ("a", "a-2", "b", "a")])
+
+    def test_a_name_without_a_run_fails(self):
+        told = self.judged('campaign = "c.toml"\n[[expect]]\nrun = ["b", "A", "x*"]\nstretch = 33')
+        self.assertEqual(told[1:3], [("A", "names a run", False), ("x*", "names a run", False)])
+
+    def test_a_run_that_no_line_names_is_told(self):
+        text = 'campaign = "c.toml"\n[[expect]]\nrun = "b"\nstretch = 33'
+        self.assertEqual(self.judged(text)[1:], [("a", "is named", None), ("a-2", "is named", None)])
+        self.assertEqual(self.judged(text, True)[1:], [("a", "is named", False), ("a-2", "is named", False)])
+
+    def test_calls_are_few_and_by_the_calibration(self):
+        self.put("own.toml", "".join(f"{key}.limit = 10\n" for key in ("pairs", "torque", "answers")))
+        text = 'calibration = "own.toml"\ncampaign = "c.toml"\n[[expect]]\nrun = "a"\nroom = 90\n[[recording]]\nfile = ["m.csv", "n.csv"]\nstretch = 5'
+        self.assertEqual([told[2] for told in self.judged(text)], [True, None, None, True, True])
+        cal = ("--cal", "own.toml")
+        self.assertEqual(self.calls, [("table", *cal, "c.toml"), ("margins", *cal, "c.toml"), ("replay", *cal, "m.csv"), ("replay", *cal, "n.csv")])
+
+    def test_campaign_that_changes_meanwhile_is_told(self):
+        self.rows = self.rows[:2]
+        self.put("e.toml", 'campaign = "c.toml"\n[[expect]]\nrun = "a"\nsound = true')
+        self.assertEqual(note_of(lambda: list(verdicts(Expected("e.toml", None), False))), "c.toml changed meanwhile")
