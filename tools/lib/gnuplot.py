@@ -5,6 +5,7 @@ import subprocess
 from lib.records import corners, thinned
 from lib.svg import DARK, GRID, MIDDLE, step_of
 from lib.tool import fail
+from lib.units import Units
 
 GREY, INK = "#888888", "#333333"
 WIDTH = 640  # of each picture, in pixels
@@ -46,12 +47,32 @@ def looks_of(colour, width, dashes=None, title=None, second=False):
             + (f"title {quoted(title)}" if title else "notitle"))
 
 
-def torque_scale(highest, signs):
+def places_told(places, told):
+    """What stands at places of an axis."""
+    return "(" + ", ".join(f'"{words}" {place}' for place, words in zip(places, told)) + ")"
+
+
+def tick_axis(side, title, first, last, units, most=4):
+    """The axis of ticks at a side, x or y: its title, and where units are told the ticks that stand there, with their times
+    behind them, in at most so many steps."""
+    if not units:
+        return f"set {side}label '{title}'\n"
+    step = step_of(max(last - first, 1), most)
+    places = range(-(-first // step) * step, last + 1, step)
+    unit, times = units.times(places, last)
+    told = [f"{place} ({time})" for place, time in zip(places, times)]
+    return f"set {side}label '{title} ({unit})'\nset {side}tics nomirror {places_told(places, told)}\n"
+
+
+def torque_scale(highest, signs, units=Units()):
     """The axis of torque in the lower part of a panel; and above it, on the second one, what three signs say at 1."""
-    yield f"set yrange [0:{highest * 18 / 11}]\nset ytics nomirror 0,{step_of(highest, 6)},{highest}\n"
+    step = step_of(highest, 6)
+    places = range(0, highest + 1, step)
+    told = places_told(places, map(units.newton_metres, places)) if units else f"0,{step},{highest}"
+    yield f"set yrange [0:{highest * 18 / 11}]\nset ytics nomirror {told}\n"
     yield "set y2range [-11.5:7]\nset y2tics nomirror "
     yield "(" + ", ".join(f"{quoted(sign)} {2.5 * place + 1}" for place, sign in enumerate(signs)) + ")\n"
-    yield "set ylabel 'torque, tenths of Nm'\n"
+    yield f"set ylabel 'torque, {units.of_torque()}'\n"
 
 
 def terminal(picture, height):

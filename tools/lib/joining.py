@@ -10,17 +10,19 @@ from lib.files import read, sum_of_file, text_of, written
 from lib.runs import lacking
 from lib.studies import COLUMNS, called
 from lib.tool import as_noted, fail
+from lib.units import Units, units_of
 
 
-def join(path):
+def join(path, tick=None):
     """Writes study.csv of the tables that count, prints their summary, and tells which campaigns have none."""
     refuse_changes(path)
+    units = units_of(tick, [os.path.join(path, "inputs", "calibration.toml")])
     numbers = sorted(name[:-5] for name in os.listdir(f"{path}/campaigns") if name.endswith(".toml"))
     faults = {number: fault_of_table(path, number) for number in numbers}
     good = [number for number in numbers if not faults[number]]
     bounds = bounds_of(path)
     if good:
-        print_summary(write_joined(path, good), bounds)
+        print_summary(write_joined(path, good), bounds, units)
     for number in numbers:
         if faults[number]:
             print(as_noted(f"campaign {number}: {faults[number]}"), file=sys.stderr)
@@ -102,14 +104,14 @@ class Summary:
             self.reaction = max(self.reaction or 0, int(row["reaction"]))
 
 
-def print_summary(classes, bounds):
+def print_summary(classes, bounds, units=Units()):
     """A line a class: its runs, those that show nothing, and the greatest numbers beside what is proved of them."""
     heads = ["class", "runs", "acted 0", "no excess", "settled 0", "before cut", "reaction", "R", "stretch", "D-1+R"]
     rows = []
     for kind, one in classes.items():
-        reaction, stretch = ("", "") if kind == "lapse" else bounds
+        reaction, stretch = ("", "") if kind == "lapse" else map(units.ticks, bounds)
         rows.append([kind, one.runs, one.unacted, one.without, one.unsettled, one.before_cut,
-                     "none" if one.reaction is None else one.reaction, reaction, one.stretch, stretch])
+                     "none" if one.reaction is None else units.ticks(one.reaction), reaction, units.ticks(one.stretch), stretch])
     widths = [max(len(str(row[place])) for row in [heads, *rows]) for place in range(len(heads))]
     for row in [heads, *rows]:
         print("  ".join(str(value).ljust(width) if place == 0 else str(value).rjust(width)

@@ -8,7 +8,7 @@ from lib.documents import ITEM, blocks_of, cells_of
 from lib.files import TOOLS, read
 from lib.svg import escaped
 
-NUMBER = re.compile(r"-?\d+|none|")
+NUMBER = re.compile(r"-?\d+( \(.*\))?|none|")  # in its unit, too, if units are told
 
 
 class Html(str):

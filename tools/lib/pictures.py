@@ -2,10 +2,12 @@
 
 from lib.records import corners, stretches, thinned
 from lib.svg import DARK, GRID, INK, MIDDLE, box, line, picture, shape, step_of, text, width_of
+from lib.units import Units
 
 WIDTH, LEFT, RIGHT = 400, 48, 10  # of each picture
 HEIGHT, STAGES = 180, 26  # of the torque, and of what stands below it about the stages
 MOST_ROWS = 6  # of what is written above a run
+TIMES = 11  # how high a row of times below ticks is
 SHADE, STAGES_ON = "#d9d9d9", "#555555"
 # Looks of curves: colour, dashes, width. The threshold's line is whole, since dashes say nothing on a steep flank.
 TORQUE, MOST, PERMITTED = (DARK, "", 3), (MIDDLE, "", 1.5), (MIDDLE, "2 2", 1)
@@ -68,18 +70,31 @@ def mark_shapes(places, scale):
             yield text(x, scale.top - 13 - 13 * row, words, size=10)
 
 
-def axes(scale):
+def axes(scale, units):
     right, below = WIDTH - RIGHT, scale.bottom + STAGES
     for value in range(0, int(scale.highest) + 1, step_of(scale.highest, 5)):
         yield line([(LEFT, scale.y(value)), (right, scale.y(value))], GRID)
-        yield text(LEFT - 5, scale.y(value) + 4, value, "end", 10)
+        yield text(LEFT - 5, scale.y(value) + 4, units.newton_metres(value), "end", 10)
     step = step_of(scale.ticks, 8)
-    for tick in range(-(-scale.first // step) * step, scale.first + scale.ticks + 1, step):
+    ticks = range(-(-scale.first // step) * step, scale.first + scale.ticks + 1, step)
+    for tick in ticks:
         yield line([(scale.x(tick), scale.top), (scale.x(tick), below)], GRID)
         yield text(min(scale.x(tick), WIDTH - width_of(tick, 10) / 2 - 1), below + 13, tick, size=10)
-    yield text(LEFT + (right - LEFT) / 2, below + 28, "tick", size=10)
+    yield from below_ticks(LEFT + (right - LEFT) / 2, below, "tick", [(tick, scale.x(tick)) for tick in ticks], units)
     middle = scale.top + HEIGHT / 2
-    yield f'<g transform="rotate(-90 10 {middle:.0f})">{text(10, middle, "torque, tenths of Nm", size=10)}</g>'
+    torque = f"torque, {units.of_torque()}"
+    yield f'<g transform="rotate(-90 10 {middle:.0f})">{text(10, middle, torque, size=10)}</g>'
+
+
+def below_ticks(x, below, title, places, units):
+    """What stands below the numbers of an axis of ticks: its title, and above it their times where units are told."""
+    if not units:
+        yield text(x, below + 28, title, size=10)
+        return
+    unit, times = units.times([tick for tick, _ in places], max(tick for tick, _ in places))
+    for (_, at), time in zip(places, times):
+        yield text(min(at, WIDTH - width_of(time, 10) / 2 - 1), below + 13 + TIMES, time, size=10)
+    yield text(x, below + 28 + TIMES, f"{title}, and in {unit}", size=10)
 
 
 def stage_shapes(on, scale):
@@ -107,17 +122,17 @@ def legend(y):
         yield text(x + 28, at, words, "start", 10)
 
 
-def record_picture(name, title, about, record, threshold, marks):
+def record_picture(name, title, about, record, threshold, marks, units=Units()):
     """Torque, permitted torque without and with the threshold, excess and power stages of a run, or of ticks of it. `marks`
     are ticks with what is written above them. Where curves meet, the thinner one lies on the thicker."""
     most = [limit + threshold for limit in record["limit"]]
     scale = Scale(record["tick"][0], len(most), max(max(record["torque"]), max(most), 1) * 1.05, 0)
     places = list(placed(marks, scale))
     scale.move(14 + 13 * max([row + 1 for *_, row in places if row is not None], default=0))
-    below = scale.bottom + STAGES
+    below = scale.bottom + STAGES + (TIMES if units else 0)
     shapes = [box(first, scale.top, end - first, HEIGHT, SHADE)
               for first, end in spans([torque > line for torque, line in zip(record["torque"], most)], scale)]
-    shapes += axes(scale)
+    shapes += axes(scale, units)
     for values, looks in ((record["torque"], TORQUE), (most, MOST), (record["limit"], PERMITTED)):
         shapes.append(line(curve(values, scale), *looks))
     shapes += [*stage_shapes(record["on"], scale), *mark_shapes(places, scale), *legend(below + 48)]
@@ -127,10 +142,10 @@ def record_picture(name, title, about, record, threshold, marks):
 # A sweep
 
 
-def sweep_picture(name, title, about, reactions, bound):
+def sweep_picture(name, title, about, reactions, bound, units=Units()):
     """The greatest reaction of each class of fault, a bar each, and R as a line. For lapses, whose bar is white, R is no
     bound."""
-    left, right, top, each = 88, WIDTH - 46, 24, 18
+    left, right, top, each = 88, WIDTH - (100 if units else 46), 24, 18
     highest = max([bound, 1, *(reaction or 0 for reaction in reactions.values())])
     bottom = top + each * len(reactions)
 
@@ -138,16 +153,17 @@ def sweep_picture(name, title, about, reactions, bound):
         return left + (right - left) * value / highest
 
     shapes = []
-    for value in range(0, highest + 1, step_of(highest, 8)):
+    values = range(0, highest + 1, step_of(highest, 8))
+    for value in values:
         shapes += [line([(x_of(value), top), (x_of(value), bottom)], GRID), text(x_of(value), bottom + 14, value, size=10)]
-    shapes.append(text((left + right) / 2, bottom + 29, "greatest reaction, ticks", size=10))
+    shapes += below_ticks((left + right) / 2, bottom + 1, "greatest reaction, ticks", [(value, x_of(value)) for value in values], units)
     for place, (kind, reaction) in enumerate(reactions.items()):
         y = top + each * place
         shapes.append(text(left - 6, y + 13, kind, "end"))
         if reaction:
             colours = ("white", INK) if kind == "lapse" else ("#5f7f9f",)
             shapes.append(box(left, y + 3, x_of(reaction) - left, each - 6, *colours))
-        shapes.append(text(WIDTH - 4, y + 13, "none" if reaction is None else reaction, "end"))
+        shapes.append(text(WIDTH - 4, y + 13, "none" if reaction is None else units.ticks(reaction), "end"))
     shapes.append(line([(x_of(bound), top - 6), (x_of(bound), bottom)], INK, "6 3", 2))
-    shapes.append(text(x_of(bound), top - 10, f"R {bound}"))
-    return picture(name, WIDTH, bottom + 38, title, about, shapes)
+    shapes.append(text(x_of(bound), top - 10, f"R {units.ticks(bound)}"))
+    return picture(name, WIDTH, bottom + 38 + (TIMES if units else 0), title, about, shapes)

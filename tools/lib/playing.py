@@ -16,6 +16,7 @@ from lib.questions import answer_of
 from lib.records import drive_of, record_of
 from lib.toml import toml_in
 from lib.tool import fail
+from lib.units import beside, units_of
 
 MOST_SWEEPS = 20
 DOCUMENTS = ("SAFETY.md", "PROVED.md", "FORMATS.md")  # of which parts stand in a page
@@ -40,11 +41,12 @@ class Swept:
 class Played:
     """All that the program prints of a campaign. Of whatever is refused its note is told, and there is no report."""
 
-    def __init__(self, campaign, calibration, sound, sweeps_sound):
-        self.campaign, self.calibration = campaign, calibration
+    def __init__(self, campaign, calibration, sound, sweeps_sound, tick=None):
+        self.campaign, self.calibration, self.units = campaign, calibration, units_of(tick, [calibration])
         self.version, self.commands, self.sums = version_lines(), [], {}
         self.date = datetime.datetime.now(datetime.timezone.utc).strftime("%Y-%m-%d %H:%M UTC")
-        for name in [program(), *(name for name in (calibration, campaign) if name)]:
+        units = beside(calibration) if calibration and tick is None else None
+        for name in [program(), *(name for name in (calibration, units, campaign) if name)]:
             self.add_sum(name)
         for name in own_files(calibration):
             self.add_sum(name, os.path.join(TOP, name))

@@ -41,7 +41,7 @@ def axis_of(names):
             30 + round(0.65 * PIXELS * max(map(len, names))))
 
 
-def picture(files, *_):
+def picture(files, *_, units=None):
     """Height and script of the picture of (name, lines, calibration) of the one file."""
     if len(files) > 1:
         fail("margins of one campaign make a picture")

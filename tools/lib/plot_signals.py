@@ -4,14 +4,14 @@ import csv
 
 from lib.calibration import MOST_NUMBER, WATCHES, threshold_of, weight_limits_of
 from lib.gnuplot import (DARK, GREY, INK, MIDDLE, MOST, PERMITTED, TOP_OF_FOUND, TORQUE, curves, looks_of, quoted,
-                         torque_scale)
+                         tick_axis, torque_scale)
 from lib.records import part_of
 from lib.tool import fail
+from lib.units import Units
 
 DEBOUNCED = [watch for watch in WATCHES if watch != "answers"]  # those of level 2
 SIGNALS = ["tick", "used", "permitted", "actual", "excess", "pairs", *DEBOUNCED]
 LOOKS = dict(zip(DEBOUNCED, [(INK, 2), (INK, 2, "(2,3)"), ("#999999", 2), (MIDDLE, 2), (DARK, 2)]))  # of the weights
-SIGNS = ("excess", "a pair differs", "used pedal 1000")
 HEIGHT = 760
 
 
@@ -50,29 +50,30 @@ def shares_of(name, signals, limits):
     return {watch: [100 * weight / limits[watch] for weight in signals[watch]] for watch in DEBOUNCED if any(signals[watch])}
 
 
-def marks(signals, ticks):
+def marks(signals, ticks, units=Units()):
     """A line through both panels at each tick at which something is found; above the frame what that is, a row for each."""
     row = 0
     for tick, watches in zip(signals["tick"], signals["found"]):
         if watches != "-":
             side = "left" if tick - ticks[0] < len(ticks) / 2 else "right"
             yield f"set arrow from {tick}, graph 0 to {tick}, graph 1 nohead dashtype 3 lc rgb '{INK}'\n"
-            yield (f"set label {1 + row} {quoted(f'{watches} {tick}')} at {tick}, graph 1 {side} "
+            yield (f"set label {1 + row} {quoted(f'{watches} {units.ticks(tick)}')} at {tick}, graph 1 {side} "
                    f"offset 0,{0.6 + row} noenhanced\n")
             row = (row + 1) % 2
 
 
-def panel_of_signals(signals, threshold):
+def panel_of_signals(signals, threshold, units):
     """Torque in the lower part; excess, pairs that disagree and the used pedal above it, on the second scale."""
     most = [permitted + threshold for permitted in signals["permitted"]]
     data, drawn = curves("signal", [
         (signals["actual"], looks_of(*TORQUE, "actual")),
-        (most, looks_of(*MOST, f"permitted and threshold, {threshold}")),
+        (most, looks_of(*MOST, f"permitted and threshold, {units.torque(threshold)}")),
         (signals["permitted"], looks_of(*PERMITTED, "permitted")),
         (signals["excess"], looks_of(INK, 2, second=True)),
         ([2.5 + (pairs > 0) for pairs in signals["pairs"]], looks_of(GREY, 2, second=True)),
         ([5 + used / 1000 for used in signals["used"]], looks_of(GREY, 2, second=True))], signals["tick"][0])
-    yield from torque_scale(max(*signals["actual"], *most, 1), SIGNS)
+    signs = ("excess", "a pair differs", f"used pedal {'100 %%' if units else '1000'}")
+    yield from torque_scale(max(*signals["actual"], *most, 1), signs, units)
     yield f"{data}plot {', '.join(drawn)}\n"
 
 
@@ -85,18 +86,18 @@ def panel_of_weights(signals, shares):
     yield f"{data}plot {', '.join([*drawn, found])}\n"
 
 
-def picture(files, first, last):
+def picture(files, first, last, units=Units()):
     """Height and script of the picture of (name, lines, calibration) of the one file, from the first to the last tick."""
     if len(files) > 1:
         fail("signals of one measurement make a picture")
     [(name, lines, calibration)] = files
     whole = signals_of(name, lines)
     every, signals = part_of(name, whole, first, last), part_of(f"{name}, up to its trip,", up_to_trip(whole), first, last)
-    until = f", up to the trip at {signals['tick'][-1]}" if is_trip(signals["found"][-1]) else ""
+    until = f", up to the trip at {units.ticks(signals['tick'][-1])}" if is_trip(signals["found"][-1]) else ""
     shares = shares_of(name, signals, weight_limits_of(calibration))
     return HEIGHT, [
-        "set key outside center bottom horizontal maxcols 2\nset xlabel 'tick'\n",
+        "set key outside center bottom horizontal maxcols 2\n", tick_axis("x", "tick", every["tick"][0], every["tick"][-1] + 1, units),
         f"set xrange [{every['tick'][0]}:{every['tick'][-1] + 1}]\nset lmargin 9\nset rmargin 16\n",
         f"set multiplot layout 2,1\nset title {quoted(name + until)} noenhanced offset 0,1.5\nset tmargin 4\n",
-        *marks(signals, every["tick"]), *panel_of_signals(signals, threshold_of(calibration)),
+        *marks(signals, every["tick"], units), *panel_of_signals(signals, threshold_of(calibration), units),
         *panel_of_weights(signals, shares), "unset multiplot\n"]

@@ -2,9 +2,10 @@
 
 import re
 
-from lib.gnuplot import INK, block, looks_of, named_places, quoted
+from lib.gnuplot import INK, block, looks_of, named_places, quoted, tick_axis
 from lib.program import reaction_bound
 from lib.tool import fail
+from lib.units import Units
 
 SWEPT = re.compile(r"([a-z0-9-]+): runs \d+; .*reaction (\d+|none)")
 BARS = ["#1f4e79", "#f2b66d", "#5f9e6e", "#d9d9d9", "#8e44ad", "#333333"]  # colours that differ in grey too
@@ -37,7 +38,7 @@ def bars(files, sweeps):
     return data, drawn, numbers
 
 
-def picture(files, *_):
+def picture(files, *_, units=Units()):
     """Height and script of the picture of (name, lines, calibration) of each file."""
     sweeps = [sweep_of(name, lines) for name, lines, _ in files]
     classes = list(sweeps[0])
@@ -48,11 +49,11 @@ def picture(files, *_):
     data, drawn, numbers = bars(files, sweeps)
     for place, (calibration, bound) in enumerate(bounds.items()):
         drawn.append(f"{bound} with lines "
-                     + looks_of(LINES[place % len(LINES)], 2, 2 + 2 * (place % 2), f"R {by_which(calibration)}, {bound}"))
+                     + looks_of(LINES[place % len(LINES)], 2, 2 + 2 * (place % 2), f"R {by_which(calibration)}, {units.ticks(bound)}"))
     names = [f"{kind}, no bound" if kind == "lapse" else kind for kind in classes]
     return HEIGHT + ROW * (len(files) + len(bounds)), [
         "set style textbox opaque margins 0.3,0.3 noborder\n",
         f"set boxwidth 0.94 relative\nset style fill solid border lc rgb '{INK}'\nset grid noxtics\n",
-        "set key outside center bottom vertical maxcols 1\nset ylabel 'greatest reaction, ticks'\n",
+        "set key outside center bottom vertical maxcols 1\n", tick_axis("y", "greatest reaction, ticks", 0, round(1.2 * highest), units),
         f"set yrange [0:{1.2 * highest}]\nset xrange [-0.7:{len(classes) - 0.3}]\n",
         f"set xtics nomirror rotate by -40 {named_places(names)}\n", *data, f"plot {', '.join(drawn + numbers)}\n"]

@@ -2,10 +2,11 @@
 
 import csv
 
-from lib.gnuplot import DARK, INK, block, looks_of, quoted
+from lib.gnuplot import DARK, INK, block, looks_of, quoted, tick_axis
 from lib.program import reaction_bound
 from lib.svg import step_of
 from lib.tool import fail
+from lib.units import Units
 
 HEAD, PANEL = 40, 200  # how high the title is, and a panel
 
@@ -45,7 +46,7 @@ def panel(place, kind, places, bound):
             f"plot {', '.join(drawn)}\n")
 
 
-def picture(files, *_):
+def picture(files, *_, units=Units()):
     """Height and script of the picture of (name, lines, calibration) of the one file."""
     if len(files) > 1:
         fail("one table makes a picture")
@@ -58,8 +59,9 @@ def picture(files, *_):
     beside, columns = max((max(onsets) - min(onsets)) / 30, 1), min(len(points), 2)
     rows = -(-len(points) // columns)
     return HEAD + PANEL * rows, [
-        f"set multiplot layout {rows},{columns} title {quoted(f'{name}: reactions by onset; R, {bound}, is dashed')} "
+        f"set multiplot layout {rows},{columns} title {quoted(f'{name}: reactions by onset; R, {units.ticks(bound)}, is dashed')} "
         f"noenhanced\nset xrange [{min(onsets) - beside}:{max(onsets) + beside}]\nset yrange [0:{highest * 1.15}]\n",
-        f"set xtics nomirror autofreq\nset ytics nomirror 0,{step_of(highest, 4)}\nset xlabel 'onset, tick'\n",
-        "set ylabel 'ticks'\nset lmargin 8\nset rmargin 2\nset tmargin 2.7\nset bmargin 3.2\n",
+        f"set xtics nomirror autofreq\nset ytics nomirror 0,{step_of(highest, 4)}\n",
+        tick_axis("x", "onset, tick", min(onsets), max(onsets), units, 2), tick_axis("y", "ticks", 0, highest, units),
+        f"set lmargin {12 if units else 8}\nset rmargin 2\nset tmargin 2.7\nset bmargin 3.2\n",
         *(panel(place, kind, places, bound) for place, (kind, places) in enumerate(points.items())), "unset multiplot\n"]

@@ -12,6 +12,7 @@ from lib.files import TOOLS, read, room_in, sum_of
 from lib.plans import PARAMETERS, checked_plan, runs_of
 from lib.program import program
 from lib.tool import fail
+from lib.units import beside
 
 COLUMNS = ["drive", "image", "slices", "engine", *PARAMETERS]  # of study.csv, beside those of `table`
 FORMULA = tuple("=+-@\t\r＝＋－＠")  # with one of these a cell begins that a spreadsheet runs
@@ -118,6 +119,8 @@ def put_inputs(folder, plan, name):
         os.chmod(folder.place(script), 0o644 if script == "Makefile" else 0o755)
     if plan["calibration"]:
         folder.put("inputs/calibration.toml", read(plan["calibration"]))
+        if units := beside(plan["calibration"]):
+            folder.put("inputs/units.toml", read(units))
     return copied(folder, "drive", plan["drives"], "csv"), copied(folder, "image", plan["images"], "hex")
 
 

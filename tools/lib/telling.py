@@ -1,5 +1,6 @@
 """What a report says, part by part, as HTML."""
 
+import itertools
 import re
 
 from lib.calibration import WATCHES, torque_weights_of
@@ -12,6 +13,7 @@ from lib.program import is_own, own_warning
 from lib.records import part_of
 from lib.runs import (CONFIRMED, EXCESS, NO_EXCESS, ONSET, R_PASSED, RESET, about_run, confirmed_of, cuts_of, events,
                       excess_of, finds, given_ticks, lacking, windows)
+from lib.units import Units
 from lib.verdicts import named, verdict
 
 MOST_EVENTS, MOST_MARKS, MOST_CUTS = 30, 12, 12
@@ -41,7 +43,7 @@ def about(played, asked):
     calibration = Html(f"calibration {code(played.calibration)}" if played.calibration else "the reference calibration")
     yield '<ul class="about">'
     for name, said in (("Project", asked.project), ("Author", asked.author), ("Date", Html(f"<time>{played.date}</time>")),
-                       ("Version", played.version[0])):
+                       ("Version", played.version[0]), ("Tick", played.units.time(1) if played.units else None)):
         if said:
             yield f"<li>{name}: {shown(said)}</li>"
     yield "</ul>"
@@ -58,10 +60,13 @@ def warnings(played):
         yield paragraph(own_warning("page"), "warning own")
 
 
-def greatest(rows, column):
+def greatest(rows, column, units=Units()):
     """The greatest number of a column, and the first run that has it."""
     row = max(rows, key=lambda row: int(row[column] or -1), default=None)
-    return f"{row[column]} ({row['run']})" if row and row[column] else "none"
+    if not row or not row[column]:
+        return "none"
+    told = units.cell(column, row[column])
+    return f"{told[:-1]}, {row['run']})" if units else f"{told} ({row['run']})"
 
 
 def swept_most(sweeps):
@@ -75,15 +80,16 @@ def summary(played):
     bounded = [row for row in played.rows if row["class"] != "lapse"]
     faultless = [row for row in bounded if row["class"] == "none"]
     cut = [row["run"] for row in faultless if row["cut"]]
-    limits = played.limits
+    units, limits = played.units, {name: played.units.cell(name, number) for name, number in played.limits.items()}
     yield "<ul>"
     for line in (
             f"Runs: {len(played.rows)}; without a fault {len(faultless)}, under a listed fault {len(listed)}, "
             f"under a lapse {len(played.rows) - len(bounded)}.",
-            f"Greatest reaction, without lapses: {greatest(bounded, 'reaction')}; of the sweeps {swept_most(played.sweeps)}; "
+            f"Greatest reaction, without lapses: {greatest(bounded, 'reaction', units)}; of the sweeps "
+            f"{units.cell('reaction', swept_most(played.sweeps))}; "
             f"R is {limits['reaction']}.",
-            f"Longest excess, without lapses: {greatest(bounded, 'stretch')} ticks; {limits['stretch']} is the most.",
-            f"Greatest torque above permitted torque and threshold: {greatest(played.rows, 'peak')} tenths of Nm; "
+            f"Longest excess, without lapses: {greatest(bounded, 'stretch', units)} ticks; {limits['stretch']} is the most.",
+            f"Greatest torque above permitted torque and threshold: {greatest(played.rows, 'peak', units)} tenths of Nm; "
             f"{limits['peak']} is the most.",
             f"Runs without a fault that were cut: {named(cut) or 'none'}."):
         yield f"<li>{shown(line)}</li>"
@@ -102,21 +108,23 @@ def meanings(heading):
 
 def limits(played):
     said = {names[0]: cells[1] for names, cells in meanings("The text of `limits`")}
-    rows = [(code(name), number, inline(said.get(name, ""))) for name, number in played.limits.items()]
+    rows = [(code(name), played.units.cell(name, number), inline(said.get(name, ""))) for name, number in played.limits.items()]
     yield from table("limits", ("Line", "Number", "What it says"), rows)
 
 
-def pair(row, name):
-    return f"{row[name]} at {row[f'{name}_at']}" if row[name] else ""
+def pair(row, name, units=Units()):
+    return f"{row[name]} at {units.ticks(row[f'{name}_at'])}" if row[name] else ""
 
 
 def rows(played):
     names, watched = ("run", "class", "onset", "fault", "acted", "off_at", "last_on"), ("first", "cut", "trap")
+    units = played.units
     yield from table("table: what was found, and cut", (*names, *watched),
-                     [[*(row[name] for name in names), *(pair(row, name) for name in watched)] for row in played.rows], "data")
+                     [[*(units.cell(name, row[name]) for name in names), *(pair(row, name, units) for name in watched)]
+                      for row in played.rows], "data")
     names = ("run", "confirmed", "stretch", "peak", "reaction", "bound", "settled")
     yield from table("table: how long it took", (*names, "shows that R is kept"),
-                     [[*(row[name] for name in names), evidence(row)] for row in played.rows], "data")
+                     [[*(units.cell(name, row[name]) for name in names), evidence(row)] for row in played.rows], "data")
     yield paragraph("Whether a row shows that R is kept is told of a drive of one power cycle; of one with resets see its "
                     "picture.")
     yield from columns("The rows of `table`", played.rows)
@@ -137,7 +145,7 @@ def columns(heading, rows):
 def margins(played):
     weights = [(Html("<em>limit of the calibration</em>"), "", "", *(played.weights[watch] for watch in WATCHES), "")]
     yield from table("margins: the greatest weights, and the surplus", ("run", "class", "onset", *WATCHES, "surplus"),
-                     weights + [tuple(row.values()) for row in played.margins], "data")
+                     weights + [tuple(itertools.starmap(played.units.cell, row.items())) for row in played.margins], "data")
     yield paragraph(Html("After a trip no more answers are sent, and each verdict without one is wrong: <code>answers</code> "
                          "then says nothing, also where it is at its limit."))
     yield from columns("The rows of `margins`", played.margins)
@@ -154,7 +162,7 @@ def sweeps(played):
                          "found by the start-up test after the next reset, and a sweep has none; which other faults may stay "
                          "hidden tells docs/SAFETY.md, &quot;Terms beside those of ISO 26262&quot;."))
     for place, sweep in enumerate(played.sweeps):
-        yield from sweep_part(place, sweep, int(played.limits["reaction"]))
+        yield from sweep_part(place, sweep, int(played.limits["reaction"]), played.units)
     if played.not_asked:
         yield paragraph(f"Not swept, for they are sound drives: {named(played.not_asked)} (--sweep-sound sweeps them too).")
     if played.left:
@@ -162,12 +170,12 @@ def sweeps(played):
                         "warning")
 
 
-def sweep_part(place, sweep, bound):
+def sweep_part(place, sweep, bound, units):
     title = f"{sweep.runs[0]}, every {sweep.step} ticks" if sweep.step > 1 else f"{sweep.runs[0]}, every tick"
     listed = {kind: reaction for kind, reaction in sweep.reactions.items() if kind != "lapse" and reaction is not None}
     most = max(listed.values(), default=None)
-    about = (f"The greatest reaction but under lapses is {most} ticks, of "
-             f"{', '.join(kind for kind in listed if listed[kind] == most)}. R is {bound}.")
+    about = (f"The greatest reaction but under lapses is {units.ticks(most or 0, 'ticks')}, of "
+             f"{', '.join(kind for kind in listed if listed[kind] == most)}. R is {units.ticks(bound)}.")
     yield f'<div class="swept">\n<h3>{shown(title)}</h3>'
     if len(sweep.runs) > 1:
         yield paragraph(f"The same of {named(sweep.runs[1:])}.")
@@ -175,11 +183,11 @@ def sweep_part(place, sweep, bound):
         yield paragraph("No run has a reaction, so there is no picture.")
     else:
         yield "<figure>"
-        yield from sweep_picture(f"sweep{place}", f"Greatest reactions of a sweep: {title}", about, sweep.reactions, bound)
+        yield from sweep_picture(f"sweep{place}", f"Greatest reactions of a sweep: {title}", about, sweep.reactions, bound, units)
         yield "</figure>"
     heads = ("class", *next(iter(sweep.counts.values())), "reaction")
     yield from table("sweep: runs by what finds first, and the greatest reaction", heads,
-                     [(kind, *counts.values(), "none" if sweep.reactions[kind] is None else sweep.reactions[kind])
+                     [(kind, *counts.values(), "none" if sweep.reactions[kind] is None else units.ticks(sweep.reactions[kind]))
                       for kind, counts in sweep.counts.items()], "data")
     yield "</div>"
 
@@ -197,26 +205,26 @@ def pictures(played):
                              + (f", slices {code(run['slices'])}" if "slices" in run else "")
                              + (f"; {shown(fault_said(row))}." if row["class"] != "none" else ".")))
         yield '<div class="parts">'
-        yield from run_figure(f"run{place}", f"Run {name}", record, played.threshold, marks)
+        yield from run_figure(f"run{place}", f"Run {name}", record, played.threshold, marks, played.units)
         yield "<div>"
-        yield from event_table(record, played.threshold, events(record, played.threshold, given))
+        yield from event_table(record, played.threshold, events(record, played.threshold, given), played.units)
         yield "</div>\n</div>"
         around = windows(record, played.threshold, {*cuts_of(record, resets), *confirmed})
-        yield from cut_figures(f"run{place}", name, record, played.threshold, marks, around)
+        yield from cut_figures(f"run{place}", name, record, played.threshold, marks, around, played.units)
         yield "</div>"
 
 
-def run_figure(place, title, record, threshold, marks):
+def run_figure(place, title, record, threshold, marks, units=Units()):
     drawn = most_marks(marks)
     yield "<figure>"
     yield from record_picture(place, f"{title}: torque, permitted torque and threshold, excess, stages",
-                              about_run(record, threshold), record, threshold, drawn)
+                              about_run(record, threshold), record, threshold, drawn, units)
     if len(drawn) < len(marks):
         yield f"<figcaption>{len(marks) - len(drawn)} more marks aren't drawn.</figcaption>"
     yield "</figure>"
 
 
-def cut_figures(place, name, record, threshold, marks, around):
+def cut_figures(place, name, record, threshold, marks, around, units=Units()):
     """The ticks around each cut, and around each confirmed excess, where the picture of the whole run is much coarser."""
     shown_near = [(first, last) for first, last in around if 2 * (last + 1 - first) <= len(record["on"])]
     if not shown_near:
@@ -225,7 +233,7 @@ def cut_figures(place, name, record, threshold, marks, around):
     for number, (first, last) in enumerate(shown_near[:MOST_CUTS]):
         near = [(tick, words) for tick, words in marks if first <= tick <= last]
         yield from run_figure(f"{place}-cut{number}", f"Run {name}, ticks {first} to {last}",
-                              part_of(name, record, first, last), threshold, near)
+                              part_of(name, record, first, last), threshold, near, units)
     yield "</div>"
     if len(shown_near) > MOST_CUTS:
         yield paragraph(Html(f"{len(shown_near) - MOST_CUTS} more such stretches of ticks aren't drawn; the next begins at "
@@ -250,7 +258,7 @@ def most_marks(marks):
     return marks[:max(confirmed, MOST_MARKS)]
 
 
-def event_table(record, threshold, told):
+def event_table(record, threshold, told, units=Units()):
     """What happens in a run. Of many ticks those at which an excess only begins or ends are left out, and then the last."""
     said = {}
     for tick, words in told:
@@ -258,7 +266,8 @@ def event_table(record, threshold, told):
     ticks = list(said)
     if len(ticks) > MOST_EVENTS:
         ticks = [tick for tick in ticks if set(said[tick]) - {EXCESS, NO_EXCESS}] or ticks
-    rows = [(tick, "; ".join(said[tick]), record["torque"][tick], record["limit"][tick] + threshold,
+    rows = [(units.ticks(tick), "; ".join(said[tick]), units.torque(record["torque"][tick]),
+             units.torque(record["limit"][tick] + threshold),
              "on" if record["on"][tick] else "off") for tick in ticks[:MOST_EVENTS]]
     if not rows:
         yield paragraph("Nothing happens.")

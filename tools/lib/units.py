@@ -7,7 +7,7 @@ from fractions import Fraction
 from lib.toml import toml_of
 from lib.tool import fail
 
-BESIDE = "units.toml"  # beside a calibration: how long its ticks are, `tick = "10ms"`
+NAME = "units.toml"  # beside a calibration: how long its ticks are, `tick = "10ms"`
 TIME = re.compile(r"(\d{1,9}(?:\.\d{1,9})?) ?(us|ms|s)")
 NANOSECONDS = {"ns": 1, "us": 10**3, "ms": 10**6, "s": 10**9}
 MOST_TICK = 10 * NANOSECONDS["s"]
@@ -57,24 +57,36 @@ class Units:
     def __bool__(self):
         return self.tick is not None
 
-    def beside(self, number, told):
-        """A number with what it is in units behind it."""
-        return f"{number} ({told(int(number))})" if self else str(number)
+    def beside(self, number, told, unit):
+        """A number, its own unit if that is said, and what it is in the other one."""
+        return f"{number}{unit and f' {unit}'} ({told(int(number))})" if self else f"{number}{unit and f' {unit}'}"
 
     def time(self, ticks):
         return time_told(ticks * self.tick)
 
-    def ticks(self, number):
-        """12 as `12 (120 ms)`."""
-        return self.beside(number, self.time)
+    def ticks(self, number, unit=""):
+        """12 as `12 (120 ms)`, or with the unit `ticks` as `12 ticks (120 ms)`."""
+        return self.beside(number, self.time, unit)
 
-    def torque(self, tenths):
+    def torque(self, tenths, unit=""):
         """705 as `705 (70.5 Nm)`."""
-        return self.beside(tenths, lambda number: f"{decimal(Fraction(number, 10))} Nm")
+        return self.beside(tenths, lambda number: f"{decimal(Fraction(number, 10))} Nm", unit)
 
-    def share(self, per_mille):
+    def share(self, per_mille, unit=""):
         """305 as `305 (30.5 %)`."""
-        return self.beside(per_mille, lambda number: f"{decimal(Fraction(number, 10))} %")
+        return self.beside(per_mille, lambda number: f"{decimal(Fraction(number, 10))} %", unit)
+
+    def newton_metres(self, tenths):
+        """What stands at a torque of an axis: tenths of Nm, or Nm where units are told."""
+        return decimal(Fraction(tenths, 10)) if self else tenths
+
+    def of_torque(self):
+        return "Nm" if self else "tenths of Nm"
+
+    def times(self, ticks, last):
+        """What stands below ticks of an axis that ends at `last`: the unit, and a number for each tick."""
+        unit = "s" if last * self.tick >= LONG else "ms"
+        return unit, [decimal(Fraction(tick * self.tick, NANOSECONDS[unit])) for tick in ticks]
 
     def cell(self, name, said):
         """What stands in a column of `table` or `margins`, or a line of `limits`, as numbers of that name are told."""
@@ -83,10 +95,16 @@ class Units:
         return self.ticks(said) if name in OF_TICKS else self.torque(said) if name in OF_TORQUE else said
 
 
+def beside(calibration):
+    """The units.toml beside a calibration, if it is there."""
+    path = os.path.join(os.path.dirname(calibration), NAME)
+    return path if os.path.lexists(path) else None
+
+
 def units_beside(calibration):
     """The units that units.toml beside a calibration says, if it is there."""
-    path = os.path.join(os.path.dirname(calibration), BESIDE)
-    if not os.path.lexists(path):
+    path = beside(calibration)
+    if path is None:
         return Units()
     held = toml_of(path)
     if set(held) != {"tick"}:

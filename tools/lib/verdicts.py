@@ -3,6 +3,7 @@
 from html import escape
 
 from lib.runs import lacking
+from lib.units import Units
 
 FAILS, OPEN, FITS = "Doesn't fit", "Not judged", "Fits"  # the worst first
 MOST_NAMES = 10  # that a line names
@@ -33,8 +34,8 @@ def sentence(states):
 def points(played, asked):
     """(state, words) of each point, the worst first."""
     judged = [*beyond_point(played),
-              time_point("Under at most one listed fault", int(played.limits["stretch"]), asked),
-              time_point("Under lapses, which aren't listed,", lapse_stretch(played), asked),
+              time_point("Under at most one listed fault", int(played.limits["stretch"]), asked, played.units),
+              time_point("Under lapses, which aren't listed,", lapse_stretch(played), asked, played.units),
               cut_point(played), room_point(played, asked), misses_point(played), peak_point(played),
               questions_point(played), evidence_point(played)]
     return sorted(judged, key=lambda point: [FAILS, OPEN, FITS].index(point[0]))
@@ -65,22 +66,22 @@ def lapse_stretch(played):
     return None if limits["lapse"] == "none" else int(limits["lapse"]) - 1
 
 
-def time_point(under, ticks, asked):
+def time_point(under, ticks, asked, units=Units()):
     """Whether an excess ends in time (docs/CALIBRATING.md, "Step by step")."""
     if ticks is None:
         return FAILS, f"{under} no bound is known for how long an excess lasts."
-    lasts = f"{under} an excess lasts {ticks} ticks in a row at the most"
+    lasts = f"{under} an excess lasts {units.ticks(ticks, 'ticks')} in a row at the most"
     if asked.tolerant is None:
         return OPEN, f"{lasts}; how many are tolerated wasn't said (--tolerant TICKS)."
     left = max(0, asked.tolerant - 1 - (asked.falls or 0))
-    less = f"{asked.tolerant} less 1, since it may begin between two ticks"
+    less = f"{units.ticks(asked.tolerant)} less 1, since it may begin between two ticks"
     if asked.falls is not None:
-        less += f", and less {asked.falls} for the torque to fall after the cut"
+        less += f", and less {units.ticks(asked.falls)} for the torque to fall after the cut"
     if ticks > left:
-        return FAILS, f"{lasts}, and only {left} are tolerated: {less}."
+        return FAILS, f"{lasts}, and only {units.ticks(left)} are tolerated: {less}."
     if asked.falls is None:
-        return OPEN, f"{lasts}, and at most {left} are tolerated: {less}. How long the torque takes to fall wasn't said (--falls TICKS)."
-    return FITS, f"{lasts}, and {left} are tolerated: {less}."
+        return OPEN, f"{lasts}, and at most {units.ticks(left)} are tolerated: {less}. How long the torque takes to fall wasn't said (--falls TICKS)."
+    return FITS, f"{lasts}, and {units.ticks(left)} are tolerated: {less}."
 
 
 def cut_point(played):
@@ -88,7 +89,7 @@ def cut_point(played):
     if not played.sound:
         return OPEN, "No run is declared sound (--sound NAME), so whether sound drives are cut isn't said."
     rows = [row for row in played.rows if row["run"] in played.sound]
-    cut = [f"{row['run']} {found}" for row in rows if (found := cut_by(row))]
+    cut = [f"{row['run']} {found}" for row in rows if (found := cut_by(row, played.units))]
     if cut:
         return FAILS, f"Sound drives are cut, {len(cut)} of {len(rows)}: {named(cut)}."
     idle = [f"{row['run']}, {why}" for row in rows if (why := idle_by(row))]
@@ -97,13 +98,13 @@ def cut_point(played):
     return FITS, f"None of the sound drives is cut ({named(row['run'] for row in rows)})."
 
 
-def cut_by(row):
+def cut_by(row, units=Units()):
     """What cuts a run of `table`, or limits its pedal; None if nothing does."""
     if row["cut"]:
-        return f"by {row['cut']} at {row['cut_at']}"
+        return f"by {row['cut']} at {units.ticks(row['cut_at'])}"
     if row["off_at"]:
-        return f"off at {row['off_at']}"
-    return f"limited by {row['first']} at {row['first_at']}" if row["first"] else None
+        return f"off at {units.ticks(row['off_at'])}"
+    return f"limited by {row['first']} at {units.ticks(row['first_at'])}" if row["first"] else None
 
 
 def idle_by(row):
@@ -131,7 +132,7 @@ def misses_point(played):
     """Whether a wrong answer, or a missed tick, is tolerated (docs/CALIBRATING.md, "Missed ticks")."""
     wrong, spacing = int(played.limits["verdicts"]), played.limits["spacing"]
     if spacing != "none":
-        return FITS, (f"A wrong answer is tolerated, {wrong} in a row cut (N); missed ticks that lie {spacing} or more apart cause "
+        return FITS, (f"A wrong answer is tolerated, {wrong} in a row cut (N); missed ticks that lie {played.units.ticks(spacing)} or more apart cause "
                       "no such cut (spacing).")
     if wrong > 2:
         return FAILS, "Missed ticks add up to a cut, however far apart they lie (spacing none): no right answer takes one back."
@@ -143,7 +144,7 @@ def peak_point(played):
     peak = played.limits["peak"]
     if peak == "0":
         return FAILS, "No torque of the bench's engines is an excess (peak 0), so no run shows anything of a reaction."
-    return FITS, f"A torque of the bench's engines can be an excess, by {peak} tenths of Nm at the most (peak)."
+    return FITS, f"A torque of the bench's engines can be an excess, by {played.units.torque(peak, 'tenths of Nm')} at the most (peak)."
 
 
 def questions_point(played):

@@ -6,6 +6,7 @@ import re
 import xml.etree.ElementTree
 
 SVG = "{http://www.w3.org/2000/svg}"
+NUMBER = re.compile(r"\d+(\.\d+)?")
 # Points: how exact a place is; how far beside its place a value may be drawn; and from how wide on a gap is seen.
 NEAR, SIDE, GAP = 0.3, 0.7, 1.2
 
@@ -52,7 +53,7 @@ class Drawing:
     def labels(self, word):
         """The numbers of the axis on which this word stands, a row above it: (x, number)."""
         [below] = [y for _, y, text in self.texts if text == word]
-        return [(x, int(text)) for x, y, text in self.texts if text.isdigit() and 0 < below - y < 20]
+        return [(x, float(text)) for x, y, text in self.texts if NUMBER.fullmatch(text) and 0 < below - y < 20]
 
     def upright(self):
         return [points[0][0] for points, _ in self.lines if len(points) == 2 and points[0][0] == points[1][0]]
@@ -66,8 +67,8 @@ class Drawing:
 
     def scale_of_values(self):
         """The axis that goes up: the numbers at the left, each beside a level line."""
-        marks = [(min(self.level(), key=lambda place: abs(place - y + 4)), int(text))
-                 for x, y, text in self.texts if text.isdigit() and x < 48]
+        marks = [(min(self.level(), key=lambda place: abs(place - y + 4)), float(text))
+                 for x, y, text in self.texts if NUMBER.fullmatch(text) and x < 48]
         return Scale(marks)
 
     def sample(self, word):

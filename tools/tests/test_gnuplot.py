@@ -7,7 +7,8 @@ from unittest import mock
 
 from notes import note_of
 
-from lib.gnuplot import block, curves, draw, looks_of, named_places, quoted, terminal, torque_scale
+from lib.gnuplot import block, curves, draw, looks_of, named_places, quoted, terminal, tick_axis, torque_scale
+from lib.units import Units
 
 
 class Words(unittest.TestCase):
@@ -39,6 +40,17 @@ class Words(unittest.TestCase):
         told = "".join(torque_scale(1100, ("on", "off", "it's")))
         self.assertIn("set yrange [0:1800.0]", told)
         self.assertIn('("on" 1.0, "off" 3.5, "it\\047s" 6.0)', told)
+
+    def test_axes_tell_units_where_they_are_asked_for(self):
+        units = Units(10**7)
+        self.assertEqual(tick_axis("x", "tick", 588, 600, Units()), "set xlabel 'tick'\n")
+        self.assertEqual(tick_axis("x", "tick", 588, 600, units), "set xlabel 'tick (ms)'\nset xtics nomirror "
+                         '("590 (5900)" 590, "595 (5950)" 595, "600 (6000)" 600)\n')
+        self.assertEqual(tick_axis("y", "ticks", 0, 2000, units, 2), "set ylabel 'ticks (s)'\nset ytics nomirror "
+                         '("0 (0)" 0, "1000 (10)" 1000, "2000 (20)" 2000)\n')
+        told = "".join(torque_scale(600, ("on", "off", "x"), units))
+        self.assertIn('("0" 0, "10" 100, "20" 200, "30" 300, "40" 400, "50" 500, "60" 600)', told)
+        self.assertIn("set ylabel 'torque, Nm'", told)
 
     def test_kind_of_picture_is_that_of_its_name(self):
         self.assertIn("set terminal pngcairo size 640,400 font 'Sans,11.0'", terminal("a.png", 400))

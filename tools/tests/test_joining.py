@@ -8,6 +8,7 @@ from unittest import mock
 
 from lib import joining
 from lib.files import read, sum_of
+from lib.units import Units
 from lib.joining import Summary, bounds_of, fault_of_table, join, print_summary, refuse_changes, rows_of, write_joined
 from in_folder import InFolder
 from notes import note_of
@@ -135,3 +136,6 @@ class Joining(InFolder):
         out, err, _ = said_by(print_summary, {"halt": halt, "lapse": lapse}, (34, 38))
         self.assertEqual(out.splitlines()[2].split(), ["lapse", "1", "0", "0", "0", "0", "35", "30"])
         self.assertEqual(err, "halt: a reaction or stretch is greater than its bound, against what is proved\n")
+        out, _, _ = said_by(print_summary, {"halt": halt, "lapse": lapse}, (34, 38), Units(10**7))
+        self.assertRegex(out.splitlines()[1], r"^halt .* 35 \(350 ms\) +34 \(340 ms\) +39 \(390 ms\) +38 \(380 ms\)$")
+        self.assertRegex(out.splitlines()[2], r"^lapse .* 35 \(350 ms\) +30 \(300 ms\)$")

@@ -3,6 +3,7 @@
 import unittest
 import xml.etree.ElementTree
 
+from lib.units import Units
 from lib.pictures import LEFT, MOST_ROWS, RIGHT, WIDTH, Scale, curve, placed, record_picture, spans, sweep_picture
 
 RECORD = {"tick": [588, 589, 590], "torque": [0, 900, 900], "limit": [200] * 3, "path1": [1] * 3, "path2": [1] * 3,
@@ -55,6 +56,14 @@ class Pictures(unittest.TestCase):
         for word in ("588", "591", "torque", "permitted", "permitted and threshold", "excess", "stages on", "torque 590"):
             self.assertIn(word, texts)
         self.assertEqual(root.get("aria-describedby"), "r-about")
+
+    def test_units_stand_at_the_axes(self):
+        _, texts = texts_of(record_picture("r", "A run", "words", RECORD, 200, [], Units(10**7)))
+        for word in ("588", "5880", "tick, and in ms", "torque, Nm", "80"):
+            self.assertIn(word, texts)
+        _, texts = texts_of(sweep_picture("s", "A sweep", "words", {"halt": 29, "bus": None}, 34, Units(10**7)))
+        for word in ("29 (290 ms)", "none", "R 34 (340 ms)", "200", "greatest reaction, ticks, and in ms"):
+            self.assertIn(word, texts)
 
     def test_sweep_tells_each_reaction(self):
         _, texts = texts_of(sweep_picture("s", "A sweep", "words", {"halt": 29, "bus": None, "lapse": 0}, 34))

@@ -6,11 +6,12 @@ from types import SimpleNamespace
 
 from lib.documents import section_of
 from lib.playing import document
+from lib.units import Units
 from lib.telling import about, claims, greatest, pair, summary, sweeps, swept_most, warnings
 
 
 def played_of(**parts):
-    return SimpleNamespace(**{"campaign": "c.toml", "calibration": None, "date": "2026-01-02 03:04 UTC", "version": ["egasim 9", "x"],
+    return SimpleNamespace(**{"units": Units(), "campaign": "c.toml", "calibration": None, "date": "2026-01-02 03:04 UTC", "version": ["egasim 9", "x"],
                               "rows": [], "sweeps": [], "not_asked": [], "left": 0, "limits": {"reaction": "34"}, **parts})
 
 
@@ -52,6 +53,9 @@ class Telling(unittest.TestCase):
         self.assertEqual([greatest(rows, "reaction"), greatest(rows[:1], "reaction"), greatest([], "reaction")], ["29 (c)", "none", "none"])
         kinds = [SimpleNamespace(reactions={"halt": 3, "lapse": 99, "bus": None}), SimpleNamespace(reactions={"halt": 5})]
         self.assertEqual([swept_most(kinds), swept_most([])], [5, "none"])
+        units = Units(10**7)
+        self.assertEqual((greatest(rows, "reaction", units), pair({"cut": "torque", "cut_at": "9"}, "cut", units)),
+                         ("29 (290 ms, c)", "torque at 9 (90 ms)"))
         self.assertEqual([pair({"cut": "torque", "cut_at": "9"}, "cut"), pair({"cut": ""}, "cut")], ["torque at 9", ""])
 
     def test_the_summary_counts_kinds_of_runs(self):

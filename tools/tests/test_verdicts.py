@@ -3,7 +3,8 @@
 import unittest
 from types import SimpleNamespace
 
-from lib.verdicts import (FAILS, FITS, OPEN, beyond_point, cut_point, evidence_point, lapse_stretch, misses_point, named,
+from lib.units import Units
+from lib.verdicts import (FAILS, FITS, OPEN, beyond_point, cut_by, cut_point, evidence_point, lapse_stretch, misses_point, named,
                           peak_point, points, questions_point, room_point, sentence, time_point, verdict)
 
 LIMITS = {"reaction": "34", "lapse": "50", "verdicts": "3", "excess": "5", "spacing": "80", "stretch": "38", "peak": "2300"}
@@ -27,8 +28,8 @@ def margin_of(name, **weights):
 
 def played_of(**parts):
     rows = [row_of("sound", "none"), shown_by("halt-0", "halt")]
-    return SimpleNamespace(**{"limits": LIMITS, "period": 10, "rows": rows, "sweeps": [], "sound": ["sound"], "weights": WEIGHTS,
-                              "margins": [margin_of("sound", torque="4"), margin_of("halt-0", torque="5")], "blind": [], "resets": lambda name: [], **parts})
+    return SimpleNamespace(**{"units": Units(), "limits": LIMITS, "period": 10, "rows": rows, "sweeps": [], "sound": ["sound"],
+                              "weights": WEIGHTS, "margins": [margin_of("sound", torque="4"), margin_of("halt-0", torque="5")], "blind": [], "resets": lambda name: [], **parts})
 
 
 def asked_of(tolerant=40, falls=1, room=20):
@@ -78,6 +79,15 @@ class Verdicts(unittest.TestCase):
         third = played_of(weights={**WEIGHTS, "torque": 3}, margins=[margin_of("sound", torque="2")])
         self.assertEqual([room_point(third, asked_of(room=room))[0] for room in (33, 34)], [FITS, FAILS])
         self.assertIn("sound comes nearest to a limit: torque weighs 2 of 3, which leaves 33 %", room_point(third, asked_of())[1])
+
+    def test_units_stand_beside_the_numbers(self):
+        units = Units(10**7)
+        self.assertEqual(time_point("Here", 38, asked_of(40, 1), units)[1],
+                         "Here an excess lasts 38 ticks (380 ms) in a row at the most, and 38 (380 ms) are tolerated: 40 (400 ms) "
+                         "less 1, since it may begin between two ticks, and less 1 (10 ms) for the torque to fall after the cut.")
+        self.assertIn("by 2300 tenths of Nm (230 Nm) at the most", peak_point(played_of(units=units))[1])
+        self.assertIn("80 (800 ms) or more apart", misses_point(played_of(units=units))[1])
+        self.assertEqual(cut_by({"cut": "torque", "cut_at": "9"}, units), "by torque at 9 (90 ms)")
 
     def test_missed_ticks(self):
         for wrong, spacing, state, words in (("3", "80", FITS, "80 or more apart"), ("1", "none", FAILS, "One wrong answer cuts"),
