@@ -1,5 +1,5 @@
 -- The line of a row is ASCII, and so it is text.
-use Rattle.std.proofs.Common.{◌≡◌, ◌++◌, ◌∷◌, [], ◌<◌, List, ℕ, zero, suc, Bool, true, false, ◌&&◌, refl, map, Option, Some, None, subst, arith}
+use Rattle.std.proofs.Common.{◌≡◌, ◌++◌, ◌+◌, ◌∷◌, [], ◌<◌, List, ℕ, zero, suc, Bool, true, false, ◌&&◌, refl, sym, map, length, drop, get_or, Option, Some, None, subst, arith}
 use Rattle.std.proofs.lemmas.Bool.Decides.{nat_tests}
 use Rattle.std.specs.Prelude.{codes, decimal, nat_lt}
 use Rattle.std.specs.List.{filter, join_with_byte}
@@ -15,8 +15,8 @@ use Rattle.eg_record.specs.declared.row.Row.{Row}
 use Rattle.eg_record.specs.declared.watch.Watch.{Watch}
 use Rattle.eg_record.specs.declared.watch.Watch.TheVariants.{Mirror, Pedal, Plate, Load, Speed, Torque, Answers, Start}
 use Rattle.eg_record.specs.Detection.{watches, is_found}
-use Rattle.eg_record.specs.Ascii.{AreAscii}
-use Rattle.eg_record.specs.Texts.{comma, plus, bit, watch_name, names, found_text, answer_text, verdict_text, drive_columns, engine_columns, path_columns, signal_columns, command_columns, value_columns, event_columns, columns, row_line}
+use Rattle.eg_record.specs.Texts.{plus, watch_name, names, found_text, answer_text, verdict_text, numbers_text, row_numbers, events_text, row_columns, row_line}
+use Rattle.eg_record.proofs.ColumnsLemmas.{numbers-step}
 
 -- ---- bytes and pieces ----
 
@@ -42,26 +42,15 @@ small (b ∷ bs) are = more b bs (first (nat_lt b 128) (are_small bs) are) (smal
     first : (x y : Bool) → (x && y) ≡ true → b < 128
     first x y e = grind (arith, nat_tests)
 
-both : (xs ys : List (List ℕ)) → AreAscii xs → AreAscii ys → AreAscii (xs ++ ys)
-both [] ys each rest = rest
-both (x ∷ xs) ys (first, each) rest = (first, both xs ys each rest)
-
--- texts that are joined by a byte
-joined : (c : ℕ) (xs : List (List ℕ)) → c < 128 → AreAscii xs → IsAscii (join_with_byte c xs)
-joined c [] low each = IsAscii-nil
-joined c (x ∷ []) low (first, each) = first
-joined c (x ∷ y ∷ ys) low (first, each) = IsAscii-append x (c ∷ join_with_byte c (y ∷ ys)) first (more c (join_with_byte c (y ∷ ys)) low (joined c (y ∷ ys) low each))
+-- the number at a place, a comma and those behind it
+pub number-more : (numbers : List ℕ) (i j d : ℕ) → j ≡ i + 1 → i < length numbers → IsAscii (decimal (get_or numbers i d)) → IsAscii (numbers_text (drop j numbers))
+    → IsAscii (numbers_text (drop i numbers))
+unfolding are_small
+number-more numbers i j d next below first rest =
+    subst IsAscii (sym (numbers-step numbers i j d next below))
+    (IsAscii-append (decimal (get_or numbers i d) ++ codes ",") (numbers_text (drop j numbers)) (IsAscii-append (decimal (get_or numbers i d)) (codes ",") first (small (codes ",") refl)) rest)
 
 -- ---- the columns ----
-
--- a number by another name
-pub number : (n m : ℕ) → IsAscii (decimal n) → n ≡ m → IsAscii (decimal m)
-number n m ascii same = subst (λ k. IsAscii (decimal k)) same ascii
-
-pub truth : (b : Bool) → IsAscii (bit b)
-unfolding bit are_small
-truth true = small (codes "1") refl
-truth false = small (codes "0") refl
 
 name : (watch : Watch) → IsAscii (watch_name watch)
 unfolding watch_name are_small
@@ -74,14 +63,16 @@ name Torque = small (codes "torque") refl
 name Answers = small (codes "answers") refl
 name Start = small (codes "start") refl
 
-each_name : (ws : List Watch) → AreAscii (map watch_name ws)
-each_name [] = tt
-each_name (w ∷ ws) = (name w, each_name ws)
+joined_names : (w : Watch) (ws : List Watch) → IsAscii (join_with_byte plus (map watch_name (w ∷ ws)))
+joined_names w [] = name w
+joined_names w (v ∷ ws) =
+    let others = join_with_byte plus (map watch_name (v ∷ ws)) in
+    IsAscii-append (watch_name w) (plus ∷ others) (name w) (more plus others (omega arith) (joined_names v ws))
 
 all_names : (ws : List Watch) → IsAscii (names ws)
 unfolding names are_small
 all_names [] = small (codes "-") refl
-all_names (w ∷ ws) = joined plus (map watch_name (w ∷ ws)) (omega arith) (each_name (w ∷ ws))
+all_names (w ∷ ws) = joined_names w ws
 
 found_names : (found : Watches) → IsAscii (found_text found)
 unfolding found_text
@@ -101,21 +92,16 @@ verdict (Some Wrong) = small (codes "wrong") refl
 
 -- ---- the line ----
 
-pub values : (row : Row) → AreAscii (drive_columns row) → AreAscii (engine_columns row) → AreAscii (path_columns row) → AreAscii (signal_columns row) →
-    AreAscii (command_columns row) → AreAscii (value_columns row)
-unfolding value_columns drive_columns engine_columns path_columns signal_columns command_columns
-values row drive engine paths signals commands =
-    both (drive_columns row) (engine_columns row ++ (path_columns row ++ (signal_columns row ++ command_columns row))) drive
-    (both (engine_columns row) (path_columns row ++ (signal_columns row ++ command_columns row)) engine
-    (both (path_columns row) (signal_columns row ++ command_columns row) paths (both (signal_columns row) (command_columns row) signals commands)))
+events : (row : Row) → IsAscii (events_text row)
+unfolding events_text are_small
+events row =
+    let comma = small (codes ",") refl in
+    let found = IsAscii-append (found_text row.found) (codes ",") (found_names row.found) comma in
+    let heard = IsAscii-append (found_text row.found ++ codes ",") (answer_text row.answer) found (answer row.answer) in
+    IsAscii-append ((found_text row.found ++ codes ",") ++ answer_text row.answer ++ codes ",") (verdict_text row.verdict)
+    (IsAscii-append ((found_text row.found ++ codes ",") ++ answer_text row.answer) (codes ",") heard comma) (verdict row.verdict)
 
-events : (row : Row) → AreAscii (event_columns row)
-unfolding event_columns
-events row = (found_names row.found, (answer row.answer, (verdict row.verdict, tt)))
-
-pub line_is_text : (row : Row) → AreAscii (value_columns row) → IsUtf8 (row_line row)
-unfolding row_line columns are_small
+pub line_is_text : (row : Row) → IsAscii (numbers_text (row_numbers row)) → IsUtf8 (row_line row)
+unfolding row_line row_columns are_small
 line_is_text row numbers = IsUtf8-from_ascii _
-    (IsAscii-append (join_with_byte comma (value_columns row ++ event_columns row)) (codes "\n")
-    (joined comma (value_columns row ++ event_columns row) (omega arith) (both (value_columns row) (event_columns row) numbers (events row)))
-    (small (codes "\n") refl))
+    (IsAscii-append (row_columns row) (codes "\n") (IsAscii-append (numbers_text (row_numbers row)) (events_text row) numbers (events row)) (small (codes "\n") refl))

@@ -1,34 +1,24 @@
--- Columns that are appended in groups, with a comma between.
-use Rattle.std.proofs.Common.{◌≡◌, ◌∙◌, ◌++◌, ◌∷◌, [], List, ℕ, Bool, true, false, refl, sym, ap, append_assoc, take, drop, length, ◌-◌, arith}
-use Rattle.std.specs.List.{join_with_byte}
-use Rattle.std.proofs.lemmas.List.{length-drop, take_all}
+-- Columns that are put from the last to the first.
+use Rattle.std.proofs.Common.{◌≡◌, ◌∙◌, ◌++◌, ◌+◌, ◌<◌, List, ℕ, refl, sym, ap, append_assoc, take, drop, length, get_or, ◌-◌, arith}
+use Rattle.std.specs.Prelude.{codes, decimal}
+use Rattle.std.proofs.lemmas.List.{length-drop, take_all, drop_more}
+use Rattle.eg_record.specs.Texts.{numbers_text}
 
--- whether a list is empty
-unfoldable pub is_nil : {X : Type 0} → List X → Bool
-is_nil [] = true
-is_nil (x ∷ xs) = false
+-- the number at a place, and those behind it
+pub numbers-step : (numbers : List ℕ) (i j d : ℕ) → j ≡ i + 1 → i < length numbers
+    → numbers_text (drop i numbers) ≡ (decimal (get_or numbers i d) ++ codes ",") ++ numbers_text (drop j numbers)
+unfolding numbers_text
+numbers-step numbers i j d next below = rw (drop_more numbers i d below, next) refl
 
--- two lists of columns, neither of them empty
-join_with_byte-append : (c : ℕ) (xs ys : List (List ℕ)) → is_nil xs ≡ false → is_nil ys ≡ false → join_with_byte c (xs ++ ys) ≡ join_with_byte c xs ++ (c ∷ join_with_byte c ys)
-unfolding is_nil
-join_with_byte-append c [] ys some more = absurd cc
-join_with_byte-append c (x ∷ xs) [] some more = absurd cc
-join_with_byte-append c (x ∷ []) (y ∷ ys) some more = refl
-join_with_byte-append c (x ∷ u ∷ xs) (y ∷ ys) some more =
-    ap (λ (rest : List ℕ). x ++ (c ∷ rest)) (join_with_byte-append c (u ∷ xs) (y ∷ ys) refl refl)
-    ∙ sym (append_assoc x (c ∷ join_with_byte c (u ∷ xs)) (c ∷ join_with_byte c (y ∷ ys)))
-
--- some columns and a comma come before more of them, behind which `end` stands
-pub columns-before : (c : ℕ) (end rest new tail : List ℕ) (xs ys : List (List ℕ)) → is_nil xs ≡ false → is_nil ys ≡ false →
-    rest ≡ (join_with_byte c ys ++ end) ++ tail → new ≡ (join_with_byte c xs ++ (c ∷ [])) ++ rest → new ≡ (join_with_byte c (xs ++ ys) ++ end) ++ tail
-columns-before c end rest new tail xs ys some more was now =
-    let first = join_with_byte c xs in
-    let then = join_with_byte c ys in
+-- a line that is put from the last number to the first goes on by one
+pub numbers-more : (numbers : List ℕ) (i j d : ℕ) (tail line new : List ℕ) → j ≡ i + 1 → i < length numbers → line ≡ numbers_text (drop j numbers) ++ tail
+    → new ≡ (decimal (get_or numbers i d) ++ codes ",") ++ line → new ≡ numbers_text (drop i numbers) ++ tail
+numbers-more numbers i j d tail line new next below before now =
+    let first = decimal (get_or numbers i d) ++ codes "," in
     now
-    ∙ ap (λ (t : List ℕ). (first ++ (c ∷ [])) ++ t) was
-    ∙ sym (append_assoc (first ++ (c ∷ [])) (then ++ end) tail)
-    ∙ ap (λ (t : List ℕ). t ++ tail) (append_assoc first (c ∷ []) (then ++ end) ∙ sym (append_assoc first (c ∷ then) end))
-    ∙ ap (λ (t : List ℕ). (t ++ end) ++ tail) (sym (join_with_byte-append c xs ys some more))
+    ∙ ap (λ (t : List ℕ). first ++ t) before
+    ∙ sym (append_assoc first (numbers_text (drop j numbers)) tail)
+    ∙ ap (λ (t : List ℕ). t ++ tail) (sym (numbers-step numbers i j d next below))
 
 -- the bytes from a place on, all of them
 pub rest-whole : (n start : ℕ) (line : List ℕ) → length line ≡ n → take (n - start) (drop start line) ≡ drop start line

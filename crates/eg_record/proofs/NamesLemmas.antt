@@ -8,7 +8,11 @@ use Rattle.eg_record.specs.declared.watch.Watch.{Watch}
 use Rattle.eg_record.specs.declared.watch.Watch.TheVariants.{Mirror, Pedal, Plate, Load, Speed, Torque, Answers, Start}
 use Rattle.eg_record.specs.Detection.{watches, is_found}
 use Rattle.eg_record.specs.Texts.{plus, watch_name, names, found_text}
-use Rattle.eg_record.proofs.ColumnsLemmas.{is_nil}
+
+-- whether a list is empty
+unfoldable pub is_nil : {X : Type 0} → List X → Bool
+is_nil [] = true
+is_nil (x ∷ xs) = false
 
 -- those of the watches from place i on that are found
 unfoldable pub found_from : Watches → ℕ → List Watch

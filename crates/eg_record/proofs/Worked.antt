@@ -23,7 +23,7 @@ use Rattle.eg_record.specs.Detection.{is_found, is_watch, rank, first_watch, det
 use Rattle.eg_record.specs.Stages.{is_off, off_at, first_off, last_on}
 use Rattle.eg_record.specs.Facts.{facts_of, off_from, reaction_in}
 use Rattle.eg_record.specs.Summaries.{summary_of}
-use Rattle.eg_record.specs.Texts.{comma, bit, watch_name, names, found_text, answer_text, verdict_text, drive_columns, engine_columns, path_columns, signal_columns, command_columns, value_columns, event_columns, columns, row_line, record_header, at_text, first_text, trap_name, trap_text, summary_line, report_end}
+use Rattle.eg_record.specs.Texts.{bit, watch_name, names, found_text, answer_text, verdict_text, numbers_text, row_numbers, events_text, row_columns, row_line, record_header, at_text, first_text, trap_name, trap_text, summary_line, report_end}
 
 -- every definition that these need
 unfoldable recording : ℕ
@@ -31,7 +31,7 @@ unfolding weight windows is_reached is_confirmed is_excess first_given true_exce
     is_excess_confirmed first_confirmed in_last spans_of lasting longest_in stretch_of above peak_of greatest_of
     is_found is_watch rank first_watch detected_at first_detection cutting cutting_at first_cut is_off off_at
     first_off last_on facts_of off_from reaction_in summary_of bit watch_name names found_text answer_text
-    verdict_text drive_columns engine_columns path_columns signal_columns command_columns value_columns event_columns columns row_line
+    verdict_text numbers_text row_numbers events_text row_columns row_line
     record_header at_text first_text trap_name trap_text summary_line report_end digits
 recording = 0
 
@@ -117,7 +117,7 @@ unfolding recording
 start_first = refl
 
 -- the header has a name for each column
-header_columns : count_by (λ b. b == comma) record_header + 1 ≡ length (columns busy)
+header_columns : count_by (λ b. b == 44) record_header ≡ count_by (λ b. b == 44) (row_line busy)
 unfolding recording
 header_columns = refl
 

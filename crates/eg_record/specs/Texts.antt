@@ -15,16 +15,21 @@ use Rattle.eg_record.specs.declared.watch.Watch.{Watch}
 use Rattle.eg_record.specs.declared.watch.Watch.TheVariants.{Mirror, Pedal, Plate, Load, Speed, Torque, Answers, Start}
 use Rattle.eg_record.specs.Detection.{watches, is_found}
 
--- the bytes between columns, and between names
-abbrev pub comma : ℕ
-comma = 44
-
+-- the byte between names
 abbrev pub plus : ℕ
 plus = 43
 
--- a truth value
+-- a truth value, as a text and as a number
 unfoldable pub bit : Bool → List ℕ
 bit b = if b then codes "1" else codes "0"
+
+abbrev pub digit : Bool → ℕ
+digit b = if b then 1 else 0
+
+-- numbers, with a comma behind each
+unfoldable pub numbers_text : List ℕ → List ℕ
+numbers_text [] = []
+numbers_text (number ∷ numbers) = decimal number ++ codes "," ++ numbers_text numbers
 
 -- the name of a watch
 unfoldable pub watch_name : Watch → List ℕ
@@ -60,41 +65,28 @@ verdict_text None = codes "-"
 verdict_text (Some Right) = codes "right"
 verdict_text (Some Wrong) = codes "wrong"
 
--- the columns of a row, in groups: its tick with the drive row; the engine; the paths and the stages; the
--- signals of level 2; the commands of level 1; what is found, the answer and the verdict
-unfoldable pub drive_columns : Row → List (List ℕ)
-drive_columns row =
-    decimal row.tick ∷ decimal row.drive.pedal ∷ decimal row.drive.speed ∷ decimal row.drive.raise ∷ []
+-- the columns of a row that are numbers: its tick with the drive row; the engine; the paths and the stages;
+-- the signals of level 2; the commands of level 1
+unfoldable pub row_numbers : Row → List ℕ
+row_numbers row =
+    row.tick ∷ row.drive.pedal ∷ row.drive.speed ∷ row.drive.raise
+    ∷ row.plate ∷ row.charge ∷ row.torque ∷ row.limit
+    ∷ digit row.path1 ∷ digit row.path2 ∷ digit row.on
+    ∷ slice_index row.signals 0 ∷ slice_index row.signals 1 ∷ slice_index row.signals 2
+    ∷ slice_index row.signals 3 ∷ slice_index row.signals 4
+    ∷ row.throttle ∷ row.ignition ∷ []
 
-unfoldable pub engine_columns : Row → List (List ℕ)
-engine_columns row = decimal row.plate ∷ decimal row.charge ∷ decimal row.torque ∷ decimal row.limit ∷ []
+-- the other columns: what is found, the answer and the verdict
+unfoldable pub events_text : Row → List ℕ
+events_text row =
+    found_text row.found ++ codes "," ++ answer_text row.answer ++ codes "," ++ verdict_text row.verdict
 
-unfoldable pub path_columns : Row → List (List ℕ)
-path_columns row = bit row.path1 ∷ bit row.path2 ∷ bit row.on ∷ []
+-- all columns of a row, with commas between them, and its line
+unfoldable pub row_columns : Row → List ℕ
+row_columns row = numbers_text (row_numbers row) ++ events_text row
 
-unfoldable pub signal_columns : Row → List (List ℕ)
-signal_columns row =
-    decimal (slice_index row.signals 0) ∷ decimal (slice_index row.signals 1)
-    ∷ decimal (slice_index row.signals 2) ∷ decimal (slice_index row.signals 3)
-    ∷ decimal (slice_index row.signals 4) ∷ []
-
-unfoldable pub command_columns : Row → List (List ℕ)
-command_columns row = decimal row.throttle ∷ decimal row.ignition ∷ []
-
-unfoldable pub event_columns : Row → List (List ℕ)
-event_columns row = found_text row.found ∷ answer_text row.answer ∷ verdict_text row.verdict ∷ []
-
--- all but the last group are numbers and truth values
-unfoldable pub value_columns : Row → List (List ℕ)
-value_columns row =
-    drive_columns row ++ engine_columns row ++ path_columns row ++ signal_columns row ++ command_columns row
-
-unfoldable pub columns : Row → List (List ℕ)
-columns row = value_columns row ++ event_columns row
-
--- the line of a row: its columns, joined by commas
 unfoldable pub row_line : Row → List ℕ
-row_line row = join_with_byte comma (columns row) ++ codes "\n"
+row_line row = row_columns row ++ codes "\n"
 
 -- the line above the rows: the names of the columns
 unfoldable pub record_header : List ℕ

@@ -1,15 +1,12 @@
 // The line of a row.
-ghost use Rattle.std.specs.Prelude.{◌≡◌, ◌+◌, ◌≤◌, ◌<◌, ◌++◌, ◌∷◌, [], length, drop, codes, decimal, string_bytes, vec_len, vec_capacity, IfOk, OnOk, OnErr, IsOk, if◌then◌else◌};
-ghost use Rattle.std.specs.List.{join_with_byte};
+ghost use Rattle.std.specs.Prelude.{◌≡◌, ◌+◌, ◌≤◌, ◌<◌, ◌++◌, ◌∷◌, [], length, drop, codes, string_bytes, vec_len, vec_capacity, IfOk, OnOk, OnErr, IsOk, if◌then◌else◌};
 ghost use Rattle.std.specs.Str.{IsAscii, IsUtf8};
-ghost use Rattle.eg_record.specs.Ascii.{AreAscii};
-ghost use Rattle.eg_record.specs.Texts.{comma, plus, bit, watch_name, found_text, answer_text, verdict_text};
-ghost use Rattle.eg_record.specs.Texts.{drive_columns, engine_columns, path_columns, signal_columns};
-ghost use Rattle.eg_record.specs.Texts.{command_columns, value_columns, event_columns, row_line, record_header};
+ghost use Rattle.eg_record.specs.Texts.{plus, watch_name, found_text, answer_text, verdict_text};
+ghost use Rattle.eg_record.specs.Texts.{numbers_text, row_numbers, events_text, row_line, record_header};
 
+use crate::numbers::{NUMBER_ROOM, put_numbers};
 use crate::{AnswerMark, Row, Verdict, Watch, Watches};
 use eg_base::NoMemory;
-use itoa::write_digits;
 use std::alloc::Global;
 
 /// The line above the rows of a record, with its LF (docs/FORMATS.md, "The record").
@@ -21,9 +18,15 @@ pub fn record_header() -> &'static str
      used,permitted,actual,excess,pairs,throttle,ignition,found,answer,verdict\n"
 }
 
-/// How many bytes are room enough for the line of a row: 15 numbers of at most ten digits and three truth
-/// values, each with a comma behind it, the names of all watches, the answer and the verdict.
-pub const ROW_ROOM: usize = 256;
+/// How many columns of a row are numbers or truth values.
+const NUMBERS: usize = 18;
+
+/// How many bytes are room enough for the line of a row: its numbers, each with a comma behind it, the names
+/// of all watches, the answer and the verdict.
+pub const ROW_ROOM: usize = NUMBERS * NUMBER_ROOM + FOUND_ROOM + 14;
+
+/// How many bytes are room enough for the names of all watches.
+pub const FOUND_ROOM: usize = 64;
 
 /// Appends the line of a row, with its LF, to a text (docs/FORMATS.md, "The record"). NoMemory is its one
 /// refusal: the text has no room for the line, and memory for more ran out. Then the text stays as it was.
@@ -58,129 +61,39 @@ pub fn row_text(alloc: Global, row: &Row) -> Result<String, NoMemory>
 /// the first, since the digits of a number are found so.
 fn put_line(row: &Row, line: &mut [u8; ROW_ROOM]) -> usize
     ensures put { drop result line.new ≡ row_line row.now }
-    ensures ascii { AreAscii (value_columns row.now) }
+    ensures ascii { IsAscii (numbers_text (row_numbers row.now)) }
     ensures start { result ≤ ROW_ROOM }
 {
     let start = put_events(row, line, ROW_ROOM);
-    put_columns(row, line, start)
+    put_numbers(&numbers_of(row), line, start)
 }
 
-/// Puts the columns of a row up to level 1's commands, each with a comma behind it, before a place of a line,
-/// and tells where they start.
-fn put_columns(row: &Row, line: &mut [u8], end: usize) -> usize
-    requires room { 171 ≤ end }
-    requires within { end ≤ length line.old }
-    ensures put { drop result line.new
-        ≡ join_with_byte comma (value_columns row.now) ++ codes "," ++ drop end line.old }
-    ensures ascii { AreAscii (value_columns row.now) }
-{
-    let start = put_commands(row, line, end);
-    let start = put_signals(row, line, start);
-    let start = put_paths(row, line, start);
-    let start = put_engine(row, line, start);
-    put_drive(row, line, start)
-}
-
-/// Puts a number and a comma before a place of a line, and tells where it starts.
-pub fn put_number(number: u32, line: &mut [u8], end: usize) -> usize
-    requires room { 11 ≤ end }
-    requires within { end ≤ length line.old }
-    ensures put { drop result line.new ≡ decimal number ++ codes "," ++ drop end line.old }
-    ensures few { end ≤ result + 11 }
-    ensures start { result ≤ end }
-    ensures ascii { IsAscii (decimal number) }
-{
-    let comma = end - 1;
-    line[comma] = b',';
-    write_digits(u64::from(number), line, comma)
-}
-
-/// Puts a truth value and a comma before a place of a line, and tells where it starts.
-#[tactic(auto, unfolding(crate::specs::Texts::bit))]
-fn put_bit(value: bool, line: &mut [u8], end: usize) -> usize
-    requires room { 2 ≤ end }
-    requires within { end ≤ length line.old }
-    ensures put { drop result line.new ≡ bit value ++ codes "," ++ drop end line.old }
-    ensures few { end ≤ result + 2 }
-{
-    let start = end - 2;
-    line[start + 1] = b',';
-    line[start] = b'0' + u8::from(value);
-    start
-}
-
-/// Puts the columns of the tick and of its drive row.
-fn put_drive(row: &Row, line: &mut [u8], end: usize) -> usize
-    requires room { 44 ≤ end }
-    requires within { end ≤ length line.old }
-    ensures put { drop result line.new
-        ≡ join_with_byte comma (drive_columns row.now) ++ codes "," ++ drop end line.old }
-    ensures few { end ≤ result + 44 }
-    ensures ascii { AreAscii (drive_columns row.now) }
-{
-    let start = put_number(u32::from(row.drive.raise()), line, end);
-    let start = put_number(u32::from(row.drive.speed()), line, start);
-    let start = put_number(u32::from(row.drive.pedal()), line, start);
-    put_number(row.tick, line, start)
-}
-
-/// Puts the columns of the engine.
-fn put_engine(row: &Row, line: &mut [u8], end: usize) -> usize
-    requires room { 44 ≤ end }
-    requires within { end ≤ length line.old }
-    ensures put { drop result line.new
-        ≡ join_with_byte comma (engine_columns row.now) ++ codes "," ++ drop end line.old }
-    ensures few { end ≤ result + 44 }
-    ensures ascii { AreAscii (engine_columns row.now) }
-{
-    let start = put_number(u32::from(row.limit), line, end);
-    let start = put_number(u32::from(row.torque), line, start);
-    let start = put_number(u32::from(row.charge), line, start);
-    put_number(u32::from(row.plate), line, start)
-}
-
-/// Puts the columns of the paths.
-fn put_paths(row: &Row, line: &mut [u8], end: usize) -> usize
-    requires room { 6 ≤ end }
-    requires within { end ≤ length line.old }
-    ensures put { drop result line.new
-        ≡ join_with_byte comma (path_columns row.now) ++ codes "," ++ drop end line.old }
-    ensures few { end ≤ result + 6 }
-    ensures ascii { AreAscii (path_columns row.now) }
-{
-    let start = put_bit(row.on, line, end);
-    let start = put_bit(row.path2, line, start);
-    put_bit(row.path1, line, start)
-}
-
-/// Puts the columns of the five signals of level 2.
-fn put_signals(row: &Row, line: &mut [u8], end: usize) -> usize
-    requires room { 55 ≤ end }
-    requires within { end ≤ length line.old }
-    ensures put { drop result line.new
-        ≡ join_with_byte comma (signal_columns row.now) ++ codes "," ++ drop end line.old }
-    ensures few { end ≤ result + 55 }
-    ensures ascii { AreAscii (signal_columns row.now) }
+/// The columns of a row that are numbers, in their order. A truth value is 0 or 1.
+#[tactic(auto, unfolding(crate::specs::Texts::row_numbers))]
+fn numbers_of(row: &Row) -> [u32; NUMBERS]
+    ensures { result ≡ row_numbers row.now }
 {
     let [used, permitted, actual, excess, pairs] = row.signals;
-    let start = put_number(u32::from(pairs), line, end);
-    let start = put_number(u32::from(excess), line, start);
-    let start = put_number(u32::from(actual), line, start);
-    let start = put_number(u32::from(permitted), line, start);
-    put_number(u32::from(used), line, start)
-}
-
-/// Puts the columns of level 1's commands.
-fn put_commands(row: &Row, line: &mut [u8], end: usize) -> usize
-    requires room { 22 ≤ end }
-    requires within { end ≤ length line.old }
-    ensures put { drop result line.new
-        ≡ join_with_byte comma (command_columns row.now) ++ codes "," ++ drop end line.old }
-    ensures few { end ≤ result + 22 }
-    ensures ascii { AreAscii (command_columns row.now) }
-{
-    let start = put_number(u32::from(row.ignition), line, end);
-    put_number(u32::from(row.throttle), line, start)
+    [
+        row.tick,
+        u32::from(row.drive.pedal()),
+        u32::from(row.drive.speed()),
+        u32::from(row.drive.raise()),
+        u32::from(row.plate),
+        u32::from(row.charge),
+        u32::from(row.torque),
+        u32::from(row.limit),
+        u32::from(row.path1),
+        u32::from(row.path2),
+        u32::from(row.on),
+        u32::from(used),
+        u32::from(permitted),
+        u32::from(actual),
+        u32::from(excess),
+        u32::from(pairs),
+        u32::from(row.throttle),
+        u32::from(row.ignition),
+    ]
 }
 
 /// Puts bytes before a place of a line, and tells where they start.
@@ -196,25 +109,26 @@ fn put_bytes(bytes: &[u8], line: &mut [u8], end: usize) -> usize
 }
 
 /// Puts the columns of what is found and heard, and LF.
-#[tactic(auto, unfolding(crate::specs::Texts::event_columns))]
+#[tactic(auto, unfolding(crate::specs::Texts::events_text))]
 fn put_events(row: &Row, line: &mut [u8], end: usize) -> usize
     requires room { 78 ≤ end }
     requires within { end ≤ length line.old }
-    ensures put { drop result line.new
-        ≡ join_with_byte comma (event_columns row.now) ++ codes "\n" ++ drop end line.old }
+    ensures put { drop result line.new ≡ events_text row.now ++ codes "\n" ++ drop end line.old }
     ensures few { end ≤ result + 78 }
+    ensures start { result ≤ end }
 {
     let start = put_bytes(verdict_text(row.verdict), line, end);
     let start = put_bytes(answer_text(row.answer), line, start);
     put_found(&row.found, line, start)
 }
 
-/// Puts the names of the watches that are found, or `-`.
-fn put_found(found: &Watches, line: &mut [u8], end: usize) -> usize
+/// Puts the names of the watches that are found, or `-`, before a place of a line, and tells where they start.
+pub fn put_found(found: &Watches, line: &mut [u8], end: usize) -> usize
     requires room { 64 ≤ end }
     requires within { end ≤ length line.old }
     ensures put { drop result line.new ≡ found_text found.now ++ drop end line.old }
     ensures few { end ≤ result + 64 }
+    ensures start { result ≤ end }
 {
     let mut start = end;
     for i in (0..Watch::ORDER.len()).rev() {

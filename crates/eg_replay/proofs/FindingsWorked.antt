@@ -6,15 +6,15 @@ use Rattle.eg_num.specs.declared.watches.Watches.{Watches}
 use Rattle.eg_num.specs.Windows.{greatest_of, WeightParts}
 use Rattle.eg_record.specs.Detection.{is_found, is_trip}
 use Rattle.eg_record.specs.Margins.{greater_than}
-use Rattle.eg_record.specs.Texts.{watch_name, names, found_text, at_text}
+use Rattle.eg_record.specs.Texts.{numbers_text, watch_name, names, found_text, at_text}
 use Rattle.eg_replay.specs.declared.tick_signals.TickSignals.{TickSignals}
 use Rattle.eg_replay.specs.Findings.{found_at, trip_at, lasting, longest, surplus_at, surplus_of, findings_of}
-use Rattle.eg_replay.specs.Texts.{signal_columns, weight_columns, columns, signals_line, signals_lines, watch_line, surplus_text, pair_lines, last_lines, replay_text}
+use Rattle.eg_replay.specs.Texts.{signal_numbers, signals_line, signals_lines, watch_line, surplus_text, pair_lines, last_lines, replay_text}
 
 -- every definition that these need
 unfoldable replayed : ℕ
 unfolding greatest_of is_found is_trip greater_than watch_name names found_text at_text found_at trip_at lasting longest surplus_at surplus_of findings_of
-    signal_columns weight_columns columns signals_line signals_lines watch_line surplus_text pair_lines last_lines replay_text digits
+    numbers_text signal_numbers signals_line signals_lines watch_line surplus_text pair_lines last_lines replay_text digits
 replayed = 0
 
 abbrev nothing : Watches

@@ -1,6 +1,4 @@
 pub mod TallyLemmas
-pub mod NameLemmas
-pub mod LineLemmas
 pub mod TellLemmas
 pub mod RunLemmas
 pub mod AgreeLemmas

@@ -1,10 +1,9 @@
 -- Outside the headline. `signals` writes a header and a line for each tick, `replay` nine lines of what
 -- the ticks come to. A text is the list of its bytes, and each line ends with LF.
 use Rattle.std.specs.Prelude.{ℕ, ℤ, List, [], ◌∷◌, ◌++◌, length, codes, decimal, Option, Some, None, slice_index}
-use Rattle.std.specs.List.{join_with_byte}
 use Rattle.std.specs.Fmt.{signed_decimal}
 use Rattle.eg_num.specs.Windows.{WeightParts}
-use Rattle.eg_record.specs.Texts.{comma, at_text, found_text}
+use Rattle.eg_record.specs.Texts.{at_text, found_text, numbers_text}
 use Rattle.eg_replay.specs.declared.tick_signals.TickSignals.{TickSignals}
 use Rattle.eg_replay.specs.declared.findings.Findings.{Findings}
 
@@ -14,24 +13,16 @@ use Rattle.eg_replay.specs.declared.findings.Findings.{Findings}
 unfoldable pub signals_header : List ℕ
 signals_header = codes "tick,used,permitted,actual,excess,pairs,pedal,plate,load,speed,torque,found\n"
 
--- the columns of a tick, in groups: its number; its five signals; the five weights after it; what is found
-unfoldable pub signal_columns : TickSignals → List (List ℕ)
-signal_columns t =
-    decimal (slice_index t.signals 0) ∷ decimal (slice_index t.signals 1)
-    ∷ decimal (slice_index t.signals 2) ∷ decimal (slice_index t.signals 3)
-    ∷ decimal (slice_index t.signals 4) ∷ []
+-- the columns of a tick that are numbers: its own; its five signals; the five weights after it
+unfoldable pub signal_numbers : (tick : ℕ) → TickSignals → List ℕ
+signal_numbers tick t =
+    tick ∷ slice_index t.signals 0 ∷ slice_index t.signals 1 ∷ slice_index t.signals 2
+    ∷ slice_index t.signals 3 ∷ slice_index t.signals 4
+    ∷ t.counters.pedal ∷ t.counters.plate ∷ t.counters.load ∷ t.counters.speed ∷ t.counters.torque ∷ []
 
-unfoldable pub weight_columns : TickSignals → List (List ℕ)
-weight_columns t =
-    decimal t.counters.pedal ∷ decimal t.counters.plate ∷ decimal t.counters.load
-    ∷ decimal t.counters.speed ∷ decimal t.counters.torque ∷ []
-
-unfoldable pub columns : (tick : ℕ) → TickSignals → List (List ℕ)
-columns tick t = (decimal tick ∷ []) ++ signal_columns t ++ weight_columns t ++ (found_text t.found ∷ [])
-
--- the line of the tick of this number: its columns, joined by commas
+-- the line of the tick of this number: these columns and what is found, with commas between them
 unfoldable pub signals_line : (tick : ℕ) → TickSignals → List ℕ
-signals_line tick t = join_with_byte comma (columns tick t) ++ codes "\n"
+signals_line tick t = numbers_text (signal_numbers tick t) ++ found_text t.found ++ codes "\n"
 
 -- the lines of these ticks, which stand newest first
 unfoldable pub signals_lines : List TickSignals → List ℕ

@@ -6,18 +6,18 @@ use Rattle.eg_num.specs.Drive.{DriveRow}
 use Rattle.eg_fault.specs.declared.class.Fault.{Fault as SomeFault}
 use Rattle.eg_fault.specs.declared.class.Class.TheVariants.{PathOpen, Plate}
 use Rattle.eg_values.specs.Reference.{reference_parts}
-use Rattle.eg_record.specs.Texts.{drive_columns, engine_columns, path_columns, signal_columns, command_columns as output_columns, value_columns, event_columns}
+use Rattle.eg_record.specs.Texts.{numbers_text, row_numbers, events_text, row_columns}
 use Rattle.eg_model.specs.Examples.{idle, full, fault_from, short_test, usual_slices, resetting, at_rest}
 use Rattle.eg_model.proofs.WholeModel.{whole_model}
 use Rattle.eg_model.specs.Spans.{next}
 use Rattle.eg_tick.specs.Commanding.{commands_after, commanded_at, commands_next}
 use Rattle.eg_stream.specs.Coupled.{CoupledUnit, LoadBelowTorque, TorqueWhileOff, entry_by, entries_by, covers, lawful, lawful_if_any, taken}
-use Rattle.eg_stream.specs.Texts.{held_text, command_columns, line_with, first_line, coupled_line, answer_line}
+use Rattle.eg_stream.specs.Texts.{held_text, commands_text, first_line, coupled_line, answer_line}
 use Rattle.eg_readings.specs.declared.answered.PartnerAnswer.{PartnerAnswer}
 
 -- every definition of what is told
 unfoldable telling : ℕ
-unfolding digits next whole_model commands_after commanded_at commands_next entry_by entries_by covers lawful lawful_if_any taken held_text command_columns line_with first_line coupled_line answer_line drive_columns engine_columns path_columns signal_columns output_columns value_columns event_columns
+unfolding digits next whole_model commands_after commanded_at commands_next entry_by entries_by covers lawful lawful_if_any taken held_text commands_text first_line coupled_line answer_line numbers_text row_numbers events_text row_columns
 telling = 0
 
 abbrev answer : DriveRow → (position load_1 load_2 torque : ℕ) → PartnerAnswer

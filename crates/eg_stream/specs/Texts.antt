@@ -1,10 +1,10 @@
 -- What `couple` writes: the record's header with the names of four columns more, a line for what tick 0
 -- commands, and for each answer the record's row with what the next tick commands.
 use Rattle.std.specs.Prelude.{◌≡◌, ℕ, List, [], ◌∷◌, ◌++◌, length, replicate, codes, decimal, Option, Some, None}
-use Rattle.std.specs.List.{join_with_byte}
+use Rattle.std.specs.List.{concat}
 use Rattle.eg_readings.specs.declared.answered.PartnerAnswer.{PartnerAnswer}
 use Rattle.eg_record.specs.declared.row.Row.{Row}
-use Rattle.eg_record.specs.Texts.{comma, bit, columns}
+use Rattle.eg_record.specs.Texts.{digit, numbers_text, row_columns}
 use Rattle.eg_model.specs.Spans.{next}
 use Rattle.eg_model.specs.Rows.{row_of}
 use Rattle.eg_tick.specs.declared.commands.Commands.{Commands}
@@ -23,22 +23,18 @@ unfoldable pub held_text : Option ℕ → List ℕ
 held_text None = codes "-"
 held_text (Some at) = decimal at
 
--- the columns of what is commanded
-unfoldable pub command_columns : Commands → List (List ℕ)
-command_columns next =
-    decimal next.throttle ∷ decimal next.ignition ∷ bit next.on ∷ held_text next.held ∷ []
-
--- a line of these columns, with what the next tick commands behind them
-unfoldable pub line_with : List (List ℕ) → Commands → List ℕ
-line_with columns next = join_with_byte comma (columns ++ command_columns next) ++ codes "\n"
+-- the columns of what is commanded, with commas between them, and the LF
+unfoldable pub commands_text : Commands → List ℕ
+commands_text next =
+    numbers_text (next.throttle ∷ next.ignition ∷ digit next.on ∷ []) ++ held_text next.held ++ codes "\n"
 
 -- the line before the first tick has `-` in each of the record's columns
 unfoldable pub first_line : Commands → List ℕ
-first_line next = line_with (replicate 21 (codes "-")) next
+first_line next = concat (replicate 21 (codes "-,")) ++ commands_text next
 
 -- the line of a row
 unfoldable pub coupled_line : Row → Commands → List ℕ
-coupled_line row next = line_with (columns row) next
+coupled_line row next = row_columns row ++ codes "," ++ commands_text next
 
 -- the line of the tick of an answer, after these
 unfoldable pub answer_line : CoupledUnit → List PartnerAnswer → PartnerAnswer → List ℕ

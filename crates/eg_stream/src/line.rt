@@ -1,11 +1,9 @@
 // The lines of `couple`.
-ghost use Rattle.std.specs.Prelude.{◌≡◌, ◌++◌, codes, OnOk};
-ghost use Rattle.std.specs.List.{join_with_byte};
-ghost use Rattle.eg_record.specs.Texts.{comma};
-ghost use Rattle.eg_stream.specs.Texts.{coupled_header, command_columns, held_text, first_line, coupled_line};
+ghost use Rattle.std.specs.Prelude.{◌≡◌, ◌++◌, OnOk};
+ghost use Rattle.eg_stream.specs.Texts.{coupled_header, commands_text, held_text, first_line, coupled_line};
 
 use eg_base::NoMemory;
-use eg_record::{Row, push_row, put_number};
+use eg_record::{NUMBER_ROOM, Row, push_row, put_numbers};
 use eg_tick::Commands;
 use itoa::write_digits;
 
@@ -42,20 +40,25 @@ pub(crate) fn push_coupled(text: &mut Vec<u8>, row: &Row, next: &Commands) -> Re
 }
 
 /// Appends the columns of what is commanded, and an LF, to a text.
+#[tactic(auto, unfolding(crate::specs::Texts::commands_text))]
 fn push_commands(text: &mut Vec<u8>, next: &Commands) -> Result<(), NoMemory>
-    ensures { OnOk result (text.new.items
-        ≡ text.old.items ++ (join_with_byte comma (command_columns next.now) ++ codes "\n")) }
+    ensures { OnOk result (text.new.items ≡ text.old.items ++ commands_text next.now) }
 {
-    // Two numbers are put before a digit, from the last to the first, each with a comma behind it.
-    let mut columns = [b','; 24];
-    columns[22] = b'0' + u8::from(next.on);
-    let start = put_number(u32::from(next.ignition), &mut columns, 22);
-    let start = put_number(u32::from(next.throttle), &mut columns, start);
+    let numbers = [
+        u32::from(next.throttle),
+        u32::from(next.ignition),
+        u32::from(next.on),
+    ];
+    let mut columns = [0; COMMANDS_ROOM];
+    let start = put_numbers(&numbers, &mut columns, COMMANDS_ROOM);
     text.extend_from_slice(&columns[start..])?;
     push_held(text, next.held)?;
     text.push(b'\n')?;
     Ok(())
 }
+
+/// How many bytes are room enough for the three numbers of what is commanded.
+const COMMANDS_ROOM: usize = 3 * NUMBER_ROOM;
 
 /// Appends where the plate is held, or `-`, to a text.
 #[tactic(auto, unfolding(crate::specs::Texts::held_text))]

@@ -88,7 +88,7 @@ fn put_row<K: Sink>(
     ensures { LinePut (signals_line tick told.now) (change_of K.shows out.old out.new) result }
 {
     row.clear();
-    match push_signals(row, u64::from(tick), told) {
+    match push_signals(row, tick, told) {
         Ok(()) => put_or_end(row, out),
         Err(NoMemory) => Err(Outcome::Memory),
     }

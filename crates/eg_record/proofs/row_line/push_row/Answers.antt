@@ -6,7 +6,7 @@ use Rattle.eg_record.proofs.row_line.push_row.Goals as goal
 pub returns-clause-line : goal.returns-clause-line
 returns-clause-line c =
     c.in_ok-extend_from_slice.ensures.items
-    ∙ ap (λ (t : List ℕ). c.args.text.now.items ++ t) (rest-whole 256 c.put_line-start.result c.put_line-start.new.line (omega arith) ∙ c.put_line-start.ensures.put)
+    ∙ ap (λ (t : List ℕ). c.args.text.now.items ++ t) (rest-whole 276 c.put_line-start.result c.put_line-start.new.line (omega arith) ∙ c.put_line-start.ensures.put)
 
 pub returns-clause-is_text : goal.returns-clause-is_text
 returns-clause-is_text c = line_is_text c.args.row.now c.put_line-start.ensures.ascii

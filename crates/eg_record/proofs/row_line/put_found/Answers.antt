@@ -2,8 +2,7 @@ use Rattle.std.proofs.Common.{[], ◌∙◌, ◌++◌, ◌-◌, sym, ap, refl, a
 use Rattle.std.proofs.lemmas.Bool.{ne_eqb, eq-eqb}
 use Rattle.eg_record.specs.Texts.{names}
 use Rattle.eg_record.specs.declared.watch.Watch.TheVariants.{Mirror}
-use Rattle.eg_record.proofs.ColumnsLemmas.{is_nil}
-use Rattle.eg_record.proofs.NamesLemmas.{found_from, joined, text-found, none-found, same-other, text-nil, text-names}
+use Rattle.eg_record.proofs.NamesLemmas.{is_nil, found_from, joined, text-found, none-found, same-other, text-nil, text-names}
 use Rattle.eg_record.proofs.row_line.put_found.Goals as goal
 
 pub loop-i-init : goal.loop-i-init

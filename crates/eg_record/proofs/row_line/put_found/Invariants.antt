@@ -1,7 +1,6 @@
 use Rattle.std.proofs.Common.{◌≡◌, ◌++◌, ◌+◌, ◌*◌, ◌≤◌, drop}
 use Rattle.std.specs.Prelude.{◌==◌}
-use Rattle.eg_record.proofs.ColumnsLemmas.{is_nil}
-use Rattle.eg_record.proofs.NamesLemmas.{found_from, joined}
+use Rattle.eg_record.proofs.NamesLemmas.{is_nil, found_from, joined}
 use Rattle.eg_record.proofs.row_line.put_found.Given as goal
 
 -- the names of those from place i on are put

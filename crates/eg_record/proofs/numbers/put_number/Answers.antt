@@ -1,7 +1,7 @@
 use Rattle.std.proofs.Common.{rules, arith}
 use Rattle.std.proofs.lemmas.Fmt.{length-decimal-le}
 use Rattle.std.proofs.lemmas.Fmt.{IsAscii-decimal}
-use Rattle.eg_record.proofs.row_line.put_number.Goals as goal
+use Rattle.eg_record.proofs.numbers.put_number.Goals as goal
 
 pub write_digits-requires : goal.write_digits-requires
 write_digits-requires c =
